@@ -1,0 +1,26 @@
+//! The values that every layer speaks of: instants, civil times, texts, faults of fields, refusals.
+#![tactic(auto)]
+
+mod cause;
+mod civil;
+mod copying;
+mod faults;
+mod field;
+mod millis;
+mod refusal;
+mod schedule_fault;
+mod seconds;
+mod text;
+mod version;
+
+pub use cause::Cause;
+pub use civil::Civil;
+pub use copying::TryCopy;
+pub use faults::{FieldFault, FieldFaults};
+pub use field::Field;
+pub use millis::Millis;
+pub use refusal::Refusal;
+pub use schedule_fault::{ScheduleCause, ScheduleFault};
+pub use seconds::Seconds;
+pub use text::Text;
+pub use version::Version;
