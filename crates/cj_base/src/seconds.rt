@@ -1,5 +1,5 @@
 ghost use Rattle.std.specs.Prelude.{◌≡◌, ℕ, ◌≤◌, IfSome, IsSome, ◌↔◌};
-ghost use Rattle.cj_types.specs.Instant.{last_second};
+ghost use Rattle.cj_base.specs.Instant.{last_second};
 
 use std::marker::Model;
 

@@ -1,4 +1,4 @@
-//! The values that every layer speaks of: instants, civil times, texts, faults of fields, refusals.
+//! What every layer speaks of: instants, civil times, texts, faults of fields, refusals.
 #![tactic(auto)]
 
 mod cause;

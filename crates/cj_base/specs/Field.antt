@@ -1,7 +1,7 @@
 -- The path of each field in a manifest.
 use Rattle.std.specs.Prelude.{ℕ, List, codes}
-use Rattle.cj_types.specs.declared.field.Field.{Field}
-use Rattle.cj_types.specs.declared.field.Field.TheVariants as Of
+use Rattle.cj_base.specs.declared.field.Field.{Field}
+use Rattle.cj_base.specs.declared.field.Field.TheVariants as Of
 
 abbrev pub path_of : Field → List ℕ
 path_of Of.Whole = codes "$"

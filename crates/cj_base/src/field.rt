@@ -1,5 +1,5 @@
 ghost use Rattle.std.specs.Prelude.{◌≡◌};
-ghost use Rattle.cj_types.specs.Field.{path_of};
+ghost use Rattle.cj_base.specs.Field.{path_of};
 
 use std::fmt;
 

@@ -21,7 +21,7 @@ pub struct FieldFaults {
 
 impl Model for FieldFaults {
     ghost use Rattle.std.specs.Prelude.{List};
-    ghost use Rattle.cj_types.specs.declared.faults.FieldFault.{FieldFault};
+    ghost use Rattle.cj_base.specs.declared.faults.FieldFault.{FieldFault};
 
     ghost Value = { List FieldFault };
 
