@@ -1,0 +1,55 @@
+-- The command line, as `clap` reads it.
+use Rattle.std.specs.Prelude.{◌≡◌, ℕ, ◌≤◌, List, [], ◌∷◌, codes, Option, Some, option_map, true}
+use Rattle.std.specs.Str.Parse.{digits_value, without_leading_plus}
+use Rattle.clap.specs.Words.{App, Row, Rule, Text, first_of, new_app, new_rule, with_rule, with_subcommand, subcommand_of}
+use Rattle.clap.specs.declared.builder.value_parser.ValueParser.TheVariants.{Unsigned}
+use Rattle.cronsim.specs.declared.request.NextRequest.{NextRequest}
+use Rattle.cronsim.specs.declared.request.Request.{Request}
+use Rattle.cronsim.specs.declared.request.Request.TheVariants.{Next}
+
+abbrev pub schedule_rule : Rule
+schedule_rule = record (new_rule (codes "schedule")) { required = true; value_names = 1 }
+
+abbrev pub after_rule : Rule
+after_rule = record (new_rule (codes "after")) { long = Some (codes "after"); required = true; value_names = 1 }
+
+abbrev pub count_rule : Rule
+count_rule = record (new_rule (codes "count")) {
+  long = Some (codes "count");
+  value_names = 1;
+  parser = Some (Unsigned 1 1_000);
+  defaults = codes "1" ∷ [];
+}
+
+abbrev pub zone_rule : Rule
+zone_rule = record (new_rule (codes "zone")) { long = Some (codes "zone"); value_names = 1 }
+
+-- `cronsim next SCHEDULE --after TIME [--count N] [--zone RULE]`
+abbrev pub next_app : App
+next_app = with_rule (with_rule (with_rule (with_rule (new_app (codes "next")) schedule_rule) after_rule) count_rule) zone_rule
+
+abbrev pub cronsim_app : App
+cronsim_app =
+    let bare = new_app (codes "cronsim") in
+    with_subcommand (record bare { top = record bare.top { has_version = true; subcommand_required = true } }) next_app.top
+
+-- the decimal digits of the text spell the number
+abbrev pub IsDecimal : Text → ℕ → Type 0
+IsDecimal text n = digits_value 10 (without_leading_plus text) ≡ n
+
+-- the request has the values that `clap` states for the arguments of `next`
+pub record IsNext (rows : List Row) (r : NextRequest) : Type 0 where
+  pub schedule : first_of (codes "schedule") rows ≡ Some r.schedule.now
+  pub after : first_of (codes "after") rows ≡ Some r.after.now
+  pub count : (text : Text) × (first_of (codes "count") rows ≡ Some text) × IsDecimal text r.count
+  pub least : 1 ≤ r.count
+  pub most : r.count ≤ 1_000
+  pub zone : first_of (codes "zone") rows ≡ option_map (λ s. s.now) r.zone
+
+-- the request is of the subcommand with that name, and has the values of its arguments
+abbrev pub IsOfRows : Option (Text × List Row) → Request → Type 0
+IsOfRows found (Next r) = (rows : List Row) × (found ≡ Some (codes "next", rows)) × IsNext rows r
+
+-- the request is of the subcommand that `clap` states for the words, with the values that it states
+abbrev pub IsOf : List Text → Request → Type 0
+IsOf words r = IsOfRows (subcommand_of cronsim_app words) r
