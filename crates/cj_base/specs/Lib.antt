@@ -1,2 +1,3 @@
 pub mod Instant
 pub mod Field
+pub mod ScheduleCause

@@ -62,7 +62,6 @@ impl FieldFaults {
         self.items.push(fault)?;
         Ok(())
     }
-
 }
 
 impl TryCopy for FieldFaults {

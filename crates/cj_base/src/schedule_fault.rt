@@ -1,35 +1,55 @@
+ghost use Rattle.std.specs.Prelude.{◌≡◌};
+ghost use Rattle.cj_base.specs.ScheduleCause.{cause_name};
+
+use std::fmt;
 use thiserror::Error;
 
 /// Why a schedule's text is refused.
-#[derive(Clone, Copy, Debug, PartialEq, Eq, Error)]
+#[derive(Clone, Copy, Debug, PartialEq, Eq)]
 pub enum ScheduleCause {
     /// The text has more than 1,024 bytes.
-    #[error("Length")]
     Length,
     /// The text is nothing but blanks.
-    #[error("Empty")]
     Empty,
     /// The text begins with `TZ=` or `CRON_TZ=`.
-    #[error("Zone")]
     Zone,
     /// The text begins with `@` and is no macro.
-    #[error("Macro")]
     Macro,
     /// There aren't five fields.
-    #[error("Fields")]
     Fields,
     /// An element has none of the forms.
-    #[error("Syntax")]
     Syntax,
     /// A number isn't one of its field.
-    #[error("Range")]
     Range,
     /// A range ends before it begins.
-    #[error("Order")]
     Order,
     /// A step is zero, or has more than nine digits.
-    #[error("Step")]
     Step,
+}
+
+impl ScheduleCause {
+    /// The cause's name, as it is printed.
+    pub fn name(self) -> &'static str
+        ensures { result.now ≡ cause_name self }
+    {
+        match self {
+            ScheduleCause::Length => "Length",
+            ScheduleCause::Empty => "Empty",
+            ScheduleCause::Zone => "Zone",
+            ScheduleCause::Macro => "Macro",
+            ScheduleCause::Fields => "Fields",
+            ScheduleCause::Syntax => "Syntax",
+            ScheduleCause::Range => "Range",
+            ScheduleCause::Order => "Order",
+            ScheduleCause::Step => "Step",
+        }
+    }
+}
+
+impl fmt::Display for ScheduleCause {
+    fn fmt<W: fmt::Write>(&self, f: &mut fmt::Formatter<W>) -> fmt::Result {
+        write!(f, "{}", self.name())
+    }
 }
 
 /// Where and why a schedule's text is refused.
