@@ -1,0 +1,9 @@
+pub mod Cuts
+pub mod Digits
+pub mod Names
+pub mod Elements
+pub mod Bits
+pub mod Pieces
+pub mod Words
+pub mod Lists
+pub mod Laws

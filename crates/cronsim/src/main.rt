@@ -1,24 +1,58 @@
 //! The program `cronsim`.
 #![tactic(auto)]
 
+mod answer;
 mod command;
+mod failure;
+mod next;
+mod next_text;
 mod request;
+mod serve;
 mod word_fault;
 mod words;
 
+use failure::Failure;
+use serve::serve;
 use std::process::ExitCode;
 use word_fault::WordFault;
 use words::parse_words;
 
-fn run(rt: &HostRuntime, words: &[&str]) -> Result<u8, WordFault> {
-    let request = parse_words(rt.alloc(), words)?;
-    let _ = request;
-    Ok(0)
+// Reads the words of the command line and serves what they ask for.
+fn run(rt: &HostRuntime) -> Result<u8, Failure> {
+    let alloc = rt.alloc();
+    let args: Vec<String> = std::env::args(rt)?.collect(alloc)?;
+    let mut words = Vec::new(alloc);
+    for arg in &args {
+        words.push(arg.as_str())?;
+    }
+    match parse_words(alloc, words.as_slice()) {
+        Ok(request) => {
+            let mut input = rt.stdin();
+            let mut out = rt.stdout();
+            let mut err = rt.stderr();
+            Ok(serve(alloc, &request, &mut input, &mut out, &mut err))
+        }
+        Err(WordFault::Refused(error)) => {
+            error.print(rt)?;
+            Ok(if error.use_stderr() { 2 } else { 0 })
+        }
+        Err(WordFault::OutOfMemory) => Err(Failure::Memory),
+        Err(WordFault::Incomplete) => {
+            eprintln!(rt; "cronsim: incomplete words")?;
+            Ok(2)
+        }
+    }
 }
 
 fn main(rt: HostRuntime) -> ExitCode {
-    match run(&rt, &["cronsim"]) {
+    match run(&rt) {
         Ok(status) => ExitCode::from(status),
-        Err(_) => ExitCode::from(3),
+        Err(failure) => {
+            let _ = eprintln!(rt; "cronsim: {failure}");
+            ExitCode::from(3)
+        }
     }
 }
+
+#[cfg(test)]
+mod tests;

@@ -1,0 +1,4 @@
+pub mod ListLemmas
+pub mod DueLemmas
+pub mod MissedLemmas
+pub mod DayLemmas

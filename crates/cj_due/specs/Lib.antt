@@ -1,0 +1,4 @@
+pub mod Days
+pub mod Due
+pub mod Missed
+pub mod Window

@@ -1,0 +1,25 @@
+ghost use Rattle.std.specs.Prelude.{◌≡◌, ◌↔◌, ◌<◌, IsSome, IfSome};
+ghost use Rattle.cj_due.specs.Window.{lower_end_of};
+
+use crate::instant::instant;
+use cj_base::Seconds;
+
+/// After which instant missed times count: the later of the last schedule time, else the creation time,
+/// and of now minus the starting deadline (whole seconds), where one is set. `None` where that isn't below now.
+pub fn lower_end(
+    last: Option<Seconds>,
+    created: Seconds,
+    deadline: Option<u64>,
+    now: Seconds,
+) -> Option<Seconds>
+    ensures some { IsSome result ↔ (lower_end_of last created deadline now < now) }
+    ensures value { IfSome result (λ t. t ≡ lower_end_of last created deadline now) }
+{
+    let since = last.unwrap_or(created);
+    let in_time = match deadline {
+        Some(deadline) => now.get().saturating_sub(deadline),
+        None => 0,
+    };
+    let lower = since.max(instant(in_time));
+    if lower < now { Some(lower) } else { None }
+}

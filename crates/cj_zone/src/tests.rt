@@ -1,0 +1,161 @@
+use crate::{ZoneTable, date_of_day, local, read_time, time_text};
+use cj_base::{Cause, Civil, Field, FieldFault, Refusal, Seconds, TryCopy};
+use std::test::Fail;
+
+const MIDDLE_EUROPE: &str = "CET-1CEST,M3.5.0,M10.5.0/3";
+
+// What `zic -b slim` makes of 5:41:16 to 1920, 5:30 to 1986 and 5:45 since.
+const KATHMANDU: &[u8] =
+    b"TZif2\0\0\0\0\0\0\0\0\0\0\0\0\0\0\0\0\0\0\0\0\0\0\0\0\0\0\0\0\0\0\0\0\0\0\x01\0\0\0\x01\0\0\0\0\0\0\0TZif2\0\0\0\0\0\0\0\0\0\0\0\0\0\0\0\0\0\0\0\0\0\0\0\0\0\0\0\0\0\0\x02\0\0\0\x03\0\0\0\x10\xff\xff\xff\xff\xa1\xf2}\x84\0\0\0\0\x1e\x180\xa8\x01\x02\0\0O\xfc\0\0\0\0MX\0\x04\0\0P\xdc\0\nLMT\0+0530\0+0545\0\n<+0545>-5:45\n";
+
+// The one fault that every refusal of a zone names.
+fn is_zone_fault(answer: Result<(), Refusal>) -> bool {
+    match answer {
+        Err(Refusal::Invalid(faults)) => {
+            faults.as_slice()
+                == [FieldFault {
+                    field: Field::Zones,
+                    cause: Cause::Zone,
+                }]
+                .as_slice()
+        }
+        _ => false,
+    }
+}
+
+fn civil(year: i16, month: u8, day: u8, weekday: u8, hour: u8, minute: u8) -> Civil {
+    Civil {
+        year,
+        month,
+        day,
+        weekday,
+        hour,
+        minute,
+    }
+}
+
+#[test]
+fn prints_and_reads(rt: HostRuntime) -> Result<(), Fail> {
+    for (seconds, text) in [
+        (0, "1970-01-01T00:00:00Z"),
+        (951_868_799, "2000-02-29T23:59:59Z"),
+        (1_000_000_000, "2001-09-09T01:46:40Z"),
+        (1_704_067_500, "2024-01-01T00:05:00Z"),
+        (4_107_542_400, "2100-03-01T00:00:00Z"),
+        (253_370_764_799, "9998-12-31T23:59:59Z"),
+    ] {
+        let at = Seconds::new(seconds).ok_or("out of range")?;
+        let printed = time_text(rt.alloc(), at)?;
+        assert_eq!(rt; printed.as_str(), text);
+        assert_eq!(rt; read_time(text), Some(at), "{text}");
+    }
+    Ok(())
+}
+
+#[test]
+fn reads_nothing_else(rt: HostRuntime) {
+    for text in [
+        "",
+        "2024-01-01",
+        "2024-01-01T00:05Z",
+        "2024-01-01T00:05:00",
+        "2024-01-01T00:05:00z",
+        "2024-01-01t00:05:00Z",
+        "2024-01-01 00:05:00Z",
+        "2024-01-01T00:05:00+00:00",
+        "2024-01-01T00:05:00.0Z",
+        "2024-01-01T24:00:00Z",
+        "2024-01-01T00:60:00Z",
+        "2024-01-01T00:05:60Z",
+        "2016-12-31T23:59:60Z",
+        "2024-02-30T00:00:00Z",
+        "2023-02-29T00:00:00Z",
+        "2100-02-29T00:00:00Z",
+        "2024-04-31T00:00:00Z",
+        "2024-00-01T00:00:00Z",
+        "2024-13-01T00:00:00Z",
+        "2024-01-00T00:00:00Z",
+        "1969-12-31T23:59:59Z",
+        "9999-01-01T00:00:00Z",
+        "+2024-01-01T00:05:00Z",
+        "-0024-01-01T00:05:00Z",
+        "2024-1-01T00:05:000Z",
+        "20 4-01-01T00:05:00Z",
+        "2024/01/01T00:05:00Z",
+        "2024-01-01T00:05:00Z ",
+        " 2024-01-01T00:05:00Z",
+        "2024-01-01T00:05:00ZZ",
+    ] {
+        assert_eq!(rt; read_time(text), None, "{text}");
+    }
+}
+
+#[test]
+fn rules_and_names(rt: HostRuntime) -> Result<(), Fail> {
+    let mut table = ZoneTable::new(rt.alloc())?;
+    table.add_rule("Europe/Berlin", MIDDLE_EUROPE)?;
+    for name in ["UTC", "Etc/UTC", "Europe/Berlin", "", "Local"] {
+        assert!(rt;
+            is_zone_fault(table.add_rule(name, "EST5EDT,M3.2.0,M11.1.0")),
+            "{name}"
+        );
+        assert!(rt; is_zone_fault(table.add_file(name, KATHMANDU)), "{name}");
+    }
+    for rule in [
+        "",
+        "CET",
+        "CET-1CEST,M3.5.0",
+        "Europe/Berlin",
+        "CET-1CEST,M13.5.0,M10.5.0",
+    ] {
+        assert!(rt; is_zone_fault(table.add_rule("Other", rule)), "{rule}");
+    }
+    assert!(rt; is_zone_fault(table.add_file("Other", b"TZif")));
+    assert!(rt; is_zone_fault(table.set_local("Other")));
+    assert!(rt; table.get("Other").is_none());
+    assert_eq!(rt; table.default_zone().name(), "UTC");
+    table.set_local("Europe/Berlin")?;
+    let berlin = table.get("Europe/Berlin").ok_or("not there")?;
+    let copy = berlin.try_copy(rt.alloc())?;
+    assert!(rt; copy == *table.default_zone());
+    assert!(rt; table.get("UTC") != Some(berlin));
+    Ok(())
+}
+
+#[test]
+fn gap_and_fold_of_a_rule(rt: HostRuntime) -> Result<(), Fail> {
+    let mut table = ZoneTable::new(rt.alloc())?;
+    table.add_rule("Europe/Berlin", MIDDLE_EUROPE)?;
+    let zone = table.get("Europe/Berlin").ok_or("not there")?;
+    for (at, want) in [
+        ("2024-03-31T00:59:59Z", civil(2024, 3, 31, 0, 1, 59)),
+        ("2024-03-31T01:00:00Z", civil(2024, 3, 31, 0, 3, 0)),
+        ("2024-10-27T00:30:00Z", civil(2024, 10, 27, 0, 2, 30)),
+        ("2024-10-27T01:30:00Z", civil(2024, 10, 27, 0, 2, 30)),
+        ("2024-07-01T22:30:00Z", civil(2024, 7, 2, 2, 0, 30)),
+        ("2000-02-29T12:00:00Z", civil(2000, 2, 29, 2, 13, 0)),
+    ] {
+        let instant = read_time(at).ok_or("no time")?;
+        assert_eq!(rt; local(zone, instant), want, "{at}");
+    }
+    Ok(())
+}
+
+#[test]
+fn times_of_a_file(rt: HostRuntime) -> Result<(), Fail> {
+    let mut table = ZoneTable::new(rt.alloc())?;
+    table.add_file("Asia/Kathmandu", KATHMANDU)?;
+    table.set_local("Asia/Kathmandu")?;
+    for (at, want) in [
+        ("1985-12-31T18:29:59Z", civil(1985, 12, 31, 2, 23, 59)),
+        ("1985-12-31T18:30:00Z", civil(1986, 1, 1, 3, 0, 15)),
+        ("2024-02-28T18:15:00Z", civil(2024, 2, 29, 4, 0, 0)),
+        ("2024-02-29T18:14:59Z", civil(2024, 2, 29, 4, 23, 59)),
+        ("2024-12-31T18:15:00Z", civil(2025, 1, 1, 3, 0, 0)),
+    ] {
+        let instant = read_time(at).ok_or("no time")?;
+        assert_eq!(rt; local(table.default_zone(), instant), want, "{at}");
+    }
+    assert_eq!(rt; date_of_day(19_782), civil(2024, 2, 29, 4, 0, 0));
+    Ok(())
+}
