@@ -6,4 +6,5 @@ pub mod Bits
 pub mod Pieces
 pub mod Words
 pub mod Lists
+pub mod Causes
 pub mod Laws
