@@ -3,11 +3,13 @@
 
 mod cause;
 mod civil;
+mod copies;
 mod copying;
 mod faults;
 mod field;
 mod millis;
 mod refusal;
+mod same;
 mod schedule_fault;
 mod seconds;
 mod text;
@@ -15,11 +17,13 @@ mod version;
 
 pub use cause::Cause;
 pub use civil::Civil;
+pub use copies::copy_all;
 pub use copying::TryCopy;
 pub use faults::{FieldFault, FieldFaults};
 pub use field::Field;
 pub use millis::Millis;
 pub use refusal::Refusal;
+pub use same::{Same, same_all};
 pub use schedule_fault::{ScheduleCause, ScheduleFault};
 pub use seconds::Seconds;
 pub use text::Text;

@@ -13,8 +13,10 @@ mod scan;
 pub use answer::Missed;
 pub use counting::missed;
 pub use latest::latest_in;
-pub use lower::lower_end;
+pub use lower::{lower_end, window};
 pub use next::{next_after, next_counted};
 
 #[cfg(test)]
 mod tests;
+#[cfg(test)]
+mod zone_file_tests;

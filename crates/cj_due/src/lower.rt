@@ -1,8 +1,9 @@
 ghost use Rattle.std.specs.Prelude.{◌≡◌, ◌↔◌, ◌<◌, IsSome, IfSome};
-ghost use Rattle.cj_due.specs.Window.{lower_end_of};
+ghost use Rattle.cj_due.specs.Window.{lower_end_of, window_of};
 
 use crate::instant::instant;
 use cj_base::Seconds;
+use cj_types::CronJob;
 
 /// After which instant missed times count: the later of the last schedule time, else the creation time,
 /// and of now minus the starting deadline (whole seconds), where one is set. `None` where that isn't below now.
@@ -22,4 +23,17 @@ pub fn lower_end(
     };
     let lower = since.max(instant(in_time));
     if lower < now { Some(lower) } else { None }
+}
+
+/// The same of a CronJob as it stands: the lower end of the times that count as missed at this moment.
+pub fn window(cron: &CronJob, now: Seconds) -> Option<Seconds>
+    ensures some { IsSome result ↔ (window_of cron.now now < now) }
+    ensures value { IfSome result (λ t. t ≡ window_of cron.now now) }
+{
+    lower_end(
+        cron.status.last_schedule_time,
+        cron.meta.created,
+        cron.spec.starting_deadline_seconds,
+        now,
+    )
 }

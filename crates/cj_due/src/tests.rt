@@ -64,9 +64,15 @@ fn finds_leap_days(rt: HostRuntime) -> Result<(), Fail> {
     let next = Some(time("2104-02-29T00:00:00Z")?);
     let utc = zones.default_zone();
     assert_eq!(rt; next_after(&leap_day, utc, after), next);
-    assert_eq!(rt; latest_in(&leap_day, utc, after, time("2107-12-31T23:59:59Z")?), next);
+    assert_eq!(rt;
+        latest_in(&leap_day, utc, after, time("2107-12-31T23:59:59Z")?),
+        next
+    );
     let never = Schedule::parse("0 0 30 2 *")?;
-    assert_eq!(rt; next_counted(&never, utc, time("2024-01-01T00:00:00Z")?), (None, 0));
+    assert_eq!(rt;
+        next_counted(&never, utc, time("2024-01-01T00:00:00Z")?),
+        (None, 0)
+    );
     Ok(())
 }
 

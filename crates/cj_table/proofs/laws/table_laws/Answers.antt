@@ -1,0 +1,24 @@
+use Rattle.cj_table.proofs.Order.{places_total, places_exact}
+use Rattle.cj_table.proofs.Puts.{put_split, put_there, cut_split, cut_there, remove-insert, at_put, at_cut}
+use Rattle.cj_table.proofs.laws.table_laws.Goals as goal
+
+pub returns-clause-total : goal.returns-clause-total
+returns-clause-total g c = places_total
+
+pub returns-clause-exact : goal.returns-clause-exact
+returns-clause-exact g c = places_exact
+
+pub returns-clause-at_put : goal.returns-clause-at_put
+returns-clause-at_put g c = λ m k v q. (at_put m k v q).1
+
+pub returns-clause-put : goal.returns-clause-put
+returns-clause-put g c = put_there
+
+pub returns-clause-at_cut : goal.returns-clause-at_cut
+returns-clause-at_cut g c = λ m k q. (at_cut m k q).1
+
+pub returns-clause-cut : goal.returns-clause-cut
+returns-clause-cut g c = cut_there
+
+pub returns-clause-undone : goal.returns-clause-undone
+returns-clause-undone g c = remove-insert

@@ -1,0 +1,18 @@
+ghost use Rattle.std.specs.Prelude.{◌≡◌, ◌⊎◌, Some, None};
+ghost use Rattle.std.specs.Cmp.{IsTotalOrder};
+ghost use Rattle.std.specs.FinMap as map;
+ghost use Rattle.cj_types.specs.Keys.{Place, place_cmp};
+
+/// The laws of maps by key: the order is total and tells any two keys apart; what stands at a key after an insert and
+/// after a removal; an insert of an absent key is undone by its removal.
+pub fn table_laws<X>()
+    ensures total { IsTotalOrder place_cmp }
+    ensures exact { map.IsAntisymmetric place_cmp }
+    ensures at_put { (m : map.FinMap place_cmp X) (k : Place) (v : X) (q : Place) →
+        ((q ≡ k) × (map.get (map.insert m k v) q ≡ Some v)) ⊎ (map.get (map.insert m k v) q ≡ map.get m q) }
+    ensures put { (m : map.FinMap place_cmp X) (k : Place) (v : X) → map.get (map.insert m k v) k ≡ Some v }
+    ensures at_cut { (m : map.FinMap place_cmp X) (k q : Place) →
+        ((q ≡ k) × (map.get (map.remove m k) q ≡ None)) ⊎ (map.get (map.remove m k) q ≡ map.get m q) }
+    ensures cut { (m : map.FinMap place_cmp X) (k : Place) → map.get (map.remove m k) k ≡ None }
+    ensures undone { (m : map.FinMap place_cmp X) (k : Place) (v : X) → map.get m k ≡ None → map.remove (map.insert m k v) k ≡ m }
+{}

@@ -1,0 +1,8 @@
+//! A map by key in the order of keys, which contracts see as a finite map, and the laws of such maps.
+#![tactic(auto)]
+
+mod laws;
+mod table;
+
+pub use laws::table_laws;
+pub use table::Table;

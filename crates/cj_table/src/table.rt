@@ -1,0 +1,89 @@
+ghost use Rattle.std.specs.Prelude.{◌≡◌, IfOk, IfErr, OnOk, OnErr, IsOk, IsSome, is_some, option_copied};
+ghost use Rattle.std.specs.FinMap as map;
+ghost use Rattle.cj_base.specs.declared.refusal.Refusal.TheVariants.{OutOfMemory};
+
+use cj_types::{Key, Refusal, TryCopy};
+use std::alloc::Global;
+use std::collections::BTreeMap;
+use std::marker::Model;
+
+/// A value for each of some keys, in the order of keys. Contracts see a finite map.
+#[derive(Drop)]
+pub struct Table<X> {
+    rows: BTreeMap<Key, X>,
+}
+
+impl<X> Model for Table<X> {
+    ghost use Rattle.std.specs.FinMap as map;
+    ghost use Rattle.cj_types.specs.Keys.{place_cmp, coded_place};
+
+    ghost Value = { map.FinMap place_cmp X };
+
+    ghost coded = { map.code coded_place X.code };
+
+    ghost view = { λ t. map.from_entries t.rows.entries };
+}
+
+impl<X> Table<X> {
+    /// No key.
+    pub fn new(alloc: Global) -> Table<X>
+        ensures { result ≡ map.empty }
+    {
+        Table {
+            rows: BTreeMap::new(alloc),
+        }
+    }
+
+    /// The value at the key.
+    pub fn get(&self, key: &Key) -> Option<&X>
+        ensures { option_copied result ≡ map.get self.now key.now }
+    {
+        self.rows.get(key)
+    }
+
+    /// Whether there is a value at the key.
+    pub fn contains(&self, key: &Key) -> bool
+        ensures { result ≡ is_some (map.get self.now key.now) }
+    {
+        self.get(key).is_some()
+    }
+}
+
+impl<X: Drop> Table<X> {
+    /// Puts the value at the key, in place of the one that stood there. Where there is no memory the table is as it
+    /// was; a key that has a value needs none.
+    pub fn insert(&mut self, key: Key, value: X) -> Result<(), Refusal>
+        ensures ok { OnOk result (self.new ≡ map.insert self.old key value) }
+        ensures err { OnErr result (self.new ≡ self.old) }
+        ensures memory { IfErr result (λ e. e ≡ OutOfMemory) }
+        ensures present { IsSome (map.get self.old key) → IsOk result }
+    {
+        match self.rows.insert(key, value) {
+            Ok(_) => Ok(()),
+            Err(_) => Err(Refusal::OutOfMemory),
+        }
+    }
+
+    /// Takes the key and its value out, if they are there.
+    pub fn remove(&mut self, key: &Key)
+        ensures { self.new ≡ map.remove self.old key.now }
+    {
+        let _ = self.rows.remove(key);
+    }
+}
+
+impl<X: TryCopy + Drop> Table<X> {
+    /// Copies of the values in the order of their keys.
+    pub fn list(&self, alloc: Global) -> Result<Vec<X>, Refusal>
+        ensures ok { IfOk result (λ v. v.items ≡ map.values self.now) }
+        ensures memory { IfErr result (λ e. e ≡ OutOfMemory) }
+    {
+        let mut values = Vec::new(alloc);
+        for value in self.rows.values() {
+            values
+                .push(value.try_copy(alloc)?)
+                .map_err(|_| Refusal::OutOfMemory)?;
+        }
+        Ok(values)
+    }
+}

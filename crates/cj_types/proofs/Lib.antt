@@ -1,0 +1,3 @@
+pub mod Subdomains
+pub mod LabelPlaces
+pub mod MadeNames

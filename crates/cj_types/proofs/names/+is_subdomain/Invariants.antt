@@ -1,0 +1,5 @@
+use Rattle.std.proofs.Common.{length}
+use Rattle.cj_types.proofs.names.+is_subdomain.Given as goal
+
+abbrev pub decreases-is_subdomain : goal.decreases-is_subdomain
+decreases-is_subdomain l = length l.bytes.now

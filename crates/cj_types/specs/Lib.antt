@@ -1,0 +1,9 @@
+pub mod Names
+pub mod Keys
+pub mod Uids
+pub mod Printed
+pub mod Owners
+pub mod LabelMap
+pub mod Objects
+pub mod Made
+pub mod Current

@@ -1,0 +1,162 @@
+use crate::{CronKey, DraftMeta, Labels, Meta, Names, Policy, SpecText};
+use cj_base::{Refusal, Same, Seconds, Text, TryCopy};
+use std::alloc::Global;
+
+/// What each Job of a CronJob is made with (batch/v1, `JobTemplateSpec`).
+#[derive(Debug, Drop)]
+pub struct JobTemplate {
+    pub labels: Labels,
+    pub annotations: Labels,
+    pub spec: SpecText,
+}
+
+impl TryCopy for JobTemplate {
+    fn try_copy(&self, alloc: Global) -> Result<JobTemplate, Refusal> {
+        Ok(JobTemplate {
+            labels: self.labels.try_copy(alloc)?,
+            annotations: self.annotations.try_copy(alloc)?,
+            spec: self.spec.try_copy(alloc)?,
+        })
+    }
+}
+
+impl Same for JobTemplate {
+    fn same(&self, other: &JobTemplate) -> bool {
+        let labels = self.labels.same(&other.labels);
+        let annotations = self.annotations.same(&other.annotations);
+        let spec = self.spec.same(&other.spec);
+        labels && annotations && spec
+    }
+}
+
+/// What a CronJob asks for (batch/v1, `CronJobSpec`).
+#[derive(Debug, Drop)]
+pub struct CronSpec {
+    /// The schedule as it was given.
+    pub schedule: Text,
+    /// The name of the zone, if one was given.
+    pub time_zone: Option<Text>,
+    pub policy: Policy,
+    pub suspend: bool,
+    /// How late a Job may still be started, in seconds, up to 2^63-1.
+    pub starting_deadline_seconds: Option<u64>,
+    /// How many Jobs that ended with success are kept, up to 2,147,483,647.
+    pub successful_limit: u32,
+    /// How many failed Jobs are kept, up to 2,147,483,647.
+    pub failed_limit: u32,
+    pub template: JobTemplate,
+}
+
+impl TryCopy for CronSpec {
+    fn try_copy(&self, alloc: Global) -> Result<CronSpec, Refusal> {
+        Ok(CronSpec {
+            schedule: self.schedule.try_copy(alloc)?,
+            time_zone: self.time_zone.try_copy(alloc)?,
+            policy: self.policy,
+            suspend: self.suspend,
+            starting_deadline_seconds: self.starting_deadline_seconds,
+            successful_limit: self.successful_limit,
+            failed_limit: self.failed_limit,
+            template: self.template.try_copy(alloc)?,
+        })
+    }
+}
+
+impl Same for CronSpec {
+    fn same(&self, other: &CronSpec) -> bool {
+        let schedule = self.schedule.same(&other.schedule);
+        let time_zone = self.time_zone.same(&other.time_zone);
+        let policy = self.policy == other.policy;
+        let suspend = self.suspend == other.suspend;
+        let deadline = self.starting_deadline_seconds == other.starting_deadline_seconds;
+        let successful = self.successful_limit == other.successful_limit;
+        let failed = self.failed_limit == other.failed_limit;
+        let template = self.template.same(&other.template);
+        schedule && time_zone && policy && suspend && deadline && successful && failed && template
+    }
+}
+
+/// What the controller wrote of a CronJob (batch/v1, `CronJobStatus`).
+#[derive(Debug, Drop)]
+pub struct CronStatus {
+    /// The names of the Jobs that run.
+    pub active: Names,
+    pub last_schedule_time: Option<Seconds>,
+    pub last_successful_time: Option<Seconds>,
+}
+
+impl TryCopy for CronStatus {
+    fn try_copy(&self, alloc: Global) -> Result<CronStatus, Refusal> {
+        Ok(CronStatus {
+            active: self.active.try_copy(alloc)?,
+            last_schedule_time: self.last_schedule_time,
+            last_successful_time: self.last_successful_time,
+        })
+    }
+}
+
+impl Same for CronStatus {
+    fn same(&self, other: &CronStatus) -> bool {
+        let active = self.active.same(&other.active);
+        let scheduled = self.last_schedule_time == other.last_schedule_time;
+        let successful = self.last_successful_time == other.last_successful_time;
+        active && scheduled && successful
+    }
+}
+
+/// A CronJob as it is stored.
+#[derive(Debug, Drop)]
+pub struct CronJob {
+    pub key: CronKey,
+    pub meta: Meta,
+    pub spec: CronSpec,
+    pub status: CronStatus,
+}
+
+impl TryCopy for CronJob {
+    fn try_copy(&self, alloc: Global) -> Result<CronJob, Refusal> {
+        Ok(CronJob {
+            key: self.key.try_copy(alloc)?,
+            meta: self.meta.try_copy(alloc)?,
+            spec: self.spec.try_copy(alloc)?,
+            status: self.status.try_copy(alloc)?,
+        })
+    }
+}
+
+impl Same for CronJob {
+    fn same(&self, other: &CronJob) -> bool {
+        let key = self.key.same(&other.key);
+        let meta = self.meta.same(&other.meta);
+        let spec = self.spec.same(&other.spec);
+        let status = self.status.same(&other.status);
+        key && meta && spec && status
+    }
+}
+
+/// A CronJob as a manifest says it, with the defaults.
+#[derive(Debug, Drop)]
+pub struct CronJobDraft {
+    pub key: CronKey,
+    pub meta: DraftMeta,
+    pub spec: CronSpec,
+}
+
+impl TryCopy for CronJobDraft {
+    fn try_copy(&self, alloc: Global) -> Result<CronJobDraft, Refusal> {
+        Ok(CronJobDraft {
+            key: self.key.try_copy(alloc)?,
+            meta: self.meta.try_copy(alloc)?,
+            spec: self.spec.try_copy(alloc)?,
+        })
+    }
+}
+
+impl Same for CronJobDraft {
+    fn same(&self, other: &CronJobDraft) -> bool {
+        let key = self.key.same(&other.key);
+        let meta = self.meta.same(&other.meta);
+        let spec = self.spec.same(&other.spec);
+        key && meta && spec
+    }
+}

@@ -1,0 +1,173 @@
+ghost use Rattle.std.specs.Prelude.{◌≡◌, ◌≢◌, ◌++◌, IfOk, IfErr, ◌==◌, IsTrue, Ok, Err};
+ghost use Rattle.std.proofs.Common.{rules};
+ghost use Rattle.std.specs.Cmp.{partial_order_from_own_ties};
+ghost use Rattle.std.specs.Cmp.Rules.{comparing, hashing};
+ghost use Rattle.std.specs.Hash as fed;
+ghost use Rattle.std.specs.Cmp.Lexicographic.{pointwise};
+ghost use Rattle.std.specs.Ordering.{on, as_partial_cmp, eq_of_both};
+ghost use Rattle.cj_types.specs.Names.{longest};
+ghost use Rattle.cj_types.specs.Keys.{place, is_place, place_cmp, new_key, key_faults};
+ghost use Rattle.cj_base.specs.declared.refusal.Refusal.TheVariants.{OutOfMemory};
+
+use crate::{name_cause, namespace_cause};
+use cj_base::{Field, FieldFault, FieldFaults, Refusal, Same, Text, TryCopy};
+use std::alloc::Global;
+use std::cmp::Ordering;
+use std::hash::{Hash, Hasher};
+use std::marker::Model;
+
+/// Namespace and name of an object, both well formed: a DNS label, and a DNS subdomain of at most 63 characters.
+///
+/// Keys are ordered by the bytes of the namespace, then of the name. Contracts see the two texts.
+#[derive(Debug, Drop)]
+pub struct Key {
+    namespace: Text,
+    name: Text,
+}
+
+impl Model for Key {
+    ghost use Rattle.std.specs.Prelude.{IsTrue};
+    ghost use Rattle.cj_types.specs.Names.{longest};
+    ghost use Rattle.cj_types.specs.Keys.{Place, coded_place, place, is_place};
+
+    ghost Value = { Place };
+
+    ghost coded = { coded_place };
+
+    ghost view = { λ k. place k.namespace k.name };
+
+    ghost invariant = { λ k. IsTrue (is_place longest (place k.namespace k.name)) };
+}
+
+// The faults of a namespace and of a name of at most `limit` characters.
+pub(crate) fn key_faults(
+    alloc: Global,
+    limit: usize,
+    namespace: &str,
+    name: &str,
+) -> Result<FieldFaults, Refusal>
+    ensures ok { IfOk result (λ f. f ≡ key_faults limit namespace.now name.now) }
+    ensures err { IfErr result (λ e. e ≡ OutOfMemory) }
+{
+    let mut faults = FieldFaults::new(alloc);
+    if let Some(cause) = name_cause(limit, name) {
+        let field = Field::Name;
+        faults.push(FieldFault { field, cause })?;
+    }
+    if let Some(cause) = namespace_cause(namespace) {
+        let field = Field::Namespace;
+        faults.push(FieldFault { field, cause })?;
+    }
+    Ok(faults)
+}
+
+impl Key {
+    /// The key of these texts, or `Invalid` with the faults of `metadata.name` and `metadata.namespace`, in this order:
+    /// `TooLong` for more than 63 characters, else `Format`.
+    pub fn new(alloc: Global, namespace: &str, name: &str) -> Result<Key, Refusal>
+        ensures ok { IfOk result (λ k. new_key longest namespace.now name.now ≡ Ok k) }
+        ensures err { IfErr result (λ e. e ≢ OutOfMemory → new_key longest namespace.now name.now ≡ Err e) }
+    {
+        let faults = key_faults(alloc, 63, namespace, name)?;
+        if !faults.as_slice().is_empty() {
+            return Err(Refusal::Invalid(faults));
+        }
+        Ok(Key {
+            namespace: Text::new(alloc, namespace)?,
+            name: Text::new(alloc, name)?,
+        })
+    }
+
+    // The key of two texts that are known to be well formed.
+    pub(crate) fn well_formed(namespace: Text, name: Text) -> Key
+        requires { IsTrue (is_place longest (place namespace name)) }
+        ensures { result ≡ place namespace name }
+    {
+        Key { namespace, name }
+    }
+
+    /// The namespace.
+    pub fn namespace(&self) -> &str
+        ensures { result.now ≡ self.now.namespace }
+    {
+        self.namespace.as_str()
+    }
+
+    /// The name.
+    pub fn name(&self) -> &str
+        ensures value { result.now ≡ self.now.name }
+        ensures well_formed { IsTrue (is_place longest self.now) }
+    {
+        self.name.as_str()
+    }
+}
+
+impl TryCopy for Key {
+    fn try_copy(&self, alloc: Global) -> Result<Key, Refusal> {
+        Ok(Key {
+            namespace: self.namespace.try_copy(alloc)?,
+            name: self.name.try_copy(alloc)?,
+        })
+    }
+}
+
+impl Same for Key {
+    fn same(&self, other: &Key) -> bool {
+        let namespace = self.namespace.same(&other.namespace);
+        let name = self.name.same(&other.name);
+        namespace && name
+    }
+}
+
+impl PartialEq for Key {
+    ghost eq = { eq_of_both (on (λ k. k.namespace) (pointwise ◌==◌)) (on (λ k. k.name) (pointwise ◌==◌)) };
+
+    ghost laws = { Prim.search (comparing, rules) };
+
+    fn eq(&self, other: &Key) -> bool {
+        self.namespace.as_str() == other.namespace.as_str()
+            && self.name.as_str() == other.name.as_str()
+    }
+}
+
+impl Eq for Key {
+    ghost laws = { Prim.search (comparing, rules) };
+}
+
+impl Ord for Key {
+    ghost cmp = { place_cmp };
+
+    ghost total = { Prim.search (comparing, rules) };
+
+    ghost matches_partial_cmp = { Prim.search (comparing, rules) };
+
+    ghost matches_eq = { Prim.search (comparing, rules) };
+
+    fn cmp(&self, other: &Key) -> Ordering {
+        self.namespace
+            .as_str()
+            .cmp(other.namespace.as_str())
+            .then(self.name.as_str().cmp(other.name.as_str()))
+    }
+}
+
+impl PartialOrd for Key {
+    ghost partial_cmp = { as_partial_cmp place_cmp };
+
+    ghost laws = { partial_order_from_own_ties (Prim.search (comparing, rules)) (Prim.search (comparing, rules)) };
+
+    fn partial_cmp(&self, other: &Key) -> Option<Ordering> {
+        Some(self.cmp(other))
+    }
+}
+
+impl Hash for Key {
+    ghost hash_input = { λ k. fed.str k.namespace ++ fed.str k.name };
+
+    ghost respects_eq = { Prim.search (hashing, rules) };
+
+    fn hash<H: Hasher>(&self, state: &mut H) {
+        self.namespace.as_str().hash(state);
+        self.name.as_str().hash(state);
+    }
+}

@@ -1,0 +1,41 @@
+//! The objects that are stored, what a manifest says of them, and the names that they go by.
+#![tactic(auto)]
+
+mod cron;
+mod cron_key;
+mod event;
+mod job;
+mod key;
+mod labels;
+mod listed;
+mod made;
+mod max;
+mod meta;
+mod names;
+mod owners;
+mod policy;
+mod spec_text;
+#[cfg(test)]
+mod tests;
+mod uid;
+mod versions;
+
+pub use cj_base::{
+    Cause, Civil, Field, FieldFault, FieldFaults, Millis, Refusal, Same, ScheduleCause,
+    ScheduleFault, Seconds, Text, TryCopy, Version, copy_all, same_all,
+};
+pub use cron::{CronJob, CronJobDraft, CronSpec, CronStatus, JobTemplate};
+pub use cron_key::CronKey;
+pub use event::{Event, Object};
+pub use job::{Job, JobDraft};
+pub use key::Key;
+pub use labels::Labels;
+pub use listed::{Names, Reasons};
+pub use max::Max;
+pub use meta::{DraftMeta, Meta};
+pub use names::{name_cause, namespace_cause};
+pub use owners::{OwnerRef, OwnerRefs};
+pub use policy::{Outcome, Policy, Reason};
+pub use spec_text::SpecText;
+pub use uid::Uid;
+pub use versions::version_text;

@@ -1,0 +1,100 @@
+ghost use Rattle.std.specs.Prelude.{◌≡◌, IfOk, IfErr};
+ghost use Rattle.cj_types.specs.Current.{says, is_current};
+ghost use Rattle.cj_base.specs.declared.refusal.Refusal.TheVariants.{OutOfMemory};
+
+use crate::{Labels, Uid, version_text};
+use cj_base::{Refusal, Same, Seconds, Text, TryCopy, Version};
+use std::alloc::Global;
+
+/// What the store keeps of every object beside its key.
+#[derive(Debug, Drop)]
+pub struct Meta {
+    pub uid: Uid,
+    /// The write that left the object as it stands.
+    pub version: Version,
+    /// 1 at the creation, one more after each change of the spec.
+    pub generation: u64,
+    /// When the object was created.
+    pub created: Seconds,
+    pub labels: Labels,
+    pub annotations: Labels,
+}
+
+impl TryCopy for Meta {
+    fn try_copy(&self, alloc: Global) -> Result<Meta, Refusal> {
+        Ok(Meta {
+            uid: self.uid,
+            version: self.version,
+            generation: self.generation,
+            created: self.created,
+            labels: self.labels.try_copy(alloc)?,
+            annotations: self.annotations.try_copy(alloc)?,
+        })
+    }
+}
+
+impl Same for Meta {
+    fn same(&self, other: &Meta) -> bool {
+        let uid = self.uid == other.uid;
+        let version = self.version == other.version;
+        let generation = self.generation == other.generation;
+        let created = self.created == other.created;
+        let labels = self.labels.same(&other.labels);
+        let annotations = self.annotations.same(&other.annotations);
+        uid && version && generation && created && labels && annotations
+    }
+}
+
+/// What a manifest says of an object beside its key; uid and version as the texts that it gives, if any.
+#[derive(Debug, Drop)]
+pub struct DraftMeta {
+    pub uid: Option<Text>,
+    pub version: Option<Text>,
+    pub labels: Labels,
+    pub annotations: Labels,
+}
+
+// Whether the text is the current one, where it was given.
+fn says(given: &Option<Text>, current: &Text) -> bool
+    ensures { result ≡ says given.now current.now }
+{
+    match given {
+        Some(text) => text.as_str() == current.as_str(),
+        None => true,
+    }
+}
+
+impl DraftMeta {
+    /// Whether the uid and the version are those of the standing object, where they were given.
+    pub fn is_current(&self, alloc: Global, meta: &Meta) -> Result<bool, Refusal>
+        ensures ok { IfOk result (λ b. b ≡ is_current self.now meta.now) }
+        ensures err { IfErr result (λ e. e ≡ OutOfMemory) }
+    {
+        let uid = meta.uid.text(alloc)?;
+        let version = version_text(alloc, meta.version)?;
+        let same_uid = says(&self.uid, &uid);
+        let same_version = says(&self.version, &version);
+        Ok(same_uid && same_version)
+    }
+}
+
+impl TryCopy for DraftMeta {
+    fn try_copy(&self, alloc: Global) -> Result<DraftMeta, Refusal> {
+        Ok(DraftMeta {
+            uid: self.uid.try_copy(alloc)?,
+            version: self.version.try_copy(alloc)?,
+            labels: self.labels.try_copy(alloc)?,
+            annotations: self.annotations.try_copy(alloc)?,
+        })
+    }
+}
+
+impl Same for DraftMeta {
+    fn same(&self, other: &DraftMeta) -> bool {
+        let uid = self.uid.same(&other.uid);
+        let version = self.version.same(&other.version);
+        let labels = self.labels.same(&other.labels);
+        let annotations = self.annotations.same(&other.annotations);
+        uid && version && labels && annotations
+    }
+}
