@@ -102,7 +102,9 @@ fn labels(alloc: Global, name: &str) -> Result<Labels, Refusal> {
 }
 
 fn value_at(labels: &Labels, name: &str, value: &str) -> bool {
-    labels.get(name).is_some_and(|found| found.as_str() == value)
+    labels
+        .get(name)
+        .is_some_and(|found| found.as_str() == value)
 }
 
 #[test]
