@@ -1,12 +1,12 @@
 -- The laws of the order of keys.
-use Rattle.std.proofs.Common.{◌≡◌, ℕ, List, ap, true, false, cond, None, Some, ◌∙◌, sym, refl, eqb}
-use Rattle.std.specs.Cmp.{IsTotalOrder, on_total, then_total, eq_by_cmp_equiv}
+use Rattle.std.proofs.Common.{◌≡◌, refl}
+use Rattle.std.specs.Cmp.{IsTotalOrder, on_total, then_total}
 use Rattle.std.specs.Cmp.Lexicographic.{slice_cmp, nat_list_cmp_total}
-use Rattle.std.specs.Ordering.{nat_cmp, ordering_then, eq_by_cmp}
+use Rattle.std.specs.Ordering.{nat_cmp, ordering_then}
 use Rattle.std.specs.declared.cmp.Ordering.{Ordering}
 use Rattle.std.specs.declared.cmp.Ordering.TheVariants.{Less, Equal, Greater}
-use Rattle.std.specs.FinMap.{FinMap, IsAntisymmetric, slice_cmp-IsAntisymmetric, nat_cmp-IsAntisymmetric, get, remove, same_map, get-remove, get_tied}
-use Rattle.cj_types.specs.Keys.{Place, place_cmp}
+use Rattle.std.specs.FinMap.{IsAntisymmetric, slice_cmp-IsAntisymmetric, nat_cmp-IsAntisymmetric}
+use Rattle.cj_types.specs.Keys.{place_cmp}
 
 pub places_total : IsTotalOrder place_cmp
 places_total = then_total (on_total (λ k. k.namespace) nat_list_cmp_total) (on_total (λ k. k.name) nat_list_cmp_total)

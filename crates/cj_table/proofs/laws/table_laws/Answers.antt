@@ -1,5 +1,5 @@
 use Rattle.cj_table.proofs.Order.{places_total, places_exact}
-use Rattle.cj_table.proofs.Puts.{put_split, put_there, cut_split, cut_there, remove-insert, at_put, at_cut}
+use Rattle.cj_table.proofs.Puts.{put_there, cut_there, remove-insert, at_put, at_cut}
 use Rattle.cj_table.proofs.laws.table_laws.Goals as goal
 
 pub returns-clause-total : goal.returns-clause-total

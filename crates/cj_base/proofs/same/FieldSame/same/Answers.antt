@@ -1,4 +1,4 @@
-use Rattle.std.proofs.Common.{rules, ◌≡◌, ◌≢◌, MatchBool, Bool, true, false, refl, sym, ◌∙◌}
+use Rattle.std.proofs.Common.{rules, ◌≡◌, MatchBool, Bool, true, false, refl, sym, ◌∙◌}
 use denote.Enum.Bare.{same_true, same_false}
 use Rattle.cj_base.specs.contracts.field.Field.{the_type}
 use Rattle.cj_base.proofs.same.FieldSame.same.Goals as goal

@@ -1,4 +1,4 @@
-use Rattle.std.proofs.Common.{◌≡◌, ◌++◌, ap, ◌∙◌, sym, List, append-nil}
+use Rattle.std.proofs.Common.{◌++◌, ap, ◌∙◌, sym, List, append-nil}
 use Rattle.std.specs.FinMap as map
 use Rattle.cj_table.proofs.Order.{places_total, places_exact}
 use Rattle.cj_table.proofs.Gets.{rows_values}
