@@ -28,3 +28,6 @@ pub use schedule_fault::{ScheduleCause, ScheduleFault};
 pub use seconds::Seconds;
 pub use text::Text;
 pub use version::Version;
+
+#[cfg(test)]
+mod tests;
