@@ -85,6 +85,10 @@ impl Field {
 }
 
 impl fmt::Display for Field {
+    ghost use Rattle.std.specs.Prelude.{Some};
+
+    ghost output = { λ x. Some (path_of x) };
+
     fn fmt<W: fmt::Write>(&self, f: &mut fmt::Formatter<W>) -> fmt::Result {
         write!(f, "{}", self.path())
     }

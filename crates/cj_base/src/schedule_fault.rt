@@ -47,6 +47,10 @@ impl ScheduleCause {
 }
 
 impl fmt::Display for ScheduleCause {
+    ghost use Rattle.std.specs.Prelude.{Some};
+
+    ghost output = { λ x. Some (cause_name x) };
+
     fn fmt<W: fmt::Write>(&self, f: &mut fmt::Formatter<W>) -> fmt::Result {
         write!(f, "{}", self.name())
     }
