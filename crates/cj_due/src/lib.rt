@@ -19,4 +19,6 @@ pub use next::{next_after, next_counted};
 #[cfg(test)]
 mod tests;
 #[cfg(test)]
+mod window_tests;
+#[cfg(test)]
 mod zone_file_tests;

@@ -1,6 +1,7 @@
 use crate::{Missed, latest_in, lower_end, missed, next_after, next_counted};
 use cj_base::Seconds;
 use cj_schedule::Schedule;
+use cj_types::Deadline;
 use cj_zone::{ZoneTable, read_time};
 use std::test::Fail;
 
@@ -30,7 +31,7 @@ fn deadline_raises_the_lower_end(rt: HostRuntime) -> Result<(), Fail> {
     let created = time("2024-01-01T08:00:00Z")?;
     let last = time("2024-01-01T08:29:00Z")?;
     let now = time("2024-01-01T10:21:30Z")?;
-    let lower = lower_end(Some(last), created, Some(200), now);
+    let lower = lower_end(Some(last), created, Some(Deadline::from(200)), now);
     assert_eq!(rt; lower, Some(time("2024-01-01T10:18:10Z")?));
     let three = Missed::Some {
         count: 3,
@@ -49,9 +50,10 @@ fn lower_end_is_below_now_or_none(rt: HostRuntime) -> Result<(), Fail> {
     let later = time("2024-01-01T10:05:00Z")?;
     assert_eq!(rt; lower_end(Some(later), created, None, now), None);
     assert_eq!(rt; lower_end(None, later, None, now), None);
-    assert_eq!(rt; lower_end(None, created, Some(0), now), None);
+    let never = Some(Deadline::from(0));
+    assert_eq!(rt; lower_end(None, created, never, now), None);
     assert_eq!(rt; lower_end(None, created, None, now), Some(created));
-    let longest = i64::MAX as u64;
+    let longest = Deadline::new(9_223_372_036_854_775_807).ok_or("out of range")?;
     assert_eq!(rt; lower_end(None, created, Some(longest), now), Some(created));
     Ok(())
 }

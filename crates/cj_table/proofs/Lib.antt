@@ -1,3 +1,4 @@
 pub mod Order
 pub mod Gets
 pub mod Puts
+pub mod Rows

@@ -3,6 +3,8 @@
 
 mod laws;
 mod table;
+#[cfg(test)]
+mod tests;
 
 pub use laws::table_laws;
 pub use table::Table;

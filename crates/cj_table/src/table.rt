@@ -35,6 +35,7 @@ impl<X> Table<X> {
     }
 
     /// The value at the key.
+    #[tactic(auto, using(crate::proofs::Rows::place_rows))]
     pub fn get(&self, key: &Key) -> Option<&X>
         ensures { option_copied result ≡ map.get self.now key.now }
     {
@@ -52,6 +53,7 @@ impl<X> Table<X> {
 impl<X: Drop> Table<X> {
     /// Puts the value at the key, in place of the one that stood there. Where there is no memory the table is as it
     /// was; a key that has a value needs none.
+    #[tactic(auto, using(crate::proofs::Rows::inserted_row, crate::proofs::Rows::place_rows))]
     pub fn insert(&mut self, key: Key, value: X) -> Result<(), Refusal>
         ensures ok { OnOk result (self.new ≡ map.insert self.old key value) }
         ensures err { OnErr result (self.new ≡ self.old) }
@@ -65,6 +67,7 @@ impl<X: Drop> Table<X> {
     }
 
     /// Takes the key and its value out, if they are there.
+    #[tactic(auto, using(crate::proofs::Rows::removed_row))]
     pub fn remove(&mut self, key: &Key)
         ensures { self.new ≡ map.remove self.old key.now }
     {

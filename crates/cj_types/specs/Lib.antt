@@ -1,6 +1,7 @@
 pub mod Names
 pub mod Keys
 pub mod Uids
+pub mod Limits
 pub mod Printed
 pub mod Owners
 pub mod LabelMap

@@ -1,4 +1,4 @@
-use crate::{CronKey, DraftMeta, Labels, Meta, Names, Policy, SpecText};
+use crate::{CronKey, Deadline, DraftMeta, HistoryLimit, Labels, Meta, Names, Policy, SpecText};
 use cj_base::{Refusal, Same, Seconds, Text, TryCopy};
 use std::alloc::Global;
 
@@ -38,12 +38,12 @@ pub struct CronSpec {
     pub time_zone: Option<Text>,
     pub policy: Policy,
     pub suspend: bool,
-    /// How late a Job may still be started, in seconds, up to 2^63-1.
-    pub starting_deadline_seconds: Option<u64>,
-    /// How many Jobs that ended with success are kept, up to 2,147,483,647.
-    pub successful_limit: u32,
-    /// How many failed Jobs are kept, up to 2,147,483,647.
-    pub failed_limit: u32,
+    /// How late a Job may still be started, if that is limited.
+    pub starting_deadline_seconds: Option<Deadline>,
+    /// How many Jobs that ended with success are kept.
+    pub successful_limit: HistoryLimit,
+    /// How many failed Jobs are kept.
+    pub failed_limit: HistoryLimit,
     pub template: JobTemplate,
 }
 

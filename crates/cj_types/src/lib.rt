@@ -7,6 +7,7 @@ mod event;
 mod job;
 mod key;
 mod labels;
+mod limits;
 mod listed;
 mod made;
 mod max;
@@ -15,8 +16,6 @@ mod names;
 mod owners;
 mod policy;
 mod spec_text;
-#[cfg(test)]
-mod tests;
 mod uid;
 mod versions;
 
@@ -30,6 +29,7 @@ pub use event::{Event, Object};
 pub use job::{Job, JobDraft};
 pub use key::Key;
 pub use labels::Labels;
+pub use limits::{Deadline, HistoryLimit};
 pub use listed::{Names, Reasons};
 pub use max::Max;
 pub use meta::{DraftMeta, Meta};

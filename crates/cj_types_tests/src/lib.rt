@@ -1,0 +1,20 @@
+//! Tests of the stored types: what names are accepted, the texts of uids, versions and Jobs' names, the Job that a CronJob
+//! makes, and that copies and comparisons see each field.
+#![tactic(auto)]
+
+#[cfg(test)]
+mod compared;
+#[cfg(test)]
+mod entries;
+#[cfg(test)]
+mod jobs;
+#[cfg(test)]
+mod keys;
+#[cfg(test)]
+mod made;
+#[cfg(test)]
+mod numbers;
+#[cfg(test)]
+mod samples;
+#[cfg(test)]
+mod words;

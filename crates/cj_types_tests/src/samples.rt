@@ -1,0 +1,361 @@
+use cj_types::{
+    Cause, CronJob, CronJobDraft, CronKey, CronSpec, CronStatus, Deadline, DraftMeta, Event, Field,
+    FieldFault, FieldFaults, HistoryLimit, Job, JobDraft, JobTemplate, Key, Labels, Meta, Names,
+    Object, Outcome, OwnerRef, OwnerRefs, Policy, Reason, Reasons, Refusal, Seconds, SpecText,
+    Text, Uid, Version,
+};
+use std::alloc::Global;
+use std::test::Fail;
+
+/// A value, and others that differ from it in one place each.
+pub trait Sample {
+    /// The value with the change of this number; as it is for 0, and for a number that names none.
+    fn sample(alloc: Global, change: u8) -> Result<Self, Fail>;
+}
+
+// One of two texts.
+fn text(alloc: Global, is_changed: bool) -> Result<Text, Fail> {
+    let text = if is_changed { "other" } else { "this" };
+    Ok(Text::new(alloc, text)?)
+}
+
+// The sample of a part, changed in one place where it is to be.
+fn part<T: Sample>(alloc: Global, is_changed: bool) -> Result<T, Fail> {
+    T::sample(alloc, u8::from(is_changed))
+}
+
+fn uid(is_changed: bool) -> Result<Uid, Fail> {
+    Ok(Uid::new(if is_changed { 9 } else { 8 }).ok_or("uid")?)
+}
+
+// One of two texts, or none.
+fn perhaps_text(alloc: Global, is_there: bool, is_changed: bool) -> Result<Option<Text>, Fail> {
+    if is_there {
+        Ok(Some(text(alloc, is_changed)?))
+    } else {
+        Ok(None)
+    }
+}
+
+impl Sample for Key {
+    fn sample(alloc: Global, change: u8) -> Result<Key, Fail> {
+        let (namespace, name) = match change {
+            1 => ("up", "right"),
+            2 => ("left", "down"),
+            3 => ("right", "left"),
+            _ => ("left", "right"),
+        };
+        Ok(Key::new(alloc, namespace, name)?)
+    }
+}
+
+impl Sample for CronKey {
+    fn sample(alloc: Global, change: u8) -> Result<CronKey, Fail> {
+        let (namespace, name) = match change {
+            1 => ("up", "right"),
+            2 => ("left", "down"),
+            3 => ("right", "left"),
+            _ => ("left", "right"),
+        };
+        Ok(CronKey::new(alloc, namespace, name)?)
+    }
+}
+
+/// The labels that come of putting an entry for each word `NAME=VALUE`.
+pub fn read_labels(alloc: Global, words: &str) -> Result<Labels, Fail> {
+    let mut labels = Labels::new(alloc);
+    for word in words.split(' ') {
+        if let Some((name, value)) = word.split_once('=') {
+            labels.put(Text::new(alloc, name)?, Text::new(alloc, value)?)?;
+        }
+    }
+    Ok(labels)
+}
+
+impl Sample for Labels {
+    fn sample(alloc: Global, change: u8) -> Result<Labels, Fail> {
+        let words = match change {
+            1 => "app=web tier=front",
+            2 => "app=web part=back",
+            3 => "app=web tier=back zone=a",
+            4 => "app=web",
+            5 => "",
+            6 => "app=back tier=web",
+            _ => "app=web tier=back",
+        };
+        read_labels(alloc, words)
+    }
+}
+
+impl Sample for SpecText {
+    fn sample(alloc: Global, change: u8) -> Result<SpecText, Fail> {
+        let text = match change {
+            1 => "{\"a\":2}",
+            2 => "{\"a\":1,\"b\":1}",
+            3 => "",
+            _ => "{\"a\":1}",
+        };
+        Ok(SpecText::new(Text::new(alloc, text)?))
+    }
+}
+
+impl Sample for Names {
+    fn sample(alloc: Global, change: u8) -> Result<Names, Fail> {
+        let words = match change {
+            1 => "a other",
+            2 => "b a",
+            3 => "a b c",
+            4 => "a",
+            5 => "a b b",
+            6 => "ab",
+            _ => "a b",
+        };
+        let mut names = Names::new(alloc);
+        for word in words.split(' ') {
+            names.push(Text::new(alloc, word)?)?;
+        }
+        Ok(names)
+    }
+}
+
+impl Sample for Reasons {
+    fn sample(alloc: Global, change: u8) -> Result<Reasons, Fail> {
+        let list = match change {
+            1 => [Reason::UnknownTimeZone, Reason::TooManyMissedTimes],
+            2 => [Reason::JobAlreadyActive, Reason::UnknownTimeZone],
+            3 => [Reason::UnknownTimeZone, Reason::UnknownTimeZone],
+            4 => [Reason::UnknownTimeZone, Reason::FailedCreate],
+            _ => [Reason::UnknownTimeZone, Reason::JobAlreadyActive],
+        };
+        let mut reasons = Reasons::new(alloc);
+        for reason in list {
+            reasons.push(reason)?;
+        }
+        Ok(reasons)
+    }
+}
+
+impl Sample for OwnerRef {
+    fn sample(alloc: Global, change: u8) -> Result<OwnerRef, Fail> {
+        Ok(OwnerRef {
+            api_version: text(alloc, change == 1)?,
+            kind: text(alloc, change == 2)?,
+            name: text(alloc, change == 3)?,
+            uid: text(alloc, change == 4)?,
+            controller: change == 5,
+            block_owner_deletion: change == 6,
+        })
+    }
+}
+
+impl Sample for OwnerRefs {
+    fn sample(alloc: Global, change: u8) -> Result<OwnerRefs, Fail> {
+        let changes = match change {
+            1 => "03",
+            2 => "02",
+            3 => "30",
+            4 => "011",
+            5 => "0",
+            6 => "",
+            _ => "01",
+        };
+        let mut owners = OwnerRefs::new(alloc);
+        for digit in changes.bytes() {
+            owners.push(OwnerRef::sample(alloc, digit.saturating_sub(b'0'))?)?;
+        }
+        Ok(owners)
+    }
+}
+
+impl Sample for Meta {
+    fn sample(alloc: Global, change: u8) -> Result<Meta, Fail> {
+        Ok(Meta {
+            uid: uid(change == 1)?,
+            version: Version::new(if change == 2 { 5 } else { 4 }),
+            generation: if change == 3 { 2 } else { 1 },
+            created: Seconds::new(if change == 4 { 61 } else { 60 }).ok_or("created")?,
+            labels: part(alloc, change == 5)?,
+            annotations: part(alloc, change == 6)?,
+        })
+    }
+}
+
+impl Sample for DraftMeta {
+    fn sample(alloc: Global, change: u8) -> Result<DraftMeta, Fail> {
+        Ok(DraftMeta {
+            uid: perhaps_text(alloc, change != 2, change == 1)?,
+            version: perhaps_text(alloc, change != 4, change == 3)?,
+            labels: part(alloc, change == 5)?,
+            annotations: part(alloc, change == 6)?,
+        })
+    }
+}
+
+impl Sample for JobTemplate {
+    fn sample(alloc: Global, change: u8) -> Result<JobTemplate, Fail> {
+        Ok(JobTemplate {
+            labels: part(alloc, change == 1)?,
+            annotations: part(alloc, change == 2)?,
+            spec: part(alloc, change == 3)?,
+        })
+    }
+}
+
+fn policy(change: u8) -> Policy {
+    match change {
+        3 => Policy::Forbid,
+        11 => Policy::Replace,
+        _ => Policy::Allow,
+    }
+}
+
+fn deadline(change: u8) -> Option<Deadline> {
+    match change {
+        5 => None,
+        10 => Some(Deadline::from(0)),
+        _ => Some(Deadline::from(200)),
+    }
+}
+
+impl Sample for CronSpec {
+    fn sample(alloc: Global, change: u8) -> Result<CronSpec, Fail> {
+        Ok(CronSpec {
+            schedule: text(alloc, change == 1)?,
+            time_zone: perhaps_text(alloc, change != 9, change == 2)?,
+            policy: policy(change),
+            suspend: change == 4,
+            starting_deadline_seconds: deadline(change),
+            successful_limit: HistoryLimit::from(if change == 6 { 4 } else { 3 }),
+            failed_limit: HistoryLimit::from(if change == 7 { 4 } else { 3 }),
+            template: part(alloc, change == 8)?,
+        })
+    }
+}
+
+impl Sample for CronStatus {
+    fn sample(alloc: Global, change: u8) -> Result<CronStatus, Fail> {
+        Ok(CronStatus {
+            active: part(alloc, change == 1)?,
+            last_schedule_time: match change {
+                2 => None,
+                3 => Seconds::new(120),
+                _ => Seconds::new(60),
+            },
+            last_successful_time: match change {
+                4 => None,
+                5 => Seconds::new(120),
+                _ => Seconds::new(60),
+            },
+        })
+    }
+}
+
+impl Sample for CronJob {
+    fn sample(alloc: Global, change: u8) -> Result<CronJob, Fail> {
+        Ok(CronJob {
+            key: part(alloc, change == 1)?,
+            meta: part(alloc, change == 2)?,
+            spec: part(alloc, change == 3)?,
+            status: part(alloc, change == 4)?,
+        })
+    }
+}
+
+impl Sample for CronJobDraft {
+    fn sample(alloc: Global, change: u8) -> Result<CronJobDraft, Fail> {
+        Ok(CronJobDraft {
+            key: part(alloc, change == 1)?,
+            meta: part(alloc, change == 2)?,
+            spec: part(alloc, change == 3)?,
+        })
+    }
+}
+
+fn outcome(change: u8) -> Option<Outcome> {
+    match change {
+        5 => None,
+        6 => Some(Outcome::Failed),
+        7 => Seconds::new(120).map(Outcome::Complete),
+        _ => Seconds::new(60).map(Outcome::Complete),
+    }
+}
+
+impl Sample for Job {
+    fn sample(alloc: Global, change: u8) -> Result<Job, Fail> {
+        Ok(Job {
+            key: part(alloc, change == 1)?,
+            meta: part(alloc, change == 2)?,
+            owners: part(alloc, change == 3)?,
+            spec: part(alloc, change == 4)?,
+            outcome: outcome(change),
+        })
+    }
+}
+
+impl Sample for JobDraft {
+    fn sample(alloc: Global, change: u8) -> Result<JobDraft, Fail> {
+        Ok(JobDraft {
+            key: part(alloc, change == 1)?,
+            meta: part(alloc, change == 2)?,
+            owners: part(alloc, change == 3)?,
+            spec: part(alloc, change == 4)?,
+        })
+    }
+}
+
+impl Sample for Object {
+    fn sample(alloc: Global, change: u8) -> Result<Object, Fail> {
+        match change {
+            1 | 2 => Ok(Object::Job(part(alloc, change == 1)?)),
+            _ => Ok(Object::Cron(part(alloc, change == 3)?)),
+        }
+    }
+}
+
+impl Sample for Event {
+    fn sample(alloc: Global, change: u8) -> Result<Event, Fail> {
+        let object = part(alloc, change % 2 == 1)?;
+        match change {
+            2 | 3 => Ok(Event::Modified(object)),
+            4 | 5 => Ok(Event::Deleted(object)),
+            _ => Ok(Event::Added(object)),
+        }
+    }
+}
+
+// A name's fault, and perhaps a namespace's.
+fn faults(alloc: Global, cause: Cause, is_longer: bool) -> Result<FieldFaults, Fail> {
+    let field = Field::Name;
+    let mut faults = FieldFaults::one(alloc, FieldFault { field, cause })?;
+    if is_longer {
+        let field = Field::Namespace;
+        faults.push(FieldFault { field, cause })?;
+    }
+    Ok(faults)
+}
+
+impl Sample for Refusal {
+    fn sample(alloc: Global, change: u8) -> Result<Refusal, Fail> {
+        Ok(match change {
+            1 => Refusal::Syntax,
+            2 => Refusal::NotPermitted,
+            3 => Refusal::NotFound,
+            4 => Refusal::AlreadyExists,
+            5 => Refusal::Conflict(Version::new(6)),
+            6 => Refusal::Conflict(Version::new(7)),
+            7 => Refusal::Expired(Version::new(6)),
+            8 => Refusal::Expired(Version::new(7)),
+            9 => Refusal::OutOfPhase,
+            10 => Refusal::Stale,
+            11 => Refusal::Empty,
+            12 => Refusal::ShutDown,
+            13 => Refusal::HistoryFull,
+            14 => Refusal::Estranged,
+            15 => Refusal::OutOfMemory,
+            16 => Refusal::AlreadyFinished,
+            17 => Refusal::Invalid(faults(alloc, Cause::Format, false)?),
+            18 => Refusal::Invalid(faults(alloc, Cause::Format, true)?),
+            _ => Refusal::Invalid(faults(alloc, Cause::TooLong, false)?),
+        })
+    }
+}
