@@ -1,0 +1,40 @@
+-- Numbered events: parts of a list of them, and those that come later.
+use Rattle.std.proofs.Common.{◌≡◌, ◌∙◌, ap, sym, subst, refl, ℕ, ◌+◌, ◌-◌, ◌≤◌, suc, zero, nat_lt, true, false, cond, List, [], ◌∷◌, ◌++◌, length, drop, arith}
+use Rattle.std.proofs.Math.Seq.{drop-nil}
+use Rattle.std.proofs.lemmas.Bool.Decides.{nat_tests}
+use Rattle.cj_types.specs.declared.event.Event.{Event}
+use Rattle.cj_watch.specs.Numbers.{version_of, IsNumbered, later}
+
+numbered_at : (m n : ℕ) (es : List Event) → m ≡ n → IsNumbered m es → IsNumbered n es
+numbered_at m n es e h = subst (λ k. IsNumbered k es) e h
+
+pub numbered_drop : (n k : ℕ) (es : List Event) → IsNumbered n es → IsNumbered (n + k) (drop k es)
+numbered_drop n zero es h = numbered_at n (n + 0) es (omega arith) h
+numbered_drop n (suc k) [] h = tt
+numbered_drop n (suc k) (e ∷ es) h = numbered_at (n + 1 + k) (n + suc k) (drop k es) (omega arith) (numbered_drop (n + 1) k es h.1)
+
+pub numbered_snoc : (n : ℕ) (es : List Event) (e : Event) → IsNumbered n es → version_of e ≡ n + length es + 1 → IsNumbered n (es ++ e ∷ [])
+numbered_snoc n [] e h v = (omega (arith, v), tt)
+numbered_snoc n (x ∷ xs) e h v = (h.0, numbered_snoc (n + 1) xs e h.1 (omega (arith, v)))
+
+below : (n v k : ℕ) → k ≡ n + 1 → nat_lt v k ≡ true → v ≤ n
+below n v k e t = grind (arith, nat_tests)
+
+above : (n v k : ℕ) → k ≡ n + 1 → nat_lt v k ≡ false → v - n ≡ suc (v - (n + 1))
+above n v k e t =
+    let le : k ≤ v = grind (arith, nat_tests) in
+    omega arith
+
+-- the later ones are what is left without the others
+pub later_is : (n v : ℕ) (es : List Event) → IsNumbered n es → later v es ≡ drop (v - n) es
+later_is n v [] h = sym (drop-nil (v - n))
+later_is n v (e ∷ es) h =
+    let rest = later_is (n + 1) v es h.1 in
+    elim (nat_lt v (version_of e)) as (λ b. nat_lt v (version_of e) ≡ b → cond b (e ∷ later v es) (later v es) ≡ drop (v - n) (e ∷ es)) [
+      | true ↦ λ t.
+          let le = below n v (version_of e) h.0 t in
+          let none : v - (n + 1) ≡ 0 = omega arith in
+          let zero_left : v - n ≡ 0 = omega arith in
+          ap (λ xs. e ∷ xs) (rest ∙ ap (λ k. drop k es) none) ∙ sym (ap (λ k. drop k (e ∷ es)) zero_left)
+      | false ↦ λ t. rest ∙ sym (ap (λ k. drop k (e ∷ es)) (above n v (version_of e) h.0 t))
+    ] refl

@@ -1,0 +1,17 @@
+use Rattle.std.proofs.Common.{◌≡◌, ◌∙◌, take, drop, ◌-◌, List, Ok, ap, sym, subst}
+use Rattle.std.proofs.lemmas.Result.{IfOk-weaker}
+use Rattle.cj_types.specs.declared.event.Event.{Event}
+use Rattle.cj_watch.specs.Log.{Log, IsWindow, since}
+use Rattle.cj_watch.proofs.Logs.{told}
+use Rattle.cj_watch.proofs.log.WatchLog.since.Goals as goal
+
+pub returns-clause-ok : goal.returns-clause-ok
+returns-clause-ok c =
+    let log = c.args.self.now in
+    let start = c.place_after-start.result in
+    let end = c.end_after-end.result in
+    let kept = subst (λ (l : Log). IsWindow l) c.self.view_is c.self.invariant in
+    let items = ap (λ (l : Log). take (end - start) (drop start l.kept)) c.self.view_is in
+    let answer = told log c.args.version c.args.max start end kept (sym c.is_gone.ensures ∙ c.if-is_gone.false) c.place_after-start.ensures c.end_after-end.ensures in
+    IfOk-weaker c.copy_range.result (λ v. v.items ≡ take (end - start) (drop start c.self.inside.events.items)) (λ v. since log c.args.version c.args.max ≡ Ok v.items)
+    (λ v e. answer ∙ ap (λ (es : List Event). Ok es) (sym (e ∙ items))) c.copy_range.ensures.ok

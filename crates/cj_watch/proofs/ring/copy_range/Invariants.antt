@@ -1,0 +1,5 @@
+use Rattle.std.proofs.Common.{◌≡◌, ◌-◌, take, drop}
+use Rattle.cj_watch.proofs.ring.copy_range.Given as goal
+
+abbrev pub invariant-loop-i : goal.invariant-loop-i
+invariant-loop-i g l = l.copies.items ≡ take (l.i - l.start) (drop l.start l.ring.items)

@@ -1,0 +1,15 @@
+//! The latest writes as events, and which of them came after a version.
+#![tactic(auto)]
+
+mod laws;
+mod log;
+mod number;
+mod ring;
+#[cfg(test)]
+mod tests;
+mod window;
+
+pub use laws::watch_laws;
+pub use log::WatchLog;
+pub use number::version_of;
+pub use window::Window;

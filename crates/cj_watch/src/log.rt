@@ -1,0 +1,113 @@
+ghost use Rattle.std.specs.Prelude.{◌≡◌, ◌≢◌, ◌+◌, ◌-◌, ◌≤◌, min, nat_lt, length, IfOk, IfErr, Ok, Err};
+ghost use Rattle.cj_base.specs.declared.refusal.Refusal.TheVariants.{OutOfMemory};
+ghost use Rattle.cj_watch.specs.Numbers.{version_of};
+
+use crate::ring::{copy_range, put_last};
+use crate::{Window, version_of};
+use circular_buffer::HeapCircularBuffer;
+use cj_types::{Event, Max, Refusal, Version};
+use std::alloc::Global;
+use std::marker::Model;
+
+/// The latest events, as many as fit in a window, each with the count of the events up to it as its version.
+///
+/// Contracts see the events that are kept, the count of all events so far, and the window.
+#[derive(Drop)]
+pub struct WatchLog {
+    events: HeapCircularBuffer<Event>,
+    count: u64,
+}
+
+impl Model for WatchLog {
+    ghost use Rattle.cj_watch.specs.Log.{Log, IsWindow};
+
+    ghost Value = { Log };
+
+    ghost view = { λ l. record { kept = l.events.items; count = l.count; window = l.events.capacity } };
+
+    ghost invariant = { λ l. IsWindow (record { kept = l.events.items; count = l.count; window = l.events.capacity }) };
+}
+
+impl WatchLog {
+    ghost use Rattle.cj_watch.specs.Log.{IsWindow, new_log, pushed, since};
+
+    /// No event, and memory for as many as fit in the window.
+    pub fn new(alloc: Global, window: Window) -> Result<WatchLog, Refusal>
+        ensures ok { IfOk result (λ l. l ≡ new_log window) }
+        ensures err { IfErr result (λ e. e ≡ OutOfMemory) }
+    {
+        let capacity = usize::from(window.get());
+        let events = HeapCircularBuffer::with_capacity(alloc, capacity).map_err(
+            |_| Refusal::OutOfMemory,
+        )?;
+        Ok(WatchLog { events, count: 0 })
+    }
+
+    /// The version of the last event, 0 before the first: how many there were so far.
+    pub fn version(&self) -> Version
+        ensures value { result ≡ self.now.count }
+        ensures window { IsWindow self.now }
+    {
+        Version::new(self.count)
+    }
+
+    /// Makes sure of room for one event more. All memory was taken by `new`, so that nothing is left to do.
+    pub fn make_room(&mut self)
+        ensures { self.new ≡ self.old }
+    {}
+
+    /// The event of the next write, whose version is one above the count so far. Takes no memory; the oldest event
+    /// goes where there are as many as fit.
+    pub fn push(&mut self, event: Event)
+        requires next { version_of event ≡ self.old.count + 1 }
+        ensures { self.new ≡ pushed self.old event }
+    {
+        self.count = version_of(&event).get();
+        put_last(&mut self.events, event);
+    }
+
+    // Whether the version is below all that are served.
+    fn is_gone(&self, version: Version) -> bool
+        ensures { result ≡ nat_lt (version + self.now.window) self.now.count }
+    {
+        version.get().saturating_add(self.events.capacity() as u64) < self.count
+    }
+
+    // The oldest version from which no event is lost.
+    fn oldest_served(&self) -> Version
+        ensures { result ≡ self.now.count - self.now.window }
+    {
+        Version::new(self.count.saturating_sub(self.events.capacity() as u64))
+    }
+
+    // The place of the first event that is kept and comes after the version, or the end.
+    fn place_after(&self, version: Version) -> usize
+        ensures { result ≡ min (version - (self.now.count - length self.now.kept)) (length self.now.kept) }
+    {
+        let len = self.events.len() as u64;
+        let before = self.count - len;
+        version.get().saturating_sub(before).min(len) as usize
+    }
+
+    // The place after so many events from that one on, or the end.
+    fn end_after(&self, start: usize, max: Max) -> usize
+        requires { start ≤ length self.now.kept }
+        ensures { result ≡ min (length self.now.kept) (start + max) }
+    {
+        self.events.len().min(start + usize::from(max.get()))
+    }
+
+    /// Copies of the first `max` events after the version, in their order, none where the version is the last one or
+    /// above it; or `Expired` with the oldest version that is served, where events after the version are gone.
+    pub fn since(&self, alloc: Global, version: Version, max: Max) -> Result<Vec<Event>, Refusal>
+        ensures ok { IfOk result (λ v. since self.now version max ≡ Ok v.items) }
+        ensures err { IfErr result (λ e. e ≢ OutOfMemory → since self.now version max ≡ Err e) }
+    {
+        if self.is_gone(version) {
+            return Err(Refusal::Expired(self.oldest_served()));
+        }
+        let start = self.place_after(version);
+        let end = self.end_after(start, max);
+        copy_range(alloc, &self.events, start, end)
+    }
+}
