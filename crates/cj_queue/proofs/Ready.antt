@@ -1,0 +1,200 @@
+-- The map by time and key that agrees with the times has the keys of `by_time`.
+use Rattle.std.proofs.Common.{◌≡◌, ℕ, ◌==◌, ◌<◌, ◌≤◌, ◌++◌, append_assoc, append-nil, Result, Ok, Err, Bool, true, false, cond, ◌&&◌, List, [], ◌∷◌, map as map_list, Option, Some, None, refl, sym, ap, ◌∙◌, subst, arith}
+use Rattle.std.specs.Prelude.{T, nat_le, OnOk, OnErr}
+use Rattle.std.proofs.lemmas.Bool.Decides.{nat_tests}
+use Rattle.std.specs.declared.cmp.Ordering.{Ordering}
+use Rattle.std.specs.declared.cmp.Ordering.TheVariants.{Less, Equal, Greater}
+use Rattle.std.specs.Ordering.{nat_cmp, ordering_then, is_eq, is_lt, eq_by_cmp}
+use Rattle.std.specs.Cmp.{IsTotalOrder, on_total, then_total, nat_cmp_total}
+use Rattle.std.specs.FinMap as map
+use Rattle.std.specs.FinMap.{find}
+use Rattle.std.specs.FinMap.Entries.{below_all}
+use Rattle.std.specs.BTreeMap.{BTreeMap}
+use Rattle.std.specs.List.Sorted.{IsStrictlySortedBy}
+use Rattle.cj_types.specs.Keys.{Place, place_cmp}
+use Rattle.cj_queue.specs.Times.{timed_cmp, Waiting, by_time, ready_in, at_time, time_of, earlier, waits_for, Agrees, SetsTime, SameTimes}
+use Rattle.cj_table.proofs.Order.{places_total, places_exact}
+use Rattle.std.specs.List.{AllByRecursion}
+use Rattle.std.proofs.lemmas.Map.Keys.{sorted_head, sorted_tail}
+use Rattle.cj_table.proofs.Puts.{alike}
+use Rattle.cj_table.proofs.Gets.{get_rows, rows_entries, inserted, same_rows}
+
+pub timed_total : IsTotalOrder timed_cmp
+timed_total = then_total (on_total (λ p. p.0) nat_cmp_total) (on_total (λ p. p.1) places_total)
+
+both_equal : (o p : Ordering) → ordering_then o p ≡ Equal → (o ≡ Equal) × (p ≡ Equal)
+both_equal Less p h = cc
+both_equal Equal p h = (refl, h)
+both_equal Greater p h = cc
+
+pub timed_exact : map.IsAntisymmetric timed_cmp
+timed_exact x y h =
+    let parts = both_equal (nat_cmp x.0 y.0) (place_cmp x.1 y.1) h in
+    let a : x.0 ≡ y.0 = map.nat_cmp-IsAntisymmetric _ _ parts.0 in
+    let b : x.1 ≡ y.1 = places_exact _ _ parts.1 in
+    λ i. (a i, b i)
+
+-- ---- look-ups by time
+
+both_ties : (o r : Ordering) → is_eq (ordering_then o r) ≡ (is_eq o && is_eq r)
+both_ties Less r = refl
+both_ties Equal r = refl
+both_ties Greater r = refl
+
+ties_nat : (x y : ℕ) → is_eq (nat_cmp x y) ≡ (y == x)
+ties_nat x y = grind (arith, nat_tests)
+
+equal : (r : Ordering) → T (is_eq r) → r ≡ Equal
+equal Less p = absurd p
+equal Equal p = refl
+equal Greater p = absurd p
+
+true_T : (b : Bool) → b ≡ true → T b
+true_T true e = tt
+true_T false e = cc (e)
+
+first : (a b : Bool) → T (a && b) → T a
+first true b p = tt
+first false b p = p
+
+second : (a b : Bool) → T (a && b) → T b
+second true b p = p
+second false b p = absurd p
+
+less_apart : (o : Ordering) → T (is_lt o) → is_eq o ≡ false
+less_apart Less p = refl
+less_apart Equal p = absurd p
+less_apart Greater p = absurd p
+
+skip : {A : Type 0} (b : Bool) (x y : A) → b ≡ false → cond b x y ≡ y
+skip true x y e = cc (e)
+skip false x y e = refl
+
+below_absent : (k : Place) (es : List (Place × ℕ)) → T (below_all place_cmp k es) → find place_cmp k es ≡ None
+below_absent k [] h = refl
+below_absent k (e ∷ es) h = skip (eq_by_cmp place_cmp k e.0) (Some e.1) (find place_cmp k es) (less_apart (place_cmp k e.0) (first _ _ h)) ∙ below_absent k es (second _ _ h)
+
+head_time : (a : Bool) → cond (a && true) (Some (tt {0})) None ≡ cond a (Some tt) None
+head_time true = refl
+head_time false = refl
+
+off_head : {A : Type 0} (a : Bool) (x y : A) → cond (a && false) x y ≡ y
+off_head true x y = refl
+off_head false x y = refl
+
+-- an entry is found among the swapped ones where the key has just its time
+pub swapped : (es : List (Place × ℕ)) (t : ℕ) (k : Place) → T (map.is_sorted place_cmp es)
+    → find timed_cmp (t, k) (map_list (λ e. ((e.1, e.0), tt {0})) es) ≡ at_time (find place_cmp k es) t
+swapped [] t k s = refl
+swapped (e ∷ es) t k s =
+    ap (λ b. cond b (Some (tt {0})) (find timed_cmp (t, k) (map_list (λ e. ((e.1, e.0), tt)) es)))
+    (both_ties (nat_cmp t e.1) (place_cmp k e.0) ∙ ap (λ b. b && eq_by_cmp place_cmp k e.0) (ties_nat t e.1))
+    ∙ ap (cond ((e.1 == t) && eq_by_cmp place_cmp k e.0) (Some tt)) (swapped es t k (second _ _ s))
+    ∙ at_head (eq_by_cmp place_cmp k e.0) refl
+  where
+    at_head : (b : Bool) → eq_by_cmp place_cmp k e.0 ≡ b → cond ((e.1 == t) && eq_by_cmp place_cmp k e.0) (Some (tt {0})) (at_time (find place_cmp k es) t) ≡ at_time (cond (eq_by_cmp place_cmp k e.0) (Some e.1) (find place_cmp k es)) t
+    at_head true h =
+        let same : k ≡ e.0 = places_exact k e.0 (equal _ (true_T _ h)) in
+        let none : find place_cmp k es ≡ None = below_absent k es (subst (λ j. T (below_all place_cmp j es)) (sym same) (first _ _ s)) in
+        (λ i. cond ((e.1 == t) && h i) (Some (tt {0})) (at_time (none i) t)) ∙ head_time (e.1 == t) ∙ (λ i. at_time (cond (sym h i) (Some e.1) (find place_cmp k es)) t)
+    at_head false h =
+        (λ i. cond ((e.1 == t) && h i) (Some (tt {0})) (at_time (find place_cmp k es) t)) ∙ off_head (e.1 == t) (Some tt) (at_time (find place_cmp k es) t)
+        ∙ (λ i. at_time (cond (sym h i) (Some e.1) (find place_cmp k es)) t)
+
+pub by_time_at : (m : Waiting) (t : ℕ) (k : Place) → map.get (by_time m) (t, k) ≡ at_time (map.get m k) t
+by_time_at m t k =
+    map.get-from_entries timed_total (map_list (λ e. ((e.1, e.0), tt)) (map.entries m)) (t, k)
+    ∙ swapped (map.entries m) t k (map.entries_sorted m)
+    ∙ ap (λ o. at_time o t) (sym (map.get-entries m k))
+
+pub order_keys : (times : BTreeMap Place ℕ) (order : BTreeMap (ℕ × Place) (Unit {0})) → Agrees times order → IsStrictlySortedBy timed_cmp (map_list (λ e. e.0) order.entries)
+    → map_list (λ e. e.0) order.entries ≡ map.keys (by_time (map.from_entries times.entries))
+order_keys times order agree sorted =
+    let m : Waiting = map.from_entries times.entries in
+    let same : map.from_entries {R = timed_cmp} order.entries ≡ by_time m = map.same_map timed_total timed_exact _ _ (λ p.
+    get_rows timed_total timed_exact order.entries p ∙ agree.same p.1 p.0
+    ∙ ap (λ o. at_time o p.0) (sym (get_rows places_total places_exact times.entries p.1)) ∙ sym (by_time_at m p.0 p.1)) in
+    ap (map_list (λ (e : (ℕ × Place) × Unit {0}). e.0)) (sym (rows_entries timed_total timed_exact order.entries sorted)) ∙ ap (λ (n : map.FinMap timed_cmp (Unit {0})). map.keys n) same
+
+-- ---- the list of those that are ready
+
+not_later : (s t now : ℕ) (o : Ordering) → now < s → ordering_then (nat_cmp s t) o ≡ Less → nat_le t now ≡ false
+not_later s t now o lt h = by (nat_cmp s t) refl h
+  where
+    by : (r : Ordering) → nat_cmp s t ≡ r → ordering_then r o ≡ Less → nat_le t now ≡ false
+    by Less e g = grind (arith, nat_tests, e, lt)
+    by Equal e g = grind (arith, nat_tests, e, lt)
+    by Greater e g = cc (g)
+
+pub late : (ps : List (ℕ × Place)) (p : ℕ × Place) (now : ℕ) → AllByRecursion (λ y. timed_cmp p y ≡ Less) ps → now < p.0 → ready_in ps now ≡ []
+late [] p now h lt = refl
+late (y ∷ ps) p now h lt = skip (nat_le y.0 now) (y.1 ∷ ready_in ps now) (ready_in ps now) (not_later p.0 y.0 now (place_cmp p.1 y.1) lt h.0) ∙ late ps p now h.1 lt
+
+pub all_late : (ps : List (ℕ × Place)) (p : ℕ × Place) (now : ℕ) → IsStrictlySortedBy timed_cmp (p ∷ ps) → now < p.0 → ready_in (p ∷ ps) now ≡ []
+all_late ps p now h lt =
+    skip (nat_le p.0 now) (p.1 ∷ ready_in ps now) (ready_in ps now) (grind (arith, nat_tests, lt)) ∙ late ps p now (sorted_head timed_cmp p ps h) lt
+
+taken : {A : Type 0} (b : Bool) (x y : A) → b ≡ true → cond b x y ≡ x
+taken true x y e = refl
+taken false x y e = cc (e)
+
+pub ready_step : (found : List Place) (rest next : List (ℕ × Place)) (p : ℕ × Place) (now : ℕ) (all : List Place) → found ++ ready_in rest now ≡ all → rest ≡ p ∷ next → p.0 ≤ now → (found ++ p.1 ∷ []) ++ ready_in next now ≡ all
+ready_step found rest next p now all inv e le =
+    append_assoc found (p.1 ∷ []) (ready_in next now)
+    ∙ ap (λ l. found ++ l) (sym (taken (nat_le p.0 now) (p.1 ∷ ready_in next now) (ready_in next now) (grind (arith, nat_tests, le))) ∙ sym (ap (λ ps. ready_in ps now) e))
+    ∙ inv
+
+pub ready_stop : (found : List Place) (rest next : List (ℕ × Place)) (p : ℕ × Place) (now : ℕ) (all : List Place) → found ++ ready_in rest now ≡ all → rest ≡ p ∷ next → IsStrictlySortedBy timed_cmp rest → now < p.0 → found ≡ all
+ready_stop found rest next p now all inv e sorted lt =
+    sym (append-nil found)
+    ∙ ap (λ l. found ++ l) (sym (all_late next p now (subst (IsStrictlySortedBy timed_cmp) e sorted) lt) ∙ sym (ap (λ ps. ready_in ps now) e))
+    ∙ inv
+
+pub rest_sorted : (rest next : List (ℕ × Place)) (p : ℕ × Place) → rest ≡ p ∷ next → IsStrictlySortedBy timed_cmp rest → IsStrictlySortedBy timed_cmp next
+rest_sorted rest next p e sorted = sorted_tail timed_cmp p next (subst (IsStrictlySortedBy timed_cmp) e sorted)
+
+-- ---- a key that waits
+
+pub on_ok : {A E : Type 0} (r : Result A E) (P Q : Type 0) → (P → Q) → OnOk r P → OnOk r Q
+on_ok (Ok x) P Q f h = f h
+on_ok (Err x) P Q f h = h
+
+pub on_err : {A E : Type 0} (r : Result A E) (P Q : Type 0) → (P → Q) → OnErr r P → OnErr r Q
+on_err (Ok x) P Q f h = h
+on_err (Err x) P Q f h = f h
+
+pub set_is : (old new : BTreeMap Place ℕ) (k : Place) (at : ℕ) → SetsTime old new k at → map.from_entries {R = place_cmp} new.entries ≡ map.insert (map.from_entries old.entries) k at
+set_is old new k at sets = inserted places_total places_exact old.entries new.entries k at sets
+
+pub same_is : (old new : BTreeMap Place ℕ) → SameTimes old new → map.from_entries {R = place_cmp} new.entries ≡ map.from_entries old.entries
+same_is old new same = same_rows places_total places_exact old.entries new.entries same
+
+pub get_time : (times : BTreeMap Place ℕ) (k : Place) (o : Option ℕ) → time_of times k ≡ o → map.get (map.from_entries {R = place_cmp} times.entries) k ≡ o
+get_time times k o e = get_rows places_total places_exact times.entries k ∙ e
+
+-- the key is put in with the earlier time
+pub waits_at_time : (times : BTreeMap Place ℕ) (k : Place) (at time : ℕ) (o : Option ℕ) → time_of times k ≡ o → time ≡ earlier o at → waits_for (map.from_entries times.entries) k at ≡ map.insert (map.from_entries times.entries) k time
+waits_at_time times k at time o e kept = ap (λ t. map.insert (map.from_entries {R = place_cmp} times.entries) k t) (ap (λ p. earlier p at) (get_time times k o e) ∙ sym kept)
+
+same_pick : (b : Bool) (v : ℕ) (old : Option ℕ) → (b ≡ true → old ≡ Some v) → cond b (Some v) old ≡ old
+same_pick true v old f = sym (f refl)
+same_pick false v old f = refl
+
+tie_true : (o : Ordering) → is_eq o ≡ true → o ≡ Equal
+tie_true Less e = absurd (cc e)
+tie_true Equal e = refl
+tie_true Greater e = absurd (cc e)
+
+-- what stands at the key may be put in again
+pub put_again : (m : Waiting) (k : Place) (v : ℕ) → map.get m k ≡ Some v → map.insert m k v ≡ m
+put_again m k v e = alike _ _ (λ q.
+    map.get-insert places_total m k v q
+    ∙ same_pick (eq_by_cmp place_cmp q k) v (map.get m q) (λ t. ap (map.get m) (places_exact q k (tie_true (place_cmp q k) t)) ∙ e))
+
+-- a key that waits for no later time stays
+pub waits_on : (times : BTreeMap Place ℕ) (k : Place) (at time before : ℕ) → time_of times k ≡ Some before → time ≡ earlier (Some before) at → before ≤ time → waits_for (map.from_entries times.entries) k at ≡ map.from_entries times.entries
+waits_on times k at time before e kept le =
+    let same : time ≡ before = omega (arith, kept, le) in
+    waits_at_time times k at time (Some before) e kept
+    ∙ ap (λ t. map.insert (map.from_entries {R = place_cmp} times.entries) k t) same
+    ∙ put_again (map.from_entries times.entries) k before (get_time times k (Some before) e)

@@ -1,0 +1,89 @@
+-- A list of keys as a set.
+use Rattle.std.proofs.Common.{◌≡◌, Bool, true, false, cond, ◌&&◌, ◌||◌, List, [], ◌∷◌, map as map_list, Option, Some, None, is_some, refl, sym, ap, ◌∙◌}
+use Rattle.std.specs.Ordering.{nat_cmp, eq_by_cmp, is_eq, ordering_then}
+use Rattle.std.specs.declared.cmp.Ordering.{Ordering}
+use Rattle.std.specs.declared.cmp.Ordering.TheVariants.{Less, Equal, Greater}
+use Rattle.std.specs.Cmp.{eq_by_cmp_equiv}
+use Rattle.std.specs.Cmp.Lexicographic.{slice_cmp, texts_ties}
+use Rattle.std.specs.FinMap as map
+use Rattle.std.specs.FinMap.{find}
+use Rattle.cj_types.specs.Keys.{Place, place_cmp}
+use Rattle.cj_table.proofs.Order.{places_total, places_exact}
+use Rattle.cj_table.proofs.Puts.{alike}
+use Rattle.cj_queue.specs.Queue.{has}
+use Rattle.cj_queue.specs.Parts.{key_eq, keys_of, stands_in}
+
+-- ---- keys
+
+both_eq : (o r : Ordering) → is_eq (ordering_then o r) ≡ (is_eq o && is_eq r)
+both_eq Less r = refl
+both_eq Equal r = refl
+both_eq Greater r = refl
+
+pub eq_is : (j k : Place) → key_eq j k ≡ eq_by_cmp place_cmp j k
+eq_is j k =
+    (λ i. texts_ties j.namespace k.namespace i && texts_ties j.name k.name i)
+    ∙ sym (both_eq (slice_cmp nat_cmp j.namespace k.namespace) (slice_cmp nat_cmp j.name k.name))
+
+by_turned : (j k : Place) → eq_by_cmp place_cmp j k ≡ eq_by_cmp place_cmp k j
+by_turned j k = (eq_by_cmp_equiv places_total).symm j k
+
+tie_true : (o : Ordering) → is_eq o ≡ true → o ≡ Equal
+tie_true Less e = absurd (cc e)
+tie_true Equal e = refl
+tie_true Greater e = absurd (cc e)
+
+pub eq_true : (j k : Place) → key_eq j k ≡ true → j ≡ k
+eq_true j k e = places_exact j k (tie_true (place_cmp j k) (sym (eq_is j k) ∙ e))
+
+pub eq_self : (k : Place) → key_eq k k ≡ true
+eq_self k = eq_is k k ∙ (eq_by_cmp_equiv places_total).refl k
+
+pub eq_turned : (j k : Place) → key_eq j k ≡ key_eq k j
+eq_turned j k = eq_is j k ∙ by_turned j k ∙ sym (eq_is k j)
+
+-- ---- look-ups by `==`
+
+module _ {X : Type 0} where
+  pub get_put : (m : map.FinMap place_cmp X) (k : Place) (v : X) (q : Place) → map.get (map.insert m k v) q ≡ cond (key_eq k q) (Some v) (map.get m q)
+  get_put m k v q = map.get-insert places_total m k v q ∙ ap (λ b. cond b (Some v) (map.get m q)) (by_turned q k ∙ sym (eq_is k q))
+
+  pub get_off : (m : map.FinMap place_cmp X) (k q : Place) → map.get (map.remove m k) q ≡ cond (key_eq k q) None (map.get m q)
+  get_off m k q = map.get-remove places_total m k q ∙ ap (λ b. cond b None (map.get m q)) (by_turned q k ∙ sym (eq_is k q))
+
+-- ---- sets
+
+abbrev flag : Bool → Option (Unit {0})
+flag true = Some tt
+flag false = None
+
+flag_or : (a b : Bool) → flag (a || b) ≡ cond a (Some tt) (flag b)
+flag_or true b = refl
+flag_or false b = refl
+
+flag_is : (b : Bool) → is_some (flag b) ≡ b
+flag_is true = refl
+flag_is false = refl
+
+flag_cond : (a b c : Bool) → flag (cond a b c) ≡ cond a (flag b) (flag c)
+flag_cond true b c = refl
+flag_cond false b c = refl
+
+found : (ks : List Place) (q : Place) → find place_cmp q (map_list (λ k. (k, tt {0})) ks) ≡ flag (stands_in ks q)
+found [] q = refl
+found (k ∷ ks) q =
+    (λ i. cond (sym (eq_is q k) i) (Some (tt {0})) (found ks q i)) ∙ sym (flag_or (key_eq q k) (stands_in ks q))
+
+get_keys : (ks : List Place) (q : Place) → map.get (keys_of ks) q ≡ flag (stands_in ks q)
+get_keys ks q = map.get-from_entries places_total (map_list (λ k. (k, tt)) ks) q ∙ found ks q
+
+pub has_keys : (ks : List Place) (q : Place) → has (keys_of ks) q ≡ stands_in ks q
+has_keys ks q = ap is_some (get_keys ks q) ∙ flag_is (stands_in ks q)
+
+pub keys_put : (old new : List Place) (k : Place) → ((q : Place) → stands_in new q ≡ cond (key_eq k q) true (stands_in old q)) → keys_of new ≡ map.insert (keys_of old) k tt
+keys_put old new k h = alike _ _ (λ q.
+    get_keys new q ∙ ap flag (h q) ∙ flag_cond (key_eq k q) true (stands_in old q) ∙ ap (cond (key_eq k q) (Some tt)) (sym (get_keys old q)) ∙ sym (get_put (keys_of old) k tt q))
+
+pub keys_cut : (old new : List Place) (k : Place) → ((q : Place) → stands_in new q ≡ cond (key_eq k q) false (stands_in old q)) → keys_of new ≡ map.remove (keys_of old) k
+keys_cut old new k h = alike _ _ (λ q.
+    get_keys new q ∙ ap flag (h q) ∙ flag_cond (key_eq k q) false (stands_in old q) ∙ ap (cond (key_eq k q) None) (sym (get_keys old q)) ∙ sym (get_off (keys_of old) k q))

@@ -1,0 +1,274 @@
+ghost use Rattle.std.specs.Prelude.{◌≡◌, ◌≤◌, ◌<◌, ◌+◌, IfOk, IfErr, OnOk, OnErr, IsTrue, length, option_copied, min};
+ghost use Rattle.std.specs.FinMap as map;
+ghost use Rattle.cj_base.specs.declared.refusal.Refusal.TheVariants.{OutOfMemory};
+ghost use Rattle.cj_queue.specs.Queue.{new_queue, row_adds, row_end, added, taken, ended, added_after, ticked, closed, failures_of, delay, failed, forgotten, finished_ok, finished_retry, first, has};
+ghost use Rattle.cj_queue.specs.Times.{without};
+
+use crate::backoff::{delay_after, one_more};
+use crate::failures::Failures;
+use crate::rows::Rows;
+use crate::twin::Twin;
+use crate::waits::Waits;
+use cj_types::{Key, Millis, Refusal, TryCopy};
+use std::alloc::Global;
+use std::marker::Model;
+
+/// Keys to work on, each by one caller at a time.
+///
+/// A key that is added is dirty, and stands in the line until it is taken; one that is added while it is worked on comes
+/// back into the line when that work is done. Contracts see the line, the dirty keys and those that are being worked on,
+/// the times for which keys wait, the failures, the greatest tick, and whether the queue is shut.
+#[derive(Drop)]
+pub struct Queue {
+    alloc: Global,
+    rows: Rows,
+    waits: Waits,
+    failures: Failures,
+    tick: u64,
+    shut: bool,
+}
+
+impl Model for Queue {
+    ghost use Rattle.cj_queue.specs.Queue.{Queue, queue_code};
+
+    ghost Value = { Queue };
+
+    ghost coded = { queue_code };
+
+    ghost view = { λ q. record { row = q.rows.row; waiting = q.waits; failures = q.failures.counts; tick = q.tick; shut = q.shut } };
+}
+
+impl Queue {
+    /// An empty queue, which takes its memory from `alloc`.
+    pub fn new(alloc: Global) -> Queue
+        ensures { result ≡ new_queue }
+    {
+        Queue {
+            alloc,
+            rows: Rows::new(alloc),
+            waits: Waits::new(alloc),
+            failures: Failures::new(alloc),
+            tick: 0,
+            shut: false,
+        }
+    }
+
+    /// The key is dirty, and goes last in the line unless it was dirty or is being worked on. After `shut` nothing happens.
+    pub fn add(&mut self, key: &Key) -> Result<(), Refusal>
+        ensures ok { OnOk result (self.new ≡ added self.old key.now) }
+        ensures err { OnErr result (self.new ≡ self.old) }
+        ensures memory { IfErr result (λ e. e ≡ OutOfMemory) }
+    {
+        if self.shut {
+            return Ok(());
+        }
+        self.rows.add_key(self.alloc, key)
+    }
+
+    /// The first of the line, which the next `take` gives.
+    pub fn front(&self) -> Option<&Key>
+        ensures { option_copied result ≡ first self.now.row.line }
+    {
+        self.rows.front()
+    }
+
+    /// Takes the first of the line to work on it: it isn't dirty any more. None where the line is empty.
+    pub fn take(&mut self) -> Result<Option<Key>, Refusal>
+        ensures answer { IfOk result (λ k. k ≡ first self.old.row.line) }
+        ensures ok { OnOk result (self.new ≡ taken self.old) }
+        ensures err { OnErr result (self.new ≡ self.old) }
+        ensures memory { IfErr result (λ e. e ≡ OutOfMemory) }
+    {
+        self.rows.take(self.alloc)
+    }
+
+    /// Whether the key was taken, and the work on it isn't done.
+    pub fn is_processing(&self, key: &Key) -> bool
+        ensures { result ≡ has self.now.row.processing key.now }
+    {
+        self.rows.is_processing(key)
+    }
+
+    /// Ends the work on the key, which goes last in the line where it was added meanwhile.
+    pub fn done(&mut self, key: &Key) -> Result<(), Refusal>
+        requires { IsTrue (has self.old.row.processing key.now) }
+        ensures ok { OnOk result (self.new ≡ ended self.old key.now) }
+        ensures err { OnErr result (self.new ≡ self.old) }
+        ensures memory { IfErr result (λ e. e ≡ OutOfMemory) }
+    {
+        let copy = key.try_copy(self.alloc)?;
+        self.rows.reserve(1)?;
+        self.rows.end(copy);
+        Ok(())
+    }
+
+    /// Adds the key at once where the time, in milliseconds, isn't above the greatest tick so far. Else it waits for that
+    /// time, or for an earlier one where it waits already. After `shut` nothing happens.
+    pub fn add_after(&mut self, key: &Key, at_ms: u64) -> Result<(), Refusal>
+        ensures ok { OnOk result (self.new ≡ added_after self.old key.now at_ms) }
+        ensures err { OnErr result (self.new ≡ self.old) }
+        ensures memory { IfErr result (λ e. e ≡ OutOfMemory) }
+    {
+        if self.shut {
+            return Ok(());
+        }
+        if at_ms > self.tick {
+            return self.waits.keep(self.alloc, key, at_ms);
+        }
+        self.rows.add_key(self.alloc, key)
+    }
+
+    /// The moment is `now_ms`: adds each key that waits for a time not above it, by time, then key.
+    pub fn tick(&mut self, now_ms: Millis) -> Result<(), Refusal>
+        ensures ok { OnOk result (self.new ≡ ticked self.old now_ms) }
+        ensures err { OnErr result (self.new ≡ self.old) }
+        ensures memory { IfErr result (λ e. e ≡ OutOfMemory) }
+    {
+        let moment = now_ms.get();
+        if self.shut {
+            self.tick = self.tick.max(moment);
+            return Ok(());
+        }
+        let ready = self.waits.ready(self.alloc, moment)?;
+        self.rows.reserve(ready.len())?;
+        add_all(&mut self.waits, &mut self.rows, ready);
+        self.tick = self.tick.max(moment);
+        Ok(())
+    }
+
+    /// Drops what waits, and takes no more adds.
+    pub fn shut(&mut self)
+        ensures { self.new ≡ closed self.old }
+    {
+        self.waits.clear();
+        self.shut = true;
+    }
+
+    /// Whether `shut` was called.
+    pub fn is_shut(&self) -> bool
+        ensures { result ≡ self.now.shut }
+    {
+        self.shut
+    }
+
+    /// How long to wait after the key's failures in a row so far: 5 ms, doubled for each, and at most 1,000,000 ms.
+    pub fn retry_delay(&self, key: &Key) -> Millis
+        ensures value { result ≡ delay (failures_of self.now key.now) }
+        ensures bound { result ≤ 1000000 }
+    {
+        Millis::new(delay_after(self.failures.get(key))).unwrap()
+    }
+
+    /// Counts one failure more of the key, up to 18.
+    pub fn failed(&mut self, key: &Key) -> Result<(), Refusal>
+        ensures ok { OnOk result (self.new ≡ failed self.old key.now) }
+        ensures err { OnErr result (self.new ≡ self.old) }
+        ensures memory { IfErr result (λ e. e ≡ OutOfMemory) }
+    {
+        let copy = key.try_copy(self.alloc)?;
+        self.failures.reserve(1)?;
+        let count = self.failures.get(key);
+        self.failures.put(copy, one_more(count));
+        Ok(())
+    }
+
+    /// Counts the key's failures from 0 again.
+    pub fn forget(&mut self, key: &Key)
+        ensures { self.new ≡ forgotten self.old key.now }
+    {
+        self.failures.remove(key);
+    }
+
+    /// `done`, `forget` and, where there is a time, `add_after` in one.
+    pub fn finish_ok(&mut self, key: &Key, at_ms: Option<u64>) -> Result<(), Refusal>
+        requires { IsTrue (has self.old.row.processing key.now) }
+        ensures ok { OnOk result (self.new ≡ finished_ok self.old key.now at_ms) }
+        ensures err { OnErr result (self.new ≡ self.old) }
+        ensures memory { IfErr result (λ e. e ≡ OutOfMemory) }
+    {
+        let held = key.try_copy(self.alloc)?;
+        let again = Twin::of(self.alloc, key)?;
+        self.rows.reserve(2)?;
+        let Some(at) = at_ms else {
+            end_well(&mut self.rows, &mut self.failures, held);
+            return Ok(());
+        };
+        if self.shut {
+            end_well(&mut self.rows, &mut self.failures, held);
+            return Ok(());
+        }
+        if at > self.tick {
+            self.waits.keep(self.alloc, key, at)?;
+            end_well(&mut self.rows, &mut self.failures, held);
+            return Ok(());
+        }
+        end_well(&mut self.rows, &mut self.failures, held);
+        self.rows.add(again);
+        Ok(())
+    }
+
+    /// `done`, `add_after` by the retry delay from `now_ms` on, and `failed` in one.
+    pub fn finish_retry(&mut self, key: &Key, now_ms: Millis) -> Result<(), Refusal>
+        requires { IsTrue (has self.old.row.processing key.now) }
+        ensures ok { OnOk result (self.new ≡ finished_retry self.old key.now now_ms) }
+        ensures err { OnErr result (self.new ≡ self.old) }
+        ensures memory { IfErr result (λ e. e ≡ OutOfMemory) }
+    {
+        let held = Twin::of(self.alloc, key)?;
+        let again = Twin::of(self.alloc, key)?;
+        let count = self.failures.get(key);
+        let at = now_ms.get() + delay_after(count);
+        self.rows.reserve(2)?;
+        self.failures.reserve(1)?;
+        if self.shut {
+            end_badly(&mut self.rows, &mut self.failures, held, count);
+            return Ok(());
+        }
+        if at > self.tick {
+            self.waits.keep(self.alloc, key, at)?;
+            end_badly(&mut self.rows, &mut self.failures, held, count);
+            return Ok(());
+        }
+        end_badly(&mut self.rows, &mut self.failures, held, count);
+        self.rows.add(again);
+        Ok(())
+    }
+}
+
+// Adds the keys, one after the other, and lets them wait no more.
+fn add_all(waits: &mut Waits, rows: &mut Rows, keys: Vec<Twin>)
+    requires room { length keys.items ≤ rows.old.room }
+    ensures waits { waits.new ≡ without waits.old keys.items }
+    ensures rows { rows.new.row ≡ row_adds rows.old.row keys.items }
+{
+    for key in keys {
+        waits.cut(key.key());
+        rows.add(key);
+    }
+}
+
+// Ends the work on the key, whose failures are forgotten.
+fn end_well(rows: &mut Rows, failures: &mut Failures, key: Key)
+    requires room { 0 < rows.old.room }
+    requires held { IsTrue (has rows.old.row.processing key) }
+    ensures row { rows.new.row ≡ row_end rows.old.row key }
+    ensures room { rows.old.room ≤ rows.new.room + 1 }
+    ensures counts { failures.new.counts ≡ map.remove failures.old.counts key }
+{
+    failures.remove(&key);
+    rows.end(key);
+}
+
+// Ends the work on the key, which failed once more than `count` times.
+fn end_badly(rows: &mut Rows, failures: &mut Failures, key: Twin, count: u64)
+    requires room { 0 < rows.old.room }
+    requires held { IsTrue (has rows.old.row.processing key) }
+    requires place { 0 < failures.old.room }
+    ensures row { rows.new.row ≡ row_end rows.old.row key }
+    ensures room { rows.old.room ≤ rows.new.room + 1 }
+    ensures counts { failures.new.counts ≡ map.insert failures.old.counts key (min (count + 1) 18) }
+{
+    let (first, second) = key.split();
+    rows.end(first);
+    failures.put(second, one_more(count));
+}

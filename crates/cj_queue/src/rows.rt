@@ -1,0 +1,152 @@
+ghost use Rattle.std.specs.Prelude.{◌≡◌, ◌≤◌, ◌<◌, ◌+◌, IfErr, IfOk, OnOk, OnErr, IsTrue, true, false, option_copied};
+ghost use Rattle.indexmap.specs.IndexSet.{spare, Updates};
+ghost use Rattle.cj_base.specs.declared.refusal.Refusal.TheVariants.{OutOfMemory};
+ghost use Rattle.cj_queue.specs.Queue.{new_row, row_add, row_take, row_end, first, has};
+ghost use Rattle.cj_queue.specs.Parts.{key_eq};
+
+use crate::line::Line;
+use crate::twin::Twin;
+use cj_types::{Key, Refusal, TryCopy};
+use indexmap::IndexSet;
+use std::alloc::Global;
+use std::marker::Model;
+
+/// The line, the dirty keys and those that are being worked on.
+///
+/// Contracts see the three, and for how many adds there is room.
+#[derive(Drop)]
+pub struct Rows {
+    line: Line,
+    dirty: IndexSet<Key>,
+    processing: IndexSet<Key>,
+}
+
+impl Model for Rows {
+    ghost use Rattle.indexmap.specs.IndexSet.{spare};
+    ghost use Rattle.std.specs.Prelude.{min};
+    ghost use Rattle.cj_queue.specs.Parts.{Rows, rows_code, keys_of, IsLined};
+
+    ghost Value = { Rows };
+
+    ghost coded = { rows_code };
+
+    ghost view = { λ r. record { row = record { line = r.line.keys; dirty = keys_of r.dirty.keys; processing = keys_of r.processing.keys }; room = min r.line.room (spare r.dirty) } };
+
+    ghost invariant = { λ r. IsLined r.line.keys r.dirty.keys r.processing.keys };
+}
+
+// Puts a key into a set that has room.
+fn put(set: &mut IndexSet<Key>, key: Key)
+    requires { 0 < spare set.old }
+    ensures updates { Updates key_eq set.old set.new key true }
+    ensures spare { spare set.old ≤ spare set.new + 1 }
+{
+    let _ = set.insert(key);
+}
+
+// Moves a key from one set to another that has room.
+fn move_key(from: &mut IndexSet<Key>, to: &mut IndexSet<Key>, key: Key)
+    requires { 0 < spare to.old }
+    ensures out { Updates key_eq from.old from.new key false }
+    ensures held { Updates key_eq to.old to.new key true }
+{
+    from.swap_remove(&key);
+    put(to, key);
+}
+
+impl Rows {
+    /// No key.
+    pub fn new(alloc: Global) -> Rows
+        ensures { result.row ≡ new_row }
+    {
+        Rows {
+            line: Line::new(alloc),
+            dirty: IndexSet::new(alloc),
+            processing: IndexSet::new(alloc),
+        }
+    }
+
+    /// Makes room for so many adds.
+    pub fn reserve(&mut self, count: usize) -> Result<(), Refusal>
+        ensures row { self.new.row ≡ self.old.row }
+        ensures ok { OnOk result (count ≤ self.new.room) }
+        ensures memory { IfErr result (λ e. e ≡ OutOfMemory) }
+    {
+        self.line.reserve(count)?;
+        self.dirty.reserve(count)?;
+        Ok(())
+    }
+
+    /// The key is dirty, and goes last in the line unless it was dirty or is being worked on.
+    pub fn add(&mut self, key: Twin)
+        requires { 0 < self.old.room }
+        ensures row { self.new.row ≡ row_add self.old.row key }
+        ensures room { self.old.room ≤ self.new.room + 1 }
+    {
+        let (first, second) = key.split();
+        if self.dirty.contains(&first) {
+            return;
+        }
+        if self.processing.contains(&first) {
+            put(&mut self.dirty, first);
+            return;
+        }
+        self.line.push(second);
+        put(&mut self.dirty, first);
+    }
+
+    /// Adds the key, with the memory that it needs.
+    pub fn add_key(&mut self, alloc: Global, key: &Key) -> Result<(), Refusal>
+        ensures ok { OnOk result (self.new.row ≡ row_add self.old.row key.now) }
+        ensures err { OnErr result (self.new.row ≡ self.old.row) }
+        ensures memory { IfErr result (λ e. e ≡ OutOfMemory) }
+    {
+        let twin = Twin::of(alloc, key)?;
+        self.reserve(1)?;
+        self.add(twin);
+        Ok(())
+    }
+
+    /// The first of the line.
+    pub fn front(&self) -> Option<&Key>
+        ensures { option_copied result ≡ first self.now.row.line }
+    {
+        self.line.first()
+    }
+
+    /// Moves the first of the line to those that are being worked on.
+    pub fn take(&mut self, alloc: Global) -> Result<Option<Key>, Refusal>
+        ensures answer { IfOk result (λ k. k ≡ first self.old.row.line) }
+        ensures ok { OnOk result (self.new.row ≡ row_take self.old.row) }
+        ensures err { OnErr result (self.new.row ≡ self.old.row) }
+        ensures memory { IfErr result (λ e. e ≡ OutOfMemory) }
+    {
+        let Some(front) = self.line.first() else {
+            return Ok(None);
+        };
+        let copy = front.try_copy(alloc)?;
+        self.processing.reserve(1)?;
+        move_key(&mut self.dirty, &mut self.processing, copy);
+        Ok(self.line.take())
+    }
+
+    /// Whether the key is being worked on.
+    pub fn is_processing(&self, key: &Key) -> bool
+        ensures { result ≡ has self.now.row.processing key.now }
+    {
+        self.processing.contains(key)
+    }
+
+    /// Ends the work on a key, which goes last where it is dirty.
+    pub fn end(&mut self, key: Key)
+        requires room { 0 < self.old.room }
+        requires held { IsTrue (has self.old.row.processing key) }
+        ensures row { self.new.row ≡ row_end self.old.row key }
+        ensures room { self.old.room ≤ self.new.room + 1 }
+    {
+        self.processing.swap_remove(&key);
+        if self.dirty.contains(&key) {
+            self.line.push(key);
+        }
+    }
+}
