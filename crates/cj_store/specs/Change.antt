@@ -1,0 +1,59 @@
+-- What a planned write makes of the content. A change is told as the event that a watch gives of the write.
+use Rattle.std.specs.Prelude.{◌≡◌, ◌+◌, ◌≤◌, List, Option, Some, None, Result, Ok, Err}
+use Rattle.std.specs.FinMap as map
+use Rattle.std.specs.Option.{option_map}
+use Rattle.cj_base.specs.declared.refusal.Refusal.{Refusal}
+use Rattle.cj_types.specs.Keys.{Place}
+use Rattle.cj_types.specs.declared.cron.CronJob.{CronJob}
+use Rattle.cj_types.specs.declared.job.Job.{Job}
+use Rattle.cj_types.specs.declared.owners.OwnerRef.{OwnerRef}
+use Rattle.cj_types.specs.declared.event.Event.{Event}
+use Rattle.cj_types.specs.declared.event.Event.TheVariants.{Added, Modified, Deleted}
+use Rattle.cj_types.specs.declared.event.Object.TheVariants as Of
+use Rattle.cj_store.specs.Content.{Content}
+
+-- the events of writes on either kind
+abbrev pub cron_added : CronJob → Event
+cron_added cron = Added (Of.Cron cron)
+
+abbrev pub cron_modified : CronJob → Event
+cron_modified cron = Modified (Of.Cron cron)
+
+abbrev pub cron_gone : CronJob → Event
+cron_gone cron = Deleted (Of.Cron cron)
+
+abbrev pub job_added : Job → Event
+job_added job = Added (Of.Job job)
+
+abbrev pub job_modified : Job → Event
+job_modified job = Modified (Of.Job job)
+
+abbrev pub job_gone : Job → Event
+job_gone job = Deleted (Of.Job job)
+
+-- what an answer stands for, a change or a version, with the same refusals
+abbrev pub map_ok : {X Y : Type 0} → (X → Y) → Result X Refusal → Result Y Refusal
+map_ok f (Ok x) = Ok (f x)
+map_ok f (Err e) = Err e
+
+-- the content after the write: one version more, one uid more after a creation
+abbrev pub after : Content → Event → Content
+after s (Added (Of.Cron c)) = record s { crons = map.insert s.crons c.key c; version = s.version + 1; uids = s.uids + 1 }
+after s (Modified (Of.Cron c)) = record s { crons = map.insert s.crons c.key c; version = s.version + 1 }
+after s (Deleted (Of.Cron c)) = record s { crons = map.remove s.crons c.key; version = s.version + 1 }
+after s (Added (Of.Job j)) = record s { jobs = map.insert s.jobs j.key j; version = s.version + 1; uids = s.uids + 1 }
+after s (Modified (Of.Job j)) = record s { jobs = map.insert s.jobs j.key j; version = s.version + 1 }
+after s (Deleted (Of.Job j)) = record s { jobs = map.remove s.jobs j.key; version = s.version + 1 }
+
+-- the owner references of the Job at a key
+abbrev pub owners_at : Content → Place → Option (List OwnerRef)
+owners_at s key = option_map (λ job. job.owners) (map.get s.jobs key)
+
+-- the content may be the one that the change was planned for: what the store's invariant asks of it
+abbrev pub IsFor : Content → Event → Type 0
+IsFor s (Added (Of.Cron c)) = c.meta.generation ≤ s.version + 1
+IsFor s (Modified (Of.Cron c)) = c.meta.generation ≤ s.version + 1
+IsFor s (Deleted (Of.Cron c)) = Unit {0}
+IsFor s (Added (Of.Job j)) = (map.get s.jobs j.key ≡ None) × (j.meta.generation ≤ s.version + 1)
+IsFor s (Modified (Of.Job j)) = (owners_at s j.key ≡ Some j.owners) × (j.meta.generation ≤ s.version + 1)
+IsFor s (Deleted (Of.Job j)) = owners_at s j.key ≡ Some j.owners

@@ -1,0 +1,6 @@
+pub mod Equal
+pub mod Content
+pub mod Metadata
+pub mod Crons
+pub mod Jobs
+pub mod Change

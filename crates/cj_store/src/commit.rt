@@ -1,0 +1,105 @@
+ghost use Rattle.std.specs.Prelude.{◌≡◌, ◌+◌, ◌<◌, ◌≤◌, ◌^◌, IfErr, OnOk, OnErr, None, Some};
+ghost use Rattle.std.specs.FinMap as map;
+ghost use Rattle.cj_base.specs.declared.refusal.Refusal.TheVariants.{OutOfMemory};
+ghost use Rattle.cj_store.specs.Change.{after, IsFor, owners_at, cron_added, cron_modified, cron_gone, job_added, job_modified, job_gone};
+
+use crate::{Change, Store};
+use cj_types::{CronJob, Event, Job, Object, Refusal, TryCopy};
+use std::alloc::Global;
+
+impl Store {
+    /// Makes the write that was planned. Where there is no memory the store is as it was.
+    pub fn commit(&mut self, alloc: Global, change: Change) -> Result<(), Refusal>
+        requires room { self.old.version < 2 ^ 40 }
+        requires planned { IsFor self.old change }
+        ensures ok { OnOk result (self.new ≡ after self.old change) }
+        ensures err { OnErr result (self.new ≡ self.old) }
+        ensures memory { IfErr result (λ e. e ≡ OutOfMemory) }
+    {
+        match change {
+            Event::Added(Object::Cron(cron)) => self.add_cron(alloc, cron),
+            Event::Modified(Object::Cron(cron)) => self.put_cron(alloc, cron),
+            Event::Deleted(Object::Cron(cron)) => {
+                self.cut_cron(cron);
+                Ok(())
+            }
+            Event::Added(Object::Job(job)) => self.add_job(alloc, job),
+            Event::Modified(Object::Job(job)) => self.put_job(alloc, job),
+            Event::Deleted(Object::Job(job)) => {
+                self.cut_job(job);
+                Ok(())
+            }
+        }
+    }
+
+    fn put_cron(&mut self, alloc: Global, cron: CronJob) -> Result<(), Refusal>
+        requires room { self.old.version < 2 ^ 40 }
+        requires planned { IsFor self.old (cron_modified cron) }
+        ensures ok { OnOk result (self.new ≡ after self.old (cron_modified cron)) }
+        ensures err { OnErr result (self.new ≡ self.old) }
+        ensures memory { IfErr result (λ e. e ≡ OutOfMemory) }
+    {
+        let key = cron.key.key().try_copy(alloc)?;
+        self.crons.insert(key, cron)?;
+        self.writes += 1;
+        Ok(())
+    }
+
+    fn add_cron(&mut self, alloc: Global, cron: CronJob) -> Result<(), Refusal>
+        requires room { self.old.version < 2 ^ 40 }
+        requires planned { IsFor self.old (cron_added cron) }
+        ensures ok { OnOk result (self.new ≡ after self.old (cron_added cron)) }
+        ensures err { OnErr result (self.new ≡ self.old) }
+        ensures memory { IfErr result (λ e. e ≡ OutOfMemory) }
+    {
+        let key = cron.key.key().try_copy(alloc)?;
+        self.crons.insert(key, cron)?;
+        self.writes += 1;
+        self.creations += 1;
+        Ok(())
+    }
+
+    fn cut_cron(&mut self, cron: CronJob)
+        requires { self.old.version < 2 ^ 40 }
+        ensures { self.new ≡ after self.old (cron_gone cron) }
+    {
+        self.crons.remove(cron.key.key());
+        self.writes += 1;
+    }
+
+    fn put_job(&mut self, alloc: Global, job: Job) -> Result<(), Refusal>
+        requires room { self.old.version < 2 ^ 40 }
+        requires planned { IsFor self.old (job_modified job) }
+        ensures ok { OnOk result (self.new ≡ after self.old (job_modified job)) }
+        ensures err { OnErr result (self.new ≡ self.old) }
+        ensures memory { IfErr result (λ e. e ≡ OutOfMemory) }
+    {
+        let key = job.key.try_copy(alloc)?;
+        self.jobs.insert(key, job)?;
+        self.writes += 1;
+        Ok(())
+    }
+
+    fn add_job(&mut self, alloc: Global, job: Job) -> Result<(), Refusal>
+        requires room { self.old.version < 2 ^ 40 }
+        requires planned { IsFor self.old (job_added job) }
+        ensures ok { OnOk result (self.new ≡ after self.old (job_added job)) }
+        ensures err { OnErr result (self.new ≡ self.old) }
+        ensures memory { IfErr result (λ e. e ≡ OutOfMemory) }
+    {
+        let key = job.key.try_copy(alloc)?;
+        self.jobs.insert(key, job)?;
+        self.writes += 1;
+        self.creations += 1;
+        Ok(())
+    }
+
+    fn cut_job(&mut self, job: Job)
+        requires room { self.old.version < 2 ^ 40 }
+        requires planned { IsFor self.old (job_gone job) }
+        ensures { self.new ≡ after self.old (job_gone job) }
+    {
+        self.jobs.remove(&job.key);
+        self.writes += 1;
+    }
+}

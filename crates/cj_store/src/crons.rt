@@ -1,0 +1,88 @@
+ghost use Rattle.std.specs.Prelude.{◌≡◌, ◌≢◌, ◌<◌, ◌^◌, IfOk, IfErr, OnOk, OnErr, Ok, Err};
+ghost use Rattle.cj_base.specs.declared.refusal.Refusal.TheVariants.{OutOfMemory};
+ghost use Rattle.cj_store.specs.Crons.{cron_created, cron_updated, status_set, cron_deleted};
+ghost use Rattle.cj_store.specs.Change.{after, map_ok, cron_added, cron_modified, cron_gone};
+
+use crate::Store;
+use cj_types::{
+    CronJob, CronJobDraft, CronStatus, Event, Key, Object, Refusal, Seconds, TryCopy, Uid, Version,
+};
+use std::alloc::Global;
+
+fn version_of(cron: &CronJob) -> Version
+    ensures { result ≡ cron.now.meta.version }
+{
+    cron.meta.version
+}
+
+impl Store {
+    /// Creates a CronJob, and answers it. Refused: `Invalid` with a version in the draft, `AlreadyExists`.
+    pub fn create_cron(
+        &mut self,
+        alloc: Global,
+        draft: CronJobDraft,
+        now: Seconds,
+    ) -> Result<CronJob, Refusal>
+        requires { self.old.version < 2 ^ 40 }
+        ensures ok { IfOk result (λ c. cron_created self.old draft now ≡ Ok c) }
+        ensures err { IfErr result (λ e. e ≢ OutOfMemory → cron_created self.old draft now ≡ Err e) }
+        ensures after { IfOk result (λ c. self.new ≡ after self.old (cron_added c)) }
+        ensures unchanged { OnErr result (self.new ≡ self.old) }
+    {
+        let cron = self.cron_created(alloc, draft, now)?;
+        let answer = cron.try_copy(alloc)?;
+        self.commit(alloc, Event::Added(Object::Cron(cron)))?;
+        Ok(answer)
+    }
+
+    /// Replaces labels, annotations and spec of a CronJob, and answers it. Refused: `NotFound`, `Conflict` where the draft
+    /// gives a version or uid that isn't the current one.
+    pub fn update_cron(&mut self, alloc: Global, draft: CronJobDraft) -> Result<CronJob, Refusal>
+        requires { self.old.version < 2 ^ 40 }
+        ensures ok { IfOk result (λ c. cron_updated self.old draft ≡ Ok c) }
+        ensures err { IfErr result (λ e. e ≢ OutOfMemory → cron_updated self.old draft ≡ Err e) }
+        ensures after { IfOk result (λ c. self.new ≡ after self.old (cron_modified c)) }
+        ensures unchanged { OnErr result (self.new ≡ self.old) }
+    {
+        let cron = self.cron_updated(alloc, draft)?;
+        let answer = cron.try_copy(alloc)?;
+        self.commit(alloc, Event::Modified(Object::Cron(cron)))?;
+        Ok(answer)
+    }
+
+    /// Replaces the status of a CronJob, and answers it. Refused: `NotFound`, also where another uid stands there, and
+    /// `Conflict` where the version isn't the current one.
+    pub fn set_status(
+        &mut self,
+        alloc: Global,
+        key: &Key,
+        uid: Uid,
+        version: Version,
+        status: CronStatus,
+    ) -> Result<CronJob, Refusal>
+        requires { self.old.version < 2 ^ 40 }
+        ensures ok { IfOk result (λ c. status_set self.old key.now uid version status ≡ Ok c) }
+        ensures err { IfErr result (λ e. e ≢ OutOfMemory → status_set self.old key.now uid version status ≡ Err e) }
+        ensures after { IfOk result (λ c. self.new ≡ after self.old (cron_modified c)) }
+        ensures unchanged { OnErr result (self.new ≡ self.old) }
+    {
+        let cron = self.status_set(alloc, key, uid, version, status)?;
+        let answer = cron.try_copy(alloc)?;
+        self.commit(alloc, Event::Modified(Object::Cron(cron)))?;
+        Ok(answer)
+    }
+
+    /// Deletes a CronJob, and answers the deletion's version. Refused: `NotFound`.
+    pub fn delete_cron(&mut self, alloc: Global, key: &Key) -> Result<Version, Refusal>
+        requires { self.old.version < 2 ^ 40 }
+        ensures ok { IfOk result (λ v. map_ok (λ c. c.meta.version) (cron_deleted self.old key.now) ≡ Ok v) }
+        ensures err { IfErr result (λ e. e ≢ OutOfMemory → cron_deleted self.old key.now ≡ Err e) }
+        ensures after { OnOk result (map_ok (λ c. after self.old (cron_gone c)) (cron_deleted self.old key.now) ≡ Ok self.new) }
+        ensures unchanged { OnErr result (self.new ≡ self.old) }
+    {
+        let cron = self.cron_deleted(alloc, key)?;
+        let version = version_of(&cron);
+        self.commit(alloc, Event::Deleted(Object::Cron(cron)))?;
+        Ok(version)
+    }
+}

@@ -1,0 +1,20 @@
+//! The versioned store of CronJobs and Jobs: one count of versions over all objects, conditional updates, uids that
+//! never return, ends that are final (Kubernetes API conventions, "Concurrency Control and Consistency").
+#![tactic(auto)]
+
+mod change;
+mod commit;
+mod crons;
+mod equal;
+mod jobs;
+mod laws;
+mod meta;
+mod new_crons;
+mod new_jobs;
+mod owned;
+mod plans;
+mod store;
+
+pub use change::Change;
+pub use laws::equality_laws;
+pub use store::Store;

@@ -1,0 +1,142 @@
+ghost use Rattle.std.specs.Prelude.{◌≡◌, ◌≢◌, ◌<◌, ◌^◌, IfOk, IfErr, Ok, Err};
+ghost use Rattle.cj_base.specs.declared.refusal.Refusal.TheVariants.{OutOfMemory};
+ghost use Rattle.cj_store.specs.Crons.{cron_created, cron_updated, status_set, cron_deleted};
+ghost use Rattle.cj_store.specs.Jobs.{job_created, job_made, job_updated, job_deleted, job_ended};
+ghost use Rattle.cj_store.specs.Change.{map_ok, IsFor, cron_added, cron_modified, cron_gone, job_added, job_modified, job_gone};
+
+use crate::{Change, Store};
+use cj_types::{
+    CronJobDraft, CronStatus, Event, JobDraft, Key, Object, Outcome, Refusal, Seconds, Uid, Version,
+};
+use std::alloc::Global;
+
+/// Each write as a plan: the change that the call of the same name would make, or why it would be refused. Nothing
+/// changes until the change is committed.
+impl Store {
+    /// What `create_cron` would make.
+    pub fn plan_create_cron(
+        &self,
+        alloc: Global,
+        draft: CronJobDraft,
+        now: Seconds,
+    ) -> Result<Change, Refusal>
+        requires { self.now.version < 2 ^ 40 }
+        ensures ok { IfOk result (λ change. map_ok cron_added (cron_created self.now draft now) ≡ Ok change) }
+        ensures err { IfErr result (λ e. e ≢ OutOfMemory → cron_created self.now draft now ≡ Err e) }
+        ensures planned { IfOk result (λ change. IsFor self.now change) }
+    {
+        let cron = self.cron_created(alloc, draft, now)?;
+        Ok(Event::Added(Object::Cron(cron)))
+    }
+
+    /// What `update_cron` would make.
+    pub fn plan_update_cron(&self, alloc: Global, draft: CronJobDraft) -> Result<Change, Refusal>
+        requires { self.now.version < 2 ^ 40 }
+        ensures ok { IfOk result (λ change. map_ok cron_modified (cron_updated self.now draft) ≡ Ok change) }
+        ensures err { IfErr result (λ e. e ≢ OutOfMemory → cron_updated self.now draft ≡ Err e) }
+        ensures planned { IfOk result (λ change. IsFor self.now change) }
+    {
+        let cron = self.cron_updated(alloc, draft)?;
+        Ok(Event::Modified(Object::Cron(cron)))
+    }
+
+    /// What `set_status` would make.
+    pub fn plan_set_status(
+        &self,
+        alloc: Global,
+        key: &Key,
+        uid: Uid,
+        version: Version,
+        status: CronStatus,
+    ) -> Result<Change, Refusal>
+        requires { self.now.version < 2 ^ 40 }
+        ensures ok { IfOk result (λ change. map_ok cron_modified (status_set self.now key.now uid version status) ≡ Ok change) }
+        ensures err { IfErr result (λ e. e ≢ OutOfMemory → status_set self.now key.now uid version status ≡ Err e) }
+        ensures planned { IfOk result (λ change. IsFor self.now change) }
+    {
+        let cron = self.status_set(alloc, key, uid, version, status)?;
+        Ok(Event::Modified(Object::Cron(cron)))
+    }
+
+    /// What `delete_cron` would make.
+    pub fn plan_delete_cron(&self, alloc: Global, key: &Key) -> Result<Change, Refusal>
+        requires { self.now.version < 2 ^ 40 }
+        ensures ok { IfOk result (λ change. map_ok cron_gone (cron_deleted self.now key.now) ≡ Ok change) }
+        ensures err { IfErr result (λ e. e ≢ OutOfMemory → cron_deleted self.now key.now ≡ Err e) }
+        ensures planned { IfOk result (λ change. IsFor self.now change) }
+    {
+        let cron = self.cron_deleted(alloc, key)?;
+        Ok(Event::Deleted(Object::Cron(cron)))
+    }
+
+    /// What `create_job` would make.
+    pub fn plan_create_job(
+        &self,
+        alloc: Global,
+        draft: JobDraft,
+        now: Seconds,
+    ) -> Result<Change, Refusal>
+        requires { self.now.version < 2 ^ 40 }
+        ensures ok { IfOk result (λ change. map_ok job_added (job_created self.now draft now) ≡ Ok change) }
+        ensures err { IfErr result (λ e. e ≢ OutOfMemory → job_created self.now draft now ≡ Err e) }
+        ensures planned { IfOk result (λ change. IsFor self.now change) }
+    {
+        let job = self.job_created(alloc, draft, now)?;
+        Ok(Event::Added(Object::Job(job)))
+    }
+
+    /// What `make_job` would make. This takes no memory.
+    pub fn plan_make_job(&self, draft: JobDraft, now: Seconds) -> Result<Change, Refusal>
+        requires { self.now.version < 2 ^ 40 }
+        ensures answer { map_ok job_added (job_made self.now draft now) ≡ result }
+        ensures planned { IfOk result (λ change. IsFor self.now change) }
+    {
+        let job = self.job_made(draft, now)?;
+        Ok(Event::Added(Object::Job(job)))
+    }
+
+    /// What `update_job` would make.
+    pub fn plan_update_job(&self, alloc: Global, draft: JobDraft) -> Result<Change, Refusal>
+        requires { self.now.version < 2 ^ 40 }
+        ensures ok { IfOk result (λ change. map_ok job_modified (job_updated self.now draft) ≡ Ok change) }
+        ensures err { IfErr result (λ e. e ≢ OutOfMemory → job_updated self.now draft ≡ Err e) }
+        ensures planned { IfOk result (λ change. IsFor self.now change) }
+    {
+        let job = self.job_updated(alloc, draft)?;
+        Ok(Event::Modified(Object::Job(job)))
+    }
+
+    /// What `delete_job` would make.
+    pub fn plan_delete_job(
+        &self,
+        alloc: Global,
+        key: &Key,
+        uid: Option<Uid>,
+    ) -> Result<Change, Refusal>
+        requires { self.now.version < 2 ^ 40 }
+        ensures ok { IfOk result (λ change. map_ok job_gone (job_deleted self.now key.now uid) ≡ Ok change) }
+        ensures err { IfErr result (λ e. e ≢ OutOfMemory → job_deleted self.now key.now uid ≡ Err e) }
+        ensures planned { IfOk result (λ change. IsFor self.now change) }
+    {
+        let job = self.job_deleted(alloc, key, uid)?;
+        Ok(Event::Deleted(Object::Job(job)))
+    }
+
+    /// What `end_job` would make.
+    pub fn plan_end_job(
+        &self,
+        alloc: Global,
+        key: &Key,
+        uid: Uid,
+        outcome: Outcome,
+        now: Seconds,
+    ) -> Result<Change, Refusal>
+        requires { self.now.version < 2 ^ 40 }
+        ensures ok { IfOk result (λ change. map_ok job_modified (job_ended self.now key.now uid outcome now) ≡ Ok change) }
+        ensures err { IfErr result (λ e. e ≢ OutOfMemory → job_ended self.now key.now uid outcome now ≡ Err e) }
+        ensures planned { IfOk result (λ change. IsFor self.now change) }
+    {
+        let job = self.job_ended(alloc, key, uid, outcome, now)?;
+        Ok(Event::Modified(Object::Job(job)))
+    }
+}
