@@ -1,0 +1,4 @@
+pub mod Sound
+pub mod KeyLemmas
+pub mod FloatLemmas
+pub mod DepthLemmas

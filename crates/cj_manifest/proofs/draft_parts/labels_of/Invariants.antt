@@ -1,0 +1,7 @@
+use Rattle.std.proofs.Common.{◌≡◌, []}
+use Rattle.serde_json.specs.View.{members_view}
+use Rattle.cj_manifest.specs.Drafts.{labels_onto}
+use Rattle.cj_manifest.proofs.draft_parts.labels_of.Given as goal
+
+abbrev pub invariant-loop-key : goal.invariant-loop-key
+invariant-loop-key l = labels_onto l.labels (members_view l.key-iterator) ≡ labels_onto [] (members_view l.members.entries)

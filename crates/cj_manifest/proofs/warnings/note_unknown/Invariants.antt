@@ -1,0 +1,9 @@
+use Rattle.std.proofs.Common.{◌≡◌, ◌++◌}
+use Rattle.serde_json.specs.View.{members_view}
+use Rattle.cj_manifest.specs.Warnings.{unknown}
+use Rattle.cj_manifest.proofs.warnings.note_unknown.Given as goal
+
+abbrev pub invariant-loop-key : goal.invariant-loop-key
+invariant-loop-key l =
+    l.warnings.items ++ unknown l.at (members_view l.key-iterator)
+    ≡ l.initial.warnings.items ++ unknown l.at (members_view l.initial.key-iterator)

@@ -1,0 +1,10 @@
+pub mod Members
+pub mod RowKinds
+pub mod Owners
+pub mod OwnerTexts
+pub mod Table
+pub mod Faults
+pub mod Drafts
+pub mod Warnings
+pub mod Reading
+pub mod Either

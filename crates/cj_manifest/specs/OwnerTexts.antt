@@ -1,0 +1,13 @@
+-- An owner reference whose texts stand in a manifest, as the reference that it is.
+use Rattle.cj_types.specs.declared.owners.OwnerRef.{OwnerRef}
+use Rattle.cj_manifest.specs.declared.owner.OwnerTexts.{OwnerTexts}
+
+abbrev pub owner_view : OwnerTexts → OwnerRef
+owner_view o = record {
+  api_version = o.api_version.now;
+  kind = o.kind.now;
+  name = o.name.now;
+  uid = o.uid.now;
+  controller = o.controller;
+  block_owner_deletion = o.block_owner_deletion;
+}

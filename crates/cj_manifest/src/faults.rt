@@ -1,0 +1,276 @@
+// The faults of a manifest, in the order of the table.
+ghost use Rattle.std.specs.Prelude.{◌≡◌, ◌++◌, IfOk, OnOk};
+ghost use Rattle.serde_json.specs.View.{view};
+ghost use Rattle.cj_types.specs.Keys.{fault_of};
+ghost use Rattle.cj_zone.specs.Table.{zones_of};
+ghost use Rattle.cj_base.specs.declared.field.Field.TheVariants as At;
+ghost use Rattle.cj_manifest.specs.declared.kind.ObjectKind.TheVariants as Of;
+ghost use Rattle.cj_manifest.specs.Faults as table;
+ghost use Rattle.cj_manifest.specs.Table as row;
+
+use crate::kind::ObjectKind;
+use crate::pods::{JOB_FIELDS, PodFields, TEMPLATE_FIELDS};
+use crate::rows::{
+    annotations, api_version, kind_row, labels, metadata, name, namespace, owners,
+    resource_version, spec, uid, whole,
+};
+use crate::spec_rows::{
+    deadline, failed_limit, job_spec, job_template, pod_spec, pods, policy, restart_policy,
+    schedule, successful_limit, suspend, template_metadata, time_zone,
+};
+use cj_types::{Cause, Field, FieldFault, FieldFaults};
+use cj_zone::ZoneTable;
+use serde_json::Value;
+use std::alloc::{AllocError, Global};
+
+fn note(faults: &mut FieldFaults, field: Field, cause: Option<Cause>) -> Result<(), AllocError>
+    ensures { OnOk result (faults.new ≡ faults.old ++ fault_of field cause) }
+{
+    if let Some(cause) = cause {
+        faults.push(FieldFault { field, cause })?;
+    }
+    Ok(())
+}
+
+// ---- metadata
+
+fn owner_faults(
+    faults: &mut FieldFaults,
+    kind: ObjectKind,
+    metadata: &Value,
+) -> Result<(), AllocError>
+    ensures { OnOk result (faults.new ≡ faults.old ++ table.owner_faults kind (view metadata.now)) }
+{
+    match kind {
+        ObjectKind::Cron => Ok(()),
+        ObjectKind::Job => note(faults, Field::OwnerReferences, owners(metadata).err()),
+    }
+}
+
+fn metadata_faults(
+    faults: &mut FieldFaults,
+    kind: ObjectKind,
+    metadata: &Value,
+) -> Result<(), AllocError>
+    ensures { OnOk result (faults.new ≡ faults.old ++ table.metadata_faults kind (view metadata.now)) }
+{
+    note(faults, Field::Name, name(kind, metadata).err())?;
+    note(faults, Field::Namespace, namespace(metadata).err())?;
+    note(faults, Field::Labels, labels(metadata).err())?;
+    note(faults, Field::Annotations, annotations(metadata).err())?;
+    note(faults, Field::Uid, uid(metadata).err())?;
+    note(
+        faults,
+        Field::ResourceVersion,
+        resource_version(metadata).err(),
+    )?;
+    owner_faults(faults, kind, metadata)
+}
+
+fn metadata_rows(
+    faults: &mut FieldFaults,
+    kind: ObjectKind,
+    value: &Value,
+) -> Result<(), AllocError>
+    ensures { OnOk result (faults.new ≡ faults.old
+        ++ table.with_rows At.Metadata (table.metadata_faults kind) (row.metadata (view value.now))) }
+{
+    match metadata(value) {
+        Ok(found) => metadata_faults(faults, kind, found),
+        Err(cause) => note(faults, Field::Metadata, Some(cause)),
+    }
+}
+
+// ---- the spec of a Job
+
+fn pods_faults(faults: &mut FieldFaults, at: PodFields, pods: &Value) -> Result<(), AllocError>
+    ensures { OnOk result (faults.new ≡ faults.old ++ table.pods_faults at (view pods.now)) }
+{
+    match pod_spec(pods) {
+        Ok(found) => note(faults, at.restart_policy, restart_policy(found).err()),
+        Err(cause) => note(faults, at.spec, Some(cause)),
+    }
+}
+
+fn job_spec_faults(
+    faults: &mut FieldFaults,
+    at: PodFields,
+    job_spec: &Value,
+) -> Result<(), AllocError>
+    ensures { OnOk result (faults.new ≡ faults.old ++ table.job_spec_faults at (view job_spec.now)) }
+{
+    match pods(job_spec) {
+        Ok(found) => pods_faults(faults, at, found),
+        Err(cause) => note(faults, at.template, Some(cause)),
+    }
+}
+
+fn job_spec_rows(faults: &mut FieldFaults, value: &Value) -> Result<(), AllocError>
+    ensures { OnOk result (faults.new ≡ faults.old
+        ++ table.with_rows At.Spec (table.job_spec_faults table.job_fields) (row.spec (view value.now))) }
+{
+    match spec(value) {
+        Ok(found) => job_spec_faults(faults, JOB_FIELDS, found),
+        Err(cause) => note(faults, Field::Spec, Some(cause)),
+    }
+}
+
+// ---- the spec of a CronJob
+
+fn template_metadata_faults(faults: &mut FieldFaults, metadata: &Value) -> Result<(), AllocError>
+    ensures { OnOk result (faults.new ≡ faults.old ++ table.template_metadata_faults (view metadata.now)) }
+{
+    note(faults, Field::JobTemplateLabels, labels(metadata).err())?;
+    note(
+        faults,
+        Field::JobTemplateAnnotations,
+        annotations(metadata).err(),
+    )
+}
+
+fn template_metadata_rows(faults: &mut FieldFaults, template: &Value) -> Result<(), AllocError>
+    ensures { OnOk result (faults.new ≡ faults.old
+        ++ table.with_optional_rows At.JobTemplateMetadata table.template_metadata_faults (row.template_metadata (view template.now))) }
+{
+    match template_metadata(template) {
+        Ok(None) => Ok(()),
+        Ok(Some(found)) => template_metadata_faults(faults, found),
+        Err(cause) => note(faults, Field::JobTemplateMetadata, Some(cause)),
+    }
+}
+
+fn template_spec_rows(faults: &mut FieldFaults, template: &Value) -> Result<(), AllocError>
+    ensures { OnOk result (faults.new ≡ faults.old
+        ++ table.with_rows At.JobTemplateSpec (table.job_spec_faults table.template_fields) (row.job_spec (view template.now))) }
+{
+    match job_spec(template) {
+        Ok(found) => job_spec_faults(faults, TEMPLATE_FIELDS, found),
+        Err(cause) => note(faults, Field::JobTemplateSpec, Some(cause)),
+    }
+}
+
+fn template_faults(faults: &mut FieldFaults, template: &Value) -> Result<(), AllocError>
+    ensures { OnOk result (faults.new ≡ faults.old ++ table.template_faults (view template.now)) }
+{
+    template_metadata_rows(faults, template)?;
+    template_spec_rows(faults, template)
+}
+
+fn template_rows(faults: &mut FieldFaults, spec: &Value) -> Result<(), AllocError>
+    ensures { OnOk result (faults.new ≡ faults.old
+        ++ table.with_rows At.JobTemplate table.template_faults (row.job_template (view spec.now))) }
+{
+    match job_template(spec) {
+        Ok(found) => template_faults(faults, found),
+        Err(cause) => note(faults, Field::JobTemplate, Some(cause)),
+    }
+}
+
+fn timing_faults(
+    faults: &mut FieldFaults,
+    zones: &ZoneTable,
+    spec: &Value,
+) -> Result<(), AllocError>
+    ensures { OnOk result (faults.new ≡ faults.old ++ table.timing_faults (zones_of zones.now) (view spec.now)) }
+{
+    note(faults, Field::ScheduleText, schedule(spec).err())?;
+    note(faults, Field::TimeZone, time_zone(spec, zones).err())?;
+    note(faults, Field::ConcurrencyPolicy, policy(spec).err())?;
+    note(faults, Field::Suspend, suspend(spec).err())
+}
+
+fn limit_faults(faults: &mut FieldFaults, spec: &Value) -> Result<(), AllocError>
+    ensures { OnOk result (faults.new ≡ faults.old ++ table.limit_faults (view spec.now)) }
+{
+    note(faults, Field::StartingDeadlineSeconds, deadline(spec).err())?;
+    note(
+        faults,
+        Field::SuccessfulJobsHistoryLimit,
+        successful_limit(spec).err(),
+    )?;
+    note(
+        faults,
+        Field::FailedJobsHistoryLimit,
+        failed_limit(spec).err(),
+    )
+}
+
+fn cron_spec_faults(
+    faults: &mut FieldFaults,
+    zones: &ZoneTable,
+    spec: &Value,
+) -> Result<(), AllocError>
+    ensures { OnOk result (faults.new ≡ faults.old ++ table.cron_spec_faults (zones_of zones.now) (view spec.now)) }
+{
+    timing_faults(faults, zones, spec)?;
+    limit_faults(faults, spec)?;
+    template_rows(faults, spec)
+}
+
+fn cron_spec_rows(
+    faults: &mut FieldFaults,
+    zones: &ZoneTable,
+    value: &Value,
+) -> Result<(), AllocError>
+    ensures { OnOk result (faults.new ≡ faults.old
+        ++ table.with_rows At.Spec (table.cron_spec_faults (zones_of zones.now)) (row.spec (view value.now))) }
+{
+    match spec(value) {
+        Ok(found) => cron_spec_faults(faults, zones, found),
+        Err(cause) => note(faults, Field::Spec, Some(cause)),
+    }
+}
+
+// ---- the whole
+
+fn top_faults(faults: &mut FieldFaults, kind: ObjectKind, value: &Value) -> Result<(), AllocError>
+    ensures { OnOk result (faults.new ≡ faults.old ++ table.top_faults kind (view value.now)) }
+{
+    note(faults, Field::ApiVersion, api_version(value).err())?;
+    note(faults, Field::Kind, kind_row(kind, value).err())?;
+    metadata_rows(faults, kind, value)
+}
+
+fn cron_rows(faults: &mut FieldFaults, zones: &ZoneTable, value: &Value) -> Result<(), AllocError>
+    ensures { OnOk result (faults.new ≡ faults.old
+        ++ table.object_faults Of.Cron (table.cron_spec_faults (zones_of zones.now)) (view value.now)) }
+{
+    top_faults(faults, ObjectKind::Cron, value)?;
+    cron_spec_rows(faults, zones, value)
+}
+
+fn job_rows(faults: &mut FieldFaults, value: &Value) -> Result<(), AllocError>
+    ensures { OnOk result (faults.new ≡ faults.old
+        ++ table.object_faults Of.Job (table.job_spec_faults table.job_fields) (view value.now)) }
+{
+    top_faults(faults, ObjectKind::Job, value)?;
+    job_spec_rows(faults, value)
+}
+
+/// The faults of a CronJob's manifest.
+pub(crate) fn cron_faults(
+    alloc: Global,
+    zones: &ZoneTable,
+    value: &Value,
+) -> Result<FieldFaults, AllocError>
+    ensures { IfOk result (λ f. f ≡ table.cron_faults (zones_of zones.now) (view value.now)) }
+{
+    let mut faults = FieldFaults::new(alloc);
+    match whole(value) {
+        Ok(found) => cron_rows(&mut faults, zones, found)?,
+        Err(cause) => note(&mut faults, Field::Whole, Some(cause))?,
+    }
+    Ok(faults)
+}
+
+/// The faults of a Job's manifest.
+pub(crate) fn job_faults(alloc: Global, value: &Value) -> Result<FieldFaults, AllocError>
+    ensures { IfOk result (λ f. f ≡ table.job_faults (view value.now)) }
+{
+    let mut faults = FieldFaults::new(alloc);
+    match whole(value) {
+        Ok(found) => job_rows(&mut faults, found)?,
+        Err(cause) => note(&mut faults, Field::Whole, Some(cause))?,
+    }
+    Ok(faults)
+}

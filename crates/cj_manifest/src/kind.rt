@@ -1,0 +1,31 @@
+ghost use Rattle.std.specs.Prelude.{◌≡◌};
+ghost use Rattle.cj_manifest.specs.Table as row;
+
+/// The kind of object that a manifest is read as.
+#[derive(Clone, Copy)]
+pub(crate) enum ObjectKind {
+    Cron,
+    Job,
+}
+
+impl ObjectKind {
+    /// `CronJob` or `Job`.
+    pub fn name(self) -> &'static str
+        ensures { result.now ≡ row.kind_name self }
+    {
+        match self {
+            ObjectKind::Cron => "CronJob",
+            ObjectKind::Job => "Job",
+        }
+    }
+
+    /// The most characters of a name: the names of a CronJob's Jobs are up to 11 characters longer than its own.
+    pub fn name_limit(self) -> usize
+        ensures { result ≡ row.name_limit self }
+    {
+        match self {
+            ObjectKind::Cron => 52,
+            ObjectKind::Job => 63,
+        }
+    }
+}

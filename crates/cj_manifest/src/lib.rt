@@ -1,0 +1,24 @@
+//! Manifests: JSON bytes to drafts, with every fault by its field and a warning for every member that is dropped.
+#![tactic(auto)]
+
+mod draft;
+mod draft_parts;
+mod faults;
+mod kind;
+mod kinds;
+mod level;
+mod manifest;
+mod owner;
+mod pods;
+mod read;
+mod rows;
+mod spec_rows;
+#[cfg(test)]
+mod tests;
+mod warning;
+mod warnings;
+
+pub use cj_written::Written;
+pub use manifest::Manifest;
+pub use read::{read_cronjob, read_job, read_manifest};
+pub use warning::Warning;

@@ -1,0 +1,35 @@
+ghost use Rattle.std.specs.Prelude.{◌≡◌};
+ghost use Rattle.cj_manifest.specs.Either.{kind_of, key_of};
+
+use cj_types::{CronJobDraft, JobDraft, Key};
+
+/// What a manifest says, by its kind.
+#[derive(Debug, Drop)]
+pub enum Manifest {
+    /// A CronJob is asked for.
+    CronJob(CronJobDraft),
+    /// A Job is asked for.
+    Job(JobDraft),
+}
+
+impl Manifest {
+    /// `CronJob` or `Job`.
+    pub fn kind(&self) -> &'static str
+        ensures { result.now ≡ kind_of self.now }
+    {
+        match self {
+            Manifest::CronJob(_) => "CronJob",
+            Manifest::Job(_) => "Job",
+        }
+    }
+
+    /// Namespace and name.
+    pub fn key(&self) -> &Key
+        ensures { result.now ≡ key_of self.now }
+    {
+        match self {
+            Manifest::CronJob(draft) => draft.key.key(),
+            Manifest::Job(draft) => &draft.key,
+        }
+    }
+}

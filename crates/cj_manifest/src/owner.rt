@@ -1,0 +1,76 @@
+// Owner references as a manifest gives them.
+ghost use Rattle.std.specs.Prelude.{◌≡◌, option_map, option_and_then};
+ghost use Rattle.std.specs.Result.{result_ok, result_err};
+ghost use Rattle.serde_json.specs.Find.{as_str};
+ghost use Rattle.serde_json.specs.View.{view, items_view};
+ghost use Rattle.cj_manifest.specs.Owners as row;
+ghost use Rattle.cj_manifest.specs.OwnerTexts.{owner_view};
+
+use crate::kinds::present;
+use cj_types::Cause;
+use serde_json::Value;
+
+/// An owner reference whose texts stand in the manifest.
+#[derive(Clone, Copy)]
+pub(crate) struct OwnerTexts<'v> {
+    pub api_version: &'v str,
+    pub kind: &'v str,
+    pub name: &'v str,
+    pub uid: &'v str,
+    pub controller: bool,
+    pub block_owner_deletion: bool,
+}
+
+fn text_at<'v>(value: &'v Value, name: &str) -> Option<&'v str>
+    ensures { option_map (λ s. s.now) result ≡ row.text_at name.now (view value.now) }
+{
+    present(value, name)?.as_str()
+}
+
+fn flag_at(value: &Value, name: &str) -> Option<bool>
+    ensures { result ≡ row.flag_at name.now (view value.now) }
+{
+    match present(value, name) {
+        None => Some(false),
+        Some(found) => found.as_bool(),
+    }
+}
+
+pub(crate) fn owner(value: &Value) -> Option<OwnerTexts<'_>>
+    ensures { option_map owner_view result ≡ row.owner (view value.now) }
+{
+    Some(OwnerTexts {
+        api_version: text_at(value, "apiVersion")?,
+        kind: text_at(value, "kind")?,
+        name: text_at(value, "name")?,
+        uid: text_at(value, "uid")?,
+        controller: flag_at(value, "controller")?,
+        block_owner_deletion: flag_at(value, "blockOwnerDeletion")?,
+    })
+}
+
+fn all_owners(items: &Vec<Value>) -> bool
+    ensures { result ≡ row.all_owners (items_view items.now.items) }
+{
+    for item in items {
+        if owner(item).is_none() {
+            return false;
+        }
+    }
+    true
+}
+
+/// A list of owner references.
+pub(crate) fn owners(value: &Value) -> Result<&Vec<Value>, Cause>
+    ensures fault { result_err result ≡ result_err (row.owners (view value.now)) }
+    ensures value { option_map (λ v. items_view v.now.items) (result_ok result) ≡ result_ok (row.owners (view value.now)) }
+{
+    let Some(items) = value.as_array() else {
+        return Err(Cause::WrongType);
+    };
+    if all_owners(items) {
+        Ok(items)
+    } else {
+        Err(Cause::WrongType)
+    }
+}

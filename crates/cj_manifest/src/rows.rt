@@ -1,0 +1,133 @@
+// The rows of the top and of `metadata`.
+ghost use Rattle.std.specs.Prelude.{◌≡◌, option_map};
+ghost use Rattle.std.specs.Result.{result_ok, result_err};
+ghost use Rattle.serde_json.specs.View.{view, items_view, members_view};
+ghost use Rattle.cj_manifest.specs.Table as row;
+
+use crate::kind::ObjectKind;
+use crate::kinds::{choice, object, present, text, texts};
+use crate::{kinds, owner};
+use cj_types::Cause;
+use cj_written::has_float;
+use serde_json::{Map, Value};
+
+/// The whole manifest.
+pub(crate) fn whole(value: &Value) -> Result<&Value, Cause>
+    ensures fault { result_err result ≡ result_err (row.whole (view value.now)) }
+    ensures value { option_map (λ v. view v.now) (result_ok result) ≡ result_ok (row.whole (view value.now)) }
+{
+    let found = object(value)?;
+    if has_float(found) {
+        Err(Cause::Fraction)
+    } else {
+        Ok(found)
+    }
+}
+
+pub(crate) fn api_version(value: &Value) -> Result<&str, Cause>
+    ensures { result_err result ≡ result_err (row.api_version (view value.now)) }
+{
+    match present(value, "apiVersion") {
+        Some(found) => choice(found, "batch/v1"),
+        None => Err(Cause::Required),
+    }
+}
+
+pub(crate) fn kind_row(kind: ObjectKind, value: &Value) -> Result<&str, Cause>
+    ensures { result_err result ≡ result_err (row.kind kind (view value.now)) }
+{
+    match present(value, "kind") {
+        Some(found) => choice(found, kind.name()),
+        None => Err(Cause::Required),
+    }
+}
+
+pub(crate) fn metadata(value: &Value) -> Result<&Value, Cause>
+    ensures fault { result_err result ≡ result_err (row.metadata (view value.now)) }
+    ensures value { option_map (λ v. view v.now) (result_ok result) ≡ result_ok (row.metadata (view value.now)) }
+{
+    match present(value, "metadata") {
+        Some(found) => object(found),
+        None => Err(Cause::Required),
+    }
+}
+
+pub(crate) fn spec(value: &Value) -> Result<&Value, Cause>
+    ensures fault { result_err result ≡ result_err (row.spec (view value.now)) }
+    ensures value { option_map (λ v. view v.now) (result_ok result) ≡ result_ok (row.spec (view value.now)) }
+{
+    match present(value, "spec") {
+        Some(found) => object(found),
+        None => Err(Cause::Required),
+    }
+}
+
+pub(crate) fn name(kind: ObjectKind, metadata: &Value) -> Result<&str, Cause>
+    ensures fault { result_err result ≡ result_err (row.name kind (view metadata.now)) }
+    ensures value { option_map (λ s. s.now) (result_ok result) ≡ result_ok (row.name kind (view metadata.now)) }
+{
+    match present(metadata, "name") {
+        Some(found) => kinds::name(found, kind.name_limit()),
+        None => Err(Cause::Required),
+    }
+}
+
+pub(crate) fn namespace(metadata: &Value) -> Result<&str, Cause>
+    ensures fault { result_err result ≡ result_err (row.namespace (view metadata.now)) }
+    ensures value { option_map (λ s. s.now) (result_ok result) ≡ result_ok (row.namespace (view metadata.now)) }
+{
+    match present(metadata, "namespace") {
+        Some(found) => kinds::namespace(found),
+        None => Ok("default"),
+    }
+}
+
+pub(crate) fn labels(metadata: &Value) -> Result<Option<&Map<String, Value>>, Cause>
+    ensures fault { result_err result ≡ result_err (row.labels (view metadata.now)) }
+    ensures value { option_map (option_map (λ m. members_view m.now.entries)) (result_ok result) ≡ result_ok (row.labels (view metadata.now)) }
+{
+    match present(metadata, "labels") {
+        Some(found) => Ok(Some(texts(found)?)),
+        None => Ok(None),
+    }
+}
+
+pub(crate) fn annotations(metadata: &Value) -> Result<Option<&Map<String, Value>>, Cause>
+    ensures fault { result_err result ≡ result_err (row.annotations (view metadata.now)) }
+    ensures value { option_map (option_map (λ m. members_view m.now.entries)) (result_ok result) ≡ result_ok (row.annotations (view metadata.now)) }
+{
+    match present(metadata, "annotations") {
+        Some(found) => Ok(Some(texts(found)?)),
+        None => Ok(None),
+    }
+}
+
+pub(crate) fn uid(metadata: &Value) -> Result<Option<&str>, Cause>
+    ensures fault { result_err result ≡ result_err (row.uid (view metadata.now)) }
+    ensures value { option_map (option_map (λ s. s.now)) (result_ok result) ≡ result_ok (row.uid (view metadata.now)) }
+{
+    match present(metadata, "uid") {
+        Some(found) => Ok(Some(text(found)?)),
+        None => Ok(None),
+    }
+}
+
+pub(crate) fn resource_version(metadata: &Value) -> Result<Option<&str>, Cause>
+    ensures fault { result_err result ≡ result_err (row.resource_version (view metadata.now)) }
+    ensures value { option_map (option_map (λ s. s.now)) (result_ok result) ≡ result_ok (row.resource_version (view metadata.now)) }
+{
+    match present(metadata, "resourceVersion") {
+        Some(found) => Ok(Some(text(found)?)),
+        None => Ok(None),
+    }
+}
+
+pub(crate) fn owners(metadata: &Value) -> Result<Option<&Vec<Value>>, Cause>
+    ensures fault { result_err result ≡ result_err (row.owners (view metadata.now)) }
+    ensures value { option_map (option_map (λ v. items_view v.now.items)) (result_ok result) ≡ result_ok (row.owners (view metadata.now)) }
+{
+    match present(metadata, "ownerReferences") {
+        Some(found) => Ok(Some(owner::owners(found)?)),
+        None => Ok(None),
+    }
+}

@@ -1,0 +1,48 @@
+ghost use Rattle.std.specs.Prelude.{◌≡◌, ◌++◌, IfOk, IfErr};
+ghost use Rattle.cj_base.specs.declared.refusal.Refusal.TheVariants.{OutOfMemory};
+
+use cj_types::{Refusal, Text};
+use std::alloc::Global;
+use std::fmt;
+use std::marker::Model;
+
+/// A member of a manifest that was dropped, named by its dotted path. Contracts see the bytes of the path.
+#[derive(Debug, Drop)]
+pub struct Warning {
+    path: Text,
+}
+
+impl Model for Warning {
+    ghost use Rattle.std.specs.Prelude.{ℕ, List};
+
+    ghost Value = { List ℕ };
+
+    ghost view = { λ w. w.path };
+}
+
+impl Warning {
+    // Of the member of that name in the object whose members' paths begin so.
+    pub(crate) fn new(alloc: Global, prefix: &str, key: &str) -> Result<Warning, Refusal>
+        ensures ok { IfOk result (λ w. w ≡ prefix.now ++ key.now) }
+        ensures err { IfErr result (λ e. e ≡ OutOfMemory) }
+    {
+        let mut path = String::from_str(alloc, prefix)?;
+        path.push_str(key)?;
+        Ok(Warning {
+            path: Text::new(alloc, path.as_str())?,
+        })
+    }
+
+    /// The path, as `spec.foo`.
+    pub fn path(&self) -> &str
+        ensures { result.now ≡ self.now }
+    {
+        self.path.as_str()
+    }
+}
+
+impl fmt::Display for Warning {
+    fn fmt<W: fmt::Write>(&self, f: &mut fmt::Formatter<W>) -> fmt::Result {
+        write!(f, "{}", self.path())
+    }
+}

@@ -1,0 +1,8 @@
+use Rattle.std.proofs.Common.{◌≡◌, drop}
+use Rattle.serde_json.specs.Data.{no_members}
+use Rattle.serde_json.specs.View.{members_view}
+use Rattle.cj_written.specs.Parts.{label_members}
+use Rattle.cj_written.proofs.members.label_members.Given as goal
+
+abbrev pub invariant-loop-label : goal.invariant-loop-label
+invariant-loop-label l = label_members (members_view l.members.entries) (drop l.label-index l.labels) ≡ label_members no_members l.labels
