@@ -1,0 +1,4 @@
+pub mod Runs
+pub mod One
+pub mod Claims
+pub mod Orders

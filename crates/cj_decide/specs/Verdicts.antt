@@ -1,0 +1,69 @@
+-- Whether a Job is started, and for which time: Kubernetes CronJob documentation, "Schedule suspension", "Time zones",
+-- "CronJob limitations" and "Concurrency policy".
+use Rattle.std.specs.Prelude.{◌≡◌, ◌⊎◌, ℕ, ◌+◌, Bool, true, false, Option, None, Some}
+use Rattle.cj_types.specs.declared.cron.CronJob.{CronJob}
+use Rattle.cj_types.specs.declared.policy.Policy.{Policy}
+use Rattle.cj_types.specs.declared.policy.Policy.TheVariants.{Allow, Forbid, Replace}
+use Rattle.cj_types.specs.declared.policy.Reason.{Reason}
+use Rattle.cj_types.specs.declared.policy.Reason.TheVariants.{UnknownTimeZone, TooManyMissedTimes, JobAlreadyActive}
+use Rattle.cj_schedule.specs.Matches.{Sets}
+use Rattle.cj_schedule.specs.Grammar.{IsSchedule}
+use Rattle.cj_zone.specs.declared.zone.Zone.{Zone}
+use Rattle.cj_due.specs.declared.answer.Missed.{Missed}
+use Rattle.cj_due.specs.declared.answer.Missed.TheVariants as Kind
+use Rattle.cj_due.specs.Due.{IsQuiet, IsLeastDue}
+use Rattle.cj_due.specs.Missed.{IsMissed}
+use Rattle.cj_due.specs.Window.{window_of}
+use Rattle.cj_decide.specs.declared.verdict.Verdict.{Verdict}
+
+-- no Job is started
+abbrev pub rests : Option Reason → Option ℕ → Verdict
+rests reason next = record { start = None; replaces = false; reason = reason; next = next }
+
+-- the Job of a time is started, in place of those that run or beside them
+abbrev pub starts : ℕ → Bool → Option ℕ → Verdict
+starts time replaces next = record { start = Some time; replaces = replaces; reason = None; next = next }
+
+-- by the concurrency policy, and whether a Job of the CronJob runs
+abbrev pub by_policy : Policy → Bool → ℕ → Option ℕ → Verdict
+by_policy Forbid true time next = rests (Some JobAlreadyActive) next
+by_policy Forbid false time next = starts time false next
+by_policy Replace busy time next = starts time true next
+by_policy Allow busy time next = starts time false next
+
+-- by the times missed: the latest of them is the one to start for
+abbrev pub by_missed : Missed → Policy → Bool → Option ℕ → Verdict
+by_missed Kind.None policy busy next = rests None next
+by_missed Kind.Many policy busy next = rests (Some TooManyMissedTimes) next
+by_missed (Kind.Some count latest) policy busy next = by_policy policy busy latest next
+
+-- the least due time after now and within 3,000 days, none where there is none
+abbrev pub IsNext : Sets → Zone → ℕ → Option ℕ → Type 0
+IsNext s z now None = IsQuiet s z now (now + 259_200_000)
+IsNext s z now (Some t) = IsLeastDue s z now (now + 259_200_000) t
+
+-- the verdict of the times missed since the window's lower end, and of the next one
+abbrev pub IsByTimes : CronJob → Sets → Zone → Bool → ℕ → Verdict → Type 0
+IsByTimes cron s z busy now v =
+    (missed : Missed) × (next : Option ℕ) × IsMissed s z (window_of cron now) now missed × IsNext s z now next
+    × (v ≡ by_missed missed cron.spec.policy busy next)
+
+-- a text that isn't a schedule has no due times
+abbrev pub IsByText : CronJob → Zone → Bool → ℕ → Verdict → Type 0
+IsByText cron z busy now v =
+    ((s : Sets) × IsSchedule cron.spec.schedule s × IsByTimes cron s z busy now v)
+    ⊎ (((s : Sets) → IsSchedule cron.spec.schedule s → ⊥) × (v ≡ rests None None))
+
+-- without a zone nothing is known of the times
+abbrev pub IsByZone : CronJob → Option Zone → Bool → ℕ → Verdict → Type 0
+IsByZone cron None busy now v = v ≡ rests (Some UnknownTimeZone) None
+IsByZone cron (Some z) busy now v = IsByText cron z busy now v
+
+-- a suspended CronJob starts nothing
+abbrev pub IsUnlessSuspended : Bool → CronJob → Option Zone → Bool → ℕ → Verdict → Type 0
+IsUnlessSuspended true cron z busy now v = v ≡ rests None None
+IsUnlessSuspended false cron z busy now v = IsByZone cron z busy now v
+
+-- the first of these cases that holds
+abbrev pub IsVerdict : CronJob → Option Zone → Bool → ℕ → Verdict → Type 0
+IsVerdict cron z busy now v = IsUnlessSuspended cron.spec.suspend cron z busy now v

@@ -1,0 +1,101 @@
+ghost use Rattle.std.specs.Prelude.{◌≡◌, option_copied};
+ghost use Rattle.cj_decide.specs.Verdicts.{rests, starts, by_policy, by_missed, IsByTimes, IsByText, IsByZone, IsVerdict};
+
+use crate::times::{missed_of, next_of};
+use cj_due::Missed;
+use cj_schedule::Schedule;
+use cj_types::{CronJob, Policy, Reason, Seconds};
+use cj_zone::Zone;
+
+/// What is decided about starting a Job.
+#[derive(Clone, Copy, Debug)]
+pub struct Verdict {
+    /// The time for which one is started, if one is.
+    pub start: Option<Seconds>,
+    /// Whether it takes the place of those that run.
+    pub replaces: bool,
+    /// Why none is started, where there is something to tell.
+    pub reason: Option<Reason>,
+    /// When to look again.
+    pub next: Option<Seconds>,
+}
+
+fn rests(reason: Option<Reason>, next: Option<Seconds>) -> Verdict
+    ensures { result ≡ rests reason next }
+{
+    Verdict {
+        start: None,
+        replaces: false,
+        reason,
+        next,
+    }
+}
+
+fn starts(time: Seconds, replaces: bool, next: Option<Seconds>) -> Verdict
+    ensures { result ≡ starts time replaces next }
+{
+    Verdict {
+        start: Some(time),
+        replaces,
+        reason: None,
+        next,
+    }
+}
+
+fn by_policy(policy: Policy, busy: bool, time: Seconds, next: Option<Seconds>) -> Verdict
+    ensures { result ≡ by_policy policy busy time next }
+{
+    match (policy, busy) {
+        (Policy::Forbid, true) => rests(Some(Reason::JobAlreadyActive), next),
+        (Policy::Replace, _) => starts(time, true, next),
+        _ => starts(time, false, next),
+    }
+}
+
+fn by_missed(missed: Missed, policy: Policy, busy: bool, next: Option<Seconds>) -> Verdict
+    ensures { result ≡ by_missed missed policy busy next }
+{
+    match missed {
+        Missed::None => rests(None, next),
+        Missed::Many => rests(Some(Reason::TooManyMissedTimes), next),
+        Missed::Some { latest, .. } => by_policy(policy, busy, latest, next),
+    }
+}
+
+fn by_times(cron: &CronJob, schedule: &Schedule, zone: &Zone, busy: bool, now: Seconds) -> Verdict
+    ensures { IsByTimes cron.now schedule.now zone.now busy now result }
+{
+    let missed = missed_of(cron, schedule, zone, now);
+    let next = next_of(schedule, zone, now);
+    by_missed(missed, cron.spec.policy, busy, next)
+}
+
+fn by_text(cron: &CronJob, zone: &Zone, busy: bool, now: Seconds) -> Verdict
+    ensures { IsByText cron.now zone.now busy now result }
+{
+    match Schedule::parse(cron.spec.schedule.as_str()) {
+        Ok(schedule) => by_times(cron, &schedule, zone, busy, now),
+        Err(_) => rests(None, None),
+    }
+}
+
+fn by_zone(cron: &CronJob, zone: Option<&Zone>, busy: bool, now: Seconds) -> Verdict
+    ensures { IsByZone cron.now (option_copied zone.entry) busy now result }
+{
+    match zone {
+        None => rests(Some(Reason::UnknownTimeZone), None),
+        Some(zone) => by_text(cron, zone, busy, now),
+    }
+}
+
+/// The verdict on a CronJob of which a Job runs or not: the first of suspended, no zone, nothing missed, too much
+/// missed, not allowed beside what runs, started in its place, started.
+pub fn judge(cron: &CronJob, zone: Option<&Zone>, busy: bool, now: Seconds) -> Verdict
+    ensures { IsVerdict cron.now (option_copied zone.entry) busy now result }
+{
+    if cron.spec.suspend {
+        rests(None, None)
+    } else {
+        by_zone(cron, zone, busy, now)
+    }
+}
