@@ -1,11 +1,15 @@
 -- The command line, as `clap` reads it.
 use Rattle.std.specs.Prelude.{◌≡◌, ℕ, ◌≤◌, List, [], ◌∷◌, codes, Option, Some, option_map, true}
-use Rattle.std.specs.Str.Parse.{digits_value, without_leading_plus}
-use Rattle.clap.specs.Words.{App, Row, Rule, Text, first_of, new_app, new_rule, with_rule, with_subcommand, subcommand_of}
+use Rattle.std.specs.Prelude.{⊤, ◌≢◌}
+use Rattle.std.specs.Str.Parse.{IsNumeral, digits_value, without_leading_plus}
+use Rattle.clap.specs.Words.{App, Row, Rule, Text, first_of, new_app, new_rule, with_rule, with_subcommand, subcommand_of, takes}
 use Rattle.clap.specs.declared.builder.value_parser.ValueParser.TheVariants.{Unsigned}
+use Rattle.cronsim.specs.declared.request.CheckRequest.{CheckRequest}
 use Rattle.cronsim.specs.declared.request.NextRequest.{NextRequest}
 use Rattle.cronsim.specs.declared.request.Request.{Request}
-use Rattle.cronsim.specs.declared.request.Request.TheVariants.{Next}
+use Rattle.cronsim.specs.declared.request.Request.TheVariants.{Check, Next}
+use Rattle.cronsim.specs.declared.word_fault.WordFault.{WordFault}
+use Rattle.cronsim.specs.declared.word_fault.WordFault.TheVariants.{Incomplete, OutOfMemory, Refused}
 
 abbrev pub schedule_rule : Rule
 schedule_rule = record (new_rule (codes "schedule")) { required = true; value_names = 1 }
@@ -28,14 +32,22 @@ zone_rule = record (new_rule (codes "zone")) { long = Some (codes "zone"); value
 abbrev pub next_app : App
 next_app = with_rule (with_rule (with_rule (with_rule (new_app (codes "next")) schedule_rule) after_rule) count_rule) zone_rule
 
+abbrev pub file_rule : Rule
+file_rule = record (new_rule (codes "file")) { required = true; value_names = 1 }
+
+-- `cronsim check FILE [--zone NAME=RULE]`
+abbrev pub check_app : App
+check_app = with_rule (with_rule (new_app (codes "check")) file_rule) zone_rule
+
 abbrev pub cronsim_app : App
 cronsim_app =
     let bare = new_app (codes "cronsim") in
-    with_subcommand (record bare { top = record bare.top { has_version = true; subcommand_required = true } }) next_app.top
+    let top = record bare { top = record bare.top { has_version = true; subcommand_required = true } } in
+    with_subcommand (with_subcommand top next_app.top) check_app.top
 
--- the decimal digits of the text spell the number
+-- the text is decimal digits, after a plus or none, that spell the number
 abbrev pub IsDecimal : Text → ℕ → Type 0
-IsDecimal text n = digits_value 10 (without_leading_plus text) ≡ n
+IsDecimal text n = IsNumeral 10 (without_leading_plus text) × (digits_value 10 (without_leading_plus text) ≡ n)
 
 -- the request has the values that `clap` states for the arguments of `next`
 pub record IsNext (rows : List Row) (r : NextRequest) : Type 0 where
@@ -46,10 +58,22 @@ pub record IsNext (rows : List Row) (r : NextRequest) : Type 0 where
   pub most : r.count ≤ 1_000
   pub zone : first_of (codes "zone") rows ≡ option_map (λ s. s.now) r.zone
 
+-- and for those of `check`
+pub record IsCheck (rows : List Row) (r : CheckRequest) : Type 0 where
+  pub file : first_of (codes "file") rows ≡ Some r.file.now
+  pub zone : first_of (codes "zone") rows ≡ option_map (λ s. s.now) r.zone
+
 -- the request is of the subcommand with that name, and has the values of its arguments
 abbrev pub IsOfRows : Option (Text × List Row) → Request → Type 0
 IsOfRows found (Next r) = (rows : List Row) × (found ≡ Some (codes "next", rows)) × IsNext rows r
+IsOfRows found (Check r) = (rows : List Row) × (found ≡ Some (codes "check", rows)) × IsCheck rows r
 
 -- the request is of the subcommand that `clap` states for the words, with the values that it states
 abbrev pub IsOf : List Text → Request → Type 0
 IsOf words r = IsOfRows (subcommand_of cronsim_app words) r
+
+-- when words are refused: `clap` doesn't take them, or no request has the values that it states for them
+abbrev pub RefusesWords : List Text → WordFault → Type 0
+RefusesWords words (Refused e) = takes cronsim_app words ≢ true
+RefusesWords words Incomplete = (r : Request) → ¬ (IsOf words r)
+RefusesWords words OutOfMemory = ⊤

@@ -17,9 +17,9 @@ use Rattle.cronsim.specs.NextText.{IsNextText}
 use Rattle.cronsim.specs.declared.answer.Answer.{Answer}
 use Rattle.cronsim.specs.declared.answer.Verdict.{Verdict}
 use Rattle.cronsim.specs.declared.answer.Verdict.TheVariants.{Done, Refused}
+use Rattle.cronsim.specs.declared.failure.Failure.{Failure}
+use Rattle.cronsim.specs.declared.failure.Failure.TheVariants.{Device, Memory}
 use Rattle.cronsim.specs.declared.request.NextRequest.{NextRequest}
-use Rattle.cronsim.specs.declared.request.Request.{Request}
-use Rattle.cronsim.specs.declared.request.Request.TheVariants.{Next}
 
 -- the verdict, and the bytes on standard output and on standard error
 pub record Outcome : Type 0 where
@@ -31,6 +31,11 @@ pub record Outcome : Type 0 where
 abbrev pub status_of : Verdict → ℕ
 status_of Done = 0
 status_of Refused = 1
+
+-- what standard error says of a failure, which ends with status 3
+abbrev pub failure_line : Failure → List ℕ
+failure_line Device = codes "cronsim: input or output failed\n"
+failure_line Memory = codes "cronsim: out of memory\n"
 
 abbrev pub outcome_of : Answer → Outcome
 outcome_of a = record { verdict = a.verdict; printed = string_bytes a.printed; said = string_bytes a.said }
@@ -101,6 +106,6 @@ pub record PrintsTimes (r : NextRequest) (o : Outcome) : Type 0 where
   pub times : IsNextText sets zone after r.count text
   pub answer : o ≡ done text
 
--- what the request is answered
-abbrev pub IsOutcome : Request → Outcome → Type 0
-IsOutcome (Next r) o = RefusesSchedule r o ⊎ RefusesTime r o ⊎ RefusesZone r o ⊎ PrintsTimes r o
+-- what `next` answers
+abbrev pub IsNextOutcome : NextRequest → Outcome → Type 0
+IsNextOutcome r o = RefusesSchedule r o ⊎ RefusesTime r o ⊎ RefusesZone r o ⊎ PrintsTimes r o

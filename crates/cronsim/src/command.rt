@@ -1,7 +1,7 @@
 ghost use Rattle.std.specs.Prelude.{◌≡◌, IfOk, false};
 ghost use Rattle.clap.specs.Words.{app_of, rule_of};
 ghost use Rattle.clap.specs.declared.builder.command.Command.TheViews.{out-Command};
-ghost use Rattle.cronsim.specs.Command.{next_app, cronsim_app, schedule_rule, after_rule, count_rule, zone_rule};
+ghost use Rattle.cronsim.specs.Command.{after_rule, check_app, count_rule, cronsim_app, file_rule, next_app, schedule_rule, zone_rule};
 
 use clap::builder::ValueParser;
 use clap::{Arg, Command};
@@ -62,15 +62,50 @@ fn next_command<'a>(alloc: Global) -> Result<Command<'a>, AllocError>
     Ok(command)
 }
 
+fn file_arg<'a>(alloc: Global) -> Arg<'a>
+    ensures rule { rule_of result ≡ file_rule }
+    ensures local { result.global ≡ false }
+{
+    Arg::new(alloc, "file")
+        .required(true)
+        .value_name("FILE")
+        .help("File with a manifest in JSON; - is standard input")
+}
+
+fn named_zone_arg<'a>(alloc: Global) -> Arg<'a>
+    ensures rule { rule_of result ≡ zone_rule }
+    ensures local { result.global ≡ false }
+{
+    Arg::new(alloc, "zone")
+        .long("zone")
+        .value_name("NAME=RULE")
+        .help(
+            "A zone that the manifest may name, with its POSIX rule, as Europe/Berlin=CET-1CEST,M3.5.0,M10.5.0/3",
+        )
+}
+
+fn check_command<'a>(alloc: Global) -> Result<Command<'a>, AllocError>
+    ensures app { IfOk result (λ c. app_of c ≡ check_app) }
+    ensures local { IfOk result (λ c. (out-Command c).has_globals ≡ false) }
+{
+    let command = Command::new(alloc, "check")
+        .about("Check the manifest of a CronJob or a Job, and name every fault in it")
+        .arg(file_arg(alloc))?
+        .arg(named_zone_arg(alloc))?;
+    Ok(command)
+}
+
 /// The program's command line.
 pub fn cronsim_command<'a>(alloc: Global) -> Result<Command<'a>, AllocError>
     ensures { IfOk result (λ c. app_of c ≡ cronsim_app) }
 {
     let next = next_command(alloc)?;
+    let check = check_command(alloc)?;
     let command = Command::new(alloc, "cronsim")
         .about("A CronJob controller that is proved: schedules, plans and runs")
         .version("0.1.0")
         .subcommand_required(true)
-        .subcommand(next)?;
+        .subcommand(next)?
+        .subcommand(check)?;
     Ok(command)
 }

@@ -2,17 +2,22 @@
 #![tactic(auto)]
 
 mod answer;
+mod check;
 mod command;
 mod failure;
+mod input;
+mod lines;
 mod next;
 mod next_text;
 mod request;
 mod serve;
+mod source;
 mod word_fault;
 mod words;
 
 use failure::Failure;
 use serve::serve;
+use source::Input;
 use std::process::ExitCode;
 use word_fault::WordFault;
 use words::parse_words;
@@ -27,7 +32,7 @@ fn run(rt: &HostRuntime) -> Result<u8, Failure> {
     }
     match parse_words(alloc, words.as_slice()) {
         Ok(request) => {
-            let mut input = rt.stdin();
+            let mut input = Input::open(rt, request.file());
             let mut out = rt.stdout();
             let mut err = rt.stderr();
             Ok(serve(alloc, &request, &mut input, &mut out, &mut err))
@@ -54,5 +59,7 @@ fn main(rt: HostRuntime) -> ExitCode {
     }
 }
 
+#[cfg(test)]
+mod check_tests;
 #[cfg(test)]
 mod tests;

@@ -5,8 +5,7 @@ ghost use Rattle.cj_zone.specs.declared.source.Source.TheVariants.{Rule};
 ghost use Rattle.cj_zone.specs.declared.zone.Zone.{Zone};
 ghost use Rattle.cj_zone.specs.Made.{IsClockOf};
 ghost use Rattle.cj_zone.specs.Table.{local_zone};
-ghost use Rattle.cronsim.specs.Outcome.{IsNoRule, IsOutcome, IsZoneOf, outcome_of, refusal, schedule_line};
-ghost use Rattle.cronsim.specs.declared.request.Request.TheVariants.{Next};
+ghost use Rattle.cronsim.specs.Outcome.{IsNextOutcome, IsNoRule, IsZoneOf, outcome_of, refusal, schedule_line};
 
 use crate::answer::{Answer, Verdict};
 use crate::failure::Failure;
@@ -17,7 +16,8 @@ use cj_schedule::Schedule;
 use cj_zone::{ZoneTable, read_time};
 use std::alloc::{AllocError, Global};
 
-fn refused(alloc: Global, line: &str) -> Result<Answer, AllocError>
+/// What a request is answered where its input is refused with this line on standard error.
+pub fn refused(alloc: Global, line: &str) -> Result<Answer, AllocError>
     ensures { IfOk result (λ a. outcome_of a ≡ refusal line.now) }
 {
     Ok(Answer {
@@ -68,7 +68,7 @@ fn zones(alloc: Global, rule: Option<&str>) -> Result<ZoneTable, Refusal>
 
 /// What the command `next` answers: the schedule is looked at first, then the start, then the zone.
 pub fn next_answer(alloc: Global, next: &NextRequest<'_>) -> Result<Answer, Failure>
-    ensures { IfOk result (λ a. IsOutcome (Next next.now) (outcome_of a)) }
+    ensures { IfOk result (λ a. IsNextOutcome next.now (outcome_of a)) }
 {
     let schedule = match Schedule::parse(next.schedule) {
         Ok(schedule) => schedule,

@@ -3,6 +3,18 @@
 pub enum Request<'a> {
     /// The next due times of a schedule.
     Next(NextRequest<'a>),
+    /// What a manifest says, or every fault in it.
+    Check(CheckRequest<'a>),
+}
+
+impl<'a> Request<'a> {
+    /// The name of the file that is to be read, where the command reads one; `-` is standard input.
+    pub fn file(&self) -> Option<&'a str> {
+        match self {
+            Request::Next(_) => None,
+            Request::Check(check) => Some(check.file),
+        }
+    }
 }
 
 /// The words of the command `next`, as they were given.
@@ -15,5 +27,14 @@ pub struct NextRequest<'a> {
     /// How many times are asked for, 1 to 1,000.
     pub count: u16,
     /// The POSIX rule of the zone; UTC where none is given.
+    pub zone: Option<&'a str>,
+}
+
+/// The words of the command `check`, as they were given.
+#[derive(Debug, Drop)]
+pub struct CheckRequest<'a> {
+    /// The name of the file with the manifest; `-` is standard input.
+    pub file: &'a str,
+    /// A zone that the manifest may name, as NAME=RULE with a POSIX rule.
     pub zone: Option<&'a str>,
 }

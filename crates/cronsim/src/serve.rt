@@ -1,8 +1,10 @@
 ghost use Rattle.std.specs.Prelude.{◌≡◌, ◌<◌, ◌≤◌, IfOk};
 ghost use Rattle.std.specs.Io.KnownBytes.{Appends};
-ghost use Rattle.cronsim.specs.Outcome.{IsOutcome, Outcome, outcome_of, status_of};
+ghost use Rattle.cronsim.specs.Answers.{IsOutcome};
+ghost use Rattle.cronsim.specs.Outcome.{Outcome, failure_line, outcome_of, status_of};
 
 use crate::answer::{Answer, Verdict};
+use crate::check::check_answer;
 use crate::failure::Failure;
 use crate::next::next_answer;
 use crate::request::Request;
@@ -12,12 +14,13 @@ use std::io::{Read, Write};
 fn answer_to<R: Read>(
     alloc: Global,
     request: &Request<'_>,
-    _input: &mut R,
+    input: &mut R,
 ) -> Result<Answer, Failure>
-    ensures { IfOk result (λ a. IsOutcome request.now (outcome_of a)) }
+    ensures { IfOk result (λ a. IsOutcome request.now (R.remaining input.old) (outcome_of a)) }
 {
     match request {
         Request::Next(next) => next_answer(alloc, next),
+        Request::Check(check) => check_answer(alloc, check, input),
     }
 }
 
@@ -28,7 +31,7 @@ fn try_serve<R: Read, W: Write, E: Write>(
     out: &mut W,
     err: &mut E,
 ) -> Result<Verdict, Failure>
-    ensures { IfOk result (λ verdict. (o : Outcome) × IsOutcome request.now o × (verdict ≡ o.verdict)
+    ensures { IfOk result (λ verdict. (o : Outcome) × IsOutcome request.now (R.remaining input.old) o × (verdict ≡ o.verdict)
         × Appends (W.contents out.old) (W.contents out.new) o.printed
         × Appends (E.contents err.old) (E.contents err.new) o.said) }
 {
@@ -48,7 +51,7 @@ pub fn serve<R: Read, W: Write, E: Write>(
     out: &mut W,
     err: &mut E,
 ) -> u8
-    ensures served { result < 3 → (o : Outcome) × IsOutcome request.now o × (result ≡ status_of o.verdict)
+    ensures served { result < 3 → (o : Outcome) × IsOutcome request.now (R.remaining input.old) o × (result ≡ status_of o.verdict)
         × Appends (W.contents out.old) (W.contents out.new) o.printed
         × Appends (E.contents err.old) (E.contents err.new) o.said }
     ensures most { result ≤ 3 }
@@ -63,7 +66,9 @@ pub fn serve<R: Read, W: Write, E: Write>(
     }
 }
 
-fn line_of(failure: Failure) -> &'static [u8] {
+fn line_of(failure: Failure) -> &'static [u8]
+    ensures { result.now ≡ failure_line failure }
+{
     match failure {
         Failure::Device => b"cronsim: input or output failed\n",
         Failure::Memory => b"cronsim: out of memory\n",

@@ -9,15 +9,15 @@ use std::test::Fail;
 
 // What a command line is answered: the status, and what is on standard output and standard error.
 #[derive(Drop)]
-struct Printed {
-    status: u8,
-    out: Vec<u8>,
-    err: Vec<u8>,
+pub struct Printed {
+    pub status: u8,
+    pub out: Vec<u8>,
+    pub err: Vec<u8>,
 }
 
-fn serve_words(alloc: Global, words: &[&str]) -> Result<Printed, Fail> {
+pub fn serve_words(alloc: Global, words: &[&str], input: &str) -> Result<Printed, Fail> {
     let request = parse_words(alloc, words)?;
-    let mut input: &[u8] = b"";
+    let mut input: &[u8] = input.as_bytes();
     let mut out = Vec::new(alloc);
     let mut err = Vec::new(alloc);
     let status = serve(alloc, &request, &mut input, &mut out, &mut err);
@@ -44,7 +44,7 @@ fn next_served(
         words.push("--zone")?;
         words.push(zone)?;
     }
-    serve_words(alloc, words.as_slice())
+    serve_words(alloc, words.as_slice(), "")
 }
 
 // Schedule, start, count, rule, and the due times that a plain scan of minutes gave in Python, over the clock
@@ -203,7 +203,7 @@ fn refusals_in_their_order(rt: HostRuntime) -> Result<(), Fail> {
 }
 
 // Words, with a bar between them, and the exit status that `clap` gives with its text.
-const WRONG_WORDS: [(&str, i32); 12] = [
+const WRONG_WORDS: [(&str, i32); 15] = [
     ("cronsim", 2),
     ("cronsim|nxet", 2),
     ("cronsim|next", 2),
@@ -213,6 +213,9 @@ const WRONG_WORDS: [(&str, i32); 12] = [
     ("cronsim|next|* * * * *|--after|T|--count|few", 2),
     ("cronsim|next|* * * * *|--after|T|--before|T", 2),
     ("cronsim|next|* * * * *|more|--after|T", 2),
+    ("cronsim|check", 2),
+    ("cronsim|check|one|two", 2),
+    ("cronsim|check|--help", 0),
     ("cronsim|--help", 0),
     ("cronsim|next|--help", 0),
     ("cronsim|--version", 0),
@@ -250,6 +253,7 @@ fn words_are_kept_as_given(rt: HostRuntime) -> Result<(), Fail> {
             assert_eq!(rt; next.count, 1_000);
             assert!(rt; next.zone == Some("UTC0"));
         }
+        Request::Check(_) => assert!(rt; false),
     }
     Ok(())
 }

@@ -29,6 +29,14 @@ impl From<AllocError> for WordFault {
 }
 
 impl From<Error> for WordFault {
+    ghost use Rattle.std.specs.Prelude.{◌≢◌, ◌⊎◌};
+    ghost use Rattle.clap.specs.Values.{kind_of};
+    ghost use Rattle.clap.specs.declared.error.kind.ErrorKind.TheVariants as Kind;
+    ghost use Rattle.cronsim.specs.declared.word_fault.WordFault.TheVariants as Fault;
+
+    ghost from_gives = { λ error e. ((kind_of error ≡ Kind.OutOfMemory) × (e ≡ Fault.OutOfMemory))
+        ⊎ ((kind_of error ≢ Kind.OutOfMemory) × (e ≡ Fault.Refused error)) };
+
     fn from(error: Error) -> WordFault {
         if error.kind() == ErrorKind::OutOfMemory {
             WordFault::OutOfMemory

@@ -1,0 +1,35 @@
+use std::fs::File;
+use std::io;
+use std::io::{ErrorKind, Read, Stdin};
+
+/// Where the bytes that a command reads come from.
+#[derive(Drop)]
+pub enum Input {
+    Standard(Stdin),
+    File(File),
+    /// A file that could not be opened: every read fails.
+    Unopened,
+}
+
+impl Input {
+    /// The file of that name; standard input where it is `-`, or none is named.
+    pub fn open(rt: &HostRuntime, name: Option<&str>) -> Input {
+        match name {
+            None | Some("-") => Input::Standard(rt.stdin()),
+            Some(name) => match File::open(rt, name) {
+                Ok(file) => Input::File(file),
+                Err(_) => Input::Unopened,
+            },
+        }
+    }
+}
+
+impl Read for Input {
+    fn read(&mut self, buf: &mut [u8]) -> io::Result<usize> {
+        match self {
+            Input::Standard(input) => input.read(buf),
+            Input::File(file) => file.read(buf),
+            Input::Unopened => Err(io::Error::from(ErrorKind::NotFound)),
+        }
+    }
+}
