@@ -1,0 +1,126 @@
+use crate::ask::{Ask, name_at, spec_at};
+use cj_types::{
+    CronJobDraft, CronKey, CronSpec, CronStatus, DraftMeta, HistoryLimit, JobDraft, JobTemplate,
+    Key, Labels, Names, OwnerRef, OwnerRefs, Policy, Refusal, Seconds, SpecText, Text, Uid,
+    Version, version_text,
+};
+use std::alloc::Global;
+
+pub fn seconds(count: u64) -> Result<Seconds, Refusal> {
+    Seconds::new(count).ok_or(Refusal::Syntax)
+}
+
+pub fn uid(count: u64) -> Result<Uid, Refusal> {
+    Uid::new(count).ok_or(Refusal::Syntax)
+}
+
+pub fn key(alloc: Global, ask: &Ask) -> Result<Key, Refusal> {
+    Key::new(alloc, "default", name_at(ask.name))
+}
+
+fn version_given(alloc: Global, version: Option<u64>) -> Result<Option<Text>, Refusal> {
+    match version {
+        Some(count) => Ok(Some(version_text(alloc, Version::new(count))?)),
+        None => Ok(None),
+    }
+}
+
+fn uid_given(alloc: Global, count: Option<u64>) -> Result<Option<Text>, Refusal> {
+    match count {
+        Some(count) => Ok(Some(uid(count)?.text(alloc)?)),
+        None => Ok(None),
+    }
+}
+
+fn meta(alloc: Global, ask: &Ask) -> Result<DraftMeta, Refusal> {
+    Ok(DraftMeta {
+        uid: uid_given(alloc, ask.uid)?,
+        version: version_given(alloc, ask.version)?,
+        labels: Labels::new(alloc),
+        annotations: Labels::new(alloc),
+    })
+}
+
+fn template(alloc: Global) -> Result<JobTemplate, Refusal> {
+    let spec = SpecText::new(Text::new(alloc, "{}")?);
+    Ok(JobTemplate {
+        labels: Labels::new(alloc),
+        annotations: Labels::new(alloc),
+        spec,
+    })
+}
+
+fn cron_spec(alloc: Global, schedule: &str) -> Result<CronSpec, Refusal> {
+    Ok(CronSpec {
+        schedule: Text::new(alloc, schedule)?,
+        time_zone: None,
+        policy: Policy::Forbid,
+        suspend: false,
+        starting_deadline_seconds: None,
+        successful_limit: HistoryLimit::from(3),
+        failed_limit: HistoryLimit::from(1),
+        template: template(alloc)?,
+    })
+}
+
+pub fn cron_draft(alloc: Global, ask: &Ask) -> Result<CronJobDraft, Refusal> {
+    Ok(CronJobDraft {
+        key: CronKey::new(alloc, "default", name_at(ask.name))?,
+        meta: meta(alloc, ask)?,
+        spec: cron_spec(alloc, spec_at(ask.spec))?,
+    })
+}
+
+pub fn status(alloc: Global, time: u64) -> Result<CronStatus, Refusal> {
+    let time = seconds(time)?;
+    Ok(CronStatus {
+        active: Names::new(alloc),
+        last_schedule_time: Some(time),
+        last_successful_time: None,
+    })
+}
+
+fn owner_texts(alloc: Global) -> Result<(Text, Text), Refusal> {
+    Ok((Text::new(alloc, "batch/v1")?, Text::new(alloc, "CronJob")?))
+}
+
+fn owner(alloc: Global, name: &str, uid: &str, is_controller: bool) -> Result<OwnerRef, Refusal> {
+    let (api_version, kind) = owner_texts(alloc)?;
+    Ok(OwnerRef {
+        api_version,
+        kind,
+        name: Text::new(alloc, name)?,
+        uid: Text::new(alloc, uid)?,
+        controller: is_controller,
+        block_owner_deletion: true,
+    })
+}
+
+pub fn one_owner(
+    alloc: Global,
+    name: &str,
+    uid: &str,
+    is_controller: bool,
+) -> Result<OwnerRefs, Refusal> {
+    let mut owners = OwnerRefs::new(alloc);
+    owners.push(owner(alloc, name, uid, is_controller)?)?;
+    Ok(owners)
+}
+
+fn owners(alloc: Global, place: usize) -> Result<OwnerRefs, Refusal> {
+    match place {
+        0 => Ok(OwnerRefs::new(alloc)),
+        1 => one_owner(alloc, "n0", "u", false),
+        _ => one_owner(alloc, name_at(place - 2), "u", true),
+    }
+}
+
+pub fn job_draft(alloc: Global, ask: &Ask) -> Result<JobDraft, Refusal> {
+    let spec = SpecText::new(Text::new(alloc, spec_at(ask.spec))?);
+    Ok(JobDraft {
+        key: key(alloc, ask)?,
+        meta: meta(alloc, ask)?,
+        owners: owners(alloc, ask.owner)?,
+        spec,
+    })
+}

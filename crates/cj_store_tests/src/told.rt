@@ -1,0 +1,124 @@
+use crate::ask::place_of;
+use cj_store::Change;
+use cj_types::{CronJob, Event, Job, Object, Outcome, Refusal, Seconds, Version};
+
+// An object in numbers.
+#[derive(Clone, Copy, Debug, PartialEq, Eq)]
+pub struct Plain {
+    pub is_job: bool,
+    pub name: usize,
+    pub uid: u64,
+    pub version: u64,
+    pub generation: u64,
+    pub created: u64,
+    pub spec: usize,
+    pub owner: usize,
+    // 0 for none, 1 for Failed, else the completion time or the last schedule time.
+    pub state: u64,
+}
+
+#[derive(Clone, Copy, Debug, PartialEq, Eq)]
+pub enum Answer {
+    Done(Plain),
+    Gone(u64),
+    // The refusal's number, and the version that it names.
+    Refused(u64, u64),
+}
+
+fn time(time: Option<Seconds>) -> u64 {
+    match time {
+        Some(time) => time.get(),
+        None => 0,
+    }
+}
+
+pub fn plain_cron(cron: &CronJob) -> Plain {
+    Plain {
+        is_job: false,
+        name: place_of(cron.key.key().name()),
+        uid: cron.meta.uid.get(),
+        version: cron.meta.version.get(),
+        generation: cron.meta.generation,
+        created: cron.meta.created.get(),
+        spec: place_of(cron.spec.schedule.as_str()),
+        owner: 0,
+        state: time(cron.status.last_schedule_time),
+    }
+}
+
+fn owner_place(job: &Job) -> usize {
+    match job.cron_name() {
+        Some(name) => place_of(name.as_str()).saturating_add(2),
+        None => job.owners.as_slice().len(),
+    }
+}
+
+fn end(outcome: &Option<Outcome>) -> u64 {
+    match outcome {
+        Some(Outcome::Complete(time)) => time.get(),
+        Some(Outcome::Failed) => 1,
+        None => 0,
+    }
+}
+
+pub fn plain_job(job: &Job) -> Plain {
+    Plain {
+        is_job: true,
+        name: place_of(job.key.name()),
+        uid: job.meta.uid.get(),
+        version: job.meta.version.get(),
+        generation: job.meta.generation,
+        created: job.meta.created.get(),
+        spec: place_of(job.spec.as_str()),
+        owner: owner_place(job),
+        state: end(&job.outcome),
+    }
+}
+
+pub fn refused(refusal: &Refusal) -> Answer {
+    match refusal {
+        Refusal::Invalid(_) => Answer::Refused(2, 0),
+        Refusal::NotPermitted => Answer::Refused(3, 0),
+        Refusal::NotFound => Answer::Refused(4, 0),
+        Refusal::AlreadyExists => Answer::Refused(5, 0),
+        Refusal::Conflict(current) => Answer::Refused(6, current.get()),
+        Refusal::AlreadyFinished => Answer::Refused(15, 0),
+        _ => Answer::Refused(14, 0),
+    }
+}
+
+pub fn cron_answer(answer: Result<CronJob, Refusal>) -> Answer {
+    match answer {
+        Ok(cron) => Answer::Done(plain_cron(&cron)),
+        Err(refusal) => refused(&refusal),
+    }
+}
+
+pub fn job_answer(answer: Result<Job, Refusal>) -> Answer {
+    match answer {
+        Ok(job) => Answer::Done(plain_job(&job)),
+        Err(refusal) => refused(&refusal),
+    }
+}
+
+pub fn gone_answer(answer: Result<Version, Refusal>) -> Answer {
+    match answer {
+        Ok(version) => Answer::Gone(version.get()),
+        Err(refusal) => refused(&refusal),
+    }
+}
+
+fn plain_object(object: &Object) -> Plain {
+    match object {
+        Object::Cron(cron) => plain_cron(cron),
+        Object::Job(job) => plain_job(job),
+    }
+}
+
+pub fn change_answer(change: &Change) -> Answer {
+    match change {
+        Event::Added(object) => Answer::Done(plain_object(object)),
+        Event::Modified(object) => Answer::Done(plain_object(object)),
+        Event::Deleted(object) => Answer::Gone(plain_object(object).version),
+    }
+}
