@@ -1,3 +1,4 @@
 pub mod Subdomains
+pub mod LabelEnds
 pub mod LabelPlaces
 pub mod MadeNames
