@@ -1,5 +1,5 @@
 -- A part of a value nests no deeper than the value.
-use Rattle.std.proofs.Common.{◌≡◌, ◌≤◌, ℕ, List, Option, Some, None, option_and_then, refl, sym, subst, arith}
+use Rattle.std.proofs.Common.{◌≡◌, ◌≤◌, ℕ, suc, List, Option, Some, None, option_and_then, refl, sym, subst, arith}
 use Rattle.std.specs.Result.{result_ok}
 use Rattle.std.specs.Ordering.{nat_cmp, match_ordering}
 use Rattle.std.specs.declared.cmp.Ordering.{Ordering}
@@ -43,3 +43,18 @@ of_found (Some (object ms)) d n h r = subst (λ x. depth x ≤ n) (same (object 
 -- a required object in it
 pub depth-object : (k : List ℕ) (v d : Data) (n : ℕ) → depth v ≤ n → Some d ≡ result_ok (required an_object (present k v)) → depth d ≤ n
 depth-object k v d n h = of_found (get k v) d n (λ e. depth-get k v e n h)
+
+-- a part of it nests less deep by one
+depth-inside : (k : List ℕ) (v d : Data) (n : ℕ) → depth v ≤ suc n → get k v ≡ Some d → depth d ≤ n
+depth-inside k null d n hv h = absurd (cc h)
+depth-inside k (boolean b) d n hv h = absurd (cc h)
+depth-inside k (number m) d n hv h = absurd (cc h)
+depth-inside k (string s) d n hv h = absurd (cc h)
+depth-inside k (array ds) d n hv h = absurd (cc h)
+depth-inside k (object ms) d n hv h = of_member k ms d n (omega (arith, hv)) h
+
+pub depth-one_less : (k : List ℕ) (v d : Data) (n : ℕ) → depth v ≤ suc n → Some d ≡ result_ok (required an_object (present k v)) → depth d ≤ n
+depth-one_less k v d n h = of_found (get k v) d n (λ e. depth-inside k v e n h)
+
+pub depth-most : (d : Data) (m n : ℕ) → depth d ≤ m → m ≤ n → depth d ≤ n
+depth-most d m n h k = omega (arith, h, k)

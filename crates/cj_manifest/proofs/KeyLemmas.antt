@@ -17,7 +17,7 @@ use Rattle.cj_manifest.specs.Table as row
 use Rattle.cj_manifest.specs.Drafts.{value_or, key_of}
 use Rattle.cj_manifest.specs.Reading.{IsNamed}
 
-kept : (o : Option Cause) (s : List ℕ) → result_err (unless o s) ≡ None → (o ≡ None) × (value_or [] (unless o s) ≡ s)
+pub kept : (o : Option Cause) (s : List ℕ) → result_err (unless o s) ≡ None → (o ≡ None) × (value_or [] (unless o s) ≡ s)
 kept None s h = (refl, refl)
 kept (Some c) s h = absurd (cc h)
 
@@ -25,7 +25,7 @@ checked : (cause : List ℕ → Option Cause) (r : Result (List ℕ) Cause) → 
 checked cause (Err c) h = absurd (cc h)
 checked cause (Ok s) h = let k = kept (cause s) s h in ap cause k.1 ∙ k.0
 
-name_given : (limit : ℕ) (o : Option Data) → result_err (required (kinds.name limit) o) ≡ None → name_cause limit (value_or [] (required (kinds.name limit) o)) ≡ None
+pub name_given : (limit : ℕ) (o : Option Data) → result_err (required (kinds.name limit) o) ≡ None → name_cause limit (value_or [] (required (kinds.name limit) o)) ≡ None
 name_given limit None h = absurd (cc h)
 name_given limit (Some d) h = checked (name_cause limit) (text d) h
 
@@ -33,7 +33,7 @@ default_namespace : namespace_cause (codes "default") ≡ None
 unfolding is_label chars
 default_namespace = refl
 
-namespace_given : (o : Option Data) → result_err (or_default (codes "default") kinds.namespace o) ≡ None → namespace_cause (value_or [] (or_default (codes "default") kinds.namespace o)) ≡ None
+pub namespace_given : (o : Option Data) → result_err (or_default (codes "default") kinds.namespace o) ≡ None → namespace_cause (value_or [] (or_default (codes "default") kinds.namespace o)) ≡ None
 namespace_given None h = default_namespace
 namespace_given (Some d) h = checked namespace_cause (text d) h
 

@@ -24,21 +24,21 @@ pub nil_left : {A : Type 0} (xs ys : List A) → xs ++ ys ≡ [] → xs ≡ []
 nil_left [] ys h = refl
 nil_left (x ∷ xs) ys h = absurd (cc h)
 
-nil_right : {A : Type 0} (xs ys : List A) → xs ++ ys ≡ [] → ys ≡ []
+pub nil_right : {A : Type 0} (xs ys : List A) → xs ++ ys ≡ [] → ys ≡ []
 nil_right [] ys h = h
 nil_right (x ∷ xs) ys h = absurd (cc h)
 
 -- an object that has no fault, nor any row in it
-record IsClear (rows : Data → List FieldFault) (r : Result Data Cause) : Type 0 where
+pub record IsClear (rows : Data → List FieldFault) (r : Result Data Cause) : Type 0 where
   pub object : Data
   pub there : r ≡ Ok object
   pub clear : rows object ≡ []
 
-clear_rows : (f : Field) (rows : Data → List FieldFault) (r : Result Data Cause) → with_rows f rows r ≡ [] → IsClear rows r
+pub clear_rows : (f : Field) (rows : Data → List FieldFault) (r : Result Data Cause) → with_rows f rows r ≡ [] → IsClear rows r
 clear_rows f rows (Ok d) h = record { object = d; there = refl; clear = h }
 clear_rows f rows (Err c) h = absurd (cc h)
 
-no_cause : (f : Field) (o : Option Cause) → fault_of f o ≡ [] → o ≡ None
+pub no_cause : (f : Field) (o : Option Cause) → fault_of f o ≡ [] → o ≡ None
 no_cause f None h = refl
 no_cause f (Some c) h = absurd (cc h)
 
@@ -64,12 +64,12 @@ plain rows d h =
 
 -- ---- names
 
-named : (k : ObjectKind) (m : Data) → metadata_faults k m ≡ [] → IsNamed k m
+pub named : (k : ObjectKind) (m : Data) → metadata_faults k m ≡ [] → IsNamed k m
 named k m h =
     let two = nil_left _ _ (nil_left _ _ (nil_left _ _ (nil_left _ _ (nil_left _ _ h)))) in
     (no_cause At.Name _ (nil_left _ _ two), no_cause At.Namespace _ (nil_right _ _ two))
 
-metadata_clear : (k : ObjectKind) (d : Data) → top_faults k d ≡ [] → IsClear (metadata_faults k) (row.metadata d)
+pub metadata_clear : (k : ObjectKind) (d : Data) → top_faults k d ≡ [] → IsClear (metadata_faults k) (row.metadata d)
 metadata_clear k d h = clear_rows At.Metadata (metadata_faults k) (row.metadata d) (nil_right _ _ h)
 
 same_object : (r : Result Data Cause) (x m : Data) → r ≡ Ok x → result_ok r ≡ Some m → x ≡ m
@@ -84,7 +84,7 @@ has_names k d h m is =
 
 -- ---- drafts
 
-step : {A B : Type 0} (r : Result A Cause) (x : A) (f : A → Option B) → r ≡ Ok x → then_do (result_ok r) f ≡ f x
+pub step : {A B : Type 0} (r : Result A Cause) (x : A) (f : A → Option B) → r ≡ Ok x → then_do (result_ok r) f ≡ f x
 step r x f h = ap (λ q. then_do (result_ok q) f) h
 
 pub cron_drafted : (zones : List Zone) (d : Data) → cron_faults zones d ≡ [] → (r : CronJobDraft) × (cron_draft d ≡ Some r)

@@ -8,3 +8,4 @@ pub mod Drafts
 pub mod Warnings
 pub mod Reading
 pub mod Either
+pub mod Laws

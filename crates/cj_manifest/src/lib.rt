@@ -6,6 +6,7 @@ mod draft_parts;
 mod faults;
 mod kind;
 mod kinds;
+mod laws;
 mod level;
 mod manifest;
 mod owner;
@@ -13,12 +14,11 @@ mod pods;
 mod read;
 mod rows;
 mod spec_rows;
-#[cfg(test)]
-mod tests;
 mod warning;
 mod warnings;
 
 pub use cj_written::Written;
+pub use laws::manifest_laws;
 pub use manifest::Manifest;
-pub use read::{read_cronjob, read_job, read_manifest};
+pub use read::{cron_of, read_cronjob, read_job, read_manifest};
 pub use warning::Warning;

@@ -53,8 +53,9 @@ fn refuse(faults: FieldFaults) -> Result<(), Refusal>
     }
 }
 
-// What the value of a CronJob's manifest says.
-fn cron_of(
+/// What a JSON value that is the manifest of a CronJob says under the zones of a table, as `read_cronjob` reads its bytes:
+/// `Invalid` with every fault, in the order of the table of fields; the value nests at most as deep as JSON is read.
+pub fn cron_of(
     alloc: Global,
     value: &Value,
     zones: &ZoneTable,

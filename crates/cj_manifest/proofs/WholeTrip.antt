@@ -1,0 +1,65 @@
+-- A written object of either kind: its rows at the top.
+use Rattle.std.proofs.Common.{◌≡◌, List, [], false, codes, Option, Some, None, Ok, ap, ◌∙◌}
+use Rattle.std.specs.Prelude.{not}
+use Rattle.std.specs.Result.{result_err}
+use Rattle.serde_json.specs.Data.{Data, null, boolean, number, string, array, object, Members}
+use Rattle.serde_json.specs.Written.{has_float}
+use Rattle.cj_base.specs.declared.cause.Cause.TheVariants as Why
+use Rattle.cj_base.specs.declared.field.Field.TheVariants as At
+use Rattle.cj_base.specs.declared.faults.FieldFault.{FieldFault}
+use Rattle.cj_written.specs.Objects.{object_data}
+use Rattle.cj_manifest.specs.declared.kind.ObjectKind.{ObjectKind}
+use Rattle.cj_manifest.specs.declared.kind.ObjectKind.TheVariants as Of
+use Rattle.cj_manifest.specs.Faults.{with_rows, metadata_faults, object_faults}
+use Rattle.cj_manifest.specs.RowKinds.{when, required, an_object, choice}
+use Rattle.cj_manifest.specs.Table as row
+use Rattle.cj_manifest.proofs.MetaTrip.{no_faults, no_fault}
+use Rattle.cj_manifest.proofs.WrittenParts.{WholeIs}
+
+pub same_some : {A : Type 0} (x y : A) → Some x ≡ Some y → x ≡ y
+same_some x y h = cc h
+
+-- an object that is found
+pub object_is : (o : Option Data) (d : Data) → required an_object o ≡ Ok d → (ms : Members) × (d ≡ object ms)
+object_is None d h = absurd (cc h)
+object_is (Some null) d h = absurd (cc h)
+object_is (Some (boolean b)) d h = absurd (cc h)
+object_is (Some (number n)) d h = absurd (cc h)
+object_is (Some (string s)) d h = absurd (cc h)
+object_is (Some (array ds)) d h = absurd (cc h)
+object_is (Some (object ms)) d h = (ms, cc h)
+
+-- an object without a float, whose rows at the top are these
+pub record WholeSays (k : ObjectKind) (m s : Data) (w : Data) : Type 0 where
+  pub whole : row.whole w ≡ Ok w
+  pub api_version : result_err (row.api_version w) ≡ None
+  pub kind : result_err (row.kind k w) ≡ None
+  pub metadata : row.metadata w ≡ Ok m
+  pub spec : row.spec w ≡ Ok s
+
+kind_row : (k : ObjectKind) (o : Option Data) → o ≡ Some (string (row.kind_name k)) → result_err (required (choice (row.kind_name k)) o) ≡ None
+kind_row Of.Cron o h = ap (λ x. result_err (required (choice (codes "CronJob")) x)) h
+kind_row Of.Job o h = ap (λ x. result_err (required (choice (codes "Job")) x)) h
+
+pub whole_says : (k : ObjectKind) (metadata ms status : Members) → has_float (object_data (row.kind_name k) metadata (object ms) status) ≡ false
+    → WholeIs (row.kind_name k) metadata (object ms) (object_data (row.kind_name k) metadata (object ms) status)
+    → WholeSays k (object metadata) (object ms) (object_data (row.kind_name k) metadata (object ms) status)
+whole_says k metadata ms status plain is =
+    let w = object_data (row.kind_name k) metadata (object ms) status in
+    record {
+      whole = ap (λ b. when (not b) Why.Fraction w) plain;
+      api_version = ap (λ o. result_err (required (choice (codes "batch/v1")) o)) is.api_version;
+      kind = kind_row k _ is.kind;
+      metadata = ap (required an_object) is.metadata;
+      spec = ap (required an_object) is.spec;
+    }
+
+-- no fault stands in it where none stands in its metadata and its spec
+pub whole_sound : (k : ObjectKind) (metadata spec w : Data) (spec_faults : Data → List FieldFault) → WholeSays k metadata spec w → metadata_faults k metadata ≡ [] → spec_faults spec ≡ []
+    → with_rows At.Whole (object_faults k spec_faults) (row.whole w) ≡ []
+whole_sound k metadata spec w spec_faults says in_metadata in_spec =
+    ap (with_rows At.Whole (object_faults k spec_faults)) says.whole
+    ∙ no_faults _ _
+    (no_faults _ _ (no_faults _ _ (no_fault At.ApiVersion (row.api_version w) says.api_version) (no_fault At.Kind (row.kind k w) says.kind))
+    (ap (with_rows At.Metadata (metadata_faults k)) says.metadata ∙ in_metadata))
+    (ap (with_rows At.Spec spec_faults) says.spec ∙ in_spec)
