@@ -1,5 +1,5 @@
 -- What each write keeps: every object stands at its own key and wasn't changed more often than there were writes.
-use Rattle.std.proofs.Common.{◌≡◌, inl, inr, ℕ, ◌+◌, ◌≤◌, Bool, true, false, Some, None, sym, ap, ◌∙◌, subst, arith}
+use Rattle.std.proofs.Common.{◌≡◌, ℕ, ◌+◌, ◌≤◌, Bool, true, false, Some, sym, ap, ◌∙◌, arith}
 use Rattle.std.specs.Option.{option_map}
 use Rattle.std.specs.FinMap as map
 use Rattle.cj_types.specs.Keys.{Place, place_cmp}
@@ -7,7 +7,7 @@ use Rattle.cj_types.specs.declared.cron.CronJob.{CronJob}
 use Rattle.cj_types.specs.declared.job.Job.{Job}
 use Rattle.cj_types.specs.declared.meta.Meta.{Meta}
 use Rattle.cj_types.specs.declared.meta.DraftMeta.{DraftMeta}
-use Rattle.cj_table.proofs.Puts.{at_put, at_cut}
+use Rattle.cj_jobs.proofs.Holds.{Holds, put_holds, cut_holds, empty_holds}
 use Rattle.cj_store.specs.Content.{Content, IsSound}
 use Rattle.cj_store.specs.Metadata.{updated}
 use Rattle.cj_store.specs.Change.{owners_at}
@@ -18,31 +18,6 @@ updated_generation s draft false meta h = omega arith
 
 pub owners_there : (s : Content) (k : Place) (j : Job) → map.get s.jobs k ≡ Some j → owners_at s k ≡ Some j.owners
 owners_there s k j e = ap (option_map (λ (job : Job). job.owners)) e
-
-module _ {X : Type 0} (P : Place → X → Type 0) where
-  abbrev pub Holds : map.FinMap place_cmp X → Type 0
-  Holds m = (k : Place) (x : X) → map.get m k ≡ Some x → P k x
-
-  put_at : (m : map.FinMap place_cmp X) (k : Place) (v : X) (q : Place) (x : X) → P k v → Holds m → map.get (map.insert m k v) q ≡ Some x → P q x
-  put_at m k v q x new old is = elim (at_put m k v q).1 as (λ _. P q x) [
-    | inl h ↦ let e : v ≡ x = cc (h.1, is) in subst (λ z. P z x) (sym h.0) (subst (P k) e new)
-    | inr h ↦ old q x (sym h ∙ is)
-  ]
-
-  pub put_holds : (m n : map.FinMap place_cmp X) (k : Place) (v : X) → n ≡ map.insert m k v → P k v → Holds m → Holds n
-  put_holds m n k v e new old = subst Holds (sym e) (λ q x is. put_at m k v q x new old is)
-
-  cut_at : (m : map.FinMap place_cmp X) (k q : Place) (x : X) → Holds m → map.get (map.remove m k) q ≡ Some x → P q x
-  cut_at m k q x old is = elim (at_cut m k q).1 as (λ _. P q x) [
-    | inl h ↦ absurd (let none : map.get (map.remove m k) q ≡ None = h.1 in cc)
-    | inr h ↦ old q x (sym h ∙ is)
-  ]
-
-  pub cut_holds : (m n : map.FinMap place_cmp X) (k : Place) → n ≡ map.remove m k → Holds m → Holds n
-  cut_holds m n k e old = subst Holds (sym e) (λ q x is. cut_at m k q x old is)
-
-  pub empty_holds : (m : map.FinMap place_cmp X) → m ≡ map.empty → Holds m
-  empty_holds m e k x is = absurd (let none : map.get m k ≡ None = subst (λ (t : map.FinMap place_cmp X). map.get t k ≡ None) (sym e) (map.get-empty place_cmp k) in cc)
 
 abbrev CronIs : ℕ → Place → CronJob → Type 0
 CronIs w k c = (c.key ≡ k) × (c.meta.generation ≤ w)

@@ -1,19 +1,18 @@
 -- The answers of calls on Jobs, with the first refusal that holds. The object that a write leaves is its answer; a deletion's is the
 -- last object with the deletion's version.
-use Rattle.std.specs.Prelude.{ℕ, Bool, true, false, ◌&&◌, ◌==◌, List, Option, Some, None, Result, Ok, Err, is_some, if◌then◌else◌}
+use Rattle.std.specs.Prelude.{ℕ, Bool, true, ◌==◌, List, Option, Some, None, Result, Ok, Err, is_some, if◌then◌else◌}
 use Rattle.std.specs.List.{filter}
-use Rattle.std.specs.Str.{bytes_eq}
 use Rattle.std.specs.FinMap as map
 use Rattle.cj_base.specs.declared.refusal.Refusal.{Refusal}
 use Rattle.cj_base.specs.declared.refusal.Refusal.TheVariants.{NotPermitted, NotFound, AlreadyExists, Conflict, AlreadyFinished}
 use Rattle.cj_types.specs.Keys.{Place}
 use Rattle.cj_types.specs.Current.{is_current}
-use Rattle.cj_types.specs.Objects.{cron_of}
 use Rattle.cj_types.specs.Owners.{controller_of}
 use Rattle.cj_types.specs.declared.job.Job.{Job}
 use Rattle.cj_types.specs.declared.job.JobDraft.{JobDraft}
 use Rattle.cj_types.specs.declared.policy.Outcome.{Outcome}
 use Rattle.cj_types.specs.declared.policy.Outcome.TheVariants.{Complete, Failed}
+use Rattle.cj_jobs.specs.Owners.{is_job_of}
 use Rattle.cj_store.specs.Content.{Content}
 use Rattle.cj_store.specs.Equal.{same_job_spec, same_owners}
 use Rattle.cj_store.specs.Metadata.{new_meta, touched, updated, version_not_allowed}
@@ -81,14 +80,6 @@ job_ended_from s uid outcome now (Some job) =
 -- the end of the Job with this uid, which is final
 abbrev pub job_ended : Content → Place → ℕ → Outcome → ℕ → Result Job Refusal
 job_ended s key uid outcome now = job_ended_from s uid outcome now (map.get s.jobs key)
-
-abbrev pub names : List ℕ → Option (List ℕ) → Bool
-names name None = false
-names name (Some named) = bytes_eq named name
-
--- a Job of the key's namespace whose controller reference names a CronJob of the key's name, whatever its uid
-abbrev pub is_job_of : Place → Job → Bool
-is_job_of key job = bytes_eq job.key.namespace key.namespace && names key.name (cron_of job)
 
 -- the Jobs of a CronJob's key, in order of name
 abbrev pub jobs_of : Content → Place → List Job

@@ -25,10 +25,7 @@ impl Store {
             }
             Event::Added(Object::Job(job)) => self.add_job(alloc, job),
             Event::Modified(Object::Job(job)) => self.put_job(alloc, job),
-            Event::Deleted(Object::Job(job)) => {
-                self.cut_job(job);
-                Ok(())
-            }
+            Event::Deleted(Object::Job(job)) => self.cut_job(alloc, job),
         }
     }
 
@@ -74,8 +71,7 @@ impl Store {
         ensures err { OnErr result (self.new ≡ self.old) }
         ensures memory { IfErr result (λ e. e ≡ OutOfMemory) }
     {
-        let key = job.key.try_copy(alloc)?;
-        self.jobs.insert(key, job)?;
+        self.jobs.replace(alloc, job)?;
         self.writes += 1;
         Ok(())
     }
@@ -87,19 +83,21 @@ impl Store {
         ensures err { OnErr result (self.new ≡ self.old) }
         ensures memory { IfErr result (λ e. e ≡ OutOfMemory) }
     {
-        let key = job.key.try_copy(alloc)?;
-        self.jobs.insert(key, job)?;
+        self.jobs.add(alloc, job)?;
         self.writes += 1;
         self.creations += 1;
         Ok(())
     }
 
-    fn cut_job(&mut self, job: Job)
+    fn cut_job(&mut self, alloc: Global, job: Job) -> Result<(), Refusal>
         requires room { self.old.version < 2 ^ 40 }
         requires planned { IsFor self.old (job_gone job) }
-        ensures { self.new ≡ after self.old (job_gone job) }
+        ensures ok { OnOk result (self.new ≡ after self.old (job_gone job)) }
+        ensures err { OnErr result (self.new ≡ self.old) }
+        ensures memory { IfErr result (λ e. e ≡ OutOfMemory) }
     {
-        self.jobs.remove(&job.key);
+        self.jobs.remove(alloc, &job.key)?;
         self.writes += 1;
+        Ok(())
     }
 }

@@ -3,6 +3,7 @@ ghost use Rattle.std.specs.FinMap as map;
 ghost use Rattle.cj_base.specs.declared.refusal.Refusal.TheVariants.{OutOfMemory};
 ghost use Rattle.cj_store.specs.Content.{nothing};
 
+use cj_jobs::Jobs;
 use cj_table::Table;
 use cj_types::{CronJob, Job, Key, Refusal, Version};
 use std::alloc::Global;
@@ -12,7 +13,7 @@ use std::marker::Model;
 #[derive(Drop)]
 pub struct Store {
     pub(crate) crons: Table<CronJob>,
-    pub(crate) jobs: Table<Job>,
+    pub(crate) jobs: Jobs,
     pub(crate) writes: u64,
     pub(crate) creations: u64,
 }
@@ -39,7 +40,7 @@ impl Store {
     {
         Store {
             crons: Table::new(alloc),
-            jobs: Table::new(alloc),
+            jobs: Jobs::new(alloc),
             writes: 0,
             creations: 0,
         }

@@ -1,5 +1,5 @@
 use Rattle.cj_store.proofs.Kept.{cut_job_sound}
 use Rattle.cj_store.proofs.store.Store.cut_job.Goals as goal
 
-pub invariant_of-self : goal.invariant_of-self
-invariant_of-self c = cut_job_sound (record { crons = c.self.inside.crons; jobs = c.self.inside.jobs; version = c.self.inside.writes; uids = c.self.inside.creations }) _ _ c.self.invariant c.remove.ensures
+pub invariant_of-self-2 : goal.invariant_of-self-2
+invariant_of-self-2 c = cut_job_sound (record { crons = c.self.inside.crons; jobs = c.self.inside.jobs; version = c.self.inside.writes; uids = c.self.inside.creations }) _ _ c.self.invariant c.in_ok-remove.ensures.ok

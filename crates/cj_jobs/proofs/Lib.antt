@@ -1,0 +1,4 @@
+pub mod Holds
+pub mod Ties
+pub mod Writes
+pub mod Found

@@ -1,0 +1,58 @@
+-- Which place of the index a Job's entry ties with.
+use Rattle.std.proofs.Common.{◌≡◌, ℕ, Bool, true, false, ◌&&◌, List, Option, Some, None, refl, sym, ap, ◌∙◌}
+use Rattle.std.specs.declared.cmp.Ordering.{Ordering}
+use Rattle.std.specs.declared.cmp.Ordering.TheVariants.{Less, Equal, Greater}
+use Rattle.std.specs.Option.{option_map}
+use Rattle.std.specs.Ordering.{nat_cmp, is_eq, ordering_then}
+use Rattle.std.specs.Cmp.Lexicographic.{slice_cmp, texts_ties}
+use Rattle.std.specs.Str.{bytes_eq}
+use Rattle.std.specs.BTreeMap.{is_at}
+use Rattle.cj_types.specs.Keys.{place, place_cmp}
+use Rattle.cj_types.specs.Objects.{cron_of}
+use Rattle.cj_types.specs.declared.job.Job.{Job}
+use Rattle.cj_jobs.specs.declared.owned.At.{At}
+use Rattle.cj_jobs.specs.declared.owned.At.TheVariants.{Before, Here, After}
+use Rattle.cj_jobs.specs.declared.owned.Owned.{Owned}
+use Rattle.cj_jobs.specs.Owners.{names}
+use Rattle.cj_jobs.specs.Index.{owned, owned_of, at_cmp, is_entry}
+
+both_ties : (a b c : Ordering) → is_eq (ordering_then (ordering_then a b) c) ≡ ((is_eq a && is_eq b) && is_eq c)
+both_ties Less b c = refl
+both_ties Equal Less c = refl
+both_ties Equal Equal c = refl
+both_ties Equal Greater c = refl
+both_ties Greater b c = refl
+
+no_more : (a : Bool) → (a && false) ≡ false
+no_more true = refl
+no_more false = refl
+
+never : (a b : Bool) → false ≡ ((a && false) && b)
+never true b = refl
+never false b = refl
+
+-- whether the Job, whose controller reference names this CronJob if any, stands there under the entry's owner
+abbrev pub here_by : Job → Owned → Option (List ℕ) → At → Bool
+here_by job q owner Before = false
+here_by job q owner (Here k) = (bytes_eq job.key.namespace q.namespace && names q.owner owner) && is_at (place_cmp job.key) k
+here_by job q owner After = false
+
+entry_ties : (job : Job) (q : Owned) (n : List ℕ) (a : At) → is_eq (ordering_then (ordering_then (slice_cmp nat_cmp job.key.namespace q.namespace) (slice_cmp nat_cmp n q.owner)) (at_cmp (Here job.key) a)) ≡ here_by job q (Some n) a
+entry_ties job q n Before = both_ties (slice_cmp nat_cmp job.key.namespace q.namespace) (slice_cmp nat_cmp n q.owner) (at_cmp (Here job.key) Before) ∙ no_more (is_eq (slice_cmp nat_cmp job.key.namespace q.namespace) && is_eq (slice_cmp nat_cmp n q.owner))
+entry_ties job q n (Here k) =
+    both_ties (slice_cmp nat_cmp job.key.namespace q.namespace) (slice_cmp nat_cmp n q.owner) (place_cmp job.key k)
+    ∙ ap (λ b. (b && is_eq (slice_cmp nat_cmp n q.owner)) && is_at (place_cmp job.key) k) (sym (texts_ties job.key.namespace q.namespace))
+    ∙ ap (λ b. (bytes_eq job.key.namespace q.namespace && b) && is_at (place_cmp job.key) k) (sym (texts_ties n q.owner))
+entry_ties job q n After = both_ties (slice_cmp nat_cmp job.key.namespace q.namespace) (slice_cmp nat_cmp n q.owner) (at_cmp (Here job.key) After) ∙ no_more (is_eq (slice_cmp nat_cmp job.key.namespace q.namespace) && is_eq (slice_cmp nat_cmp n q.owner))
+
+no_entry : (job : Job) (q : Owned) (a : At) → false ≡ here_by job q None a
+no_entry job q Before = refl
+no_entry job q (Here k) = never _ _
+no_entry job q After = refl
+
+entry_from : (job : Job) (q : Owned) (owner : Option (List ℕ)) → is_entry (option_map (λ name. owned (place job.key.namespace name) (Here job.key)) owner) q ≡ here_by job q owner q.at
+entry_from job q None = no_entry job q q.at
+entry_from job q (Some n) = entry_ties job q n q.at
+
+pub entry_is : (job : Job) (q : Owned) → is_entry (owned_of job) q ≡ here_by job q (cron_of job) q.at
+entry_is job q = entry_from job q (cron_of job)

@@ -1,0 +1,92 @@
+-- The index from CronJobs to Jobs: a set of entries, in the order of the owner's namespace and name, then of the Job's key.
+use Rattle.std.specs.Prelude.{◌≡◌, Bool, false, cond, List, [], ◌∷◌, ◌++◌, Option, Some, None}
+use Rattle.std.specs.Option.{option_map}
+use Rattle.std.specs.Cmp.{IsTotalOrder, on_total, then_total}
+use Rattle.std.specs.Cmp.Lexicographic.{slice_cmp, nat_list_cmp_total}
+use Rattle.std.specs.Ordering.{nat_cmp, on, then_cmp}
+use Rattle.std.specs.declared.cmp.Ordering.{Ordering}
+use Rattle.std.specs.BTreeMap.{is_at}
+use Rattle.std.specs.BTreeSet.{BTreeSet, contains}
+use Rattle.std.specs.FinMap as map
+use Rattle.cj_types.specs.Keys.{Place, place, place_cmp}
+use Rattle.cj_types.specs.Objects.{cron_of}
+use Rattle.cj_types.specs.declared.job.Job.{Job}
+use Rattle.cj_jobs.specs.declared.owned.At.{At}
+use Rattle.cj_jobs.specs.declared.owned.At.TheVariants.{Before, Here, After}
+use Rattle.cj_jobs.specs.declared.owned.Owned.{Owned}
+use Rattle.cj_jobs.specs.contracts.owned.AtOrd.TheImpl as at
+use Rattle.cj_jobs.specs.contracts.owned.AtOrd.TheImpl.Laws as at_laws
+use Rattle.cj_jobs.specs.Owners.{is_job_of}
+
+-- the beginning, the Jobs by key, the end
+abbrev pub at_cmp : At → At → Ordering
+at_cmp = at.ghosts.cmp
+
+abbrev pub owned_cmp : Owned → Owned → Ordering
+owned_cmp = then_cmp (then_cmp (on (λ o. o.namespace) (slice_cmp nat_cmp)) (on (λ o. o.owner) (slice_cmp nat_cmp))) (on (λ o. o.at) at_cmp)
+
+pub owned_total : IsTotalOrder owned_cmp
+owned_total = then_total (then_total (on_total (λ o. o.namespace) nat_list_cmp_total) (on_total (λ o. o.owner) nat_list_cmp_total)) (on_total (λ o. o.at) at_laws.total-law)
+
+-- a place among the entries of a CronJob's key
+abbrev pub owned : Place → At → Owned
+owned owner at = record { namespace = owner.namespace; owner = owner.name; at = at }
+
+-- the entry of a Job, if its controller reference names a CronJob
+abbrev pub owned_of : Job → Option Owned
+owned_of job = option_map (λ name. owned (place job.key.namespace name) (Here job.key)) (cron_of job)
+
+-- of a Job that may be there
+abbrev pub owned_at : Option Job → Option Owned
+owned_at None = None
+owned_at (Some job) = owned_of job
+
+abbrev pub key_at : At → Option Place
+key_at Before = None
+key_at (Here key) = Some key
+key_at After = None
+
+-- whether a Job that may be there is one of the entry's owner
+abbrev pub is_owned : Owned → Option Job → Bool
+is_owned entry None = false
+is_owned entry (Some job) = is_job_of (place entry.namespace entry.owner) job
+
+abbrev pub stands_at : map.FinMap place_cmp Job → Owned → At → Bool
+stands_at jobs entry Before = false
+stands_at jobs entry (Here key) = is_owned entry (map.get jobs key)
+stands_at jobs entry After = false
+
+-- whether the Job at the entry's key is one of the entry's owner
+abbrev pub stands : map.FinMap place_cmp Job → Owned → Bool
+stands jobs entry = stands_at jobs entry entry.at
+
+-- each Job stands at its own key, and the index has exactly the entries of the Jobs
+pub record IsIndex (jobs : map.FinMap place_cmp Job) (index : BTreeSet Owned) : Type 0 where
+  pub keyed : (key : Place) (job : Job) → map.get jobs key ≡ Some job → job.key ≡ key
+  pub exact : (entry : Owned) → contains owned_cmp index entry ≡ stands jobs entry
+
+-- whether the entry, if there is one, is at this place
+abbrev pub is_entry : Option Owned → Owned → Bool
+is_entry None at = false
+is_entry (Some entry) at = is_at (owned_cmp entry) at
+
+-- the new index has the entry or not, if there is one, and else what the old has
+abbrev pub Sets : Bool → BTreeSet Owned → BTreeSet Owned → Option Owned → Type 0
+Sets there old new entry = (at : Owned) → contains owned_cmp new at ≡ cond (is_entry entry at) there (contains owned_cmp old at)
+
+-- the Job at an entry, if there is one
+abbrev pub listed : Option Job → List Job
+listed None = []
+listed (Some job) = job ∷ []
+
+abbrev pub listed_at : map.FinMap place_cmp Job → Option Place → List Job
+listed_at jobs None = []
+listed_at jobs (Some key) = listed (map.get jobs key)
+
+abbrev pub found_at : map.FinMap place_cmp Job → Owned → List Job
+found_at jobs entry = listed_at jobs (key_at entry.at)
+
+-- the Jobs at the entries
+abbrev pub found : map.FinMap place_cmp Job → List Owned → List Job
+found jobs [] = []
+found jobs (entry ∷ entries) = found_at jobs entry ++ found jobs entries

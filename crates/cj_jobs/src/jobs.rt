@@ -1,0 +1,117 @@
+ghost use Rattle.std.specs.Prelude.{◌≡◌, None, Some, IfOk, IfErr, IfSome, OnOk, OnErr, option_copied};
+ghost use Rattle.std.specs.FinMap as map;
+ghost use Rattle.cj_base.specs.declared.refusal.Refusal.TheVariants.{OutOfMemory};
+ghost use Rattle.cj_jobs.specs.Owners.{owned_by, owners_of};
+
+use crate::entries::{cut_entry, found_jobs, put_entry};
+use crate::owned::{At, Owned};
+use cj_table::Table;
+use cj_types::{Job, Key, Refusal, TryCopy};
+use std::alloc::Global;
+use std::collections::BTreeSet;
+use std::marker::Model;
+
+/// Jobs by key, each at its own, with an index from CronJobs to the Jobs that they own. Contracts see the Jobs alone.
+#[derive(Drop)]
+pub struct Jobs {
+    table: Table<Job>,
+    index: BTreeSet<Owned>,
+}
+
+impl Model for Jobs {
+    ghost use Rattle.std.specs.FinMap as map;
+    ghost use Rattle.cj_types.specs.Keys.{place_cmp, coded_place};
+    ghost use Rattle.cj_types.specs.declared.job.Job.{Job};
+    ghost use Rattle.cj_types.specs.contracts.job.Job.{the_row as job};
+    ghost use Rattle.cj_jobs.specs.Index.{IsIndex};
+
+    ghost Value = { map.FinMap place_cmp Job };
+
+    ghost coded = { map.code coded_place job.coded };
+
+    ghost view = { λ s. s.table };
+
+    ghost invariant = { λ s. IsIndex s.table s.index };
+}
+
+impl Jobs {
+    /// No Job.
+    pub fn new(alloc: Global) -> Jobs
+        ensures { result ≡ map.empty }
+    {
+        Jobs {
+            table: Table::new(alloc),
+            index: BTreeSet::new(alloc),
+        }
+    }
+
+    /// The Job at the key.
+    pub fn get(&self, key: &Key) -> Option<&Job>
+        ensures value { option_copied result ≡ map.get self.now key.now }
+        ensures keyed { IfSome result (λ j. j.now.key ≡ key.now) }
+    {
+        self.table.get(key)
+    }
+
+    /// Copies of the Jobs in the order of their keys.
+    pub fn list(&self, alloc: Global) -> Result<Vec<Job>, Refusal>
+        ensures ok { IfOk result (λ v. v.items ≡ map.values self.now) }
+        ensures memory { IfErr result (λ e. e ≡ OutOfMemory) }
+    {
+        self.table.list(alloc)
+    }
+
+    /// Copies of the Jobs of the key's namespace whose controller reference names a CronJob of `batch/v1` of the key's
+    /// name, whatever its uid, in order of name. Only these are walked.
+    pub fn owned_by(&self, alloc: Global, key: &Key) -> Result<Vec<Job>, Refusal>
+        ensures ok { IfOk result (λ v. v.items ≡ owned_by self.now key.now) }
+        ensures memory { IfErr result (λ e. e ≡ OutOfMemory) }
+    {
+        let first = Owned::beside(alloc, key, At::Before)?;
+        let last = Owned::beside(alloc, key, At::After)?;
+        found_jobs(&self.table, &self.index, alloc, first, last)
+    }
+
+    /// Puts a Job at its key, where none stands. Where there is no memory the Jobs are as they were.
+    pub fn add(&mut self, alloc: Global, job: Job) -> Result<(), Refusal>
+        requires { map.get self.old job.key ≡ None }
+        ensures ok { OnOk result (self.new ≡ map.insert self.old job.key job) }
+        ensures err { OnErr result (self.new ≡ self.old) }
+        ensures memory { IfErr result (λ e. e ≡ OutOfMemory) }
+    {
+        let entry = Owned::of(alloc, &job)?;
+        let key = job.key.try_copy(alloc)?;
+        let again = job.key.try_copy(alloc)?;
+        self.table.insert(key, job)?;
+        if let Err(refusal) = put_entry(&mut self.index, entry) {
+            self.table.remove(&again);
+            return Err(refusal);
+        }
+        Ok(())
+    }
+
+    /// Puts a Job in place of the one at its key, which has the same owner references. Where there is no memory the Jobs
+    /// are as they were.
+    pub fn replace(&mut self, alloc: Global, job: Job) -> Result<(), Refusal>
+        requires { owners_of self.old job.key ≡ Some job.owners }
+        ensures ok { OnOk result (self.new ≡ map.insert self.old job.key job) }
+        ensures err { OnErr result (self.new ≡ self.old) }
+        ensures memory { IfErr result (λ e. e ≡ OutOfMemory) }
+    {
+        let at = job.key.try_copy(alloc)?;
+        self.table.insert(at, job)?;
+        Ok(())
+    }
+
+    /// Takes the Job at the key out, if there is one. Where there is no memory the Jobs are as they were.
+    pub fn remove(&mut self, alloc: Global, key: &Key) -> Result<(), Refusal>
+        ensures ok { OnOk result (self.new ≡ map.remove self.old key.now) }
+        ensures err { OnErr result (self.new ≡ self.old) }
+        ensures memory { IfErr result (λ e. e ≡ OutOfMemory) }
+    {
+        let entry = Owned::at(alloc, &self.table, key)?;
+        cut_entry(&mut self.index, entry);
+        self.table.remove(key);
+        Ok(())
+    }
+}
