@@ -5,8 +5,6 @@ mod laws;
 mod log;
 mod number;
 mod ring;
-#[cfg(test)]
-mod tests;
 mod window;
 
 pub use laws::watch_laws;

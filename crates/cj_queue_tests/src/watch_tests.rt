@@ -1,65 +1,8 @@
-ghost use Rattle.std.specs.Prelude.{◌≡◌, IfOk};
-ghost use Rattle.cj_watch.specs.Numbers.{version_of};
-
-use crate::{WatchLog, Window, version_of};
-use cj_types::{
-    Event, Job, Key, Labels, Max, Meta, Object, OwnerRefs, Refusal, Seconds, SpecText, Text, Uid,
-    Version,
-};
+use crate::events::{event, tag_of};
+use cj_types::{Event, Max, Refusal, Version};
+use cj_watch::{WatchLog, Window, version_of};
 use std::alloc::Global;
 use std::test::Fail;
-
-fn meta(alloc: Global, version: u64) -> Result<Meta, Refusal>
-    ensures { IfOk result (λ m. m.version ≡ version) }
-{
-    Ok(Meta {
-        uid: Uid::new(1).ok_or(Refusal::NotFound)?,
-        version: Version::new(version),
-        generation: 1,
-        created: Seconds::new(0).ok_or(Refusal::NotFound)?,
-        labels: Labels::new(alloc),
-        annotations: Labels::new(alloc),
-    })
-}
-
-fn job(alloc: Global, name: &str, version: u64) -> Result<Job, Refusal>
-    ensures { IfOk result (λ j. j.meta.version ≡ version) }
-{
-    Ok(Job {
-        key: Key::new(alloc, "default", name)?,
-        meta: meta(alloc, version)?,
-        owners: OwnerRefs::new(alloc),
-        spec: SpecText::new(Text::new(alloc, "{}")?),
-        outcome: None,
-    })
-}
-
-// An event of one of three kinds about one of two Jobs.
-fn event(alloc: Global, tag: u8, version: u64) -> Result<Event, Refusal>
-    ensures { IfOk result (λ e. version_of e ≡ version) }
-{
-    let name = if tag < 3 { "a" } else { "b" };
-    let object = Object::Job(job(alloc, name, version)?);
-    Ok(match tag % 3 {
-        0 => Event::Added(object),
-        1 => Event::Modified(object),
-        _ => Event::Deleted(object),
-    })
-}
-
-// The tag of the event, from 0 to 5.
-fn tag_of(event: &Event) -> u8 {
-    let (kind, object) = match event {
-        Event::Added(object) => (0, object),
-        Event::Modified(object) => (1, object),
-        Event::Deleted(object) => (2, object),
-    };
-    match object {
-        Object::Job(job) if job.key.name() == "a" => kind,
-        Object::Job(_) => kind + 3,
-        Object::Cron(_) => 6,
-    }
-}
 
 // One write more, with the next version.
 fn write(alloc: Global, log: &mut WatchLog, tag: u8) -> Result<(), Refusal> {
