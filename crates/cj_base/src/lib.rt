@@ -28,6 +28,3 @@ pub use schedule_fault::{ScheduleCause, ScheduleFault};
 pub use seconds::Seconds;
 pub use text::Text;
 pub use version::Version;
-
-#[cfg(test)]
-mod tests;

@@ -15,10 +15,3 @@ pub use counting::missed;
 pub use latest::latest_in;
 pub use lower::{lower_end, window};
 pub use next::{next_after, next_counted};
-
-#[cfg(test)]
-mod tests;
-#[cfg(test)]
-mod window_tests;
-#[cfg(test)]
-mod zone_file_tests;

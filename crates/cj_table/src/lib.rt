@@ -3,8 +3,6 @@
 
 mod laws;
 mod table;
-#[cfg(test)]
-mod tests;
 
 pub use laws::table_laws;
 pub use table::Table;

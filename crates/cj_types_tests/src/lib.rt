@@ -1,5 +1,5 @@
 //! Tests of the stored types: what names are accepted, the texts of uids, versions and Jobs' names, the Job that a CronJob
-//! makes, and that copies and comparisons see each field.
+//! makes, that copies and comparisons see each field, and the table by key.
 #![tactic(auto)]
 
 #[cfg(test)]
@@ -16,5 +16,7 @@ mod made;
 mod numbers;
 #[cfg(test)]
 mod samples;
+#[cfg(test)]
+mod tables;
 #[cfg(test)]
 mod words;

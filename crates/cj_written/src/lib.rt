@@ -7,8 +7,6 @@ mod job;
 mod members;
 mod meta;
 mod object;
-#[cfg(test)]
-mod tests;
 mod written;
 
 pub use floats::has_float;

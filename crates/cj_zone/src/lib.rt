@@ -9,8 +9,6 @@ mod refused;
 mod rules;
 mod source;
 mod table;
-#[cfg(test)]
-mod tests;
 mod zone;
 mod zone_file;
 mod zone_list;

@@ -1,4 +1,4 @@
-use crate::{
+use cj_base::{
     Cause, Field, FieldFault, FieldFaults, Millis, Refusal, Same, ScheduleCause, Seconds, Text,
     TryCopy, Version,
 };

@@ -1,5 +1,5 @@
-use crate::window;
 use cj_base::{Seconds, Text, Version};
+use cj_due::window;
 use cj_types::{
     CronJob, CronKey, CronSpec, CronStatus, Deadline, HistoryLimit, JobTemplate, Labels, Meta,
     Names, Policy, SpecText, Uid,

@@ -1,5 +1,5 @@
-use crate::{Missed, latest_in, lower_end, missed, next_after, next_counted};
 use cj_base::Seconds;
+use cj_due::{Missed, latest_in, lower_end, missed, next_after, next_counted};
 use cj_schedule::Schedule;
 use cj_types::Deadline;
 use cj_zone::{ZoneTable, read_time};

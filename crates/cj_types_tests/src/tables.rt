@@ -1,4 +1,4 @@
-use crate::Table;
+use cj_table::Table;
 use cj_types::{Key, Text};
 use std::alloc::Global;
 use std::test::Fail;

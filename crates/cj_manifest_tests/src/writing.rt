@@ -1,9 +1,9 @@
-use crate::Written;
 use cj_types::{
     CronJob, CronKey, CronSpec, CronStatus, Deadline, HistoryLimit, Job, JobTemplate, Key, Labels,
     Meta, Names, Outcome, OwnerRef, OwnerRefs, Policy, Refusal, Seconds, SpecText, Text, Uid,
     Version,
 };
+use cj_written::Written;
 use std::alloc::Global;
 use std::test::Fail;
 
@@ -30,22 +30,41 @@ fn minute(count: u64) -> Option<Seconds> {
     }
 }
 
-fn meta(alloc: Global) -> Result<Meta, Fail> {
+// One label, or one annotation.
+fn one(alloc: Global, name: &str, value: &str) -> Result<Labels, Refusal> {
+    let mut labels = Labels::new(alloc);
+    labels.put(Text::new(alloc, name)?, Text::new(alloc, value)?)?;
+    Ok(labels)
+}
+
+fn meta(labels: Labels, annotations: Labels) -> Result<Meta, Fail> {
     Ok(Meta {
         uid: Uid::new(11).ok_or("no uid")?,
         version: Version::new(7),
         generation: 1,
         created: minute(0).ok_or("no time")?,
-        labels: Labels::new(alloc),
-        annotations: Labels::new(alloc),
+        labels,
+        annotations,
     })
+}
+
+fn plain_meta(alloc: Global) -> Result<Meta, Fail> {
+    meta(Labels::new(alloc), Labels::new(alloc))
 }
 
 fn spec_text(alloc: Global, text: &str) -> Result<SpecText, Refusal> {
     Ok(SpecText::new(Text::new(alloc, text)?))
 }
 
-fn spec(alloc: Global, kept: &str) -> Result<CronSpec, Refusal> {
+fn template(alloc: Global, labels: Labels, kept: &str) -> Result<JobTemplate, Refusal> {
+    Ok(JobTemplate {
+        labels,
+        annotations: Labels::new(alloc),
+        spec: spec_text(alloc, kept)?,
+    })
+}
+
+fn plain_spec(alloc: Global, kept: &str) -> Result<CronSpec, Refusal> {
     Ok(CronSpec {
         schedule: Text::new(alloc, "@hourly")?,
         time_zone: None,
@@ -54,39 +73,53 @@ fn spec(alloc: Global, kept: &str) -> Result<CronSpec, Refusal> {
         starting_deadline_seconds: None,
         successful_limit: HistoryLimit::from(3),
         failed_limit: HistoryLimit::from(1),
-        template: JobTemplate {
-            labels: Labels::new(alloc),
-            annotations: Labels::new(alloc),
-            spec: spec_text(alloc, kept)?,
-        },
+        template: template(alloc, Labels::new(alloc), kept)?,
     })
 }
 
-fn cron(alloc: Global, kept: &str) -> Result<CronJob, Fail> {
+fn full_spec(alloc: Global, template: JobTemplate) -> Result<CronSpec, Fail> {
+    Ok(CronSpec {
+        schedule: Text::new(alloc, "@hourly")?,
+        time_zone: Some(Text::new(alloc, "UTC")?),
+        policy: Policy::Replace,
+        suspend: true,
+        starting_deadline_seconds: Some(Deadline::from(9)),
+        successful_limit: HistoryLimit::new(2_147_483_647).ok_or("no limit")?,
+        failed_limit: HistoryLimit::from(0),
+        template,
+    })
+}
+
+fn plain_status(alloc: Global) -> CronStatus {
+    CronStatus {
+        active: Names::new(alloc),
+        last_schedule_time: None,
+        last_successful_time: None,
+    }
+}
+
+fn full_status(alloc: Global) -> Result<CronStatus, Refusal> {
+    let mut active = Names::new(alloc);
+    active.push(Text::new(alloc, "x")?)?;
+    Ok(CronStatus {
+        active,
+        last_schedule_time: minute(1),
+        last_successful_time: minute(2),
+    })
+}
+
+fn cron(alloc: Global, meta: Meta, spec: CronSpec, status: CronStatus) -> Result<CronJob, Fail> {
     Ok(CronJob {
         key: CronKey::new(alloc, "ns", "hello")?,
-        meta: meta(alloc)?,
-        spec: spec(alloc, kept)?,
-        status: CronStatus {
-            active: Names::new(alloc),
-            last_schedule_time: None,
-            last_successful_time: None,
-        },
+        meta,
+        spec,
+        status,
     })
 }
 
-fn job(alloc: Global, kept: &str) -> Result<Job, Fail> {
-    Ok(Job {
-        key: Key::new(alloc, "ns", "hello")?,
-        meta: meta(alloc)?,
-        owners: OwnerRefs::new(alloc),
-        spec: spec_text(alloc, kept)?,
-        outcome: Some(Outcome::Failed),
-    })
-}
-
-fn label(labels: &mut Labels, alloc: Global, name: &str, value: &str) -> Result<(), Refusal> {
-    labels.put(Text::new(alloc, name)?, Text::new(alloc, value)?)
+fn plain_cron(alloc: Global, kept: &str) -> Result<CronJob, Fail> {
+    let meta = plain_meta(alloc)?;
+    cron(alloc, meta, plain_spec(alloc, kept)?, plain_status(alloc))
 }
 
 fn owner(alloc: Global) -> Result<OwnerRef, Refusal> {
@@ -98,6 +131,32 @@ fn owner(alloc: Global) -> Result<OwnerRef, Refusal> {
         controller: true,
         block_owner_deletion: false,
     })
+}
+
+fn one_owner(alloc: Global) -> Result<OwnerRefs, Refusal> {
+    let mut owners = OwnerRefs::new(alloc);
+    owners.push(owner(alloc)?)?;
+    Ok(owners)
+}
+
+fn job(
+    alloc: Global,
+    owners: OwnerRefs,
+    spec: SpecText,
+    outcome: Option<Outcome>,
+) -> Result<Job, Fail> {
+    Ok(Job {
+        key: Key::new(alloc, "ns", "hello")?,
+        meta: plain_meta(alloc)?,
+        owners,
+        spec,
+        outcome,
+    })
+}
+
+fn failed_job(alloc: Global, kept: &str) -> Result<Job, Fail> {
+    let spec = spec_text(alloc, kept)?;
+    job(alloc, OwnerRefs::new(alloc), spec, Some(Outcome::Failed))
 }
 
 fn is_written<W: Written>(alloc: Global, object: &W, want: &str) -> bool {
@@ -113,57 +172,53 @@ fn is_syntax<W: Written>(alloc: Global, object: &W) -> bool {
     value && text
 }
 
-fn fill_spec(spec: &mut CronSpec, alloc: Global) -> Result<(), Refusal> {
-    spec.time_zone = Some(Text::new(alloc, "UTC")?);
-    spec.policy = Policy::Replace;
-    spec.suspend = true;
-    spec.starting_deadline_seconds = Some(Deadline::from(9));
-    if let Some(limit) = HistoryLimit::new(2_147_483_647) {
-        spec.successful_limit = limit;
-    }
-    spec.failed_limit = HistoryLimit::from(0);
-    label(&mut spec.template.labels, alloc, "c", "\"d")
-}
-
 #[test]
 fn writes_a_plain_cron_job(rt: HostRuntime) -> Result<(), Fail> {
-    let object = cron(rt.alloc(), KEPT)?;
+    let object = plain_cron(rt.alloc(), KEPT)?;
     assert!(rt; is_written(rt.alloc(), &object, PLAIN_CRON));
     Ok(())
 }
 
+fn full_cron(alloc: Global) -> Result<CronJob, Fail> {
+    let meta = meta(one(alloc, "a", "b")?, one(alloc, "e", "f")?)?;
+    let template = template(alloc, one(alloc, "c", "\"d")?, KEPT)?;
+    let spec = full_spec(alloc, template)?;
+    cron(alloc, meta, spec, full_status(alloc)?)
+}
+
 #[test]
 fn writes_a_full_cron_job(rt: HostRuntime) -> Result<(), Fail> {
-    let alloc = rt.alloc();
-    let mut object = cron(alloc, KEPT)?;
-    fill_spec(&mut object.spec, alloc)?;
-    label(&mut object.meta.labels, alloc, "a", "b")?;
-    label(&mut object.meta.annotations, alloc, "e", "f")?;
-    object.status.active.push(Text::new(alloc, "x")?)?;
-    object.status.last_schedule_time = minute(1);
-    object.status.last_successful_time = minute(2);
-    assert!(rt; is_written(alloc, &object, FULL_CRON));
+    let object = full_cron(rt.alloc())?;
+    assert!(rt; is_written(rt.alloc(), &object, FULL_CRON));
     Ok(())
 }
 
 #[test]
-fn writes_jobs(rt: HostRuntime) -> Result<(), Fail> {
-    let alloc = rt.alloc();
-    let failed = job(alloc, KEPT)?;
-    assert!(rt; is_written(alloc, &failed, FAILED_JOB));
-    let mut owned = job(alloc, KEPT)?;
-    owned.owners.push(owner(alloc)?)?;
-    owned.outcome = minute(1).map(Outcome::Complete);
-    assert!(rt; is_written(alloc, &owned, OWNED_JOB));
+fn writes_a_failed_job(rt: HostRuntime) -> Result<(), Fail> {
+    let object = failed_job(rt.alloc(), KEPT)?;
+    assert!(rt; is_written(rt.alloc(), &object, FAILED_JOB));
+    Ok(())
+}
+
+fn owned_job(alloc: Global) -> Result<Job, Fail> {
+    let owners = one_owner(alloc)?;
+    let spec = spec_text(alloc, KEPT)?;
+    job(alloc, owners, spec, minute(1).map(Outcome::Complete))
+}
+
+#[test]
+fn writes_a_complete_job(rt: HostRuntime) -> Result<(), Fail> {
+    let object = owned_job(rt.alloc())?;
+    assert!(rt; is_written(rt.alloc(), &object, OWNED_JOB));
     Ok(())
 }
 
 #[test]
 fn refuses_what_was_not_kept(rt: HostRuntime) -> Result<(), Fail> {
     for kept in ["", "{", "{\"a\":1.5}", "[18446744073709551616]", "-0"] {
-        let object = cron(rt.alloc(), kept)?;
+        let object = plain_cron(rt.alloc(), kept)?;
         assert!(rt; is_syntax(rt.alloc(), &object), "at {kept}");
-        let object = job(rt.alloc(), kept)?;
+        let object = failed_job(rt.alloc(), kept)?;
         assert!(rt; is_syntax(rt.alloc(), &object), "at {kept}");
     }
     Ok(())

@@ -1,5 +1,5 @@
-use crate::{ZoneTable, date_of_day, local, read_time, time_text};
 use cj_base::{Cause, Civil, Field, FieldFault, Refusal, Seconds, TryCopy};
+use cj_zone::{ZoneTable, date_of_day, local, read_time, time_text};
 use std::test::Fail;
 
 const MIDDLE_EUROPE: &str = "CET-1CEST,M3.5.0,M10.5.0/3";

@@ -1,4 +1,4 @@
-use crate::next_after;
+use cj_due::next_after;
 use cj_schedule::Schedule;
 use cj_zone::{ZoneTable, read_time};
 use std::test::Fail;
