@@ -1,0 +1,74 @@
+-- The Jobs of a list, one after another.
+use Rattle.std.proofs.Common.{◌≡◌, ◌+◌, ◌<◌, ◌∙◌, ℕ, suc, List, [], ◌∷◌, length, drop, get_or, Result, Ok, Err, refl, sym, ap, subst, inl, inr, rules, arith}
+use Rattle.std.proofs.Math.Seq.{drop-cons}
+use Rattle.std.specs.Prelude.{IfErr}
+use Rattle.std.specs.Result.{IsErrAnd}
+use Rattle.serde_json.specs.View.{items_view, view}
+use Rattle.serde_json.specs.declared.value.Value.{Value}
+use Rattle.cj_scenario.specs.declared.fault.SceneFault.{SceneFault}
+use Rattle.serde_json.specs.Data.{Data, Items, no_items, item}
+use Rattle.cj_scenario.specs.declared.given.GivenJob.{GivenJob}
+use Rattle.cj_scenario.specs.Scenes.{AddsItem, AddsItems, Refuses}
+
+-- what goes on from these Jobs is what goes on from none
+pub record Leads (ds : Items) (jobs : List GivenJob) (rest : Items) : Type 0 where
+  pub whole : (all : List GivenJob) → AddsItems jobs rest all → AddsItems [] ds all
+  pub back : (all : List GivenJob) → AddsItems [] ds all → AddsItems jobs rest all
+
+pub leads_start : (ds : Items) → Leads ds [] ds
+leads_start ds = record { whole = λ all h. h; back = λ all h. h }
+
+goes_on : (more : List GivenJob) (d : Data) (jobs : List GivenJob) (rest : Items) (all : List GivenJob)
+    → ((other : List GivenJob) → AddsItem jobs d other → other ≡ more) → AddsItems jobs (item d rest) all → AddsItems more rest all
+goes_on more d jobs rest all only (other, adds, h) = subst (λ x. AddsItems x rest all) (only other adds) h
+
+pub leads_item : (ds : Items) (jobs more : List GivenJob) (d : Data) (rest : Items) → Leads ds jobs (item d rest)
+    → AddsItem jobs d more → ((other : List GivenJob) → AddsItem jobs d other → other ≡ more) → Leads ds more rest
+leads_item ds jobs more d rest leads adds only = record {
+  whole = λ all h. leads.whole all (more, adds, h);
+  back = λ all h. goes_on more d jobs rest all only (leads.back all h);
+}
+
+pub leads_done : (ds : Items) (jobs : List GivenJob) → Leads ds jobs no_items → AddsItems [] ds jobs
+leads_done ds jobs leads = leads.whole jobs refl
+
+ends : (d : Data) (jobs : List GivenJob) (rest : Items) (all : List GivenJob)
+    → ((more : List GivenJob) → AddsItem jobs d more → ⊥) → AddsItems jobs (item d rest) all → ⊥
+ends d jobs rest all none (more, adds, h) = none more adds
+
+pub leads_nowhere : (ds : Items) (jobs : List GivenJob) (d : Data) (rest : Items) → Leads ds jobs (item d rest)
+    → ((more : List GivenJob) → AddsItem jobs d more → ⊥) → (all : List GivenJob) → AddsItems [] ds all → ⊥
+leads_nowhere ds jobs d rest leads none all h = ends d jobs rest all none (leads.back all h)
+
+-- the rest of a list from one of its places
+rest_at : (values : List Value) (i : ℕ) (x : Value) → i < length values → x ≡ get_or values i x → drop i values ≡ x ∷ drop (i + 1) values
+rest_at values i x inside at =
+    let next : suc i ≡ i + 1 = omega arith in
+    drop-cons values i x inside ∙ ap (λ y. y ∷ drop (suc i) values) (sym at) ∙ ap (λ n. x ∷ drop n values) next
+
+-- one value more of a list
+pub leads_value : (values : List Value) (i : ℕ) (x : Value) (jobs more : List GivenJob) → i < length values → x ≡ get_or values i x
+    → Leads (items_view values) jobs (items_view (drop i values)) → AddsItem jobs (view x) more
+    → ((other : List GivenJob) → AddsItem jobs (view x) other → other ≡ more) → Leads (items_view values) more (items_view (drop (i + 1) values))
+leads_value values i x jobs more inside at leads adds only =
+    leads_item (items_view values) jobs more (view x) (items_view (drop (i + 1) values))
+    (subst (λ vs. Leads (items_view values) jobs (items_view vs)) (rest_at values i x inside at) leads) adds only
+
+-- one that can't be added, of a list that is seen in another way
+pub no_value : (items values : List Value) (i : ℕ) (x : Value) (jobs : List GivenJob) → values ≡ items → i < length values → x ≡ get_or values i x
+    → Leads (items_view values) jobs (items_view (drop i values)) → ((more : List GivenJob) → AddsItem jobs (view x) more → ⊥)
+    → (all : List GivenJob) → AddsItems [] (items_view items) all → ⊥
+no_value items values i x jobs same inside at leads none all h =
+    leads_nowhere (items_view values) jobs (view x) (items_view (drop (i + 1) values))
+    (subst (λ vs. Leads (items_view values) jobs (items_view vs)) (rest_at values i x inside at) leads) none all
+    (subst (λ vs. AddsItems [] (items_view vs) all) (sym same) h)
+
+refuses_for : (r e : SceneFault) (P Q : Type 0) → (P → Q) → r ≡ e → Refuses e P → Refuses r Q
+refuses_for r e P Q f is (inl memory) = inl (is ∙ memory)
+refuses_for r e P Q f is (inr (form, p)) = inr (is ∙ form, f p)
+
+-- a refusal that is handed on, for another reason
+pub handed_on : {T : Type 0} (result : Result T SceneFault) (e : SceneFault) (P Q : Type 0) → (P → Q)
+    → IsErrAnd result (λ r. r ≡ e) → Refuses e P → IfErr result (λ r. Refuses r Q)
+handed_on (Ok x) e P Q f is h = search rules
+handed_on (Err r) e P Q f is h = refuses_for r e P Q f is h

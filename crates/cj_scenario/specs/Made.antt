@@ -1,0 +1,102 @@
+-- The objects of a scenario, and what a reading of its bytes answers.
+use Rattle.std.specs.Prelude.{◌≡◌, ℕ, ◌+◌, ◌/◌, List, [], ◌∷◌, map, codes, Option, Some, None}
+use Rattle.serde_json.specs.Data.{Data}
+use Rattle.cj_base.specs.declared.faults.FieldFault.{FieldFault}
+use Rattle.cj_types.specs.declared.cron.CronJob.{CronJob}
+use Rattle.cj_types.specs.declared.cron.CronJobDraft.{CronJobDraft}
+use Rattle.cj_types.specs.declared.job.Job.{Job}
+use Rattle.cj_types.specs.declared.meta.DraftMeta.{DraftMeta}
+use Rattle.cj_types.specs.declared.meta.Meta.{Meta}
+use Rattle.cj_types.specs.Made.{made_job}
+use Rattle.cj_zone.specs.Table.{local_zone, zones_of}
+use Rattle.cj_zone.specs.TimeText.{time_text_of}
+use Rattle.cj_zone.specs.Zones.{utc_zone}
+use Rattle.cj_manifest.specs.Drafts.{cron_draft}
+use Rattle.cj_manifest.specs.Faults.{cron_faults}
+use Rattle.cj_manifest.specs.Reading.{IsNoValue, Reads}
+use Rattle.cj_scenario.specs.declared.fault.SceneFault.{SceneFault}
+use Rattle.cj_scenario.specs.declared.fault.SceneFault.TheVariants.{Form as FormFault, Manifest, Memory, Syntax}
+use Rattle.cj_scenario.specs.declared.given.GivenJob.{GivenJob}
+use Rattle.cj_scenario.specs.declared.scene.Scene.{Scene}
+use Rattle.cj_scenario.specs.Scenes.{Form, IsForm, IsNoForm}
+
+-- ---- objects
+
+-- of a new object: the count is of its creation and of its write
+abbrev pub fresh_meta : ℕ → ℕ → DraftMeta → Meta
+fresh_meta count created draft = record {
+  uid = count;
+  version = count;
+  generation = 1;
+  created = created;
+  labels = draft.labels;
+  annotations = draft.annotations;
+}
+
+-- the CronJob that the first create of all makes of a draft, whose uid and version are dropped, with its last schedule time
+abbrev pub scene_cron : CronJobDraft → ℕ → Option ℕ → CronJob
+scene_cron draft created last = record {
+  key = draft.key;
+  meta = fresh_meta 1 created draft.meta;
+  spec = draft.spec;
+  status = record { active = []; last_schedule_time = last; last_successful_time = None };
+}
+
+-- no two Jobs have one minute, and none the CronJob's count
+abbrev pub count_of : GivenJob → ℕ
+count_of given = given.time / 60 + 2
+
+-- the Job that the CronJob makes for the time, as one that was created at that time and stands as it is said
+abbrev pub scene_job : CronJob → GivenJob → Job
+scene_job cron given =
+    let draft = made_job cron given.time (time_text_of given.time) in
+    record {
+      key = draft.key;
+      meta = fresh_meta (count_of given) given.time draft.meta;
+      owners = draft.owners;
+      spec = draft.spec;
+      outcome = given.outcome;
+    }
+
+-- ---- the answer
+
+-- a value of the form, whose manifest has no fault under UTC and the zones in it, says this
+pub record Says (d : Data) (s : Scene) : Type 0 where
+  pub form : Form
+  pub formed : IsForm d form
+  pub draft : CronJobDraft
+  pub sound : cron_faults form.zones form.manifest ≡ []
+  pub drafted : cron_draft form.manifest ≡ Some draft
+  pub zones : zones_of s.zones ≡ form.zones
+  pub local : local_zone s.zones ≡ Some (utc_zone (codes "UTC"))
+  pub cron : s.cron ≡ scene_cron draft form.created form.last
+  pub jobs : s.jobs.items ≡ map (scene_job s.cron) form.jobs
+
+-- what the bytes of a scenario say
+abbrev pub IsScene : List ℕ → Scene → Type 0
+IsScene bytes s = (d : Data) × Reads bytes d × Says d s
+
+-- the first of a manifest's faults, or there was no memory
+abbrev pub IsFirst : List FieldFault → SceneFault → Type 0
+IsFirst faults (Manifest fault) = (others : List FieldFault) × (faults ≡ fault ∷ others)
+IsFirst faults Memory = Unit {0}
+IsFirst faults other = ⊥
+
+-- a value of the form, whose manifest is at fault under UTC and the zones in it
+pub record HasFault (d : Data) (e : SceneFault) : Type 0 where
+  pub form : Form
+  pub formed : IsForm d form
+  pub first : IsFirst (cron_faults form.zones form.manifest) e
+
+-- why a value is no scenario: it has no such form; else its manifest is at fault; or there was no memory
+abbrev pub IsRefusedValue : Data → SceneFault → Type 0
+IsRefusedValue d FormFault = IsNoForm d
+IsRefusedValue d (Manifest fault) = HasFault d (Manifest fault)
+IsRefusedValue d Memory = Unit {0}
+IsRefusedValue d Syntax = ⊥
+
+-- why bytes are none: they are no JSON; else the value that they are is none; or there was no memory
+abbrev pub IsRefusedScene : List ℕ → SceneFault → Type 0
+IsRefusedScene bytes Syntax = IsNoValue bytes
+IsRefusedScene bytes Memory = Unit {0}
+IsRefusedScene bytes e = (d : Data) × Reads bytes d × IsRefusedValue d e

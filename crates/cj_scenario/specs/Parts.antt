@@ -1,0 +1,14 @@
+-- The parts of a scenario, whose manifest stands in its value, as the form that they are.
+use Rattle.serde_json.specs.View.{view}
+use Rattle.cj_zone.specs.Table.{zones_of}
+use Rattle.cj_scenario.specs.declared.form.Parts.{Parts}
+use Rattle.cj_scenario.specs.Scenes.{Form}
+
+abbrev pub form_of : Parts → Form
+form_of p = record {
+  zones = zones_of p.zones;
+  manifest = view p.manifest.now;
+  created = p.created;
+  last = p.last;
+  jobs = p.jobs.items;
+}

@@ -1,0 +1,15 @@
+//! Scenarios: a CronJob with its Jobs and zones, as a JSON text says them.
+#![tactic(auto)]
+
+mod fault;
+mod form;
+mod given;
+mod made;
+mod read;
+mod scene;
+mod times;
+mod zones;
+
+pub use fault::SceneFault;
+pub use read::read_scene;
+pub use scene::Scene;

@@ -1,0 +1,92 @@
+// Reading a scenario's bytes.
+ghost use Rattle.std.specs.Prelude.{◌≡◌, ◌⊎◌, ◌≤◌, [], ◌∷◌, IfOk, IfErr, Some, List};
+ghost use Rattle.serde_json.specs.Data.{depth};
+ghost use Rattle.serde_json.specs.Read.{max_depth};
+ghost use Rattle.serde_json.specs.View.{view};
+ghost use Rattle.cj_base.specs.declared.faults.FieldFault.{FieldFault};
+ghost use Rattle.cj_zone.specs.Table.{zones_of};
+ghost use Rattle.cj_manifest.specs.Drafts as said;
+ghost use Rattle.cj_manifest.specs.Faults as table;
+ghost use Rattle.cj_manifest.specs.Reading.{HasFaults, IsNoValue, Reads};
+ghost use Rattle.cj_scenario.specs.Made.{IsScene, IsFirst, IsRefusedScene, IsRefusedValue, Says};
+ghost use Rattle.cj_scenario.specs.declared.fault.SceneFault.TheVariants.{Memory, Syntax};
+
+use crate::fault::SceneFault;
+use crate::form::parts_of;
+use crate::made::{scene_cron, scene_jobs};
+use crate::scene::Scene;
+use cj_manifest::cron_of;
+use cj_types::{CronJobDraft, Refusal};
+use cj_zone::ZoneTable;
+use serde_json::Value;
+use std::alloc::Global;
+
+// The value that the bytes are.
+fn value_of(alloc: Global, bytes: &[u8]) -> Result<Value, SceneFault>
+    ensures reads { IfOk result (λ v. Reads bytes.now (view v)) }
+    ensures flat { IfOk result (λ v. depth (view v) ≤ max_depth) }
+    ensures refused { IfErr result (λ e. (e ≡ Memory) ⊎ ((e ≡ Syntax) × IsNoValue bytes.now)) }
+{
+    match Value::from_slice(alloc, bytes) {
+        Ok(value) => Ok(value),
+        Err(error) if error.is_memory() => Err(SceneFault::Memory),
+        Err(_) => Err(SceneFault::Syntax),
+    }
+}
+
+// The fault that a manifest's refusal is told by: its first.
+fn first_fault(refusal: &Refusal) -> SceneFault
+    ensures { (faults : List FieldFault) → HasFaults faults refusal.now → IsFirst faults result }
+{
+    match refusal {
+        Refusal::Invalid(faults) => match faults.as_slice().first() {
+            Some(fault) => SceneFault::Manifest(*fault),
+            None => SceneFault::Memory,
+        },
+        _ => SceneFault::Memory,
+    }
+}
+
+// What the manifest says under the zones.
+fn draft_of(alloc: Global, manifest: &Value, zones: &ZoneTable) -> Result<CronJobDraft, SceneFault>
+    requires flat { depth (view manifest.now) ≤ max_depth }
+    ensures sound { IfOk result (λ _. table.cron_faults (zones_of zones.now) (view manifest.now) ≡ []) }
+    ensures said { IfOk result (λ d. said.cron_draft (view manifest.now) ≡ Some d) }
+    ensures refused { IfErr result (IsFirst (table.cron_faults (zones_of zones.now) (view manifest.now))) }
+{
+    match cron_of(alloc, manifest, zones) {
+        Ok((draft, _warnings)) => Ok(draft),
+        Err(refusal) => Err(first_fault(&refusal)),
+    }
+}
+
+// What the value says.
+fn scene_of(alloc: Global, value: &Value) -> Result<Scene, SceneFault>
+    requires flat { depth (view value.now) ≤ max_depth }
+    ensures said { IfOk result (Says (view value.now)) }
+    ensures refused { IfErr result (IsRefusedValue (view value.now)) }
+{
+    let parts = parts_of(alloc, value)?;
+    let draft = draft_of(alloc, parts.manifest, &parts.zones)?;
+    let cron = scene_cron(alloc, draft, parts.created, parts.last);
+    let jobs = scene_jobs(alloc, &cron, parts.jobs.as_slice())?;
+    Ok(Scene {
+        zones: parts.zones,
+        cron,
+        jobs,
+    })
+}
+
+/// Reads a scenario for a plan: a JSON object with `manifest`, a CronJob's; `created`, the time of its creation; `last`, its last
+/// schedule time; `jobs`, a list of objects with a `time` and an `outcome`, `Running`, `Complete` or `Failed`; and `zones`, an object
+/// from names to POSIX rules. The last three may be absent; members of other names, or that are null, are ignored.
+///
+/// Refused in this order: `Syntax` for bytes that aren't JSON, `Form` for a value of another form, with a zone that is refused or two
+/// Jobs of one minute, and `Manifest` with the manifest's first fault under UTC and the zones.
+pub fn read_scene(alloc: Global, bytes: &[u8]) -> Result<Scene, SceneFault>
+    ensures read { IfOk result (IsScene bytes.now) }
+    ensures refused { IfErr result (IsRefusedScene bytes.now) }
+{
+    let value = value_of(alloc, bytes)?;
+    scene_of(alloc, &value)
+}
