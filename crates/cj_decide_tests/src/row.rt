@@ -1,0 +1,80 @@
+use cj_types::{Deadline, Policy, Refusal, Seconds};
+use cj_zone::read_time;
+use std::alloc::Global;
+
+/// A line of the table, cut into its fields.
+#[derive(Clone, Copy)]
+pub struct Row<'a> {
+    pub schedule: &'a str,
+    pub zone: &'a str,
+    pub policy: &'a str,
+    pub suspended: &'a str,
+    pub deadline: &'a str,
+    pub created: &'a str,
+    pub last: &'a str,
+    pub now: &'a str,
+    pub jobs: &'a str,
+    pub plan: &'a str,
+}
+
+pub fn row_of<'a>(alloc: Global, line: &'a str) -> Result<Row<'a>, Refusal> {
+    let parts: Vec<&str> = line.split('|').collect(alloc)?;
+    match parts.as_slice() {
+        [
+            _,
+            schedule,
+            zone,
+            policy,
+            suspended,
+            deadline,
+            created,
+            last,
+            now,
+            jobs,
+            plan,
+        ] => Ok(Row {
+            schedule,
+            zone,
+            policy,
+            suspended,
+            deadline,
+            created,
+            last,
+            now,
+            jobs,
+            plan,
+        }),
+        _ => Err(Refusal::Syntax),
+    }
+}
+
+pub fn time(text: &str) -> Result<Seconds, Refusal> {
+    read_time(text).ok_or(Refusal::Syntax)
+}
+
+pub fn maybe_time(text: &str) -> Result<Option<Seconds>, Refusal> {
+    if text.is_empty() {
+        Ok(None)
+    } else {
+        Ok(Some(time(text)?))
+    }
+}
+
+pub fn deadline(text: &str) -> Result<Option<Deadline>, Refusal> {
+    if text.is_empty() {
+        return Ok(None);
+    }
+    match text.parse::<u64>() {
+        Ok(seconds) => Ok(Deadline::new(seconds)),
+        Err(_) => Err(Refusal::Syntax),
+    }
+}
+
+pub fn policy(text: &str) -> Result<Policy, Refusal> {
+    match text {
+        "Allow" => Ok(Policy::Allow),
+        "Forbid" => Ok(Policy::Forbid),
+        "Replace" => Ok(Policy::Replace),
+        _ => Err(Refusal::Syntax),
+    }
+}
