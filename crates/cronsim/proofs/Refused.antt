@@ -1,7 +1,7 @@
 -- When words are refused.
-use Rattle.std.specs.Prelude.{IfErr, Option, ⊤}
+use Rattle.std.specs.Prelude.{IfErr, Option}
 use Rattle.std.specs.Result.{IsErrAnd}
-use Rattle.std.proofs.Common.{◌≡◌, ◌≢◌, ◌⊎◌, true, inl, inr, refl, sym, List, rules, Result, Ok, Err}
+use Rattle.std.proofs.Common.{◌≡◌, ◌≢◌, ◌⊎◌, true, inl, inr, List, rules, Result, Ok, Err}
 use Rattle.clap.specs.declared.error.Error.{Error}
 use Rattle.clap.specs.Values.{kind_of}
 use Rattle.clap.specs.Words.{App, Row, Text, subcommand_of, takes}

@@ -18,7 +18,7 @@ use Rattle.cj_zone.specs.Zones.{is_refused_name, utc_zone}
 use Rattle.cj_manifest.specs.declared.manifest.Manifest.{Manifest}
 use Rattle.cj_manifest.specs.Either.{key_of, kind_of, manifest_draft, manifest_faults, manifest_warnings}
 use Rattle.cj_manifest.specs.Reading.{IsReading, IsRefused}
-use Rattle.cronsim.specs.declared.answer.Verdict.TheVariants.{Done, Refused}
+use Rattle.cronsim.specs.declared.answer.Verdict.TheVariants.{Refused}
 use Rattle.cronsim.specs.declared.request.CheckRequest.{CheckRequest}
 use Rattle.cronsim.specs.Outcome.{Outcome, done, refusal}
 

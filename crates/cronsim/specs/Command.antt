@@ -6,8 +6,9 @@ use Rattle.clap.specs.Words.{App, Row, Rule, Text, first_of, new_app, new_rule, 
 use Rattle.clap.specs.declared.builder.value_parser.ValueParser.TheVariants.{Unsigned}
 use Rattle.cronsim.specs.declared.request.CheckRequest.{CheckRequest}
 use Rattle.cronsim.specs.declared.request.NextRequest.{NextRequest}
+use Rattle.cronsim.specs.declared.request.PlanRequest.{PlanRequest}
 use Rattle.cronsim.specs.declared.request.Request.{Request}
-use Rattle.cronsim.specs.declared.request.Request.TheVariants.{Check, Next}
+use Rattle.cronsim.specs.declared.request.Request.TheVariants.{Check, Next, Plan}
 use Rattle.cronsim.specs.declared.word_fault.WordFault.{WordFault}
 use Rattle.cronsim.specs.declared.word_fault.WordFault.TheVariants.{Incomplete, OutOfMemory, Refused}
 
@@ -39,11 +40,22 @@ file_rule = record (new_rule (codes "file")) { required = true; value_names = 1 
 abbrev pub check_app : App
 check_app = with_rule (with_rule (new_app (codes "check")) file_rule) zone_rule
 
-abbrev pub cronsim_app : App
-cronsim_app =
+abbrev pub now_rule : Rule
+now_rule = record (new_rule (codes "now")) { long = Some (codes "now"); required = true; value_names = 1 }
+
+-- `cronsim plan FILE --now TIME`
+abbrev pub plan_app : App
+plan_app = with_rule (with_rule (new_app (codes "plan")) file_rule) now_rule
+
+-- the commands on a schedule and on a manifest
+abbrev pub reading_app : App
+reading_app =
     let bare = new_app (codes "cronsim") in
     let top = record bare { top = record bare.top { has_version = true; subcommand_required = true } } in
     with_subcommand (with_subcommand top next_app.top) check_app.top
+
+abbrev pub cronsim_app : App
+cronsim_app = with_subcommand reading_app plan_app.top
 
 -- the text is decimal digits, after a plus or none, that spell the number
 abbrev pub IsDecimal : Text → ℕ → Type 0
@@ -63,10 +75,16 @@ pub record IsCheck (rows : List Row) (r : CheckRequest) : Type 0 where
   pub file : first_of (codes "file") rows ≡ Some r.file.now
   pub zone : first_of (codes "zone") rows ≡ option_map (λ s. s.now) r.zone
 
+-- and for those of `plan`
+pub record IsPlan (rows : List Row) (r : PlanRequest) : Type 0 where
+  pub file : first_of (codes "file") rows ≡ Some r.file.now
+  pub moment : first_of (codes "now") rows ≡ Some r.moment.now
+
 -- the request is of the subcommand with that name, and has the values of its arguments
 abbrev pub IsOfRows : Option (Text × List Row) → Request → Type 0
 IsOfRows found (Next r) = (rows : List Row) × (found ≡ Some (codes "next", rows)) × IsNext rows r
 IsOfRows found (Check r) = (rows : List Row) × (found ≡ Some (codes "check", rows)) × IsCheck rows r
+IsOfRows found (Plan r) = (rows : List Row) × (found ≡ Some (codes "plan", rows)) × IsPlan rows r
 
 -- the request is of the subcommand that `clap` states for the words, with the values that it states
 abbrev pub IsOf : List Text → Request → Type 0

@@ -1,5 +1,5 @@
 -- What the program answers to a request.
-use Rattle.std.specs.Prelude.{◌≡◌, ◌≢◌, ◌⊎◌, ℕ, ◌≤◌, List, [], ◌∷◌, ◌++◌, Option, None, Some, IsNone, codes, decimal, string_bytes}
+use Rattle.std.specs.Prelude.{◌≡◌, ◌≢◌, ◌⊎◌, ℕ, ◌≤◌, List, [], ◌++◌, Option, None, Some, IsNone, codes, decimal, string_bytes}
 use Rattle.std.specs.Borrow.{Bor}
 use Rattle.jiff.specs.Words.{read_whole}
 use Rattle.cj_base.specs.Instant.{last_second}

@@ -1,7 +1,7 @@
 ghost use Rattle.std.specs.Prelude.{◌≡◌, IfOk, false};
 ghost use Rattle.clap.specs.Words.{app_of, rule_of};
 ghost use Rattle.clap.specs.declared.builder.command.Command.TheViews.{out-Command};
-ghost use Rattle.cronsim.specs.Command.{after_rule, check_app, count_rule, cronsim_app, file_rule, next_app, schedule_rule, zone_rule};
+ghost use Rattle.cronsim.specs.Command.{after_rule, check_app, count_rule, cronsim_app, file_rule, next_app, now_rule, plan_app, reading_app, schedule_rule, zone_rule};
 
 use clap::builder::ValueParser;
 use clap::{Arg, Command};
@@ -95,9 +95,41 @@ fn check_command<'a>(alloc: Global) -> Result<Command<'a>, AllocError>
     Ok(command)
 }
 
-/// The program's command line.
-pub fn cronsim_command<'a>(alloc: Global) -> Result<Command<'a>, AllocError>
-    ensures { IfOk result (λ c. app_of c ≡ cronsim_app) }
+fn scenario_arg<'a>(alloc: Global) -> Arg<'a>
+    ensures rule { rule_of result ≡ file_rule }
+    ensures local { result.global ≡ false }
+{
+    Arg::new(alloc, "file")
+        .required(true)
+        .value_name("FILE")
+        .help("File with a scenario in JSON: a CronJob, its Jobs and zones; - is standard input")
+}
+
+fn now_arg<'a>(alloc: Global) -> Arg<'a>
+    ensures rule { rule_of result ≡ now_rule }
+    ensures local { result.global ≡ false }
+{
+    Arg::new(alloc, "now")
+        .long("now")
+        .required(true)
+        .value_name("TIME")
+        .help("The moment that the plan is for: a UTC time, as 2024-01-01T00:00:00Z")
+}
+
+fn plan_command<'a>(alloc: Global) -> Result<Command<'a>, AllocError>
+    ensures app { IfOk result (λ c. app_of c ≡ plan_app) }
+    ensures local { IfOk result (λ c. (out-Command c).has_globals ≡ false) }
+{
+    let command = Command::new(alloc, "plan")
+        .about("Print what the next sync of a CronJob does")
+        .arg(scenario_arg(alloc))?
+        .arg(now_arg(alloc))?;
+    Ok(command)
+}
+
+// The commands on a schedule and on a manifest.
+fn reading_command<'a>(alloc: Global) -> Result<Command<'a>, AllocError>
+    ensures { IfOk result (λ c. app_of c ≡ reading_app) }
 {
     let next = next_command(alloc)?;
     let check = check_command(alloc)?;
@@ -107,5 +139,14 @@ pub fn cronsim_command<'a>(alloc: Global) -> Result<Command<'a>, AllocError>
         .subcommand_required(true)
         .subcommand(next)?
         .subcommand(check)?;
+    Ok(command)
+}
+
+/// The program's command line.
+pub fn cronsim_command<'a>(alloc: Global) -> Result<Command<'a>, AllocError>
+    ensures { IfOk result (λ c. app_of c ≡ cronsim_app) }
+{
+    let plan = plan_command(alloc)?;
+    let command = reading_command(alloc)?.subcommand(plan)?;
     Ok(command)
 }

@@ -32,7 +32,8 @@ fn print_cause(alloc: Global, cause: Cause) -> Result<String, AllocError>
     String::from_str(alloc, word)
 }
 
-fn print_fault(alloc: Global, fault: FieldFault) -> Result<String, AllocError>
+/// A fault, on a line of its own.
+pub fn print_fault(alloc: Global, fault: FieldFault) -> Result<String, AllocError>
     ensures { IfOk result (λ s. string_bytes s ≡ fault_line fault) }
 {
     let FieldFault { field, cause } = fault;

@@ -9,6 +9,8 @@ mod input;
 mod lines;
 mod next;
 mod next_text;
+mod plan;
+mod plan_text;
 mod request;
 mod serve;
 mod source;
@@ -61,5 +63,7 @@ fn main(rt: HostRuntime) -> ExitCode {
 
 #[cfg(test)]
 mod check_tests;
+#[cfg(test)]
+mod plan_tests;
 #[cfg(test)]
 mod tests;

@@ -5,6 +5,8 @@ pub enum Request<'a> {
     Next(NextRequest<'a>),
     /// What a manifest says, or every fault in it.
     Check(CheckRequest<'a>),
+    /// What the next sync of a scenario's CronJob does.
+    Plan(PlanRequest<'a>),
 }
 
 impl<'a> Request<'a> {
@@ -13,6 +15,7 @@ impl<'a> Request<'a> {
         match self {
             Request::Next(_) => None,
             Request::Check(check) => Some(check.file),
+            Request::Plan(plan) => Some(plan.file),
         }
     }
 }
@@ -37,4 +40,13 @@ pub struct CheckRequest<'a> {
     pub file: &'a str,
     /// A zone that the manifest may name, as NAME=RULE with a POSIX rule.
     pub zone: Option<&'a str>,
+}
+
+/// The words of the command `plan`, as they were given.
+#[derive(Debug, Drop)]
+pub struct PlanRequest<'a> {
+    /// The name of the file with the scenario; `-` is standard input.
+    pub file: &'a str,
+    /// The moment that the plan is for: a printed time.
+    pub moment: &'a str,
 }

@@ -7,6 +7,7 @@ use crate::answer::{Answer, Verdict};
 use crate::check::check_answer;
 use crate::failure::Failure;
 use crate::next::next_answer;
+use crate::plan::plan_answer;
 use crate::request::Request;
 use std::alloc::Global;
 use std::io::{Read, Write};
@@ -21,6 +22,7 @@ fn answer_to<R: Read>(
     match request {
         Request::Next(next) => next_answer(alloc, next),
         Request::Check(check) => check_answer(alloc, check, input),
+        Request::Plan(plan) => plan_answer(alloc, plan, input),
     }
 }
 

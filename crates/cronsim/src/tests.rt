@@ -203,7 +203,7 @@ fn refusals_in_their_order(rt: HostRuntime) -> Result<(), Fail> {
 }
 
 // Words, with a bar between them, and the exit status that `clap` gives with its text.
-const WRONG_WORDS: [(&str, i32); 15] = [
+const WRONG_WORDS: [(&str, i32); 17] = [
     ("cronsim", 2),
     ("cronsim|nxet", 2),
     ("cronsim|next", 2),
@@ -215,6 +215,8 @@ const WRONG_WORDS: [(&str, i32); 15] = [
     ("cronsim|next|* * * * *|more|--after|T", 2),
     ("cronsim|check", 2),
     ("cronsim|check|one|two", 2),
+    ("cronsim|plan|one", 2),
+    ("cronsim|plan|--now|T", 2),
     ("cronsim|check|--help", 0),
     ("cronsim|--help", 0),
     ("cronsim|next|--help", 0),
@@ -253,7 +255,7 @@ fn words_are_kept_as_given(rt: HostRuntime) -> Result<(), Fail> {
             assert_eq!(rt; next.count, 1_000);
             assert!(rt; next.zone == Some("UTC0"));
         }
-        Request::Check(_) => assert!(rt; false),
+        _ => assert!(rt; false),
     }
     Ok(())
 }

@@ -1,13 +1,14 @@
 ghost use Rattle.std.specs.Prelude.{◌≡◌, ℕ, ◌≤◌, map, option_map, IfOk, IfErr, IfSome, None, Some};
 ghost use Rattle.clap.specs.Words.{first_of, found_of, rows_of, subcommand_rows_of};
-ghost use Rattle.cronsim.specs.Command.{IsCheck, IsDecimal, IsNext, IsOf, IsOfRows, RefusesWords};
+ghost use Rattle.cronsim.specs.Command.{IsCheck, IsDecimal, IsNext, IsOf, IsOfRows, IsPlan, RefusesWords};
 ghost use Rattle.cronsim.specs.declared.request.CheckRequest.{CheckRequest};
 ghost use Rattle.cronsim.specs.declared.request.NextRequest.{NextRequest};
+ghost use Rattle.cronsim.specs.declared.request.PlanRequest.{PlanRequest};
 ghost use Rattle.cronsim.specs.declared.request.Request.{Request};
 ghost use Rattle.cronsim.specs.declared.word_fault.WordFault.TheVariants.{Incomplete};
 
 use crate::command::cronsim_command;
-use crate::request::{CheckRequest, NextRequest, Request};
+use crate::request::{CheckRequest, NextRequest, PlanRequest, Request};
 use crate::word_fault::WordFault;
 use clap::ArgMatches;
 use std::alloc::Global;
@@ -71,6 +72,18 @@ fn check_request<'a>(found: &ArgMatches<'a>) -> Result<CheckRequest<'a>, WordFau
     Ok(CheckRequest { file, zone })
 }
 
+fn plan_request<'a>(found: &ArgMatches<'a>) -> Result<PlanRequest<'a>, WordFault>
+    ensures stated { IfOk result (IsPlan (rows_of (found_of found.now))) }
+    ensures refused { IfErr result (λ e. e ≡ Incomplete) }
+    ensures only { IfErr result (λ _. (r : PlanRequest) → ¬ (IsPlan (rows_of (found_of found.now)) r)) }
+{
+    let moment = text(found, "now")?;
+    Ok(PlanRequest {
+        file: text(found, "file")?,
+        moment,
+    })
+}
+
 fn request_of<'a>(matches: &ArgMatches<'a>) -> Result<Request<'a>, WordFault>
     ensures stated { IfOk result (IsOfRows (subcommand_rows_of matches.now)) }
     ensures refused { IfErr result (λ e. e ≡ Incomplete) }
@@ -78,6 +91,7 @@ fn request_of<'a>(matches: &ArgMatches<'a>) -> Result<Request<'a>, WordFault>
 {
     match matches.subcommand() {
         Some(("next", found)) => Ok(Request::Next(next_request(found)?)),
+        Some(("plan", found)) => Ok(Request::Plan(plan_request(found)?)),
         Some(("check", found)) => Ok(Request::Check(check_request(found)?)),
         _ => Err(WordFault::Incomplete),
     }

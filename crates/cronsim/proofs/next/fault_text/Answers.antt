@@ -1,4 +1,4 @@
-use Rattle.std.proofs.Common.{◌∙◌, ap, refl}
+use Rattle.std.proofs.Common.{◌∙◌, refl}
 use Rattle.std.proofs.lemmas.Result.{IfOk-weaker}
 use Rattle.cronsim.proofs.next.fault_text.Goals as goal
 

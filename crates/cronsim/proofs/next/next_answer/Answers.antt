@@ -1,4 +1,4 @@
-use Rattle.std.proofs.Common.{◌∙◌, ap, refl, inl, inr, string_bytes}
+use Rattle.std.proofs.Common.{refl, inr, string_bytes}
 use Rattle.cronsim.proofs.next.next_answer.Goals as goal
 
 pub returns : goal.returns

@@ -1,4 +1,4 @@
-use Rattle.std.proofs.Common.{◌≡◌, ◌∙◌, sym, ap, refl, subst, List, ℕ, [], ◌∷◌, ◌++◌, Some, codes}
+use Rattle.std.proofs.Common.{◌≡◌, ◌∙◌, ap, refl, subst, [], ◌∷◌, ◌++◌, Some, codes}
 use Rattle.cj_zone.specs.declared.zone.Zone.{Zone}
 use Rattle.cj_zone.specs.Made.{IsRuleClock}
 use Rattle.cj_zone.specs.Zones.{utc_zone, zone_named}

@@ -1,6 +1,5 @@
-use Rattle.std.proofs.Common.{suc, ◌<◌, ap, ◌∙◌, refl, sym, arith, subst, List, ℕ, ◌≡◌, ◌++◌, ◌-◌, ◌+◌, codes}
-use Rattle.cronsim.specs.NextText.{IsNextText, line_of}
-use Rattle.cronsim.proofs.NextLemmas.{Continues, continues_line, continues_none, continues_done}
+use Rattle.std.proofs.Common.{suc, ◌<◌, refl, arith, ℕ, ◌≡◌, ◌-◌, ◌+◌}
+use Rattle.cronsim.proofs.NextLemmas.{continues_line, continues_none, continues_done}
 use Rattle.cronsim.proofs.next_text.next_text.Goals as goal
 
 -- so many lines to come are one and the rest

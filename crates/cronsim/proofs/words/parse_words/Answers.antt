@@ -1,6 +1,5 @@
-use Rattle.std.proofs.Common.{◌≡◌, map, refl, true, rules}
-use Rattle.clap.specs.Words.{is_simple, subcommand_of, subcommand_rows_of, takes}
-use Rattle.cronsim.specs.Command.{cronsim_app}
+use Rattle.std.proofs.Common.{map, rules}
+use Rattle.clap.specs.Words.{subcommand_rows_of}
 use Rattle.cronsim.proofs.words.parse_words.Goals as goal
 use Rattle.cronsim.proofs.Refused.{by_clap, by_values}
 
