@@ -42,6 +42,10 @@ impl Warning {
 }
 
 impl fmt::Display for Warning {
+    ghost use Rattle.std.specs.Prelude.{Some};
+
+    ghost output = { λ w. Some w };
+
     fn fmt<W: fmt::Write>(&self, f: &mut fmt::Formatter<W>) -> fmt::Result {
         write!(f, "{}", self.path())
     }
