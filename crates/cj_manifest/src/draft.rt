@@ -107,7 +107,7 @@ fn kept(alloc: Global, value: &Value) -> Result<SpecText, Refusal>
     ensures err { IfErr result (λ e. e ≡ OutOfMemory) }
 {
     let text = value.to_string(alloc)?;
-    Ok(SpecText::new(Text::new(alloc, text.as_str())?))
+    Ok(SpecText::new(Text::from_string(text)))
 }
 
 fn template_labels(alloc: Global, metadata: Option<&Value>) -> Result<Labels, Refusal>

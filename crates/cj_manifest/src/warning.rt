@@ -26,10 +26,11 @@ impl Warning {
         ensures ok { IfOk result (λ w. w ≡ prefix.now ++ key.now) }
         ensures err { IfErr result (λ e. e ≡ OutOfMemory) }
     {
-        let mut path = String::from_str(alloc, prefix)?;
+        let mut path = String::with_capacity(alloc, prefix.len() + key.len())?;
+        path.push_str(prefix)?;
         path.push_str(key)?;
         Ok(Warning {
-            path: Text::new(alloc, path.as_str())?,
+            path: Text::from_string(path),
         })
     }
 

@@ -9,8 +9,9 @@ ghost use Rattle.cj_types.specs.Names.{longest};
 ghost use Rattle.cj_types.specs.Keys.{place, is_place, place_cmp, new_key, key_faults};
 ghost use Rattle.cj_base.specs.declared.refusal.Refusal.TheVariants.{OutOfMemory};
 
+use crate::text_pair::TextPair;
 use crate::{name_cause, namespace_cause};
-use cj_base::{Field, FieldFault, FieldFaults, Refusal, Same, Text, TryCopy};
+use cj_base::{Field, FieldFault, FieldFaults, Refusal, Same, TryCopy};
 use std::alloc::Global;
 use std::cmp::Ordering;
 use std::hash::{Hash, Hasher};
@@ -21,8 +22,8 @@ use std::marker::Model;
 /// Keys are ordered by the bytes of the namespace, then of the name. Contracts see the two texts.
 #[derive(Debug, Drop)]
 pub struct Key {
-    namespace: Text,
-    name: Text,
+    // The namespace, then the name.
+    texts: TextPair,
 }
 
 impl Model for Key {
@@ -34,9 +35,9 @@ impl Model for Key {
 
     ghost coded = { coded_place };
 
-    ghost view = { λ k. place k.namespace k.name };
+    ghost view = { λ k. place k.texts.0 k.texts.1 };
 
-    ghost invariant = { λ k. IsTrue (is_place longest (place k.namespace k.name)) };
+    ghost invariant = { λ k. IsTrue (is_place longest (place k.texts.0 k.texts.1)) };
 }
 
 // The faults of a namespace and of a name of at most `limit` characters.
@@ -72,25 +73,24 @@ impl Key {
         if !faults.as_slice().is_empty() {
             return Err(Refusal::Invalid(faults));
         }
-        Ok(Key {
-            namespace: Text::new(alloc, namespace)?,
-            name: Text::new(alloc, name)?,
-        })
+        Key::well_formed(alloc, namespace, name)
     }
 
     // The key of two texts that are known to be well formed.
-    pub(crate) fn well_formed(namespace: Text, name: Text) -> Key
-        requires { IsTrue (is_place longest (place namespace name)) }
-        ensures { result ≡ place namespace name }
+    pub(crate) fn well_formed(alloc: Global, namespace: &str, name: &str) -> Result<Key, Refusal>
+        requires { IsTrue (is_place longest (place namespace.now name.now)) }
+        ensures ok { IfOk result (λ k. k ≡ place namespace.now name.now) }
+        ensures err { IfErr result (λ e. e ≡ OutOfMemory) }
     {
-        Key { namespace, name }
+        let texts = TextPair::new(alloc, namespace, name)?;
+        Ok(Key { texts })
     }
 
     /// The namespace.
     pub fn namespace(&self) -> &str
         ensures { result.now ≡ self.now.namespace }
     {
-        self.namespace.as_str()
+        self.texts.parts().0
     }
 
     /// The name.
@@ -98,24 +98,22 @@ impl Key {
         ensures value { result.now ≡ self.now.name }
         ensures well_formed { IsTrue (is_place longest self.now) }
     {
-        self.name.as_str()
+        self.texts.parts().1
     }
 }
 
 impl TryCopy for Key {
     fn try_copy(&self, alloc: Global) -> Result<Key, Refusal> {
-        Ok(Key {
-            namespace: self.namespace.try_copy(alloc)?,
-            name: self.name.try_copy(alloc)?,
-        })
+        let texts = self.texts.try_copy(alloc)?;
+        Ok(Key { texts })
     }
 }
 
 impl Same for Key {
     fn same(&self, other: &Key) -> bool {
-        let namespace = self.namespace.same(&other.namespace);
-        let name = self.name.same(&other.name);
-        namespace && name
+        let (namespace, name) = self.texts.parts();
+        let (other_namespace, other_name) = other.texts.parts();
+        namespace == other_namespace && name == other_name
     }
 }
 
@@ -125,8 +123,7 @@ impl PartialEq for Key {
     ghost laws = { Prim.search (comparing, rules) };
 
     fn eq(&self, other: &Key) -> bool {
-        self.namespace.as_str() == other.namespace.as_str()
-            && self.name.as_str() == other.name.as_str()
+        self.same(other)
     }
 }
 
@@ -144,10 +141,9 @@ impl Ord for Key {
     ghost matches_eq = { Prim.search (comparing, rules) };
 
     fn cmp(&self, other: &Key) -> Ordering {
-        self.namespace
-            .as_str()
-            .cmp(other.namespace.as_str())
-            .then(self.name.as_str().cmp(other.name.as_str()))
+        let (namespace, name) = self.texts.parts();
+        let (other_namespace, other_name) = other.texts.parts();
+        namespace.cmp(other_namespace).then(name.cmp(other_name))
     }
 }
 
@@ -167,7 +163,8 @@ impl Hash for Key {
     ghost respects_eq = { Prim.search (hashing, rules) };
 
     fn hash<H: Hasher>(&self, state: &mut H) {
-        self.namespace.as_str().hash(state);
-        self.name.as_str().hash(state);
+        let (namespace, name) = self.texts.parts();
+        namespace.hash(state);
+        name.hash(state);
     }
 }

@@ -16,6 +16,7 @@ mod names;
 mod owners;
 mod policy;
 mod spec_text;
+mod text_pair;
 mod uid;
 mod versions;
 

@@ -14,8 +14,7 @@ fn job_name(alloc: Global, cron: &str, time: Seconds) -> Result<Text, Refusal>
     ensures err { IfErr result (λ e. e ≡ OutOfMemory) }
 {
     let minute = time.get() / 60;
-    let name = format!(in alloc; "{cron}-{minute}")?;
-    Text::new(alloc, name.as_str())
+    Ok(Text::from_string(format!(in alloc; "{cron}-{minute}")?))
 }
 
 impl CronKey {
@@ -25,9 +24,8 @@ impl CronKey {
         ensures ok { IfOk result (λ k. k ≡ made_place self.now time) }
         ensures err { IfErr result (λ e. e ≡ OutOfMemory) }
     {
-        let namespace = Text::new(alloc, self.key().namespace())?;
         let name = job_name(alloc, self.key().name(), time)?;
-        Ok(Key::well_formed(namespace, name))
+        Key::well_formed(alloc, self.key().namespace(), name.as_str())
     }
 }
 

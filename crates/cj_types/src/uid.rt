@@ -55,7 +55,7 @@ impl Uid {
     {
         let mut text = String::from_str(alloc, "00000000-0000-0000-0000-")?;
         push_digits(&mut text, 12, self.get())?;
-        Text::new(alloc, text.as_str())
+        Ok(Text::from_string(text))
     }
 }
 

@@ -11,6 +11,5 @@ pub fn version_text(alloc: Global, version: Version) -> Result<Text, Refusal>
     ensures err { IfErr result (λ e. e ≡ OutOfMemory) }
 {
     let count = version.get();
-    let text = format!(in alloc; "{count}")?;
-    Text::new(alloc, text.as_str())
+    Ok(Text::from_string(format!(in alloc; "{count}")?))
 }
