@@ -2,6 +2,7 @@
 use Rattle.std.proofs.Common.{◌≡◌, ◌-◌, Bool, true, false, not, ◌&&◌, ◌||◌, List, [], ◌∷◌, ◌++◌, length, reverse, slice_get, Some, refl, sym, ap, ◌∙◌, subst, arith, length-append}
 use Rattle.std.proofs.lemmas.List.{reverse-append, reverse-reverse}
 use Rattle.std.proofs.lemmas.List.Folds.{list_any-append}
+use Rattle.std.proofs.lemmas.List.Sorted.{list_any-IsPermutation, IsPermutation-reverse}
 use Rattle.cj_types.specs.Keys.{Place}
 use Rattle.cj_queue.specs.Queue.{first}
 use Rattle.cj_queue.specs.Parts.{key_eq, stands_in, are_distinct}
@@ -90,3 +91,16 @@ behind k q ks out there = by (key_eq k q) refl
     by : (b : Bool) → key_eq k q ≡ b → key_eq k q ≡ false
     by true e = absurd (true_or_false (stands_in ks q) there (subst (λ j. stands_in ks j ≡ false) (eq_true k q e) out))
     by false e = e
+
+-- ---- a look-up
+
+or_turned : (a b : Bool) → (a || b) ≡ (b || a)
+or_turned true true = refl
+or_turned true false = refl
+or_turned false true = refl
+or_turned false false = refl
+
+pub in_line : (f b : List Place) (k : Place) → stands_in (reverse f ++ b) k ≡ (stands_in f k || stands_in b k)
+in_line f b k =
+    list_any-append (key_eq k) (reverse f) b
+    ∙ ap (λ t. t || stands_in b k) (sym (list_any-IsPermutation (key_eq k) f (reverse f) (IsPermutation-reverse f)))

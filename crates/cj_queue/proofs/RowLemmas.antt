@@ -1,15 +1,17 @@
--- What a change of the three lists makes of the row.
+-- What a change of the line and the two sets makes of the row.
 use Rattle.std.proofs.Common.{◌≡◌, Bool, true, false, cond, ◌||◌, List, [], ◌∷◌, ◌++◌, drop, Some, refl, sym, ap, ◌∙◌, subst}
 use Rattle.std.specs.FinMap as map
+use Rattle.std.specs.List.{find}
 use Rattle.std.proofs.lemmas.List.Folds.{list_any-append}
 use Rattle.cj_types.specs.Keys.{Place}
 use Rattle.cj_queue.specs.Queue.{Row, row_add, row_end, row_take, first, has}
 use Rattle.cj_queue.specs.Parts.{key_eq, keys_of, stands_in, IsLined}
-use Rattle.cj_queue.proofs.Sets.{has_keys, keys_put, keys_cut, eq_true, eq_self}
+use Rattle.cj_queue.proofs.Sets.{has_keys, keys_put, keys_cut, same_keys, at_equal, eq_true, eq_self, eq_turned}
 use Rattle.cj_queue.proofs.LineLemmas.{head_once, tail_once, push_once, behind}
 
+-- the row of a line, of the keys that were added again and of those that are being worked on
 abbrev pub row : List Place → List Place → List Place → Row
-row l d p = record { line = l; dirty = keys_of d; processing = keys_of p }
+row l a p = record { line = l; dirty = keys_of (l ++ a); processing = keys_of p }
 
 -- new has k, or lacks it, and else what old has
 abbrev pub Sets : List Place → List Place → Place → Bool → Type 0
@@ -23,115 +25,215 @@ on : {A : Type 0} (b : Bool) (x y : A) → b ≡ true → cond b x y ≡ x
 on true x y e = refl
 on false x y e = absurd (cc e)
 
-false_by : (a b : Bool) → (a ≡ true → b ≡ true) → b ≡ false → a ≡ false
-false_by true b f e = absurd (cc (f refl, e))
-false_by false b f e = refl
+-- what implies a test that fails, fails
+not_there : (a b : Bool) → (a ≡ true → b ≡ false) → b ≡ true → a ≡ false
+not_there true b f e = absurd (cc (f refl, e))
+not_there false b f e = refl
 
-held_out : (a b : Bool) → (a ≡ true → b ≡ false) → b ≡ true → a ≡ false
-held_out true b f e = absurd (cc (f refl, e))
-held_out false b f e = refl
+not_held : (a b : Bool) → (a ≡ true → b ≡ true) → b ≡ false → a ≡ false
+not_held true b f e = absurd (cc (f refl, e))
+not_held false b f e = refl
 
--- a key that is not dirty, or is being worked on, does not stand in the line
-pub clean_out : (l d p : List Place) (k : Place) → IsLined l d p → stands_in d k ≡ false → stands_in l k ≡ false
-clean_out l d p k lined clean = false_by (stands_in l k) (stands_in d k) (λ t. (lined.free k t).0) clean
+none_of : (a b : Bool) → a ≡ false → b ≡ false → (a || b) ≡ false
+none_of true b e f = absurd (cc e)
+none_of false b e f = f
 
-pub held_out_of : (l d p : List Place) (k : Place) → IsLined l d p → stands_in p k ≡ true → stands_in l k ≡ false
-held_out_of l d p k lined held = held_out (stands_in l k) (stands_in p k) (λ t. (lined.free k t).1) held
+one_of : (a b : Bool) → b ≡ true → (a || b) ≡ true
+one_of true b e = refl
+one_of false b e = e
+
+pub out_of_line : (l a p : List Place) (k : Place) → IsLined l a p → stands_in p k ≡ true → stands_in l k ≡ false
+out_of_line l a p k lined held = not_there (stands_in l k) (stands_in p k) (lined.free k) held
+
+not_again : (l a p : List Place) (k : Place) → IsLined l a p → stands_in p k ≡ false → stands_in a k ≡ false
+not_again l a p k lined free = not_held (stands_in a k) (stands_in p k) (lined.held k) free
+
+neither : (l a : List Place) (k : Place) → stands_in l k ≡ false → stands_in a k ≡ false → stands_in (l ++ a) k ≡ false
+neither l a k e f = list_any-append (key_eq k) l a ∙ none_of (stands_in l k) (stands_in a k) e f
 
 -- ---- an add
 
-pub add_dirty : (l d p : List Place) (k : Place) → stands_in d k ≡ true → row_add (row l d p) k ≡ row l d p
-add_dirty l d p k e = on (has (keys_of d) k) _ _ (has_keys d k ∙ e)
+there : (s : List Place) (k : Place) → stands_in s k ≡ true → Sets s s k true
+there s k e q = by (key_eq k q) refl
+  where
+    by : (b : Bool) → key_eq k q ≡ b → stands_in s q ≡ cond b true (stands_in s q)
+    by true t = at_equal (stands_in s) k q true e t
+    by false t = refl
 
-pub add_held : (l d e p : List Place) (k : Place) → stands_in d k ≡ false → stands_in p k ≡ true → Sets d e k true → row_add (row l d p) k ≡ row l e p
-add_held l d e p k clean held sets =
-    off (has (keys_of d) k) _ _ (has_keys d k ∙ clean)
-    ∙ (λ i. record { line = on (has (keys_of p) k) l (l ++ k ∷ []) (has_keys p k ∙ held) i; dirty = sym (keys_put d e k sets) i; processing = keys_of p })
+or_cond : (x t y : Bool) → (x || cond t true y) ≡ cond t true (x || y)
+or_cond true true y = refl
+or_cond true false y = refl
+or_cond false t y = refl
 
-pub add_new : (l m d e p : List Place) (k : Place) → stands_in d k ≡ false → stands_in p k ≡ false → m ≡ l ++ k ∷ [] → Sets d e k true → row_add (row l d p) k ≡ row m e p
-add_new l m d e p k clean free last sets =
-    off (has (keys_of d) k) _ _ (has_keys d k ∙ clean)
-    ∙ (λ i. record { line = (off (has (keys_of p) k) l (l ++ k ∷ []) (has_keys p k ∙ free) ∙ sym last) i; dirty = sym (keys_put d e k sets) i; processing = keys_of p })
+put_behind : (l a b : List Place) (k : Place) → Sets a b k true → Sets (l ++ a) (l ++ b) k true
+put_behind l a b k sets q =
+    list_any-append (key_eq q) l b ∙ ap (λ t. stands_in l q || t) (sets q) ∙ or_cond (stands_in l q) (key_eq k q) (stands_in a q)
+    ∙ ap (cond (key_eq k q) true) (sym (list_any-append (key_eq q) l a))
 
-put_still : (t b : Bool) → b ≡ true → cond t true b ≡ true
-put_still true b e = refl
-put_still false b e = e
+-- a key that stands in the line
+pub add_dirty : (l a p : List Place) (k : Place) → stands_in (l ++ a) k ≡ true → row_add (row l a p) k ≡ row l a p
+add_dirty l a p k e = on (has (keys_of (l ++ a)) k) _ _ (has_keys (l ++ a) k ∙ e)
 
--- more keys are dirty
-pub lined_put : (l d e p : List Place) (k : Place) → IsLined l d p → Sets d e k true → IsLined l e p
-lined_put l d e p k lined sets = record {
-  free = λ q t. (sets q ∙ put_still (key_eq k q) (stands_in d q) (lined.free q t).0, (lined.free q t).1);
+pub add_lined : (l a p : List Place) (k : Place) → stands_in l k ≡ true → row_add (row l a p) k ≡ row l a p
+add_lined l a p k e = add_dirty l a p k (list_any-append (key_eq k) l a ∙ ap (λ t. t || stands_in a k) e)
+
+-- one that is being worked on
+pub add_held : (l a b p : List Place) (k : Place) → stands_in p k ≡ true → Sets a b k true → row_add (row l a p) k ≡ row l b p
+add_held l a b p k held sets = by (stands_in (l ++ a) k) refl
+  where
+    put : keys_of (l ++ b) ≡ map.insert (keys_of (l ++ a)) k tt
+    put = keys_put (l ++ a) (l ++ b) k (put_behind l a b k sets)
+
+    by : (t : Bool) → stands_in (l ++ a) k ≡ t → row_add (row l a p) k ≡ row l b p
+    by true e =
+        add_dirty l a p k e
+        ∙ λ i. record { line = l; dirty = (keys_put (l ++ a) (l ++ a) k (there (l ++ a) k e) ∙ sym put) i; processing = keys_of p }
+    by false e =
+        off (has (keys_of (l ++ a)) k) _ _ (has_keys (l ++ a) k ∙ e)
+        ∙ λ i. record { line = on (has (keys_of p) k) l (l ++ k ∷ []) (has_keys p k ∙ held) i; dirty = sym put i; processing = keys_of p }
+
+pub lined_put : (l a b p : List Place) (k : Place) → IsLined l a p → stands_in p k ≡ true → Sets a b k true → IsLined l b p
+lined_put l a b p k lined held sets = record {
+  free = lined.free;
+  held = λ q t. by q (key_eq k q) refl (sym (sets q) ∙ t);
   once = lined.once;
 }
+  where
+    by : (q : Place) (b : Bool) → key_eq k q ≡ b → cond b true (stands_in a q) ≡ true → stands_in p q ≡ true
+    by q true e t = at_equal (stands_in p) k q true held e
+    by q false e t = lined.held q t
+
+-- one that is neither dirty nor being worked on
+last_put : (x t y : Bool) → ((x || (t || false)) || y) ≡ cond t true (x || y)
+last_put true true y = refl
+last_put true false y = refl
+last_put false true y = refl
+last_put false false y = refl
+
+in_pushed : (l a : List Place) (k q : Place) → stands_in ((l ++ k ∷ []) ++ a) q ≡ ((stands_in l q || (key_eq k q || false)) || stands_in a q)
+in_pushed l a k q =
+    list_any-append (key_eq q) (l ++ k ∷ []) a ∙ ap (λ t. t || stands_in a q) (list_any-append (key_eq q) l (k ∷ []))
+    ∙ ap (λ t. (stands_in l q || (t || false)) || stands_in a q) (eq_turned q k)
+
+put_last : (l a : List Place) (k : Place) → Sets (l ++ a) ((l ++ k ∷ []) ++ a) k true
+put_last l a k q =
+    in_pushed l a k q ∙ last_put (stands_in l q) (key_eq k q) (stands_in a q) ∙ ap (cond (key_eq k q) true) (sym (list_any-append (key_eq q) l a))
+
+pub add_new : (l m a p : List Place) (k : Place) → IsLined l a p → stands_in p k ≡ false → stands_in l k ≡ false → m ≡ l ++ k ∷ [] → row_add (row l a p) k ≡ row m a p
+add_new l m a p k lined free absent last =
+    off (has (keys_of (l ++ a)) k) _ _ (has_keys (l ++ a) k ∙ neither l a k absent (not_again l a p k lined free))
+    ∙ (λ i. record {
+      line = off (has (keys_of p) k) l (l ++ k ∷ []) (has_keys p k ∙ free) i;
+      dirty = sym (keys_put (l ++ a) ((l ++ k ∷ []) ++ a) k (put_last l a k)) i;
+      processing = keys_of p;
+    })
+    ∙ ap (λ n. row n a p) (sym last)
 
 or_false : (a b : Bool) → (a || (b || false)) ≡ true → (b ≡ false → a ≡ true)
 or_false a true e f = absurd (cc f)
 or_false true false e f = refl
 or_false false false e f = e
 
--- a key that is dirty and not being worked on goes last
-pub lined_push : (l m d p : List Place) (k : Place) → IsLined l d p → stands_in l k ≡ false → stands_in d k ≡ true → stands_in p k ≡ false → m ≡ l ++ k ∷ [] → IsLined m d p
-lined_push l m d p k lined absent dirty free last = subst (λ x. IsLined x d p) (sym last) (record {
+-- a key that is not being worked on goes last
+pub lined_push : (l m a p : List Place) (k : Place) → IsLined l a p → stands_in p k ≡ false → stands_in l k ≡ false → m ≡ l ++ k ∷ [] → IsLined m a p
+lined_push l m a p k lined free absent last = subst (λ x. IsLined x a p) (sym last) (record {
   free = λ q t. by q (key_eq q k) refl (sym (list_any-append (key_eq q) l (k ∷ [])) ∙ t);
+  held = lined.held;
   once = push_once l k lined.once absent;
 })
   where
-    by : (q : Place) (b : Bool) → key_eq q k ≡ b → (stands_in l q || (key_eq q k || false)) ≡ true → (stands_in d q ≡ true) × (stands_in p q ≡ false)
-    by q true e t =
-        let same : q ≡ k = eq_true q k e in
-        (ap (stands_in d) same ∙ dirty, ap (stands_in p) same ∙ free)
+    by : (q : Place) (b : Bool) → key_eq q k ≡ b → (stands_in l q || (key_eq q k || false)) ≡ true → stands_in p q ≡ false
+    by q true e t = ap (stands_in p) (eq_true q k e) ∙ free
     by q false e t = lined.free q (or_false (stands_in l q) (key_eq q k) t e)
 
-self_put : (d e : List Place) (k : Place) → Sets d e k true → stands_in e k ≡ true
-self_put d e k sets = sets k ∙ on (key_eq k k) true (stands_in d k) (eq_self k)
-
-pub lined_add : (l m d e p : List Place) (k : Place) → IsLined l d p → stands_in d k ≡ false → stands_in p k ≡ false → m ≡ l ++ k ∷ [] → Sets d e k true → IsLined m e p
-lined_add l m d e p k lined clean free last sets = lined_push l m e p k (lined_put l d e p k lined sets) (clean_out l d p k lined clean) (self_put d e k sets) free last
-
 -- ---- the end of the work on a key
-
-pub end_dirty : (l m d p o : List Place) (k : Place) → stands_in d k ≡ true → m ≡ l ++ k ∷ [] → Sets p o k false → row_end (row l d p) k ≡ row m d o
-end_dirty l m d p o k dirty last sets =
-    λ i. record { line = (on (has (keys_of d) k) (l ++ k ∷ []) l (has_keys d k ∙ dirty) ∙ sym last) i; dirty = keys_of d; processing = sym (keys_cut p o k sets) i }
-
-pub end_clean : (l d p o : List Place) (k : Place) → stands_in d k ≡ false → Sets p o k false → row_end (row l d p) k ≡ row l d o
-end_clean l d p o k clean sets =
-    λ i. record { line = off (has (keys_of d) k) (l ++ k ∷ []) l (has_keys d k ∙ clean) i; dirty = keys_of d; processing = sym (keys_cut p o k sets) i }
 
 still_out : (t b : Bool) → b ≡ false → cond t false b ≡ false
 still_out true b e = refl
 still_out false b e = e
 
-pub lined_off : (l d p o : List Place) (k : Place) → IsLined l d p → Sets p o k false → IsLined l d o
-lined_off l d p o k lined sets = record {
-  free = λ q t. ((lined.free q t).0, sets q ∙ still_out (key_eq k q) (stands_in p q) (lined.free q t).1);
+still_held : (t y z : Bool) → cond t false y ≡ true → (y ≡ true → z ≡ true) → cond t false z ≡ true
+still_held true y z e f = absurd (cc e)
+still_held false y z e f = f e
+
+pub lined_off : (l a b p o : List Place) (k : Place) → IsLined l a p → Sets a b k false → Sets p o k false → IsLined l b o
+lined_off l a b p o k lined cut sets = record {
+  free = λ q t. sets q ∙ still_out (key_eq k q) (stands_in p q) (lined.free q t);
+  held = λ q t. sets q ∙ still_held (key_eq k q) (stands_in a q) (stands_in p q) (sym (cut q) ∙ t) (lined.held q);
   once = lined.once;
 }
 
-pub lined_end : (l m d p o : List Place) (k : Place) → IsLined l d p → stands_in p k ≡ true → stands_in d k ≡ true → m ≡ l ++ k ∷ [] → Sets p o k false → IsLined m d o
-lined_end l m d p o k lined held dirty last sets = lined_push l m d o k (lined_off l d p o k lined sets) (held_out_of l d p k lined held) dirty
-    (sets k ∙ on (key_eq k k) false (stands_in p k) (eq_self k)) last
+-- what a look-up finds is the key
+pub found_is : (a : List Place) (k j : Place) → find (key_eq k) a ≡ Some j → j ≡ k
+found_is [] k j e = absurd (cc e)
+found_is (x ∷ a) k j e = by (key_eq k x) refl e (found_is a k j)
+  where
+    by : (b : Bool) → key_eq k x ≡ b → cond b (Some x) (find (key_eq k) a) ≡ Some j → (find (key_eq k) a ≡ Some j → j ≡ k) → j ≡ k
+    by true t e f = let same : x ≡ j = cc e in sym same ∙ sym (eq_true k x t)
+    by false t e f = f e
+
+moved : (x t y : Bool) → (t ≡ true → y ≡ true) → ((x || (t || false)) || cond t false y) ≡ (x || y)
+moved true t y f = refl
+moved false true y f = sym (f refl)
+moved false false y f = refl
+
+-- the key was added again, and goes last
+pub end_again : (l m a b p o : List Place) (k : Place) → stands_in a k ≡ true → m ≡ l ++ k ∷ [] → Sets a b k false → Sets p o k false → row_end (row l a p) k ≡ row m b o
+end_again l m a b p o k added last cut sets =
+    (λ i. record {
+      line = on (has (keys_of (l ++ a)) k) (l ++ k ∷ []) l (has_keys (l ++ a) k ∙ list_any-append (key_eq k) l a ∙ one_of (stands_in l k) (stands_in a k) added) i;
+      dirty = sym (same_keys (l ++ a) ((l ++ k ∷ []) ++ b) same) i;
+      processing = sym (keys_cut p o k sets) i;
+    })
+    ∙ ap (λ n. row n b o) (sym last)
+  where
+    same : (q : Place) → stands_in ((l ++ k ∷ []) ++ b) q ≡ stands_in (l ++ a) q
+    same q =
+        in_pushed l b k q ∙ ap (λ t. (stands_in l q || (key_eq k q || false)) || t) (cut q)
+        ∙ moved (stands_in l q) (key_eq k q) (stands_in a q) (at_equal (stands_in a) k q true added)
+        ∙ sym (list_any-append (key_eq q) l a)
+
+pub end_clean : (l a p o : List Place) (k : Place) → IsLined l a p → stands_in p k ≡ true → stands_in a k ≡ false → Sets p o k false → row_end (row l a p) k ≡ row l a o
+end_clean l a p o k lined held clean sets = λ i. record {
+  line = off (has (keys_of (l ++ a)) k) (l ++ k ∷ []) l (has_keys (l ++ a) k ∙ neither l a k (out_of_line l a p k lined held) clean) i;
+  dirty = keys_of (l ++ a);
+  processing = sym (keys_cut p o k sets) i;
+}
 
 -- ---- a take
 
-pub take_is : (l m d e p o : List Place) (k : Place) → first l ≡ Some k → m ≡ drop 1 l → Sets d e k false → Sets p o k true → row_take (row l d p) ≡ row m e o
-take_is [] m d e p o k h cut dirty held = absurd (cc h)
-take_is (x ∷ l) m d e p o k h cut dirty held =
-    let same : x ≡ k = cc (h) in
-    λ i. record { line = sym cut i; dirty = (ap (map.remove (keys_of d)) same ∙ sym (keys_cut d e k dirty)) i; processing = (ap (λ j. map.insert (keys_of p) j tt) same ∙ sym (keys_put p o k held)) i }
+cut_first : (t z : Bool) → (t ≡ true → z ≡ false) → z ≡ cond t false (t || z)
+cut_first true z f = f refl
+cut_first false z f = refl
 
-pub lined_take : (l m d e p o : List Place) (k : Place) → IsLined l d p → first l ≡ Some k → m ≡ drop 1 l → Sets d e k false → Sets p o k true → IsLined m e o
-lined_take [] m d e p o k lined h cut dirty held = absurd (cc h)
-lined_take (x ∷ l) m d e p o k lined h cut dirty held = subst (λ y. IsLined y e o) (sym cut) (record {
-  free = λ q t. let apart = other q t in
-      let before = lined.free q (later (key_eq q x) (stands_in l q) t) in
-      (dirty q ∙ off (key_eq k q) false (stands_in d q) apart ∙ before.0, held q ∙ off (key_eq k q) true (stands_in p q) apart ∙ before.1);
+pub take_is : (l m a p o : List Place) (k : Place) → IsLined l a p → first l ≡ Some k → m ≡ drop 1 l → Sets p o k true → row_take (row l a p) ≡ row m a o
+take_is [] m a p o k lined h cut sets = absurd (cc h)
+take_is (x ∷ l) m a p o k lined h cut sets =
+    (λ i. record { line = l; dirty = sym (keys_cut (x ∷ l ++ a) (l ++ a) x out) i; processing = (ap (λ j. map.insert (keys_of p) j tt) same ∙ sym (keys_put p o k sets)) i })
+    ∙ ap (λ n. row n a o) (sym cut)
+  where
+    same : x ≡ k
+    same = cc h
+
+    absent : stands_in (l ++ a) x ≡ false
+    absent = neither l a x (head_once x l lined.once) (not_again (x ∷ l) a p x lined (lined.free x (ap (λ t. t || stands_in l x) (eq_self x))))
+
+    out : Sets (x ∷ l ++ a) (l ++ a) x false
+    out q =
+        cut_first (key_eq x q) (stands_in (l ++ a) q) (at_equal (stands_in (l ++ a)) x q false absent)
+        ∙ ap (λ t. cond (key_eq x q) false (t || stands_in (l ++ a) q)) (eq_turned x q)
+
+put_still : (t b : Bool) → b ≡ true → cond t true b ≡ true
+put_still true b e = refl
+put_still false b e = e
+
+pub lined_take : (l m a p o : List Place) (k : Place) → IsLined l a p → first l ≡ Some k → m ≡ drop 1 l → Sets p o k true → IsLined m a o
+lined_take [] m a p o k lined h cut sets = absurd (cc h)
+lined_take (x ∷ l) m a p o k lined h cut sets = subst (λ y. IsLined y a o) (sym cut) (record {
+  free = λ q t. sets q ∙ off (key_eq k q) true (stands_in p q) (other q t) ∙ lined.free q (one_of (key_eq q x) (stands_in l q) t);
+  held = λ q t. sets q ∙ put_still (key_eq k q) (stands_in p q) (lined.held q t);
   once = tail_once x l lined.once;
 })
   where
-    later : (a b : Bool) → b ≡ true → (a || b) ≡ true
-    later true b e = refl
-    later false b e = e
-
     other : (q : Place) → stands_in l q ≡ true → key_eq k q ≡ false
-    other q t = let same : x ≡ k = cc (h) in behind k q l (subst (λ j. stands_in l j ≡ false) same (head_once x l lined.once)) t
+    other q t = let same : x ≡ k = cc h in behind k q l (subst (λ j. stands_in l j ≡ false) same (head_once x l lined.once)) t

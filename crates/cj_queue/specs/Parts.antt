@@ -40,9 +40,10 @@ pub record Rows : Type 0 where
 abbrev pub rows_code : Coded Rows
 rows_code = code_by (Row × ℕ) (coded× row_code coded_ℕ) (λ r. (r.row, r.room)) (λ p. record { row = p.0; room = p.1 }) (λ _. refl)
 
--- each key of the line is dirty, and not being worked on; none stands twice
-pub record IsLined (line dirty processing : List Place) : Type 0 where
-  pub free : (k : Place) → stands_in line k ≡ true → (stands_in dirty k ≡ true) × (stands_in processing k ≡ false)
+-- no key of the line is being worked on, each of those that were added again is, and no key stands twice in the line
+pub record IsLined (line again processing : List Place) : Type 0 where
+  pub free : (k : Place) → stands_in line k ≡ true → stands_in processing k ≡ false
+  pub held : (k : Place) → stands_in again k ≡ true → stands_in processing k ≡ true
   pub once : are_distinct line ≡ true
 
 -- of `Failures`: the counts, and for how many keys more there is room

@@ -10,7 +10,6 @@ mod failures;
 mod line;
 mod queue;
 mod rows;
-mod twin;
 mod waits;
 
 pub use queue::Queue;

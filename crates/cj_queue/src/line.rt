@@ -64,6 +64,16 @@ impl Line {
         let _ = self.back.insert(key);
     }
 
+    /// Whether the key stands in the line.
+    #[tactic(auto, using(crate::proofs::LineLemmas::in_line))]
+    pub fn contains(&self, key: &Key) -> bool
+        ensures { result ≡ stands_in self.now.keys key.now }
+    {
+        let in_front = holds(&self.front, key);
+        let in_back = holds(&self.back, key);
+        in_front || in_back
+    }
+
     /// The first key.
     pub fn first(&self) -> Option<&Key>
         ensures { option_copied result ≡ first self.now.keys }
@@ -82,6 +92,16 @@ impl Line {
         turn(&mut self.front, &mut self.back);
         self.front.pop()
     }
+}
+
+// Whether the set has the key. An empty one may have a large table, in which it isn't looked up.
+fn holds(set: &IndexSet<Key>, key: &Key) -> bool
+    ensures { result ≡ stands_in set.now.keys key.now }
+{
+    if set.is_empty() {
+        return false;
+    }
+    set.contains(key)
 }
 
 // Where the front is used up, the back takes its place. The line stays the same.

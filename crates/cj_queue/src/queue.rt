@@ -7,7 +7,6 @@ ghost use Rattle.cj_queue.specs.Times.{without};
 use crate::backoff::{delay_after, one_more};
 use crate::failures::Failures;
 use crate::rows::Rows;
-use crate::twin::Twin;
 use crate::waits::Waits;
 use cj_types::{Key, Millis, Refusal, TryCopy};
 use std::alloc::Global;
@@ -96,9 +95,8 @@ impl Queue {
         ensures err { OnErr result (self.new ≡ self.old) }
         ensures memory { IfErr result (λ e. e ≡ OutOfMemory) }
     {
-        let copy = key.try_copy(self.alloc)?;
         self.rows.reserve(1)?;
-        self.rows.end(copy);
+        self.rows.end(key);
         Ok(())
     }
 
@@ -186,23 +184,22 @@ impl Queue {
         ensures err { OnErr result (self.new ≡ self.old) }
         ensures memory { IfErr result (λ e. e ≡ OutOfMemory) }
     {
-        let held = key.try_copy(self.alloc)?;
-        let again = Twin::of(self.alloc, key)?;
         self.rows.reserve(2)?;
-        let Some(at) = at_ms else {
-            end_well(&mut self.rows, &mut self.failures, held);
+        let Some(next) = at_ms else {
+            end_well(&mut self.rows, &mut self.failures, key);
             return Ok(());
         };
         if self.shut {
-            end_well(&mut self.rows, &mut self.failures, held);
+            end_well(&mut self.rows, &mut self.failures, key);
             return Ok(());
         }
-        if at > self.tick {
-            self.waits.keep(self.alloc, key, at)?;
-            end_well(&mut self.rows, &mut self.failures, held);
+        if next > self.tick {
+            self.waits.keep(self.alloc, key, next)?;
+            end_well(&mut self.rows, &mut self.failures, key);
             return Ok(());
         }
-        end_well(&mut self.rows, &mut self.failures, held);
+        let again = key.try_copy(self.alloc)?;
+        end_well(&mut self.rows, &mut self.failures, key);
         self.rows.add(again);
         Ok(())
     }
@@ -214,53 +211,53 @@ impl Queue {
         ensures err { OnErr result (self.new ≡ self.old) }
         ensures memory { IfErr result (λ e. e ≡ OutOfMemory) }
     {
-        let held = Twin::of(self.alloc, key)?;
-        let again = Twin::of(self.alloc, key)?;
+        let copy = key.try_copy(self.alloc)?;
         let count = self.failures.get(key);
         let at = now_ms.get() + delay_after(count);
         self.rows.reserve(2)?;
         self.failures.reserve(1)?;
         if self.shut {
-            end_badly(&mut self.rows, &mut self.failures, held, count);
+            end_badly(&mut self.rows, &mut self.failures, copy, count);
             return Ok(());
         }
         if at > self.tick {
             self.waits.keep(self.alloc, key, at)?;
-            end_badly(&mut self.rows, &mut self.failures, held, count);
+            end_badly(&mut self.rows, &mut self.failures, copy, count);
             return Ok(());
         }
-        end_badly(&mut self.rows, &mut self.failures, held, count);
+        let again = key.try_copy(self.alloc)?;
+        end_badly(&mut self.rows, &mut self.failures, copy, count);
         self.rows.add(again);
         Ok(())
     }
 }
 
 // Adds the keys, one after the other, and lets them wait no more.
-fn add_all(waits: &mut Waits, rows: &mut Rows, keys: Vec<Twin>)
+fn add_all(waits: &mut Waits, rows: &mut Rows, keys: Vec<Key>)
     requires room { length keys.items ≤ rows.old.room }
     ensures waits { waits.new ≡ without waits.old keys.items }
     ensures rows { rows.new.row ≡ row_adds rows.old.row keys.items }
 {
     for key in keys {
-        waits.cut(key.key());
+        waits.cut(&key);
         rows.add(key);
     }
 }
 
 // Ends the work on the key, whose failures are forgotten.
-fn end_well(rows: &mut Rows, failures: &mut Failures, key: Key)
+fn end_well(rows: &mut Rows, failures: &mut Failures, key: &Key)
     requires room { 0 < rows.old.room }
-    requires held { IsTrue (has rows.old.row.processing key) }
-    ensures row { rows.new.row ≡ row_end rows.old.row key }
+    requires held { IsTrue (has rows.old.row.processing key.now) }
+    ensures row { rows.new.row ≡ row_end rows.old.row key.now }
     ensures room { rows.old.room ≤ rows.new.room + 1 }
-    ensures counts { failures.new.counts ≡ map.remove failures.old.counts key }
+    ensures counts { failures.new.counts ≡ map.remove failures.old.counts key.now }
 {
-    failures.remove(&key);
+    failures.remove(key);
     rows.end(key);
 }
 
 // Ends the work on the key, which failed once more than `count` times.
-fn end_badly(rows: &mut Rows, failures: &mut Failures, key: Twin, count: u64)
+fn end_badly(rows: &mut Rows, failures: &mut Failures, key: Key, count: u64)
     requires room { 0 < rows.old.room }
     requires held { IsTrue (has rows.old.row.processing key) }
     requires place { 0 < failures.old.room }
@@ -268,7 +265,6 @@ fn end_badly(rows: &mut Rows, failures: &mut Failures, key: Twin, count: u64)
     ensures room { rows.old.room ≤ rows.new.room + 1 }
     ensures counts { failures.new.counts ≡ map.insert failures.old.counts key (min (count + 1) 18) }
 {
-    let (first, second) = key.split();
-    rows.end(first);
-    failures.put(second, one_more(count));
+    rows.end(&key);
+    failures.put(key, one_more(count));
 }

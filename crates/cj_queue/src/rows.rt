@@ -5,34 +5,36 @@ ghost use Rattle.cj_queue.specs.Queue.{new_row, row_add, row_take, row_end, firs
 ghost use Rattle.cj_queue.specs.Parts.{key_eq};
 
 use crate::line::Line;
-use crate::twin::Twin;
 use cj_types::{Key, Refusal, TryCopy};
 use indexmap::IndexSet;
 use std::alloc::Global;
 use std::marker::Model;
 
-/// The line, the dirty keys and those that are being worked on.
+/// The keys that want work, and those that are being worked on.
 ///
-/// Contracts see the three, and for how many adds there is room.
+/// Contracts see the line, the dirty keys and those that are being worked on, and for how many adds there is room.
 #[derive(Drop)]
 pub struct Rows {
+    // The keys that want work and that nobody works on.
     line: Line,
-    dirty: IndexSet<Key>,
+    // Those of the keys being worked on that were added meanwhile.
+    again: IndexSet<Key>,
+    // The keys that are being worked on.
     processing: IndexSet<Key>,
 }
 
 impl Model for Rows {
     ghost use Rattle.indexmap.specs.IndexSet.{spare};
-    ghost use Rattle.std.specs.Prelude.{min};
+    ghost use Rattle.std.specs.Prelude.{◌++◌, min};
     ghost use Rattle.cj_queue.specs.Parts.{Rows, rows_code, keys_of, IsLined};
 
     ghost Value = { Rows };
 
     ghost coded = { rows_code };
 
-    ghost view = { λ r. record { row = record { line = r.line.keys; dirty = keys_of r.dirty.keys; processing = keys_of r.processing.keys }; room = min r.line.room (spare r.dirty) } };
+    ghost view = { λ r. record { row = record { line = r.line.keys; dirty = keys_of (r.line.keys ++ r.again.keys); processing = keys_of r.processing.keys }; room = min r.line.room (spare r.again) } };
 
-    ghost invariant = { λ r. IsLined r.line.keys r.dirty.keys r.processing.keys };
+    ghost invariant = { λ r. IsLined r.line.keys r.again.keys r.processing.keys };
 }
 
 // Puts a key into a set that has room.
@@ -44,16 +46,6 @@ fn put(set: &mut IndexSet<Key>, key: Key)
     let _ = set.insert(key);
 }
 
-// Moves a key from one set to another that has room.
-fn move_key(from: &mut IndexSet<Key>, to: &mut IndexSet<Key>, key: Key)
-    requires { 0 < spare to.old }
-    ensures out { Updates key_eq from.old from.new key false }
-    ensures held { Updates key_eq to.old to.new key true }
-{
-    from.swap_remove(&key);
-    put(to, key);
-}
-
 impl Rows {
     /// No key.
     pub fn new(alloc: Global) -> Rows
@@ -61,7 +53,7 @@ impl Rows {
     {
         Rows {
             line: Line::new(alloc),
-            dirty: IndexSet::new(alloc),
+            again: IndexSet::new(alloc),
             processing: IndexSet::new(alloc),
         }
     }
@@ -73,26 +65,21 @@ impl Rows {
         ensures memory { IfErr result (λ e. e ≡ OutOfMemory) }
     {
         self.line.reserve(count)?;
-        self.dirty.reserve(count)?;
+        self.again.reserve(count)?;
         Ok(())
     }
 
     /// The key is dirty, and goes last in the line unless it was dirty or is being worked on.
-    pub fn add(&mut self, key: Twin)
+    pub fn add(&mut self, key: Key)
         requires { 0 < self.old.room }
         ensures row { self.new.row ≡ row_add self.old.row key }
         ensures room { self.old.room ≤ self.new.room + 1 }
     {
-        let (first, second) = key.split();
-        if self.dirty.contains(&first) {
-            return;
+        if self.processing.contains(&key) {
+            put(&mut self.again, key);
+        } else if !self.line.contains(&key) {
+            self.line.push(key);
         }
-        if self.processing.contains(&first) {
-            put(&mut self.dirty, first);
-            return;
-        }
-        self.line.push(second);
-        put(&mut self.dirty, first);
     }
 
     /// Adds the key, with the memory that it needs.
@@ -101,9 +88,9 @@ impl Rows {
         ensures err { OnErr result (self.new.row ≡ self.old.row) }
         ensures memory { IfErr result (λ e. e ≡ OutOfMemory) }
     {
-        let twin = Twin::of(alloc, key)?;
+        let copy = key.try_copy(alloc)?;
         self.reserve(1)?;
-        self.add(twin);
+        self.add(copy);
         Ok(())
     }
 
@@ -126,7 +113,7 @@ impl Rows {
         };
         let copy = front.try_copy(alloc)?;
         self.processing.reserve(1)?;
-        move_key(&mut self.dirty, &mut self.processing, copy);
+        put(&mut self.processing, copy);
         Ok(self.line.take())
     }
 
@@ -138,15 +125,15 @@ impl Rows {
     }
 
     /// Ends the work on a key, which goes last where it is dirty.
-    pub fn end(&mut self, key: Key)
+    pub fn end(&mut self, key: &Key)
         requires room { 0 < self.old.room }
-        requires held { IsTrue (has self.old.row.processing key) }
-        ensures row { self.new.row ≡ row_end self.old.row key }
+        requires held { IsTrue (has self.old.row.processing key.now) }
+        ensures row { self.new.row ≡ row_end self.old.row key.now }
         ensures room { self.old.room ≤ self.new.room + 1 }
     {
-        self.processing.swap_remove(&key);
-        if self.dirty.contains(&key) {
-            self.line.push(key);
+        self.processing.swap_remove(key);
+        if let Some(again) = self.again.swap_take(key) {
+            self.line.push(again);
         }
     }
 }

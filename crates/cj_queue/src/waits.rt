@@ -4,7 +4,6 @@ ghost use Rattle.cj_base.specs.declared.refusal.Refusal.TheVariants.{OutOfMemory
 ghost use Rattle.std.specs.BTreeMap.{keys, IsOrdered};
 ghost use Rattle.cj_queue.specs.Times.{ready, ready_in, waits_for, earlier, timed_cmp, Agrees, SetsTime, SameTimes, Leaves, time_of};
 
-use crate::twin::Twin;
 use cj_types::{Key, Refusal, TryCopy};
 use std::alloc::Global;
 use std::collections::BTreeMap;
@@ -79,7 +78,7 @@ impl Waits {
     }
 
     /// The keys whose time is not above `now`, by time, then key.
-    pub fn ready(&self, alloc: Global, now: u64) -> Result<Vec<Twin>, Refusal>
+    pub fn ready(&self, alloc: Global, now: u64) -> Result<Vec<Key>, Refusal>
         ensures ok { IfOk result (λ v. v.items ≡ ready self.now now) }
         ensures memory { IfErr result (λ e. e ≡ OutOfMemory) }
     {
@@ -103,7 +102,7 @@ fn first_ready(
     order: &BTreeMap<(u64, Key), ()>,
     alloc: Global,
     now: u64,
-) -> Result<Vec<Twin>, Refusal>
+) -> Result<Vec<Key>, Refusal>
     ensures ok { IfOk result (λ v. v.items ≡ ready_in (keys order.now) now) }
     ensures sorted { IsOrdered timed_cmp order.now }
     ensures memory { IfErr result (λ e. e ≡ OutOfMemory) }
@@ -118,12 +117,12 @@ fn first_ready(
     Ok(found)
 }
 
-fn push_copy(found: &mut Vec<Twin>, alloc: Global, key: &Key) -> Result<(), Refusal>
+fn push_copy(found: &mut Vec<Key>, alloc: Global, key: &Key) -> Result<(), Refusal>
     ensures ok { OnOk result (found.new.items ≡ found.old.items ++ key.now ∷ []) }
     ensures memory { IfErr result (λ e. e ≡ OutOfMemory) }
 {
-    let twin = Twin::of(alloc, key)?;
-    found.push(twin).map_err(|_| Refusal::OutOfMemory)
+    let copy = key.try_copy(alloc)?;
+    found.push(copy).map_err(|_| Refusal::OutOfMemory)
 }
 
 // Lets a key wait that did not.

@@ -1,51 +1,30 @@
-use Rattle.std.proofs.Common.{◌≡◌, ◌++◌, ◌∷◌, [], sym, ap, ◌∙◌, subst, true, false}
-use Rattle.cj_queue.specs.Queue.{Row, row_add}
-use Rattle.cj_queue.specs.Parts.{stands_in}
-use Rattle.cj_queue.proofs.RowLemmas.{Sets, add_dirty, add_held, add_new, lined_add}
+use Rattle.std.proofs.Common.{sym, ap, ◌∙◌}
+use Rattle.cj_queue.specs.Queue.{row_add}
+use Rattle.cj_queue.proofs.RowLemmas.{add_lined, add_held, add_new, lined_push}
 use Rattle.cj_queue.proofs.rows.Rows.add.Goals as goal
 
 pub returns-then-contains-clause-row : goal.returns-then-contains-clause-row
 returns-then-contains-clause-row c =
-    let l = c.self.inside.line.keys in
-    let d = c.self.inside.dirty.keys in
-    let p = c.self.inside.processing.keys in
-    let same = ap (λ x. x.0) c.split-first.ensures in
-    let dirty : stands_in d c.args.key ≡ true = ap (stands_in d) (sym same) ∙ sym c.contains.ensures ∙ c.if-contains.true in
-    subst (λ (r : Row). r ≡ row_add r c.args.key) (ap (λ v. v.row) c.self.view_is) (sym (add_dirty l d p c.args.key dirty))
+    let held = sym c.contains.ensures ∙ c.if-contains.true in
+    sym (add_held c.self.inside.line.keys c.self.inside.again.keys c.put.new.set.keys c.self.inside.processing.keys c.args.key held c.put.ensures.updates.0)
+    ∙ ap (λ v. row_add v.row c.args.key) c.self.view_is
 
-pub returns-then-contains-2-clause-row : goal.returns-then-contains-2-clause-row
-returns-then-contains-2-clause-row c =
-    let l = c.self.inside.line.keys in
-    let d = c.self.inside.dirty.keys in
-    let p = c.self.inside.processing.keys in
-    let same = ap (λ x. x.0) c.split-first.ensures in
-    let clean : stands_in d c.args.key ≡ false = ap (stands_in d) (sym same) ∙ sym c.contains.ensures ∙ c.if-contains.false in
-    let held : stands_in p c.args.key ≡ true = ap (stands_in p) (sym same) ∙ sym c.contains-2.ensures ∙ c.if-contains-2.true in
-    let sets = subst (λ k. Sets d c.put.new.set.keys k true) same c.put.ensures.updates.0 in
-    sym (add_held l d c.put.new.set.keys p c.args.key clean held sets) ∙ ap (λ v. row_add v.row c.args.key) c.self.view_is
+pub invariant_of-self-then-not-contains : goal.invariant_of-self-then-not-contains
+invariant_of-self-then-not-contains c =
+    let free = sym c.contains.ensures ∙ c.if-contains.false in
+    let absent = sym c.contains-else-contains.ensures ∙ c.if-not-contains.true in
+    lined_push c.self.inside.line.keys c.push.new.self.keys c.self.inside.again.keys c.self.inside.processing.keys c.args.key c.self.invariant free absent c.push.ensures.keys
 
-pub invariant_of-self-2 : goal.invariant_of-self-2
-invariant_of-self-2 c =
-    let l = c.self.inside.line.keys in
-    let d = c.self.inside.dirty.keys in
-    let p = c.self.inside.processing.keys in
-    let same = ap (λ x. x.0) c.split-first.ensures in
-    let twin = ap (λ x. x.1) c.split-first.ensures in
-    let clean : stands_in d c.args.key ≡ false = ap (stands_in d) (sym same) ∙ sym c.contains.ensures ∙ c.if-contains.false in
-    let free : stands_in p c.args.key ≡ false = ap (stands_in p) (sym same) ∙ sym c.contains-2.ensures ∙ c.if-contains-2.false in
-    let pushed = subst (λ k. c.push.new.self.keys ≡ l ++ k ∷ []) twin c.push.ensures.keys in
-    let sets = subst (λ k. Sets d c.put-2.new.set.keys k true) same c.put-2.ensures.updates.0 in
-    lined_add l c.push.new.self.keys d c.put-2.new.set.keys p c.args.key c.self.invariant clean free pushed sets
+pub returns-then-not-contains-clause-row : goal.returns-then-not-contains-clause-row
+returns-then-not-contains-clause-row c =
+    let free = sym c.contains.ensures ∙ c.if-contains.false in
+    let absent = sym c.contains-else-contains.ensures ∙ c.if-not-contains.true in
+    sym (add_new c.self.inside.line.keys c.push.new.self.keys c.self.inside.again.keys c.self.inside.processing.keys c.args.key c.self.invariant free absent c.push.ensures.keys)
+    ∙ ap (λ v. row_add v.row c.args.key) c.self.view_is
 
-pub returns-clause-row : goal.returns-clause-row
-returns-clause-row c =
-    let l = c.self.inside.line.keys in
-    let d = c.self.inside.dirty.keys in
-    let p = c.self.inside.processing.keys in
-    let same = ap (λ x. x.0) c.split-first.ensures in
-    let twin = ap (λ x. x.1) c.split-first.ensures in
-    let clean : stands_in d c.args.key ≡ false = ap (stands_in d) (sym same) ∙ sym c.contains.ensures ∙ c.if-contains.false in
-    let free : stands_in p c.args.key ≡ false = ap (stands_in p) (sym same) ∙ sym c.contains-2.ensures ∙ c.if-contains-2.false in
-    let pushed = subst (λ k. c.push.new.self.keys ≡ l ++ k ∷ []) twin c.push.ensures.keys in
-    let sets = subst (λ k. Sets d c.put-2.new.set.keys k true) same c.put-2.ensures.updates.0 in
-    sym (add_new l c.push.new.self.keys d c.put-2.new.set.keys p c.args.key clean free pushed sets) ∙ ap (λ v. row_add v.row c.args.key) c.self.view_is
+pub returns-else-not-contains-clause-row : goal.returns-else-not-contains-clause-row
+returns-else-not-contains-clause-row c =
+    let there = sym c.contains-else-contains.ensures ∙ c.if-not-contains.false in
+    sym (ap (λ v. v.row) c.self.view_is)
+    ∙ sym (add_lined c.self.inside.line.keys c.self.inside.again.keys c.self.inside.processing.keys c.args.key there)
+    ∙ ap (λ v. row_add v.row c.args.key) c.self.view_is

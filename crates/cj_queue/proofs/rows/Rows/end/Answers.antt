@@ -1,31 +1,42 @@
-use Rattle.std.proofs.Common.{sym, ap, ◌∙◌}
+use Rattle.std.proofs.Common.{◌≡◌, ◌++◌, ◌∷◌, [], true, false, sym, ap, ◌∙◌, subst, is_some}
 use Rattle.cj_queue.specs.Queue.{row_end, has}
+use Rattle.cj_queue.specs.Parts.{stands_in}
 use Rattle.cj_queue.proofs.Sets.{has_keys}
-use Rattle.cj_queue.proofs.RowLemmas.{end_dirty, end_clean, held_out_of, lined_end, lined_off}
+use Rattle.cj_queue.proofs.RowLemmas.{row, end_again, end_clean, out_of_line, found_is, lined_off, lined_push}
 use Rattle.cj_queue.proofs.rows.Rows.end.Goals as goal
 
 pub push-requires-clause-absent : goal.push-requires-clause-absent
 push-requires-clause-absent c =
-    let held = sym (has_keys c.self.inside.processing.keys c.args.key) ∙ ap (λ r. has r.row.processing c.args.key) c.self.view_is ∙ c.requires.held in
-    held_out_of c.self.inside.line.keys c.self.inside.dirty.keys c.self.inside.processing.keys c.args.key c.self.invariant held
+    let held = sym (has_keys c.self.inside.processing.keys c.args.key.now) ∙ ap (λ r. has r.row.processing c.args.key.now) c.self.view_is ∙ c.requires.held in
+    let same = found_is c.self.inside.again.keys c.args.key.now c.in-Some.again (sym c.in-Some.ensures.key) in
+    ap (stands_in c.self.inside.line.keys) same ∙ out_of_line c.self.inside.line.keys c.self.inside.again.keys c.self.inside.processing.keys c.args.key.now c.self.invariant held
 
 pub invariant_of-self : goal.invariant_of-self
 invariant_of-self c =
-    let held = sym (has_keys c.self.inside.processing.keys c.args.key) ∙ ap (λ r. has r.row.processing c.args.key) c.self.view_is ∙ c.requires.held in
-    let dirty = sym c.contains.ensures ∙ c.if-contains.true in
-    lined_end c.self.inside.line.keys c.push.new.self.keys c.self.inside.dirty.keys c.self.inside.processing.keys c.swap_remove.new.self.keys c.args.key c.self.invariant held dirty c.push.ensures.keys c.swap_remove.ensures.updates.0
+    let held = sym (has_keys c.self.inside.processing.keys c.args.key.now) ∙ ap (λ r. has r.row.processing c.args.key.now) c.self.view_is ∙ c.requires.held in
+    let same = found_is c.self.inside.again.keys c.args.key.now c.in-Some.again (sym c.in-Some.ensures.key) in
+    let pushed = subst (λ k. c.push.new.self.keys ≡ c.self.inside.line.keys ++ k ∷ []) same c.push.ensures.keys in
+    let lined = lined_off c.self.inside.line.keys c.self.inside.again.keys c.swap_take.new.self.keys c.self.inside.processing.keys c.swap_remove.new.self.keys c.args.key.now c.self.invariant c.swap_take.ensures.updates.0 c.swap_remove.ensures.updates.0 in
+    lined_push c.self.inside.line.keys c.push.new.self.keys c.swap_take.new.self.keys c.swap_remove.new.self.keys c.args.key.now lined
+    c.swap_remove.ensures.updates.1
+    (out_of_line c.self.inside.line.keys c.self.inside.again.keys c.self.inside.processing.keys c.args.key.now c.self.invariant held) pushed
 
-pub invariant_of-self-else-contains : goal.invariant_of-self-else-contains
-invariant_of-self-else-contains c = lined_off c.self.inside.line.keys c.self.inside.dirty.keys c.self.inside.processing.keys c.swap_remove.new.self.keys c.args.key c.self.invariant c.swap_remove.ensures.updates.0
+pub invariant_of-self-in_default : goal.invariant_of-self-in_default
+invariant_of-self-in_default c =
+    lined_off c.self.inside.line.keys c.self.inside.again.keys c.swap_take.new.self.keys c.self.inside.processing.keys c.swap_remove.new.self.keys c.args.key.now c.self.invariant c.swap_take.ensures.updates.0 c.swap_remove.ensures.updates.0
 
-pub returns-then-contains-clause-row : goal.returns-then-contains-clause-row
-returns-then-contains-clause-row c =
-    let dirty = sym c.contains.ensures ∙ c.if-contains.true in
-    sym (end_dirty c.self.inside.line.keys c.push.new.self.keys c.self.inside.dirty.keys c.self.inside.processing.keys c.swap_remove.new.self.keys c.args.key dirty c.push.ensures.keys c.swap_remove.ensures.updates.0)
-    ∙ ap (λ v. row_end v.row c.args.key) c.self.view_is
+pub returns-in-Some-clause-row : goal.returns-in-Some-clause-row
+returns-in-Some-clause-row c =
+    let same = found_is c.self.inside.again.keys c.args.key.now c.in-Some.again (sym c.in-Some.ensures.key) in
+    let pushed = subst (λ k. c.push.new.self.keys ≡ c.self.inside.line.keys ++ k ∷ []) same c.push.ensures.keys in
+    let added : stands_in c.self.inside.again.keys c.args.key.now ≡ true = sym c.in-Some.ensures.found in
+    sym (end_again c.self.inside.line.keys c.push.new.self.keys c.self.inside.again.keys c.swap_take.new.self.keys c.self.inside.processing.keys c.swap_remove.new.self.keys c.args.key.now added pushed c.swap_take.ensures.updates.0 c.swap_remove.ensures.updates.0)
+    ∙ ap (λ v. row_end v.row c.args.key.now) c.self.view_is
 
-pub returns-else-contains-clause-row : goal.returns-else-contains-clause-row
-returns-else-contains-clause-row c =
-    let clean = sym c.contains.ensures ∙ c.if-contains.false in
-    sym (end_clean c.self.inside.line.keys c.self.inside.dirty.keys c.self.inside.processing.keys c.swap_remove.new.self.keys c.args.key clean c.swap_remove.ensures.updates.0)
-    ∙ ap (λ v. row_end v.row c.args.key) c.self.view_is
+pub returns-in_default-clause-row : goal.returns-in_default-clause-row
+returns-in_default-clause-row c =
+    let held = sym (has_keys c.self.inside.processing.keys c.args.key.now) ∙ ap (λ r. has r.row.processing c.args.key.now) c.self.view_is ∙ c.requires.held in
+    let clean : stands_in c.self.inside.again.keys c.args.key.now ≡ false = sym c.swap_take.ensures.found ∙ ap is_some c.in_default.is in
+    ap (λ a. row c.self.inside.line.keys a c.swap_remove.new.self.keys) c.in_default.ensures.unchanged
+    ∙ sym (end_clean c.self.inside.line.keys c.self.inside.again.keys c.self.inside.processing.keys c.swap_remove.new.self.keys c.args.key.now c.self.invariant held clean c.swap_remove.ensures.updates.0)
+    ∙ ap (λ v. row_end v.row c.args.key.now) c.self.view_is
