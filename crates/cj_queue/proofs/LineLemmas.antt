@@ -1,39 +1,42 @@
 -- A line of keys as two lists, the first of them turned round; and lines in which no key stands twice.
-use Rattle.std.proofs.Common.{◌≡◌, ◌-◌, Bool, true, false, not, ◌&&◌, ◌||◌, List, [], ◌∷◌, ◌++◌, length, reverse, slice_get, Some, refl, sym, ap, ◌∙◌, subst, arith, length-append}
-use Rattle.std.proofs.lemmas.List.{reverse-append, reverse-reverse}
+use Rattle.std.proofs.Common.{◌≡◌, ◌≤◌, ◌<◌, ◌+◌, ℕ, zero, suc, Bool, true, false, not, cond, nat_le, ◌&&◌, ◌||◌, List, [], ◌∷◌, ◌++◌, length, drop, slice_get, position, Option, Some, None, refl, sym, ap, ◌∙◌, subst, arith}
+use Rattle.std.specs.List.{list_any, position_from, IsDistinct, AllByRecursion}
+use Rattle.std.proofs.lemmas.Bool.{le-leb, lt-leb}
 use Rattle.std.proofs.lemmas.List.Folds.{list_any-append}
-use Rattle.std.proofs.lemmas.List.Sorted.{list_any-IsPermutation, IsPermutation-reverse}
+use Rattle.std.proofs.lemmas.Iterator.Adapters.{position_from-zero}
+use Rattle.std.proofs.lemmas.Map.Keys.{IsDistinct-head, IsDistinct-tail}
 use Rattle.cj_types.specs.Keys.{Place}
 use Rattle.cj_queue.specs.Queue.{first}
 use Rattle.cj_queue.specs.Parts.{key_eq, stands_in, are_distinct}
 use Rattle.cj_queue.proofs.Sets.{eq_true, eq_turned}
 
--- ---- the front
+-- ---- the front, of which so many are gone
 
-turned : (x : Place) (xs : List Place) → reverse (x ∷ xs) ≡ reverse xs ++ x ∷ []
-turned x xs = reverse-append (x ∷ []) xs
+pub first_in_front : (n : ℕ) (f b : List Place) (k : Place) → slice_get f n ≡ Some k → first (drop n f ++ b) ≡ Some k
+first_in_front zero [] b k e = absurd (cc e)
+first_in_front (suc n) [] b k e = absurd (cc e)
+first_in_front zero (x ∷ f) b k e = e
+first_in_front (suc n) (x ∷ f) b k e = first_in_front n f b k e
 
-nth_end : (l : List Place) (x : Place) → slice_get (l ++ x ∷ []) (length l) ≡ Some x
-nth_end [] x = refl
-nth_end (y ∷ l) x = nth_end l x
+pub none_left : (n : ℕ) (f : List Place) → length f ≤ n → drop n f ≡ []
+none_left zero [] e = refl
+none_left (suc n) [] e = refl
+none_left zero (x ∷ f) e = absurd (search arith)
+none_left (suc n) (x ∷ f) e = none_left n f (search arith)
 
-at_end : (l : List Place) (x : Place) → slice_get (l ++ x ∷ []) (length (l ++ x ∷ []) - 1) ≡ Some x
-at_end l x = let place : length (l ++ x ∷ []) - 1 ≡ length l = omega (arith, length-append l (x ∷ [])) in ap (slice_get (l ++ x ∷ [])) place ∙ nth_end l x
+pub first_behind : (n : ℕ) (f b : List Place) → slice_get f n ≡ None → first (drop n f ++ b) ≡ first b
+first_behind zero [] b e = refl
+first_behind (suc n) [] b e = refl
+first_behind zero (x ∷ f) b e = absurd (cc e)
+first_behind (suc n) (x ∷ f) b e = first_behind n f b e
 
-last_of : (g : List Place) → slice_get (reverse g) (length (reverse g) - 1) ≡ first g
-last_of [] = refl
-last_of (x ∷ g) = ap (λ l. slice_get l (length l - 1)) (turned x g) ∙ at_end (reverse g) x
+one_more : (n : ℕ) (f b : List Place) → n < length f → drop (suc n) f ++ b ≡ drop 1 (drop n f ++ b)
+one_more n [] b e = absurd (search arith)
+one_more zero (x ∷ f) b e = refl
+one_more (suc n) (x ∷ f) b e = one_more n f b (search arith)
 
--- the last of the front is the first of the front turned round
-pub last_is : (f : List Place) → slice_get f (length f - 1) ≡ first (reverse f)
-last_is f = sym (ap (λ l. slice_get l (length l - 1)) (reverse-reverse f)) ∙ last_of (reverse f)
-
-first_some : (l m : List Place) (k : Place) → first l ≡ Some k → first (l ++ m) ≡ Some k
-first_some [] m k e = absurd (cc e)
-first_some (x ∷ l) m k e = e
-
-pub first_of_front : (f b : List Place) (k : Place) → slice_get f (length f - 1) ≡ Some k → first (reverse f ++ b) ≡ Some k
-first_of_front f b k e = first_some (reverse f) b k (sym (last_is f) ∙ e)
+pub rest_of_front : (n : ℕ) (f b : List Place) → n < length f → drop (n + 1) f ++ b ≡ drop 1 (drop n f ++ b)
+rest_of_front n f b e = let next : n + 1 ≡ suc n = omega arith in ap (λ m. drop m f ++ b) next ∙ one_more n f b e
 
 or_right : (a b : Bool) → (a || b) ≡ false → b ≡ false
 or_right true b e = absurd (cc e)
@@ -100,7 +103,53 @@ or_turned true false = refl
 or_turned false true = refl
 or_turned false false = refl
 
-pub in_line : (f b : List Place) (k : Place) → stands_in (reverse f ++ b) k ≡ (stands_in f k || stands_in b k)
-in_line f b k =
-    list_any-append (key_eq k) (reverse f) b
-    ∙ ap (λ t. t || stands_in b k) (sym (list_any-IsPermutation (key_eq k) f (reverse f) (IsPermutation-reverse f)))
+pub in_line : (l m : List Place) (k : Place) → stands_in (l ++ m) k ≡ (stands_in l k || stands_in m k)
+in_line l m k = list_any-append (key_eq k) l m
+
+-- whether the place that a look-up answers is n or a later one
+abbrev pub is_from : ℕ → Option ℕ → Bool
+is_from n None = false
+is_from n (Some i) = nat_le n i
+
+from_place : (n i : ℕ) → n ≤ i → (b : Bool) (o : Option ℕ) (r : Bool) → is_from n o ≡ r → is_from n (cond b (Some i) o) ≡ (b || r)
+from_place n i e true o r h = le-leb n i e
+from_place n i e false o r h = h
+
+not_before : (t : Place → Bool) (n i : ℕ) (ks : List Place) → n ≤ i → is_from n (position_from t i ks) ≡ list_any t ks
+not_before t n i [] e = refl
+not_before t n i (x ∷ ks) e = from_place n i e (t x) (position_from t (i + 1) ks) (list_any t ks) (not_before t n (i + 1) ks (search arith))
+
+gone_out : (n : ℕ) (ks : List Place) (k : Place) → stands_in ks k ≡ false → stands_in (drop n ks) k ≡ false
+gone_out zero ks k e = e
+gone_out (suc n) [] k e = refl
+gone_out (suc n) (x ∷ ks) k e = gone_out n ks k (or_right (key_eq k x) (stands_in ks k) e)
+
+out_of_both : (a b : Bool) → a ≡ false → b ≡ false → (a || b) ≡ false
+out_of_both true b p q = absurd (cc p)
+out_of_both false b p q = q
+
+not_again : (x : Place) (ks : List Place) → AllByRecursion (λ y. key_eq x y ≡ false) ks → stands_in ks x ≡ false
+not_again x [] a = refl
+not_again x (y ∷ ks) a = out_of_both (key_eq x y) (stands_in ks x) a.0 (not_again x ks a.1)
+
+-- one that stands at the first place is none of the later ones
+past_first : (n i : ℕ) (x : Place) (ks : List Place) (k : Place) → IsDistinct key_eq (x ∷ ks) → (b : Bool) → key_eq k x ≡ b
+    → stands_in (drop n ks) k ≡ is_from (suc n + i) (position_from (key_eq k) (i + 1) ks)
+    → stands_in (drop n ks) k ≡ is_from (suc n + i) (cond b (Some i) (position_from (key_eq k) (i + 1) ks))
+past_first n i x ks k once true e h =
+    let out : stands_in ks k ≡ false = subst (λ j. stands_in ks j ≡ false) (sym (eq_true k x e)) (not_again x ks (IsDistinct-head key_eq x ks once)) in
+    gone_out n ks k out ∙ sym (lt-leb (suc n + i) i (search arith))
+past_first n i x ks k once false e h = h
+
+found_from : (n i : ℕ) (ks : List Place) (k : Place) → IsDistinct key_eq ks → stands_in (drop n ks) k ≡ is_from (n + i) (position_from (key_eq k) i ks)
+found_from zero i ks k once = sym (not_before (key_eq k) (0 + i) i ks (search arith))
+found_from (suc n) i [] k once = refl
+found_from (suc n) i (x ∷ ks) k once =
+    past_first n i x ks k once (key_eq k x) refl
+    (found_from n (i + 1) ks k (IsDistinct-tail key_eq x ks once) ∙ ap (λ m. is_from m (position_from (key_eq k) (i + 1) ks)) (omega arith))
+
+pub found_at : (n : ℕ) (ks : List Place) (k : Place) → IsDistinct key_eq ks → stands_in (drop n ks) k ≡ is_from n (position (key_eq k) ks)
+found_at n ks k once =
+    found_from n 0 ks k once
+    ∙ ap (is_from (n + 0)) (sym (position_from-zero (key_eq k) ks))
+    ∙ ap (λ m. is_from m (position (key_eq k) ks)) (omega arith)

@@ -1,4 +1,4 @@
-ghost use Rattle.std.specs.Prelude.{◌≡◌, ◌≤◌, ◌<◌, ◌+◌, ◌++◌, ◌∷◌, [], OnOk, IfErr, false, reverse, drop, option_copied};
+ghost use Rattle.std.specs.Prelude.{◌≡◌, ◌≤◌, ◌<◌, ◌+◌, ◌++◌, ◌∷◌, [], OnOk, IfErr, false, drop, length, option_copied};
 ghost use Rattle.indexmap.specs.IndexSet.{spare, Updates, insert_key};
 ghost use Rattle.cj_base.specs.declared.refusal.Refusal.TheVariants.{OutOfMemory};
 ghost use Rattle.cj_queue.specs.Queue.{first};
@@ -10,19 +10,21 @@ use std::alloc::Global;
 use std::marker::Model;
 use std::mem::swap;
 
-/// Keys in the order in which they came, taken from the front in constant time on average.
+/// Keys in the order in which they came. The first one goes in constant time on average, and moves no other.
 ///
 /// Contracts see the keys, and for how many more there is room.
 #[derive(Drop)]
 pub struct Line {
-    // The first keys, the last of them first.
+    // The first keys in their order, behind those that are gone.
     front: IndexSet<Key>,
-    // The keys behind those.
+    // How many of the front are gone.
+    gone: usize,
+    // The keys behind the front.
     back: IndexSet<Key>,
 }
 
 impl Model for Line {
-    ghost use Rattle.std.specs.Prelude.{◌++◌, reverse};
+    ghost use Rattle.std.specs.Prelude.{◌++◌, drop};
     ghost use Rattle.indexmap.specs.IndexSet.{spare};
     ghost use Rattle.cj_queue.specs.Parts.{Line, line_code};
 
@@ -30,7 +32,7 @@ impl Model for Line {
 
     ghost coded = { line_code };
 
-    ghost view = { λ l. record { keys = reverse l.front.keys ++ l.back.keys; room = spare l.back } };
+    ghost view = { λ l. record { keys = drop l.gone l.front.keys ++ l.back.keys; room = spare l.back } };
 }
 
 impl Line {
@@ -40,6 +42,7 @@ impl Line {
     {
         Line {
             front: IndexSet::new(alloc),
+            gone: 0,
             back: IndexSet::new(alloc),
         }
     }
@@ -69,48 +72,56 @@ impl Line {
     pub fn contains(&self, key: &Key) -> bool
         ensures { result ≡ stands_in self.now.keys key.now }
     {
-        let in_front = holds(&self.front, key);
-        let in_back = holds(&self.back, key);
+        let in_front = holds_from(&self.front, self.gone, key);
+        let in_back = holds_from(&self.back, 0, key);
         in_front || in_back
     }
 
     /// The first key.
+    #[tactic(auto, using(crate::proofs::LineLemmas::first_in_front, crate::proofs::LineLemmas::first_behind))]
     pub fn first(&self) -> Option<&Key>
         ensures { option_copied result ≡ first self.now.keys }
     {
-        match self.front.last() {
+        match self.front.get_index(self.gone) {
             Some(key) => Some(key),
             None => self.back.first(),
         }
     }
 
-    /// Takes the first key out.
-    pub fn take(&mut self) -> Option<Key>
-        ensures first { result ≡ first self.old.keys }
-        ensures rest { self.new.keys ≡ drop 1 self.old.keys }
+    /// Lets the first key go, if there is one.
+    #[tactic(auto, using(crate::proofs::LineLemmas::rest_of_front, crate::proofs::LineLemmas::none_left))]
+    pub fn advance(&mut self)
+        ensures { self.new.keys ≡ drop 1 self.old.keys }
     {
-        turn(&mut self.front, &mut self.back);
-        self.front.pop()
+        turn(&mut self.front, &mut self.gone, &mut self.back);
+        if self.gone < self.front.len() {
+            self.gone += 1;
+        }
     }
 }
 
-// Whether the set has the key. An empty one may have a large table, in which it isn't looked up.
-fn holds(set: &IndexSet<Key>, key: &Key) -> bool
-    ensures { result ≡ stands_in set.now.keys key.now }
+// Whether the set has the key at the place `first` or behind. Where none stands there it isn't looked up, as the set may have
+// a large table.
+fn holds_from(set: &IndexSet<Key>, first: usize, key: &Key) -> bool
+    ensures { result ≡ stands_in (drop first set.now.keys) key.now }
 {
-    if set.is_empty() {
+    if first >= set.len() {
         return false;
     }
-    set.contains(key)
+    match set.get_index_of(key) {
+        Some(place) => first <= place,
+        None => false,
+    }
 }
 
-// Where the front is used up, the back takes its place. The line stays the same.
-fn turn(front: &mut IndexSet<Key>, back: &mut IndexSet<Key>)
-    ensures line { reverse front.new.keys ++ back.new.keys ≡ reverse front.old.keys ++ back.old.keys }
-    ensures used_up { front.new.keys ≡ [] → back.new.keys ≡ [] }
+// Where the whole front is gone, the back takes its place. The line stays the same.
+fn turn(front: &mut IndexSet<Key>, gone: &mut usize, back: &mut IndexSet<Key>)
+    ensures line { drop gone.new front.new.keys ++ back.new.keys ≡ drop gone.old front.old.keys ++ back.old.keys }
+    ensures used_up { length front.new.keys ≤ gone.new → back.new.keys ≡ [] }
 {
-    if front.is_empty() {
+    if *gone >= front.len() {
+        front.clear();
         swap(front, back);
-        front.reverse();
+        *gone = 0;
     }
 }

@@ -111,10 +111,12 @@ impl Rows {
         let Some(front) = self.line.first() else {
             return Ok(None);
         };
+        let key = front.try_copy(alloc)?;
         let copy = front.try_copy(alloc)?;
         self.processing.reserve(1)?;
         put(&mut self.processing, copy);
-        Ok(self.line.take())
+        self.line.advance();
+        Ok(Some(key))
     }
 
     /// Whether the key is being worked on.
