@@ -8,7 +8,7 @@ use Rattle.std.proofs.lemmas.Map.Keys.{IsDistinct-head, IsDistinct-tail}
 use Rattle.cj_types.specs.Keys.{Place}
 use Rattle.cj_queue.specs.Queue.{first}
 use Rattle.cj_queue.specs.Parts.{key_eq, stands_in, are_distinct}
-use Rattle.cj_queue.proofs.Sets.{eq_true, eq_turned}
+use Rattle.cj_queue.proofs.Sets.{at_equal, eq_true, eq_turned}
 
 -- ---- the front, of which so many are gone
 
@@ -83,25 +83,20 @@ push_once (x ∷ ks) k e absent =
     (ap not (list_any-append (key_eq x) ks (k ∷ [])) ∙ both_false (stands_in ks x) (key_eq x k) (head_once x ks e) apart)
     (push_once ks k (tail_once x ks e) (or_right (key_eq k x) (stands_in ks k) absent))
 
-true_or_false : (b : Bool) → b ≡ true → b ≡ false → ⊥
+pub true_or_false : (b : Bool) → b ≡ true → b ≡ false → ⊥
 true_or_false true p q = absurd (cc q)
 true_or_false false p q = absurd (cc p)
 
+-- what implies what is false, fails
+pub refuted : (a : Bool) → (a ≡ true → ⊥) → a ≡ false
+refuted true f = absurd (f refl)
+refuted false f = refl
+
 -- what stands behind the first key is another one
 pub behind : (k q : Place) (ks : List Place) → stands_in ks k ≡ false → stands_in ks q ≡ true → key_eq k q ≡ false
-behind k q ks out there = by (key_eq k q) refl
-  where
-    by : (b : Bool) → key_eq k q ≡ b → key_eq k q ≡ false
-    by true e = absurd (true_or_false (stands_in ks q) there (subst (λ j. stands_in ks j ≡ false) (eq_true k q e) out))
-    by false e = e
+behind k q ks out there = refuted (key_eq k q) (λ e. true_or_false (stands_in ks q) there (at_equal (stands_in ks) k q false out e))
 
 -- ---- a look-up
-
-or_turned : (a b : Bool) → (a || b) ≡ (b || a)
-or_turned true true = refl
-or_turned true false = refl
-or_turned false true = refl
-or_turned false false = refl
 
 pub in_line : (l m : List Place) (k : Place) → stands_in (l ++ m) k ≡ (stands_in l k || stands_in m k)
 in_line l m k = list_any-append (key_eq k) l m

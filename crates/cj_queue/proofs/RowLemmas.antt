@@ -7,7 +7,7 @@ use Rattle.cj_types.specs.Keys.{Place}
 use Rattle.cj_queue.specs.Queue.{Row, row_add, row_end, row_take, first, has}
 use Rattle.cj_queue.specs.Parts.{key_eq, keys_of, stands_in, IsLined}
 use Rattle.cj_queue.proofs.Sets.{has_keys, keys_put, keys_cut, same_keys, at_equal, eq_true, eq_self, eq_turned}
-use Rattle.cj_queue.proofs.LineLemmas.{head_once, tail_once, push_once, behind}
+use Rattle.cj_queue.proofs.LineLemmas.{head_once, tail_once, push_once, behind, refuted, true_or_false}
 
 -- the row of a line, of the keys that were added again and of those that are being worked on
 abbrev pub row : List Place → List Place → List Place → Row
@@ -25,15 +25,6 @@ on : {A : Type 0} (b : Bool) (x y : A) → b ≡ true → cond b x y ≡ x
 on true x y e = refl
 on false x y e = absurd (cc e)
 
--- what implies a test that fails, fails
-not_there : (a b : Bool) → (a ≡ true → b ≡ false) → b ≡ true → a ≡ false
-not_there true b f e = absurd (cc (f refl, e))
-not_there false b f e = refl
-
-not_held : (a b : Bool) → (a ≡ true → b ≡ true) → b ≡ false → a ≡ false
-not_held true b f e = absurd (cc (f refl, e))
-not_held false b f e = refl
-
 none_of : (a b : Bool) → a ≡ false → b ≡ false → (a || b) ≡ false
 none_of true b e f = absurd (cc e)
 none_of false b e f = f
@@ -43,22 +34,22 @@ one_of true b e = refl
 one_of false b e = e
 
 pub out_of_line : (l a p : List Place) (k : Place) → IsLined l a p → stands_in p k ≡ true → stands_in l k ≡ false
-out_of_line l a p k lined held = not_there (stands_in l k) (stands_in p k) (lined.free k) held
+out_of_line l a p k lined held = refuted (stands_in l k) (λ t. true_or_false (stands_in p k) held (lined.free k t))
 
 not_again : (l a p : List Place) (k : Place) → IsLined l a p → stands_in p k ≡ false → stands_in a k ≡ false
-not_again l a p k lined free = not_held (stands_in a k) (stands_in p k) (lined.held k) free
+not_again l a p k lined free = refuted (stands_in a k) (λ t. true_or_false (stands_in p k) (lined.held k t) free)
 
 neither : (l a : List Place) (k : Place) → stands_in l k ≡ false → stands_in a k ≡ false → stands_in (l ++ a) k ≡ false
 neither l a k e f = list_any-append (key_eq k) l a ∙ none_of (stands_in l k) (stands_in a k) e f
 
 -- ---- an add
 
+cond_same : (t y : Bool) → (t ≡ true → y ≡ true) → y ≡ cond t true y
+cond_same true y f = f refl
+cond_same false y f = refl
+
 there : (s : List Place) (k : Place) → stands_in s k ≡ true → Sets s s k true
-there s k e q = by (key_eq k q) refl
-  where
-    by : (b : Bool) → key_eq k q ≡ b → stands_in s q ≡ cond b true (stands_in s q)
-    by true t = at_equal (stands_in s) k q true e t
-    by false t = refl
+there s k e q = cond_same (key_eq k q) (stands_in s q) (at_equal (stands_in s) k q true e)
 
 or_cond : (x t y : Bool) → (x || cond t true y) ≡ cond t true (x || y)
 or_cond true true y = refl
@@ -70,8 +61,8 @@ put_behind l a b k sets q =
     list_any-append (key_eq q) l b ∙ ap (λ t. stands_in l q || t) (sets q) ∙ or_cond (stands_in l q) (key_eq k q) (stands_in a q)
     ∙ ap (cond (key_eq k q) true) (sym (list_any-append (key_eq q) l a))
 
--- a key that stands in the line
-pub add_dirty : (l a p : List Place) (k : Place) → stands_in (l ++ a) k ≡ true → row_add (row l a p) k ≡ row l a p
+-- a key that is dirty
+add_dirty : (l a p : List Place) (k : Place) → stands_in (l ++ a) k ≡ true → row_add (row l a p) k ≡ row l a p
 add_dirty l a p k e = on (has (keys_of (l ++ a)) k) _ _ (has_keys (l ++ a) k ∙ e)
 
 pub add_lined : (l a p : List Place) (k : Place) → stands_in l k ≡ true → row_add (row l a p) k ≡ row l a p
@@ -91,17 +82,6 @@ add_held l a b p k held sets = by (stands_in (l ++ a) k) refl
     by false e =
         off (has (keys_of (l ++ a)) k) _ _ (has_keys (l ++ a) k ∙ e)
         ∙ λ i. record { line = on (has (keys_of p) k) l (l ++ k ∷ []) (has_keys p k ∙ held) i; dirty = sym put i; processing = keys_of p }
-
-pub lined_put : (l a b p : List Place) (k : Place) → IsLined l a p → stands_in p k ≡ true → Sets a b k true → IsLined l b p
-lined_put l a b p k lined held sets = record {
-  free = lined.free;
-  held = λ q t. by q (key_eq k q) refl (sym (sets q) ∙ t);
-  once = lined.once;
-}
-  where
-    by : (q : Place) (b : Bool) → key_eq k q ≡ b → cond b true (stands_in a q) ≡ true → stands_in p q ≡ true
-    by q true e t = at_equal (stands_in p) k q true held e
-    by q false e t = lined.held q t
 
 -- one that is neither dirty nor being worked on
 last_put : (x t y : Bool) → ((x || (t || false)) || y) ≡ cond t true (x || y)

@@ -1,4 +1,4 @@
-ghost use Rattle.std.specs.Prelude.{◌≡◌, ◌≤◌, ◌<◌, ◌+◌, IfErr, IfOk, OnOk, OnErr, IsTrue, true, false, option_copied};
+ghost use Rattle.std.specs.Prelude.{◌≡◌, ◌≤◌, ◌<◌, ◌+◌, IfErr, IfOk, OnOk, OnErr, IsTrue, true, option_copied};
 ghost use Rattle.indexmap.specs.IndexSet.{spare, Updates};
 ghost use Rattle.cj_base.specs.declared.refusal.Refusal.TheVariants.{OutOfMemory};
 ghost use Rattle.cj_queue.specs.Queue.{new_row, row_add, row_take, row_end, first, has};
