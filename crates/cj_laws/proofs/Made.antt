@@ -1,5 +1,5 @@
 -- What a create answers has what the draft says.
-use Rattle.std.specs.Prelude.{◌≡◌, ◌<◌, ◌^◌, ℕ, Bool, true, false, Result, Ok, Err, is_some, if◌then◌else◌, refl}
+use Rattle.std.specs.Prelude.{◌≡◌, ℕ, Bool, true, false, Result, Ok, Err, is_some, if◌then◌else◌, refl}
 use Rattle.std.proofs.Common.{subst, arith}
 use Rattle.std.specs.FinMap as map
 use Rattle.cj_base.specs.declared.refusal.Refusal.{Refusal}
