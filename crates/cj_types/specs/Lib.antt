@@ -1,7 +1,9 @@
 pub mod Names
 pub mod Keys
 pub mod Uids
+pub mod Apart
 pub mod Limits
+pub mod WorldLimits
 pub mod Printed
 pub mod Owners
 pub mod LabelMap

@@ -7,6 +7,7 @@ mod event;
 mod job;
 mod key;
 mod labels;
+mod laws;
 mod limits;
 mod listed;
 mod made;
@@ -19,6 +20,7 @@ mod spec_text;
 mod text_pair;
 mod uid;
 mod versions;
+mod world_limits;
 
 pub use cj_base::{
     Cause, Civil, Field, FieldFault, FieldFaults, Millis, Refusal, Same, ScheduleCause,
@@ -30,6 +32,7 @@ pub use event::{Event, Object};
 pub use job::{Job, JobDraft};
 pub use key::Key;
 pub use labels::Labels;
+pub use laws::uid_laws;
 pub use limits::{Deadline, HistoryLimit};
 pub use listed::{Names, Reasons};
 pub use max::Max;
@@ -40,3 +43,4 @@ pub use policy::{Outcome, Policy, Reason};
 pub use spec_text::SpecText;
 pub use uid::Uid;
 pub use versions::version_text;
+pub use world_limits::Limits;
