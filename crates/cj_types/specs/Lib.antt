@@ -8,3 +8,4 @@ pub mod LabelMap
 pub mod Objects
 pub mod Made
 pub mod Current
+pub mod Events
