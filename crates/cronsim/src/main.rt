@@ -1,28 +1,11 @@
 //! The program `cronsim`.
 #![tactic(auto)]
 
-mod answer;
-mod check;
-mod command;
-mod failure;
-mod input;
-mod lines;
-mod next;
-mod next_text;
-mod plan;
-mod plan_text;
-mod request;
-mod serve;
 mod source;
-mod word_fault;
-mod words;
 
-use failure::Failure;
-use serve::serve;
+use cj_program::{Failure, WordFault, parse_words, serve};
 use source::Input;
 use std::process::ExitCode;
-use word_fault::WordFault;
-use words::parse_words;
 
 // Reads the words of the command line and serves what they ask for.
 fn run(rt: &HostRuntime) -> Result<u8, Failure> {
@@ -60,10 +43,3 @@ fn main(rt: HostRuntime) -> ExitCode {
         }
     }
 }
-
-#[cfg(test)]
-mod check_tests;
-#[cfg(test)]
-mod plan_tests;
-#[cfg(test)]
-mod tests;

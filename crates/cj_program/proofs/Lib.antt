@@ -1,0 +1,3 @@
+pub mod NextLemmas
+pub mod Refused
+pub mod Pairs

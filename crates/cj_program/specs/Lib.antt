@@ -1,0 +1,6 @@
+pub mod Command
+pub mod NextText
+pub mod Outcome
+pub mod Check
+pub mod Plan
+pub mod Answers
