@@ -2,6 +2,7 @@ pub mod Names
 pub mod Keys
 pub mod Uids
 pub mod Limits
+pub mod WorldLimits
 pub mod Printed
 pub mod Owners
 pub mod LabelMap

@@ -19,6 +19,7 @@ mod spec_text;
 mod text_pair;
 mod uid;
 mod versions;
+mod world_limits;
 
 pub use cj_base::{
     Cause, Civil, Field, FieldFault, FieldFaults, Millis, Refusal, Same, ScheduleCause,
@@ -40,3 +41,4 @@ pub use policy::{Outcome, Policy, Reason};
 pub use spec_text::SpecText;
 pub use uid::Uid;
 pub use versions::version_text;
+pub use world_limits::Limits;
