@@ -1,0 +1,76 @@
+ghost use Rattle.std.specs.Prelude.{◌≡◌, IsTrue, IfOk, IfErr};
+ghost use Rattle.cj_calls.specs.Rows.{is_in_row};
+
+use crate::{Answer, Call, Caller};
+use cj_base::Shared;
+use cj_types::{Refusal, TryCopy};
+use std::alloc::Global;
+use std::marker::Model;
+
+/// A call that was made, with its answer. Copies share both.
+///
+/// Its type keeps that the answer is one that this call can have: a reply of its kind or one of its refusals, or that
+/// the caller isn't permitted to make it. An entry of a call that found nothing to take, or no memory, is none.
+#[derive(Drop)]
+pub struct Entry {
+    caller: Caller,
+    call: Shared<Call>,
+    answer: Shared<Answer>,
+}
+
+impl Model for Entry {
+    ghost use Rattle.std.specs.Prelude.{IsTrue};
+    ghost use Rattle.cj_calls.specs.Rows.{Told, is_in_row};
+
+    ghost Value = { Told };
+
+    ghost view = { λ e. record { caller = e.caller; call = e.call; answer = e.answer } };
+
+    ghost invariant = { λ e. IsTrue (is_in_row e.call e.answer) };
+}
+
+impl Entry {
+    /// The entry of a call and its answer.
+    pub fn new(caller: Caller, call: Shared<Call>, answer: Shared<Answer>) -> Entry
+        requires { IsTrue (is_in_row call answer) }
+        ensures { result ≡ record { caller = caller; call = call; answer = answer } }
+    {
+        Entry {
+            caller,
+            call,
+            answer,
+        }
+    }
+
+    /// Who made the call.
+    pub fn caller(&self) -> Caller
+        ensures { result ≡ self.now.caller }
+    {
+        self.caller
+    }
+
+    /// The call.
+    pub fn call(&self) -> &Call
+        ensures value { result.now ≡ self.now.call }
+        ensures row { IsTrue (is_in_row self.now.call self.now.answer) }
+    {
+        self.call.get()
+    }
+
+    /// What it was answered.
+    pub fn answer(&self) -> &Answer
+        ensures { result.now ≡ self.now.answer }
+    {
+        self.answer.get()
+    }
+}
+
+impl TryCopy for Entry {
+    fn try_copy(&self, alloc: Global) -> Result<Entry, Refusal> {
+        Ok(Entry {
+            caller: self.caller,
+            call: self.call.try_copy(alloc)?,
+            answer: self.answer.try_copy(alloc)?,
+        })
+    }
+}
