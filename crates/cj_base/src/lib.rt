@@ -1,4 +1,4 @@
-//! What every layer speaks of: instants, civil times, texts, faults of fields, refusals.
+//! What every layer speaks of: instants, civil times, texts, faults of fields, refusals, shared values.
 #![tactic(auto)]
 
 mod cause;
@@ -7,11 +7,14 @@ mod copies;
 mod copying;
 mod faults;
 mod field;
+mod heap;
+mod listing;
 mod millis;
 mod refusal;
 mod same;
 mod schedule_fault;
 mod seconds;
+mod shared;
 mod text;
 mod version;
 
@@ -21,10 +24,13 @@ pub use copies::copy_all;
 pub use copying::TryCopy;
 pub use faults::{FieldFault, FieldFaults};
 pub use field::Field;
+pub use heap::Heap;
+pub use listing::Listing;
 pub use millis::Millis;
 pub use refusal::Refusal;
 pub use same::{Same, same_all};
 pub use schedule_fault::{ScheduleCause, ScheduleFault};
 pub use seconds::Seconds;
+pub use shared::Shared;
 pub use text::Text;
 pub use version::Version;

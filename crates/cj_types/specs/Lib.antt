@@ -10,3 +10,4 @@ pub mod LabelMap
 pub mod Objects
 pub mod Made
 pub mod Current
+pub mod Events

@@ -14,6 +14,7 @@ mod made;
 mod max;
 mod meta;
 mod names;
+mod object_name;
 mod owners;
 mod policy;
 mod spec_text;
@@ -23,8 +24,8 @@ mod versions;
 mod world_limits;
 
 pub use cj_base::{
-    Cause, Civil, Field, FieldFault, FieldFaults, Millis, Refusal, Same, ScheduleCause,
-    ScheduleFault, Seconds, Text, TryCopy, Version, copy_all, same_all,
+    Cause, Civil, Field, FieldFault, FieldFaults, Heap, Listing, Millis, Refusal, Same,
+    ScheduleCause, ScheduleFault, Seconds, Shared, Text, TryCopy, Version, copy_all, same_all,
 };
 pub use cron::{CronJob, CronJobDraft, CronSpec, CronStatus, JobTemplate};
 pub use cron_key::CronKey;
@@ -38,6 +39,7 @@ pub use listed::{Names, Reasons};
 pub use max::Max;
 pub use meta::{DraftMeta, Meta};
 pub use names::{name_cause, namespace_cause};
+pub use object_name::ObjectName;
 pub use owners::{OwnerRef, OwnerRefs};
 pub use policy::{Outcome, Policy, Reason};
 pub use spec_text::SpecText;
