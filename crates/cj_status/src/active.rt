@@ -6,7 +6,7 @@ use crate::listing::{Pick, picked};
 use crate::mine::is_running;
 use crate::order::Sorting;
 use crate::refs::JobRef;
-use cj_types::{Job, Key, Names, Refusal, Text, TryCopy};
+use cj_types::{Job, Key, Names, ObjectName, Refusal, Shared, TryCopy};
 use std::alloc::Global;
 
 fn names_of(alloc: Global, refs: &[JobRef]) -> Result<Names, Refusal>
@@ -15,13 +15,13 @@ fn names_of(alloc: Global, refs: &[JobRef]) -> Result<Names, Refusal>
 {
     let mut names = Names::new(alloc);
     for job in refs {
-        names.push(Text::new(alloc, job.key.name())?)?;
+        names.push(ObjectName::of_key(alloc, &job.key)?)?;
     }
     Ok(names)
 }
 
 /// The names of the unfinished Jobs of the CronJob, whose uid is given as a text, in byte order.
-pub fn active_of(alloc: Global, jobs: &[Job], uid: &str) -> Result<Names, Refusal>
+pub fn active_of(alloc: Global, jobs: &[Shared<Job>], uid: &str) -> Result<Names, Refusal>
     ensures ok { IfOk result (λ n. n ≡ active_of jobs.now uid.now) }
     ensures err { IfErr result (λ e. e ≡ OutOfMemory) }
 {
@@ -40,23 +40,24 @@ pub fn names_with(alloc: Global, names: &Names, key: &Key) -> Result<Names, Refu
         if waits {
             let order = key.name().cmp(other.as_str());
             if order.is_lt() {
-                all.push(Text::new(alloc, key.name())?)?;
+                all.push(ObjectName::of_key(alloc, key)?)?;
             }
             waits = order.is_gt();
         }
         all.push(other.try_copy(alloc)?)?;
     }
     if waits {
-        all.push(Text::new(alloc, key.name())?)?;
+        all.push(ObjectName::of_key(alloc, key)?)?;
     }
     Ok(all)
 }
 
-fn is_found(uid: &str, name: &str, found: &Option<Job>) -> bool
+fn is_found(uid: &str, name: &str, found: &Option<Shared<Job>>) -> bool
     ensures { result ≡ is_found uid.now name.now found.now }
 {
     match found {
-        Some(job) => {
+        Some(found) => {
+            let job = found.get();
             let named = job.key.name() == name;
             let runs = is_running(uid, job);
             named && runs
@@ -66,7 +67,7 @@ fn is_found(uid: &str, name: &str, found: &Option<Job>) -> bool
 }
 
 // The same of the one at that place, if there is one.
-fn is_found_at(uid: &str, name: &str, found: &[Option<Job>], place: usize) -> bool
+fn is_found_at(uid: &str, name: &str, found: &[Option<Shared<Job>>], place: usize) -> bool
     ensures { result ≡ is_found uid.now name.now (slice_index_or found.now place None) }
 {
     match found.get(place) {
@@ -76,7 +77,7 @@ fn is_found_at(uid: &str, name: &str, found: &[Option<Job>], place: usize) -> bo
 }
 
 // A copy of the name at the end, where it is kept.
-fn push_kept(alloc: Global, all: &mut Names, name: &Text, keeps: bool) -> Result<(), Refusal>
+fn push_kept(alloc: Global, all: &mut Names, name: &ObjectName, keeps: bool) -> Result<(), Refusal>
     ensures ok { OnOk result (all.new ≡ if keeps then all.old ++ name.now ∷ [] else all.old) }
     ensures err { IfErr result (λ e. e ≡ OutOfMemory) }
 {
@@ -92,7 +93,7 @@ pub fn still_active(
     alloc: Global,
     uid: &str,
     names: &Names,
-    found: &[Option<Job>],
+    found: &[Option<Shared<Job>>],
 ) -> Result<Names, Refusal>
     ensures ok { IfOk result (λ n. n ≡ still_active uid.now names.now found.now) }
     ensures err { IfErr result (λ e. e ≡ OutOfMemory) }

@@ -7,7 +7,7 @@ ghost use Rattle.cj_status.specs.Surplus.{not_kept, surplus_by, surplus_of};
 use crate::listing::{Pick, picked_items};
 use crate::order::{Sorting, compare};
 use crate::refs::{JobRef, JobRefs};
-use cj_types::{HistoryLimit, Job, Refusal};
+use cj_types::{HistoryLimit, Job, Refusal, Shared};
 use std::alloc::Global;
 
 fn first_other(items: &[JobRef], pivot: &JobRef) -> Option<usize>
@@ -46,7 +46,7 @@ fn surplus_by(
     pick: Pick,
     limit: HistoryLimit,
     uid: &str,
-    jobs: &[Job],
+    jobs: &[Shared<Job>],
 ) -> Result<JobRefs, Refusal>
     ensures ok { IfOk result (λ r. r ≡ surplus_by pick limit uid.now jobs.now) }
     ensures err { IfErr result (λ e. e ≡ OutOfMemory) }
@@ -64,7 +64,7 @@ pub fn surplus(
     successful: HistoryLimit,
     failed: HistoryLimit,
     uid: &str,
-    jobs: &[Job],
+    jobs: &[Shared<Job>],
 ) -> Result<JobRefs, Refusal>
     ensures ok { IfOk result (λ r. r ≡ surplus_of successful failed uid.now jobs.now) }
     ensures err { IfErr result (λ e. e ≡ OutOfMemory) }

@@ -6,7 +6,7 @@ ghost use Rattle.cj_status.specs.Picked.{picks, gathered, picked, running};
 use crate::mine::{is_complete, is_failed, is_mine, is_running};
 use crate::order::{Sorting, sort};
 use crate::refs::{JobRef, JobRefs};
-use cj_types::{Job, Refusal};
+use cj_types::{Job, Refusal, Shared};
 use std::alloc::Global;
 
 /// Which Jobs of a listing are meant, by the CronJob's uid.
@@ -38,15 +38,20 @@ fn picks(pick: Pick, uid: &str, job: &Job) -> bool
 }
 
 // Those of the listing that are meant, as they stand.
-fn gather(alloc: Global, pick: Pick, uid: &str, jobs: &[Job]) -> Result<Vec<JobRef>, Refusal>
+fn gather(
+    alloc: Global,
+    pick: Pick,
+    uid: &str,
+    jobs: &[Shared<Job>],
+) -> Result<Vec<JobRef>, Refusal>
     ensures ok { IfOk result (λ r. r.items ≡ gathered (picks pick uid.now) jobs.now) }
     ensures err { IfErr result (λ e. e ≡ OutOfMemory) }
 {
     let mut items = Vec::new(alloc);
     for job in jobs {
-        if picks(pick, uid, job) {
+        if picks(pick, uid, job.get()) {
             items
-                .push(JobRef::new(alloc, job)?)
+                .push(JobRef::new(alloc, job.get())?)
                 .map_err(|_| Refusal::OutOfMemory)?;
         }
     }
@@ -58,7 +63,7 @@ pub(crate) fn picked_items(
     pick: Pick,
     by: Sorting,
     uid: &str,
-    jobs: &[Job],
+    jobs: &[Shared<Job>],
 ) -> Result<Vec<JobRef>, Refusal>
     ensures ok { IfOk result (λ r. r.items ≡ picked pick by uid.now jobs.now) }
     ensures err { IfErr result (λ e. e ≡ OutOfMemory) }
@@ -74,7 +79,7 @@ pub fn picked(
     pick: Pick,
     by: Sorting,
     uid: &str,
-    jobs: &[Job],
+    jobs: &[Shared<Job>],
 ) -> Result<JobRefs, Refusal>
     ensures ok { IfOk result (λ r. r ≡ picked pick by uid.now jobs.now) }
     ensures err { IfErr result (λ e. e ≡ OutOfMemory) }
@@ -87,7 +92,7 @@ pub fn picked(
 fn push_running(
     alloc: Global,
     uid: &str,
-    found: &Option<Job>,
+    found: &Option<Shared<Job>>,
     items: &mut Vec<JobRef>,
 ) -> Result<(), Refusal>
     ensures ok { OnOk result (items.new.items ≡ items.old.items ++ gathered (is_running uid.now) (present (found.now ∷ []))) }
@@ -96,16 +101,20 @@ fn push_running(
     let Some(job) = found else {
         return Ok(());
     };
-    if !is_running(uid, job) {
+    if !is_running(uid, job.get()) {
         return Ok(());
     }
     items
-        .push(JobRef::new(alloc, job)?)
+        .push(JobRef::new(alloc, job.get())?)
         .map_err(|_| Refusal::OutOfMemory)
 }
 
 // The unfinished ones of those that were found, as they stand.
-fn gather_found(alloc: Global, uid: &str, found: &[Option<Job>]) -> Result<Vec<JobRef>, Refusal>
+fn gather_found(
+    alloc: Global,
+    uid: &str,
+    found: &[Option<Shared<Job>>],
+) -> Result<Vec<JobRef>, Refusal>
     ensures ok { IfOk result (λ r. r.items ≡ gathered (is_running uid.now) (present found.now)) }
     ensures err { IfErr result (λ e. e ≡ OutOfMemory) }
 {
@@ -117,7 +126,11 @@ fn gather_found(alloc: Global, uid: &str, found: &[Option<Job>]) -> Result<Vec<J
 }
 
 /// Of the Jobs that a live read found, the unfinished ones of the CronJob, by creation time, then name. The uid is given as a text.
-pub fn running_found(alloc: Global, uid: &str, found: &[Option<Job>]) -> Result<JobRefs, Refusal>
+pub fn running_found(
+    alloc: Global,
+    uid: &str,
+    found: &[Option<Shared<Job>>],
+) -> Result<JobRefs, Refusal>
     ensures ok { IfOk result (λ r. r ≡ running uid.now (present found.now)) }
     ensures err { IfErr result (λ e. e ≡ OutOfMemory) }
 {

@@ -40,4 +40,4 @@ pub loop-i-preserved : goal.loop-i-preserved
 loop-i-preserved c =
     let same_length = ap length c.as_slice-name-items.ensures in
     names_more c.args.uid.now c.name-item.result c.as_str.result.now c.args.names.now c.args.found.now c.loop-i.i c.is_found_at-keeps.result c.loop-i.all _ _
-    (c.name-item.is ∙ ap (λ l. get_or l c.loop-i.i c.name-item.result) c.as_slice-name-items.ensures) (omega (arith, same_length)) c.as_str.ensures c.is_found_at-keeps.ensures c.loop-i.invariant c.in_ok-push_kept.ensures.ok
+    (c.name-item.is ∙ ap (λ l. get_or l c.loop-i.i c.name-item.result) c.as_slice-name-items.ensures) (omega (arith, same_length)) c.as_str.ensures.value c.is_found_at-keeps.ensures c.loop-i.invariant c.in_ok-push_kept.ensures.ok
