@@ -11,6 +11,7 @@ pub added : (old new : ZoneTable) (pair name rule : List ℕ) → zones_of old �
     → AddsZone old new name (Rule rule) → AddsPair pair (zones_of new)
 added old new pair name rule utc n r adds = record {
   zone = adds.zone;
+  free = rw (← utc, ← n) adds.free;
   zones_are = adds.zones ∙ ap (λ zs. zs ++ adds.zone ∷ []) utc;
   name = adds.name_is ∙ n;
   clock = subst (λ text. IsClockOf (Rule text) adds.zone.rules) r adds.clock;
