@@ -32,7 +32,7 @@ impl<T: Drop> From<AllocFailed<T>> for Failure {
 // A failed call may say that memory was wanting.
 impl From<io::Error> for Failure {
     ghost use Rattle.std.specs.Prelude.{◌≢◌, ◌⊎◌};
-    ghost use Rattle.std.specs.Io.{error_kind};
+    ghost use Rattle.std.specs.IoError.{error_kind};
     ghost use Rattle.std.specs.declared.io.ErrorKind.TheVariants as Kind;
     ghost use Rattle.cj_program.specs.declared.failure.Failure.TheVariants as Why;
 

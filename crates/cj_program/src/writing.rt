@@ -1,5 +1,5 @@
 // What is written, and told where it can't be.
-ghost use Rattle.std.specs.Prelude.{◌≡◌, ◌<◌, ◌≤◌, OnOk};
+ghost use Rattle.std.specs.Prelude.{◌≡◌, ◌<◌, ◌≤◌, IfOk, OnErr, OnOk, length, take};
 ghost use Rattle.std.specs.Io.KnownBytes.{Appends, Keeps};
 ghost use Rattle.cj_program.specs.Outcome.{failure_line};
 ghost use Rattle.cj_program.specs.Writing.{AppendsSome, IsCut};
@@ -11,6 +11,20 @@ use std::io::{ErrorKind, Write};
 // A writer takes a text within so many writes.
 const MOST_WRITES: u64 = u64::MAX;
 
+// One write: how many of the bytes the writer took, which is none where it was interrupted.
+fn write_once<W: Write>(writer: &mut W, bytes: &[u8]) -> io::Result<usize>
+    ensures within { IfOk result (λ count. count ≤ length bytes.now) }
+    ensures taken { IfOk result (λ count. Appends (W.contents writer.old) (W.contents writer.new) (take count bytes.now)) }
+    ensures kept { OnErr result (Keeps (W.contents writer.old) (W.contents writer.new)) }
+{
+    match writer.write(bytes) {
+        Ok(0) => Err(io::Error::from(ErrorKind::WriteZero)),
+        Ok(count) => Ok(count),
+        Err(error) if error.kind() == ErrorKind::Interrupted => Ok(0),
+        Err(error) => Err(error),
+    }
+}
+
 // Writes all the bytes, or where the writer fails a beginning of them.
 fn write_whole<W: Write>(writer: &mut W, bytes: &[u8]) -> io::Result<()>
     ensures whole { OnOk result (Appends (W.contents writer.old) (W.contents writer.new) bytes.now) }
@@ -21,15 +35,8 @@ fn write_whole<W: Write>(writer: &mut W, bytes: &[u8]) -> io::Result<()>
         if at == bytes.len() {
             return Ok(());
         }
-        match writer.write(&bytes[at..]) {
-            Ok(0) => return Err(io::Error::from(ErrorKind::WriteZero)),
-            Ok(count) => at += count,
-            Err(error) => {
-                if error.kind() != ErrorKind::Interrupted {
-                    return Err(error);
-                }
-            }
-        }
+        let count = write_once(writer, &bytes[at..])?;
+        at += count;
     }
     Err(io::Error::from(ErrorKind::Interrupted))
 }
