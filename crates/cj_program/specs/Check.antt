@@ -1,5 +1,5 @@
 -- What `check` answers of a manifest.
-use Rattle.std.specs.Prelude.{◌≡◌, ◌⊎◌, ℕ, ◌==◌, ◌≤◌, List, [], ◌∷◌, ◌++◌, length, Option, None, Some, IsNone, IfSome, Bool, true, codes, decimal}
+use Rattle.std.specs.Prelude.{◌≡◌, ◌⊎◌, ℕ, ◌==◌, ◌≤◌, List, [], ◌∷◌, ◌++◌, length, Option, None, Some, IsNone, IfSome, Bool, false, true, codes, decimal}
 use Rattle.std.specs.List.{before_first, after_first, position_or_len}
 use Rattle.std.specs.Borrow.{Bor}
 use Rattle.jiff.specs.Words.{read_whole}
@@ -48,9 +48,10 @@ abbrev pub RefusesPair : Option (Bor (List ℕ)) → Type 0
 RefusesPair None = ⊥
 RefusesPair (Some pair) = IsNoZone pair.now
 
--- UTC, and the zone with that name whose clock is what `jiff` makes of the rule
+-- UTC, and the zone with that name, which is a free one, whose clock is what `jiff` makes of the rule
 pub record AddsPair (pair : List ℕ) (zones : List Zone) : Type 0 where
   pub zone : Zone
+  pub free : is_refused_name utc_zones (name_in pair) ≡ false
   pub zones_are : zones ≡ utc_zones ++ zone ∷ []
   pub name : zone.name ≡ name_in pair
   pub clock : IsClockOf (Rule (rule_in pair)) zone.rules

@@ -1,5 +1,5 @@
 -- The command line, as `clap` reads it.
-use Rattle.std.specs.Prelude.{◌≡◌, ℕ, ◌≤◌, List, [], ◌∷◌, codes, Option, Some, option_map, true}
+use Rattle.std.specs.Prelude.{◌≡◌, ℕ, ◌≤◌, List, [], ◌∷◌, codes, Option, None, Some, option_map, true}
 use Rattle.std.specs.Prelude.{⊤, ◌≢◌}
 use Rattle.std.specs.Str.Parse.{IsNumeral, digits_value, without_leading_plus}
 use Rattle.clap.specs.Words.{App, Row, Rule, Text, first_of, new_app, new_rule, with_rule, with_subcommand, subcommand_of, takes}
@@ -89,6 +89,12 @@ IsOfRows found (Plan r) = (rows : List Row) × (found ≡ Some (codes "plan", ro
 -- the request is of the subcommand that `clap` states for the words, with the values that it states
 abbrev pub IsOf : List Text → Request → Type 0
 IsOf words r = IsOfRows (subcommand_of cronsim_app words) r
+
+-- the name of the file that a request has read, where it has one read
+abbrev pub file_of : Request → Option Text
+file_of (Next r) = None
+file_of (Check r) = Some r.file.now
+file_of (Plan r) = Some r.file.now
 
 -- when words are refused: `clap` doesn't take them, or no request has the values that it states for them
 abbrev pub RefusesWords : List Text → WordFault → Type 0

@@ -4,3 +4,5 @@ pub mod Outcome
 pub mod Check
 pub mod Plan
 pub mod Answers
+pub mod Writing
+pub mod Told

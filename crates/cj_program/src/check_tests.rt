@@ -1,5 +1,5 @@
 use crate::request::{CheckRequest, Request};
-use crate::serve::serve;
+use crate::serving::serve;
 use crate::tests::serve_words;
 use std::io;
 use std::io::{ErrorKind, Read};

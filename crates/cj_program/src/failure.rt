@@ -1,6 +1,9 @@
+ghost use Rattle.std.specs.Prelude.{◌≡◌};
+
 use cj_base::Refusal;
 use std::alloc::{AllocError, AllocFailed};
 use std::io;
+use std::io::ErrorKind;
 use thiserror::Error;
 
 /// Why a request could not be served, though nothing is wrong with it.
@@ -26,9 +29,22 @@ impl<T: Drop> From<AllocFailed<T>> for Failure {
     }
 }
 
+// A failed call may say that memory was wanting.
 impl From<io::Error> for Failure {
-    fn from(_error: io::Error) -> Failure {
-        Failure::Device
+    ghost use Rattle.std.specs.Prelude.{◌≢◌, ◌⊎◌};
+    ghost use Rattle.std.specs.IoError.{error_kind};
+    ghost use Rattle.std.specs.declared.io.ErrorKind.TheVariants as Kind;
+    ghost use Rattle.cj_program.specs.declared.failure.Failure.TheVariants as Why;
+
+    ghost from_gives = { λ error e. ((error_kind error ≡ Kind.OutOfMemory) × (e ≡ Why.Memory))
+        ⊎ ((error_kind error ≢ Kind.OutOfMemory) × (e ≡ Why.Device)) };
+
+    fn from(error: io::Error) -> Failure {
+        if error.kind() == ErrorKind::OutOfMemory {
+            Failure::Memory
+        } else {
+            Failure::Device
+        }
     }
 }
 

@@ -12,15 +12,19 @@ mod next_text;
 mod plan;
 mod plan_text;
 mod request;
-mod serve;
+mod serving;
+mod told;
 mod word_fault;
 mod words;
+mod writing;
 
 pub use failure::Failure;
 pub use request::{CheckRequest, NextRequest, PlanRequest, Request};
-pub use serve::serve;
+pub use serving::serve;
+pub use told::tell_fault;
 pub use word_fault::WordFault;
 pub use words::parse_words;
+pub use writing::tell_failure;
 
 #[cfg(test)]
 mod check_tests;

@@ -1,3 +1,5 @@
+ghost use Rattle.std.specs.Prelude.{◌≡◌, option_map};
+
 /// What a command line asks for.
 #[derive(Debug, Drop)]
 pub enum Request<'a> {
@@ -10,8 +12,12 @@ pub enum Request<'a> {
 }
 
 impl<'a> Request<'a> {
+    ghost use Rattle.cj_program.specs.Command.{file_of};
+
     /// The name of the file that is to be read, where the command reads one; `-` is standard input.
-    pub fn file(&self) -> Option<&'a str> {
+    pub fn file(&self) -> Option<&'a str>
+        ensures { option_map (λ s. s.now) result ≡ file_of self.now }
+    {
         match self {
             Request::Next(_) => None,
             Request::Check(check) => Some(check.file),

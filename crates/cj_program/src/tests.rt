@@ -1,5 +1,5 @@
 use crate::request::Request;
-use crate::serve::serve;
+use crate::serving::serve;
 use crate::word_fault::WordFault;
 use crate::words::parse_words;
 use std::alloc::Global;

@@ -1,7 +1,8 @@
 ghost use Rattle.std.specs.Prelude.{◌≡◌, ◌<◌, ◌≤◌, IfOk};
 ghost use Rattle.std.specs.Io.KnownBytes.{Appends};
 ghost use Rattle.cj_program.specs.Answers.{IsOutcome};
-ghost use Rattle.cj_program.specs.Outcome.{Outcome, failure_line, outcome_of, status_of};
+ghost use Rattle.cj_program.specs.Outcome.{Outcome, outcome_of, status_of};
+ghost use Rattle.cj_program.specs.Writing.{IsFailed};
 
 use crate::answer::{Answer, Verdict};
 use crate::check::check_answer;
@@ -9,6 +10,7 @@ use crate::failure::Failure;
 use crate::next::next_answer;
 use crate::plan::plan_answer;
 use crate::request::Request;
+use crate::writing::{give, tell_failure};
 use std::alloc::Global;
 use std::io::{Read, Write};
 
@@ -26,22 +28,14 @@ fn answer_to<R: Read>(
     }
 }
 
-fn try_serve<R: Read, W: Write, E: Write>(
-    alloc: Global,
-    request: &Request<'_>,
-    input: &mut R,
-    out: &mut W,
-    err: &mut E,
-) -> Result<Verdict, Failure>
-    ensures { IfOk result (λ verdict. (o : Outcome) × IsOutcome request.now (R.remaining input.old) o × (verdict ≡ o.verdict)
-        × Appends (W.contents out.old) (W.contents out.new) o.printed
-        × Appends (E.contents err.old) (E.contents err.new) o.said) }
+fn status_code(verdict: Verdict) -> u8
+    ensures code { result ≡ status_of verdict }
+    ensures most { result < 3 }
 {
-    let answer = answer_to(alloc, request, input)?;
-    out.write_all(answer.printed.as_bytes())?;
-    out.flush()?;
-    err.write_all(answer.said.as_bytes())?;
-    Ok(answer.verdict)
+    match verdict {
+        Verdict::Done => 0,
+        Verdict::Refused => 1,
+    }
 }
 
 /// Serves a request, and answers the status: 0 where it is done, 1 where what it asks about is refused, 3
@@ -56,23 +50,17 @@ pub fn serve<R: Read, W: Write, E: Write>(
     ensures served { result < 3 → (o : Outcome) × IsOutcome request.now (R.remaining input.old) o × (result ≡ status_of o.verdict)
         × Appends (W.contents out.old) (W.contents out.new) o.printed
         × Appends (E.contents err.old) (E.contents err.new) o.said }
+    ensures failed { result ≡ 3 → IsFailed request.now (R.remaining input.old) (W.contents out.old) (W.contents out.new) (E.contents err.old) (E.contents err.new) }
     ensures most { result ≤ 3 }
 {
-    match try_serve(alloc, request, input, out, err) {
-        Ok(Verdict::Done) => 0,
-        Ok(Verdict::Refused) => 1,
-        Err(failure) => {
-            let _ = err.write_all(line_of(failure));
-            3
-        }
-    }
-}
-
-fn line_of(failure: Failure) -> &'static [u8]
-    ensures { result.now ≡ failure_line failure }
-{
-    match failure {
-        Failure::Device => b"cronsim: input or output failed\n",
-        Failure::Memory => b"cronsim: out of memory\n",
+    match answer_to(alloc, request, input) {
+        Ok(answer) => give(
+            status_code(answer.verdict),
+            answer.printed.as_str(),
+            answer.said.as_str(),
+            out,
+            err,
+        ),
+        Err(failure) => tell_failure(failure, err),
     }
 }
