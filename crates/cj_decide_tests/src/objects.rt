@@ -2,7 +2,7 @@
 use crate::row::{Row, deadline, maybe_time, policy, time};
 use cj_types::{
     CronJob, CronKey, CronSpec, CronStatus, HistoryLimit, Job, JobTemplate, Key, Labels, Meta,
-    Names, Outcome, OwnerRef, OwnerRefs, Refusal, Seconds, SpecText, Text, TryCopy, Uid, Version,
+    Names, Outcome, OwnerRef, OwnerRefs, Refusal, Seconds, Shared, SpecText, Text, TryCopy, Uid, Version,
 };
 use cj_zone::{Zone, ZoneTable};
 use std::alloc::Global;
@@ -23,7 +23,7 @@ fn meta(alloc: Global, count: u64, created: Seconds) -> Result<Meta, Refusal> {
 }
 
 fn template(alloc: Global) -> Result<JobTemplate, Refusal> {
-    let spec = SpecText::new(Text::new(alloc, "{}")?);
+    let spec = SpecText::new(alloc, Text::new(alloc, "{}")?)?;
     Ok(JobTemplate {
         labels: Labels::new(alloc),
         annotations: Labels::new(alloc),
@@ -62,7 +62,7 @@ pub fn cron_of(alloc: Global, row: &Row<'_>) -> Result<Option<CronJob>, Refusal>
     Ok(Some(CronJob {
         key: CronKey::new(alloc, "default", "hello")?,
         meta: meta(alloc, 1, created)?,
-        spec: spec(alloc, row)?,
+        spec: Shared::new(alloc, spec(alloc, row)?)?,
         status: status(alloc, row.last)?,
     }))
 }
@@ -102,7 +102,7 @@ fn job(
     state: &str,
     owner: &str,
 ) -> Result<Job, Refusal> {
-    let spec = SpecText::new(Text::new(alloc, "{}")?);
+    let spec = SpecText::new(alloc, Text::new(alloc, "{}")?)?;
     Ok(Job {
         key: Key::new(alloc, "default", name)?,
         meta: meta(alloc, 9, created)?,

@@ -7,7 +7,7 @@ ghost use Rattle.cj_jobs.specs.Index.{owned_cmp, found, found_at, Sets};
 
 use crate::owned::Owned;
 use cj_table::Table;
-use cj_types::{Job, Refusal, TryCopy};
+use cj_types::{Job, Listing, Refusal, Shared};
 use std::alloc::Global;
 use std::collections::BTreeSet;
 
@@ -37,9 +37,8 @@ pub(crate) fn cut_entry(index: &mut BTreeSet<Owned>, entry: Option<Owned>)
 
 // The Job at the entry, behind those that were found before.
 fn push_found(
-    jobs: &mut Vec<Job>,
-    table: &Table<Job>,
-    alloc: Global,
+    jobs: &mut Vec<Shared<Job>>,
+    table: &Table<Shared<Job>>,
     entry: &Owned,
 ) -> Result<(), Refusal>
     ensures ok { OnOk result (jobs.new.items ≡ jobs.old.items ++ found_at table.now entry.now) }
@@ -51,26 +50,25 @@ fn push_found(
     let Some(job) = table.get(key) else {
         return Ok(());
     };
-    jobs.push(job.try_copy(alloc)?)
-        .map_err(|_| Refusal::OutOfMemory)
+    jobs.push(job.share()?).map_err(|_| Refusal::OutOfMemory)
 }
 
-// Copies of the Jobs at the entries from `first` up to `last`.
+// The Jobs at the entries from `first` up to `last`.
 pub(crate) fn found_jobs(
-    table: &Table<Job>,
+    table: &Table<Shared<Job>>,
     index: &BTreeSet<Owned>,
     alloc: Global,
     first: Owned,
     last: Owned,
-) -> Result<Vec<Job>, Refusal>
+) -> Result<Listing<Shared<Job>>, Refusal>
     requires { IsLeBy owned_cmp first last }
-    ensures ok { IfOk result (λ v. v.items ≡ found table.now (keys_between owned_cmp (Included first) (Excluded last) index.now)) }
+    ensures ok { IfOk result (λ l. l ≡ found table.now (keys_between owned_cmp (Included first) (Excluded last) index.now)) }
     ensures ordered { IsOrdered owned_cmp index.now }
     ensures memory { IfErr result (λ e. e ≡ OutOfMemory) }
 {
     let mut jobs = Vec::new(alloc);
     for entry in index.range(first..last) {
-        push_found(&mut jobs, table, alloc, entry)?;
+        push_found(&mut jobs, table, entry)?;
     }
-    Ok(jobs)
+    Listing::new(alloc, jobs)
 }

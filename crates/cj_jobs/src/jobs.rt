@@ -6,15 +6,23 @@ ghost use Rattle.cj_jobs.specs.Owners.{owned_by, owners_of};
 use crate::entries::{cut_entry, found_jobs, put_entry};
 use crate::owned::{At, Owned};
 use cj_table::Table;
-use cj_types::{Job, Key, Refusal, TryCopy};
+use cj_types::{Job, Key, Listing, Refusal, Shared, TryCopy};
 use std::alloc::Global;
 use std::collections::BTreeSet;
 use std::marker::Model;
 
+// A copy of the Job's key.
+fn key_of(alloc: Global, job: &Shared<Job>) -> Result<Key, Refusal>
+    ensures ok { IfOk result (λ k. k ≡ job.now.key) }
+    ensures err { IfErr result (λ e. e ≡ OutOfMemory) }
+{
+    job.key.try_copy(alloc)
+}
+
 /// Jobs by key, each at its own, with an index from CronJobs to the Jobs that they own. Contracts see the Jobs alone.
 #[derive(Drop)]
 pub struct Jobs {
-    table: Table<Job>,
+    table: Table<Shared<Job>>,
     index: BTreeSet<Owned>,
 }
 
@@ -46,25 +54,25 @@ impl Jobs {
     }
 
     /// The Job at the key.
-    pub fn get(&self, key: &Key) -> Option<&Job>
+    pub fn get(&self, key: &Key) -> Option<&Shared<Job>>
         ensures value { option_copied result ≡ map.get self.now key.now }
         ensures keyed { IfSome result (λ j. j.now.key ≡ key.now) }
     {
         self.table.get(key)
     }
 
-    /// Copies of the Jobs in the order of their keys.
-    pub fn list(&self, alloc: Global) -> Result<Vec<Job>, Refusal>
-        ensures ok { IfOk result (λ v. v.items ≡ map.values self.now) }
+    /// The Jobs in the order of their keys. No Job is copied.
+    pub fn list(&self, alloc: Global) -> Result<Listing<Shared<Job>>, Refusal>
+        ensures ok { IfOk result (λ l. l ≡ map.values self.now) }
         ensures memory { IfErr result (λ e. e ≡ OutOfMemory) }
     {
-        self.table.list(alloc)
+        Listing::new(alloc, self.table.list(alloc)?)
     }
 
-    /// Copies of the Jobs of the key's namespace whose controller reference names a CronJob of `batch/v1` of the key's
-    /// name, whatever its uid, in order of name. Only these are walked.
-    pub fn owned_by(&self, alloc: Global, key: &Key) -> Result<Vec<Job>, Refusal>
-        ensures ok { IfOk result (λ v. v.items ≡ owned_by self.now key.now) }
+    /// The Jobs of the key's namespace whose controller reference names a CronJob of `batch/v1` of the key's
+    /// name, whatever its uid, in order of name. Only these are walked, and none is copied.
+    pub fn owned_by(&self, alloc: Global, key: &Key) -> Result<Listing<Shared<Job>>, Refusal>
+        ensures ok { IfOk result (λ l. l ≡ owned_by self.now key.now) }
         ensures memory { IfErr result (λ e. e ≡ OutOfMemory) }
     {
         let first = Owned::beside(alloc, key, At::Before)?;
@@ -73,15 +81,15 @@ impl Jobs {
     }
 
     /// Puts a Job at its key, where none stands. Where there is no memory the Jobs are as they were.
-    pub fn add(&mut self, alloc: Global, job: Job) -> Result<(), Refusal>
+    pub fn add(&mut self, alloc: Global, job: Shared<Job>) -> Result<(), Refusal>
         requires { map.get self.old job.key ≡ None }
         ensures ok { OnOk result (self.new ≡ map.insert self.old job.key job) }
         ensures err { OnErr result (self.new ≡ self.old) }
         ensures memory { IfErr result (λ e. e ≡ OutOfMemory) }
     {
         let entry = Owned::of(alloc, &job)?;
-        let key = job.key.try_copy(alloc)?;
-        let again = job.key.try_copy(alloc)?;
+        let key = key_of(alloc, &job)?;
+        let again = key_of(alloc, &job)?;
         self.table.insert(key, job)?;
         if let Err(refusal) = put_entry(&mut self.index, entry) {
             self.table.remove(&again);
@@ -92,13 +100,13 @@ impl Jobs {
 
     /// Puts a Job in place of the one at its key, which has the same owner references. Where there is no memory the Jobs
     /// are as they were.
-    pub fn replace(&mut self, alloc: Global, job: Job) -> Result<(), Refusal>
+    pub fn replace(&mut self, alloc: Global, job: Shared<Job>) -> Result<(), Refusal>
         requires { owners_of self.old job.key ≡ Some job.owners }
         ensures ok { OnOk result (self.new ≡ map.insert self.old job.key job) }
         ensures err { OnErr result (self.new ≡ self.old) }
         ensures memory { IfErr result (λ e. e ≡ OutOfMemory) }
     {
-        let at = job.key.try_copy(alloc)?;
+        let at = key_of(alloc, &job)?;
         self.table.insert(at, job)?;
         Ok(())
     }

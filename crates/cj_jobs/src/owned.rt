@@ -8,7 +8,7 @@ ghost use Rattle.cj_base.specs.declared.refusal.Refusal.TheVariants.{OutOfMemory
 ghost use Rattle.cj_jobs.specs.Index.{owned, owned_of, owned_at, key_at, owned_cmp, owned_total};
 
 use cj_table::Table;
-use cj_types::{Job, Key, Refusal, Text, TryCopy};
+use cj_types::{Job, Key, Refusal, Shared, Text, TryCopy};
 use std::alloc::Global;
 use std::cmp::Ordering;
 
@@ -31,7 +31,7 @@ pub(crate) struct Owned {
 
 impl Owned {
     // The Job's entry, if its controller reference names a CronJob.
-    pub(crate) fn of(alloc: Global, job: &Job) -> Result<Option<Owned>, Refusal>
+    pub(crate) fn of(alloc: Global, job: &Shared<Job>) -> Result<Option<Owned>, Refusal>
         ensures ok { IfOk result (λ o. o ≡ owned_of job.now) }
         ensures err { IfErr result (λ e. e ≡ OutOfMemory) }
     {
@@ -46,7 +46,7 @@ impl Owned {
     }
 
     // The entry of the Job at the key, if one stands there and its controller reference names a CronJob.
-    pub(crate) fn at(alloc: Global, table: &Table<Job>, key: &Key) -> Result<Option<Owned>, Refusal>
+    pub(crate) fn at(alloc: Global, table: &Table<Shared<Job>>, key: &Key) -> Result<Option<Owned>, Refusal>
         ensures ok { IfOk result (λ o. o ≡ owned_at (map.get table.now key.now)) }
         ensures err { IfErr result (λ e. e ≡ OutOfMemory) }
     {

@@ -87,7 +87,7 @@ reads_back zones o ms h =
             ∙ step (row.job_template s) t _ spec.template ∙ step (row.job_spec t) (object ms) _ spec.job
             ∙ made _ _ _ _ _ _ says.key_is says.meta_is spec.said;
         warned = sym (
-            no_faults _ _ (no_faults _ _ (no_faults _ _ (no_faults _ _ parts.known
+            no_faults _ _ (no_faults _ _ (no_faults _ _ (no_faults _ _ (no_faults _ _ parts.current parts.known)
             (ap (λ r. dropped In.CronMetadata (result_ok r)) whole.metadata ∙ cron_meta_known o.key o.meta o.meta.labels o.meta.annotations))
             (ap (λ r. dropped In.CronSpec (result_ok r)) whole.spec ∙ spec.known))
             (ap (dropped In.Template) template ∙ spec.template_known))

@@ -32,10 +32,14 @@ object_is (Some (object ms)) d h = (ms, cc h)
 -- an object without a float, whose rows at the top are these
 pub record WholeSays (k : ObjectKind) (m s : Data) (w : Data) : Type 0 where
   pub whole : row.whole w ≡ Ok w
-  pub api_version : result_err (row.api_version w) ≡ None
+  pub api_version : result_err (row.api_version k w) ≡ None
   pub kind : result_err (row.kind k w) ≡ None
   pub metadata : row.metadata w ≡ Ok m
   pub spec : row.spec w ≡ Ok s
+
+version_row : (k : ObjectKind) (o : Option Data) → o ≡ Some (string (codes "batch/v1")) → result_err (required (row.supported k) o) ≡ None
+version_row Of.Cron o h = ap (λ x. result_err (required (row.supported Of.Cron) x)) h
+version_row Of.Job o h = ap (λ x. result_err (required (row.supported Of.Job) x)) h
 
 kind_row : (k : ObjectKind) (o : Option Data) → o ≡ Some (string (row.kind_name k)) → result_err (required (choice (row.kind_name k)) o) ≡ None
 kind_row Of.Cron o h = ap (λ x. result_err (required (choice (codes "CronJob")) x)) h
@@ -48,7 +52,7 @@ whole_says k metadata ms status plain is =
     let w = object_data (row.kind_name k) metadata (object ms) status in
     record {
       whole = ap (λ b. when (not b) Why.Fraction w) plain;
-      api_version = ap (λ o. result_err (required (choice (codes "batch/v1")) o)) is.api_version;
+      api_version = version_row k _ is.api_version;
       kind = kind_row k _ is.kind;
       metadata = ap (required an_object) is.metadata;
       spec = ap (required an_object) is.spec;
@@ -60,6 +64,6 @@ pub whole_sound : (k : ObjectKind) (metadata spec w : Data) (spec_faults : Data 
 whole_sound k metadata spec w spec_faults says in_metadata in_spec =
     ap (with_rows At.Whole (object_faults k spec_faults)) says.whole
     ∙ no_faults _ _
-    (no_faults _ _ (no_faults _ _ (no_fault At.ApiVersion (row.api_version w) says.api_version) (no_fault At.Kind (row.kind k w) says.kind))
+    (no_faults _ _ (no_faults _ _ (no_fault At.ApiVersion (row.api_version k w) says.api_version) (no_fault At.Kind (row.kind k w) says.kind))
     (ap (with_rows At.Metadata (metadata_faults k)) says.metadata ∙ in_metadata))
     (ap (with_rows At.Spec spec_faults) says.spec ∙ in_spec)

@@ -9,7 +9,7 @@ use Rattle.cj_written.specs.Parts.{put_some_list, put_labels}
 use Rattle.cj_written.specs.Objects.{identity, object_data}
 use Rattle.cj_manifest.specs.declared.level.Level.TheVariants as In
 use Rattle.cj_manifest.specs.Members.{present, unless_null}
-use Rattle.cj_manifest.specs.Warnings.{dropped}
+use Rattle.cj_manifest.specs.Warnings.{dropped, version_warnings}
 use Rattle.cj_manifest.proofs.LabelTrips.{Entries, labels_data}
 use Rattle.cj_manifest.proofs.OwnerTrips.{list_data}
 
@@ -20,11 +20,12 @@ pub record WholeIs (k : List ℕ) (m : Members) (s : Data) (w : Data) : Type 0 w
   pub kind : present (codes "kind") w ≡ Some (string k)
   pub metadata : present (codes "metadata") w ≡ Some (object m)
   pub spec : present (codes "spec") w ≡ unless_null s
+  pub current : version_warnings w ≡ []
   pub known : dropped In.Top (Some w) ≡ []
 
 pub whole_is : (kind : List ℕ) (metadata : Members) (spec : Data) (status : Members) → WholeIs kind metadata spec (object_data kind metadata spec status)
-whole_is kind metadata spec no_members = record { api_version = refl; kind = refl; metadata = refl; spec = refl; known = refl }
-whole_is kind metadata spec (member k d ms) = record { api_version = refl; kind = refl; metadata = refl; spec = refl; known = refl }
+whole_is kind metadata spec no_members = record { api_version = refl; kind = refl; metadata = refl; spec = refl; current = refl; known = refl }
+whole_is kind metadata spec (member k d ms) = record { api_version = refl; kind = refl; metadata = refl; spec = refl; current = refl; known = refl }
 
 -- ---- metadata
 

@@ -99,7 +99,7 @@ cron_spec_faults zones s =
 
 abbrev pub top_faults : ObjectKind → Data → List FieldFault
 top_faults k d =
-    fault_by At.ApiVersion (row.api_version d)
+    fault_by At.ApiVersion (row.api_version k d)
     ++ fault_by At.Kind (row.kind k d)
     ++ with_rows At.Metadata (metadata_faults k) (row.metadata d)
 

@@ -33,8 +33,13 @@ name_limit Of.Job = longest
 abbrev pub whole : Data → Result Data Cause
 whole d = and_then (λ o. when (not (has_float o)) Why.Fraction o) (an_object d)
 
-abbrev pub api_version : Data → Result (List ℕ) Cause
-api_version d = required (choice (codes "batch/v1")) (present (codes "apiVersion") d)
+-- a CronJob's may be of the version before batch/v1, which Kubernetes served up to 1.24: "Deprecated API Migration Guide"
+abbrev pub supported : ObjectKind → Data → Result (List ℕ) Cause
+supported Of.Cron d = either (codes "batch/v1") (codes "batch/v1beta1") d
+supported Of.Job d = choice (codes "batch/v1") d
+
+abbrev pub api_version : ObjectKind → Data → Result (List ℕ) Cause
+api_version k d = required (supported k) (present (codes "apiVersion") d)
 
 abbrev pub kind : ObjectKind → Data → Result (List ℕ) Cause
 kind k d = required (choice (kind_name k)) (present (codes "kind") d)

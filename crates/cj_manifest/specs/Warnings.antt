@@ -1,8 +1,10 @@
--- The members that are dropped with a warning, by their paths: level after level, by name within a level.
-use Rattle.std.specs.Prelude.{ℕ, List, [], ◌∷◌, ◌++◌, codes, bytes_eq, Bool, ◌||◌, if◌then◌else◌, Option, Some, None, is_none, unwrap_or}
+-- What a manifest is warned of, by its path: the older version of the API, then the members that are dropped, level after
+-- level, by name within a level.
+use Rattle.std.specs.Prelude.{ℕ, List, [], ◌∷◌, ◌++◌, codes, bytes_eq, Bool, false, ◌||◌, if◌then◌else◌, Option, Some, None, is_none, unwrap_or}
 use Rattle.std.specs.Result.{result_ok}
 use Rattle.serde_json.specs.Data.{Data, Members, no_members, member}
 use Rattle.serde_json.specs.Find.{as_object}
+use Rattle.cj_manifest.specs.declared.kind.ObjectKind.TheVariants as Of
 use Rattle.cj_manifest.specs.declared.level.Level.{Level}
 use Rattle.cj_manifest.specs.declared.level.Level.TheVariants as In
 use Rattle.cj_manifest.specs.Members.{unless_null}
@@ -73,9 +75,19 @@ template_in d = then_do (result_ok (row.spec d)) (λ s. result_ok (row.job_templ
 abbrev pub template_metadata_in : Data → Option Data
 template_metadata_in d = then_do (template_in d) (λ t. given (row.template_metadata t))
 
+abbrev pub is_beta : Option (List ℕ) → Bool
+is_beta None = false
+is_beta (Some version) = bytes_eq version (codes "batch/v1beta1")
+
+-- of a CronJob that is given in the older version of the API, as it is stored and written in batch/v1
+abbrev pub version_warnings : Data → List (List ℕ)
+version_warnings d = if is_beta (result_ok (row.api_version Of.Cron d)) then codes "apiVersion" ∷ [] else []
+
+-- first the version of the API, then the members that are dropped
 abbrev pub cron_warnings : Data → List (List ℕ)
 cron_warnings d =
-    dropped In.Top (Some d)
+    version_warnings d
+    ++ dropped In.Top (Some d)
     ++ dropped In.CronMetadata (result_ok (row.metadata d))
     ++ dropped In.CronSpec (result_ok (row.spec d))
     ++ dropped In.Template (template_in d)

@@ -22,7 +22,7 @@ use crate::spec_rows::{
 };
 use cj_types::{
     CronJobDraft, CronKey, CronSpec, DraftMeta, HistoryLimit, JobDraft, JobTemplate, Key, Labels,
-    OwnerRefs, Policy, Refusal, SpecText, Text,
+    OwnerRefs, Policy, Refusal, Shared, SpecText, Text,
 };
 use serde_json::Value;
 use std::alloc::Global;
@@ -107,7 +107,7 @@ fn kept(alloc: Global, value: &Value) -> Result<SpecText, Refusal>
     ensures err { IfErr result (λ e. e ≡ OutOfMemory) }
 {
     let text = value.to_string(alloc)?;
-    Ok(SpecText::new(Text::from_string(text)))
+    SpecText::new(alloc, Text::from_string(text))
 }
 
 fn template_labels(alloc: Global, metadata: Option<&Value>) -> Result<Labels, Refusal>
@@ -215,7 +215,7 @@ pub(crate) fn cron_draft(alloc: Global, value: &Value) -> Result<Option<CronJobD
     Ok(Some(CronJobDraft {
         key: cron_key(alloc, metadata)?,
         meta: meta(alloc, metadata)?,
-        spec: cron_spec(alloc, spec, template, job_spec)?,
+        spec: Shared::new(alloc, cron_spec(alloc, spec, template, job_spec)?)?,
     }))
 }
 

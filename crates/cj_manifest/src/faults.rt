@@ -226,7 +226,7 @@ fn cron_spec_rows(
 fn top_faults(faults: &mut FieldFaults, kind: ObjectKind, value: &Value) -> Result<(), AllocError>
     ensures { OnOk result (faults.new ≡ faults.old ++ table.top_faults kind (view value.now)) }
 {
-    note(faults, Field::ApiVersion, api_version(value).err())?;
+    note(faults, Field::ApiVersion, api_version(kind, value).err())?;
     note(faults, Field::Kind, kind_row(kind, value).err())?;
     metadata_rows(faults, kind, value)
 }

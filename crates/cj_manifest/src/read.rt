@@ -109,7 +109,8 @@ fn manifest_of(
 }
 
 /// Reads the manifest of a CronJob under the zones of a table: what it says, with the defaults, and a warning for each
-/// member that is dropped.
+/// member that is dropped; before these one for `apiVersion` where that is `batch/v1beta1`, the version before `batch/v1`,
+/// as which the object is stored and written.
 ///
 /// `Syntax` where the bytes aren't UTF-8, or no JSON, or nest more than 127 deep, or have a number that no float comes
 /// near; `Invalid` with every fault, in the order of the table of fields, of which nothing below a faulty object is
@@ -127,7 +128,7 @@ pub fn read_cronjob(
     cron_of(alloc, &value, zones)
 }
 
-/// Reads the manifest of a Job, as `read_cronjob` reads a CronJob's.
+/// Reads the manifest of a Job, as `read_cronjob` reads a CronJob's; its `apiVersion` is `batch/v1` alone.
 pub fn read_job(alloc: Global, bytes: &[u8]) -> Result<(JobDraft, Vec<Warning>), Refusal>
     ensures read { IfOk result (λ r. IsReading JobDraft table.job_faults said.job_draft warned.job_warnings bytes.now r.0 r.1.items) }
     ensures kept { IfOk result (λ r. IsKept r.0.spec) }

@@ -5,7 +5,7 @@ ghost use Rattle.serde_json.specs.View.{view, items_view, members_view};
 ghost use Rattle.cj_manifest.specs.Table as row;
 
 use crate::kind::ObjectKind;
-use crate::kinds::{choice, object, present, text, texts};
+use crate::kinds::{choice, either, object, present, text, texts};
 use crate::{kinds, owner};
 use cj_types::Cause;
 use cj_written::has_float;
@@ -24,11 +24,23 @@ pub(crate) fn whole(value: &Value) -> Result<&Value, Cause>
     }
 }
 
-pub(crate) fn api_version(value: &Value) -> Result<&str, Cause>
-    ensures { result_err result ≡ result_err (row.api_version (view value.now)) }
+// `batch/v1`, and for a CronJob also the version before it.
+fn supported(kind: ObjectKind, value: &Value) -> Result<&str, Cause>
+    ensures fault { result_err result ≡ result_err (row.supported kind (view value.now)) }
+    ensures value { option_map (λ s. s.now) (result_ok result) ≡ result_ok (row.supported kind (view value.now)) }
+{
+    match kind {
+        ObjectKind::Cron => either(value, "batch/v1", "batch/v1beta1"),
+        ObjectKind::Job => choice(value, "batch/v1"),
+    }
+}
+
+pub(crate) fn api_version(kind: ObjectKind, value: &Value) -> Result<&str, Cause>
+    ensures fault { result_err result ≡ result_err (row.api_version kind (view value.now)) }
+    ensures value { option_map (λ s. s.now) (result_ok result) ≡ result_ok (row.api_version kind (view value.now)) }
 {
     match present(value, "apiVersion") {
-        Some(found) => choice(found, "batch/v1"),
+        Some(found) => supported(kind, found),
         None => Err(Cause::Required),
     }
 }

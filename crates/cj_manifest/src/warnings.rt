@@ -1,11 +1,12 @@
-// The members that are dropped with a warning.
+// What a manifest is warned of: the older version of the API, and the members that are dropped.
 ghost use Rattle.std.specs.Prelude.{◌≡◌, ◌++◌, option_map, IfOk, IfErr, OnOk};
 ghost use Rattle.cj_base.specs.declared.refusal.Refusal.TheVariants.{OutOfMemory};
 ghost use Rattle.serde_json.specs.View.{view, members_view};
 ghost use Rattle.cj_manifest.specs.Warnings as table;
 
+use crate::kind::ObjectKind;
 use crate::level::Level;
-use crate::rows::{metadata, spec};
+use crate::rows::{api_version, metadata, spec};
 use crate::spec_rows::{job_template, template_metadata};
 use crate::warning::Warning;
 use cj_types::Refusal;
@@ -63,12 +64,34 @@ fn template_metadata_in(value: &Value) -> Option<&Value>
     template_metadata(template).unwrap_or(None)
 }
 
+fn is_beta(version: Option<&str>) -> bool
+    ensures { result ≡ table.is_beta (option_map (λ s. s.now) version.entry) }
+{
+    match version {
+        Some(version) => version == "batch/v1beta1",
+        None => false,
+    }
+}
+
+// The older version of the API is read, and what is stored and written is `batch/v1`.
+fn note_version(warnings: &mut Vec<Warning>, alloc: Global, value: &Value) -> Result<(), Refusal>
+    ensures ok { OnOk result (warnings.new.items ≡ warnings.old.items ++ table.version_warnings (view value.now)) }
+    ensures err { IfErr result (λ e. e ≡ OutOfMemory) }
+{
+    if is_beta(api_version(ObjectKind::Cron, value).ok()) {
+        let warning = Warning::new(alloc, "", "apiVersion")?;
+        warnings.push(warning).map_err(|_| Refusal::OutOfMemory)?;
+    }
+    Ok(())
+}
+
 /// The warnings of a CronJob's manifest.
 pub(crate) fn cron_warnings(alloc: Global, value: &Value) -> Result<Vec<Warning>, Refusal>
     ensures ok { IfOk result (λ v. v.items ≡ table.cron_warnings (view value.now)) }
     ensures err { IfErr result (λ e. e ≡ OutOfMemory) }
 {
     let mut found = Vec::new(alloc);
+    note_version(&mut found, alloc, value)?;
     note_dropped(&mut found, alloc, Level::Top, Some(value))?;
     note_dropped(&mut found, alloc, Level::CronMetadata, metadata(value).ok())?;
     note_dropped(&mut found, alloc, Level::CronSpec, spec(value).ok())?;

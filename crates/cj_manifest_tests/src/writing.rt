@@ -1,7 +1,7 @@
 use cj_types::{
     CronJob, CronKey, CronSpec, CronStatus, Deadline, HistoryLimit, Job, JobTemplate, Key, Labels,
-    Meta, Names, Outcome, OwnerRef, OwnerRefs, Policy, Refusal, Seconds, SpecText, Text, Uid,
-    Version,
+    Meta, Names, ObjectName, Outcome, OwnerRef, OwnerRefs, Policy, Refusal, Seconds, Shared,
+    SpecText, Text, Uid, Version,
 };
 use cj_written::Written;
 use std::alloc::Global;
@@ -53,7 +53,7 @@ fn plain_meta(alloc: Global) -> Result<Meta, Fail> {
 }
 
 fn spec_text(alloc: Global, text: &str) -> Result<SpecText, Refusal> {
-    Ok(SpecText::new(Text::new(alloc, text)?))
+    SpecText::new(alloc, Text::new(alloc, text)?)
 }
 
 fn template(alloc: Global, labels: Labels, kept: &str) -> Result<JobTemplate, Refusal> {
@@ -100,7 +100,7 @@ fn plain_status(alloc: Global) -> CronStatus {
 
 fn full_status(alloc: Global) -> Result<CronStatus, Refusal> {
     let mut active = Names::new(alloc);
-    active.push(Text::new(alloc, "x")?)?;
+    active.push(ObjectName::new(alloc, "x")?)?;
     Ok(CronStatus {
         active,
         last_schedule_time: minute(1),
@@ -112,7 +112,7 @@ fn cron(alloc: Global, meta: Meta, spec: CronSpec, status: CronStatus) -> Result
     Ok(CronJob {
         key: CronKey::new(alloc, "ns", "hello")?,
         meta,
-        spec,
+        spec: Shared::new(alloc, spec)?,
         status,
     })
 }

@@ -2,7 +2,7 @@ ghost use Rattle.std.specs.Prelude.{◌≡◌, IfOk};
 ghost use Rattle.cj_watch.specs.Numbers.{version_of};
 
 use cj_types::{
-    Event, Job, Key, Labels, Meta, Object, OwnerRefs, Refusal, Seconds, SpecText, Text, Uid,
+    Event, Job, Key, Labels, Meta, Object, OwnerRefs, Refusal, Seconds, Shared, SpecText, Text, Uid,
     Version,
 };
 use std::alloc::Global;
@@ -27,7 +27,7 @@ fn job(alloc: Global, name: &str, version: u64) -> Result<Job, Refusal>
         key: Key::new(alloc, "default", name)?,
         meta: meta(alloc, version)?,
         owners: OwnerRefs::new(alloc),
-        spec: SpecText::new(Text::new(alloc, "{}")?),
+        spec: SpecText::new(alloc, Text::new(alloc, "{}")?)?,
         outcome: None,
     })
 }
@@ -37,7 +37,7 @@ pub fn event(alloc: Global, tag: u8, version: u64) -> Result<Event, Refusal>
     ensures { IfOk result (λ e. version_of e ≡ version) }
 {
     let name = if tag < 3 { "a" } else { "b" };
-    let object = Object::Job(job(alloc, name, version)?);
+    let object = Object::Job(Shared::new(alloc, job(alloc, name, version)?)?);
     Ok(match tag % 3 {
         0 => Event::Added(object),
         1 => Event::Modified(object),

@@ -14,7 +14,7 @@ fn write(alloc: Global, log: &mut WatchLog, tag: u8) -> Result<(), Refusal> {
 }
 
 // A log of this window after so many writes.
-fn log_after(alloc: Global, window: u16, writes: u16) -> Result<WatchLog, Refusal> {
+fn log_after(alloc: Global, window: u32, writes: u16) -> Result<WatchLog, Refusal> {
     let window = Window::new(window).ok_or(Refusal::NotFound)?;
     let mut log = WatchLog::new(alloc, window)?;
     for _ in 0..writes {
@@ -84,11 +84,11 @@ fn tells_what_came_after_a_version(rt: HostRuntime) -> Result<(), Fail> {
 }
 
 #[test]
-fn a_window_has_1_to_1000_events(rt: HostRuntime) {
+fn a_window_has_1_to_100000_events(rt: HostRuntime) {
     assert_eq!(rt; Window::new(0), None);
     assert_eq!(rt; Window::new(1).map(|window| window.get()), Some(1));
-    assert_eq!(rt; Window::new(1_000).map(|window| window.get()), Some(1_000));
-    assert_eq!(rt; Window::new(1_001), None);
+    assert_eq!(rt; Window::new(100_000).map(|window| window.get()), Some(100_000));
+    assert_eq!(rt; Window::new(100_001), None);
 }
 
 // Whether these are the events after the version, at most so many, of a list with the tags of all writes.
@@ -130,7 +130,7 @@ fn agrees(
     }
 }
 
-const WINDOW: u16 = 40;
+const WINDOW: u32 = 40;
 
 #[test]
 fn agrees_with_a_list_of_all_writes(rt: HostRuntime) -> Result<(), Fail> {

@@ -1,7 +1,7 @@
 use crate::ask::{Ask, name_at, spec_at};
 use cj_types::{
     CronJobDraft, CronKey, CronSpec, CronStatus, DraftMeta, HistoryLimit, JobDraft, JobTemplate,
-    Key, Labels, Names, OwnerRef, OwnerRefs, Policy, Refusal, Seconds, SpecText, Text, Uid,
+    Key, Labels, Names, OwnerRef, OwnerRefs, Policy, Refusal, Seconds, Shared, SpecText, Text, Uid,
     Version, version_text,
 };
 use std::alloc::Global;
@@ -42,7 +42,7 @@ fn meta(alloc: Global, ask: &Ask) -> Result<DraftMeta, Refusal> {
 }
 
 fn template(alloc: Global) -> Result<JobTemplate, Refusal> {
-    let spec = SpecText::new(Text::new(alloc, "{}")?);
+    let spec = SpecText::new(alloc, Text::new(alloc, "{}")?)?;
     Ok(JobTemplate {
         labels: Labels::new(alloc),
         annotations: Labels::new(alloc),
@@ -67,7 +67,7 @@ pub fn cron_draft(alloc: Global, ask: &Ask) -> Result<CronJobDraft, Refusal> {
     Ok(CronJobDraft {
         key: CronKey::new(alloc, "default", name_at(ask.name))?,
         meta: meta(alloc, ask)?,
-        spec: cron_spec(alloc, spec_at(ask.spec))?,
+        spec: Shared::new(alloc, cron_spec(alloc, spec_at(ask.spec))?)?,
     })
 }
 
@@ -116,7 +116,7 @@ fn owners(alloc: Global, place: usize) -> Result<OwnerRefs, Refusal> {
 }
 
 pub fn job_draft(alloc: Global, ask: &Ask) -> Result<JobDraft, Refusal> {
-    let spec = SpecText::new(Text::new(alloc, spec_at(ask.spec))?);
+    let spec = SpecText::new(alloc, Text::new(alloc, spec_at(ask.spec))?)?;
     Ok(JobDraft {
         key: key(alloc, ask)?,
         meta: meta(alloc, ask)?,

@@ -93,7 +93,7 @@ fn no_meta(alloc: Global) -> DraftMeta {
 }
 
 fn owned_draft(alloc: Global, name: &str, cron: &str, uid: &str) -> Result<JobDraft, Refusal> {
-    let spec = SpecText::new(Text::new(alloc, "{}")?);
+    let spec = SpecText::new(alloc, Text::new(alloc, "{}")?)?;
     Ok(JobDraft {
         key: Key::new(alloc, "default", name)?,
         meta: no_meta(alloc),

@@ -1,4 +1,5 @@
 pub mod Order
 pub mod Gets
 pub mod Puts
+pub mod Apart
 pub mod Rows

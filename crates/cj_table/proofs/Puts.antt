@@ -13,7 +13,7 @@ tie_true Less e = absurd (cc e)
 tie_true Equal e = refl
 tie_true Greater e = absurd (cc e)
 
-one_key : (q k : Place) → eq_by_cmp place_cmp q k ≡ true → q ≡ k
+pub one_key : (q k : Place) → eq_by_cmp place_cmp q k ≡ true → q ≡ k
 one_key q k e = places_exact q k (tie_true (place_cmp q k) e)
 
 module _ {X : Type 0} where

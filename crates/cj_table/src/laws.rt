@@ -2,6 +2,7 @@ ghost use Rattle.std.specs.Prelude.{◌≡◌, ◌⊎◌, Some, None};
 ghost use Rattle.std.specs.Cmp.{IsTotalOrder};
 ghost use Rattle.std.specs.FinMap as map;
 ghost use Rattle.cj_types.specs.Keys.{Place, place_cmp};
+ghost use Rattle.cj_table.specs.Apart.{PlacesApart, NumbersApart};
 
 /// The laws of maps by key: the order is total and tells any two keys apart; what stands at a key after an insert and
 /// after a removal; an insert of an absent key is undone by its removal.
@@ -15,4 +16,10 @@ pub fn table_laws<X>()
         ((q ≡ k) × (map.get (map.remove m k) q ≡ None)) ⊎ (map.get (map.remove m k) q ≡ map.get m q) }
     ensures cut { (m : map.FinMap place_cmp X) (k : Place) → map.get (map.remove m k) k ≡ None }
     ensures undone { (m : map.FinMap place_cmp X) (k : Place) (v : X) → map.get m k ≡ None → map.remove (map.insert m k v) k ≡ m }
+{}
+
+/// What stands where after an insert and after a removal, with the other keys apart: of maps by key, and of maps by number.
+pub fn apart_laws<X>()
+    ensures places { PlacesApart X }
+    ensures numbers { NumbersApart X }
 {}

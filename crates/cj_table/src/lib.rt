@@ -4,5 +4,5 @@
 mod laws;
 mod table;
 
-pub use laws::table_laws;
+pub use laws::{apart_laws, table_laws};
 pub use table::Table;

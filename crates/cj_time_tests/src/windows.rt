@@ -2,7 +2,7 @@ use cj_base::{Seconds, Text, Version};
 use cj_due::window;
 use cj_types::{
     CronJob, CronKey, CronSpec, CronStatus, Deadline, HistoryLimit, JobTemplate, Labels, Meta,
-    Names, Policy, SpecText, Uid,
+    Names, Policy, Shared, SpecText, Uid,
 };
 use cj_zone::read_time;
 use std::alloc::Global;
@@ -23,7 +23,7 @@ fn meta(alloc: Global, uid: Uid, created: Seconds) -> Meta {
     }
 }
 
-fn spec(alloc: Global, schedule: Text, text: Text, deadline: Option<Deadline>) -> CronSpec {
+fn spec(alloc: Global, schedule: Text, text: SpecText, deadline: Option<Deadline>) -> CronSpec {
     CronSpec {
         schedule,
         time_zone: None,
@@ -35,7 +35,7 @@ fn spec(alloc: Global, schedule: Text, text: Text, deadline: Option<Deadline>) -
         template: JobTemplate {
             labels: Labels::new(alloc),
             annotations: Labels::new(alloc),
-            spec: SpecText::new(text),
+            spec: text,
         },
     }
 }
@@ -57,11 +57,11 @@ fn lower(
 ) -> Result<Option<Seconds>, Fail> {
     let uid = Uid::new(1).ok_or("not a uid")?;
     let schedule = Text::new(alloc, "* * * * *")?;
-    let text = Text::new(alloc, "{}")?;
+    let text = SpecText::new(alloc, Text::new(alloc, "{}")?)?;
     let cron = CronJob {
         key: CronKey::new(alloc, "default", "hello")?,
         meta: meta(alloc, uid, time("2024-01-01T08:00:00Z")?),
-        spec: spec(alloc, schedule, text, deadline),
+        spec: Shared::new(alloc, spec(alloc, schedule, text, deadline))?,
         status: status(alloc, last),
     };
     Ok(window(&cron, now))

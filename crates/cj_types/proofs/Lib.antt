@@ -2,3 +2,4 @@ pub mod Subdomains
 pub mod LabelEnds
 pub mod LabelPlaces
 pub mod MadeNames
+pub mod UidTexts

@@ -10,7 +10,7 @@ use Rattle.cj_base.specs.declared.field.Field.TheVariants as Of
 use Rattle.cj_base.specs.declared.faults.FieldFault.{FieldFault}
 use Rattle.cj_base.specs.declared.refusal.Refusal.{Refusal}
 use Rattle.cj_base.specs.declared.refusal.Refusal.TheVariants.{Invalid}
-use Rattle.cj_types.specs.Names.{name_cause, namespace_cause}
+use Rattle.cj_types.specs.Names.{longest, name_cause, namespace_cause}
 
 pub record Place : Type 0 where
   pub namespace : List ℕ
@@ -43,6 +43,14 @@ key_faults limit namespace name = fault_of Of.Name (name_cause limit name) ++ fa
 abbrev pub key_or_faults : List FieldFault → Place → Result Place Refusal
 key_or_faults [] k = Ok k
 key_or_faults (f ∷ fs) k = Err (Invalid (f ∷ fs))
+
+-- the name, or the refusal with its fault
+abbrev pub name_or_fault : List FieldFault → List ℕ → Result (List ℕ) Refusal
+name_or_fault [] name = Ok name
+name_or_fault (f ∷ fs) name = Err (Invalid (f ∷ fs))
+
+abbrev pub new_name : List ℕ → Result (List ℕ) Refusal
+new_name name = name_or_fault (fault_of Of.Name (name_cause longest name)) name
 
 abbrev pub new_key : ℕ → List ℕ → List ℕ → Result Place Refusal
 new_key limit namespace name = key_or_faults (key_faults limit namespace name) (place namespace name)

@@ -1,6 +1,7 @@
 pub mod Names
 pub mod Keys
 pub mod Uids
+pub mod Apart
 pub mod Limits
 pub mod WorldLimits
 pub mod Printed
@@ -9,3 +10,4 @@ pub mod LabelMap
 pub mod Objects
 pub mod Made
 pub mod Current
+pub mod Events

@@ -1,5 +1,5 @@
 -- Names of objects: Kubernetes, "Object Names and IDs", which takes its labels from RFC 1123.
-use Rattle.std.specs.Prelude.{ℕ, ◌-◌, Bool, ◌&&◌, ◌||◌, ◌==◌, nat_le, nat_lt, List, length, slice_index, Option, Some, None, if◌then◌else◌}
+use Rattle.std.specs.Prelude.{ℕ, ◌-◌, Bool, ◌&&◌, ◌||◌, ◌==◌, nat_le, nat_lt, List, length, slice_index, Option, Some, None, is_none, if◌then◌else◌}
 use Rattle.std.specs.List.{list_all, slice_split}
 use Rattle.std.specs.Str.{chars}
 use Rattle.cj_base.specs.declared.cause.Cause.{Cause}
@@ -46,6 +46,10 @@ cause_of limit is_well_formed text =
 -- why a text is no name of at most so many characters
 abbrev pub name_cause : ℕ → List ℕ → Option Cause
 name_cause limit text = cause_of limit is_subdomain text
+
+-- a name of an object
+abbrev pub is_name : List ℕ → Bool
+is_name text = is_none (name_cause longest text)
 
 -- why a text is no namespace
 abbrev pub namespace_cause : List ℕ → Option Cause

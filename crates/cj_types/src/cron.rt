@@ -1,5 +1,5 @@
 use crate::{CronKey, Deadline, DraftMeta, HistoryLimit, Labels, Meta, Names, Policy, SpecText};
-use cj_base::{Refusal, Same, Seconds, Text, TryCopy};
+use cj_base::{Refusal, Same, Seconds, Shared, Text, TryCopy};
 use std::alloc::Global;
 
 /// What each Job of a CronJob is made with (batch/v1, `JobTemplateSpec`).
@@ -109,7 +109,8 @@ impl Same for CronStatus {
 pub struct CronJob {
     pub key: CronKey,
     pub meta: Meta,
-    pub spec: CronSpec,
+    /// Shared, so that a write that leaves it alone copies none of it.
+    pub spec: Shared<CronSpec>,
     pub status: CronStatus,
 }
 
@@ -139,7 +140,7 @@ impl Same for CronJob {
 pub struct CronJobDraft {
     pub key: CronKey,
     pub meta: DraftMeta,
-    pub spec: CronSpec,
+    pub spec: Shared<CronSpec>,
 }
 
 impl TryCopy for CronJobDraft {

@@ -1,12 +1,14 @@
+ghost use Rattle.std.specs.Prelude.{◌≡◌};
+
 use crate::{CronJob, Job};
-use cj_base::{Refusal, Same, TryCopy};
+use cj_base::{Refusal, Same, Shared, TryCopy, Version};
 use std::alloc::Global;
 
-/// An object of either kind.
+/// An object of either kind, shared with whoever else holds it.
 #[derive(Debug, Drop)]
 pub enum Object {
-    Cron(CronJob),
-    Job(Job),
+    Cron(Shared<CronJob>),
+    Job(Shared<Job>),
 }
 
 impl TryCopy for Object {
@@ -28,6 +30,20 @@ impl Same for Object {
     }
 }
 
+impl Object {
+    ghost use Rattle.cj_types.specs.Events.{object_version};
+
+    /// The version of the write that left the object as it stands.
+    pub fn version(&self) -> Version
+        ensures { result ≡ object_version self.now }
+    {
+        match self {
+            Object::Cron(cron) => cron.meta.version,
+            Object::Job(job) => job.meta.version,
+        }
+    }
+}
+
 /// What a watch tells of one write (Kubernetes, "Efficient detection of changes").
 #[derive(Debug, Drop)]
 pub enum Event {
@@ -37,6 +53,21 @@ pub enum Event {
     Modified(Object),
     /// DELETED: the last object, with the version of the deletion.
     Deleted(Object),
+}
+
+impl Event {
+    ghost use Rattle.cj_types.specs.Events.{version_of};
+
+    /// The version of the write that the event tells of.
+    pub fn version(&self) -> Version
+        ensures { result ≡ version_of self.now }
+    {
+        match self {
+            Event::Added(object) => object.version(),
+            Event::Modified(object) => object.version(),
+            Event::Deleted(object) => object.version(),
+        }
+    }
 }
 
 impl TryCopy for Event {

@@ -10,7 +10,7 @@ ghost use Rattle.cj_types.specs.Keys.{place, is_place, place_cmp, new_key, key_f
 ghost use Rattle.cj_base.specs.declared.refusal.Refusal.TheVariants.{OutOfMemory};
 
 use crate::text_pair::TextPair;
-use crate::{name_cause, namespace_cause};
+use crate::{ObjectName, name_cause, namespace_cause};
 use cj_base::{Field, FieldFault, FieldFaults, Refusal, Same, TryCopy};
 use std::alloc::Global;
 use std::cmp::Ordering;
@@ -84,6 +84,15 @@ impl Key {
     {
         let texts = TextPair::new(alloc, namespace, name)?;
         Ok(Key { texts })
+    }
+
+    /// The key of the name in this key's namespace.
+    pub fn beside(&self, alloc: Global, name: &ObjectName) -> Result<Key, Refusal>
+        ensures ok { IfOk result (λ k. k ≡ place self.now.namespace name.now) }
+        ensures err { IfErr result (λ e. e ≡ OutOfMemory) }
+    {
+        let (namespace, _) = self.texts.parts();
+        Key::well_formed(alloc, namespace, name.as_str())
     }
 
     /// The namespace.

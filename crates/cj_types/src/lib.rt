@@ -7,12 +7,14 @@ mod event;
 mod job;
 mod key;
 mod labels;
+mod laws;
 mod limits;
 mod listed;
 mod made;
 mod max;
 mod meta;
 mod names;
+mod object_name;
 mod owners;
 mod policy;
 mod spec_text;
@@ -22,8 +24,8 @@ mod versions;
 mod world_limits;
 
 pub use cj_base::{
-    Cause, Civil, Field, FieldFault, FieldFaults, Millis, Refusal, Same, ScheduleCause,
-    ScheduleFault, Seconds, Text, TryCopy, Version, copy_all, same_all,
+    Cause, Civil, Field, FieldFault, FieldFaults, Heap, Listing, Millis, Refusal, Same,
+    ScheduleCause, ScheduleFault, Seconds, Shared, Text, TryCopy, Version, copy_all, same_all,
 };
 pub use cron::{CronJob, CronJobDraft, CronSpec, CronStatus, JobTemplate};
 pub use cron_key::CronKey;
@@ -31,11 +33,13 @@ pub use event::{Event, Object};
 pub use job::{Job, JobDraft};
 pub use key::Key;
 pub use labels::Labels;
+pub use laws::uid_laws;
 pub use limits::{Deadline, HistoryLimit};
 pub use listed::{Names, Reasons};
 pub use max::Max;
 pub use meta::{DraftMeta, Meta};
 pub use names::{name_cause, namespace_cause};
+pub use object_name::ObjectName;
 pub use owners::{OwnerRef, OwnerRefs};
 pub use policy::{Outcome, Policy, Reason};
 pub use spec_text::SpecText;

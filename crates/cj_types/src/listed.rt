@@ -1,15 +1,15 @@
 ghost use Rattle.std.specs.Prelude.{◌≡◌, [], ◌∷◌, ◌++◌, IfErr, OnOk, OnErr};
 ghost use Rattle.cj_base.specs.declared.refusal.Refusal.TheVariants.{OutOfMemory};
 
-use crate::Reason;
-use cj_base::{Refusal, Same, Text, TryCopy, copy_all, same_all};
+use crate::{ObjectName, Reason};
+use cj_base::{Refusal, Same, TryCopy, copy_all, same_all};
 use std::alloc::Global;
 use std::marker::Model;
 
-/// Names, which contracts see as a list of texts.
+/// Names of objects, each well formed by its type. Contracts see a list of texts.
 #[derive(Debug, Drop)]
 pub struct Names {
-    items: Vec<Text>,
+    items: Vec<ObjectName>,
 }
 
 impl Model for Names {
@@ -31,14 +31,14 @@ impl Names {
     }
 
     /// The names in their order.
-    pub fn as_slice(&self) -> &[Text]
+    pub fn as_slice(&self) -> &[ObjectName]
         ensures { result.now ≡ self.now }
     {
         self.items.as_slice()
     }
 
     /// One name more, at the end; unchanged where there is no memory.
-    pub fn push(&mut self, name: Text) -> Result<(), Refusal>
+    pub fn push(&mut self, name: ObjectName) -> Result<(), Refusal>
         ensures ok { OnOk result (self.new ≡ self.old ++ name ∷ []) }
         ensures err { OnErr result (self.new ≡ self.old) }
         ensures memory { IfErr result (λ e. e ≡ OutOfMemory) }

@@ -1,15 +1,17 @@
-ghost use Rattle.std.specs.Prelude.{◌≡◌};
+ghost use Rattle.std.specs.Prelude.{◌≡◌, IfOk, IfErr};
+ghost use Rattle.cj_base.specs.declared.refusal.Refusal.TheVariants.{OutOfMemory};
 
-use cj_base::{Refusal, Same, Text, TryCopy};
+use cj_base::{Refusal, Same, Shared, Text, TryCopy};
 use std::alloc::Global;
 use std::marker::Model;
 
 /// The `spec` of a Job, kept as the compact text of its JSON value: two specs are equal where these texts are.
+/// Copies share the text.
 ///
 /// Contracts see the bytes of the text.
 #[derive(Debug, Drop)]
 pub struct SpecText {
-    text: Text,
+    text: Shared<Text>,
 }
 
 impl Model for SpecText {
@@ -22,17 +24,19 @@ impl Model for SpecText {
 
 impl SpecText {
     /// The spec of this text.
-    pub fn new(text: Text) -> SpecText
-        ensures { result ≡ text }
+    pub fn new(alloc: Global, text: Text) -> Result<SpecText, Refusal>
+        ensures ok { IfOk result (λ s. s ≡ text) }
+        ensures err { IfErr result (λ e. e ≡ OutOfMemory) }
     {
-        SpecText { text }
+        let text = Shared::new(alloc, text)?;
+        Ok(SpecText { text })
     }
 
     /// Its text.
     pub fn as_str(&self) -> &str
         ensures { result.now ≡ self.now }
     {
-        self.text.as_str()
+        self.text.get().as_str()
     }
 }
 

@@ -1,7 +1,7 @@
 use crate::samples::{Sample, read_labels};
 use cj_types::{
     CronJob, CronKey, CronSpec, DraftMeta, JobDraft, JobTemplate, Key, Meta, OwnerRef, OwnerRefs,
-    Same, Seconds, SpecText, Text, Uid,
+    Same, Seconds, Shared, SpecText, Text, Uid,
 };
 use std::alloc::Global;
 use std::test::Fail;
@@ -43,7 +43,7 @@ fn template(alloc: Global, annotations: &str) -> Result<JobTemplate, Fail> {
     Ok(JobTemplate {
         labels: read_labels(alloc, "app=web tier=back")?,
         annotations: read_labels(alloc, annotations)?,
-        spec: SpecText::new(Text::new(alloc, SPEC)?),
+        spec: SpecText::new(alloc, Text::new(alloc, SPEC)?)?,
     })
 }
 
@@ -66,7 +66,7 @@ fn hello(alloc: Global, annotations: &str) -> Result<CronJob, Fail> {
     Ok(CronJob {
         key: CronKey::new(alloc, "default", "hello")?,
         meta: meta(alloc)?,
-        spec: spec(alloc, annotations)?,
+        spec: Shared::new(alloc, spec(alloc, annotations)?)?,
         ..CronJob::sample(alloc, 0)?
     })
 }
@@ -104,7 +104,7 @@ fn wanted(alloc: Global, annotations: &str) -> Result<JobDraft, Fail> {
         key: Key::new(alloc, "default", "hello-28401125")?,
         meta: draft_meta(alloc, annotations)?,
         owners: owners(alloc)?,
-        spec: SpecText::new(Text::new(alloc, SPEC)?),
+        spec: SpecText::new(alloc, Text::new(alloc, SPEC)?)?,
     })
 }
 

@@ -1,8 +1,8 @@
 use cj_types::{
     Cause, CronJob, CronJobDraft, CronKey, CronSpec, CronStatus, Deadline, DraftMeta, Event, Field,
     FieldFault, FieldFaults, HistoryLimit, Job, JobDraft, JobTemplate, Key, Labels, Meta, Names,
-    Object, Outcome, OwnerRef, OwnerRefs, Policy, Reason, Reasons, Refusal, Seconds, SpecText,
-    Text, Uid, Version,
+    Object, ObjectName, Outcome, OwnerRef, OwnerRefs, Policy, Reason, Reasons, Refusal, Seconds,
+    Shared, SpecText, Text, Uid, Version,
 };
 use std::alloc::Global;
 use std::test::Fail;
@@ -95,7 +95,7 @@ impl Sample for SpecText {
             3 => "",
             _ => "{\"a\":1}",
         };
-        Ok(SpecText::new(Text::new(alloc, text)?))
+        Ok(SpecText::new(alloc, Text::new(alloc, text)?)?)
     }
 }
 
@@ -112,7 +112,7 @@ impl Sample for Names {
         };
         let mut names = Names::new(alloc);
         for word in words.split(' ') {
-            names.push(Text::new(alloc, word)?)?;
+            names.push(ObjectName::new(alloc, word)?)?;
         }
         Ok(names)
     }
@@ -229,6 +229,12 @@ impl Sample for CronSpec {
             failed_limit: HistoryLimit::from(if change == 7 { 4 } else { 3 }),
             template: part(alloc, change == 8)?,
         })
+    }
+}
+
+impl<T: Sample + Drop> Sample for Shared<T> {
+    fn sample(alloc: Global, change: u8) -> Result<Shared<T>, Fail> {
+        Ok(Shared::new(alloc, T::sample(alloc, change)?)?)
     }
 }
 

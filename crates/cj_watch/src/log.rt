@@ -36,7 +36,7 @@ impl WatchLog {
         ensures ok { IfOk result (λ l. l ≡ new_log window) }
         ensures err { IfErr result (λ e. e ≡ OutOfMemory) }
     {
-        let capacity = usize::from(window.get());
+        let capacity = window.get() as usize;
         let events = HeapCircularBuffer::with_capacity(alloc, capacity).map_err(
             |_| Refusal::OutOfMemory,
         )?;

@@ -10,7 +10,7 @@ use crate::members::{
 };
 use crate::meta::metadata;
 use crate::object::object_value;
-use cj_types::{CronJob, CronSpec, CronStatus, JobTemplate, Refusal, Text};
+use cj_types::{CronJob, CronSpec, CronStatus, JobTemplate, ObjectName, Refusal};
 use serde_json::{Map, Value};
 use std::alloc::Global;
 
@@ -86,7 +86,7 @@ fn active_value(alloc: Global, namespace: &str, name: &str) -> Result<Value, Ref
     Ok(Value::Object(members))
 }
 
-fn active_values(alloc: Global, namespace: &str, names: &[Text]) -> Result<Vec<Value>, Refusal>
+fn active_values(alloc: Global, namespace: &str, names: &[ObjectName]) -> Result<Vec<Value>, Refusal>
     ensures ok { IfOk result (λ v. map view v.items ≡ map (object.active_data namespace.now) names.now) }
     ensures err { IfErr result (λ e. e ≡ OutOfMemory) }
 {

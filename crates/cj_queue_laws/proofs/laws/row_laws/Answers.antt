@@ -1,0 +1,5 @@
+use Rattle.cj_queue_laws.proofs.Rows.{rows_stay_stingy}
+use Rattle.cj_queue_laws.proofs.laws.row_laws.Goals as goal
+
+pub returns : goal.returns
+returns c = rows_stay_stingy

@@ -1,0 +1,5 @@
+use Rattle.cj_types.proofs.UidTexts.{uids_apart}
+use Rattle.cj_types.proofs.laws.uid_laws.Goals as goal
+
+pub returns : goal.returns
+returns c = uids_apart
