@@ -4,8 +4,14 @@ ghost use Rattle.cj_base.specs.declared.refusal.Refusal.TheVariants.{OutOfMemory
 ghost use Rattle.cj_store.specs.Change.{after, IsFor, owners_at, cron_added, cron_modified, cron_gone, job_added, job_modified, job_gone};
 
 use crate::{Change, Store};
-use cj_types::{CronJob, Event, Job, Object, Refusal, TryCopy};
+use cj_types::{CronJob, Event, Job, Key, Object, Refusal, Shared, TryCopy};
 use std::alloc::Global;
+
+fn key_of(cron: &Shared<CronJob>) -> &Key
+    ensures { result.now ≡ cron.now.key }
+{
+    cron.key.key()
+}
 
 impl Store {
     /// Makes the write that was planned. Where there is no memory the store is as it was.
@@ -16,7 +22,18 @@ impl Store {
         ensures err { OnErr result (self.new ≡ self.old) }
         ensures memory { IfErr result (λ e. e ≡ OutOfMemory) }
     {
-        match change {
+        self.apply(alloc, change.into_event())
+    }
+
+    // Makes the write that the event tells of.
+    pub(crate) fn apply(&mut self, alloc: Global, event: Event) -> Result<(), Refusal>
+        requires room { self.old.version < 2 ^ 40 }
+        requires planned { IsFor self.old event }
+        ensures ok { OnOk result (self.new ≡ after self.old event) }
+        ensures err { OnErr result (self.new ≡ self.old) }
+        ensures memory { IfErr result (λ e. e ≡ OutOfMemory) }
+    {
+        match event {
             Event::Added(Object::Cron(cron)) => self.add_cron(alloc, cron),
             Event::Modified(Object::Cron(cron)) => self.put_cron(alloc, cron),
             Event::Deleted(Object::Cron(cron)) => {
@@ -29,42 +46,42 @@ impl Store {
         }
     }
 
-    fn put_cron(&mut self, alloc: Global, cron: CronJob) -> Result<(), Refusal>
+    fn put_cron(&mut self, alloc: Global, cron: Shared<CronJob>) -> Result<(), Refusal>
         requires room { self.old.version < 2 ^ 40 }
         requires planned { IsFor self.old (cron_modified cron) }
         ensures ok { OnOk result (self.new ≡ after self.old (cron_modified cron)) }
         ensures err { OnErr result (self.new ≡ self.old) }
         ensures memory { IfErr result (λ e. e ≡ OutOfMemory) }
     {
-        let key = cron.key.key().try_copy(alloc)?;
+        let key = key_of(&cron).try_copy(alloc)?;
         self.crons.insert(key, cron)?;
         self.writes += 1;
         Ok(())
     }
 
-    fn add_cron(&mut self, alloc: Global, cron: CronJob) -> Result<(), Refusal>
+    fn add_cron(&mut self, alloc: Global, cron: Shared<CronJob>) -> Result<(), Refusal>
         requires room { self.old.version < 2 ^ 40 }
         requires planned { IsFor self.old (cron_added cron) }
         ensures ok { OnOk result (self.new ≡ after self.old (cron_added cron)) }
         ensures err { OnErr result (self.new ≡ self.old) }
         ensures memory { IfErr result (λ e. e ≡ OutOfMemory) }
     {
-        let key = cron.key.key().try_copy(alloc)?;
+        let key = key_of(&cron).try_copy(alloc)?;
         self.crons.insert(key, cron)?;
         self.writes += 1;
         self.creations += 1;
         Ok(())
     }
 
-    fn cut_cron(&mut self, cron: CronJob)
+    fn cut_cron(&mut self, cron: Shared<CronJob>)
         requires { self.old.version < 2 ^ 40 }
         ensures { self.new ≡ after self.old (cron_gone cron) }
     {
-        self.crons.remove(cron.key.key());
+        self.crons.remove(key_of(&cron));
         self.writes += 1;
     }
 
-    fn put_job(&mut self, alloc: Global, job: Job) -> Result<(), Refusal>
+    fn put_job(&mut self, alloc: Global, job: Shared<Job>) -> Result<(), Refusal>
         requires room { self.old.version < 2 ^ 40 }
         requires planned { IsFor self.old (job_modified job) }
         ensures ok { OnOk result (self.new ≡ after self.old (job_modified job)) }
@@ -76,7 +93,7 @@ impl Store {
         Ok(())
     }
 
-    fn add_job(&mut self, alloc: Global, job: Job) -> Result<(), Refusal>
+    fn add_job(&mut self, alloc: Global, job: Shared<Job>) -> Result<(), Refusal>
         requires room { self.old.version < 2 ^ 40 }
         requires planned { IsFor self.old (job_added job) }
         ensures ok { OnOk result (self.new ≡ after self.old (job_added job)) }
@@ -89,7 +106,7 @@ impl Store {
         Ok(())
     }
 
-    fn cut_job(&mut self, alloc: Global, job: Job) -> Result<(), Refusal>
+    fn cut_job(&mut self, alloc: Global, job: Shared<Job>) -> Result<(), Refusal>
         requires room { self.old.version < 2 ^ 40 }
         requires planned { IsFor self.old (job_gone job) }
         ensures ok { OnOk result (self.new ≡ after self.old (job_gone job)) }

@@ -5,11 +5,11 @@ ghost use Rattle.cj_store.specs.Change.{after, map_ok, cron_added, cron_modified
 
 use crate::Store;
 use cj_types::{
-    CronJob, CronJobDraft, CronStatus, Event, Key, Object, Refusal, Seconds, TryCopy, Uid, Version,
+    CronJob, CronJobDraft, CronStatus, Event, Key, Object, Refusal, Seconds, Shared, Uid, Version,
 };
 use std::alloc::Global;
 
-fn version_of(cron: &CronJob) -> Version
+fn version_of(cron: &Shared<CronJob>) -> Version
     ensures { result ≡ cron.now.meta.version }
 {
     cron.meta.version
@@ -22,31 +22,35 @@ impl Store {
         alloc: Global,
         draft: CronJobDraft,
         now: Seconds,
-    ) -> Result<CronJob, Refusal>
+    ) -> Result<Shared<CronJob>, Refusal>
         requires { self.old.version < 2 ^ 40 }
         ensures ok { IfOk result (λ c. cron_created self.old draft now ≡ Ok c) }
         ensures err { IfErr result (λ e. e ≢ OutOfMemory → cron_created self.old draft now ≡ Err e) }
         ensures after { IfOk result (λ c. self.new ≡ after self.old (cron_added c)) }
         ensures unchanged { OnErr result (self.new ≡ self.old) }
     {
-        let cron = self.cron_created(alloc, draft, now)?;
-        let answer = cron.try_copy(alloc)?;
-        self.commit(alloc, Event::Added(Object::Cron(cron)))?;
+        let cron = Shared::new(alloc, self.cron_created(alloc, draft, now)?)?;
+        let answer = cron.share()?;
+        self.apply(alloc, Event::Added(Object::Cron(cron)))?;
         Ok(answer)
     }
 
     /// Replaces labels, annotations and spec of a CronJob, and answers it. Refused: `NotFound`, `Conflict` where the draft
     /// gives a version or uid that isn't the current one.
-    pub fn update_cron(&mut self, alloc: Global, draft: CronJobDraft) -> Result<CronJob, Refusal>
+    pub fn update_cron(
+        &mut self,
+        alloc: Global,
+        draft: CronJobDraft,
+    ) -> Result<Shared<CronJob>, Refusal>
         requires { self.old.version < 2 ^ 40 }
         ensures ok { IfOk result (λ c. cron_updated self.old draft ≡ Ok c) }
         ensures err { IfErr result (λ e. e ≢ OutOfMemory → cron_updated self.old draft ≡ Err e) }
         ensures after { IfOk result (λ c. self.new ≡ after self.old (cron_modified c)) }
         ensures unchanged { OnErr result (self.new ≡ self.old) }
     {
-        let cron = self.cron_updated(alloc, draft)?;
-        let answer = cron.try_copy(alloc)?;
-        self.commit(alloc, Event::Modified(Object::Cron(cron)))?;
+        let cron = Shared::new(alloc, self.cron_updated(alloc, draft)?)?;
+        let answer = cron.share()?;
+        self.apply(alloc, Event::Modified(Object::Cron(cron)))?;
         Ok(answer)
     }
 
@@ -59,16 +63,16 @@ impl Store {
         uid: Uid,
         version: Version,
         status: CronStatus,
-    ) -> Result<CronJob, Refusal>
+    ) -> Result<Shared<CronJob>, Refusal>
         requires { self.old.version < 2 ^ 40 }
         ensures ok { IfOk result (λ c. status_set self.old key.now uid version status ≡ Ok c) }
         ensures err { IfErr result (λ e. e ≢ OutOfMemory → status_set self.old key.now uid version status ≡ Err e) }
         ensures after { IfOk result (λ c. self.new ≡ after self.old (cron_modified c)) }
         ensures unchanged { OnErr result (self.new ≡ self.old) }
     {
-        let cron = self.status_set(alloc, key, uid, version, status)?;
-        let answer = cron.try_copy(alloc)?;
-        self.commit(alloc, Event::Modified(Object::Cron(cron)))?;
+        let cron = Shared::new(alloc, self.status_set(alloc, key, uid, version, status)?)?;
+        let answer = cron.share()?;
+        self.apply(alloc, Event::Modified(Object::Cron(cron)))?;
         Ok(answer)
     }
 
@@ -80,9 +84,9 @@ impl Store {
         ensures after { OnOk result (map_ok (λ c. after self.old (cron_gone c)) (cron_deleted self.old key.now) ≡ Ok self.new) }
         ensures unchanged { OnErr result (self.new ≡ self.old) }
     {
-        let cron = self.cron_deleted(alloc, key)?;
+        let cron = Shared::new(alloc, self.cron_deleted(alloc, key)?)?;
         let version = version_of(&cron);
-        self.commit(alloc, Event::Deleted(Object::Cron(cron)))?;
+        self.apply(alloc, Event::Deleted(Object::Cron(cron)))?;
         Ok(version)
     }
 }

@@ -5,11 +5,11 @@ ghost use Rattle.cj_store.specs.Change.{after, map_ok, job_added, job_modified, 
 
 use crate::Store;
 use cj_types::{
-    Event, Job, JobDraft, Key, Object, Outcome, Refusal, Seconds, TryCopy, Uid, Version,
+    Event, Job, JobDraft, Key, Object, Outcome, Refusal, Seconds, Shared, Uid, Version,
 };
 use std::alloc::Global;
 
-fn version_of(job: &Job) -> Version
+fn version_of(job: &Shared<Job>) -> Version
     ensures { result ≡ job.now.meta.version }
 {
     job.meta.version
@@ -23,45 +23,50 @@ impl Store {
         alloc: Global,
         draft: JobDraft,
         now: Seconds,
-    ) -> Result<Job, Refusal>
+    ) -> Result<Shared<Job>, Refusal>
         requires { self.old.version < 2 ^ 40 }
         ensures ok { IfOk result (λ j. job_created self.old draft now ≡ Ok j) }
         ensures err { IfErr result (λ e. e ≢ OutOfMemory → job_created self.old draft now ≡ Err e) }
         ensures after { IfOk result (λ j. self.new ≡ after self.old (job_added j)) }
         ensures unchanged { OnErr result (self.new ≡ self.old) }
     {
-        let job = self.job_created(alloc, draft, now)?;
-        let answer = job.try_copy(alloc)?;
-        self.commit(alloc, Event::Added(Object::Job(job)))?;
+        let job = Shared::new(alloc, self.job_created(alloc, draft, now)?)?;
+        let answer = job.share()?;
+        self.apply(alloc, Event::Added(Object::Job(job)))?;
         Ok(answer)
     }
 
     /// Creates a Job for a controller, and answers it. Refused: `AlreadyExists`.
-    pub fn make_job(&mut self, alloc: Global, draft: JobDraft, now: Seconds) -> Result<Job, Refusal>
+    pub fn make_job(
+        &mut self,
+        alloc: Global,
+        draft: JobDraft,
+        now: Seconds,
+    ) -> Result<Shared<Job>, Refusal>
         requires { self.old.version < 2 ^ 40 }
         ensures ok { IfOk result (λ j. job_made self.old draft now ≡ Ok j) }
         ensures err { IfErr result (λ e. e ≢ OutOfMemory → job_made self.old draft now ≡ Err e) }
         ensures after { IfOk result (λ j. self.new ≡ after self.old (job_added j)) }
         ensures unchanged { OnErr result (self.new ≡ self.old) }
     {
-        let job = self.job_made(draft, now)?;
-        let answer = job.try_copy(alloc)?;
-        self.commit(alloc, Event::Added(Object::Job(job)))?;
+        let job = Shared::new(alloc, self.job_made(draft, now)?)?;
+        let answer = job.share()?;
+        self.apply(alloc, Event::Added(Object::Job(job)))?;
         Ok(answer)
     }
 
     /// Replaces labels, annotations and spec of a Job, and answers it. Refused: `NotFound`, `Conflict` where the draft gives
     /// a version or uid that isn't the current one, `NotPermitted` where its owner references differ.
-    pub fn update_job(&mut self, alloc: Global, draft: JobDraft) -> Result<Job, Refusal>
+    pub fn update_job(&mut self, alloc: Global, draft: JobDraft) -> Result<Shared<Job>, Refusal>
         requires { self.old.version < 2 ^ 40 }
         ensures ok { IfOk result (λ j. job_updated self.old draft ≡ Ok j) }
         ensures err { IfErr result (λ e. e ≢ OutOfMemory → job_updated self.old draft ≡ Err e) }
         ensures after { IfOk result (λ j. self.new ≡ after self.old (job_modified j)) }
         ensures unchanged { OnErr result (self.new ≡ self.old) }
     {
-        let job = self.job_updated(alloc, draft)?;
-        let answer = job.try_copy(alloc)?;
-        self.commit(alloc, Event::Modified(Object::Job(job)))?;
+        let job = Shared::new(alloc, self.job_updated(alloc, draft)?)?;
+        let answer = job.share()?;
+        self.apply(alloc, Event::Modified(Object::Job(job)))?;
         Ok(answer)
     }
 
@@ -79,9 +84,9 @@ impl Store {
         ensures after { OnOk result (map_ok (λ j. after self.old (job_gone j)) (job_deleted self.old key.now uid) ≡ Ok self.new) }
         ensures unchanged { OnErr result (self.new ≡ self.old) }
     {
-        let job = self.job_deleted(alloc, key, uid)?;
+        let job = Shared::new(alloc, self.job_deleted(alloc, key, uid)?)?;
         let version = version_of(&job);
-        self.commit(alloc, Event::Deleted(Object::Job(job)))?;
+        self.apply(alloc, Event::Deleted(Object::Job(job)))?;
         Ok(version)
     }
 
@@ -94,16 +99,16 @@ impl Store {
         uid: Uid,
         outcome: Outcome,
         now: Seconds,
-    ) -> Result<Job, Refusal>
+    ) -> Result<Shared<Job>, Refusal>
         requires { self.old.version < 2 ^ 40 }
         ensures ok { IfOk result (λ j. job_ended self.old key.now uid outcome now ≡ Ok j) }
         ensures err { IfErr result (λ e. e ≢ OutOfMemory → job_ended self.old key.now uid outcome now ≡ Err e) }
         ensures after { IfOk result (λ j. self.new ≡ after self.old (job_modified j)) }
         ensures unchanged { OnErr result (self.new ≡ self.old) }
     {
-        let job = self.job_ended(alloc, key, uid, outcome, now)?;
-        let answer = job.try_copy(alloc)?;
-        self.commit(alloc, Event::Modified(Object::Job(job)))?;
+        let job = Shared::new(alloc, self.job_ended(alloc, key, uid, outcome, now)?)?;
+        let answer = job.share()?;
+        self.apply(alloc, Event::Modified(Object::Job(job)))?;
         Ok(answer)
     }
 }

@@ -5,9 +5,7 @@ ghost use Rattle.cj_store.specs.Jobs.{job_created, job_made, job_updated, job_de
 ghost use Rattle.cj_store.specs.Change.{map_ok, IsFor, cron_added, cron_modified, cron_gone, job_added, job_modified, job_gone};
 
 use crate::{Change, Store};
-use cj_types::{
-    CronJobDraft, CronStatus, Event, JobDraft, Key, Object, Outcome, Refusal, Seconds, Uid, Version,
-};
+use cj_types::{CronJobDraft, CronStatus, JobDraft, Key, Outcome, Refusal, Seconds, Uid, Version};
 use std::alloc::Global;
 
 /// Each write as a plan: the change that the call of the same name would make, or why it would be refused. Nothing
@@ -26,7 +24,7 @@ impl Store {
         ensures planned { IfOk result (λ change. IsFor self.now change) }
     {
         let cron = self.cron_created(alloc, draft, now)?;
-        Ok(Event::Added(Object::Cron(cron)))
+        Change::cron_added(alloc, cron)
     }
 
     /// What `update_cron` would make.
@@ -37,7 +35,7 @@ impl Store {
         ensures planned { IfOk result (λ change. IsFor self.now change) }
     {
         let cron = self.cron_updated(alloc, draft)?;
-        Ok(Event::Modified(Object::Cron(cron)))
+        Change::cron_modified(alloc, cron)
     }
 
     /// What `set_status` would make.
@@ -55,7 +53,7 @@ impl Store {
         ensures planned { IfOk result (λ change. IsFor self.now change) }
     {
         let cron = self.status_set(alloc, key, uid, version, status)?;
-        Ok(Event::Modified(Object::Cron(cron)))
+        Change::cron_modified(alloc, cron)
     }
 
     /// What `delete_cron` would make.
@@ -66,7 +64,7 @@ impl Store {
         ensures planned { IfOk result (λ change. IsFor self.now change) }
     {
         let cron = self.cron_deleted(alloc, key)?;
-        Ok(Event::Deleted(Object::Cron(cron)))
+        Change::cron_gone(alloc, cron)
     }
 
     /// What `create_job` would make.
@@ -82,17 +80,23 @@ impl Store {
         ensures planned { IfOk result (λ change. IsFor self.now change) }
     {
         let job = self.job_created(alloc, draft, now)?;
-        Ok(Event::Added(Object::Job(job)))
+        Change::job_added(alloc, job)
     }
 
-    /// What `make_job` would make. This takes no memory.
-    pub fn plan_make_job(&self, draft: JobDraft, now: Seconds) -> Result<Change, Refusal>
+    /// What `make_job` would make.
+    pub fn plan_make_job(
+        &self,
+        alloc: Global,
+        draft: JobDraft,
+        now: Seconds,
+    ) -> Result<Change, Refusal>
         requires { self.now.version < 2 ^ 40 }
-        ensures answer { map_ok job_added (job_made self.now draft now) ≡ result }
+        ensures ok { IfOk result (λ change. map_ok job_added (job_made self.now draft now) ≡ Ok change) }
+        ensures err { IfErr result (λ e. e ≢ OutOfMemory → job_made self.now draft now ≡ Err e) }
         ensures planned { IfOk result (λ change. IsFor self.now change) }
     {
         let job = self.job_made(draft, now)?;
-        Ok(Event::Added(Object::Job(job)))
+        Change::job_added(alloc, job)
     }
 
     /// What `update_job` would make.
@@ -103,7 +107,7 @@ impl Store {
         ensures planned { IfOk result (λ change. IsFor self.now change) }
     {
         let job = self.job_updated(alloc, draft)?;
-        Ok(Event::Modified(Object::Job(job)))
+        Change::job_modified(alloc, job)
     }
 
     /// What `delete_job` would make.
@@ -119,7 +123,7 @@ impl Store {
         ensures planned { IfOk result (λ change. IsFor self.now change) }
     {
         let job = self.job_deleted(alloc, key, uid)?;
-        Ok(Event::Deleted(Object::Job(job)))
+        Change::job_gone(alloc, job)
     }
 
     /// What `end_job` would make.
@@ -137,6 +141,6 @@ impl Store {
         ensures planned { IfOk result (λ change. IsFor self.now change) }
     {
         let job = self.job_ended(alloc, key, uid, outcome, now)?;
-        Ok(Event::Modified(Object::Job(job)))
+        Change::job_modified(alloc, job)
     }
 }

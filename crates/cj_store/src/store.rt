@@ -5,14 +5,14 @@ ghost use Rattle.cj_store.specs.Content.{nothing};
 
 use cj_jobs::Jobs;
 use cj_table::Table;
-use cj_types::{CronJob, Job, Key, Refusal, Version};
+use cj_types::{CronJob, Job, Key, Listing, Refusal, Shared, Version};
 use std::alloc::Global;
 use std::marker::Model;
 
 /// The current objects of both kinds by key, the count of writes and the count of creations.
 #[derive(Drop)]
 pub struct Store {
-    pub(crate) crons: Table<CronJob>,
+    pub(crate) crons: Table<Shared<CronJob>>,
     pub(crate) jobs: Jobs,
     pub(crate) writes: u64,
     pub(crate) creations: u64,
@@ -61,7 +61,7 @@ impl Store {
     }
 
     /// The CronJob at the key.
-    pub fn get_cron(&self, key: &Key) -> Option<&CronJob>
+    pub fn get_cron(&self, key: &Key) -> Option<&Shared<CronJob>>
         ensures value { option_copied result ≡ map.get self.now.crons key.now }
         ensures keyed { IfSome result (λ c. c.now.key ≡ key.now) }
         ensures dated { IfSome result (λ c. c.now.meta.generation ≤ self.now.version) }
@@ -69,16 +69,16 @@ impl Store {
         self.crons.get(key)
     }
 
-    /// The CronJobs in the order of their keys.
-    pub fn list_crons(&self, alloc: Global) -> Result<Vec<CronJob>, Refusal>
-        ensures ok { IfOk result (λ v. v.items ≡ map.values self.now.crons) }
+    /// The CronJobs in the order of their keys. None is copied.
+    pub fn list_crons(&self, alloc: Global) -> Result<Listing<Shared<CronJob>>, Refusal>
+        ensures ok { IfOk result (λ l. l ≡ map.values self.now.crons) }
         ensures err { IfErr result (λ e. e ≡ OutOfMemory) }
     {
-        self.crons.list(alloc)
+        Listing::new(alloc, self.crons.list(alloc)?)
     }
 
     /// The Job at the key.
-    pub fn get_job(&self, key: &Key) -> Option<&Job>
+    pub fn get_job(&self, key: &Key) -> Option<&Shared<Job>>
         ensures value { option_copied result ≡ map.get self.now.jobs key.now }
         ensures keyed { IfSome result (λ j. j.now.key ≡ key.now) }
         ensures dated { IfSome result (λ j. j.now.meta.generation ≤ self.now.version) }
@@ -86,9 +86,9 @@ impl Store {
         self.jobs.get(key)
     }
 
-    /// The Jobs in the order of their keys.
-    pub fn list_jobs(&self, alloc: Global) -> Result<Vec<Job>, Refusal>
-        ensures ok { IfOk result (λ v. v.items ≡ map.values self.now.jobs) }
+    /// The Jobs in the order of their keys. None is copied.
+    pub fn list_jobs(&self, alloc: Global) -> Result<Listing<Shared<Job>>, Refusal>
+        ensures ok { IfOk result (λ l. l ≡ map.values self.now.jobs) }
         ensures err { IfErr result (λ e. e ≡ OutOfMemory) }
     {
         self.jobs.list(alloc)

@@ -7,9 +7,9 @@ pub invariant_of-self-2 : goal.invariant_of-self-2
 invariant_of-self-2 c =
     let dated : c.args.cron.meta.generation ≤ c.self.inside.writes + 1 = rw (← c.self.view_is) at c.requires.planned in
     let counts : c.self.inside.creations ≤ c.self.inside.writes = c.self.invariant.counts in
-    put_cron_sound (record { crons = c.self.inside.crons; jobs = c.self.inside.jobs; version = c.self.inside.writes; uids = c.self.inside.creations }) _ _ c.args.cron _ c.self.invariant c.in_ok-insert.ensures.ok (sym (c.in_ok-key.ensures.ok ∙ c.key.ensures.value)) dated (omega arith)
+    put_cron_sound (record { crons = c.self.inside.crons; jobs = c.self.inside.jobs; version = c.self.inside.writes; uids = c.self.inside.creations }) _ _ c.args.cron _ c.self.invariant c.in_ok-insert.ensures.ok (sym (c.in_ok-key.ensures.ok ∙ c.key_of.ensures)) dated (omega arith)
 
 pub returns-clause-ok : goal.returns-clause-ok
 returns-clause-ok c =
-    let n : c.insert.new.self ≡ map.insert c.args.self.now.crons c.args.cron.key c.args.cron = put_cron_at (record { crons = c.self.inside.crons; jobs = c.self.inside.jobs; version = c.self.inside.writes; uids = c.self.inside.creations }) _ _ _ c.args.cron c.self.view_is c.in_ok-insert.ensures.ok (sym (c.in_ok-key.ensures.ok ∙ c.key.ensures.value)) in
+    let n : c.insert.new.self ≡ map.insert c.args.self.now.crons c.args.cron.key c.args.cron = put_cron_at (record { crons = c.self.inside.crons; jobs = c.self.inside.jobs; version = c.self.inside.writes; uids = c.self.inside.creations }) _ _ _ c.args.cron c.self.view_is c.in_ok-insert.ensures.ok (sym (c.in_ok-key.ensures.ok ∙ c.key_of.ensures)) in
     rw (n, ← c.self.view_is)
