@@ -6,7 +6,7 @@ ghost use Rattle.cj_mirror.specs.Lagging.{new_mirror, fed_with, reset_to};
 
 use crate::telling::{list_jobs, tell_all};
 use cj_jobs::Jobs;
-use cj_types::{Event, Job, Key, Refusal, Version};
+use cj_types::{Event, Job, Key, Listing, Refusal, Shared, Version, copy_all};
 use cj_watch::version_of;
 use std::alloc::Global;
 use std::marker::Model;
@@ -69,22 +69,23 @@ impl Mirror {
         self.fed
     }
 
-    /// Feeds the events of the next writes, whose versions follow on the one so far. Where there is no memory the mirror is
-    /// as it was.
-    pub fn feed(&mut self, events: Vec<Event>) -> Result<(), Refusal>
-        requires next { IsNumbered self.old.fed events.items }
-        ensures ok { OnOk result (self.new ≡ fed_with self.old events.items) }
+    /// Feeds the events of the next writes, whose versions follow on the one so far. No object is copied. Where there is no
+    /// memory the mirror is as it was.
+    pub fn feed(&mut self, events: &[Event]) -> Result<(), Refusal>
+        requires next { IsNumbered self.old.fed events.now }
+        ensures ok { OnOk result (self.new ≡ fed_with self.old events.now) }
         ensures err { OnErr result (self.new ≡ self.old) }
         ensures memory { IfErr result (λ e. e ≡ OutOfMemory) }
     {
+        let next = copy_all(self.alloc, events)?;
         tell_all(
             &mut self.jobs,
             self.alloc,
             self.events.as_slice(),
             &mut self.done,
         )?;
-        self.fed = last_version(self.fed, events.as_slice());
-        self.events = events;
+        self.fed = last_version(self.fed, events);
+        self.events = next;
         self.done = 0;
         // Events for which there is no memory now are told of later.
         let _ = tell_all(
@@ -96,9 +97,9 @@ impl Mirror {
         Ok(())
     }
 
-    /// Takes a list of the Jobs as they stand after so many writes, in place of those so far. Where there is no memory the
-    /// mirror is as it was.
-    pub fn reset(&mut self, jobs: &[Job], version: Version) -> Result<(), Refusal>
+    /// Takes a list of the Jobs as they stand after so many writes, in place of those so far. No Job is copied. Where there is
+    /// no memory the mirror is as it was.
+    pub fn reset(&mut self, jobs: &[Shared<Job>], version: Version) -> Result<(), Refusal>
         ensures ok { OnOk result (self.new ≡ reset_to jobs.now version) }
         ensures err { OnErr result (self.new ≡ self.old) }
         ensures memory { IfErr result (λ e. e ≡ OutOfMemory) }
@@ -110,10 +111,11 @@ impl Mirror {
         Ok(())
     }
 
-    /// Copies of the Jobs of the key's namespace whose controller reference names a CronJob of `batch/v1` of the key's
-    /// name, whatever its uid, in order of name. The mirror stays as it is; within, what was fed is put in its place.
-    pub fn owned(&mut self, key: &Key) -> Result<Vec<Job>, Refusal>
-        ensures ok { IfOk result (λ v. v.items ≡ owned_by self.old.jobs key.now) }
+    /// The Jobs of the key's namespace whose controller reference names a CronJob of `batch/v1` of the key's
+    /// name, whatever its uid, in order of name; none is copied. The mirror stays as it is: within, what was fed is put in its
+    /// place.
+    pub fn owned(&mut self, key: &Key) -> Result<Listing<Shared<Job>>, Refusal>
+        ensures ok { IfOk result (λ l. l ≡ owned_by self.old.jobs key.now) }
         ensures same { self.new ≡ self.old }
         ensures memory { IfErr result (λ e. e ≡ OutOfMemory) }
     {

@@ -4,19 +4,19 @@ ghost use Rattle.cj_base.specs.declared.refusal.Refusal.TheVariants.{OutOfMemory
 ghost use Rattle.cj_mirror.specs.Lagging as jobs_are;
 
 use cj_jobs::Jobs;
-use cj_types::{Event, Job, Object, Refusal, TryCopy};
+use cj_types::{Event, Job, Object, Refusal, Shared};
 use std::alloc::Global;
 
-// Puts the Job at its key, whatever stands there. Where there is no memory nothing may stand there, until it is put again.
+// Puts the Job at its key, whatever stands there, and copies none. Where there is no memory nothing may stand there, until it is
+// put again.
 #[tactic(auto, using(crate::proofs::Puts::put_cut, crate::proofs::Puts::gone_at))]
-fn put(jobs: &mut Jobs, alloc: Global, job: &Job) -> Result<(), Refusal>
+fn put(jobs: &mut Jobs, alloc: Global, job: &Shared<Job>) -> Result<(), Refusal>
     ensures ok { OnOk result (jobs.new ≡ jobs_are.with_job jobs.old job.now) }
     ensures err { OnErr result (jobs_are.with_job jobs.new job.now ≡ jobs_are.with_job jobs.old job.now) }
     ensures memory { IfErr result (λ e. e ≡ OutOfMemory) }
 {
     jobs.remove(alloc, &job.key)?;
-    let copy = job.try_copy(alloc)?;
-    jobs.add(alloc, copy)
+    jobs.add(alloc, job.share()?)
 }
 
 // The object stands after a write.
@@ -77,8 +77,8 @@ pub(crate) fn tell_all(
     Ok(())
 }
 
-/// The Jobs of a list.
-pub(crate) fn list_jobs(alloc: Global, jobs: &[Job]) -> Result<Jobs, Refusal>
+/// The Jobs of a list, none of which is copied.
+pub(crate) fn list_jobs(alloc: Global, jobs: &[Shared<Job>]) -> Result<Jobs, Refusal>
     ensures ok { IfOk result (λ all. all ≡ jobs_are.listed jobs.now) }
     ensures memory { IfErr result (λ e. e ≡ OutOfMemory) }
 {

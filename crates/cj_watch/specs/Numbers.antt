@@ -1,20 +1,11 @@
 -- The numbers of writes: Kubernetes API concepts, "Resource versions".
 use Rattle.std.specs.Prelude.{◌≡◌, ℕ, ◌+◌, nat_lt, List, [], ◌∷◌, filter}
-use Rattle.cj_types.specs.declared.event.Object.{Object}
-use Rattle.cj_types.specs.declared.event.Object.TheVariants as Kind
 use Rattle.cj_types.specs.declared.event.Event.{Event}
-use Rattle.cj_types.specs.declared.event.Event.TheVariants.{Added, Modified, Deleted}
-
--- the resource version in an object's metadata
-abbrev pub object_version : Object → ℕ
-object_version (Kind.Cron cron) = cron.meta.version
-object_version (Kind.Job job) = job.meta.version
+use Rattle.cj_types.specs.Events as event
 
 -- the resource version of the object that an event carries
 abbrev pub version_of : Event → ℕ
-version_of (Added object) = object_version object
-version_of (Modified object) = object_version object
-version_of (Deleted object) = object_version object
+version_of e = event.version_of e
 
 -- the versions follow one another, the first being the one after n
 abbrev pub IsNumbered : ℕ → List Event → Type 0

@@ -5,7 +5,7 @@ ghost use Rattle.cj_watch.specs.Numbers.{version_of};
 use crate::ring::{copy_range, put_last};
 use crate::{Window, version_of};
 use circular_buffer::HeapCircularBuffer;
-use cj_types::{Event, Max, Refusal, Version};
+use cj_types::{Event, Listing, Max, Refusal, Version};
 use std::alloc::Global;
 use std::marker::Model;
 
@@ -97,10 +97,15 @@ impl WatchLog {
         self.events.len().min(start + usize::from(max.get()))
     }
 
-    /// Copies of the first `max` events after the version, in their order, none where the version is the last one or
+    /// The first `max` events after the version, in their order, none where the version is the last one or
     /// above it; or `Expired` with the oldest version that is served, where events after the version are gone.
-    pub fn since(&self, alloc: Global, version: Version, max: Max) -> Result<Vec<Event>, Refusal>
-        ensures ok { IfOk result (λ v. since self.now version max ≡ Ok v.items) }
+    pub fn since(
+        &self,
+        alloc: Global,
+        version: Version,
+        max: Max,
+    ) -> Result<Listing<Event>, Refusal>
+        ensures ok { IfOk result (λ l. since self.now version max ≡ Ok l) }
         ensures err { IfErr result (λ e. e ≢ OutOfMemory → since self.now version max ≡ Err e) }
     {
         if self.is_gone(version) {
@@ -108,6 +113,6 @@ impl WatchLog {
         }
         let start = self.place_after(version);
         let end = self.end_after(start, max);
-        copy_range(alloc, &self.events, start, end)
+        Listing::new(alloc, copy_range(alloc, &self.events, start, end)?)
     }
 }

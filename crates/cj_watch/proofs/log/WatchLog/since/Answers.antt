@@ -13,5 +13,5 @@ returns-clause-ok c =
     let kept = subst (λ (l : Log). IsWindow l) c.self.view_is c.self.invariant in
     let items = ap (λ (l : Log). take (end - start) (drop start l.kept)) c.self.view_is in
     let answer = told log c.args.version c.args.max start end kept (sym c.is_gone.ensures ∙ c.if-is_gone.false) c.place_after-start.ensures c.end_after-end.ensures in
-    IfOk-weaker c.copy_range.result (λ v. v.items ≡ take (end - start) (drop start c.self.inside.events.items)) (λ v. since log c.args.version c.args.max ≡ Ok v.items)
-    (λ v e. answer ∙ ap (λ (es : List Event). Ok es) (sym (e ∙ items))) c.copy_range.ensures.ok
+    IfOk-weaker c.new.result (λ l. l ≡ c.in_ok-copy_range.field-0.items) (λ l. since log c.args.version c.args.max ≡ Ok l)
+    (λ l e. answer ∙ ap (λ (es : List Event). Ok es) (sym (e ∙ c.in_ok-copy_range.ensures.ok ∙ items))) c.new.ensures.ok
