@@ -1,4 +1,0 @@
-pub mod Runs
-pub mod One
-pub mod Claims
-pub mod Orders

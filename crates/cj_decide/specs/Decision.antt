@@ -1,83 +1,101 @@
--- What a sync of a CronJob does: Kubernetes CronJob documentation, "Writing a CronJob spec" and "CronJob limitations";
--- batch/v1, `CronJobStatus`.
-use Rattle.std.specs.Prelude.{◌≡◌, ℕ, List, [], ◌∷◌, Option, None, Some, option_map, if◌then◌else◌}
+-- What a sync of a CronJob does: Kubernetes CronJob documentation, "Writing a CronJob spec", "CronJob limitations" and
+-- "Jobs history limits".
+use Rattle.std.specs.Prelude.{◌≡◌, ℕ, Bool, true, false, List, [], ◌∷◌, ◌++◌, Option, None, Some, option_map, if◌then◌else◌}
 use Rattle.cj_types.specs.declared.cron.CronJob.{CronJob}
 use Rattle.cj_types.specs.declared.cron.CronStatus.{CronStatus}
 use Rattle.cj_types.specs.declared.job.Job.{Job}
-use Rattle.cj_types.specs.declared.job.JobDraft.{JobDraft}
 use Rattle.cj_types.specs.declared.policy.Reason.{Reason}
-use Rattle.cj_types.specs.Made.{made_job}
+use Rattle.cj_types.specs.declared.policy.Reason.TheVariants.{TooManyMissedTimes}
 use Rattle.cj_types.specs.Uids.{uid_text}
 use Rattle.cj_zone.specs.declared.zone.Zone.{Zone}
-use Rattle.cj_zone.specs.TimeText.{time_text_of}
-use Rattle.cj_decide.specs.declared.running.JobRef.{JobRef}
-use Rattle.cj_decide.specs.declared.steps.Claim.{Claim}
+use Rattle.cj_status.specs.declared.listing.Pick.TheVariants as Meant
+use Rattle.cj_status.specs.declared.order.Sorting.TheVariants.{ByName}
+use Rattle.cj_status.specs.declared.refs.JobRef.{JobRef}
+use Rattle.cj_status.specs.Mine.{present}
+use Rattle.cj_status.specs.Picked.{picked, running}
+use Rattle.cj_status.specs.Refs.{has_any}
+use Rattle.cj_decide.specs.declared.start.Claim.{Claim}
 use Rattle.cj_decide.specs.declared.steps.Steps.{Steps}
 use Rattle.cj_decide.specs.declared.verdict.Verdict.{Verdict}
-use Rattle.cj_decide.specs.Mine.{running, has_any}
 use Rattle.cj_decide.specs.Verdicts.{IsVerdict}
+use Rattle.cj_decide.specs.Start.{claim_of, draft_of}
+use Rattle.cj_decide.specs.Finally.{standing, final, IsStatusStep, cleanup_of}
 
--- the status that stands, with the time as the last one that was scheduled
-abbrev pub claimed : CronJob → ℕ → CronStatus
-claimed cron time = record {
-  active = cron.status.active;
-  last_schedule_time = Some time;
-  last_successful_time = cron.status.last_successful_time;
-}
+abbrev pub many_of : Bool → List Reason
+many_of true = TooManyMissedTimes ∷ []
+many_of false = []
 
-abbrev pub claim_of : CronJob → ℕ → Claim
-claim_of cron time = record { time = time; status = claimed cron time }
+abbrev pub reason_of : Option Reason → List Reason
+reason_of None = []
+reason_of (Some reason) = reason ∷ []
 
--- the Job for the time
-abbrev pub draft_of : CronJob → ℕ → JobDraft
-draft_of cron time = made_job cron time (time_text_of time)
+-- that more than 100 times were missed comes first
+abbrev pub reasons_of : Verdict → List Reason
+reasons_of v = many_of v.is_late ++ reason_of v.reason
 
-abbrev pub reasons_of : Option Reason → List Reason
-reasons_of None = []
-reasons_of (Some reason) = reason ∷ []
+-- the unfinished Jobs of the CronJob that the live read found, the oldest first
+abbrev pub running_of : CronJob → List (Option Job) → List JobRef
+running_of cron found = running (uid_text cron.meta.uid) (present found)
 
--- the steps that a verdict means, of a CronJob of which these Jobs run
-abbrev pub steps_of : CronJob → List JobRef → Verdict → Steps
-steps_of cron jobs v = record {
-  claim = option_map (claim_of cron) v.start;
-  drop_first = if v.replaces then jobs else [];
+-- the claim that a verdict means
+abbrev pub claim_by : CronJob → Verdict → Option Claim
+claim_by cron v = option_map (claim_of cron) v.start
+
+-- the steps that a verdict means, with the status at the end
+abbrev pub steps_of : CronJob → List Job → List (Option Job) → Verdict → Option CronStatus → Steps
+steps_of cron jobs found v status = record {
+  claim = claim_by cron v;
+  drop_first = if v.replaces then running_of cron found else [];
   make = option_map (draft_of cron) v.start;
-  cleanup = [];
-  status = None;
-  reasons = reasons_of v.reason;
+  cleanup = cleanup_of cron jobs;
+  status = status;
+  reasons = reasons_of v;
   next = v.next;
 }
 
--- there is no CronJob
-abbrev pub no_steps : Steps
-no_steps = record { claim = None; drop_first = []; make = None; cleanup = []; status = None; reasons = []; next = None }
+-- there is no CronJob: all that is listed goes, by name
+abbrev pub clearing : List Job → Steps
+clearing jobs = record {
+  claim = None;
+  drop_first = [];
+  make = None;
+  cleanup = picked Meant.Listed ByName [] jobs;
+  status = None;
+  reasons = [];
+  next = None;
+}
 
--- the unfinished Jobs of the CronJob
-abbrev pub running_of : CronJob → List Job → List JobRef
-running_of cron jobs = running (uid_text cron.meta.uid) jobs
+-- the steps are those of the verdict; the status is one only where it differs from what stands
+pub record AreSteps (cron : CronJob) (jobs : List Job) (found : List (Option Job)) (v : Verdict) (steps : Steps) : Type 0 where
+  pub status : Option CronStatus
+  pub changes : IsStatusStep (standing cron (claim_by cron v)) (final cron jobs found v (claim_by cron v)) status
+  pub are : steps ≡ steps_of cron jobs found v status
 
--- the steps are those of the verdict
-abbrev pub IsDecision : CronJob → List Job → ℕ → Option Zone → Steps → Type 0
-IsDecision cron jobs now z steps =
-    (v : Verdict) × IsVerdict cron z (has_any (running_of cron jobs)) now v × (steps ≡ steps_of cron (running_of cron jobs) v)
+-- the steps are those of the one verdict
+pub record IsDecision (cron : CronJob) (jobs : List Job) (found : List (Option Job)) (now : ℕ) (z : Option Zone) (steps : Steps) : Type 0 where
+  pub verdict : Verdict
+  pub judged : IsVerdict cron z (has_any (running_of cron found)) now verdict
+  pub meant : AreSteps cron jobs found verdict steps
 
--- the plan of a CronJob or none, the listed Jobs, the moment and the zone, if it is known
-abbrev pub IsPlan : Option CronJob → List Job → ℕ → Option Zone → Steps → Type 0
-IsPlan None jobs now z steps = steps ≡ no_steps
-IsPlan (Some cron) jobs now z steps = IsDecision cron jobs now z steps
+-- the plan of a CronJob or none, the listed Jobs, what a live read found for each of its active names, the moment and the
+-- zone, if it is known
+abbrev pub IsPlan : Option CronJob → List Job → List (Option Job) → ℕ → Option Zone → Steps → Type 0
+IsPlan None jobs found now z steps = steps ≡ clearing jobs
+IsPlan (Some cron) jobs found now z steps = IsDecision cron jobs found now z steps
 
 -- a plan, with what it rests on
 pub record Planned : Type 0 where
   pub cron : Option CronJob
   pub jobs : List Job
+  pub active : List (Option Job)
   pub at : ℕ
   pub zone : Option Zone
   pub steps : Steps
 
 -- it is the decision of what it rests on
 abbrev pub IsDecided : Planned → Type 0
-IsDecided p = IsPlan p.cron p.jobs p.at p.zone p.steps
+IsDecided p = IsPlan p.cron p.jobs p.active p.at p.zone p.steps
 
--- it rests on just this CronJob, or none, and these Jobs
-abbrev pub RestsOn : Planned → Option CronJob → List Job → Type 0
-RestsOn p cron jobs = (p.cron ≡ cron) × (p.jobs ≡ jobs)
+-- it rests on just this CronJob, or none, these Jobs, and this live read
+abbrev pub RestsOn : Planned → Option CronJob → List Job → List (Option Job) → Type 0
+RestsOn p cron jobs active = (p.cron ≡ cron) × (p.jobs ≡ jobs) × (p.active ≡ active)

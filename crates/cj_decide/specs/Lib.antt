@@ -1,5 +1,4 @@
-pub mod Order
-pub mod Mine
 pub mod Verdicts
+pub mod Start
+pub mod Finally
 pub mod Decision
-pub mod Laws

@@ -5,7 +5,7 @@ use Rattle.cj_types.specs.declared.cron.CronJob.{CronJob}
 use Rattle.cj_types.specs.declared.policy.Policy.{Policy}
 use Rattle.cj_types.specs.declared.policy.Policy.TheVariants.{Allow, Forbid, Replace}
 use Rattle.cj_types.specs.declared.policy.Reason.{Reason}
-use Rattle.cj_types.specs.declared.policy.Reason.TheVariants.{UnknownTimeZone, TooManyMissedTimes, JobAlreadyActive}
+use Rattle.cj_types.specs.declared.policy.Reason.TheVariants.{UnknownTimeZone, JobAlreadyActive}
 use Rattle.cj_schedule.specs.Matches.{Sets}
 use Rattle.cj_schedule.specs.Grammar.{IsSchedule}
 use Rattle.cj_zone.specs.declared.zone.Zone.{Zone}
@@ -18,11 +18,15 @@ use Rattle.cj_decide.specs.declared.verdict.Verdict.{Verdict}
 
 -- no Job is started
 abbrev pub rests : Option Reason → Option ℕ → Verdict
-rests reason next = record { start = None; replaces = false; reason = reason; next = next }
+rests reason next = record { start = None; replaces = false; is_late = false; reason = reason; next = next }
 
 -- the Job of a time is started, in place of those that run or beside them
 abbrev pub starts : ℕ → Bool → Option ℕ → Verdict
-starts time replaces next = record { start = Some time; replaces = replaces; reason = None; next = next }
+starts time replaces next = record { start = Some time; replaces = replaces; is_late = false; reason = None; next = next }
+
+-- the same where more than 100 times were missed
+abbrev pub late : Verdict → Verdict
+late v = record { start = v.start; replaces = v.replaces; is_late = true; reason = v.reason; next = v.next }
 
 -- by the concurrency policy, and whether a Job of the CronJob runs
 abbrev pub by_policy : Policy → Bool → ℕ → Option ℕ → Verdict
@@ -31,11 +35,11 @@ by_policy Forbid false time next = starts time false next
 by_policy Replace busy time next = starts time true next
 by_policy Allow busy time next = starts time false next
 
--- by the times missed: the latest of them is the one to start for
+-- by the times missed, however many: the latest of them is the one to start for
 abbrev pub by_missed : Missed → Policy → Bool → Option ℕ → Verdict
 by_missed Kind.None policy busy next = rests None next
-by_missed Kind.Many policy busy next = rests (Some TooManyMissedTimes) next
 by_missed (Kind.Some count latest) policy busy next = by_policy policy busy latest next
+by_missed (Kind.Many latest) policy busy next = late (by_policy policy busy latest next)
 
 -- the least due time after now and within 3,000 days, none where there is none
 abbrev pub IsNext : Sets → Zone → ℕ → Option ℕ → Type 0

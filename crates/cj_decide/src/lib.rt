@@ -1,14 +1,14 @@
 //! What a sync of a CronJob does: one plan for what was read.
 #![tactic(auto)]
 
-mod laws;
+mod finally;
 mod plan;
-mod running;
+mod start;
 mod steps;
 mod times;
 mod verdict;
 
-pub use laws::plan_laws;
+pub use cj_status::{JobRef, JobRefs};
 pub use plan::{Plan, decide};
-pub use running::{JobRef, JobRefs};
-pub use steps::{Claim, Steps};
+pub use start::Claim;
+pub use steps::Steps;

@@ -3,21 +3,23 @@ ghost use Rattle.cj_base.specs.declared.refusal.Refusal.TheVariants.{OutOfMemory
 ghost use Rattle.cj_decide.specs.Decision.{IsDecided, RestsOn};
 
 use crate::steps::{Steps, plan_steps};
-use cj_types::{CronJob, Job, Refusal, Same, Seconds, TryCopy, copy_all, same_all};
+use cj_types::{CronJob, Job, Listing, Refusal, Same, Seconds, Shared, TryCopy, same_all};
 use cj_zone::Zone;
 use std::alloc::Global;
 use std::marker::Model;
 
-/// What a sync of a CronJob does, with what that rests on: the CronJob, the listed Jobs, the moment and the zone.
+/// What a sync of a CronJob does, with what that rests on: the CronJob, the listed Jobs, what a live read found for each name of
+/// its `status.active`, the moment and the zone.
 ///
-/// Its type keeps that its steps are the decision of what it rests on. Contracts see both.
+/// Its type keeps that its steps are the decision of what it rests on. Contracts see both. Copies share all of it.
 #[derive(Drop)]
 pub struct Plan {
-    cron: Option<CronJob>,
-    jobs: Vec<Job>,
+    cron: Option<Shared<CronJob>>,
+    jobs: Listing<Shared<Job>>,
+    active: Listing<Option<Shared<Job>>>,
     at: Seconds,
-    zone: Option<Zone>,
-    steps: Steps,
+    zone: Option<Shared<Zone>>,
+    steps: Shared<Steps>,
 }
 
 impl Model for Plan {
@@ -25,30 +27,51 @@ impl Model for Plan {
 
     ghost Value = { Planned };
 
-    ghost view = { λ p. record { cron = p.cron; jobs = p.jobs.items; at = p.at; zone = p.zone; steps = p.steps } };
+    ghost view = { λ p. record { cron = p.cron; jobs = p.jobs; active = p.active; at = p.at; zone = p.zone; steps = p.steps } };
 
-    ghost invariant = { λ p. IsDecided (record { cron = p.cron; jobs = p.jobs.items; at = p.at; zone = p.zone; steps = p.steps }) };
+    ghost invariant = { λ p. IsDecided (record { cron = p.cron; jobs = p.jobs; active = p.active; at = p.at; zone = p.zone; steps = p.steps }) };
 }
 
-/// The one plan of a CronJob, or none, the Jobs listed for it, the moment, and its zone, if that is known.
+fn seen<T>(value: &Option<Shared<T>>) -> Option<&T>
+    ensures { option_copied result ≡ value.now }
+{
+    match value {
+        Some(value) => Some(value.get()),
+        None => None,
+    }
+}
+
+/// The one plan of a CronJob, or none, the Jobs listed for it, what a live read found for each name of its `status.active` in
+/// their order, the moment, and its zone, if that is known.
 pub fn decide(
     alloc: Global,
-    cron: Option<CronJob>,
-    jobs: Vec<Job>,
+    cron: Option<Shared<CronJob>>,
+    jobs: Listing<Shared<Job>>,
+    active: Listing<Option<Shared<Job>>>,
     now: Seconds,
-    zone: Option<Zone>,
+    zone: Option<Shared<Zone>>,
 ) -> Result<Plan, Refusal>
     ensures cron { IfOk result (λ p. p.cron ≡ cron) }
-    ensures jobs { IfOk result (λ p. p.jobs ≡ jobs.items) }
+    ensures jobs { IfOk result (λ p. p.jobs ≡ jobs) }
+    ensures active { IfOk result (λ p. p.active ≡ active) }
     ensures at { IfOk result (λ p. p.at ≡ now) }
     ensures zone { IfOk result (λ p. p.zone ≡ zone) }
     ensures decided { IfOk result (λ p. IsDecided p) }
     ensures err { IfErr result (λ e. e ≡ OutOfMemory) }
 {
-    let steps = plan_steps(alloc, cron.as_ref(), jobs.as_slice(), now, zone.as_ref())?;
+    let steps = plan_steps(
+        alloc,
+        seen(&cron),
+        jobs.as_slice(),
+        active.as_slice(),
+        now,
+        seen(&zone),
+    )?;
+    let steps = Shared::new(alloc, steps)?;
     Ok(Plan {
         cron,
         jobs,
+        active,
         at: now,
         zone,
         steps,
@@ -61,21 +84,28 @@ impl Plan {
         ensures steps { result.now ≡ self.now.steps }
         ensures decided { IsDecided self.now }
     {
-        &self.steps
+        self.steps.get()
     }
 
-    /// The CronJob that it rests on.
-    pub fn cron(&self) -> Option<&CronJob>
-        ensures { option_copied result ≡ self.now.cron }
+    /// The CronJob that it rests on, or none.
+    pub fn cron(&self) -> &Option<Shared<CronJob>>
+        ensures { result.now ≡ self.now.cron }
     {
-        self.cron.as_ref()
+        &self.cron
     }
 
     /// The listed Jobs that it rests on.
-    pub fn jobs(&self) -> &[Job]
+    pub fn jobs(&self) -> &[Shared<Job>]
         ensures { result.now ≡ self.now.jobs }
     {
         self.jobs.as_slice()
+    }
+
+    /// What the live read found for each of the CronJob's active names.
+    pub fn active(&self) -> &[Option<Shared<Job>>]
+        ensures { result.now ≡ self.now.active }
+    {
+        self.active.as_slice()
     }
 
     /// The moment that it is for.
@@ -86,19 +116,25 @@ impl Plan {
     }
 
     /// The zone that it rests on.
-    pub fn zone(&self) -> Option<&Zone>
-        ensures { option_copied result ≡ self.now.zone }
+    pub fn zone(&self) -> &Option<Shared<Zone>>
+        ensures { result.now ≡ self.now.zone }
     {
-        self.zone.as_ref()
+        &self.zone
     }
 
-    /// Whether it rests on just this CronJob, or none, and these Jobs.
-    pub fn rests_on(&self, cron: &Option<CronJob>, jobs: &[Job]) -> bool
-        ensures { MatchBool result (RestsOn self.now cron.now jobs.now) (RestsOn self.now cron.now jobs.now → ⊥) }
+    /// Whether it rests on just this CronJob, or none, these Jobs, and this live read.
+    pub fn rests_on(
+        &self,
+        cron: &Option<Shared<CronJob>>,
+        jobs: &[Shared<Job>],
+        active: &[Option<Shared<Job>>],
+    ) -> bool
+        ensures { MatchBool result (RestsOn self.now cron.now jobs.now active.now) (RestsOn self.now cron.now jobs.now active.now → ⊥) }
     {
         let same_cron = self.cron.same(cron);
         let same_jobs = same_all(self.jobs.as_slice(), jobs);
-        same_cron && same_jobs
+        let same_active = same_all(self.active.as_slice(), active);
+        same_cron && same_jobs && same_active
     }
 }
 
@@ -106,10 +142,23 @@ impl TryCopy for Plan {
     fn try_copy(&self, alloc: Global) -> Result<Plan, Refusal> {
         Ok(Plan {
             cron: self.cron.try_copy(alloc)?,
-            jobs: copy_all(alloc, self.jobs.as_slice())?,
+            jobs: self.jobs.try_copy(alloc)?,
+            active: self.active.try_copy(alloc)?,
             at: self.at,
             zone: self.zone.try_copy(alloc)?,
             steps: self.steps.try_copy(alloc)?,
         })
+    }
+}
+
+impl Same for Plan {
+    fn same(&self, other: &Plan) -> bool {
+        let cron = self.cron.same(&other.cron);
+        let jobs = self.jobs.same(&other.jobs);
+        let active = self.active.same(&other.active);
+        let at = self.at == other.at;
+        let zone = self.zone.same(&other.zone);
+        let steps = self.steps.same(&other.steps);
+        cron && jobs && active && at && zone && steps
     }
 }

@@ -1,28 +1,17 @@
 ghost use Rattle.std.specs.Prelude.{◌≡◌, [], IfOk, IfErr, option_map, option_copied, if◌then◌else◌};
 ghost use Rattle.cj_base.specs.declared.refusal.Refusal.TheVariants.{OutOfMemory};
-ghost use Rattle.cj_decide.specs.Decision.{claimed, claim_of, draft_of, reasons_of, steps_of, no_steps, running_of, IsDecision, IsPlan};
+ghost use Rattle.cj_types.specs.Uids.{uid_text};
+ghost use Rattle.cj_decide.specs.Decision.{reasons_of, running_of, AreSteps, clearing, IsDecision, IsPlan};
 
-use crate::running::JobRefs;
+use crate::finally::{cleanup, final_step};
+use crate::start::{Claim, claim_at, make_at};
 use crate::verdict::{Verdict, judge};
-use cj_types::{CronJob, CronStatus, Job, JobDraft, Reason, Reasons, Refusal, Seconds, TryCopy};
-use cj_zone::{Zone, time_text};
+use cj_status::{JobRefs, Pick, Sorting, picked, running_found};
+use cj_types::{
+    CronJob, CronStatus, Job, JobDraft, Reason, Reasons, Refusal, Same, Seconds, Shared, TryCopy,
+};
+use cj_zone::Zone;
 use std::alloc::Global;
-
-/// The scheduled time that is claimed, and the status that says so.
-#[derive(Debug, Drop)]
-pub struct Claim {
-    pub time: Seconds,
-    pub status: CronStatus,
-}
-
-impl TryCopy for Claim {
-    fn try_copy(&self, alloc: Global) -> Result<Claim, Refusal> {
-        Ok(Claim {
-            time: self.time,
-            status: self.status.try_copy(alloc)?,
-        })
-    }
-}
 
 /// What a sync does, in the order of the fields; each step may be missing.
 #[derive(Debug, Drop)]
@@ -36,7 +25,7 @@ pub struct Steps {
     pub cleanup: JobRefs,
     /// The CronJob's status at the end, where it differs from what stands.
     pub status: Option<CronStatus>,
-    /// Why no Job was started.
+    /// Why no Job was started, or that many times were missed.
     pub reasons: Reasons,
     /// When to look again.
     pub next: Option<Seconds>,
@@ -56,45 +45,16 @@ impl TryCopy for Steps {
     }
 }
 
-fn claimed(alloc: Global, cron: &CronJob, time: Seconds) -> Result<CronStatus, Refusal>
-    ensures ok { IfOk result (λ s. s ≡ claimed cron.now time) }
-    ensures err { IfErr result (λ e. e ≡ OutOfMemory) }
-{
-    Ok(CronStatus {
-        active: cron.status.active.try_copy(alloc)?,
-        last_schedule_time: Some(time),
-        last_successful_time: cron.status.last_successful_time,
-    })
-}
-
-fn claim_at(alloc: Global, cron: &CronJob, start: Option<Seconds>) -> Result<Option<Claim>, Refusal>
-    ensures ok { IfOk result (λ c. c ≡ option_map (claim_of cron.now) start) }
-    ensures err { IfErr result (λ e. e ≡ OutOfMemory) }
-{
-    match start {
-        None => Ok(None),
-        Some(time) => Ok(Some(Claim {
-            time,
-            status: claimed(alloc, cron, time)?,
-        })),
-    }
-}
-
-fn draft(alloc: Global, cron: &CronJob, time: Seconds) -> Result<JobDraft, Refusal>
-    ensures ok { IfOk result (λ d. d ≡ draft_of cron.now time) }
-    ensures err { IfErr result (λ e. e ≡ OutOfMemory) }
-{
-    let text = time_text(alloc, time)?;
-    cron.job_for(alloc, time, text.as_str())
-}
-
-fn make(alloc: Global, cron: &CronJob, start: Option<Seconds>) -> Result<Option<JobDraft>, Refusal>
-    ensures ok { IfOk result (λ d. d ≡ option_map (draft_of cron.now) start) }
-    ensures err { IfErr result (λ e. e ≡ OutOfMemory) }
-{
-    match start {
-        None => Ok(None),
-        Some(time) => Ok(Some(draft(alloc, cron, time)?)),
+impl Same for Steps {
+    fn same(&self, other: &Steps) -> bool {
+        let claim = self.claim.same(&other.claim);
+        let drop_first = self.drop_first.same(&other.drop_first);
+        let make = self.make.same(&other.make);
+        let cleanup = self.cleanup.same(&other.cleanup);
+        let status = self.status.same(&other.status);
+        let reasons = self.reasons.same(&other.reasons);
+        let next = self.next == other.next;
+        claim && drop_first && make && cleanup && status && reasons && next
     }
 }
 
@@ -108,90 +68,95 @@ fn drops(alloc: Global, running: JobRefs, replaces: bool) -> JobRefs
     }
 }
 
-fn reasons(alloc: Global, reason: Option<Reason>) -> Result<Reasons, Refusal>
-    ensures ok { IfOk result (λ r. r ≡ reasons_of reason) }
+fn reasons(alloc: Global, verdict: Verdict) -> Result<Reasons, Refusal>
+    ensures ok { IfOk result (λ r. r ≡ reasons_of verdict) }
     ensures err { IfErr result (λ e. e ≡ OutOfMemory) }
 {
     let mut reasons = Reasons::new(alloc);
-    if let Some(reason) = reason {
+    if verdict.is_late {
+        reasons.push(Reason::TooManyMissedTimes)?;
+    }
+    if let Some(reason) = verdict.reason {
         reasons.push(reason)?;
     }
     Ok(reasons)
 }
 
-// The steps of a verdict on a CronJob of which these Jobs run.
+// The steps of a verdict on a CronJob of which these Jobs run; the uid is the CronJob's, as a text.
 fn steps_of(
     alloc: Global,
     cron: &CronJob,
+    uid: &str,
+    jobs: &[Shared<Job>],
+    found: &[Option<Shared<Job>>],
     running: JobRefs,
     verdict: Verdict,
 ) -> Result<Steps, Refusal>
-    ensures ok { IfOk result (λ s. s ≡ steps_of cron.now running verdict) }
+    requires uid { uid.now ≡ uid_text cron.now.meta.uid }
+    requires running { running ≡ running_of cron.now found.now }
+    ensures ok { IfOk result (λ s. AreSteps cron.now jobs.now found.now verdict s) }
     ensures err { IfErr result (λ e. e ≡ OutOfMemory) }
 {
-    let first = drops(alloc, running, verdict.replaces);
-    let last = JobRefs::new(alloc);
+    let claim = claim_at(alloc, cron, verdict.start)?;
+    let status = final_step(alloc, cron, uid, jobs, found, verdict, &claim)?;
     Ok(Steps {
-        claim: claim_at(alloc, cron, verdict.start)?,
-        drop_first: first,
-        make: make(alloc, cron, verdict.start)?,
-        cleanup: last,
-        status: None,
-        reasons: reasons(alloc, verdict.reason)?,
+        claim,
+        drop_first: drops(alloc, running, verdict.replaces),
+        make: make_at(alloc, cron, verdict.start)?,
+        cleanup: cleanup(alloc, cron, uid, jobs)?,
+        status,
+        reasons: reasons(alloc, verdict)?,
         next: verdict.next,
     })
-}
-
-fn running_of(alloc: Global, cron: &CronJob, jobs: &[Job]) -> Result<JobRefs, Refusal>
-    ensures ok { IfOk result (λ r. r ≡ running_of cron.now jobs.now) }
-    ensures err { IfErr result (λ e. e ≡ OutOfMemory) }
-{
-    let uid = cron.meta.uid.text(alloc)?;
-    JobRefs::running(alloc, uid.as_str(), jobs)
 }
 
 fn decision(
     alloc: Global,
     cron: &CronJob,
-    jobs: &[Job],
+    jobs: &[Shared<Job>],
+    found: &[Option<Shared<Job>>],
     now: Seconds,
     zone: Option<&Zone>,
 ) -> Result<Steps, Refusal>
-    ensures ok { IfOk result (λ s. IsDecision cron.now jobs.now now (option_copied zone.entry) s) }
+    ensures ok { IfOk result (λ s. IsDecision cron.now jobs.now found.now now (option_copied zone.entry) s) }
     ensures err { IfErr result (λ e. e ≡ OutOfMemory) }
 {
-    let running = running_of(alloc, cron, jobs)?;
+    let uid = cron.meta.uid.text(alloc)?;
+    let running = running_found(alloc, uid.as_str(), found)?;
     let verdict = judge(cron, zone, running.has_any(), now);
-    steps_of(alloc, cron, running, verdict)
+    steps_of(alloc, cron, uid.as_str(), jobs, found, running, verdict)
 }
 
-fn no_steps(alloc: Global) -> Steps
-    ensures { result ≡ no_steps }
+// There is no CronJob: all that is listed goes.
+fn clearing(alloc: Global, jobs: &[Shared<Job>]) -> Result<Steps, Refusal>
+    ensures ok { IfOk result (λ s. s ≡ clearing jobs.now) }
+    ensures err { IfErr result (λ e. e ≡ OutOfMemory) }
 {
-    Steps {
+    Ok(Steps {
         claim: None,
         drop_first: JobRefs::new(alloc),
         make: None,
-        cleanup: JobRefs::new(alloc),
+        cleanup: picked(alloc, Pick::Listed, Sorting::ByName, "", jobs)?,
         status: None,
         reasons: Reasons::new(alloc),
         next: None,
-    }
+    })
 }
 
-/// The steps of the sync that read these: none where there is no CronJob.
-pub fn plan_steps(
+/// The steps of the sync that read these.
+pub(crate) fn plan_steps(
     alloc: Global,
     cron: Option<&CronJob>,
-    jobs: &[Job],
+    jobs: &[Shared<Job>],
+    found: &[Option<Shared<Job>>],
     now: Seconds,
     zone: Option<&Zone>,
 ) -> Result<Steps, Refusal>
-    ensures ok { IfOk result (λ s. IsPlan (option_copied cron.entry) jobs.now now (option_copied zone.entry) s) }
+    ensures ok { IfOk result (λ s. IsPlan (option_copied cron.entry) jobs.now found.now now (option_copied zone.entry) s) }
     ensures err { IfErr result (λ e. e ≡ OutOfMemory) }
 {
     match cron {
-        None => Ok(no_steps(alloc)),
-        Some(cron) => decision(alloc, cron, jobs, now, zone),
+        None => clearing(alloc, jobs),
+        Some(cron) => decision(alloc, cron, jobs, found, now, zone),
     }
 }

@@ -22,8 +22,5 @@ pub fn missed_of(cron: &CronJob, schedule: &Schedule, zone: &Zone, now: Seconds)
 pub fn next_of(schedule: &Schedule, zone: &Zone, now: Seconds) -> Option<Seconds>
     ensures { IsNext schedule.now zone.now now result }
 {
-    match next_after(schedule, zone, now) {
-        Some(time) => Some(time),
-        None => None,
-    }
+    next_after(schedule, zone, now)
 }

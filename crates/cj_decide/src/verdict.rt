@@ -1,5 +1,5 @@
 ghost use Rattle.std.specs.Prelude.{◌≡◌, option_copied};
-ghost use Rattle.cj_decide.specs.Verdicts.{rests, starts, by_policy, by_missed, IsByTimes, IsByText, IsByZone, IsVerdict};
+ghost use Rattle.cj_decide.specs.Verdicts.{rests, starts, late, by_policy, by_missed, IsByTimes, IsByText, IsByZone, IsVerdict};
 
 use crate::times::{missed_of, next_of};
 use cj_due::Missed;
@@ -14,6 +14,8 @@ pub struct Verdict {
     pub start: Option<Seconds>,
     /// Whether it takes the place of those that run.
     pub replaces: bool,
+    /// Whether more than 100 times were missed.
+    pub is_late: bool,
     /// Why none is started, where there is something to tell.
     pub reason: Option<Reason>,
     /// When to look again.
@@ -26,6 +28,7 @@ fn rests(reason: Option<Reason>, next: Option<Seconds>) -> Verdict
     Verdict {
         start: None,
         replaces: false,
+        is_late: false,
         reason,
         next,
     }
@@ -37,6 +40,7 @@ fn starts(time: Seconds, replaces: bool, next: Option<Seconds>) -> Verdict
     Verdict {
         start: Some(time),
         replaces,
+        is_late: false,
         reason: None,
         next,
     }
@@ -52,13 +56,23 @@ fn by_policy(policy: Policy, busy: bool, time: Seconds, next: Option<Seconds>) -
     }
 }
 
+// The same verdict where more than 100 times were missed.
+fn late(verdict: Verdict) -> Verdict
+    ensures { result ≡ late verdict }
+{
+    Verdict {
+        is_late: true,
+        ..verdict
+    }
+}
+
 fn by_missed(missed: Missed, policy: Policy, busy: bool, next: Option<Seconds>) -> Verdict
     ensures { result ≡ by_missed missed policy busy next }
 {
     match missed {
         Missed::None => rests(None, next),
-        Missed::Many => rests(Some(Reason::TooManyMissedTimes), next),
         Missed::Some { latest, .. } => by_policy(policy, busy, latest, next),
+        Missed::Many { latest } => late(by_policy(policy, busy, latest, next)),
     }
 }
 
@@ -88,8 +102,8 @@ fn by_zone(cron: &CronJob, zone: Option<&Zone>, busy: bool, now: Seconds) -> Ver
     }
 }
 
-/// The verdict on a CronJob of which a Job runs or not: the first of suspended, no zone, nothing missed, too much
-/// missed, not allowed beside what runs, started in its place, started.
+/// The verdict on a CronJob of which a Job runs or not: the first of suspended, no zone, nothing missed, not allowed
+/// beside what runs, started in its place, started.
 pub fn judge(cron: &CronJob, zone: Option<&Zone>, busy: bool, now: Seconds) -> Verdict
     ensures { IsVerdict cron.now (option_copied zone.entry) busy now result }
 {

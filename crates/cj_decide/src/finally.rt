@@ -1,0 +1,107 @@
+// What is done after the start: the Jobs that are cleaned up, and the status at the end.
+ghost use Rattle.std.specs.Prelude.{◌≡◌, IfOk, IfErr};
+ghost use Rattle.cj_base.specs.declared.refusal.Refusal.TheVariants.{OutOfMemory};
+ghost use Rattle.cj_types.specs.Uids.{uid_text};
+ghost use Rattle.cj_decide.specs.Finally.{with_made, active_after, standing, final, IsStatusStep, cleanup_of};
+
+use crate::start::Claim;
+use crate::verdict::Verdict;
+use cj_status::{JobRefs, Pick, Sorting, last_success, names_with, picked, still_active, surplus};
+use cj_types::{CronJob, CronStatus, Job, Names, Refusal, Same, Seconds, Shared};
+use std::alloc::Global;
+
+// The names with that of the Job that is made, if one is.
+fn with_made(
+    alloc: Global,
+    cron: &CronJob,
+    start: Option<Seconds>,
+    others: Names,
+) -> Result<Names, Refusal>
+    ensures ok { IfOk result (λ n. n ≡ with_made cron.now start others) }
+    ensures err { IfErr result (λ e. e ≡ OutOfMemory) }
+{
+    match start {
+        None => Ok(others),
+        Some(time) => {
+            let made = cron.key.job_key(alloc, time)?;
+            names_with(alloc, &others, &made)
+        }
+    }
+}
+
+fn active_after(
+    alloc: Global,
+    cron: &CronJob,
+    uid: &str,
+    found: &[Option<Shared<Job>>],
+    verdict: Verdict,
+) -> Result<Names, Refusal>
+    requires uid { uid.now ≡ uid_text cron.now.meta.uid }
+    ensures ok { IfOk result (λ n. n ≡ active_after cron.now found.now verdict) }
+    ensures err { IfErr result (λ e. e ≡ OutOfMemory) }
+{
+    let others = if verdict.replaces {
+        Names::new(alloc)
+    } else {
+        still_active(alloc, uid, &cron.status.active, found)?
+    };
+    with_made(alloc, cron, verdict.start, others)
+}
+
+// The status that stands before the end.
+fn standing<'a>(cron: &'a CronJob, claim: &'a Option<Claim>) -> &'a CronStatus
+    ensures { result.now ≡ standing cron.now claim.now }
+{
+    match claim {
+        Some(claim) => &claim.status,
+        None => &cron.status,
+    }
+}
+
+// A step only where it changes something.
+fn changed(old: &CronStatus, new: CronStatus) -> Option<CronStatus>
+    ensures { IsStatusStep old.now new result }
+{
+    if new.same(old) { None } else { Some(new) }
+}
+
+/// The status at the end, where it differs from what stands; the uid is the CronJob's, as a text.
+pub(crate) fn final_step(
+    alloc: Global,
+    cron: &CronJob,
+    uid: &str,
+    jobs: &[Shared<Job>],
+    found: &[Option<Shared<Job>>],
+    verdict: Verdict,
+    claim: &Option<Claim>,
+) -> Result<Option<CronStatus>, Refusal>
+    requires uid { uid.now ≡ uid_text cron.now.meta.uid }
+    ensures ok { IfOk result (λ s. IsStatusStep (standing cron.now claim.now) (final cron.now jobs.now found.now verdict claim.now) s) }
+    ensures err { IfErr result (λ e. e ≡ OutOfMemory) }
+{
+    let old = standing(cron, claim);
+    let new = CronStatus {
+        active: active_after(alloc, cron, uid, found, verdict)?,
+        last_schedule_time: old.last_schedule_time,
+        last_successful_time: last_success(cron.status.last_successful_time, jobs, uid),
+    };
+    Ok(changed(old, new))
+}
+
+/// The listed Jobs that aren't the CronJob's, by name, then the finished ones that it no longer keeps. The uid is the CronJob's, as a text.
+pub(crate) fn cleanup(
+    alloc: Global,
+    cron: &CronJob,
+    uid: &str,
+    jobs: &[Shared<Job>],
+) -> Result<JobRefs, Refusal>
+    requires uid { uid.now ≡ uid_text cron.now.meta.uid }
+    ensures ok { IfOk result (λ r. r ≡ cleanup_of cron.now jobs.now) }
+    ensures err { IfErr result (λ e. e ≡ OutOfMemory) }
+{
+    let mut all = picked(alloc, Pick::Foreign, Sorting::ByName, uid, jobs)?;
+    let spec = cron.spec.get();
+    let finished = surplus(alloc, spec.successful_limit, spec.failed_limit, uid, jobs)?;
+    all.append(finished)?;
+    Ok(all)
+}

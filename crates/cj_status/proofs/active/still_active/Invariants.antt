@@ -1,0 +1,6 @@
+use Rattle.std.proofs.Common.{◌≡◌, ◌++◌, drop}
+use Rattle.cj_status.specs.Active.{still_active}
+use Rattle.cj_status.proofs.active.still_active.Given as goal
+
+abbrev pub invariant-loop-i : goal.invariant-loop-i
+invariant-loop-i l = l.all ++ still_active l.uid (drop l.i l.names) (drop l.i l.found) ≡ still_active l.uid l.names l.found

@@ -1,0 +1,6 @@
+use Rattle.std.proofs.Common.{◌≡◌, take}
+use Rattle.cj_status.specs.Picked.{gathered, picks}
+use Rattle.cj_status.proofs.listing.gather.Given as goal
+
+abbrev pub invariant-loop-job : goal.invariant-loop-job
+invariant-loop-job l = l.items.items ≡ gathered (picks l.pick l.uid) (take l.job-index l.jobs)

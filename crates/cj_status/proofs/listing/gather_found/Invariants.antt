@@ -1,0 +1,8 @@
+use Rattle.std.proofs.Common.{◌≡◌, ◌++◌, drop}
+use Rattle.cj_status.specs.Mine.{is_running, present}
+use Rattle.cj_status.specs.Picked.{gathered}
+use Rattle.cj_status.proofs.listing.gather_found.Given as goal
+
+abbrev pub invariant-loop-one : goal.invariant-loop-one
+invariant-loop-one l =
+    l.items.items ++ gathered (is_running l.uid) (present (drop l.one-index l.found)) ≡ gathered (is_running l.uid) (present l.found)

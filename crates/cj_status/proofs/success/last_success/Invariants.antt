@@ -1,0 +1,6 @@
+use Rattle.std.proofs.Common.{◌≡◌, drop}
+use Rattle.cj_status.specs.Success.{success_of}
+use Rattle.cj_status.proofs.success.last_success.Given as goal
+
+abbrev pub invariant-loop-job : goal.invariant-loop-job
+invariant-loop-job l = success_of l.last (drop l.job-index l.jobs) l.uid ≡ success_of l.fn.standing l.jobs l.uid

@@ -1,0 +1,30 @@
+-- Which finished Jobs are no longer kept: batch/v1, `successfulJobsHistoryLimit` and `failedJobsHistoryLimit` of
+-- `CronJobSpec`.
+use Rattle.std.specs.Prelude.{ℕ, Bool, nat_lt, not, List, ◌++◌, filter, length}
+use Rattle.cj_types.specs.declared.job.Job.{Job}
+use Rattle.cj_status.specs.declared.order.Sorting.TheVariants.{ByAge}
+use Rattle.cj_status.specs.declared.listing.Pick.{Pick}
+use Rattle.cj_status.specs.declared.listing.Pick.TheVariants as Meant
+use Rattle.cj_status.specs.declared.refs.JobRef.{JobRef}
+use Rattle.cj_status.specs.Picked.{picked}
+use Rattle.cj_status.specs.Refs.{is_older}
+
+-- how many are newer: created later, or at once and later by name
+abbrev pub newer_count : List JobRef → JobRef → ℕ
+newer_count all r = length (filter (is_older r) all)
+
+-- a finished Job is kept where fewer of its outcome than that outcome's limit are newer
+abbrev pub is_kept : ℕ → List JobRef → JobRef → Bool
+is_kept limit all r = nat_lt (newer_count all r) limit
+
+abbrev pub not_kept : ℕ → List JobRef → List JobRef
+not_kept limit all = filter (λ r. not (is_kept limit all r)) all
+
+-- the CronJob's own of one outcome that are not kept, the oldest first
+abbrev pub surplus_by : Pick → ℕ → List ℕ → List Job → List JobRef
+surplus_by pick limit uid jobs = not_kept limit (picked pick ByAge uid jobs)
+
+-- first all that ended with success, then all that failed
+abbrev pub surplus_of : ℕ → ℕ → List ℕ → List Job → List JobRef
+surplus_of successful failed uid jobs =
+    surplus_by Meant.Completed successful uid jobs ++ surplus_by Meant.Failed failed uid jobs

@@ -1,0 +1,75 @@
+ghost use Rattle.std.specs.Prelude.{◌≡◌, ◌≤◌, length, not, position, unwrap_or, IfOk, IfErr};
+ghost use Rattle.cj_base.specs.declared.refusal.Refusal.TheVariants.{OutOfMemory};
+ghost use Rattle.cj_status.specs.Order.{IsRising};
+ghost use Rattle.cj_status.specs.Refs.{is_older};
+ghost use Rattle.cj_status.specs.Surplus.{not_kept, surplus_by, surplus_of};
+
+use crate::listing::{Pick, picked_items};
+use crate::order::{Sorting, compare};
+use crate::refs::{JobRef, JobRefs};
+use cj_types::{HistoryLimit, Job, Refusal, Shared};
+use std::alloc::Global;
+
+fn first_other(items: &[JobRef], pivot: &JobRef) -> Option<usize>
+    ensures { result ≡ position (λ r. not (is_older r pivot.now)) items.now }
+{
+    items
+        .iter()
+        .position(|job| !compare(Sorting::ByAge, job, pivot).is_lt())
+}
+
+// How many stand before the first that isn't older than a Job.
+fn older_count(items: &[JobRef], pivot: &JobRef) -> usize
+    ensures place { result ≡ unwrap_or (position (λ r. not (is_older r pivot.now)) items.now) (length items.now) }
+    ensures bound { result ≤ length items.now }
+{
+    first_other(items, pivot).unwrap_or(items.len())
+}
+
+// Of Jobs in order of age, leaves those than which as many as the limit are newer: all that are older than the one
+// from which on as many stand as are kept.
+fn cut(items: &mut Vec<JobRef>, limit: usize)
+    requires rises { IsRising is_older items.old.items }
+    ensures { items.new.items ≡ not_kept limit items.old.items }
+{
+    let count = items.len();
+    if limit > count {
+        items.clear();
+    } else if limit > 0 {
+        let keep = older_count(items.as_slice(), &items[count - limit]);
+        items.truncate(keep);
+    }
+}
+
+fn surplus_by(
+    alloc: Global,
+    pick: Pick,
+    limit: HistoryLimit,
+    uid: &str,
+    jobs: &[Shared<Job>],
+) -> Result<JobRefs, Refusal>
+    ensures ok { IfOk result (λ r. r ≡ surplus_by pick limit uid.now jobs.now) }
+    ensures err { IfErr result (λ e. e ≡ OutOfMemory) }
+{
+    let mut items = picked_items(alloc, pick, Sorting::ByAge, uid, jobs)?;
+    cut(&mut items, limit.get() as usize);
+    Ok(JobRefs::from_vec(items))
+}
+
+/// The finished Jobs of the CronJob that are no longer kept: a finished Job is kept where fewer Jobs of its outcome than that outcome's
+/// limit are newer, by creation time, then name. First all that ended with success, then all that failed, each group the oldest
+/// first. The uid is given as a text.
+pub fn surplus(
+    alloc: Global,
+    successful: HistoryLimit,
+    failed: HistoryLimit,
+    uid: &str,
+    jobs: &[Shared<Job>],
+) -> Result<JobRefs, Refusal>
+    ensures ok { IfOk result (λ r. r ≡ surplus_of successful failed uid.now jobs.now) }
+    ensures err { IfErr result (λ e. e ≡ OutOfMemory) }
+{
+    let mut all = surplus_by(alloc, Pick::Completed, successful, uid, jobs)?;
+    all.append(surplus_by(alloc, Pick::Failed, failed, uid, jobs)?)?;
+    Ok(all)
+}

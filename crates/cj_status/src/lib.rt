@@ -1,0 +1,17 @@
+//! What the status of a CronJob says of its Jobs, and which of them are no longer kept.
+#![tactic(auto)]
+
+mod active;
+mod history;
+mod listing;
+mod mine;
+mod order;
+mod refs;
+mod success;
+
+pub use active::{active_of, names_with, still_active};
+pub use history::surplus;
+pub use listing::{Pick, picked, running_found};
+pub use order::Sorting;
+pub use refs::{JobRef, JobRefs};
+pub use success::last_success;

@@ -1,0 +1,140 @@
+ghost use Rattle.std.specs.Prelude.{◌≡◌, [], ◌∷◌, ◌++◌, IfOk, IfErr, OnOk};
+ghost use Rattle.cj_base.specs.declared.refusal.Refusal.TheVariants.{OutOfMemory};
+ghost use Rattle.cj_status.specs.Mine.{is_running, present};
+ghost use Rattle.cj_status.specs.Picked.{picks, gathered, picked, running};
+
+use crate::mine::{is_complete, is_failed, is_mine, is_running};
+use crate::order::{Sorting, sort};
+use crate::refs::{JobRef, JobRefs};
+use cj_types::{Job, Refusal, Shared};
+use std::alloc::Global;
+
+/// Which Jobs of a listing are meant, by the CronJob's uid.
+#[derive(Clone, Copy, Debug, PartialEq, Eq)]
+pub enum Pick {
+    /// The CronJob's own that haven't finished.
+    Running,
+    /// The CronJob's own that ended with success.
+    Completed,
+    /// The CronJob's own that failed.
+    Failed,
+    /// Those that aren't the CronJob's own.
+    Foreign,
+    /// All.
+    Listed,
+}
+
+fn picks(pick: Pick, uid: &str, job: &Job) -> bool
+    ensures { result ≡ picks pick uid.now job.now }
+{
+    let mine = is_mine(uid, job);
+    match pick {
+        Pick::Running => mine && job.is_unfinished(),
+        Pick::Completed => mine && is_complete(job),
+        Pick::Failed => mine && is_failed(job),
+        Pick::Foreign => !mine,
+        Pick::Listed => true,
+    }
+}
+
+// Those of the listing that are meant, as they stand.
+fn gather(
+    alloc: Global,
+    pick: Pick,
+    uid: &str,
+    jobs: &[Shared<Job>],
+) -> Result<Vec<JobRef>, Refusal>
+    ensures ok { IfOk result (λ r. r.items ≡ gathered (picks pick uid.now) jobs.now) }
+    ensures err { IfErr result (λ e. e ≡ OutOfMemory) }
+{
+    let mut items = Vec::new(alloc);
+    for job in jobs {
+        if picks(pick, uid, job.get()) {
+            items
+                .push(JobRef::new(alloc, job.get())?)
+                .map_err(|_| Refusal::OutOfMemory)?;
+        }
+    }
+    Ok(items)
+}
+
+pub(crate) fn picked_items(
+    alloc: Global,
+    pick: Pick,
+    by: Sorting,
+    uid: &str,
+    jobs: &[Shared<Job>],
+) -> Result<Vec<JobRef>, Refusal>
+    ensures ok { IfOk result (λ r. r.items ≡ picked pick by uid.now jobs.now) }
+    ensures err { IfErr result (λ e. e ≡ OutOfMemory) }
+{
+    let mut items = gather(alloc, pick, uid, jobs)?;
+    sort(by, &mut items)?;
+    Ok(items)
+}
+
+/// The Jobs of a listing that are meant, in order. The uid is given as a text.
+pub fn picked(
+    alloc: Global,
+    pick: Pick,
+    by: Sorting,
+    uid: &str,
+    jobs: &[Shared<Job>],
+) -> Result<JobRefs, Refusal>
+    ensures ok { IfOk result (λ r. r ≡ picked pick by uid.now jobs.now) }
+    ensures err { IfErr result (λ e. e ≡ OutOfMemory) }
+{
+    let items = picked_items(alloc, pick, by, uid, jobs)?;
+    Ok(JobRefs::from_vec(items))
+}
+
+// Adds the Job that was found, if there is one and it hasn't finished.
+fn push_running(
+    alloc: Global,
+    uid: &str,
+    found: &Option<Shared<Job>>,
+    items: &mut Vec<JobRef>,
+) -> Result<(), Refusal>
+    ensures ok { OnOk result (items.new.items ≡ items.old.items ++ gathered (is_running uid.now) (present (found.now ∷ []))) }
+    ensures err { IfErr result (λ e. e ≡ OutOfMemory) }
+{
+    let Some(job) = found else {
+        return Ok(());
+    };
+    if !is_running(uid, job.get()) {
+        return Ok(());
+    }
+    items
+        .push(JobRef::new(alloc, job.get())?)
+        .map_err(|_| Refusal::OutOfMemory)
+}
+
+// The unfinished ones of those that were found, as they stand.
+fn gather_found(
+    alloc: Global,
+    uid: &str,
+    found: &[Option<Shared<Job>>],
+) -> Result<Vec<JobRef>, Refusal>
+    ensures ok { IfOk result (λ r. r.items ≡ gathered (is_running uid.now) (present found.now)) }
+    ensures err { IfErr result (λ e. e ≡ OutOfMemory) }
+{
+    let mut items = Vec::new(alloc);
+    for one in found {
+        push_running(alloc, uid, one, &mut items)?;
+    }
+    Ok(items)
+}
+
+/// Of the Jobs that a live read found, the unfinished ones of the CronJob, by creation time, then name. The uid is given as a text.
+pub fn running_found(
+    alloc: Global,
+    uid: &str,
+    found: &[Option<Shared<Job>>],
+) -> Result<JobRefs, Refusal>
+    ensures ok { IfOk result (λ r. r ≡ running uid.now (present found.now)) }
+    ensures err { IfErr result (λ e. e ≡ OutOfMemory) }
+{
+    let mut items = gather_found(alloc, uid, found)?;
+    sort(Sorting::ByAge, &mut items)?;
+    Ok(JobRefs::from_vec(items))
+}

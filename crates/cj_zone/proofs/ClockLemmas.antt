@@ -1,0 +1,116 @@
+-- A clock goes by what `jiff` makes of its zone's source.
+use Rattle.std.proofs.Common.{◌≡◌, ℕ, zero, suc, ◌+◌, ◌-◌, ◌≤◌, ◌==◌, ℤ, pos, ◌*ℤ◌, int_le, Bool, true, false, if◌then◌else◌, refl, sym, ap, ◌∙◌, arith, List, [], ◌∷◌, length, map, get_or, vec_len, Option, None, Some, option_map}
+use Rattle.std.specs.List.{prefix_len}
+use Rattle.std.proofs.lemmas.List.{get_or-map, length-map}
+use Rattle.std.proofs.lemmas.List.Sums.{prefix_len-le-length}
+use Rattle.std.proofs.lemmas.Bool.Decides.{nat_tests}
+use Rattle.jiff.specs.Words.{offset_at, plain_zone, read_whole, IsOffsetSeconds}
+use Rattle.jiff.specs.Placed.{IsPosixZone}
+use Rattle.jiff_core.specs.declared.Offset.{Offset}
+use Rattle.jiff_tz.specs.PosixRule as Posix
+use Rattle.jiff_tz.specs.PosixRule.{match_some, rule_nanos, utc_window, in_window, dst_at_by}
+use Rattle.jiff_tz.specs.PosixText.{tz_view, dst_view, day_time_view}
+use Rattle.jiff_tz.specs.Tzif as Table
+use Rattle.jiff_tz.specs.Tzif.{tzif_view, count_at, floor_second, no_transition, transition_at, type_after}
+use Rattle.jiff_tz.specs.TzifText.{transition_text, no_row}
+use Rattle.jiff_tz.specs.Year.{year_of_nanos}
+use Rattle.jiff_tz.specs.declared.posix.DayTime.{DayTime}
+use Rattle.jiff_tz.specs.declared.posix.Dst.{Dst}
+use Rattle.jiff_tz.specs.declared.posix.TimeZone.{TimeZone as PosixRule}
+use Rattle.jiff_tz.specs.declared.tzif.Tzif.{Tzif}
+use Rattle.jiff_tz.specs.declared.tzif.transition.Transition.{Transition}
+use Rattle.jiff_tz.specs.declared.timezone.TimeZone.{TimeZone}
+use Rattle.jiff_tz.specs.declared.timezone.TimeZone.TheVariants as Kind
+use Rattle.cj_zone.specs.declared.rules.Rules.{Rules}
+use Rattle.cj_zone.specs.declared.rules.Rules.TheVariants as Own
+use Rattle.cj_zone.specs.declared.source.Source.{Source}
+use Rattle.cj_zone.specs.declared.source.Source.TheVariants.{Utc, Rule, File}
+use Rattle.cj_zone.specs.Clock.{rules_offset}
+use Rattle.cj_zone.specs.Made.{IsClockOf}
+use Rattle.cj_zone.specs.NamedSource.{NamedSource}
+use Rattle.cj_zone.specs.Offset.{change_in, daylight_window, daylight_offset, rule_offset, rows_until, offset_after, file_offset, read_rule_offset, source_offset, zone_offset}
+use Rattle.cj_zone.proofs.ZoneLemmas.{offset_at-range}
+
+pub rules_offset-range : (rules : Rules) (t : ℕ) → IsOffsetSeconds (rules_offset rules t)
+rules_offset-range (Own.Fixed zone) t = offset_at-range (plain_zone zone) _
+rules_offset-range (Own.Table table) t = (Table.offset_at table (pos t *ℤ pos 1_000_000_000)).in_range
+
+-- a rule by its text
+change_in-view : (year : ℤ) (d : DayTime) (ahead : ℤ) → change_in year (day_time_view d) ahead ≡ rule_nanos year d ahead
+unfolding change_in rule_nanos
+change_in-view year d ahead = refl
+
+daylight_window-view : (std : Offset) (d : Dst) (year : ℤ) → daylight_window std.seconds (dst_view d) year ≡ utc_window d year std
+unfolding daylight_window utc_window
+daylight_window-view std d year = rw (change_in-view year d.rule.start std.seconds, change_in-view year d.rule.end d.offset.seconds) refl
+
+in_daylight : (std : Offset) (d : Dst) (b : Bool) → (if b then d.offset.seconds else std.seconds) ≡ (match_some (if b then Some d else None) std (λ d. d.offset)).seconds
+in_daylight std d true = refl
+in_daylight std d false = refl
+
+daylight_offset-view : (std : Offset) (dst : Option Dst) (n : ℤ) → daylight_offset std.seconds (option_map dst_view dst) n ≡ (match_some (dst_at_by std dst n) std (λ d. d.offset)).seconds
+daylight_offset-view std None n = refl
+daylight_offset-view std (Some d) n =
+    ap (λ w. if in_window w n then d.offset.seconds else std.seconds) (daylight_window-view std d (year_of_nanos n))
+    ∙ in_daylight std d (in_window (utc_window d (year_of_nanos n) std) n)
+
+pub rule_offset-view : (rule : PosixRule) (n : ℤ) → rule_offset (tz_view rule) n ≡ (Posix.offset_at rule n).seconds
+rule_offset-view rule n = daylight_offset-view rule.std_offset rule.dst n
+
+-- a file by its text
+rows_until-view : (rows : List Transition) (second : ℤ) → rows_until (map transition_text rows) second ≡ prefix_len (λ (row : Transition). int_le row.second second) rows
+rows_until-view [] second = refl
+rows_until-view (row ∷ rows) second = ap (λ n. if int_le row.second second then 1 + n else 0) (rows_until-view rows second)
+
+seconds_after-view : (z : Tzif) (count : ℕ) → count ≤ vec_len z.transitions → (if count == 0 then z.first.offset.seconds else (get_or (map transition_text z.transitions.items) (count - 1) no_row).after.seconds) ≡ (type_after z count).offset.seconds
+seconds_after-view z zero h = refl
+seconds_after-view z (suc k) h =
+    let some : (suc k == 0) ≡ false = grind (arith, nat_tests) in
+    let back : suc k - 1 ≡ k = omega arith in
+    rw (some, back) (ap (λ row. row.after.seconds) (get_or-map transition_text z.transitions.items k (no_transition z) no_row (omega arith)))
+
+by_rule : (b : Bool) (o : Option PosixRule) (type : Offset) (n : ℤ) → match_some (if b then option_map tz_view o else None) type.seconds (λ rule. rule_offset rule n) ≡ (match_some (if b then o else None) type (λ tz. Posix.offset_at tz n)).seconds
+by_rule false o type n = refl
+by_rule true None type n = refl
+by_rule true (Some rule) type n = rule_offset-view rule n
+
+offset_after-view : (z : Tzif) (count : ℕ) (n : ℤ) → count ≤ vec_len z.transitions → offset_after (tzif_view z) count n ≡ (match_some (if count == vec_len z.transitions then z.posix_tz else None) (type_after z count).offset (λ tz. Posix.offset_at tz n)).seconds
+offset_after-view z count n h =
+    let same : length z.transitions.items ≡ vec_len z.transitions = omega arith in
+    ap (λ size. match_some (if count == size then option_map tz_view z.posix_tz else None) (if count == 0 then z.first.offset.seconds else (get_or (map transition_text z.transitions.items) (count - 1) no_row).after.seconds) (λ rule. rule_offset rule n)) (length-map z.transitions.items transition_text ∙ same)
+    ∙ ap (λ seconds. match_some (if count == vec_len z.transitions then option_map tz_view z.posix_tz else None) seconds (λ rule. rule_offset rule n)) (seconds_after-view z count h)
+    ∙ by_rule (count == vec_len z.transitions) z.posix_tz (type_after z count).offset n
+
+pub file_offset-view : (z : Tzif) (n : ℤ) → file_offset (tzif_view z) n ≡ (Table.offset_at z n).seconds
+file_offset-view z n =
+    let most = prefix_len-le-length (λ (row : Transition). int_le row.second (floor_second n)) z.transitions.items in
+    ap (λ count. offset_after (tzif_view z) count n) (rows_until-view z.transitions.items (floor_second n))
+    ∙ offset_after-view z (count_at z (floor_second n)) n (omega arith)
+
+by_posix : (text : List ℕ) (tz : TimeZone) (n : ℤ) → IsPosixZone text tz → read_rule_offset (read_whole text) n ≡ offset_at tz n
+unfolding offset_at
+by_posix text Kind.UTC n h = absurd h
+by_posix text Kind.Unknown n h = absurd h
+by_posix text (Kind.Fixed offset) n h = absurd h
+by_posix text (Kind.Tzif z) n h = absurd h
+by_posix text (Kind.Posix rule) n h = rw h (rule_offset-view rule n)
+
+by_utc : (tz : TimeZone) (n : ℤ) → tz ≡ Kind.UTC → pos 0 ≡ offset_at tz n
+unfolding offset_at
+by_utc tz n e = rw e refl
+
+-- so the source states what the clock does
+pub source_offset-clock : (source : Source) (rules : Rules) (t : ℕ) → IsClockOf source rules → source_offset source (pos t *ℤ pos 1_000_000_000) ≡ rules_offset rules t
+unfolding source_offset
+source_offset-clock Utc (Own.Fixed zone) t h = by_utc (plain_zone zone) (pos t *ℤ pos 1_000_000_000) h
+source_offset-clock Utc (Own.Table table) t h = absurd h
+source_offset-clock (Rule text) (Own.Fixed zone) t h = by_posix text (plain_zone zone) (pos t *ℤ pos 1_000_000_000) h
+source_offset-clock (Rule text) (Own.Table table) t h = absurd h
+source_offset-clock (File bytes) (Own.Fixed zone) t h = absurd h
+source_offset-clock (File bytes) (Own.Table table) t h = rw h.0 (file_offset-view table (pos t *ℤ pos 1_000_000_000))
+
+pub zone_offset-clock : (zone : NamedSource) (name : List ℕ) (source : Source) (rules : Rules) (t : ℕ) → record { name = name; source = source } ≡ zone → IsClockOf source rules → zone_offset zone t ≡ rules_offset rules t
+zone_offset-clock zone name source rules t e h = ap (λ z. zone_offset z t) (sym e) ∙ source_offset-clock source rules t h
+
+pub zone_offset-range : (zone : NamedSource) (name : List ℕ) (source : Source) (rules : Rules) (t : ℕ) → record { name = name; source = source } ≡ zone → IsClockOf source rules → IsOffsetSeconds (zone_offset zone t)
+zone_offset-range zone name source rules t e h = rw (zone_offset-clock zone name source rules t e h) (rules_offset-range rules t)

@@ -1,0 +1,5 @@
+use Rattle.cj_zone.proofs.ZoneLemmas.{date_near}
+use Rattle.cj_zone.proofs.laws.dates_law.Goals as goal
+
+pub returns : goal.returns
+returns c = date_near
