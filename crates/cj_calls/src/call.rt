@@ -1,9 +1,8 @@
 use crate::End;
-use cj_base::Shared;
 use cj_decide::Plan;
 use cj_types::{
-    CronJobDraft, JobDraft, Key, Max, Millis, Outcome, Reasons, Refusal, Seconds, TryCopy, Uid,
-    Version,
+    CronJobDraft, JobDraft, Key, Max, Millis, Outcome, Reasons, Refusal, Seconds, Shared, TryCopy,
+    Uid, Version,
 };
 use std::alloc::Global;
 

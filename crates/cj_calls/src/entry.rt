@@ -2,8 +2,7 @@ ghost use Rattle.std.specs.Prelude.{◌≡◌, IsTrue, IfOk, IfErr};
 ghost use Rattle.cj_calls.specs.Rows.{is_in_row};
 
 use crate::{Answer, Call, Caller};
-use cj_base::Shared;
-use cj_types::{Refusal, TryCopy};
+use cj_types::{Refusal, Shared, TryCopy};
 use std::alloc::Global;
 use std::marker::Model;
 

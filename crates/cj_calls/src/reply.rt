@@ -1,5 +1,4 @@
-use cj_base::{Listing, Shared};
-use cj_types::{CronJob, Event, Job, Key, Refusal, Seconds, TryCopy, Version};
+use cj_types::{CronJob, Event, Job, Key, Listing, Refusal, Seconds, Shared, TryCopy, Version};
 use std::alloc::Global;
 
 /// What an accepted call answers. Copies share objects and lists.

@@ -1,0 +1,68 @@
+ghost use Rattle.std.specs.Prelude.{◌≡◌, IfOk, IfErr};
+ghost use Rattle.cj_base.specs.declared.refusal.Refusal.TheVariants.{OutOfMemory};
+
+use crate::Answer;
+use crate::reply::copy_answer;
+use cj_types::{Heap, Refusal, Shared, TryCopy};
+use std::alloc::Global;
+use std::marker::Model;
+
+/// An answer as often as it is needed: for the caller, for the history, and for two receipts.
+#[derive(Drop)]
+pub struct Parts {
+    pub answer: Answer,
+    pub entered: Shared<Answer>,
+    pub first: Shared<Answer>,
+    pub second: Shared<Answer>,
+}
+
+/// An answer with its copies, made before the change that it tells of, so that nothing after the change takes memory.
+/// Contracts see the answer.
+///
+/// It stands on the heap, so that whoever gives it up drops one box and not the parts of each reply.
+#[derive(Drop)]
+pub struct Answered {
+    parts: Heap<Parts>,
+}
+
+impl Model for Answered {
+    ghost use Rattle.std.specs.Prelude.{◌≡◌, Result};
+    ghost use Rattle.cj_base.specs.declared.refusal.Refusal.{Refusal};
+    ghost use Rattle.cj_calls.specs.declared.reply.Reply.{Reply};
+
+    ghost Value = { Result Reply Refusal };
+
+    ghost view = { λ a. a.parts.answer };
+
+    ghost invariant = { λ a. (a.parts.entered ≡ a.parts.answer) × (a.parts.first ≡ a.parts.answer) × (a.parts.second ≡ a.parts.answer) };
+}
+
+impl Answered {
+    /// The answer with its copies.
+    pub fn new(alloc: Global, answer: Answer) -> Result<Answered, Refusal>
+        ensures ok { IfOk result (λ a. a ≡ answer) }
+        ensures err { IfErr result (λ e. e ≡ OutOfMemory) }
+    {
+        let entered = Shared::new(alloc, copy_answer(alloc, &answer)?)?;
+        let first = entered.try_copy(alloc)?;
+        let second = entered.try_copy(alloc)?;
+        let parts = Parts {
+            answer,
+            entered,
+            first,
+            second,
+        };
+        let parts = Heap::new(alloc, parts)?;
+        Ok(Answered { parts })
+    }
+
+    /// The answer for each.
+    pub fn parts(self) -> Parts
+        ensures answer { result.answer ≡ self }
+        ensures entered { result.entered ≡ self }
+        ensures first { result.first ≡ self }
+        ensures second { result.second ≡ self }
+    {
+        self.parts.into_inner()
+    }
+}
