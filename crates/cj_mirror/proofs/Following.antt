@@ -23,7 +23,7 @@ use Rattle.cj_table.proofs.Order.{places_total}
 use Rattle.cj_table.proofs.Puts.{alike, one_key}
 use Rattle.cj_watch.specs.Numbers.{IsNumbered}
 use Rattle.cj_watch.proofs.Logs.{tells_all}
-use Rattle.cj_watch.proofs.Numbered.{numbered_drop}
+use Rattle.cj_watch.proofs.Numbered.{numbered_drop, numbered_take}
 use Rattle.cj_mirror.specs.Lagging.{Jobs, with_job, told, told_all, listed, mirror_of, fed_with, reset_to}
 use Rattle.cj_mirror.specs.Laws.{jobs_after, mirror_after, caught_up, MirrorsFollow}
 
@@ -121,11 +121,6 @@ take_two xs n m =
     let same : min (length xs) (n + m) ≡ min (n + m) (length xs) = omega arith in
     ap (λ ys. ys ++ take m (drop n xs)) (sym (take_first n m xs)) ∙ ap (λ ys. take n (take (n + m) xs) ++ ys) (sym (drop-take n m xs))
     ∙ take-append-drop n (take (n + m) xs) ∙ sym (take_min (n + m) xs) ∙ ap (λ k. take k xs) (sym same)
-
-numbered_take : (n k : ℕ) (es : List Event) → IsNumbered n es → IsNumbered n (take k es)
-numbered_take n zero es h = tt
-numbered_take n (suc k) [] h = tt
-numbered_take n (suc k) (e ∷ es) h = (h.0, numbered_take (n + 1) k es h.1)
 
 -- ---- the whole
 

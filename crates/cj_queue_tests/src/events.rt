@@ -2,8 +2,8 @@ ghost use Rattle.std.specs.Prelude.{◌≡◌, IfOk};
 ghost use Rattle.cj_watch.specs.Numbers.{version_of};
 
 use cj_types::{
-    Event, Job, Key, Labels, Meta, Object, OwnerRefs, Refusal, Seconds, Shared, SpecText, Text, Uid,
-    Version,
+    Event, Job, Key, Labels, Meta, Object, OwnerRef, OwnerRefs, Refusal, Seconds, Shared, SpecText,
+    Text, Uid, Version,
 };
 use std::alloc::Global;
 
@@ -20,13 +20,27 @@ fn meta(alloc: Global, version: u64) -> Result<Meta, Refusal>
     })
 }
 
-fn job(alloc: Global, name: &str, version: u64) -> Result<Job, Refusal>
+// The CronJob `hello` as the controller.
+fn owners(alloc: Global) -> Result<OwnerRefs, Refusal> {
+    let mut owners = OwnerRefs::new(alloc);
+    owners.push(OwnerRef {
+        api_version: Text::new(alloc, "batch/v1")?,
+        kind: Text::new(alloc, "CronJob")?,
+        name: Text::new(alloc, "hello")?,
+        uid: Text::new(alloc, "u")?,
+        controller: true,
+        block_owner_deletion: false,
+    })?;
+    Ok(owners)
+}
+
+pub fn job(alloc: Global, name: &str, version: u64) -> Result<Job, Refusal>
     ensures { IfOk result (λ j. j.meta.version ≡ version) }
 {
     Ok(Job {
         key: Key::new(alloc, "default", name)?,
         meta: meta(alloc, version)?,
-        owners: OwnerRefs::new(alloc),
+        owners: owners(alloc)?,
         spec: SpecText::new(alloc, Text::new(alloc, "{}")?)?,
         outcome: None,
     })

@@ -1,10 +1,12 @@
-//! Tests of the work queue and of the watch window: worked rows, and thousands of calls beside plain lists.
+//! Tests of the work queue, of the watch window and of the mirror: worked rows, and thousands of calls beside plain lists.
 #![tactic(auto)]
 
 #[cfg(test)]
 mod calls;
 #[cfg(test)]
 mod events;
+#[cfg(test)]
+mod mirror_tests;
 #[cfg(test)]
 mod plain;
 #[cfg(test)]

@@ -87,7 +87,10 @@ fn tells_what_came_after_a_version(rt: HostRuntime) -> Result<(), Fail> {
 fn a_window_has_1_to_100000_events(rt: HostRuntime) {
     assert_eq!(rt; Window::new(0), None);
     assert_eq!(rt; Window::new(1).map(|window| window.get()), Some(1));
-    assert_eq!(rt; Window::new(100_000).map(|window| window.get()), Some(100_000));
+    assert_eq!(rt;
+        Window::new(100_000).map(|window| window.get()),
+        Some(100_000)
+    );
     assert_eq!(rt; Window::new(100_001), None);
 }
 

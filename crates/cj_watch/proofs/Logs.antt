@@ -1,5 +1,5 @@
 -- A log of numbered events: what it keeps, and what it tells.
-use Rattle.std.proofs.Common.{◌≡◌, ◌∙◌, ap, sym, subst, refl, ℕ, ◌+◌, ◌-◌, ◌≤◌, min, nat_lt, true, false, cond, List, [], ◌∷◌, ◌++◌, length, take, drop, fold, Ok, Err, arith, add-zero, zero-add, length-append, length-drop}
+use Rattle.std.proofs.Common.{◌≡◌, ◌∙◌, ap, sym, subst, refl, ℕ, ◌+◌, ◌-◌, ◌≤◌, min, nat_lt, Bool, true, false, cond, List, [], ◌∷◌, ◌++◌, length, take, drop, fold, Ok, Err, arith, add-zero, zero-add, length-append, length-drop}
 use Rattle.std.proofs.Math.Seq.{drop-nil}
 use Rattle.std.proofs.lemmas.List.{append-nil, append_assoc, drop-drop}
 use Rattle.std.proofs.lemmas.Bool.Decides.{nat_tests}
@@ -10,7 +10,7 @@ use Rattle.cj_watch.specs.Numbers.{version_of, IsNumbered, later}
 use Rattle.cj_watch.specs.Log.{Log, IsWindow, latest, pushed, since}
 use Rattle.cj_watch.specs.Laws.{KeepsLatest, TellsAll}
 use Rattle.cj_watch.proofs.Pieces.{piece_is, last_of_last}
-use Rattle.cj_watch.proofs.Numbered.{numbered_drop, numbered_snoc, later_is}
+use Rattle.cj_watch.proofs.Numbered.{numbered_drop, numbered_take, numbered_snoc, later_is}
 
 -- a push keeps what the type keeps
 pub push_keeps : (log : Log) (e : Event) → IsWindow log → version_of e ≡ log.count + 1 → IsWindow (pushed log e)
@@ -43,6 +43,22 @@ told log v m start end h f a b =
     let n : ℕ = log.count - length log.kept in
     ap (λ b. cond b (Err (Expired (log.count - log.window))) (Ok (take m (later v log.kept)))) f
     ∙ ap (λ (xs : List Event). Ok (take m xs)) (later_is n v log.kept h.numbered) ∙ ap (λ (xs : List Event). Ok xs) (sym (piece_is log.kept (v - n) m start end a b))
+
+told_by : (log : Log) (v m : ℕ) (es : List Event) (b : Bool) → IsWindow log → nat_lt (v + log.window) log.count ≡ b
+    → cond b (Err (Expired (log.count - log.window))) (Ok (take m (later v log.kept))) ≡ Ok es → IsNumbered v es
+told_by log v m es true h t e = absurd (cc e)
+told_by log v m es false h t e =
+    let n : ℕ = log.count - length log.kept in
+    let le : log.count ≤ v + log.window = grind (arith, nat_tests) in
+    let from : n + (v - n) ≡ v = omega (arith, h.size, le) in
+    let same : take m (later v log.kept) ≡ es = cc e in
+    let rest : take m (drop (v - n) log.kept) ≡ es = ap (take m) (sym (later_is n v log.kept h.numbered)) ∙ same in
+    subst (λ (xs : List Event). IsNumbered v xs) rest
+    (numbered_take v m (drop (v - n) log.kept) (subst (λ k. IsNumbered k (drop (v - n) log.kept)) from (numbered_drop n (v - n) log.kept h.numbered)))
+
+-- what is told follows on the version
+pub told_numbered : (log : Log) (v m : ℕ) (es : List Event) → IsWindow log → since log v m ≡ Ok es → IsNumbered v es
+told_numbered log v m es h e = told_by log v m es (nat_lt (v + log.window) log.count) h refl e
 
 abbrev log_at : List Event → ℕ → ℕ → Log
 log_at es n w = record { kept = es; count = n; window = w }

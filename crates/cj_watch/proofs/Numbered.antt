@@ -1,5 +1,5 @@
 -- Numbered events: parts of a list of them, and those that come later.
-use Rattle.std.proofs.Common.{◌≡◌, ◌∙◌, ap, sym, subst, refl, ℕ, ◌+◌, ◌-◌, ◌≤◌, suc, zero, nat_lt, true, false, cond, List, [], ◌∷◌, ◌++◌, length, drop, arith}
+use Rattle.std.proofs.Common.{◌≡◌, ◌∙◌, ap, sym, subst, refl, ℕ, ◌+◌, ◌-◌, ◌≤◌, suc, zero, nat_lt, true, false, cond, List, [], ◌∷◌, ◌++◌, length, drop, take, arith}
 use Rattle.std.proofs.Math.Seq.{drop-nil}
 use Rattle.std.proofs.lemmas.Bool.Decides.{nat_tests}
 use Rattle.cj_types.specs.declared.event.Event.{Event}
@@ -12,6 +12,11 @@ pub numbered_drop : (n k : ℕ) (es : List Event) → IsNumbered n es → IsNumb
 numbered_drop n zero es h = numbered_at n (n + 0) es (omega arith) h
 numbered_drop n (suc k) [] h = tt
 numbered_drop n (suc k) (e ∷ es) h = numbered_at (n + 1 + k) (n + suc k) (drop k es) (omega arith) (numbered_drop (n + 1) k es h.1)
+
+pub numbered_take : (n k : ℕ) (es : List Event) → IsNumbered n es → IsNumbered n (take k es)
+numbered_take n zero es h = tt
+numbered_take n (suc k) [] h = tt
+numbered_take n (suc k) (e ∷ es) h = (h.0, numbered_take (n + 1) k es h.1)
 
 pub numbered_snoc : (n : ℕ) (es : List Event) (e : Event) → IsNumbered n es → version_of e ≡ n + length es + 1 → IsNumbered n (es ++ e ∷ [])
 numbered_snoc n [] e h v = (omega (arith, v), tt)

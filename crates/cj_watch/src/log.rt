@@ -1,6 +1,6 @@
 ghost use Rattle.std.specs.Prelude.{◌≡◌, ◌≢◌, ◌+◌, ◌-◌, ◌≤◌, min, nat_lt, length, IfOk, IfErr, Ok, Err};
 ghost use Rattle.cj_base.specs.declared.refusal.Refusal.TheVariants.{OutOfMemory};
-ghost use Rattle.cj_watch.specs.Numbers.{version_of};
+ghost use Rattle.cj_watch.specs.Numbers.{IsNumbered, version_of};
 
 use crate::ring::{copy_range, put_last};
 use crate::{Window, version_of};
@@ -98,7 +98,8 @@ impl WatchLog {
     }
 
     /// The first `max` events after the version, in their order, none where the version is the last one or
-    /// above it; or `Expired` with the oldest version that is served, where events after the version are gone.
+    /// above it; their versions follow on that one. Or `Expired` with the oldest version that is served, where events
+    /// after the version are gone.
     pub fn since(
         &self,
         alloc: Global,
@@ -106,6 +107,7 @@ impl WatchLog {
         max: Max,
     ) -> Result<Listing<Event>, Refusal>
         ensures ok { IfOk result (λ l. since self.now version max ≡ Ok l) }
+        ensures numbered { IfOk result (λ l. IsNumbered version l) }
         ensures err { IfErr result (λ e. e ≢ OutOfMemory → since self.now version max ≡ Err e) }
     {
         if self.is_gone(version) {
