@@ -1,0 +1,101 @@
+ghost use Rattle.std.specs.Prelude.{◌≡◌, ◌<◌, ◌≤◌, ◌+◌, ℕ, true, false, pos, ◌*ℤ◌, ◌<ℤ◌, ◌≤ℤ◌, vec_len};
+ghost use Rattle.jiff.specs.Words.{IsOffsetSeconds};
+ghost use Rattle.jiff_tz.specs.Tzif as Table;
+
+use cj_base::Seconds;
+use jiff_core::Timestamp;
+use jiff_tz::Tzif;
+
+/// Whether the instant lies at or after the last transition.
+pub(crate) fn is_past(tables: &Tzif, from: Seconds) -> bool
+    ensures past { result ≡ true → Table.count_at tables.now (pos from) ≡ vec_len tables.now.transitions }
+    ensures not_past { result ≡ false → Table.count_at tables.now (pos from) < vec_len tables.now.transitions }
+{
+    match tables.transitions().last() {
+        Some(row) => row.second <= from.get() as i64,
+        None => true,
+    }
+}
+
+fn plain_timestamp(at: Seconds) -> Timestamp
+    ensures { result.nanosecond ≡ pos at *ℤ pos 1_000_000_000 }
+{
+    Timestamp {
+        nanosecond: at.get() as i128 * 1_000_000_000,
+    }
+}
+
+fn second_after(at: Seconds) -> Timestamp
+    ensures { result.nanosecond ≡ pos (at + 1) *ℤ pos 1_000_000_000 }
+{
+    Timestamp {
+        nanosecond: (at.get() as i128 + 1) * 1_000_000_000,
+    }
+}
+
+/// The first second of 1970.
+pub(crate) fn epoch() -> Seconds
+    ensures { result ≡ 0 }
+{
+    match Seconds::new(0) {
+        Some(epoch) => epoch,
+        None => unreachable!(),
+    }
+}
+
+// A second that lies at or before an instant, or the first of 1970 where it is earlier.
+fn since(second: i64, at: Seconds) -> Seconds
+    requires { second ≤ℤ pos at }
+    ensures above { second ≤ℤ pos result }
+    ensures low { result ≤ at }
+{
+    if second <= 0 {
+        return epoch();
+    }
+    Seconds::new(second as u64).unwrap_or(at)
+}
+
+/// How far the clock of the tables is ahead.
+pub(crate) fn offset_of(tables: &Tzif, at: Seconds) -> i64
+    ensures value { result ≡ (Table.offset_at tables.now (pos at *ℤ pos 1_000_000_000)).seconds }
+    ensures in_range { IsOffsetSeconds result }
+{
+    tables.to_offset(plain_timestamp(at)).seconds as i64
+}
+
+/// The last second before the next transition.
+pub(crate) fn last_before_next(tables: &Tzif, from: Seconds) -> u64
+    requires { Table.count_at tables.now (pos from) < vec_len tables.now.transitions }
+    ensures before { pos result <ℤ (Table.transition_at tables.now (Table.count_at tables.now (pos from))).second }
+    ensures low { from ≤ result }
+{
+    match tables.next_transition(plain_timestamp(from)) {
+        Some(next) => next.timestamp.floor_second() as u64 - 1,
+        None => unreachable!(),
+    }
+}
+
+/// The second of the last transition at or before the instant, and the first of 1970 where it is earlier or there is
+/// none.
+pub(crate) fn first_since_change(tables: &Tzif, at: Seconds) -> Seconds
+    requires { Table.count_at tables.now (pos at) < vec_len tables.now.transitions }
+    ensures first { result ≤ at }
+    ensures same { (t : ℕ) → result ≤ t → t ≤ at → Table.count_at tables.now (pos t) ≡ Table.count_at tables.now (pos at) }
+{
+    match tables.previous_transition(second_after(at)) {
+        Some(change) => since(change.timestamp.floor_second(), at),
+        None => epoch(),
+    }
+}
+
+/// The same of the last transition of the tables.
+pub(crate) fn last_change(tables: &Tzif, at: Seconds) -> Seconds
+    requires { Table.count_at tables.now (pos at) ≡ vec_len tables.now.transitions }
+    ensures first { result ≤ at }
+    ensures past { Table.count_at tables.now (pos result) ≡ vec_len tables.now.transitions }
+{
+    match tables.transitions().last() {
+        Some(row) => since(row.second, at),
+        None => epoch(),
+    }
+}
