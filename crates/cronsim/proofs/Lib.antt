@@ -1,3 +1,0 @@
-pub mod NextLemmas
-pub mod Refused
-pub mod Pairs

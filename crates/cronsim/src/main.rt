@@ -1,28 +1,11 @@
 //! The program `cronsim`.
 #![tactic(auto)]
 
-mod answer;
-mod check;
-mod command;
-mod failure;
-mod input;
-mod lines;
-mod next;
-mod next_text;
-mod plan;
-mod plan_text;
-mod request;
-mod serve;
 mod source;
-mod word_fault;
-mod words;
 
-use failure::Failure;
-use serve::serve;
+use cj_program::{Failure, parse_words, serve, tell_failure, tell_fault};
 use source::Input;
 use std::process::ExitCode;
-use word_fault::WordFault;
-use words::parse_words;
 
 // Reads the words of the command line and serves what they ask for.
 fn run(rt: &HostRuntime) -> Result<u8, Failure> {
@@ -32,38 +15,20 @@ fn run(rt: &HostRuntime) -> Result<u8, Failure> {
     for arg in &args {
         words.push(arg.as_str())?;
     }
-    match parse_words(alloc, words.as_slice()) {
+    let mut out = rt.stdout();
+    let mut err = rt.stderr();
+    Ok(match parse_words(alloc, words.as_slice()) {
         Ok(request) => {
             let mut input = Input::open(rt, request.file());
-            let mut out = rt.stdout();
-            let mut err = rt.stderr();
-            Ok(serve(alloc, &request, &mut input, &mut out, &mut err))
+            serve(alloc, &request, &mut input, &mut out, &mut err)
         }
-        Err(WordFault::Refused(error)) => {
-            error.print(rt)?;
-            Ok(if error.use_stderr() { 2 } else { 0 })
-        }
-        Err(WordFault::OutOfMemory) => Err(Failure::Memory),
-        Err(WordFault::Incomplete) => {
-            eprintln!(rt; "cronsim: incomplete words")?;
-            Ok(2)
-        }
-    }
+        Err(fault) => tell_fault(alloc, &fault, &mut out, &mut err),
+    })
 }
 
 fn main(rt: HostRuntime) -> ExitCode {
     match run(&rt) {
         Ok(status) => ExitCode::from(status),
-        Err(failure) => {
-            let _ = eprintln!(rt; "cronsim: {failure}");
-            ExitCode::from(3)
-        }
+        Err(failure) => ExitCode::from(tell_failure(failure, &mut rt.stderr())),
     }
 }
-
-#[cfg(test)]
-mod check_tests;
-#[cfg(test)]
-mod plan_tests;
-#[cfg(test)]
-mod tests;

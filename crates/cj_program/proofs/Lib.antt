@@ -1,0 +1,4 @@
+pub mod NextLemmas
+pub mod Refused
+pub mod Pairs
+pub mod Written

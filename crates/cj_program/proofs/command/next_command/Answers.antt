@@ -1,0 +1,12 @@
+use Rattle.std.proofs.Common.{ap, ap₂, ◌∙◌}
+use Rattle.clap.specs.Simple.{app_of_fields}
+use Rattle.clap.specs.Words.{with_rule}
+use Rattle.cj_program.proofs.command.next_command.Goals as goal
+
+pub returns-clause-app : goal.returns-clause-app
+returns-clause-app c =
+    let bare = ap app_of_fields c.about.ensures ∙ c.new.ensures.app in
+    let one = c.in_ok-arg.ensures.shape c.schedule_arg.ensures.local ∙ ap₂ with_rule bare c.schedule_arg.ensures.rule in
+    let two = c.in_ok-arg-2.ensures.shape c.after_arg.ensures.local ∙ ap₂ with_rule one c.after_arg.ensures.rule in
+    let three = c.in_ok-arg-3.ensures.shape c.count_arg.ensures.local ∙ ap₂ with_rule two c.count_arg.ensures.rule in
+    c.in_ok-command.ensures.shape c.zone_arg.ensures.local ∙ ap₂ with_rule three c.zone_arg.ensures.rule

@@ -1,0 +1,20 @@
+use Rattle.std.proofs.Common.{◌≡◌, ◌∙◌, subst, ℕ, List, Option}
+use Rattle.cj_types.specs.declared.cron.CronJob.{CronJob}
+use Rattle.cj_types.specs.declared.job.Job.{Job}
+use Rattle.cj_zone.specs.declared.zone.Zone.{Zone}
+use Rattle.cj_decide.specs.Decision.{IsDecided, IsPlan, Planned}
+use Rattle.cj_program.proofs.plan.plan_of.Goals as goal
+
+-- a plan is the one of what it rests on
+rests : (p : Planned) (cron : Option CronJob) (jobs : List Job) (now : ℕ) (z : Option Zone) → p.cron ≡ cron → p.jobs ≡ jobs → p.at ≡ now
+    → p.zone ≡ z → IsDecided p → IsPlan cron jobs now z p.steps
+rests p cron jobs now z a b c d h =
+    subst (λ x. IsPlan cron jobs now x p.steps) d
+    (subst (λ x. IsPlan cron jobs x p.zone p.steps) c
+    (subst (λ x. IsPlan cron x p.at p.zone p.steps) b
+    (subst (λ x. IsPlan x p.jobs p.at p.zone p.steps) a h)))
+
+pub returns : goal.returns
+returns c =
+    let e = c.in_ok-decide.ensures in
+    rests c.in_ok-decide.field-0 _ _ _ _ e.cron e.jobs e.at (e.zone ∙ c.in_ok-zone.ensures) e.decided

@@ -1,0 +1,146 @@
+-- What `check` answers of a manifest.
+use Rattle.std.specs.Prelude.{◌≡◌, ◌⊎◌, ℕ, ◌==◌, ◌≤◌, List, [], ◌∷◌, ◌++◌, length, Option, None, Some, IsNone, IfSome, Bool, false, true, codes, decimal}
+use Rattle.std.specs.List.{before_first, after_first, position_or_len}
+use Rattle.std.specs.Borrow.{Bor}
+use Rattle.jiff.specs.Words.{read_whole}
+use Rattle.cj_base.specs.declared.cause.Cause.{Cause}
+use Rattle.cj_base.specs.declared.cause.Cause.TheVariants as Why
+use Rattle.cj_base.specs.declared.faults.FieldFault.{FieldFault}
+use Rattle.cj_base.specs.declared.schedule_fault.ScheduleFault.{ScheduleFault}
+use Rattle.cj_base.specs.declared.refusal.Refusal.TheVariants.{Invalid, Syntax}
+use Rattle.cj_base.specs.Field.{path_of}
+use Rattle.cj_base.specs.ScheduleCause.{cause_name}
+use Rattle.cj_types.specs.Keys.{Place}
+use Rattle.cj_zone.specs.declared.source.Source.TheVariants.{Rule}
+use Rattle.cj_zone.specs.declared.zone.Zone.{Zone}
+use Rattle.cj_zone.specs.Made.{IsClockOf}
+use Rattle.cj_zone.specs.Zones.{is_refused_name, utc_zone}
+use Rattle.cj_manifest.specs.declared.manifest.Manifest.{Manifest}
+use Rattle.cj_manifest.specs.Either.{key_of, kind_of, manifest_draft, manifest_faults, manifest_warnings}
+use Rattle.cj_manifest.specs.Reading.{IsReading, IsRefused}
+use Rattle.cj_program.specs.declared.answer.Verdict.TheVariants.{Refused}
+use Rattle.cj_program.specs.declared.request.CheckRequest.{CheckRequest}
+use Rattle.cj_program.specs.Outcome.{Outcome, done, refusal}
+
+-- ---- the zones that a manifest may name
+
+-- UTC under its two names
+abbrev pub utc_zones : List Zone
+utc_zones = utc_zone (codes "UTC") ∷ utc_zone (codes "Etc/UTC") ∷ []
+
+abbrev pub is_equals_sign : ℕ → Bool
+is_equals_sign b = b == 61
+
+-- NAME=RULE, cut at the first `=`
+abbrev pub name_in : List ℕ → List ℕ
+name_in pair = before_first is_equals_sign pair
+
+abbrev pub rule_in : List ℕ → List ℕ
+rule_in pair = after_first is_equals_sign pair
+
+-- the text has no `=`, or its name is no free one, or `jiff` refuses its rule
+abbrev pub IsNoZone : List ℕ → Type 0
+IsNoZone pair =
+    (position_or_len is_equals_sign pair ≡ length pair)
+    ⊎ (is_refused_name utc_zones (name_in pair) ≡ true) ⊎ IsNone (read_whole (rule_in pair))
+
+abbrev pub RefusesPair : Option (Bor (List ℕ)) → Type 0
+RefusesPair None = ⊥
+RefusesPair (Some pair) = IsNoZone pair.now
+
+-- UTC, and the zone with that name, which is a free one, whose clock is what `jiff` makes of the rule
+pub record AddsPair (pair : List ℕ) (zones : List Zone) : Type 0 where
+  pub zone : Zone
+  pub free : is_refused_name utc_zones (name_in pair) ≡ false
+  pub zones_are : zones ≡ utc_zones ++ zone ∷ []
+  pub name : zone.name ≡ name_in pair
+  pub clock : IsClockOf (Rule (rule_in pair)) zone.rules
+
+abbrev pub IsZonesOf : Option (Bor (List ℕ)) → List Zone → Type 0
+IsZonesOf None zones = zones ≡ utc_zones
+IsZonesOf (Some pair) zones = AddsPair pair.now zones
+
+-- ---- lines
+
+-- `Schedule FIELD BYTE CAUSE`
+abbrev pub schedule_cause : ScheduleFault → List ℕ
+schedule_cause f = codes "Schedule " ++ (decimal f.field ++ (codes " " ++ (decimal f.byte ++ (codes " " ++ cause_name f.cause))))
+
+-- a cause as it is printed
+abbrev pub cause_text : Cause → List ℕ
+cause_text Why.Required = codes "Required"
+cause_text Why.WrongType = codes "Type"
+cause_text Why.NotSupported = codes "NotSupported"
+cause_text Why.Fraction = codes "Fraction"
+cause_text Why.TooLong = codes "TooLong"
+cause_text Why.Format = codes "Format"
+cause_text Why.Range = codes "Range"
+cause_text Why.Zone = codes "Zone"
+cause_text Why.NotAllowed = codes "NotAllowed"
+cause_text (Why.Schedule f) = schedule_cause f
+
+-- `refused 2 FIELD CAUSE`, a line for each fault
+abbrev pub fault_line : FieldFault → List ℕ
+fault_line f = codes "refused 2 " ++ (path_of f.field ++ (codes " " ++ (cause_text f.cause ++ codes "\n")))
+
+abbrev pub fault_lines : List FieldFault → List ℕ
+fault_lines [] = []
+fault_lines (f ∷ fs) = fault_line f ++ fault_lines fs
+
+-- `warning FIELD`, a line for each member that is dropped
+abbrev pub warning_line : List ℕ → List ℕ
+warning_line path = codes "warning " ++ (path ++ codes "\n")
+
+abbrev pub warning_lines : List (List ℕ) → List ℕ
+warning_lines [] = []
+warning_lines (w ∷ ws) = warning_line w ++ warning_lines ws
+
+-- `ok KIND NAMESPACE/NAME`
+abbrev pub ok_line : List ℕ → Place → List ℕ
+ok_line kind key = codes "ok " ++ (kind ++ (codes " " ++ (key.namespace ++ (codes "/" ++ (key.name ++ codes "\n")))))
+
+-- ---- the answer
+
+-- refused on standard output, as what a manifest's faults are for
+abbrev pub faulty : List ℕ → Outcome
+faulty lines = record { verdict = Refused; printed = lines; said = [] }
+
+-- the bytes are no JSON
+pub record IsNoManifest (zones : List Zone) (bytes : List ℕ) (o : Outcome) : Type 0 where
+  pub refused : IsRefused (manifest_faults zones) bytes Syntax
+  pub answer : o ≡ faulty (codes "refused 1 Syntax\n")
+
+-- every fault is named
+pub record IsFaulty (zones : List Zone) (bytes : List ℕ) (o : Outcome) : Type 0 where
+  pub faults : List FieldFault
+  pub refused : IsRefused (manifest_faults zones) bytes (Invalid faults)
+  pub answer : o ≡ faulty (fault_lines faults)
+
+-- there is none, and every member that is dropped is named
+pub record IsFine (zones : List Zone) (bytes : List ℕ) (o : Outcome) : Type 0 where
+  pub manifest : Manifest
+  pub warnings : List (List ℕ)
+  pub reading : IsReading Manifest (manifest_faults zones) manifest_draft manifest_warnings bytes manifest warnings
+  pub answer : o ≡ done (ok_line (kind_of manifest) (key_of manifest) ++ warning_lines warnings)
+
+-- what the bytes of a manifest are answered under these zones
+abbrev pub IsChecked : List Zone → List ℕ → Outcome → Type 0
+IsChecked zones bytes o = IsNoManifest zones bytes o ⊎ IsFaulty zones bytes o ⊎ IsFine zones bytes o
+
+-- the zone is refused first, and nothing is read then
+pub record RefusesNamedZone (r : CheckRequest) (o : Outcome) : Type 0 where
+  pub pair : RefusesPair r.zone
+  pub answer : o ≡ refusal (codes "cronsim: zone\n")
+
+-- else what is read, all of the input, is checked
+pub record ChecksInput (r : CheckRequest) (input : Option (List ℕ)) (o : Outcome) : Type 0 where
+  pub zones : List Zone
+  pub zones_are : IsZonesOf r.zone zones
+  pub bytes : List ℕ
+  pub bytes_are : IfSome input (λ xs. bytes ≡ xs)
+  pub fits : length bytes ≤ 16_777_216
+  pub checked : IsChecked zones bytes o
+
+-- what `check` answers, where the input is known
+abbrev pub IsCheckOutcome : CheckRequest → Option (List ℕ) → Outcome → Type 0
+IsCheckOutcome r input o = RefusesNamedZone r o ⊎ ChecksInput r input o

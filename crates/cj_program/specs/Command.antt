@@ -1,0 +1,103 @@
+-- The command line, as `clap` reads it.
+use Rattle.std.specs.Prelude.{◌≡◌, ℕ, ◌≤◌, List, [], ◌∷◌, codes, Option, None, Some, option_map, true}
+use Rattle.std.specs.Prelude.{⊤, ◌≢◌}
+use Rattle.std.specs.Str.Parse.{IsNumeral, digits_value, without_leading_plus}
+use Rattle.clap.specs.Words.{App, Row, Rule, Text, first_of, new_app, new_rule, with_rule, with_subcommand, subcommand_of, takes}
+use Rattle.clap.specs.declared.builder.value_parser.ValueParser.TheVariants.{Unsigned}
+use Rattle.cj_program.specs.declared.request.CheckRequest.{CheckRequest}
+use Rattle.cj_program.specs.declared.request.NextRequest.{NextRequest}
+use Rattle.cj_program.specs.declared.request.PlanRequest.{PlanRequest}
+use Rattle.cj_program.specs.declared.request.Request.{Request}
+use Rattle.cj_program.specs.declared.request.Request.TheVariants.{Check, Next, Plan}
+use Rattle.cj_program.specs.declared.word_fault.WordFault.{WordFault}
+use Rattle.cj_program.specs.declared.word_fault.WordFault.TheVariants.{Incomplete, OutOfMemory, Refused}
+
+abbrev pub schedule_rule : Rule
+schedule_rule = record (new_rule (codes "schedule")) { required = true; value_names = 1 }
+
+abbrev pub after_rule : Rule
+after_rule = record (new_rule (codes "after")) { long = Some (codes "after"); required = true; value_names = 1 }
+
+abbrev pub count_rule : Rule
+count_rule = record (new_rule (codes "count")) {
+  long = Some (codes "count");
+  value_names = 1;
+  parser = Some (Unsigned 1 1_000);
+  defaults = codes "1" ∷ [];
+}
+
+abbrev pub zone_rule : Rule
+zone_rule = record (new_rule (codes "zone")) { long = Some (codes "zone"); value_names = 1 }
+
+-- `cronsim next SCHEDULE --after TIME [--count N] [--zone RULE]`
+abbrev pub next_app : App
+next_app = with_rule (with_rule (with_rule (with_rule (new_app (codes "next")) schedule_rule) after_rule) count_rule) zone_rule
+
+abbrev pub file_rule : Rule
+file_rule = record (new_rule (codes "file")) { required = true; value_names = 1 }
+
+-- `cronsim check FILE [--zone NAME=RULE]`
+abbrev pub check_app : App
+check_app = with_rule (with_rule (new_app (codes "check")) file_rule) zone_rule
+
+abbrev pub now_rule : Rule
+now_rule = record (new_rule (codes "now")) { long = Some (codes "now"); required = true; value_names = 1 }
+
+-- `cronsim plan FILE --now TIME`
+abbrev pub plan_app : App
+plan_app = with_rule (with_rule (new_app (codes "plan")) file_rule) now_rule
+
+-- the commands on a schedule and on a manifest
+abbrev pub reading_app : App
+reading_app =
+    let bare = new_app (codes "cronsim") in
+    let top = record bare { top = record bare.top { has_version = true; subcommand_required = true } } in
+    with_subcommand (with_subcommand top next_app.top) check_app.top
+
+abbrev pub cronsim_app : App
+cronsim_app = with_subcommand reading_app plan_app.top
+
+-- the text is decimal digits, after a plus or none, that spell the number
+abbrev pub IsDecimal : Text → ℕ → Type 0
+IsDecimal text n = IsNumeral 10 (without_leading_plus text) × (digits_value 10 (without_leading_plus text) ≡ n)
+
+-- the request has the values that `clap` states for the arguments of `next`
+pub record IsNext (rows : List Row) (r : NextRequest) : Type 0 where
+  pub schedule : first_of (codes "schedule") rows ≡ Some r.schedule.now
+  pub after : first_of (codes "after") rows ≡ Some r.after.now
+  pub count : (text : Text) × (first_of (codes "count") rows ≡ Some text) × IsDecimal text r.count
+  pub least : 1 ≤ r.count
+  pub most : r.count ≤ 1_000
+  pub zone : first_of (codes "zone") rows ≡ option_map (λ s. s.now) r.zone
+
+-- and for those of `check`
+pub record IsCheck (rows : List Row) (r : CheckRequest) : Type 0 where
+  pub file : first_of (codes "file") rows ≡ Some r.file.now
+  pub zone : first_of (codes "zone") rows ≡ option_map (λ s. s.now) r.zone
+
+-- and for those of `plan`
+pub record IsPlan (rows : List Row) (r : PlanRequest) : Type 0 where
+  pub file : first_of (codes "file") rows ≡ Some r.file.now
+  pub moment : first_of (codes "now") rows ≡ Some r.moment.now
+
+-- the request is of the subcommand with that name, and has the values of its arguments
+abbrev pub IsOfRows : Option (Text × List Row) → Request → Type 0
+IsOfRows found (Next r) = (rows : List Row) × (found ≡ Some (codes "next", rows)) × IsNext rows r
+IsOfRows found (Check r) = (rows : List Row) × (found ≡ Some (codes "check", rows)) × IsCheck rows r
+IsOfRows found (Plan r) = (rows : List Row) × (found ≡ Some (codes "plan", rows)) × IsPlan rows r
+
+-- the request is of the subcommand that `clap` states for the words, with the values that it states
+abbrev pub IsOf : List Text → Request → Type 0
+IsOf words r = IsOfRows (subcommand_of cronsim_app words) r
+
+-- the name of the file that a request has read, where it has one read
+abbrev pub file_of : Request → Option Text
+file_of (Next r) = None
+file_of (Check r) = Some r.file.now
+file_of (Plan r) = Some r.file.now
+
+-- when words are refused: `clap` doesn't take them, or no request has the values that it states for them
+abbrev pub RefusesWords : List Text → WordFault → Type 0
+RefusesWords words (Refused e) = takes cronsim_app words ≢ true
+RefusesWords words Incomplete = (r : Request) → ¬ (IsOf words r)
+RefusesWords words OutOfMemory = ⊤

@@ -1,0 +1,111 @@
+-- What the program answers to a request.
+use Rattle.std.specs.Prelude.{◌≡◌, ◌≢◌, ◌⊎◌, ℕ, ◌≤◌, List, [], ◌++◌, Option, None, Some, IsNone, codes, decimal, string_bytes}
+use Rattle.std.specs.Borrow.{Bor}
+use Rattle.jiff.specs.Words.{read_whole}
+use Rattle.cj_base.specs.Instant.{last_second}
+use Rattle.cj_base.specs.ScheduleCause.{cause_name}
+use Rattle.cj_base.specs.declared.schedule_fault.ScheduleFault.{ScheduleFault}
+use Rattle.cj_schedule.specs.Matches.{Sets}
+use Rattle.cj_schedule.specs.Grammar.{IsSchedule}
+use Rattle.cj_schedule.specs.Reading.{fault_of}
+use Rattle.cj_zone.specs.declared.source.Source.TheVariants.{Rule}
+use Rattle.cj_zone.specs.declared.zone.Zone.{Zone}
+use Rattle.cj_zone.specs.Made.{IsClockOf}
+use Rattle.cj_zone.specs.Zones.{utc_zone}
+use Rattle.cj_zone.specs.TimeText.{time_text_of}
+use Rattle.cj_program.specs.NextText.{IsNextText}
+use Rattle.cj_program.specs.declared.answer.Answer.{Answer}
+use Rattle.cj_program.specs.declared.answer.Verdict.{Verdict}
+use Rattle.cj_program.specs.declared.answer.Verdict.TheVariants.{Done, Refused}
+use Rattle.cj_program.specs.declared.failure.Failure.{Failure}
+use Rattle.cj_program.specs.declared.failure.Failure.TheVariants.{Device, Memory}
+use Rattle.cj_program.specs.declared.request.NextRequest.{NextRequest}
+
+-- the verdict, and the bytes on standard output and on standard error
+pub record Outcome : Type 0 where
+  pub verdict : Verdict
+  pub printed : List ℕ
+  pub said : List ℕ
+
+-- the exit status of the program
+abbrev pub status_of : Verdict → ℕ
+status_of Done = 0
+status_of Refused = 1
+
+-- what standard error says of a failure, which ends with status 3
+abbrev pub failure_line : Failure → List ℕ
+failure_line Device = codes "cronsim: input or output failed\n"
+failure_line Memory = codes "cronsim: out of memory\n"
+
+abbrev pub outcome_of : Answer → Outcome
+outcome_of a = record { verdict = a.verdict; printed = string_bytes a.printed; said = string_bytes a.said }
+
+-- the input was refused, with one line on standard error
+abbrev pub refusal : List ℕ → Outcome
+refusal line = record { verdict = Refused; printed = []; said = line }
+
+abbrev pub done : List ℕ → Outcome
+done text = record { verdict = Done; printed = text; said = [] }
+
+-- `cronsim: schedule FIELD BYTE CAUSE`
+abbrev pub schedule_line : ScheduleFault → List ℕ
+schedule_line f =
+    codes "cronsim: schedule "
+    ++ (decimal f.field ++ (codes " " ++ (decimal f.byte ++ (codes " " ++ (cause_name f.cause ++ codes "\n")))))
+
+-- no instant up to the end of 9998 is printed so
+abbrev pub IsNoTime : List ℕ → Type 0
+IsNoTime text = (t : ℕ) → t ≤ last_second → text ≢ time_text_of t
+
+-- the text is a printed instant up to the end of 9998
+pub record IsTime (text : List ℕ) (t : ℕ) : Type 0 where
+  pub in_range : t ≤ last_second
+  pub printed : text ≡ time_text_of t
+
+-- the rule is one that is given, and `jiff` refuses it
+abbrev pub IsNoRule : Option (Bor (List ℕ)) → Type 0
+IsNoRule None = ⊥
+IsNoRule (Some rule) = IsNone (read_whole rule.now)
+
+-- UTC where no rule is given, else a zone whose clock is what `jiff` makes of the rule
+abbrev pub IsZoneOf : Option (Bor (List ℕ)) → Zone → Type 0
+IsZoneOf None zone = zone ≡ utc_zone (codes "UTC")
+IsZoneOf (Some rule) zone = IsClockOf (Rule rule.now) zone.rules
+
+-- the schedule is refused first
+pub record RefusesSchedule (r : NextRequest) (o : Outcome) : Type 0 where
+  pub fault : ScheduleFault
+  pub at : fault_of r.schedule.now ≡ Some fault
+  pub answer : o ≡ refusal (schedule_line fault)
+
+-- then the start
+pub record RefusesTime (r : NextRequest) (o : Outcome) : Type 0 where
+  pub sets : Sets
+  pub schedule : IsSchedule r.schedule.now sets
+  pub start : IsNoTime r.after.now
+  pub answer : o ≡ refusal (codes "cronsim: time\n")
+
+-- then the rule of the zone
+pub record RefusesZone (r : NextRequest) (o : Outcome) : Type 0 where
+  pub sets : Sets
+  pub schedule : IsSchedule r.schedule.now sets
+  pub after : ℕ
+  pub start : IsTime r.after.now after
+  pub rule : IsNoRule r.zone
+  pub answer : o ≡ refusal (codes "cronsim: zone\n")
+
+-- else the due times are printed
+pub record PrintsTimes (r : NextRequest) (o : Outcome) : Type 0 where
+  pub sets : Sets
+  pub schedule : IsSchedule r.schedule.now sets
+  pub after : ℕ
+  pub start : IsTime r.after.now after
+  pub zone : Zone
+  pub rule : IsZoneOf r.zone zone
+  pub text : List ℕ
+  pub times : IsNextText sets zone after r.count text
+  pub answer : o ≡ done text
+
+-- what `next` answers
+abbrev pub IsNextOutcome : NextRequest → Outcome → Type 0
+IsNextOutcome r o = RefusesSchedule r o ⊎ RefusesTime r o ⊎ RefusesZone r o ⊎ PrintsTimes r o

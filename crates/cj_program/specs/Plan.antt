@@ -1,0 +1,105 @@
+-- What `plan` answers of a scenario.
+use Rattle.std.specs.Prelude.{◌≡◌, ◌≢◌, ◌⊎◌, ℕ, ◌≤◌, List, [], ◌∷◌, ◌++◌, length, Option, None, Some, IfSome, option_map, codes}
+use Rattle.cj_types.specs.declared.job.JobDraft.{JobDraft}
+use Rattle.cj_types.specs.declared.policy.Reason.{Reason}
+use Rattle.cj_types.specs.Printed.{reason_name}
+use Rattle.cj_zone.specs.declared.zone.Zone.{Zone}
+use Rattle.cj_zone.specs.Table.{zones_of}
+use Rattle.cj_zone.specs.TimeText.{time_text_of}
+use Rattle.cj_zone.specs.Zones.{utc_zone, zone_named}
+use Rattle.cj_decide.specs.declared.running.JobRef.{JobRef}
+use Rattle.cj_decide.specs.declared.steps.Steps.{Steps}
+use Rattle.cj_decide.specs.Decision.{IsPlan}
+use Rattle.cj_scenario.specs.declared.fault.SceneFault.{SceneFault}
+use Rattle.cj_scenario.specs.declared.fault.SceneFault.TheVariants as Why
+use Rattle.cj_scenario.specs.declared.scene.Scene.{Scene}
+use Rattle.cj_scenario.specs.Made.{IsRefusedScene, IsScene}
+use Rattle.cj_program.specs.declared.request.PlanRequest.{PlanRequest}
+use Rattle.cj_program.specs.Check.{fault_line}
+use Rattle.cj_program.specs.Outcome.{IsNoTime, IsTime, Outcome, done, refusal}
+
+-- ---- lines
+
+-- `WORD VALUE`
+abbrev pub word_line : List ℕ → List ℕ → List ℕ
+word_line word value = word ++ (codes " " ++ (value ++ codes "\n"))
+
+-- a time or `none`
+abbrev pub time_value : Option ℕ → List ℕ
+time_value None = codes "none"
+time_value (Some t) = time_text_of t
+
+-- the name of a Job or `none`
+abbrev pub name_value : Option JobDraft → List ℕ
+name_value None = codes "none"
+name_value (Some draft) = draft.key.name
+
+-- a line for each Job, with its name
+abbrev pub job_lines : List ℕ → List JobRef → List ℕ
+job_lines word [] = []
+job_lines word (job ∷ jobs) = word_line word job.key.name ++ job_lines word jobs
+
+abbrev pub reason_lines : List Reason → List ℕ
+reason_lines [] = []
+reason_lines (reason ∷ reasons) = word_line (codes "reason") (reason_name reason) ++ reason_lines reasons
+
+-- the steps of a plan in their order, then its reasons and when to look again
+abbrev pub plan_lines : Steps → List ℕ
+plan_lines p =
+    word_line (codes "claim") (time_value (option_map (λ c. c.time) p.claim))
+    ++ job_lines (codes "drop") p.drop_first
+    ++ word_line (codes "make") (name_value p.make)
+    ++ job_lines (codes "clean") p.cleanup
+    ++ reason_lines p.reasons
+    ++ word_line (codes "next") (time_value p.next)
+
+-- the fault of a scenario
+abbrev pub scene_line : SceneFault → List ℕ
+scene_line Why.Syntax = codes "cronsim: refused 1 Syntax\n"
+scene_line Why.Form = codes "cronsim: scenario\n"
+scene_line (Why.Manifest fault) = codes "cronsim: " ++ fault_line fault
+scene_line Why.Memory = codes "cronsim: out of memory\n"
+
+-- ---- the answer
+
+-- the zone that the CronJob names, UTC where it names none
+abbrev pub zone_for : Option (List ℕ) → List Zone → Option Zone
+zone_for None zones = Some (utc_zone (codes "UTC"))
+zone_for (Some name) zones = zone_named name zones
+
+-- the scenario is refused, for another cause than memory
+pub record RefusesScene (bytes : List ℕ) (o : Outcome) : Type 0 where
+  pub fault : SceneFault
+  pub refused : IsRefusedScene bytes fault
+  pub told : fault ≢ Why.Memory
+  pub answer : o ≡ refusal (scene_line fault)
+
+-- the lines of the one plan of the CronJob, its Jobs, the moment and its zone
+pub record PrintsPlan (bytes : List ℕ) (now : ℕ) (o : Outcome) : Type 0 where
+  pub scene : Scene
+  pub said : IsScene bytes scene
+  pub steps : Steps
+  pub decided : IsPlan (Some scene.cron) scene.jobs.items now (zone_for scene.cron.spec.time_zone (zones_of scene.zones)) steps
+  pub answer : o ≡ done (plan_lines steps)
+
+-- what the bytes of a scenario are answered
+abbrev pub IsPlannedFor : List ℕ → ℕ → Outcome → Type 0
+IsPlannedFor bytes now o = RefusesScene bytes o ⊎ PrintsPlan bytes now o
+
+-- the moment is refused first, and nothing is read then
+pub record RefusesMoment (r : PlanRequest) (o : Outcome) : Type 0 where
+  pub moment : IsNoTime r.moment.now
+  pub answer : o ≡ refusal (codes "cronsim: time\n")
+
+-- else what is read, all of the input, is planned for
+pub record PlansInput (r : PlanRequest) (input : Option (List ℕ)) (o : Outcome) : Type 0 where
+  pub now : ℕ
+  pub moment : IsTime r.moment.now now
+  pub bytes : List ℕ
+  pub bytes_are : IfSome input (λ xs. bytes ≡ xs)
+  pub fits : length bytes ≤ 16_777_216
+  pub planned : IsPlannedFor bytes now o
+
+-- what `plan` answers, where the input is known
+abbrev pub IsPlanOutcome : PlanRequest → Option (List ℕ) → Outcome → Type 0
+IsPlanOutcome r input o = RefusesMoment r o ⊎ PlansInput r input o

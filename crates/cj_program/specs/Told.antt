@@ -1,0 +1,30 @@
+-- What the program says where the words of a command line are no request.
+use Rattle.std.specs.Prelude.{◌≡◌, ◌⊎◌, ℕ, List, [], codes, string_bytes}
+use Rattle.clap.specs.Values.{kind_of}
+use Rattle.clap.specs.declared.error.Error.{Error}
+use Rattle.clap.specs.declared.error.kind.ErrorKind.TheVariants.{DisplayHelp, DisplayVersion}
+use Rattle.cj_program.specs.declared.told.Told.{Told}
+use Rattle.cj_program.specs.declared.word_fault.WordFault.{WordFault}
+use Rattle.cj_program.specs.declared.word_fault.WordFault.TheVariants.{Incomplete, OutOfMemory, Refused}
+
+-- help or the version was asked for
+abbrev pub IsAsked : Error → Type 0
+IsAsked e = (kind_of e ≡ DisplayHelp) ⊎ (kind_of e ≡ DisplayVersion)
+
+-- what is told: the status, and the bytes on standard output and on standard error
+pub record Telling : Type 0 where
+  pub status : ℕ
+  pub printed : List ℕ
+  pub said : List ℕ
+
+abbrev pub telling_of : Told → Telling
+telling_of t = record { status = t.status; printed = string_bytes t.printed; said = string_bytes t.said }
+
+-- what was asked for is printed, and all is well; wrong words are said on standard error, and the status is 2
+abbrev pub TellsOf : Error → Telling → Type 0
+TellsOf e t = (IsAsked e × (t.status ≡ 0) × (t.said ≡ [])) ⊎ (¬ (IsAsked e) × (t.status ≡ 2) × (t.printed ≡ []))
+
+abbrev pub Tells : WordFault → Telling → Type 0
+Tells (Refused e) t = TellsOf e t
+Tells Incomplete t = t ≡ record { status = 2; printed = []; said = codes "cronsim: incomplete words\n" }
+Tells OutOfMemory t = ⊥

@@ -1,0 +1,34 @@
+//! The commands of the program: what the words of a command line ask for, and what they are answered.
+#![tactic(auto)]
+
+mod answer;
+mod check;
+mod command;
+mod failure;
+mod input;
+mod lines;
+mod next;
+mod next_text;
+mod plan;
+mod plan_text;
+mod request;
+mod serving;
+mod told;
+mod word_fault;
+mod words;
+mod writing;
+
+pub use failure::Failure;
+pub use request::{CheckRequest, NextRequest, PlanRequest, Request};
+pub use serving::serve;
+pub use told::tell_fault;
+pub use word_fault::WordFault;
+pub use words::parse_words;
+pub use writing::tell_failure;
+
+#[cfg(test)]
+mod check_tests;
+#[cfg(test)]
+mod plan_tests;
+#[cfg(test)]
+mod tests;

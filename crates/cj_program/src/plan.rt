@@ -1,0 +1,122 @@
+ghost use Rattle.std.specs.Prelude.{◌≡◌, ◌≢◌, ℕ, List, Some, codes, option_copied, string_bytes, IfOk};
+ghost use Rattle.cj_zone.specs.Table.{local_zone, zones_of};
+ghost use Rattle.cj_zone.specs.Zones.{utc_zone};
+ghost use Rattle.cj_decide.specs.Decision.{IsPlan};
+ghost use Rattle.cj_scenario.specs.Made.{IsScene};
+ghost use Rattle.cj_scenario.specs.declared.fault.SceneFault.TheVariants.{Manifest, Memory};
+ghost use Rattle.cj_program.specs.Outcome.{done, outcome_of, refusal};
+ghost use Rattle.cj_program.specs.Plan.{IsPlanOutcome, IsPlannedFor, plan_lines, scene_line, zone_for};
+
+use crate::answer::{Answer, Verdict};
+use crate::failure::Failure;
+use crate::input::{MOST_BYTES, MOST_READS, read_input};
+use crate::lines::print_fault;
+use crate::next::refused;
+use crate::plan_text::plan_text;
+use crate::request::PlanRequest;
+use cj_decide::{Plan, Steps, decide};
+use cj_scenario::{Scene, SceneFault, read_scene};
+use cj_types::{FieldFault, Seconds, Text, TryCopy};
+use cj_zone::{Zone, ZoneTable, read_time};
+use std::alloc::{AllocError, Global};
+use std::io::Read;
+
+// The zone of that name in the table, or its local zone where none is named.
+fn zone_of<'t>(zones: &'t ZoneTable, name: &Option<Text>) -> Option<&'t Zone>
+    requires { local_zone zones.now ≡ Some (utc_zone (codes "UTC")) }
+    ensures { option_copied result ≡ zone_for name.now (zones_of zones.now) }
+{
+    match name {
+        Some(name) => zones.get(name.as_str()),
+        None => Some(zones.default_zone()),
+    }
+}
+
+// A copy of that zone.
+fn zone_copy(alloc: Global, zones: &ZoneTable, name: &Option<Text>) -> Result<Option<Zone>, Failure>
+    requires { local_zone zones.now ≡ Some (utc_zone (codes "UTC")) }
+    ensures { IfOk result (λ z. z ≡ zone_for name.now (zones_of zones.now)) }
+{
+    match zone_of(zones, name) {
+        Some(zone) => Ok(Some(zone.try_copy(alloc)?)),
+        None => Ok(None),
+    }
+}
+
+fn plan_of(alloc: Global, scene: Scene, now: Seconds) -> Result<Plan, Failure>
+    requires { local_zone scene.zones ≡ Some (utc_zone (codes "UTC")) }
+    ensures { IfOk result (λ p. IsPlan (Some scene.cron) scene.jobs.items now (zone_for scene.cron.spec.time_zone (zones_of scene.zones)) p.steps) }
+{
+    let Scene { zones, cron, jobs } = scene;
+    let zone = zone_copy(alloc, &zones, &cron.spec.time_zone)?;
+    Ok(decide(alloc, Some(cron), jobs, now, zone)?)
+}
+
+fn printed(alloc: Global, steps: &Steps) -> Result<Answer, Failure>
+    ensures { IfOk result (λ a. outcome_of a ≡ done (plan_lines steps.now)) }
+{
+    Ok(Answer {
+        verdict: Verdict::Done,
+        printed: plan_text(alloc, steps)?,
+        said: String::new(alloc),
+    })
+}
+
+// The plan of a scenario.
+fn planned(alloc: Global, scene: Scene, now: Seconds) -> Result<Answer, Failure>
+    requires { local_zone scene.zones ≡ Some (utc_zone (codes "UTC")) }
+    ensures { (bytes : List ℕ) → IsScene bytes scene → IfOk result (λ a. IsPlannedFor bytes now (outcome_of a)) }
+{
+    let plan = plan_of(alloc, scene, now)?;
+    printed(alloc, plan.steps())
+}
+
+fn fault_text(alloc: Global, fault: FieldFault) -> Result<String, AllocError>
+    ensures { IfOk result (λ s. string_bytes s ≡ scene_line (Manifest fault)) }
+{
+    let line = print_fault(alloc, fault)?;
+    let mut text = String::from_str(alloc, "cronsim: ")?;
+    text.push_str(line.as_str())?;
+    Ok(text)
+}
+
+// A scenario that is refused.
+fn refused_scene(alloc: Global, fault: SceneFault) -> Result<Answer, Failure>
+    ensures told { IfOk result (λ _. fault ≢ Memory) }
+    ensures answer { IfOk result (λ a. outcome_of a ≡ refusal (scene_line fault)) }
+{
+    match fault {
+        SceneFault::Syntax => Ok(refused(alloc, "cronsim: refused 1 Syntax\n")?),
+        SceneFault::Form => Ok(refused(alloc, "cronsim: scenario\n")?),
+        SceneFault::Manifest(fault) => {
+            let line = fault_text(alloc, fault)?;
+            Ok(refused(alloc, line.as_str())?)
+        }
+        SceneFault::Memory => Err(Failure::Memory),
+    }
+}
+
+// What a scenario is answered at that moment.
+fn scene_answer(alloc: Global, bytes: &[u8], now: Seconds) -> Result<Answer, Failure>
+    ensures { IfOk result (λ a. IsPlannedFor bytes.now now (outcome_of a)) }
+{
+    match read_scene(alloc, bytes) {
+        Ok(scene) => planned(alloc, scene, now),
+        Err(fault) => refused_scene(alloc, fault),
+    }
+}
+
+/// What the command `plan` answers: the moment is looked at first, then all of the input is read.
+pub fn plan_answer<R: Read>(
+    alloc: Global,
+    plan: &PlanRequest<'_>,
+    input: &mut R,
+) -> Result<Answer, Failure>
+    ensures { IfOk result (λ a. IsPlanOutcome plan.now (R.remaining input.old) (outcome_of a)) }
+{
+    let Some(now) = read_time(plan.moment) else {
+        return Ok(refused(alloc, "cronsim: time\n")?);
+    };
+    let bytes = read_input(alloc, input, MOST_BYTES, MOST_READS)?;
+    scene_answer(alloc, bytes.as_slice(), now)
+}

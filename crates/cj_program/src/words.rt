@@ -1,0 +1,111 @@
+ghost use Rattle.std.specs.Prelude.{◌≡◌, ℕ, ◌≤◌, map, option_map, IfOk, IfErr, IfSome, None, Some};
+ghost use Rattle.clap.specs.Words.{first_of, found_of, rows_of, subcommand_rows_of};
+ghost use Rattle.cj_program.specs.Command.{IsCheck, IsDecimal, IsNext, IsOf, IsOfRows, IsPlan, RefusesWords};
+ghost use Rattle.cj_program.specs.declared.request.CheckRequest.{CheckRequest};
+ghost use Rattle.cj_program.specs.declared.request.NextRequest.{NextRequest};
+ghost use Rattle.cj_program.specs.declared.request.PlanRequest.{PlanRequest};
+ghost use Rattle.cj_program.specs.declared.request.Request.{Request};
+ghost use Rattle.cj_program.specs.declared.word_fault.WordFault.TheVariants.{Incomplete};
+
+use crate::command::cronsim_command;
+use crate::request::{CheckRequest, NextRequest, PlanRequest, Request};
+use crate::word_fault::WordFault;
+use clap::ArgMatches;
+use std::alloc::Global;
+
+// The value of an argument that may be left out.
+fn optional_text<'a>(found: &ArgMatches<'a>, id: &str) -> Option<&'a str>
+    ensures { first_of id.now (rows_of (found_of found.now)) ≡ option_map (λ s. s.now) result }
+{
+    found.get_str(id)
+}
+
+// The value of an argument that has one.
+fn text<'a>(found: &ArgMatches<'a>, id: &str) -> Result<&'a str, WordFault>
+    ensures found { IfOk result (λ s. first_of id.now (rows_of (found_of found.now)) ≡ Some s.now) }
+    ensures missing { IfErr result (λ e. (e ≡ Incomplete) × (first_of id.now (rows_of (found_of found.now)) ≡ None)) }
+{
+    match optional_text(found, id) {
+        Some(text) => Ok(text),
+        None => Err(WordFault::Incomplete),
+    }
+}
+
+// A count of due times.
+fn count(text: &str) -> Result<u16, WordFault>
+    ensures decimal { IfOk result (IsDecimal text.now) }
+    ensures least { IfOk result (λ n. 1 ≤ n) }
+    ensures most { IfOk result (λ n. n ≤ 1_000) }
+    ensures refused { IfErr result (λ e. e ≡ Incomplete) }
+    ensures only { IfErr result (λ _. (n : ℕ) → IsDecimal text.now n → 1 ≤ n → n ≤ 1_000 → ⊥) }
+{
+    match text.parse::<u16>() {
+        Ok(count) if count >= 1 && count <= 1_000 => Ok(count),
+        _ => Err(WordFault::Incomplete),
+    }
+}
+
+fn next_request<'a>(found: &ArgMatches<'a>) -> Result<NextRequest<'a>, WordFault>
+    ensures stated { IfOk result (IsNext (rows_of (found_of found.now))) }
+    ensures refused { IfErr result (λ e. e ≡ Incomplete) }
+    ensures only { IfErr result (λ _. (r : NextRequest) → ¬ (IsNext (rows_of (found_of found.now)) r)) }
+{
+    let schedule = text(found, "schedule")?;
+    let after = text(found, "after")?;
+    let count = count(text(found, "count")?)?;
+    let zone = optional_text(found, "zone");
+    Ok(NextRequest {
+        schedule,
+        after,
+        count,
+        zone,
+    })
+}
+
+fn check_request<'a>(found: &ArgMatches<'a>) -> Result<CheckRequest<'a>, WordFault>
+    ensures stated { IfOk result (IsCheck (rows_of (found_of found.now))) }
+    ensures refused { IfErr result (λ e. e ≡ Incomplete) }
+    ensures only { IfErr result (λ _. (r : CheckRequest) → ¬ (IsCheck (rows_of (found_of found.now)) r)) }
+{
+    let file = text(found, "file")?;
+    let zone = optional_text(found, "zone");
+    Ok(CheckRequest { file, zone })
+}
+
+fn plan_request<'a>(found: &ArgMatches<'a>) -> Result<PlanRequest<'a>, WordFault>
+    ensures stated { IfOk result (IsPlan (rows_of (found_of found.now))) }
+    ensures refused { IfErr result (λ e. e ≡ Incomplete) }
+    ensures only { IfErr result (λ _. (r : PlanRequest) → ¬ (IsPlan (rows_of (found_of found.now)) r)) }
+{
+    let moment = text(found, "now")?;
+    Ok(PlanRequest {
+        file: text(found, "file")?,
+        moment,
+    })
+}
+
+fn request_of<'a>(matches: &ArgMatches<'a>) -> Result<Request<'a>, WordFault>
+    ensures stated { IfOk result (IsOfRows (subcommand_rows_of matches.now)) }
+    ensures refused { IfErr result (λ e. e ≡ Incomplete) }
+    ensures only { IfErr result (λ _. (r : Request) → ¬ (IsOfRows (subcommand_rows_of matches.now) r)) }
+{
+    match matches.subcommand() {
+        Some(("next", found)) => Ok(Request::Next(next_request(found)?)),
+        Some(("plan", found)) => Ok(Request::Plan(plan_request(found)?)),
+        Some(("check", found)) => Ok(Request::Check(check_request(found)?)),
+        _ => Err(WordFault::Incomplete),
+    }
+}
+
+/// Reads the words of a command line, the program's name first.
+///
+/// Wrong words, `--help` and `--version` are refused with what `clap` has to say; words that `clap` takes are refused
+/// only where no request has the values that it states for them.
+pub fn parse_words<'a>(alloc: Global, words: &'a [&'a str]) -> Result<Request<'a>, WordFault>
+    ensures stated { IfOk result (IsOf (map (λ w. w.now) words.entry.now)) }
+    ensures refused { IfErr result (RefusesWords (map (λ w. w.now) words.entry.now)) }
+{
+    let command = cronsim_command(alloc)?;
+    let matches = command.try_get_matches_from(words)?;
+    request_of(&matches)
+}

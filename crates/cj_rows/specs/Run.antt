@@ -1,0 +1,46 @@
+-- What a row's run gives: what the program answers to its words and input.
+use Rattle.std.specs.Prelude.{◌≡◌, ◌⊎◌, ℕ, ◌<◌, List, ◌∷◌, Option, None, Some, codes}
+use Rattle.cj_program.specs.Answers.{IsOutcome}
+use Rattle.cj_program.specs.Command.{IsOf, RefusesWords, file_of}
+use Rattle.cj_program.specs.Outcome.{Outcome, status_of}
+use Rattle.cj_program.specs.Told.{Telling, Tells}
+use Rattle.cj_program.specs.declared.request.Request.{Request}
+use Rattle.cj_program.specs.declared.word_fault.WordFault.{WordFault}
+use Rattle.cj_rows.specs.declared.run.Seen.{Seen}
+
+-- the status, and the bytes on standard output and on standard error
+pub record Given : Type 0 where
+  pub status : ℕ
+  pub printed : List ℕ
+  pub said : List ℕ
+
+abbrev pub given_of : Seen → Given
+given_of s = record { status = s.status; printed = s.printed.items; said = s.said.items }
+
+-- the words, the program's name first, are a request that reads no file by its name, and this is its outcome on that input
+pub record IsServed (words : List (List ℕ)) (input : List ℕ) (g : Given) : Type 0 where
+  pub request : Request
+  pub of : IsOf words request
+  pub file : (file_of request ≡ None) ⊎ (file_of request ≡ Some (codes "-"))
+  pub outcome : Outcome
+  pub answer : IsOutcome request (Some input) outcome
+  pub status : g.status ≡ status_of outcome.verdict
+  pub printed : g.printed ≡ outcome.printed
+  pub said : g.said ≡ outcome.said
+
+-- the words are refused, and this is told
+pub record IsTold (words : List (List ℕ)) (g : Given) : Type 0 where
+  pub fault : WordFault
+  pub refused : RefusesWords words fault
+  pub telling : Telling
+  pub tells : Tells fault telling
+  pub status : g.status ≡ telling.status
+  pub printed : g.printed ≡ telling.printed
+  pub said : g.said ≡ telling.said
+
+-- a status below 3 comes with the program's own answer to the words, its name first
+abbrev pub IsRunOf : List (List ℕ) → List ℕ → Given → Type 0
+IsRunOf words input g = g.status < 3 → IsServed words input g ⊎ IsTold words g
+
+abbrev pub IsRun : List (List ℕ) → List ℕ → Given → Type 0
+IsRun words input g = IsRunOf (codes "cronsim" ∷ words) input g

@@ -1,6 +1,0 @@
-use Rattle.std.proofs.Common.{◌≡◌, ◌++◌, drop, string_bytes}
-use Rattle.cronsim.specs.Check.{fault_lines}
-use Rattle.cronsim.proofs.lines.print_faults.Given as goal
-
-abbrev pub invariant-loop-fault : goal.invariant-loop-fault
-invariant-loop-fault l = string_bytes l.text ++ fault_lines (drop l.fault-index l.faults) ≡ fault_lines l.faults

@@ -1,6 +1,0 @@
-use Rattle.std.proofs.Common.{◌-◌, string_bytes}
-use Rattle.cronsim.proofs.NextLemmas.{Continues}
-use Rattle.cronsim.proofs.next_text.next_text.Given as goal
-
-abbrev pub invariant-loop : goal.invariant-loop
-invariant-loop l = Continues l.schedule l.zone l.fn.after l.fn.count l.at (l.fn.count - l.counter) (string_bytes l.text)
