@@ -1,11 +1,8 @@
-//! Tests of manifests: each row of the table of faults, what is said and dropped, manifests as clients write them, and the
-//! written texts.
+//! Tests of manifests that no command shows: what each reader says of the other's kind, what is said, and the written texts.
 #![tactic(auto)]
 
 #[cfg(test)]
 mod answers;
-#[cfg(test)]
-mod clients;
 #[cfg(test)]
 mod reading;
 #[cfg(test)]

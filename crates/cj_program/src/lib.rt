@@ -25,10 +25,3 @@ pub use told::tell_fault;
 pub use word_fault::WordFault;
 pub use words::parse_words;
 pub use writing::tell_failure;
-
-#[cfg(test)]
-mod check_tests;
-#[cfg(test)]
-mod plan_tests;
-#[cfg(test)]
-mod tests;

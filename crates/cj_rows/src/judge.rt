@@ -2,7 +2,7 @@
 ghost use Rattle.std.specs.Prelude.{◌≡◌, ◌+◌, ◌⊎◌, map, length, false, IfOk, IfErr, OnOk};
 ghost use Rattle.std.specs.Str.Lines.{lines as lines_in};
 ghost use Rattle.serde_json.specs.View.{view};
-ghost use Rattle.serde_json.specs.Read.{read_text};
+ghost use Rattle.serde_json.specs.Read.{read as read_text};
 ghost use Rattle.cj_rows.specs.Judged.{AddsLine, AddsLines, AddsRow, count_of};
 ghost use Rattle.cj_rows.specs.Row.{IsRowLine, Refuses, Stated, is_comment, rows_in};
 

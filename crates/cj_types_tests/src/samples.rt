@@ -19,9 +19,10 @@ fn text(alloc: Global, is_changed: bool) -> Result<Text, Fail> {
     Ok(Text::new(alloc, text)?)
 }
 
-// The sample of a part, changed in one place where it is to be.
-fn part<T: Sample>(alloc: Global, is_changed: bool) -> Result<T, Fail> {
-    T::sample(alloc, u8::from(is_changed))
+// The change of a part where its own changes begin after this number and are so many; 0 elsewhere.
+fn within(change: u8, after: u8, changes: u8) -> u8 {
+    let number = change.saturating_sub(after);
+    if number <= changes { number } else { 0 }
 }
 
 fn uid(is_changed: bool) -> Result<Uid, Fail> {
@@ -156,7 +157,7 @@ impl Sample for OwnerRefs {
             3 => "30",
             4 => "011",
             5 => "0",
-            6 => "",
+            6 => "456",
             _ => "01",
         };
         let mut owners = OwnerRefs::new(alloc);
@@ -174,8 +175,8 @@ impl Sample for Meta {
             version: Version::new(if change == 2 { 5 } else { 4 }),
             generation: if change == 3 { 2 } else { 1 },
             created: Seconds::new(if change == 4 { 61 } else { 60 }).ok_or("created")?,
-            labels: part(alloc, change == 5)?,
-            annotations: part(alloc, change == 6)?,
+            labels: Labels::sample(alloc, within(change, 4, 6))?,
+            annotations: Labels::sample(alloc, within(change, 10, 6))?,
         })
     }
 }
@@ -185,8 +186,8 @@ impl Sample for DraftMeta {
         Ok(DraftMeta {
             uid: perhaps_text(alloc, change != 2, change == 1)?,
             version: perhaps_text(alloc, change != 4, change == 3)?,
-            labels: part(alloc, change == 5)?,
-            annotations: part(alloc, change == 6)?,
+            labels: Labels::sample(alloc, within(change, 4, 1))?,
+            annotations: Labels::sample(alloc, within(change, 5, 1))?,
         })
     }
 }
@@ -194,9 +195,9 @@ impl Sample for DraftMeta {
 impl Sample for JobTemplate {
     fn sample(alloc: Global, change: u8) -> Result<JobTemplate, Fail> {
         Ok(JobTemplate {
-            labels: part(alloc, change == 1)?,
-            annotations: part(alloc, change == 2)?,
-            spec: part(alloc, change == 3)?,
+            labels: Labels::sample(alloc, within(change, 0, 1))?,
+            annotations: Labels::sample(alloc, within(change, 1, 1))?,
+            spec: SpecText::sample(alloc, within(change, 2, 3))?,
         })
     }
 }
@@ -225,9 +226,13 @@ impl Sample for CronSpec {
             policy: policy(change),
             suspend: change == 4,
             starting_deadline_seconds: deadline(change),
-            successful_limit: HistoryLimit::from(if change == 6 { 4 } else { 3 }),
+            successful_limit: HistoryLimit::from(match change {
+                6 => 4,
+                8 => 5,
+                _ => 3,
+            }),
             failed_limit: HistoryLimit::from(if change == 7 { 4 } else { 3 }),
-            template: part(alloc, change == 8)?,
+            template: JobTemplate::sample(alloc, within(change, 11, 5))?,
         })
     }
 }
@@ -241,15 +246,15 @@ impl<T: Sample + Drop> Sample for Shared<T> {
 impl Sample for CronStatus {
     fn sample(alloc: Global, change: u8) -> Result<CronStatus, Fail> {
         Ok(CronStatus {
-            active: part(alloc, change == 1)?,
+            active: Names::sample(alloc, within(change, 4, 6))?,
             last_schedule_time: match change {
-                2 => None,
-                3 => Seconds::new(120),
+                1 => None,
+                2 => Seconds::new(120),
                 _ => Seconds::new(60),
             },
             last_successful_time: match change {
-                4 => None,
-                5 => Seconds::new(120),
+                3 => None,
+                4 => Seconds::new(120),
                 _ => Seconds::new(60),
             },
         })
@@ -259,10 +264,10 @@ impl Sample for CronStatus {
 impl Sample for CronJob {
     fn sample(alloc: Global, change: u8) -> Result<CronJob, Fail> {
         Ok(CronJob {
-            key: part(alloc, change == 1)?,
-            meta: part(alloc, change == 2)?,
-            spec: part(alloc, change == 3)?,
-            status: part(alloc, change == 4)?,
+            key: CronKey::sample(alloc, within(change, 0, 3))?,
+            meta: Meta::sample(alloc, within(change, 3, 16))?,
+            spec: CronSpec::sample(alloc, within(change, 19, 15))?,
+            status: CronStatus::sample(alloc, within(change, 34, 10))?,
         })
     }
 }
@@ -270,9 +275,9 @@ impl Sample for CronJob {
 impl Sample for CronJobDraft {
     fn sample(alloc: Global, change: u8) -> Result<CronJobDraft, Fail> {
         Ok(CronJobDraft {
-            key: part(alloc, change == 1)?,
-            meta: part(alloc, change == 2)?,
-            spec: part(alloc, change == 3)?,
+            key: CronKey::sample(alloc, within(change, 0, 1))?,
+            meta: DraftMeta::sample(alloc, within(change, 1, 6))?,
+            spec: CronSpec::sample(alloc, within(change, 7, 1))?,
         })
     }
 }
@@ -289,10 +294,10 @@ fn outcome(change: u8) -> Option<Outcome> {
 impl Sample for Job {
     fn sample(alloc: Global, change: u8) -> Result<Job, Fail> {
         Ok(Job {
-            key: part(alloc, change == 1)?,
-            meta: part(alloc, change == 2)?,
-            owners: part(alloc, change == 3)?,
-            spec: part(alloc, change == 4)?,
+            key: Key::sample(alloc, within(change, 7, 3))?,
+            meta: Meta::sample(alloc, within(change, 0, 1))?,
+            owners: OwnerRefs::sample(alloc, within(change, 10, 6))?,
+            spec: SpecText::sample(alloc, within(change, 1, 3))?,
             outcome: outcome(change),
         })
     }
@@ -301,10 +306,10 @@ impl Sample for Job {
 impl Sample for JobDraft {
     fn sample(alloc: Global, change: u8) -> Result<JobDraft, Fail> {
         Ok(JobDraft {
-            key: part(alloc, change == 1)?,
-            meta: part(alloc, change == 2)?,
-            owners: part(alloc, change == 3)?,
-            spec: part(alloc, change == 4)?,
+            key: Key::sample(alloc, within(change, 0, 1))?,
+            meta: DraftMeta::sample(alloc, within(change, 1, 1))?,
+            owners: OwnerRefs::sample(alloc, within(change, 2, 1))?,
+            spec: SpecText::sample(alloc, within(change, 3, 1))?,
         })
     }
 }
@@ -312,19 +317,19 @@ impl Sample for JobDraft {
 impl Sample for Object {
     fn sample(alloc: Global, change: u8) -> Result<Object, Fail> {
         match change {
-            1 | 2 => Ok(Object::Job(part(alloc, change == 1)?)),
-            _ => Ok(Object::Cron(part(alloc, change == 3)?)),
+            45..=61 => Ok(Object::Job(Job::sample(alloc, change.saturating_sub(45))?)),
+            _ => Ok(Object::Cron(CronJob::sample(alloc, change)?)),
         }
     }
 }
 
 impl Sample for Event {
     fn sample(alloc: Global, change: u8) -> Result<Event, Fail> {
-        let object = part(alloc, change % 2 == 1)?;
         match change {
-            2 | 3 => Ok(Event::Modified(object)),
-            4 | 5 => Ok(Event::Deleted(object)),
-            _ => Ok(Event::Added(object)),
+            62 => Ok(Event::Modified(Object::sample(alloc, 0)?)),
+            63 => Ok(Event::Deleted(Object::sample(alloc, 0)?)),
+            64 => Ok(Event::Deleted(Object::sample(alloc, 45)?)),
+            _ => Ok(Event::Added(Object::sample(alloc, change)?)),
         }
     }
 }
