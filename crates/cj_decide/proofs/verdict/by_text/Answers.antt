@@ -1,12 +1,14 @@
-use Rattle.std.proofs.Common.{inr, subst, sym, List, ℕ}
+use Rattle.std.proofs.Common.{inr, subst, sym, ap, ◌∙◌, List, ℕ}
+use Rattle.cj_types.specs.declared.cron.CronSpec.{CronSpec}
 use Rattle.cj_schedule.specs.Grammar.{IsSchedule}
 use Rattle.cj_decide.proofs.verdict.by_text.Goals as goal
 
 pub returns-in-Err : goal.returns-in-Err
 returns-in-Err c =
+    let text = c.as_str.ensures ∙ ap (λ (x : CronSpec). x.schedule) c.deref.ensures in
     inr (
       (λ s h.
-          let e = c.in-Err.ensures.only s (subst (λ (t : List ℕ). IsSchedule t s) (sym c.as_str.ensures) h) in
+          let e = c.in-Err.ensures.only s (subst (λ (t : List ℕ). IsSchedule t s) (sym text) h) in
           absurd (cc)),
       c.rests.ensures,
     )
