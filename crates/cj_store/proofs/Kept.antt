@@ -1,5 +1,5 @@
 -- What each write keeps: every object stands at its own key and wasn't changed more often than there were writes.
-use Rattle.std.proofs.Common.{◌≡◌, ℕ, ◌+◌, ◌≤◌, Bool, true, false, Some, sym, ap, ◌∙◌, arith}
+use Rattle.std.proofs.Common.{◌≡◌, ◌⊎◌, inl, inr, ℕ, ◌+◌, ◌≤◌, Bool, true, false, Option, Some, None, refl, sym, ap, ◌∙◌, subst, arith}
 use Rattle.std.specs.Option.{option_map}
 use Rattle.std.specs.FinMap as map
 use Rattle.cj_types.specs.Keys.{Place, place_cmp}
@@ -8,13 +8,28 @@ use Rattle.cj_types.specs.declared.job.Job.{Job}
 use Rattle.cj_types.specs.declared.meta.Meta.{Meta}
 use Rattle.cj_types.specs.declared.meta.DraftMeta.{DraftMeta}
 use Rattle.cj_jobs.proofs.Holds.{Holds, put_holds, cut_holds, empty_holds}
-use Rattle.cj_store.specs.Content.{Content, IsSound}
+use Rattle.cj_store.specs.Content.{Content, IsSound, IsCounted, HasOwnUids, Home, CronAt, JobAt, meta_at, uid_at}
+use Rattle.cj_store.proofs.Homes.{Given, cron_put, cron_cut, job_put, job_cut, counted_put, counted_cut, own_put, own_cut, no_home, with_crons, with_jobs}
 use Rattle.cj_store.specs.Metadata.{updated}
 use Rattle.cj_store.specs.Change.{owners_at}
 
 pub updated_generation : (s : Content) (draft : DraftMeta) (b : Bool) (meta : Meta) → meta.generation ≤ s.version → (updated s draft b meta).generation ≤ s.version + 1
 updated_generation s draft true meta h = omega arith
 updated_generation s draft false meta h = omega arith
+
+pub cron_uid_there : (s : Content) (k : Place) (c : CronJob) → map.get s.crons k ≡ Some c → uid_at s (CronAt k) ≡ Some c.meta.uid
+cron_uid_there s k c e = ap (λ (o : Option CronJob). option_map (λ (m : Meta). m.uid) (option_map (λ (x : CronJob). x.meta) o)) e
+
+pub job_uid_there : (s : Content) (k : Place) (j : Job) → map.get s.jobs k ≡ Some j → uid_at s (JobAt k) ≡ Some j.meta.uid
+job_uid_there s k j e = ap (λ (o : Option Job). option_map (λ (m : Meta). m.uid) (option_map (λ (x : Job). x.meta) o)) e
+
+uid_within : (s : Content) (h : Home) (u : ℕ) (o : Option Meta) → meta_at s h ≡ o → IsCounted s → option_map (λ (m : Meta). m.uid) o ≡ Some u → u ≤ s.uids
+uid_within s h u None there counted e = absurd (cc e)
+uid_within s h u (Some m) there counted e = let f : m.uid ≡ u = cc e in let w : m.uid ≤ s.uids = (counted h m there).1 in omega arith
+
+-- the uid of an object that stands is within the count
+pub standing_uid : (s : Content) (h : Home) (u : ℕ) → IsCounted s → uid_at s h ≡ Some u → u ≤ s.uids
+standing_uid s h u counted e = uid_within s h u (meta_at s h) refl counted e
 
 pub owners_there : (s : Content) (k : Place) (j : Job) → map.get s.jobs k ≡ Some j → owners_at s k ≡ Some j.owners
 owners_there s k j e = ap (option_map (λ (job : Job). job.owners)) e
@@ -32,20 +47,22 @@ jobs_later : (m : map.FinMap place_cmp Job) (w : ℕ) → Holds (JobIs w) m → 
 jobs_later m w h k j is = ((h k j is).0, let a : j.meta.generation ≤ w = (h k j is).1 in omega arith)
 
 pub new_sound : (crons : map.FinMap place_cmp CronJob) (jobs : map.FinMap place_cmp Job) → crons ≡ map.empty → jobs ≡ map.empty → IsSound (record { crons = crons; jobs = jobs; version = 0; uids = 0 })
-new_sound crons jobs e f = record { crons = empty_holds (CronIs 0) crons e; jobs = empty_holds (JobIs 0) jobs f; counts = omega arith }
+new_sound crons jobs e f = record {
+  crons = empty_holds (CronIs 0) crons e;
+  jobs = empty_holds (JobIs 0) jobs f;
+  counts = omega arith;
+  counted = λ h m is. absurd (no_home (record { crons = crons; jobs = jobs; version = 0; uids = 0 }) e f h m is);
+  own = λ g h m n is _ _. absurd (no_home (record { crons = crons; jobs = jobs; version = 0; uids = 0 }) e f g m is);
+}
 
--- the content with other objects of one kind, after one write more
-abbrev pub with_crons : Content → map.FinMap place_cmp CronJob → ℕ → Content
-with_crons s crons uids = record { crons = crons; jobs = s.jobs; version = s.version + 1; uids = uids }
-
-abbrev pub with_jobs : Content → map.FinMap place_cmp Job → ℕ → Content
-with_jobs s jobs uids = record { crons = s.crons; jobs = jobs; version = s.version + 1; uids = uids }
-
-pub put_cron_sound : (s : Content) (n : map.FinMap place_cmp CronJob) (k : Place) (c : CronJob) (u : ℕ) → IsSound s → n ≡ map.insert s.crons k c → c.key ≡ k → c.meta.generation ≤ s.version + 1 → u ≤ s.version + 1 → IsSound (with_crons s n u)
-put_cron_sound s n k c u sound e keyed dated counts = record {
+pub put_cron_sound : (s : Content) (n : map.FinMap place_cmp CronJob) (k : Place) (c : CronJob) (u : ℕ) → IsSound s → n ≡ map.insert s.crons k c → c.key ≡ k → c.meta.generation ≤ s.version + 1
+    → c.meta.version ≡ s.version + 1 → s.uids ≤ u → c.meta.uid ≤ u → u ≤ s.version + 1 → Given s (CronAt k) c.meta → IsSound (with_crons s n u)
+put_cron_sound s n k c u sound e keyed dated version more uid counts given = record {
   crons = put_holds (CronIs (s.version + 1)) s.crons n k c e (keyed, dated) (crons_later s.crons s.version sound.crons);
   jobs = jobs_later s.jobs s.version sound.jobs;
   counts = counts;
+  counted = counted_put s (with_crons s n u) (CronAt k) c.meta sound.counted (cron_put s n k c u e) (omega arith) more (omega arith) uid;
+  own = own_put s (with_crons s n u) (CronAt k) c.meta sound.counted sound.own (cron_put s n k c u e) given;
 }
 
 pub cut_cron_sound : (s : Content) (n : map.FinMap place_cmp CronJob) (k : Place) → IsSound s → n ≡ map.remove s.crons k → IsSound (with_crons s n s.uids)
@@ -53,13 +70,18 @@ cut_cron_sound s n k sound e = record {
   crons = cut_holds (CronIs (s.version + 1)) s.crons n k e (crons_later s.crons s.version sound.crons);
   jobs = jobs_later s.jobs s.version sound.jobs;
   counts = let h : s.uids ≤ s.version = sound.counts in omega arith;
+  counted = counted_cut s (with_crons s n s.uids) sound.counted (cron_cut s n k s.uids e) (omega arith) (omega arith);
+  own = own_cut s (with_crons s n s.uids) sound.own (cron_cut s n k s.uids e);
 }
 
-pub put_job_sound : (s : Content) (n : map.FinMap place_cmp Job) (k : Place) (j : Job) (u : ℕ) → IsSound s → n ≡ map.insert s.jobs k j → j.key ≡ k → j.meta.generation ≤ s.version + 1 → u ≤ s.version + 1 → IsSound (with_jobs s n u)
-put_job_sound s n k j u sound e keyed dated counts = record {
+pub put_job_sound : (s : Content) (n : map.FinMap place_cmp Job) (k : Place) (j : Job) (u : ℕ) → IsSound s → n ≡ map.insert s.jobs k j → j.key ≡ k → j.meta.generation ≤ s.version + 1
+    → j.meta.version ≡ s.version + 1 → s.uids ≤ u → j.meta.uid ≤ u → u ≤ s.version + 1 → Given s (JobAt k) j.meta → IsSound (with_jobs s n u)
+put_job_sound s n k j u sound e keyed dated version more uid counts given = record {
   crons = crons_later s.crons s.version sound.crons;
   jobs = put_holds (JobIs (s.version + 1)) s.jobs n k j e (keyed, dated) (jobs_later s.jobs s.version sound.jobs);
   counts = counts;
+  counted = counted_put s (with_jobs s n u) (JobAt k) j.meta sound.counted (job_put s n k j u e) (omega arith) more (omega arith) uid;
+  own = own_put s (with_jobs s n u) (JobAt k) j.meta sound.counted sound.own (job_put s n k j u e) given;
 }
 
 pub cut_job_sound : (s : Content) (n : map.FinMap place_cmp Job) (k : Place) → IsSound s → n ≡ map.remove s.jobs k → IsSound (with_jobs s n s.uids)
@@ -67,6 +89,8 @@ cut_job_sound s n k sound e = record {
   crons = crons_later s.crons s.version sound.crons;
   jobs = cut_holds (JobIs (s.version + 1)) s.jobs n k e (jobs_later s.jobs s.version sound.jobs);
   counts = let h : s.uids ≤ s.version = sound.counts in omega arith;
+  counted = counted_cut s (with_jobs s n s.uids) sound.counted (job_cut s n k s.uids e) (omega arith) (omega arith);
+  own = own_cut s (with_jobs s n s.uids) sound.own (job_cut s n k s.uids e);
 }
 
 -- the crons of a content, whose key is told in two ways

@@ -4,13 +4,14 @@ use Rattle.std.specs.FinMap as map
 use Rattle.std.specs.Option.{option_map}
 use Rattle.cj_base.specs.declared.refusal.Refusal.{Refusal}
 use Rattle.cj_types.specs.Keys.{Place}
+use Rattle.cj_types.specs.Events.{version_of}
 use Rattle.cj_types.specs.declared.cron.CronJob.{CronJob}
 use Rattle.cj_types.specs.declared.job.Job.{Job}
 use Rattle.cj_types.specs.declared.owners.OwnerRef.{OwnerRef}
 use Rattle.cj_types.specs.declared.event.Event.{Event}
 use Rattle.cj_types.specs.declared.event.Event.TheVariants.{Added, Modified, Deleted}
 use Rattle.cj_types.specs.declared.event.Object.TheVariants as Of
-use Rattle.cj_store.specs.Content.{Content}
+use Rattle.cj_store.specs.Content.{Content, CronAt, JobAt, uid_at}
 
 -- the events of writes on either kind
 abbrev pub cron_added : CronJob → Event
@@ -49,11 +50,16 @@ after s (Deleted (Of.Job j)) = record s { jobs = map.remove s.jobs j.key; versio
 abbrev pub owners_at : Content → Place → Option (List OwnerRef)
 owners_at s key = option_map (λ job. job.owners) (map.get s.jobs key)
 
--- the content may be the one that the change was planned for: what the store's invariant asks of it
+-- a creation is of a name that isn't there, with the next uid; any other write is of the object of that key and uid,
+-- with its owners
+abbrev pub Stands : Content → Event → Type 0
+Stands s (Added (Of.Cron c)) = (map.get s.crons c.key ≡ None) × (c.meta.uid ≡ s.uids + 1) × (c.meta.generation ≡ 1)
+Stands s (Modified (Of.Cron c)) = (uid_at s (CronAt c.key) ≡ Some c.meta.uid) × (c.meta.generation ≤ s.version + 1)
+Stands s (Deleted (Of.Cron c)) = uid_at s (CronAt c.key) ≡ Some c.meta.uid
+Stands s (Added (Of.Job j)) = (map.get s.jobs j.key ≡ None) × (j.meta.uid ≡ s.uids + 1) × (j.meta.generation ≡ 1)
+Stands s (Modified (Of.Job j)) = (owners_at s j.key ≡ Some j.owners) × (uid_at s (JobAt j.key) ≡ Some j.meta.uid) × (j.meta.generation ≤ s.version + 1)
+Stands s (Deleted (Of.Job j)) = (owners_at s j.key ≡ Some j.owners) × (uid_at s (JobAt j.key) ≡ Some j.meta.uid)
+
+-- the content is the one that the change was planned for, as far as numbers tell: its version is that of the next write
 abbrev pub IsFor : Content → Event → Type 0
-IsFor s (Added (Of.Cron c)) = c.meta.generation ≤ s.version + 1
-IsFor s (Modified (Of.Cron c)) = c.meta.generation ≤ s.version + 1
-IsFor s (Deleted (Of.Cron c)) = Unit {0}
-IsFor s (Added (Of.Job j)) = (map.get s.jobs j.key ≡ None) × (j.meta.generation ≤ s.version + 1)
-IsFor s (Modified (Of.Job j)) = (owners_at s j.key ≡ Some j.owners) × (j.meta.generation ≤ s.version + 1)
-IsFor s (Deleted (Of.Job j)) = owners_at s j.key ≡ Some j.owners
+IsFor s e = (version_of e ≡ s.version + 1) × Stands s e

@@ -1,6 +1,6 @@
 ghost use Rattle.std.specs.Prelude.{◌≡◌, ◌≢◌, ◌<◌, ◌≤◌, ◌^◌, IfOk, IfErr, Ok, Err};
 ghost use Rattle.cj_base.specs.declared.refusal.Refusal.TheVariants.{OutOfMemory};
-ghost use Rattle.cj_store.specs.Change.{IsFor, cron_added, cron_modified};
+ghost use Rattle.cj_store.specs.Change.{IsFor, cron_added, cron_modified, cron_gone};
 ghost use Rattle.cj_store.specs.Crons.{new_cron, cron_created, updated_cron, cron_updated, with_status, status_set, last_cron, cron_deleted};
 
 use crate::Store;
@@ -73,7 +73,7 @@ impl Store {
         })
     }
 
-    #[tactic(auto, using(crate::proofs::Kept::updated_generation))]
+    #[tactic(auto, using(crate::proofs::Kept::updated_generation, crate::proofs::Kept::cron_uid_there))]
     pub(crate) fn cron_updated(
         &self,
         alloc: Global,
@@ -111,6 +111,7 @@ impl Store {
         })
     }
 
+    #[tactic(auto, using(crate::proofs::Kept::cron_uid_there))]
     pub(crate) fn status_set(
         &self,
         alloc: Global,
@@ -145,10 +146,12 @@ impl Store {
         self.with_status(alloc, standing, found)
     }
 
+    #[tactic(auto, using(crate::proofs::Kept::cron_uid_there))]
     pub(crate) fn cron_deleted(&self, alloc: Global, key: &Key) -> Result<CronJob, Refusal>
         requires { self.now.version < 2 ^ 40 }
         ensures ok { IfOk result (λ c. cron_deleted self.now key.now ≡ Ok c) }
         ensures err { IfErr result (λ e. e ≢ OutOfMemory → cron_deleted self.now key.now ≡ Err e) }
+        ensures planned { IfOk result (λ c. IsFor self.now (cron_gone c)) }
     {
         match self.get_cron(key) {
             Some(found) => self.last_cron(alloc, found),

@@ -104,7 +104,7 @@ impl Store {
         })
     }
 
-    #[tactic(auto, using(crate::proofs::Kept::updated_generation, crate::proofs::Kept::owners_there))]
+    #[tactic(auto, using(crate::proofs::Kept::updated_generation, crate::proofs::Kept::owners_there, crate::proofs::Kept::job_uid_there))]
     pub(crate) fn job_updated(&self, alloc: Global, draft: JobDraft) -> Result<Job, Refusal>
         requires { self.now.version < 2 ^ 40 }
         ensures ok { IfOk result (λ j. job_updated self.now draft ≡ Ok j) }
@@ -142,7 +142,7 @@ impl Store {
         })
     }
 
-    #[tactic(auto, using(crate::proofs::Kept::owners_there))]
+    #[tactic(auto, using(crate::proofs::Kept::owners_there, crate::proofs::Kept::job_uid_there))]
     pub(crate) fn job_deleted(
         &self,
         alloc: Global,
@@ -163,7 +163,7 @@ impl Store {
         self.with_outcome(alloc, found.outcome, found)
     }
 
-    #[tactic(auto, using(crate::proofs::Kept::owners_there))]
+    #[tactic(auto, using(crate::proofs::Kept::owners_there, crate::proofs::Kept::job_uid_there))]
     pub(crate) fn job_ended(
         &self,
         alloc: Global,

@@ -95,7 +95,7 @@ fn make_job(store: &mut Store, alloc: Global, ask: &Ask) -> Result<Answer, Refus
     let draft = job_draft(alloc, ask)?;
     let now = seconds(ask.now)?;
     if ask.is_planned {
-        let plan = store.plan_make_job(draft, now);
+        let plan = store.plan_make_job(alloc, draft, now);
         return Ok(commit(store, alloc, plan));
     }
     Ok(job_answer(store.make_job(alloc, draft, now)))

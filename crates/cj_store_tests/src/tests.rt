@@ -4,7 +4,7 @@ use crate::drafts::{key, one_owner, seconds};
 use crate::plain::{Kind, Model};
 use crate::told::{Answer, Plain, plain_cron, plain_job};
 use cj_store::{Store, equality_laws};
-use cj_types::{DraftMeta, Job, JobDraft, Key, Labels, Refusal, SpecText, Text};
+use cj_types::{DraftMeta, Job, JobDraft, Key, Labels, Refusal, Shared, SpecText, Text};
 use std::alloc::{AllocError, Global};
 use std::test::Fail;
 
@@ -125,7 +125,7 @@ fn delete(store: &mut Store, alloc: Global, number: u64) -> Result<(), Refusal> 
     Ok(())
 }
 
-fn rise(jobs: &[Job]) -> bool {
+fn rise(jobs: &[Shared<Job>]) -> bool {
     jobs.windows(2).all(|pair| pair[0].key < pair[1].key)
 }
 
@@ -135,7 +135,7 @@ fn listed(store: &Store, alloc: Global, number: u64) -> Result<Option<usize>, Re
     let key = Key::new(alloc, "default", cron.as_str())?;
     let jobs = store.jobs_of(alloc, &key)?;
     if rise(jobs.as_slice()) {
-        Ok(Some(jobs.len()))
+        Ok(Some(jobs.as_slice().len()))
     } else {
         Ok(None)
     }
@@ -223,9 +223,18 @@ fn is_listed(model: &Model, row: Plain) -> bool {
 fn agrees(store: &Store, alloc: Global, model: &Model) -> Result<bool, Refusal> {
     let crons = store.list_crons(alloc)?;
     let jobs = store.list_jobs(alloc)?;
-    let crons_agree = crons.iter().all(|cron| is_listed(model, plain_cron(cron)));
-    let jobs_agree = jobs.iter().all(|job| is_listed(model, plain_job(job)));
-    let count = crons.len().saturating_add(jobs.len());
+    let crons_agree = crons
+        .as_slice()
+        .iter()
+        .all(|cron| is_listed(model, plain_cron(cron)));
+    let jobs_agree = jobs
+        .as_slice()
+        .iter()
+        .all(|job| is_listed(model, plain_job(job)));
+    let count = crons
+        .as_slice()
+        .len()
+        .saturating_add(jobs.as_slice().len());
     Ok(crons_agree && jobs_agree && count == model.rows.len())
 }
 
@@ -235,8 +244,9 @@ fn owned_agree(store: &Store, alloc: Global, model: &Model, place: usize) -> Res
     let jobs = store.jobs_of(alloc, &key)?;
     let owner = place.saturating_add(2);
     let count = model.rows.iter().filter(|row| row.owner == owner).count();
+    let jobs = jobs.as_slice();
     let listed = jobs.iter().all(|job| is_listed(model, plain_job(job)));
-    Ok(listed && jobs.len() == count && rise(jobs.as_slice()))
+    Ok(listed && jobs.len() == count && rise(jobs))
 }
 
 #[test]

@@ -1,6 +1,6 @@
 use crate::ask::place_of;
 use cj_store::Change;
-use cj_types::{CronJob, Event, Job, Object, Outcome, Refusal, Seconds, Version};
+use cj_types::{CronJob, Event, Job, Object, Outcome, Refusal, Seconds, Shared, Version};
 
 // An object in numbers.
 #[derive(Clone, Copy, Debug, PartialEq, Eq)]
@@ -87,14 +87,14 @@ pub fn refused(refusal: &Refusal) -> Answer {
     }
 }
 
-pub fn cron_answer(answer: Result<CronJob, Refusal>) -> Answer {
+pub fn cron_answer(answer: Result<Shared<CronJob>, Refusal>) -> Answer {
     match answer {
         Ok(cron) => Answer::Done(plain_cron(&cron)),
         Err(refusal) => refused(&refusal),
     }
 }
 
-pub fn job_answer(answer: Result<Job, Refusal>) -> Answer {
+pub fn job_answer(answer: Result<Shared<Job>, Refusal>) -> Answer {
     match answer {
         Ok(job) => Answer::Done(plain_job(&job)),
         Err(refusal) => refused(&refusal),
@@ -116,7 +116,7 @@ fn plain_object(object: &Object) -> Plain {
 }
 
 pub fn change_answer(change: &Change) -> Answer {
-    match change {
+    match change.event() {
         Event::Added(object) => Answer::Done(plain_object(object)),
         Event::Modified(object) => Answer::Done(plain_object(object)),
         Event::Deleted(object) => Answer::Gone(plain_object(object).version),
