@@ -1,8 +1,9 @@
 // The objects of a row: the CronJob `hello` with uid 1, and Jobs that it controls, or one with uid 7.
-use crate::row::{Row, deadline, maybe_time, policy, time};
+use crate::row::{Row, deadline, limits, maybe_time, policy, time};
 use cj_types::{
-    CronJob, CronKey, CronSpec, CronStatus, HistoryLimit, Job, JobTemplate, Key, Labels, Meta,
-    Names, Outcome, OwnerRef, OwnerRefs, Refusal, Seconds, Shared, SpecText, Text, TryCopy, Uid, Version,
+    CronJob, CronKey, CronSpec, CronStatus, Job, JobTemplate, Key, Labels, Listing, Meta, Names,
+    ObjectName, Outcome, OwnerRef, OwnerRefs, Refusal, Seconds, Shared, SpecText, Text, TryCopy,
+    Uid, Version,
 };
 use cj_zone::{Zone, ZoneTable};
 use std::alloc::Global;
@@ -34,37 +35,53 @@ fn template(alloc: Global) -> Result<JobTemplate, Refusal> {
 fn spec(alloc: Global, row: &Row<'_>) -> Result<CronSpec, Refusal> {
     let policy = policy(row.policy)?;
     let starting_deadline_seconds = deadline(row.deadline)?;
+    let (successful_limit, failed_limit) = limits(row.limits)?;
     Ok(CronSpec {
         schedule: Text::new(alloc, row.schedule)?,
         time_zone: None,
         policy,
         suspend: !row.suspended.is_empty(),
         starting_deadline_seconds,
-        successful_limit: HistoryLimit::from(3),
-        failed_limit: HistoryLimit::from(1),
+        successful_limit,
+        failed_limit,
         template: template(alloc)?,
     })
 }
 
-fn status(alloc: Global, last: &str) -> Result<CronStatus, Refusal> {
+fn names(alloc: Global, text: &str) -> Result<Names, Refusal> {
+    let mut names = Names::new(alloc);
+    for name in text.split(' ') {
+        if !name.is_empty() {
+            names.push(ObjectName::new(alloc, name)?)?;
+        }
+    }
+    Ok(names)
+}
+
+fn status(alloc: Global, row: &Row<'_>) -> Result<CronStatus, Refusal> {
+    let last_successful_time = maybe_time(row.success)?;
     Ok(CronStatus {
-        active: Names::new(alloc),
-        last_schedule_time: maybe_time(last)?,
-        last_successful_time: None,
+        active: names(alloc, row.active)?,
+        last_schedule_time: maybe_time(row.last)?,
+        last_successful_time,
     })
 }
 
-pub fn cron_of(alloc: Global, row: &Row<'_>) -> Result<Option<CronJob>, Refusal> {
-    if row.schedule == "(none)" {
-        return Ok(None);
-    }
+fn cron(alloc: Global, row: &Row<'_>) -> Result<CronJob, Refusal> {
     let created = time(row.created)?;
-    Ok(Some(CronJob {
+    Ok(CronJob {
         key: CronKey::new(alloc, "default", "hello")?,
         meta: meta(alloc, 1, created)?,
         spec: Shared::new(alloc, spec(alloc, row)?)?,
-        status: status(alloc, row.last)?,
-    }))
+        status: status(alloc, row)?,
+    })
+}
+
+pub fn cron_of(alloc: Global, row: &Row<'_>) -> Result<Option<Shared<CronJob>>, Refusal> {
+    if row.schedule == "(none)" {
+        return Ok(None);
+    }
+    Ok(Some(Shared::new(alloc, cron(alloc, row)?)?))
 }
 
 fn owner(alloc: Global, count: u64) -> Result<OwnerRef, Refusal> {
@@ -112,15 +129,18 @@ fn job(
     })
 }
 
-fn job_of(alloc: Global, text: &str) -> Result<Job, Refusal> {
+fn job_of(alloc: Global, text: &str) -> Result<Shared<Job>, Refusal> {
     let parts: Vec<&str> = text.split(' ').collect(alloc)?;
     match parts.as_slice() {
-        [name, created, state, owner] => job(alloc, name, time(created)?, state, owner),
+        [name, created, state, owner] => {
+            let job = job(alloc, name, time(created)?, state, owner)?;
+            Shared::new(alloc, job)
+        }
         _ => Err(Refusal::Syntax),
     }
 }
 
-pub fn jobs_of(alloc: Global, text: &str) -> Result<Vec<Job>, Refusal> {
+pub fn jobs_of(alloc: Global, text: &str) -> Result<Listing<Shared<Job>>, Refusal> {
     let mut jobs = Vec::new(alloc);
     for part in text.split(';') {
         if !part.is_empty() {
@@ -128,10 +148,29 @@ pub fn jobs_of(alloc: Global, text: &str) -> Result<Vec<Job>, Refusal> {
                 .map_err(|_| Refusal::OutOfMemory)?;
         }
     }
-    Ok(jobs)
+    Listing::new(alloc, jobs)
 }
 
-pub fn zone_of(alloc: Global, rule: &str) -> Result<Option<Zone>, Refusal> {
+fn one_found(alloc: Global, text: &str) -> Result<Option<Shared<Job>>, Refusal> {
+    if text == "-" {
+        return Ok(None);
+    }
+    Ok(Some(job_of(alloc, text)?))
+}
+
+pub fn found_of(alloc: Global, text: &str) -> Result<Listing<Option<Shared<Job>>>, Refusal> {
+    let mut found = Vec::new(alloc);
+    for part in text.split(';') {
+        if !part.is_empty() {
+            found
+                .push(one_found(alloc, part)?)
+                .map_err(|_| Refusal::OutOfMemory)?;
+        }
+    }
+    Listing::new(alloc, found)
+}
+
+pub fn zone_of(alloc: Global, rule: &str) -> Result<Option<Shared<Zone>>, Refusal> {
     if rule == "?" {
         return Ok(None);
     }
@@ -140,5 +179,6 @@ pub fn zone_of(alloc: Global, rule: &str) -> Result<Option<Zone>, Refusal> {
         table.add_rule("rule", rule)?;
         table.set_local("rule")?;
     }
-    Ok(Some(table.default_zone().try_copy(alloc)?))
+    let zone = table.default_zone().try_copy(alloc)?;
+    Ok(Some(Shared::new(alloc, zone)?))
 }

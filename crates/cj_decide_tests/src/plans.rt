@@ -1,7 +1,7 @@
-use crate::objects::{cron_of, jobs_of, zone_of};
+use crate::objects::{cron_of, found_of, jobs_of, zone_of};
 use crate::row::{Row, time};
-use cj_decide::{Plan, Steps, decide};
-use cj_types::{Refusal, Seconds};
+use cj_decide::{Claim, Plan, Steps, decide};
+use cj_types::{CronStatus, Names, Refusal, Seconds};
 use cj_zone::time_text;
 use std::alloc::Global;
 
@@ -24,9 +24,30 @@ fn push_time(
     }
 }
 
+fn push_names(line: &mut String, names: &Names) -> Result<(), Refusal> {
+    if names.as_slice().is_empty() {
+        line.push_str(" none")?;
+    }
+    for name in names.as_slice() {
+        line.push_str(" ")?;
+        line.push_str(name.as_str())?;
+    }
+    Ok(())
+}
+
+fn push_claim(line: &mut String, alloc: Global, claim: &Option<Claim>) -> Result<(), Refusal> {
+    match claim {
+        Some(claim) => {
+            push_time(line, alloc, "claim", Some(claim.time))?;
+            line.push_str(" as")?;
+            push_names(line, &claim.status.active)
+        }
+        None => push_word(line, "claim", "none"),
+    }
+}
+
 fn push_start(line: &mut String, alloc: Global, steps: &Steps) -> Result<(), Refusal> {
-    let time = steps.claim.as_ref().map(|claim| claim.time);
-    push_time(line, alloc, "claim", time)?;
+    push_claim(line, alloc, &steps.claim)?;
     for job in steps.drop_first.as_slice() {
         push_word(line, " drop", job.key.name())?;
     }
@@ -34,6 +55,13 @@ fn push_start(line: &mut String, alloc: Global, steps: &Steps) -> Result<(), Ref
         Some(draft) => push_word(line, " make", draft.key.name()),
         None => push_word(line, " make", "none"),
     }
+}
+
+fn push_status(line: &mut String, alloc: Global, status: &CronStatus) -> Result<(), Refusal> {
+    line.push_str(" status")?;
+    push_names(line, &status.active)?;
+    push_time(line, alloc, " last", status.last_schedule_time)?;
+    push_time(line, alloc, " success", status.last_successful_time)
 }
 
 fn push_end(line: &mut String, alloc: Global, steps: &Steps) -> Result<(), Refusal> {
@@ -50,18 +78,22 @@ fn line_of(alloc: Global, steps: &Steps) -> Result<String, Refusal> {
     let mut line = String::new(alloc);
     push_start(&mut line, alloc, steps)?;
     push_end(&mut line, alloc, steps)?;
+    if let Some(status) = &steps.status {
+        push_status(&mut line, alloc, status)?;
+    }
     Ok(line)
 }
 
-fn plan_of(alloc: Global, row: &Row<'_>) -> Result<Plan, Refusal> {
+/// The plan of what a row says.
+pub fn plan_of(alloc: Global, row: &Row<'_>) -> Result<Plan, Refusal> {
     let cron = cron_of(alloc, row)?;
     let jobs = jobs_of(alloc, row.jobs)?;
+    let found = found_of(alloc, row.found)?;
     let zone = zone_of(alloc, row.zone)?;
-    decide(alloc, cron, jobs, time(row.now)?, zone)
+    decide(alloc, cron, jobs, found, time(row.now)?, zone)
 }
 
-/// The plan of what a row says, in one line.
-pub fn answer(alloc: Global, row: &Row<'_>) -> Result<String, Refusal> {
-    let plan = plan_of(alloc, row)?;
+/// The plan in one line.
+pub fn answer(alloc: Global, plan: &Plan) -> Result<String, Refusal> {
     line_of(alloc, plan.steps())
 }

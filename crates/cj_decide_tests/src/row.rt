@@ -1,4 +1,4 @@
-use cj_types::{Deadline, Policy, Refusal, Seconds};
+use cj_types::{Deadline, HistoryLimit, Policy, Refusal, Seconds};
 use cj_zone::read_time;
 use std::alloc::Global;
 
@@ -10,10 +10,14 @@ pub struct Row<'a> {
     pub policy: &'a str,
     pub suspended: &'a str,
     pub deadline: &'a str,
+    pub limits: &'a str,
     pub created: &'a str,
     pub last: &'a str,
+    pub success: &'a str,
+    pub active: &'a str,
     pub now: &'a str,
     pub jobs: &'a str,
+    pub found: &'a str,
     pub plan: &'a str,
 }
 
@@ -27,10 +31,14 @@ pub fn row_of<'a>(alloc: Global, line: &'a str) -> Result<Row<'a>, Refusal> {
             policy,
             suspended,
             deadline,
+            limits,
             created,
             last,
+            success,
+            active,
             now,
             jobs,
+            found,
             plan,
         ] => Ok(Row {
             schedule,
@@ -38,10 +46,14 @@ pub fn row_of<'a>(alloc: Global, line: &'a str) -> Result<Row<'a>, Refusal> {
             policy,
             suspended,
             deadline,
+            limits,
             created,
             last,
+            success,
+            active,
             now,
             jobs,
+            found,
             plan,
         }),
         _ => Err(Refusal::Syntax),
@@ -76,5 +88,20 @@ pub fn policy(text: &str) -> Result<Policy, Refusal> {
         "Forbid" => Ok(Policy::Forbid),
         "Replace" => Ok(Policy::Replace),
         _ => Err(Refusal::Syntax),
+    }
+}
+
+fn limit(text: &str) -> Result<HistoryLimit, Refusal> {
+    match text.parse::<u16>() {
+        Ok(count) => Ok(HistoryLimit::from(count)),
+        Err(_) => Err(Refusal::Syntax),
+    }
+}
+
+/// How many Jobs that ended with success are kept, and how many that failed.
+pub fn limits(text: &str) -> Result<(HistoryLimit, HistoryLimit), Refusal> {
+    match text.split_once(' ') {
+        Some((successful, failed)) => Ok((limit(successful)?, limit(failed)?)),
+        None => Err(Refusal::Syntax),
     }
 }

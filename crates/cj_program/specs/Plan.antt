@@ -7,7 +7,7 @@ use Rattle.cj_zone.specs.declared.zone.Zone.{Zone}
 use Rattle.cj_zone.specs.Table.{zones_of}
 use Rattle.cj_zone.specs.TimeText.{time_text_of}
 use Rattle.cj_zone.specs.Zones.{utc_zone, zone_named}
-use Rattle.cj_decide.specs.declared.running.JobRef.{JobRef}
+use Rattle.cj_status.specs.declared.refs.JobRef.{JobRef}
 use Rattle.cj_decide.specs.declared.steps.Steps.{Steps}
 use Rattle.cj_decide.specs.Decision.{IsPlan}
 use Rattle.cj_scenario.specs.declared.fault.SceneFault.{SceneFault}
@@ -74,12 +74,12 @@ pub record RefusesScene (bytes : List ℕ) (o : Outcome) : Type 0 where
   pub told : fault ≢ Why.Memory
   pub answer : o ≡ refusal (scene_line fault)
 
--- the lines of the one plan of the CronJob, its Jobs, the moment and its zone
+-- the lines of the one plan of the CronJob, its Jobs, those of them that run, the moment and its zone
 pub record PrintsPlan (bytes : List ℕ) (now : ℕ) (o : Outcome) : Type 0 where
   pub scene : Scene
   pub said : IsScene bytes scene
   pub steps : Steps
-  pub decided : IsPlan (Some scene.cron) scene.jobs.items now (zone_for scene.cron.spec.time_zone (zones_of scene.zones)) steps
+  pub decided : IsPlan (Some scene.cron) scene.jobs scene.active now (zone_for scene.cron.spec.time_zone (zones_of scene.zones)) steps
   pub answer : o ≡ done (plan_lines steps)
 
 -- what the bytes of a scenario are answered

@@ -16,7 +16,7 @@ use crate::plan_text::plan_text;
 use crate::request::PlanRequest;
 use cj_decide::{Plan, Steps, decide};
 use cj_scenario::{Scene, SceneFault, read_scene};
-use cj_types::{FieldFault, Seconds, Text, TryCopy};
+use cj_types::{FieldFault, Seconds, Shared, Text, TryCopy};
 use cj_zone::{Zone, ZoneTable, read_time};
 use std::alloc::{AllocError, Global};
 use std::io::Read;
@@ -33,23 +33,32 @@ fn zone_of<'t>(zones: &'t ZoneTable, name: &Option<Text>) -> Option<&'t Zone>
 }
 
 // A copy of that zone.
-fn zone_copy(alloc: Global, zones: &ZoneTable, name: &Option<Text>) -> Result<Option<Zone>, Failure>
+fn zone_copy(
+    alloc: Global,
+    zones: &ZoneTable,
+    name: &Option<Text>,
+) -> Result<Option<Shared<Zone>>, Failure>
     requires { local_zone zones.now ≡ Some (utc_zone (codes "UTC")) }
     ensures { IfOk result (λ z. z ≡ zone_for name.now (zones_of zones.now)) }
 {
     match zone_of(zones, name) {
-        Some(zone) => Ok(Some(zone.try_copy(alloc)?)),
+        Some(zone) => Ok(Some(Shared::new(alloc, zone.try_copy(alloc)?)?)),
         None => Ok(None),
     }
 }
 
 fn plan_of(alloc: Global, scene: Scene, now: Seconds) -> Result<Plan, Failure>
     requires { local_zone scene.zones ≡ Some (utc_zone (codes "UTC")) }
-    ensures { IfOk result (λ p. IsPlan (Some scene.cron) scene.jobs.items now (zone_for scene.cron.spec.time_zone (zones_of scene.zones)) p.steps) }
+    ensures { IfOk result (λ p. IsPlan (Some scene.cron) scene.jobs scene.active now (zone_for scene.cron.spec.time_zone (zones_of scene.zones)) p.steps) }
 {
-    let Scene { zones, cron, jobs } = scene;
-    let zone = zone_copy(alloc, &zones, &cron.spec.time_zone)?;
-    Ok(decide(alloc, Some(cron), jobs, now, zone)?)
+    let Scene {
+        zones,
+        cron,
+        jobs,
+        active,
+    } = scene;
+    let zone = zone_copy(alloc, &zones, &cron.get().spec.get().time_zone)?;
+    Ok(decide(alloc, Some(cron), jobs, active, now, zone)?)
 }
 
 fn printed(alloc: Global, steps: &Steps) -> Result<Answer, Failure>

@@ -48,7 +48,7 @@ clock_read rule (By.Table file) h none = h
 pub no_rule : (zones others more : List Zone) (name rule : List ℕ) → names_of others ≡ names_of zones
     → (is_refused_name zones name ≡ true) ⊎ IsNone (read_whole rule) → AddsRule others name rule more → ⊥
 no_rule zones others more name rule e (inl refused) adds = absurd (cc (refused, adds.free, refused_alike name zones others e))
-no_rule zones others more name rule e (inr none) adds = clock_read rule adds.zone.rules adds.clock none
+no_rule zones others more name rule e (inr none) adds = clock_read rule adds.clock.rules adds.clock.clock none
 
 names_append : (zones : List Zone) (z : Zone) → names_of (zones ++ z ∷ []) ≡ names_of zones ++ z.name ∷ []
 names_append [] z = refl

@@ -1,3 +1,4 @@
 pub mod Scenes
 pub mod Parts
+pub mod Live
 pub mod Made

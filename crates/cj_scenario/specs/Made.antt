@@ -18,6 +18,7 @@ use Rattle.cj_scenario.specs.declared.fault.SceneFault.{SceneFault}
 use Rattle.cj_scenario.specs.declared.fault.SceneFault.TheVariants.{Form as FormFault, Manifest, Memory, Syntax}
 use Rattle.cj_scenario.specs.declared.given.GivenJob.{GivenJob}
 use Rattle.cj_scenario.specs.declared.scene.Scene.{Scene}
+use Rattle.cj_scenario.specs.Live.{live_jobs, names_of}
 use Rattle.cj_scenario.specs.Scenes.{Form, IsForm, IsNoForm}
 
 -- ---- objects
@@ -40,6 +41,19 @@ scene_cron draft created last = record {
   meta = fresh_meta 1 created draft.meta;
   spec = draft.spec;
   status = record { active = []; last_schedule_time = last; last_successful_time = None };
+}
+
+-- with these names of Jobs that run
+abbrev pub with_active : CronJob → List (List ℕ) → CronJob
+with_active cron names = record {
+  key = cron.key;
+  meta = cron.meta;
+  spec = cron.spec;
+  status = record {
+    active = names;
+    last_schedule_time = cron.status.last_schedule_time;
+    last_successful_time = cron.status.last_successful_time;
+  };
 }
 
 -- no two Jobs have one minute, and none the CronJob's count
@@ -69,8 +83,9 @@ pub record Says (d : Data) (s : Scene) : Type 0 where
   pub drafted : cron_draft form.manifest ≡ Some draft
   pub zones : zones_of s.zones ≡ form.zones
   pub local : local_zone s.zones ≡ Some (utc_zone (codes "UTC"))
-  pub cron : s.cron ≡ scene_cron draft form.created form.last
-  pub jobs : s.jobs.items ≡ map (scene_job s.cron) form.jobs
+  pub cron : s.cron ≡ with_active (scene_cron draft form.created form.last) (names_of (live_jobs s.jobs))
+  pub jobs : s.jobs ≡ map (scene_job s.cron) form.jobs
+  pub active : s.active ≡ map (λ job. Some job) (live_jobs s.jobs)
 
 -- what the bytes of a scenario say
 abbrev pub IsScene : List ℕ → Scene → Type 0

@@ -9,7 +9,7 @@ use Rattle.cj_types.specs.declared.policy.Outcome.{Outcome}
 use Rattle.cj_types.specs.declared.policy.Outcome.TheVariants.{Complete, Failed}
 use Rattle.cj_zone.specs.declared.source.Source.TheVariants.{Rule}
 use Rattle.cj_zone.specs.declared.zone.Zone.{Zone}
-use Rattle.cj_zone.specs.Made.{IsClockOf}
+use Rattle.cj_zone.specs.Made.{IsMade}
 use Rattle.cj_zone.specs.TimeText.{time_text_of}
 use Rattle.cj_zone.specs.Zones.{is_refused_name, utc_zone}
 use Rattle.cj_manifest.specs.Members.{present, unless_null}
@@ -48,7 +48,7 @@ pub record AddsRule (zones : List Zone) (name rule : List ℕ) (more : List Zone
   pub free : is_refused_name zones name ≡ false
   pub name_is : zone.name ≡ name
   pub source_is : zone.source ≡ Rule rule
-  pub clock : IsClockOf (Rule rule) zone.rules
+  pub clock : IsMade (Rule rule)
 
 -- a rule is a text
 abbrev pub AddsText : List Zone → List ℕ → Option (List ℕ) → List Zone → Type 0

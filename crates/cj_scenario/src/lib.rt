@@ -4,6 +4,7 @@
 mod fault;
 mod form;
 mod given;
+mod live;
 mod made;
 mod read;
 mod scene;

@@ -7,7 +7,8 @@ ghost use Rattle.cj_scenario.specs.declared.fault.SceneFault.TheVariants.{Memory
 use crate::fault::SceneFault;
 use crate::given::GivenJob;
 use cj_types::{
-    CronJob, CronJobDraft, CronStatus, DraftMeta, Job, JobDraft, Meta, Names, Seconds, Uid, Version,
+    CronJob, CronJobDraft, CronStatus, DraftMeta, Job, JobDraft, Meta, Names, Seconds, Shared, Uid,
+    Version,
 };
 use cj_zone::time_text;
 use std::alloc::Global;
@@ -82,14 +83,36 @@ pub(crate) fn scene_jobs(
     alloc: Global,
     cron: &CronJob,
     given: &[GivenJob],
-) -> Result<Vec<Job>, SceneFault>
+) -> Result<Vec<Shared<Job>>, SceneFault>
     ensures ok { IfOk result (λ jobs. jobs.items ≡ map (made.scene_job cron.now) given.now) }
     ensures err { IfErr result (λ e. e ≡ Memory) }
 {
     let mut jobs = Vec::new(alloc);
     for job in given {
-        jobs.push(scene_job(alloc, cron, *job)?)
-            .map_err(|_| SceneFault::Memory)?;
+        let job = Shared::new(alloc, scene_job(alloc, cron, *job)?)?;
+        jobs.push(job).map_err(|_| SceneFault::Memory)?;
     }
     Ok(jobs)
+}
+
+/// The CronJob with these names of Jobs that run.
+pub(crate) fn with_active(cron: CronJob, active: Names) -> CronJob
+    ensures { result ≡ made.with_active cron active }
+{
+    let CronJob {
+        key,
+        meta,
+        spec,
+        status,
+    } = cron;
+    CronJob {
+        key,
+        meta,
+        spec,
+        status: CronStatus {
+            active,
+            last_schedule_time: status.last_schedule_time,
+            last_successful_time: status.last_successful_time,
+        },
+    }
 }

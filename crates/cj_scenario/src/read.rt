@@ -13,10 +13,11 @@ ghost use Rattle.cj_scenario.specs.declared.fault.SceneFault.TheVariants.{Memory
 
 use crate::fault::SceneFault;
 use crate::form::parts_of;
-use crate::made::{scene_cron, scene_jobs};
+use crate::live::{found_of, live_jobs, names_of};
+use crate::made::{scene_cron, scene_jobs, with_active};
 use crate::scene::Scene;
 use cj_manifest::cron_of;
-use cj_types::{CronJobDraft, Refusal};
+use cj_types::{CronJobDraft, Listing, Refusal, Shared};
 use cj_zone::ZoneTable;
 use serde_json::Value;
 use std::alloc::Global;
@@ -70,10 +71,14 @@ fn scene_of(alloc: Global, value: &Value) -> Result<Scene, SceneFault>
     let draft = draft_of(alloc, parts.manifest, &parts.zones)?;
     let cron = scene_cron(alloc, draft, parts.created, parts.last);
     let jobs = scene_jobs(alloc, &cron, parts.jobs.as_slice())?;
+    let live = live_jobs(alloc, jobs.as_slice())?;
+    let cron = with_active(cron, names_of(alloc, live.as_slice())?);
+    let active = found_of(alloc, live.as_slice())?;
     Ok(Scene {
         zones: parts.zones,
-        cron,
-        jobs,
+        cron: Shared::new(alloc, cron)?,
+        jobs: Listing::new(alloc, jobs)?,
+        active: Listing::new(alloc, active)?,
     })
 }
 
