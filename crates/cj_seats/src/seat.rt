@@ -1,0 +1,45 @@
+use cj_decide::Plan;
+use cj_types::{CronJob, Job, Key, Listing, Refusal, Shared, TryCopy, Version};
+use std::alloc::Global;
+
+/// A plan that was claimed, and how far it has come.
+#[derive(Drop)]
+pub struct Work {
+    pub plan: Shared<Plan>,
+    /// The version that the claim wrote, or the one that was seen where nothing was claimed.
+    pub version: Version,
+    /// How many of the plan's steps are made.
+    pub place: usize,
+}
+
+/// How far a worker's sync has come, with the answers that it got.
+#[derive(Drop)]
+pub enum Phase {
+    /// The key is taken.
+    Held,
+    /// The CronJob is seen, if it stands.
+    Seen(Option<Shared<CronJob>>),
+    /// Its Jobs are listed too.
+    Listed(Option<Shared<CronJob>>, Listing<Shared<Job>>),
+    /// And what its active names are by now.
+    Checked(Option<Shared<CronJob>>, Listing<Shared<Job>>, Listing<Option<Shared<Job>>>),
+    /// A plan that rests on the three is claimed.
+    Works(Work),
+}
+
+/// The key that a worker holds, and how far its sync has come. A worker that holds none has no seat.
+#[derive(Drop)]
+pub struct Seat {
+    pub key: Key,
+    pub phase: Phase,
+}
+
+impl TryCopy for Work {
+    fn try_copy(&self, alloc: Global) -> Result<Work, Refusal> {
+        Ok(Work {
+            plan: self.plan.try_copy(alloc)?,
+            version: self.version,
+            place: self.place,
+        })
+    }
+}
