@@ -1,0 +1,8 @@
+use Rattle.cj_store_laws.proofs.Answered.{cron_answers, job_answers}
+use Rattle.cj_store_laws.proofs.answers.answer_laws.Goals as goal
+
+pub returns-clause-crons : goal.returns-clause-crons
+returns-clause-crons c = cron_answers
+
+pub returns-clause-jobs : goal.returns-clause-jobs
+returns-clause-jobs c = job_answers

@@ -1,0 +1,5 @@
+use Rattle.cj_store_laws.proofs.Written.{events_write}
+use Rattle.cj_store_laws.proofs.events.event_laws.Goals as goal
+
+pub returns : goal.returns
+returns c = events_write

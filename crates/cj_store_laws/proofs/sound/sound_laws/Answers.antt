@@ -1,0 +1,11 @@
+use Rattle.cj_store_laws.proofs.Planned.{begins_sound, stays_sound, plans_sound}
+use Rattle.cj_store_laws.proofs.sound.sound_laws.Goals as goal
+
+pub returns-clause-begins : goal.returns-clause-begins
+returns-clause-begins c = begins_sound
+
+pub returns-clause-stays : goal.returns-clause-stays
+returns-clause-stays c = stays_sound
+
+pub returns-clause-planned : goal.returns-clause-planned
+returns-clause-planned c = plans_sound
