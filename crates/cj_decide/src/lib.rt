@@ -1,6 +1,7 @@
 //! What a sync of a CronJob does: one plan for what was read.
 #![tactic(auto)]
 
+mod existence;
 mod finally;
 mod plan;
 mod start;
@@ -9,6 +10,7 @@ mod times;
 mod verdict;
 
 pub use cj_status::{JobRef, JobRefs};
+pub use existence::plan_exists;
 pub use plan::{Plan, decide};
 pub use start::Claim;
 pub use steps::Steps;

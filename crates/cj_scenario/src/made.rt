@@ -78,6 +78,14 @@ fn scene_job(alloc: Global, cron: &CronJob, given: GivenJob) -> Result<Job, Scen
     })
 }
 
+fn shared_job(alloc: Global, cron: &CronJob, given: GivenJob) -> Result<Shared<Job>, SceneFault>
+    ensures ok { IfOk result (λ j. j ≡ made.scene_job cron.now given) }
+    ensures err { IfErr result (λ e. e ≡ Memory) }
+{
+    let job = scene_job(alloc, cron, given)?;
+    Ok(Shared::new(alloc, job)?)
+}
+
 /// The Jobs that the CronJob made, as they are given.
 pub(crate) fn scene_jobs(
     alloc: Global,
@@ -89,8 +97,8 @@ pub(crate) fn scene_jobs(
 {
     let mut jobs = Vec::new(alloc);
     for job in given {
-        let job = Shared::new(alloc, scene_job(alloc, cron, *job)?)?;
-        jobs.push(job).map_err(|_| SceneFault::Memory)?;
+        jobs.push(shared_job(alloc, cron, *job)?)
+            .map_err(|_| SceneFault::Memory)?;
     }
     Ok(jobs)
 }

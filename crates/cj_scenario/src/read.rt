@@ -1,5 +1,5 @@
 // Reading a scenario's bytes.
-ghost use Rattle.std.specs.Prelude.{◌≡◌, ◌⊎◌, ◌≤◌, [], ◌∷◌, IfOk, IfErr, Some, List};
+ghost use Rattle.std.specs.Prelude.{◌≡◌, ◌⊎◌, ◌≤◌, [], ◌∷◌, IfOk, IfErr, Some, List, map};
 ghost use Rattle.serde_json.specs.Data.{depth};
 ghost use Rattle.serde_json.specs.Read.{max_depth};
 ghost use Rattle.serde_json.specs.View.{view};
@@ -8,7 +8,8 @@ ghost use Rattle.cj_zone.specs.Table.{zones_of};
 ghost use Rattle.cj_manifest.specs.Drafts as said;
 ghost use Rattle.cj_manifest.specs.Faults as table;
 ghost use Rattle.cj_manifest.specs.Reading.{HasFaults, IsNoValue, Reads};
-ghost use Rattle.cj_scenario.specs.Made.{IsScene, IsFirst, IsRefusedScene, IsRefusedValue, Says};
+ghost use Rattle.cj_scenario.specs.Live.{live_jobs, names_of};
+ghost use Rattle.cj_scenario.specs.Made.{with_active, IsScene, IsFirst, IsRefusedScene, IsRefusedValue, Says};
 ghost use Rattle.cj_scenario.specs.declared.fault.SceneFault.TheVariants.{Memory, Syntax};
 
 use crate::fault::SceneFault;
@@ -17,7 +18,7 @@ use crate::live::{found_of, live_jobs, names_of};
 use crate::made::{scene_cron, scene_jobs, with_active};
 use crate::scene::Scene;
 use cj_manifest::cron_of;
-use cj_types::{CronJobDraft, Listing, Refusal, Shared};
+use cj_types::{CronJob, CronJobDraft, Job, Listing, Refusal, Shared};
 use cj_zone::ZoneTable;
 use serde_json::Value;
 use std::alloc::Global;
@@ -61,6 +62,33 @@ fn draft_of(alloc: Global, manifest: &Value, zones: &ZoneTable) -> Result<CronJo
     }
 }
 
+// The scene of a CronJob that names none of its Jobs yet, and these Jobs.
+fn scene_with(
+    alloc: Global,
+    zones: ZoneTable,
+    cron: CronJob,
+    jobs: Vec<Shared<Job>>,
+) -> Result<Scene, SceneFault>
+    ensures zones { IfOk result (λ s. s.zones ≡ zones) }
+    ensures cron { IfOk result (λ s. s.cron ≡ with_active cron (names_of (live_jobs jobs.items))) }
+    ensures jobs { IfOk result (λ s. s.jobs ≡ jobs.items) }
+    ensures active { IfOk result (λ s. s.active ≡ map (λ job. Some job) (live_jobs jobs.items)) }
+    ensures err { IfErr result (λ e. e ≡ Memory) }
+{
+    let live = live_jobs(alloc, jobs.as_slice())?;
+    let names = names_of(alloc, live.as_slice())?;
+    let found = found_of(alloc, live.as_slice())?;
+    let cron = Shared::new(alloc, with_active(cron, names))?;
+    let active = Listing::new(alloc, found)?;
+    let jobs = Listing::new(alloc, jobs)?;
+    Ok(Scene {
+        zones,
+        cron,
+        jobs,
+        active,
+    })
+}
+
 // What the value says.
 fn scene_of(alloc: Global, value: &Value) -> Result<Scene, SceneFault>
     requires flat { depth (view value.now) ≤ max_depth }
@@ -71,15 +99,8 @@ fn scene_of(alloc: Global, value: &Value) -> Result<Scene, SceneFault>
     let draft = draft_of(alloc, parts.manifest, &parts.zones)?;
     let cron = scene_cron(alloc, draft, parts.created, parts.last);
     let jobs = scene_jobs(alloc, &cron, parts.jobs.as_slice())?;
-    let live = live_jobs(alloc, jobs.as_slice())?;
-    let cron = with_active(cron, names_of(alloc, live.as_slice())?);
-    let active = found_of(alloc, live.as_slice())?;
-    Ok(Scene {
-        zones: parts.zones,
-        cron: Shared::new(alloc, cron)?,
-        jobs: Listing::new(alloc, jobs)?,
-        active: Listing::new(alloc, active)?,
-    })
+    let scene = scene_with(alloc, parts.zones, cron, jobs)?;
+    Ok(scene)
 }
 
 /// Reads a scenario for a plan: a JSON object with `manifest`, a CronJob's; `created`, the time of its creation; `last`, its last

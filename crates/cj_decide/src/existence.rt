@@ -1,0 +1,33 @@
+// There is a plan for every input.
+ghost use Rattle.std.specs.Prelude.{Some, true, false, option_copied};
+ghost use Rattle.cj_decide.specs.declared.steps.Steps.{Steps};
+ghost use Rattle.cj_decide.specs.Decision.{IsPlan};
+ghost use Rattle.cj_decide.specs.Verdicts.{IsVerdict};
+
+use crate::verdict::{Verdict, judge};
+use cj_types::{CronJob, Job, Seconds, Shared};
+use cj_zone::Zone;
+
+// The verdict where a Job of the CronJob runs, and where none does.
+fn verdicts(cron: &CronJob, zone: Option<&Zone>, now: Seconds) -> (Verdict, Verdict)
+    ensures busy { IsVerdict cron.now (option_copied zone.entry) true now result.0 }
+    ensures idle { IsVerdict cron.now (option_copied zone.entry) false now result.1 }
+{
+    let busy = judge(cron, zone, true, now);
+    let idle = judge(cron, zone, false, now);
+    (busy, idle)
+}
+
+/// Every CronJob has a plan, whatever is listed and found, at every moment, and whether its zone is known or not: there are steps that
+/// are the plan. (Without a CronJob the plan is named by its definition.)
+pub fn plan_exists(
+    cron: &CronJob,
+    jobs: &[Shared<Job>],
+    found: &[Option<Shared<Job>>],
+    now: Seconds,
+    zone: Option<&Zone>,
+)
+    ensures { (steps : Steps) × IsPlan (Some cron.now) jobs.now found.now now (option_copied zone.entry) steps }
+{
+    let _verdicts = verdicts(cron, zone, now);
+}
