@@ -15,11 +15,15 @@ abbrev pub side : List ℕ → ℕ → List ℕ → List ℕ → List ℕ
 side word status printed said =
     (word ++ (codes ": status " ++ (decimal status ++ codes ", standard output:\n"))) ++ printed ++ codes "standard error:\n" ++ said
 
--- `FILE:LINE: differs`, with what was wanted and what was got
-abbrev pub difference : List ℕ → ℕ → Stated → Given → List ℕ
-difference file line r g =
-    (file ++ (codes ":" ++ (decimal line ++ codes ": differs\n")))
-    ++ side (codes "wanted") r.status r.stdout r.stderr ++ side (codes "got") g.status g.printed g.said
+-- `FILE:LINE: differs`
+abbrev pub place_line : List ℕ → ℕ → List ℕ
+place_line file line = file ++ (codes ":" ++ (decimal line ++ codes ": differs\n"))
+
+-- a report with one difference more: its place, what was wanted and what was got
+abbrev pub reported : List ℕ → List ℕ → ℕ → Stated → Given → List ℕ
+reported report file line r g =
+    report ++ place_line file line ++ side (codes "wanted") r.status r.stdout r.stderr
+    ++ side (codes "got") g.status g.printed g.said
 
 -- how many rows ran, how many of them differed, and what is reported of these
 pub record Count : Type 0 where
@@ -35,7 +39,7 @@ abbrev pub AddsRun : List ℕ → ℕ → Stated → Given → Count → Count �
 AddsRun file line r g old new =
     (IsWanted r g × (new ≡ record old { ran = old.ran + 1 }))
     ⊎ (¬ (IsWanted r g)
-    × (new ≡ record { ran = old.ran + 1; differed = old.differed + 1; report = old.report ++ difference file line r g }))
+    × (new ≡ record { ran = old.ran + 1; differed = old.differed + 1; report = reported old.report file line r g }))
 
 -- a row is run on what it says, and its run is counted
 pub record AddsRow (file : List ℕ) (line : ℕ) (text : List ℕ) (old new : Count) : Type 0 where

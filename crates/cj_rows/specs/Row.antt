@@ -1,6 +1,6 @@
 -- A row: one JSON object (RFC 8259) on a line, with the words and the input that the program is given, and the standard output, the
 -- standard error and the status that are wanted of it.
-use Rattle.std.specs.Prelude.{◌≡◌, ◌⊎◌, ℕ, ◌≤◌, ◌==◌, List, [], ◌∷◌, map, codes, Bool, false, not, length, option_map, Option, Some, None, option_and_then}
+use Rattle.std.specs.Prelude.{◌≡◌, ◌⊎◌, ℕ, ◌≤◌, ◌==◌, List, [], ◌∷◌, ◌++◌, map, codes, Bool, false, not, option_map, Option, Some, None, option_and_then}
 use Rattle.std.specs.List.{filter}
 use Rattle.serde_json.specs.Data.{Data, Items, no_items, item}
 use Rattle.serde_json.specs.Find.{as_array, as_number, as_str, as_u64, get}
@@ -30,6 +30,10 @@ stated_of r = record {
 abbrev pub texts_in : Items → Option (List (List ℕ))
 texts_in no_items = Some []
 texts_in (item d ds) = option_and_then (λ text. option_map (λ texts. text ∷ texts) (texts_in ds)) (as_str d)
+
+-- one text more, at the end
+abbrev pub AddsWord : List (List ℕ) → Data → List (List ℕ) → Type 0
+AddsWord words d more = (text : List ℕ) × (as_str d ≡ Some text) × (more ≡ words ++ text ∷ [])
 
 abbrev pub text_at : List ℕ → Data → Option (List ℕ)
 text_at name d = option_and_then as_str (get name d)

@@ -17,30 +17,37 @@ pub record Given : Type 0 where
 abbrev pub given_of : Seen → Given
 given_of s = record { status = s.status; printed = s.printed.items; said = s.said.items }
 
--- the words, the program's name first, are a request that reads no file by its name, and this is its outcome on that input
-pub record IsServed (words : List (List ℕ)) (input : List ℕ) (g : Given) : Type 0 where
-  pub request : Request
-  pub of : IsOf words request
-  pub file : (file_of request ≡ None) ⊎ (file_of request ≡ Some (codes "-"))
+-- an outcome of the request on that input
+pub record IsOutcomeOf (request : Request) (input : List ℕ) (g : Given) : Type 0 where
   pub outcome : Outcome
   pub answer : IsOutcome request (Some input) outcome
   pub status : g.status ≡ status_of outcome.verdict
   pub printed : g.printed ≡ outcome.printed
   pub said : g.said ≡ outcome.said
 
--- the words are refused, and this is told
-pub record IsTold (words : List (List ℕ)) (g : Given) : Type 0 where
-  pub fault : WordFault
-  pub refused : RefusesWords words fault
+-- the request reads no file by its name, and a status below 3 comes with its outcome
+pub record IsAnswered (request : Request) (input : List ℕ) (g : Given) : Type 0 where
+  pub file : (file_of request ≡ None) ⊎ (file_of request ≡ Some (codes "-"))
+  pub outcome : g.status < 3 → IsOutcomeOf request input g
+
+-- what is told of words that are no request
+pub record IsTelling (fault : WordFault) (g : Given) : Type 0 where
   pub telling : Telling
   pub tells : Tells fault telling
   pub status : g.status ≡ telling.status
   pub printed : g.printed ≡ telling.printed
   pub said : g.said ≡ telling.said
 
--- a status below 3 comes with the program's own answer to the words, its name first
-abbrev pub IsRunOf : List (List ℕ) → List ℕ → Given → Type 0
-IsRunOf words input g = g.status < 3 → IsServed words input g ⊎ IsTold words g
+-- a status below 3 comes with it
+abbrev pub IsToldOf : WordFault → Given → Type 0
+IsToldOf fault g = g.status < 3 → IsTelling fault g
 
+-- the words, the program's name first, are a request that is answered so, or are refused and that is told
+abbrev pub IsRunOf : List (List ℕ) → List ℕ → Given → Type 0
+IsRunOf words input g =
+    ((request : Request) × IsOf words request × IsAnswered request input g)
+    ⊎ ((fault : WordFault) × RefusesWords words fault × IsToldOf fault g)
+
+-- the same of a row's words
 abbrev pub IsRun : List (List ℕ) → List ℕ → Given → Type 0
 IsRun words input g = IsRunOf (codes "cronsim" ∷ words) input g

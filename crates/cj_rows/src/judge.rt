@@ -64,17 +64,13 @@ fn is_comment_line(text: &str) -> bool
 }
 
 // Judges lines one after another, the first of them with number 1.
-fn judge_lines(
-    alloc: Global,
-    tally: &mut Tally,
-    file: &str,
-    lines: &[&str],
-) -> Result<(), Misread>
-    ensures { OnOk result (AddsLines file.now 1 (map (λ s. s.now) lines.now) (count_of tally.old) (count_of tally.new)) }
+fn judge_lines(alloc: Global, tally: &mut Tally, file: &str, lines: &[&str]) -> Result<(), Misread>
+    ensures judged { OnOk result (AddsLines file.now 1 (map (λ s. s.now) lines.now) (count_of tally.old) (count_of tally.new)) }
+    ensures all { OnOk result (tally.new.ran ≡ tally.old.ran + length (rows_in (map (λ s. s.now) lines.now))) }
 {
-    for (index, text) in lines.iter().enumerate() {
+    for index in 0..lines.len() {
         let line = index + 1;
-        if let Err(fault) = judge_line(alloc, tally, file, line, text) {
+        if let Err(fault) = judge_line(alloc, tally, file, line, lines[index]) {
             return Err(Misread { line, fault });
         }
     }
@@ -88,12 +84,7 @@ fn lines_of<'t>(alloc: Global, text: &'t str) -> Result<Vec<&'t str>, AllocError
 }
 
 /// Judges every line of a text that isn't a comment, and counts it.
-pub fn judge_text(
-    alloc: Global,
-    tally: &mut Tally,
-    file: &str,
-    text: &str,
-) -> Result<(), Misread>
+pub fn judge_text(alloc: Global, tally: &mut Tally, file: &str, text: &str) -> Result<(), Misread>
     ensures judged { OnOk result (AddsLines file.now 1 (lines_in text.now) (count_of tally.old) (count_of tally.new)) }
     ensures all { OnOk result (tally.new.ran ≡ tally.old.ran + length (rows_in (lines_in text.now))) }
 {

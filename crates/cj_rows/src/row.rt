@@ -1,8 +1,8 @@
 // Reading a row.
-ghost use Rattle.std.specs.Prelude.{◌≡◌, ◌≤◌, ℕ, None, Some, IfOk, IfErr, map, option_map, option_and_then};
-ghost use Rattle.serde_json.specs.Find.{as_array, get};
+ghost use Rattle.std.specs.Prelude.{◌≡◌, ◌≤◌, ℕ, None, Some, IfOk, IfErr, OnOk, map};
+ghost use Rattle.serde_json.specs.Find.{as_str};
 ghost use Rattle.serde_json.specs.View.{items_view, view};
-ghost use Rattle.cj_rows.specs.Row.{IsRow, Refuses, Stated, number_at, stated_of, text_at, texts_at, texts_in};
+ghost use Rattle.cj_rows.specs.Row.{AddsWord, IsRow, Refuses, Stated, number_at, stated_of, text_at, texts_at, texts_in};
 ghost use Rattle.cj_rows.specs.declared.fault.Fault.TheVariants.{Memory, NoRow};
 
 use crate::fault::Fault;
@@ -29,16 +29,25 @@ fn text<'v>(value: &'v Value, name: &str) -> Result<&'v str, Fault>
     }
 }
 
+// One word more, at the end.
+fn push_word<'v>(words: &mut Vec<&'v str>, item: &'v Value) -> Result<(), Fault>
+    ensures ok { OnOk result (AddsWord (map (λ w. w.now) words.old.items) (view item.now) (map (λ w. w.now) words.new.items)) }
+    ensures missing { IfErr result (λ e. Refuses e (as_str (view item.now) ≡ None)) }
+{
+    let Some(word) = item.as_str() else {
+        return Err(Fault::NoRow);
+    };
+    words.push(word)?;
+    Ok(())
+}
+
 fn words_of<'v>(alloc: Global, items: &'v Vec<Value>) -> Result<Vec<&'v str>, Fault>
     ensures found { IfOk result (λ v. texts_in (items_view items.now.items) ≡ Some (map (λ w. w.now) v.items)) }
     ensures missing { IfErr result (λ e. Refuses e (texts_in (items_view items.now.items) ≡ None)) }
 {
     let mut words = Vec::new(alloc);
     for item in items {
-        match item.as_str() {
-            Some(word) => words.push(word)?,
-            None => return Err(Fault::NoRow),
-        }
+        push_word(&mut words, item)?;
     }
     Ok(words)
 }

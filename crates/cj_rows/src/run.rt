@@ -2,11 +2,11 @@
 ghost use Rattle.std.specs.Prelude.{◌≡◌, ◌⊎◌, map, None, Some, IfOk, OnOk, codes};
 ghost use Rattle.cj_program.specs.Command.{file_of};
 ghost use Rattle.cj_rows.specs.Row.{stated_of};
-ghost use Rattle.cj_rows.specs.Run.{IsRun, IsRunOf, given_of};
+ghost use Rattle.cj_rows.specs.Run.{IsAnswered, IsRun, IsRunOf, IsToldOf, given_of};
 
 use crate::fault::Fault;
 use crate::row::Row;
-use cj_program::{Request, parse_words, serve, tell_fault};
+use cj_program::{Request, WordFault, parse_words, serve, tell_fault};
 use std::alloc::Global;
 
 /// What a run gave.
@@ -33,25 +33,44 @@ fn reads_input(request: &Request<'_>) -> Result<(), Fault>
     }
 }
 
-// Runs the program on these words, its own name first, and that input.
-fn run_words(alloc: Global, words: &[&str], input: &str) -> Result<Seen, Fault>
-    ensures { IfOk result (λ s. IsRunOf (map (λ w. w.now) words.entry.now) input.now (given_of s)) }
+// What a request that reads no file by its name is answered on that input.
+fn served(alloc: Global, request: &Request<'_>, input: &str) -> Result<Seen, Fault>
+    ensures { IfOk result (λ s. IsAnswered request.now input.now (given_of s)) }
 {
+    reads_input(request)?;
     let mut input: &[u8] = input.as_bytes();
     let mut printed = Vec::new(alloc);
     let mut said = Vec::new(alloc);
-    let status = match parse_words(alloc, words) {
-        Ok(request) => {
-            reads_input(&request)?;
-            serve(alloc, &request, &mut input, &mut printed, &mut said)
-        }
-        Err(fault) => tell_fault(alloc, &fault, &mut printed, &mut said),
-    };
+    let status = serve(alloc, request, &mut input, &mut printed, &mut said);
     Ok(Seen {
         status,
         printed,
         said,
     })
+}
+
+// What is told of words that are no request.
+fn told(alloc: Global, fault: &WordFault) -> Seen
+    ensures { IsToldOf fault.now (given_of result) }
+{
+    let mut printed = Vec::new(alloc);
+    let mut said = Vec::new(alloc);
+    let status = tell_fault(alloc, fault, &mut printed, &mut said);
+    Seen {
+        status,
+        printed,
+        said,
+    }
+}
+
+// Runs the program on these words, its own name first, and that input.
+fn run_words(alloc: Global, words: &[&str], input: &str) -> Result<Seen, Fault>
+    ensures { IfOk result (λ s. IsRunOf (map (λ w. w.now) words.entry.now) input.now (given_of s)) }
+{
+    match parse_words(alloc, words) {
+        Ok(request) => served(alloc, &request, input),
+        Err(fault) => Ok(told(alloc, &fault)),
+    }
 }
 
 /// Runs the program on a row's words and input.

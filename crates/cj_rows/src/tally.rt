@@ -1,6 +1,6 @@
 // Judging and counting.
-ghost use Rattle.std.specs.Prelude.{◌≡◌, ◌+◌, ◌++◌, ◌↔◌, IsTrue, IfOk, OnOk, codes, decimal, string_bytes};
-ghost use Rattle.cj_rows.specs.Judged.{AddsRun, IsWanted, count_of, difference, side};
+ghost use Rattle.std.specs.Prelude.{◌≡◌, ◌+◌, ◌++◌, ◌↔◌, IsTrue, IfOk, OnOk, codes, string_bytes};
+ghost use Rattle.cj_rows.specs.Judged.{AddsRun, IsWanted, count_of, place_line as line_at, reported, side};
 ghost use Rattle.cj_rows.specs.Row.{stated_of};
 ghost use Rattle.cj_rows.specs.Run.{given_of};
 
@@ -26,6 +26,12 @@ fn is_wanted(row: &Row<'_>, seen: &Seen) -> bool
     seen.status == row.status && is_printed && is_said
 }
 
+fn push_bytes(report: &mut Vec<u8>, bytes: &[u8]) -> Result<(), AllocError>
+    ensures { OnOk result (report.new.items ≡ report.old.items ++ bytes.now) }
+{
+    report.extend_from_slice(bytes)
+}
+
 // One of the two sides of a difference, at the end of the report.
 fn push_side(
     alloc: Global,
@@ -45,7 +51,7 @@ fn push_side(
 }
 
 fn place_line(alloc: Global, file: &str, line: usize) -> Result<String, AllocError>
-    ensures { IfOk result (λ s. string_bytes s ≡ file.now ++ (codes ":" ++ (decimal line ++ codes ": differs\n"))) }
+    ensures { IfOk result (λ s. string_bytes s ≡ line_at file.now line) }
 {
     format!(in alloc; "{file}:{line}: differs\n")
 }
@@ -59,14 +65,15 @@ fn push_difference(
     row: &Row<'_>,
     seen: &Seen,
 ) -> Result<(), AllocError>
-    ensures { OnOk result (report.new.items ≡ report.old.items ++ difference file.now line (stated_of row.now) (given_of seen.now)) }
+    ensures { OnOk result (report.new.items ≡ reported report.old.items file.now line (stated_of row.now) (given_of seen.now)) }
 {
     let place = place_line(alloc, file, line)?;
     let (stdout, stderr) = (row.stdout.as_bytes(), row.stderr.as_bytes());
     let (printed, said) = (seen.printed.as_slice(), seen.said.as_slice());
-    report.extend_from_slice(place.as_bytes())?;
+    push_bytes(report, place.as_bytes())?;
     push_side(alloc, report, "wanted", row.status, stdout, stderr)?;
-    push_side(alloc, report, "got", seen.status, printed, said)
+    push_side(alloc, report, "got", seen.status, printed, said)?;
+    Ok(())
 }
 
 fn one_more(count: u32) -> Result<u32, Fault>
