@@ -1,0 +1,7 @@
+pub mod Members
+pub mod Verdicts
+pub mod One
+pub mod Claims
+pub mod Orders
+pub mod Ends
+pub mod Fitting

@@ -1,0 +1,5 @@
+use Rattle.cj_decide_laws.proofs.Fitting.{decided_fits}
+use Rattle.cj_decide_laws.proofs.laws.fits_law.Goals as goal
+
+pub returns : goal.returns
+returns c = decided_fits

@@ -1,0 +1,6 @@
+//! The laws of plans, over the definitions alone.
+#![tactic(auto)]
+
+mod laws;
+
+pub use laws::{fits_law, plan_laws};
