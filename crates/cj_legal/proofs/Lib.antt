@@ -1,0 +1,9 @@
+pub mod Rows
+pub mod Shapes
+pub mod Follows
+pub mod Sound
+pub mod Fine
+pub mod Seatings
+pub mod Seated
+pub mod Hands
+pub mod Inputs

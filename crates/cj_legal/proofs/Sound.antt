@@ -1,0 +1,245 @@
+-- What every state of a history keeps.
+use Rattle.std.proofs.Common.{◌≡◌, ◌≢◌, ◌⊎◌, inl, inr, ⊎_elim, ℕ, ◌+◌, ◌≤◌, Bool, true, false, cond, List, [], ◌∷◌, length, refl, sym, ap, subst, ◌∙◌, arith}
+use Rattle.std.specs.Prelude.{Option, Some, None, ◌==◌}
+use Rattle.std.specs.Ordering.{nat_cmp, eq_by_cmp}
+use Rattle.std.specs.Cmp.{nat_cmp_total, eq_by_cmp_equiv}
+use Rattle.std.specs.FinMap as map
+use Rattle.std.proofs.lemmas.Bool.Decides.{nat_tests}
+use Rattle.cj_types.specs.Keys.{Place}
+use Rattle.cj_types.specs.declared.event.Event.{Event}
+use Rattle.cj_types.specs.declared.event.Event.TheVariants.{Added, Modified, Deleted}
+use Rattle.cj_types.specs.declared.event.Object.TheVariants as Kind
+use Rattle.cj_store.specs.Content.{Content}
+use Rattle.cj_store.specs.Change.{after}
+use Rattle.cj_queue.specs.Queue.{Keys, Queue, has, Row, row_add, row_adds, row_take, row_end, first}
+use Rattle.cj_calls.specs.declared.caller.Caller.{Caller}
+use Rattle.cj_calls.specs.declared.call.Call.{Call}
+use Rattle.cj_calls.specs.Rows.{Told}
+use Rattle.cj_seats.specs.declared.seat.Phase.{Phase}
+use Rattle.cj_seats.specs.declared.seat.Phase.TheVariants.{Held}
+use Rattle.cj_seats.specs.declared.seat.Seat.{Seat}
+use Rattle.cj_state.specs.declared.state.State.{State}
+use Rattle.cj_state.specs.Moves.{Moved, seat_of, seated, written}
+use Rattle.cj_state.specs.Sound.{IsSound}
+use Rattle.cj_state.specs.Readings.{fed_up}
+use Rattle.cj_state.specs.Step.{step_of}
+use Rattle.cj_state.specs.Legal.{state_of}
+use Rattle.cj_legal.proofs.Shapes.{Shape, Ends, same, sat, wrote_it, took, left_it, stored, listed, queued, shape}
+use Rattle.cj_legal.proofs.Follows.{Follows, told_of, follows_start, follows_shape}
+use Rattle.cj_legal.proofs.Rows.{RowOk, put_has, put_keeps, cut_other, add_ok, adds_ok, end_ok, take_ok, add_works, adds_works, take_works, first_free}
+
+-- ---- seats by number
+
+one_number : (q k : ℕ) → eq_by_cmp nat_cmp q k ≡ true → q ≡ k
+one_number q k e = grind (arith, nat_tests)
+
+put_case : (t : Bool) (q k : ℕ) (v : Seat) (old : Option Seat) → (t ≡ true → q ≡ k) → ((q ≡ k) × (cond t (Some v) old ≡ Some v)) ⊎ (cond t (Some v) old ≡ old)
+put_case true q k v old h = inl (h refl, refl)
+put_case false q k v old h = inr refl
+
+cut_case : (t : Bool) (q k : ℕ) (old : Option Seat) → (t ≡ true → q ≡ k) → ((q ≡ k) × (cond t None old ≡ None)) ⊎ (cond t None old ≡ old)
+cut_case true q k old h = inl (h refl, refl)
+cut_case false q k old h = inr refl
+
+module _ (m : map.FinMap nat_cmp Seat) (k : ℕ) where
+  put_seat : (v : Seat) (q : ℕ) → ((q ≡ k) × (map.get (map.insert m k v) q ≡ Some v)) ⊎ (map.get (map.insert m k v) q ≡ map.get m q)
+  put_seat v q = rw (map.get-insert nat_cmp_total m k v q) (put_case (eq_by_cmp nat_cmp q k) q k v (map.get m q) (one_number q k))
+
+  cut_seat : (q : ℕ) → ((q ≡ k) × (map.get (map.remove m k) q ≡ None)) ⊎ (map.get (map.remove m k) q ≡ map.get m q)
+  cut_seat q = rw (map.get-remove nat_cmp_total m k q) (cut_case (eq_by_cmp nat_cmp q k) q k (map.get m q) (one_number q k))
+
+the_same : {X : Type 0} (a b : X) (o p : Option X) → o ≡ Some a → p ≡ Some b → o ≡ p → a ≡ b
+the_same a b o p e f g = cc
+
+-- ---- who works on what: each seat's key is worked on, and no two seats have one key
+pub record Sat (m : map.FinMap nat_cmp Seat) (works : Keys) : Type 0 where
+  pub held : (w : ℕ) (a : Seat) → map.get m w ≡ Some a → has works a.key ≡ true
+  pub single : (v w : ℕ) (a b : Seat) → map.get m v ≡ Some a → map.get m w ≡ Some b → a.key ≡ b.key → v ≡ w
+
+-- each seat of the one has a seat of the other under its number, with its key
+abbrev Within : map.FinMap nat_cmp Seat → map.FinMap nat_cmp Seat → Type 0
+Within m n = (w : ℕ) (a : Seat) → map.get n w ≡ Some a → (b : Seat) × (map.get m w ≡ Some b) × (a.key ≡ b.key)
+
+within_sat : (m n : map.FinMap nat_cmp Seat) (works : Keys) → Within m n → Sat m works → Sat n works
+within_sat m n works h s = record {
+  held = λ w a e. let f = h w a e in ap (has works) f.2 ∙ s.held w f.0 f.1;
+  single = λ v w a b e f k. let g = h v a e in let i = h w b f in s.single v w g.0 i.0 g.1 i.1 (sym g.2 ∙ k ∙ i.2);
+}
+
+again : (m : map.FinMap nat_cmp Seat) (w : ℕ) (seat : Seat) (p : Phase) → map.get m w ≡ Some seat → Within m (map.insert m w (record { key = seat.key; phase = p }))
+again m w seat p at v a e =
+    ⊎_elim
+    (λ (i : (v ≡ w) × (map.get (map.insert m w (record { key = seat.key; phase = p })) v ≡ Some (record { key = seat.key; phase = p }))).
+    (seat, ap (map.get m) i.0 ∙ at, ap (λ x. x.key) (the_same a (record { key = seat.key; phase = p }) _ _ e i.1 refl)))
+    (λ (i : map.get (map.insert m w (record { key = seat.key; phase = p })) v ≡ map.get m v). (a, sym i ∙ e, refl))
+    (put_seat m w (record { key = seat.key; phase = p }) v)
+
+sat_again : (m : map.FinMap nat_cmp Seat) (works : Keys) (w : ℕ) (seat : Seat) (p : Phase) → map.get m w ≡ Some seat → Sat m works → Sat (map.insert m w (record { key = seat.key; phase = p })) works
+sat_again m works w seat p at s = within_sat m _ works (again m w seat p at) s
+
+-- a take
+module _ (m : map.FinMap nat_cmp Seat) (works : Keys) (w : ℕ) (k : Place) (free : has works k ≡ false) (s : Sat m works) where
+  New : map.FinMap nat_cmp Seat
+  New = map.insert m w (record { key = k; phase = Held })
+
+  abbrev Is : ℕ → Seat → Type 0
+  Is v a = ((v ≡ w) × (a.key ≡ k)) ⊎ (map.get m v ≡ Some a)
+
+  who : (v : ℕ) (a : Seat) → map.get (map.insert m w (record { key = k; phase = Held })) v ≡ Some a → Is v a
+  who v a e =
+      ⊎_elim
+      (λ (i : (v ≡ w) × (map.get (map.insert m w (record { key = k; phase = Held })) v ≡ Some (record { key = k; phase = Held }))).
+      inl (i.0, ap (λ x. x.key) (the_same a (record { key = k; phase = Held }) _ _ e i.1 refl)))
+      (λ (i : map.get (map.insert m w (record { key = k; phase = Held })) v ≡ map.get m v). inr (sym i ∙ e))
+      (put_seat m w (record { key = k; phase = Held }) v)
+
+  held_new : (v : ℕ) (a : Seat) → Is v a → has (map.insert works k tt) a.key ≡ true
+  held_new v a (inl i) = ap (has (map.insert works k tt)) i.1 ∙ put_has works k
+  held_new v a (inr i) = put_keeps works k a.key (s.held v a i)
+
+  single_new : (u v : ℕ) (a b : Seat) → Is u a → Is v b → a.key ≡ b.key → u ≡ v
+  single_new u v a b (inl i) (inl j) e = i.0 ∙ sym j.0
+  single_new u v a b (inl i) (inr j) e = absurd (cc (s.held v b j, free, ap (has works) (sym e ∙ i.1)))
+  single_new u v a b (inr i) (inl j) e = absurd (cc (s.held u a i, free, ap (has works) (e ∙ j.1)))
+  single_new u v a b (inr i) (inr j) e = s.single u v a b i j e
+
+  sat_take : Sat (map.insert m w (record { key = k; phase = Held })) (map.insert works k tt)
+  sat_take = record {
+    held = λ v a e. held_new v a (who v a e);
+    single = λ u v a b e f i. single_new u v a b (who u a e) (who v b f) i;
+  }
+
+-- an end
+module _ (m : map.FinMap nat_cmp Seat) (works : Keys) (w : ℕ) (seat : Seat) (at : map.get m w ≡ Some seat) (s : Sat m works) where
+  none_left : map.get (map.remove m w) w ≡ None
+  none_left = map.get-remove nat_cmp_total m w w ∙ ap (λ t. cond t None (map.get m w)) ((eq_by_cmp_equiv nat_cmp_total).refl w)
+
+  stays : (v : ℕ) (a : Seat) → map.get (map.remove m w) v ≡ Some a → map.get m v ≡ Some a
+  stays v a e =
+      ⊎_elim
+      (λ (i : (v ≡ w) × (map.get (map.remove m w) v ≡ None)). absurd (cc (e, i.1)))
+      (λ (i : map.get (map.remove m w) v ≡ map.get m v). sym i ∙ e)
+      (cut_seat m w v)
+
+  other : (v : ℕ) (a : Seat) → map.get (map.remove m w) v ≡ Some a → a.key ≢ seat.key
+  other v a e j =
+      let n : v ≡ w = s.single v w a seat (stays v a e) at j in
+      let o : map.get (map.remove m w) v ≡ None = ap (map.get (map.remove m w)) n ∙ none_left in
+      cc (e, o)
+
+  sat_end : Sat (map.remove m w) (map.remove works seat.key)
+  sat_end = record {
+    held = λ v a e. cut_other works seat.key a.key (other v a e) ∙ s.held v a (stays v a e);
+    single = λ u v a b e f i. s.single u v a b (stays u a e) (stays v b f) i;
+  }
+
+-- ---- the whole state
+pub record Whole (s : State) : Type 0 where
+  pub counted : s.watch.count ≡ s.store.version
+  pub row : RowOk s.queue.row
+  pub sat : Sat s.seats s.queue.row.processing
+
+after_version : (s : Content) (e : Event) → (after s e).version ≡ s.version + 1
+after_version s (Added (Kind.Cron c)) = refl
+after_version s (Added (Kind.Job j)) = refl
+after_version s (Modified (Kind.Cron c)) = refl
+after_version s (Modified (Kind.Job j)) = refl
+after_version s (Deleted (Kind.Cron c)) = refl
+after_version s (Deleted (Kind.Job j)) = refl
+
+end_row : (r : Row) (k : Place) (p : Row) → has r.processing k ≡ true → RowOk r → (p ≡ row_end r k) ⊎ (p ≡ row_add (row_end r k) k) → RowOk p
+end_row r k p h ok (inl i) = subst RowOk (sym i) (end_ok r k h ok)
+end_row r k p h ok (inr i) = subst RowOk (sym i) (add_ok (row_end r k) k (end_ok r k h ok))
+
+end_works : (r : Row) (k : Place) (p : Row) → (p ≡ row_end r k) ⊎ (p ≡ row_add (row_end r k) k) → p.processing ≡ map.remove r.processing k
+end_works r k p (inl i) = ap (λ x. x.processing) i
+end_works r k p (inr i) = ap (λ x. x.processing) i ∙ add_works (row_end r k) k
+
+pub whole_shape : (s s' : State) (w : ℕ) → Whole s → Shape s w s' → Whole s'
+whole_shape s s' w h (same e) = subst Whole (sym e) h
+whole_shape s s' w h (sat seat p at e) = subst Whole (sym e) (record {
+  counted = h.counted;
+  row = h.row;
+  sat = sat_again s.seats s.queue.row.processing w seat p at h.sat;
+})
+whole_shape s s' w h (wrote_it seat p ev at n e) = subst Whole (sym e) (record {
+  counted = ap (λ n. n + 1) h.counted ∙ sym (after_version s.store ev);
+  row = h.row;
+  sat = sat_again s.seats s.queue.row.processing w seat p at h.sat;
+})
+whole_shape s s' w h (took k n f e) = subst Whole (sym e) (record {
+  counted = h.counted;
+  row = take_ok s.queue.row h.row;
+  sat = subst (λ (x : Keys). Sat (map.insert s.seats w (record { key = k; phase = Held })) x) (sym (take_works s.queue.row k f))
+      (sat_take s.seats s.queue.row.processing w k (first_free s.queue.row k h.row f) h.sat);
+})
+whole_shape s s' w h (left_it seat q at ends e) = subst Whole (sym e) (record {
+  counted = h.counted;
+  row = end_row s.queue.row seat.key q.row (h.sat.held w seat at) h.row ends;
+  sat = subst (λ (x : Keys). Sat (map.remove s.seats w) x) (sym (end_works s.queue.row seat.key q.row ends))
+      (sat_end s.seats s.queue.row.processing w seat at h.sat);
+})
+whole_shape s s' w h (stored ev n e) = subst Whole (sym e) (record {
+  counted = ap (λ n. n + 1) h.counted ∙ sym (after_version s.store ev);
+  row = h.row;
+  sat = h.sat;
+})
+whole_shape s s' w h (listed max e) = subst Whole (sym e) (record { counted = h.counted; row = h.row; sat = h.sat })
+whole_shape s s' w h (queued q ks i e) = subst Whole (sym e) (record {
+  counted = h.counted;
+  row = subst RowOk (sym i) (adds_ok s.queue.row ks h.row);
+  sat = subst (λ (x : Keys). Sat s.seats x) (sym (ap (λ (r : Row). r.processing) i ∙ adds_works s.queue.row ks)) h.sat;
+})
+
+pub more_by_one : (s s' : State) (w : ℕ) → Shape s w s' → s'.store.version ≤ s.store.version + 1
+more_by_one s s' w (same e) = let i = ap (λ (x : State). x.store.version) e in omega arith
+more_by_one s s' w (sat seat p at e) = let i = ap (λ (x : State). x.store.version) e in omega arith
+more_by_one s s' w (wrote_it seat p ev at n e) = let i = ap (λ (x : State). x.store.version) e ∙ after_version s.store ev in omega arith
+more_by_one s s' w (took k n f e) = let i = ap (λ (x : State). x.store.version) e in omega arith
+more_by_one s s' w (left_it seat q at ends e) = let i = ap (λ (x : State). x.store.version) e in omega arith
+more_by_one s s' w (stored ev n e) = let i = ap (λ (x : State). x.store.version) e ∙ after_version s.store ev in omega arith
+more_by_one s s' w (listed max e) = let i = ap (λ (x : State). x.store.version) e in omega arith
+more_by_one s s' w (queued q ks i e) = let j = ap (λ (x : State). x.store.version) e in omega arith
+
+pub same_window : (s s' : State) (w : ℕ) → Shape s w s' → s'.watch.window ≡ s.watch.window
+same_window s s' w (same e) = ap (λ (x : State). x.watch.window) e
+same_window s s' w (sat seat p at e) = ap (λ (x : State). x.watch.window) e
+same_window s s' w (wrote_it seat p ev at n e) = ap (λ (x : State). x.watch.window) e
+same_window s s' w (took k n f e) = ap (λ (x : State). x.watch.window) e
+same_window s s' w (left_it seat q at ends e) = ap (λ (x : State). x.watch.window) e
+same_window s s' w (stored ev n e) = ap (λ (x : State). x.watch.window) e
+same_window s s' w (listed max e) = ap (λ (x : State). x.watch.window) e
+same_window s s' w (queued q ks i e) = ap (λ (x : State). x.watch.window) e
+
+-- ---- histories
+
+no_seat : (w : ℕ) (a : Seat) → map.get {R = nat_cmp} map.empty w ≡ Some a → ⊥
+no_seat w a e = let n = map.get-empty {X = Seat} nat_cmp w in cc (e, n)
+
+pub whole_of : (window : ℕ) (h : List Told) → Whole (state_of window h)
+whole_of window [] = record {
+  counted = refl;
+  row = record { free = tt; wanted = tt; once = tt };
+  sat = record { held = λ w a e. absurd (no_seat w a e); single = λ v w a b e f i. absurd (no_seat v a e) };
+}
+whole_of window (e ∷ h) = whole_shape _ _ e.caller.number (whole_of window h) (shape (state_of window h) e.caller e.call)
+
+pub followed : (window : ℕ) (h : List Told) → Follows window (state_of window h)
+followed window [] = follows_start window
+followed window (e ∷ h) = follows_shape window _ _ e.caller.number (followed window h) (shape (state_of window h) e.caller e.call)
+
+pub sound_of : (window : ℕ) (h : List Told) → IsSound (state_of window h)
+sound_of window h =
+    let w = whole_of window h in
+    record { counted = w.counted; follows = told_of window _ (followed window h); held = w.sat.held }
+
+pub version_of_history : (window : ℕ) (h : List Told) → (state_of window h).store.version ≤ length h
+version_of_history window [] = omega arith
+version_of_history window (e ∷ h) =
+    let i = version_of_history window h in
+    let j = more_by_one _ _ e.caller.number (shape (state_of window h) e.caller e.call) in
+    omega arith
+
+pub window_of : (window : ℕ) (h : List Told) → (state_of window h).watch.window ≡ window
+window_of window [] = refl
+window_of window (e ∷ h) = same_window _ _ e.caller.number (shape (state_of window h) e.caller e.call) ∙ window_of window h

@@ -1,0 +1,5 @@
+use Rattle.cj_legal.proofs.Fine.{fine}
+use Rattle.cj_legal.proofs.laws.answer_law.Goals as goal
+
+pub returns : goal.returns
+returns c = fine

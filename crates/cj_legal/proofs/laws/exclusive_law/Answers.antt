@@ -1,0 +1,5 @@
+use Rattle.cj_legal.proofs.Hands.{always_exclusive}
+use Rattle.cj_legal.proofs.laws.exclusive_law.Goals as goal
+
+pub returns : goal.returns
+returns c = always_exclusive

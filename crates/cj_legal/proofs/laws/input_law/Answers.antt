@@ -1,0 +1,5 @@
+use Rattle.cj_legal.proofs.Inputs.{rests_exactly}
+use Rattle.cj_legal.proofs.laws.input_law.Goals as goal
+
+pub returns : goal.returns
+returns c = rests_exactly

@@ -1,0 +1,8 @@
+use Rattle.cj_legal.proofs.Seated.{seats_agree, one_holder}
+use Rattle.cj_legal.proofs.laws.seat_law.Goals as goal
+
+pub returns-clause-seats : goal.returns-clause-seats
+returns-clause-seats c = seats_agree
+
+pub returns-clause-held : goal.returns-clause-held
+returns-clause-held c = one_holder

@@ -1,0 +1,11 @@
+use Rattle.cj_legal.proofs.Sound.{sound_of, version_of_history, window_of}
+use Rattle.cj_legal.proofs.laws.sound_law.Goals as goal
+
+pub returns-clause-sound : goal.returns-clause-sound
+returns-clause-sound c = sound_of
+
+pub returns-clause-few : goal.returns-clause-few
+returns-clause-few c = version_of_history
+
+pub returns-clause-window : goal.returns-clause-window
+returns-clause-window c = window_of

@@ -1,0 +1,68 @@
+-- A worker's seat by its own accepted calls, the newest entry first.
+use Rattle.std.specs.Prelude.{◌≡◌, ℕ, ◌+◌, ◌==◌, List, [], ◌∷◌, Option, Some, None, Result, Ok, Err, if◌then◌else◌}
+use Rattle.std.specs.FinMap as map
+use Rattle.cj_base.specs.declared.refusal.Refusal.{Refusal}
+use Rattle.cj_types.specs.Keys.{Place}
+use Rattle.cj_types.specs.declared.job.Job.{Job}
+use Rattle.cj_decide.specs.Decision.{Planned}
+use Rattle.cj_calls.specs.declared.call.Call.{Call}
+use Rattle.cj_calls.specs.declared.call.Call.TheVariants as Of
+use Rattle.cj_calls.specs.declared.reply.Reply.{Reply}
+use Rattle.cj_calls.specs.declared.reply.Reply.TheVariants as Is
+use Rattle.cj_calls.specs.Rows.{Told}
+use Rattle.cj_seats.specs.declared.seat.Phase.{Phase}
+use Rattle.cj_seats.specs.declared.seat.Phase.TheVariants.{Held, Seen, Listed, Checked, Works}
+use Rattle.cj_seats.specs.declared.seat.Seat.{Seat}
+use Rattle.cj_state.specs.Moves.{works, further, seen_version}
+use Rattle.cj_state.specs.Legal.{IsLegal, state_of}
+
+abbrev pub at_phase : Option Seat → Phase → Option Seat
+at_phase None p = None
+at_phase (Some seat) p = Some (record { key = seat.key; phase = p })
+
+abbrev pub listing : Phase → List Job → Phase
+listing (Seen c) js = Listed c js
+listing p js = p
+
+abbrev pub checking : Phase → List (Option Job) → Phase
+checking (Listed c js) ks = Checked c js ks
+checking p ks = p
+
+abbrev pub going : Phase → Phase
+going (Works work) = further work
+going p = p
+
+-- in the same seat, with the phase after this one
+abbrev pub on : (Phase → Phase) → Option Seat → Option Seat
+on f None = None
+on f (Some seat) = Some (record { key = seat.key; phase = f seat.phase })
+
+-- what an accepted call leaves of its caller's seat
+abbrev pub accepted : Option Seat → Call → Reply → Option Seat
+accepted o Of.Take (Is.Key k) = Some (record { key = k; phase = Held })
+accepted o Of.SeeCron (Is.SeenCron c) = at_phase o (Seen c)
+accepted o Of.SeeJobs (Is.SeenJobs js) = on (λ p. listing p js) o
+accepted o Of.SeeActive (Is.SeenActive ks) = on (λ p. checking p ks) o
+accepted o (Of.Claim plan) (Is.Claimed None) = at_phase o (works plan (seen_version plan.cron) 0)
+accepted o (Of.Claim plan) (Is.Claimed (Some c)) = at_phase o (works plan c.1 0)
+accepted o Of.DropNext (Is.Dropped d) = on going o
+accepted o Of.MakeNext (Is.Job j) = on going o
+accepted o Of.SetStatus (Is.Version v) = on going o
+accepted o (Of.Finish end rs) Is.Done = None
+accepted o _ _ = o
+
+abbrev pub seat_after : Option Seat → Call → Result Reply Refusal → Option Seat
+seat_after o call (Ok r) = accepted o call r
+seat_after o call (Err e) = o
+
+-- the seat of a worker after a history, from its own entries alone
+abbrev pub seat : List Told → ℕ → Option Seat
+seat [] w = None
+seat (e ∷ h) w = if w == e.caller.number then seat_after (seat h w) e.call e.answer else seat h w
+
+abbrev pub SeatLaw : Type 0
+SeatLaw = (window : ℕ) (h : List Told) → IsLegal window h → (w : ℕ) → map.get (state_of window h).seats w ≡ seat h w
+
+-- no two workers hold one key
+abbrev pub HeldLaw : Type 0
+HeldLaw = (window : ℕ) (h : List Told) → IsLegal window h → (v w : ℕ) (a b : Seat) → seat h v ≡ Some a → seat h w ≡ Some b → a.key ≡ b.key → v ≡ w

@@ -1,0 +1,6 @@
+use Rattle.std.proofs.Common.{◌≡◌, take, map}
+use Rattle.cj_state.specs.Readings.{active_job}
+use Rattle.cj_moves.proofs.active.active_jobs.Given as goal
+
+abbrev pub invariant-loop-name : goal.invariant-loop-name
+invariant-loop-name l = l.jobs.items ≡ map (active_job l.store l.uid l.cron.namespace) (take l.name-index l.names)

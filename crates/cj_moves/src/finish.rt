@@ -1,0 +1,85 @@
+ghost use Rattle.std.specs.Prelude.{◌≡◌, IfOk, IfErr, OnErr, IsTrue, IsSome};
+ghost use Rattle.std.specs.FinMap as map;
+ghost use Rattle.cj_base.specs.declared.refusal.Refusal.TheVariants.{OutOfMemory};
+ghost use Rattle.cj_queue.specs.Queue.{has, finished_ok, finished_retry};
+ghost use Rattle.cj_state.specs.Sound.{IsSound};
+ghost use Rattle.cj_state.specs.Moves.{finish, leaves, next_ms, moved};
+
+use cj_calls::{Answered, End, Reply};
+use cj_seats::{Phase, is_done};
+use cj_state::{State, refused};
+use cj_types::{Key, Millis, Refusal, Seconds, TryCopy};
+use std::alloc::Global;
+
+fn next_ms(at: Option<Seconds>) -> Option<u64>
+    ensures { result ≡ next_ms at }
+{
+    match at {
+        Some(at) => Some(1000 * at.get()),
+        None => None,
+    }
+}
+
+fn leave_well(
+    alloc: Global,
+    state: &mut State,
+    worker: u64,
+    key: &Key,
+    at: Option<u64>,
+) -> Result<Answered, Refusal>
+    requires held { IsTrue (has state.old.queue.row.processing key.now) }
+    ensures ok { IfOk result (λ t. leaves state.old worker (finished_ok state.old.queue key.now at) ≡ moved t state.new) }
+    ensures err { OnErr result (state.new ≡ state.old) }
+    ensures memory { IfErr result (λ e. e ≡ OutOfMemory) }
+{
+    let answer = Answered::new(alloc, Ok(Reply::Done))?;
+    state.queue.finish_ok(key, at)?;
+    state.seats.remove(worker);
+    Ok(answer)
+}
+
+fn leave_badly(
+    alloc: Global,
+    state: &mut State,
+    worker: u64,
+    key: &Key,
+    now: Millis,
+) -> Result<Answered, Refusal>
+    requires held { IsTrue (has state.old.queue.row.processing key.now) }
+    ensures ok { IfOk result (λ t. leaves state.old worker (finished_retry state.old.queue key.now now) ≡ moved t state.new) }
+    ensures err { OnErr result (state.new ≡ state.old) }
+    ensures memory { IfErr result (λ e. e ≡ OutOfMemory) }
+{
+    let answer = Answered::new(alloc, Ok(Reply::Done))?;
+    state.queue.finish_retry(key, now)?;
+    state.seats.remove(worker);
+    Ok(answer)
+}
+
+/// Ends the worker's sync.
+#[tactic(auto, unfolding(cj_state::specs::Moves::finish), using(cj_state::proofs::Numbers::held_key))]
+pub fn finish(alloc: Global, state: &mut State, worker: u64, end: End) -> Result<Answered, Refusal>
+    requires sound { IsSound state.old }
+    ensures ok { IfOk result (λ t. finish state.old worker end ≡ moved t state.new) }
+    ensures err { OnErr result (state.new ≡ state.old) }
+    ensures memory { IfErr result (λ e. e ≡ OutOfMemory) }
+{
+    let Some(seat) = state.seats.get(worker) else {
+        return refused(alloc, Refusal::OutOfPhase);
+    };
+    let key = seat.key.try_copy(alloc)?;
+    match end {
+        End::Again(now) => leave_badly(alloc, state, worker, &key, now),
+        End::Well => {
+            let Phase::Works(work) = &seat.phase else {
+                return refused(alloc, Refusal::OutOfPhase);
+            };
+            let steps = work.plan.get().steps();
+            if !is_done(steps, work.place) {
+                return refused(alloc, Refusal::OutOfPhase);
+            }
+            let at = next_ms(steps.next);
+            leave_well(alloc, state, worker, &key, at)
+        }
+    }
+}

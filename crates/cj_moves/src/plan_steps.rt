@@ -1,0 +1,190 @@
+ghost use Rattle.std.specs.Prelude.{◌≡◌, ◌+◌, ◌<◌, ◌^◌, IfOk, IfErr, OnErr, IsSome, Some, Ok, option_copied};
+ghost use Rattle.std.specs.FinMap as map;
+ghost use Rattle.cj_base.specs.declared.refusal.Refusal.TheVariants.{OutOfMemory};
+ghost use Rattle.cj_store.specs.Change.{map_ok, cron_modified, job_added, job_gone};
+ghost use Rattle.cj_store.specs.Crons.{status_set};
+ghost use Rattle.cj_store.specs.Jobs.{job_made, job_deleted};
+ghost use Rattle.cj_state.specs.Sound.{IsSound};
+ghost use Rattle.cj_state.specs.Moves.{drop_next, drops_it, make_next, set_status, steps_on, event_reply, version_reply, next_seat, moved};
+
+use cj_calls::{Answered, Reply};
+use cj_seats::{Phase, Seat, Work, drop_at, make_at, status_at};
+use cj_state::{State, event_answer, refused, seat_in};
+use cj_types::{CronStatus, Heap, JobDraft, Key, Refusal, Seconds, TryCopy, Uid, Version};
+use std::alloc::Global;
+
+// The seat after one step more of the plan.
+fn further(alloc: Global, key: &Key, work: &Work) -> Result<Heap<Seat>, Refusal>
+    requires { work.now.place + 1 < 2 ^ 64 }
+    ensures ok { IfOk result (λ s. s ≡ next_seat key.now work.now) }
+    ensures err { IfErr result (λ e. e ≡ OutOfMemory) }
+{
+    let work = Work {
+        plan: work.plan.try_copy(alloc)?,
+        version: work.version,
+        place: work.place + 1,
+    };
+    seat_in(alloc, key, Phase::Works(work))
+}
+
+#[tactic(auto, using(cj_state::proofs::Numbers::gone_numbered))]
+fn drop_job(
+    alloc: Global,
+    state: &mut State,
+    worker: u64,
+    name: Key,
+    uid: Uid,
+    seat: Heap<Seat>,
+) -> Result<Answered, Refusal>
+    requires room { state.old.store.version < 2 ^ 40 }
+    requires sound { IsSound state.old }
+    requires there { IsSome (map.get state.old.seats worker) }
+    ensures ok { IfOk result (λ t. drops_it state.old worker seat name (map_ok job_gone (job_deleted state.old.store name (Some uid))) ≡ moved t state.new) }
+    ensures err { OnErr result (state.new ≡ state.old) }
+    ensures memory { IfErr result (λ e. e ≡ OutOfMemory) }
+{
+    match state.store.plan_delete_job(alloc, &name, Some(uid)) {
+        Ok(change) => {
+            let reply = Reply::Dropped(Some((name, change.event().version())));
+            let answer = Answered::new(alloc, Ok(reply))?;
+            state.write_seated(alloc, worker, change, answer, seat)
+        }
+        Err(Refusal::OutOfMemory) => Err(Refusal::OutOfMemory),
+        Err(_) => {
+            let answer = Answered::new(alloc, Ok(Reply::Dropped(None)))?;
+            state.put_seat(worker, seat);
+            Ok(answer)
+        }
+    }
+}
+
+#[tactic(auto, using(cj_state::proofs::Numbers::made_numbered))]
+fn make_job(
+    alloc: Global,
+    state: &mut State,
+    worker: u64,
+    draft: JobDraft,
+    now: Seconds,
+    seat: Heap<Seat>,
+) -> Result<Answered, Refusal>
+    requires room { state.old.store.version < 2 ^ 40 }
+    requires sound { IsSound state.old }
+    requires there { IsSome (map.get state.old.seats worker) }
+    ensures ok { IfOk result (λ t. steps_on state.old worker seat event_reply (map_ok job_added (job_made state.old.store draft now)) ≡ moved t state.new) }
+    ensures err { OnErr result (state.new ≡ state.old) }
+    ensures memory { IfErr result (λ e. e ≡ OutOfMemory) }
+{
+    match state.store.plan_make_job(alloc, draft, now) {
+        Ok(change) => {
+            let answer = event_answer(alloc, change.event())?;
+            state.write_seated(alloc, worker, change, answer, seat)
+        }
+        Err(refusal) => refused(alloc, refusal),
+    }
+}
+
+#[tactic(auto, using(cj_state::proofs::Numbers::status_numbered))]
+fn put_status(
+    alloc: Global,
+    state: &mut State,
+    worker: u64,
+    uid: Uid,
+    version: Version,
+    status: CronStatus,
+    seat: Heap<Seat>,
+) -> Result<Answered, Refusal>
+    requires room { state.old.store.version < 2 ^ 40 }
+    requires sound { IsSound state.old }
+    requires there { IsSome (map.get state.old.seats worker) }
+    ensures ok { IfOk result (λ t. steps_on state.old worker seat version_reply (map_ok cron_modified (status_set state.old.store seat.key uid version status)) ≡ moved t state.new) }
+    ensures err { OnErr result (state.new ≡ state.old) }
+    ensures memory { IfErr result (λ e. e ≡ OutOfMemory) }
+{
+    match state
+        .store
+        .plan_set_status(alloc, &seat.get().key, uid, version, status)
+    {
+        Ok(change) => {
+            let reply = Reply::Version(change.event().version());
+            let answer = Answered::new(alloc, Ok(reply))?;
+            state.write_seated(alloc, worker, change, answer, seat)
+        }
+        Err(refusal) => refused(alloc, refusal),
+    }
+}
+
+/// Drops the Job that the next step of the worker's plan drops.
+#[tactic(auto, unfolding(cj_state::specs::Moves::drop_next))]
+pub fn drop_next(alloc: Global, state: &mut State, worker: u64) -> Result<Answered, Refusal>
+    requires room { state.old.store.version < 2 ^ 40 }
+    requires sound { IsSound state.old }
+    ensures ok { IfOk result (λ t. drop_next state.old worker ≡ moved t state.new) }
+    ensures err { OnErr result (state.new ≡ state.old) }
+    ensures memory { IfErr result (λ e. e ≡ OutOfMemory) }
+{
+    let Some(seat) = state.seats.get(worker) else {
+        return refused(alloc, Refusal::OutOfPhase);
+    };
+    let Phase::Works(work) = &seat.phase else {
+        return refused(alloc, Refusal::OutOfPhase);
+    };
+    let Some(job) = drop_at(work.plan.get().steps(), work.place) else {
+        return refused(alloc, Refusal::OutOfPhase);
+    };
+    let next = further(alloc, &seat.key, work)?;
+    let name = job.key.try_copy(alloc)?;
+    let uid = job.uid;
+    drop_job(alloc, state, worker, name, uid, next)
+}
+
+/// Makes the Job that the next step of the worker's plan makes.
+#[tactic(auto, unfolding(cj_state::specs::Moves::make_next))]
+pub fn make_next(alloc: Global, state: &mut State, worker: u64) -> Result<Answered, Refusal>
+    requires room { state.old.store.version < 2 ^ 40 }
+    requires sound { IsSound state.old }
+    ensures ok { IfOk result (λ t. make_next state.old worker ≡ moved t state.new) }
+    ensures err { OnErr result (state.new ≡ state.old) }
+    ensures memory { IfErr result (λ e. e ≡ OutOfMemory) }
+{
+    let Some(seat) = state.seats.get(worker) else {
+        return refused(alloc, Refusal::OutOfPhase);
+    };
+    let Phase::Works(work) = &seat.phase else {
+        return refused(alloc, Refusal::OutOfPhase);
+    };
+    let Some(draft) = make_at(work.plan.get().steps(), work.place) else {
+        return refused(alloc, Refusal::OutOfPhase);
+    };
+    let next = further(alloc, &seat.key, work)?;
+    let draft = draft.try_copy(alloc)?;
+    let now = work.plan.get().moment();
+    make_job(alloc, state, worker, draft, now, next)
+}
+
+/// Sets the status that the next step of the worker's plan sets.
+#[tactic(auto, unfolding(cj_state::specs::Moves::set_status))]
+pub fn set_status(alloc: Global, state: &mut State, worker: u64) -> Result<Answered, Refusal>
+    requires room { state.old.store.version < 2 ^ 40 }
+    requires sound { IsSound state.old }
+    ensures ok { IfOk result (λ t. set_status state.old worker ≡ moved t state.new) }
+    ensures err { OnErr result (state.new ≡ state.old) }
+    ensures memory { IfErr result (λ e. e ≡ OutOfMemory) }
+{
+    let Some(seat) = state.seats.get(worker) else {
+        return refused(alloc, Refusal::OutOfPhase);
+    };
+    let Phase::Works(work) = &seat.phase else {
+        return refused(alloc, Refusal::OutOfPhase);
+    };
+    let Some(status) = status_at(work.plan.get().steps(), work.place) else {
+        return refused(alloc, Refusal::OutOfPhase);
+    };
+    let Some(cron) = work.plan.get().cron() else {
+        return refused(alloc, Refusal::OutOfPhase);
+    };
+    let next = further(alloc, &seat.key, work)?;
+    let status = status.try_copy(alloc)?;
+    let uid = cron.get().meta.uid;
+    let version = work.version;
+    put_status(alloc, state, worker, uid, version, status, next)
+}

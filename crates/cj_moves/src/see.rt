@@ -1,0 +1,142 @@
+ghost use Rattle.std.specs.Prelude.{◌≡◌, IfOk, IfErr, OnErr, Ok, option_copied};
+ghost use Rattle.std.specs.FinMap as map;
+ghost use Rattle.cj_base.specs.declared.refusal.Refusal.TheVariants.{OutOfMemory};
+ghost use Rattle.cj_jobs.specs.Owners.{owned_by};
+ghost use Rattle.cj_seats.specs.declared.seat.Phase.TheVariants.{Seen, Listed, Checked};
+ghost use Rattle.cj_state.specs.Readings.{active_of};
+ghost use Rattle.cj_state.specs.Moves.{see_cron, see_jobs, see_active, moved};
+
+use crate::active::active_of;
+use cj_calls::{Answered, Reply};
+use cj_mirror::Mirror;
+use cj_seats::{Phase, Seat};
+use cj_state::{State, refused, seat_in};
+use cj_store::Store;
+use cj_types::{CronJob, Heap, Job, Key, Listing, Refusal, Shared, TryCopy};
+use std::alloc::Global;
+
+fn cron_at(alloc: Global, store: &Store, key: &Key) -> Result<Option<Shared<CronJob>>, Refusal>
+    ensures ok { IfOk result (λ c. c ≡ map.get store.now.crons key.now) }
+    ensures err { IfErr result (λ e. e ≡ OutOfMemory) }
+{
+    match store.get_cron(key) {
+        Some(cron) => Ok(Some(cron.try_copy(alloc)?)),
+        None => Ok(None),
+    }
+}
+
+// The seat in the phase, and the answer.
+fn shown(
+    alloc: Global,
+    key: &Key,
+    phase: Phase,
+    reply: Reply,
+) -> Result<(Heap<Seat>, Answered), Refusal>
+    ensures seat { IfOk result (λ p. p.0 ≡ record { key = key.now; phase = phase }) }
+    ensures answer { IfOk result (λ p. p.1 ≡ Ok reply) }
+    ensures err { IfErr result (λ e. e ≡ OutOfMemory) }
+{
+    let answer = Answered::new(alloc, Ok(reply))?;
+    let seat = seat_in(alloc, key, phase)?;
+    Ok((seat, answer))
+}
+
+fn shown_cron(alloc: Global, store: &Store, key: &Key) -> Result<(Heap<Seat>, Answered), Refusal>
+    ensures seat { IfOk result (λ p. p.0 ≡ record { key = key.now; phase = Seen (map.get store.now.crons key.now) }) }
+    ensures answer { IfOk result (λ p. p.1 ≡ Ok (Reply.SeenCron (map.get store.now.crons key.now))) }
+    ensures err { IfErr result (λ e. e ≡ OutOfMemory) }
+{
+    let cron = cron_at(alloc, store, key)?;
+    let phase = Phase::Seen(cron.try_copy(alloc)?);
+    shown(alloc, key, phase, Reply::SeenCron(cron))
+}
+
+fn shown_jobs(
+    alloc: Global,
+    mirror: &mut Mirror,
+    key: &Key,
+    cron: &Option<Shared<CronJob>>,
+) -> Result<(Heap<Seat>, Answered), Refusal>
+    ensures seat { IfOk result (λ p. p.0 ≡ record { key = key.now; phase = Listed cron.now (owned_by mirror.old.jobs key.now) }) }
+    ensures answer { IfOk result (λ p. p.1 ≡ Ok (Reply.SeenJobs (owned_by mirror.old.jobs key.now))) }
+    ensures same { mirror.new ≡ mirror.old }
+    ensures err { IfErr result (λ e. e ≡ OutOfMemory) }
+{
+    let jobs = mirror.owned(key)?;
+    let phase = Phase::Listed(cron.try_copy(alloc)?, jobs.try_copy(alloc)?);
+    shown(alloc, key, phase, Reply::SeenJobs(jobs))
+}
+
+fn shown_active(
+    alloc: Global,
+    store: &Store,
+    key: &Key,
+    cron: &Option<Shared<CronJob>>,
+    jobs: &Listing<Shared<Job>>,
+) -> Result<(Heap<Seat>, Answered), Refusal>
+    ensures seat { IfOk result (λ p. p.0 ≡ record { key = key.now; phase = Checked cron.now jobs.now (active_of store.now cron.now) }) }
+    ensures answer { IfOk result (λ p. p.1 ≡ Ok (Reply.SeenActive (active_of store.now cron.now))) }
+    ensures err { IfErr result (λ e. e ≡ OutOfMemory) }
+{
+    let active = active_of(alloc, store, cron)?;
+    let phase = Phase::Checked(
+        cron.try_copy(alloc)?,
+        jobs.try_copy(alloc)?,
+        active.try_copy(alloc)?,
+    );
+    shown(alloc, key, phase, Reply::SeenActive(active))
+}
+
+/// The CronJob of the key that the worker holds.
+#[tactic(auto, unfolding(cj_state::specs::Moves::see_cron))]
+pub fn see_cron(alloc: Global, state: &mut State, worker: u64) -> Result<Answered, Refusal>
+    ensures ok { IfOk result (λ t. see_cron state.old worker ≡ moved t state.new) }
+    ensures err { OnErr result (state.new ≡ state.old) }
+    ensures memory { IfErr result (λ e. e ≡ OutOfMemory) }
+{
+    let Some(seat) = state.seats.get(worker) else {
+        return refused(alloc, Refusal::OutOfPhase);
+    };
+    let Phase::Held = &seat.phase else {
+        return refused(alloc, Refusal::OutOfPhase);
+    };
+    let (next, answer) = shown_cron(alloc, &state.store, &seat.key)?;
+    state.put_seat(worker, next);
+    Ok(answer)
+}
+
+/// The Jobs of the key that the worker holds.
+#[tactic(auto, unfolding(cj_state::specs::Moves::see_jobs))]
+pub fn see_jobs(alloc: Global, state: &mut State, worker: u64) -> Result<Answered, Refusal>
+    ensures ok { IfOk result (λ t. see_jobs state.old worker ≡ moved t state.new) }
+    ensures err { OnErr result (state.new ≡ state.old) }
+    ensures memory { IfErr result (λ e. e ≡ OutOfMemory) }
+{
+    let Some(seat) = state.seats.get(worker) else {
+        return refused(alloc, Refusal::OutOfPhase);
+    };
+    let Phase::Seen(cron) = &seat.phase else {
+        return refused(alloc, Refusal::OutOfPhase);
+    };
+    let (next, answer) = shown_jobs(alloc, &mut state.mirror, &seat.key, cron)?;
+    state.put_seat(worker, next);
+    Ok(answer)
+}
+
+/// What became of the Jobs that the seen CronJob's status names as active.
+#[tactic(auto, unfolding(cj_state::specs::Moves::see_active))]
+pub fn see_active(alloc: Global, state: &mut State, worker: u64) -> Result<Answered, Refusal>
+    ensures ok { IfOk result (λ t. see_active state.old worker ≡ moved t state.new) }
+    ensures err { OnErr result (state.new ≡ state.old) }
+    ensures memory { IfErr result (λ e. e ≡ OutOfMemory) }
+{
+    let Some(seat) = state.seats.get(worker) else {
+        return refused(alloc, Refusal::OutOfPhase);
+    };
+    let Phase::Listed(cron, jobs) = &seat.phase else {
+        return refused(alloc, Refusal::OutOfPhase);
+    };
+    let (next, answer) = shown_active(alloc, &state.store, &seat.key, cron, jobs)?;
+    state.put_seat(worker, next);
+    Ok(answer)
+}

@@ -1,0 +1,61 @@
+ghost use Rattle.std.specs.Prelude.{◌≡◌, IfOk, IfErr, OnOk, OnErr, Ok, Some, None, Err, if◌then◌else◌};
+ghost use Rattle.std.specs.FinMap as map;
+ghost use Rattle.cj_base.specs.declared.refusal.Refusal.TheVariants.{OutOfMemory};
+ghost use Rattle.cj_queue.specs.Queue.{taken};
+ghost use Rattle.cj_seats.specs.declared.seat.Phase.TheVariants.{Held};
+ghost use Rattle.cj_state.specs.Moves.{take, moved, seated};
+
+use cj_calls::{Answered, Reply};
+use cj_seats::{Phase, Seat};
+use cj_state::{State, refused};
+use cj_types::{Key, Refusal, TryCopy};
+use std::alloc::Global;
+
+// Why nothing can be taken of an empty line.
+fn why_empty(shut: bool) -> Refusal
+    ensures { result ≡ if shut then Refusal.ShutDown else Refusal.Empty }
+{
+    if shut {
+        Refusal::ShutDown
+    } else {
+        Refusal::Empty
+    }
+}
+
+#[tactic(auto, using(crate::proofs::Undone::undone))]
+fn take_key(alloc: Global, state: &mut State, worker: u64, key: Key) -> Result<Answered, Refusal>
+    requires free { map.get state.old.seats worker ≡ None }
+    ensures answer { IfOk result (λ t. t ≡ Ok (Reply.Key key)) }
+    ensures ok { OnOk result (state.new ≡ seated (record state.old { queue = taken state.old.queue }) worker key Held) }
+    ensures err { OnErr result (state.new ≡ state.old) }
+    ensures memory { IfErr result (λ e. e ≡ OutOfMemory) }
+{
+    let answer = Answered::new(alloc, Ok(Reply::Key(key.try_copy(alloc)?)))?;
+    let seat = Seat {
+        key,
+        phase: Phase::Held,
+    };
+    state.seats.insert(worker, seat)?;
+    if state.queue.take().is_err() {
+        state.seats.remove(worker);
+        return Err(Refusal::OutOfMemory);
+    }
+    Ok(answer)
+}
+
+/// Takes the first key of the line for the worker.
+#[tactic(auto, unfolding(cj_state::specs::Moves::take))]
+pub fn take(alloc: Global, state: &mut State, worker: u64) -> Result<Answered, Refusal>
+    ensures ok { IfOk result (λ t. take state.old worker ≡ moved t state.new) }
+    ensures err { OnErr result (state.new ≡ state.old) }
+    ensures memory { IfErr result (λ e. e ≡ OutOfMemory) }
+{
+    if state.seats.get(worker).is_some() {
+        return refused(alloc, Refusal::OutOfPhase);
+    }
+    let Some(key) = state.queue.front() else {
+        return refused(alloc, why_empty(state.queue.is_shut()));
+    };
+    let key = key.try_copy(alloc)?;
+    take_key(alloc, state, worker, key)
+}

@@ -1,0 +1,12 @@
+pub mod Maps
+pub mod Uids
+pub mod Lists
+pub mod Facts
+pub mod Grows
+pub mod Writes
+pub mod Rows
+pub mod Frames
+pub mod Calls
+pub mod Steps
+pub mod Make
+pub mod Whole

@@ -1,0 +1,5 @@
+pub mod Readings
+pub mod Moves
+pub mod Step
+pub mod Sound
+pub mod Legal
