@@ -1,7 +1,7 @@
 ghost use Rattle.std.specs.Prelude.{◌≡◌, ◌<◌, ◌≤◌, ◌^◌, ◌↔◌, IsTrue, IfOk, IfErr, IfSome, option_copied};
 ghost use Rattle.std.specs.FinMap as map;
 ghost use Rattle.cj_base.specs.declared.refusal.Refusal.TheVariants.{OutOfMemory};
-ghost use Rattle.cj_store.specs.Content.{nothing};
+ghost use Rattle.cj_store.specs.Content.{nothing, IsSound};
 
 use cj_jobs::Jobs;
 use cj_table::Table;
@@ -55,7 +55,8 @@ impl Store {
 
     /// The version of the last write, 0 before the first.
     pub fn version(&self) -> Version
-        ensures { result ≡ self.now.version }
+        ensures value { result ≡ self.now.version }
+        ensures sound { IsSound self.now }
     {
         Version::new(self.writes)
     }

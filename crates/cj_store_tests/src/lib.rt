@@ -1,4 +1,5 @@
-//! Tests of the store: a worked row of calls, two thousand Jobs, and ten thousand calls beside a plain list.
+//! Tests of the store: a worked row of calls, two thousand Jobs, ten thousand calls beside a plain list,
+//! and plans that are made in turn.
 #![tactic(auto)]
 
 #[cfg(test)]
@@ -13,3 +14,6 @@ mod plain;
 mod tests;
 #[cfg(test)]
 mod told;
+mod turns;
+
+pub use turns::{make_both, update_both};

@@ -3,7 +3,9 @@ use crate::calls::call;
 use crate::drafts::{key, one_owner, seconds};
 use crate::plain::{Kind, Model};
 use crate::told::{Answer, Plain, plain_cron, plain_job};
+use crate::turns::{make_both, update_both};
 use cj_store::{Store, equality_laws};
+use cj_store_laws::{answer_laws, event_laws, sound_laws};
 use cj_types::{DraftMeta, Job, JobDraft, Key, Labels, Refusal, Shared, SpecText, Text};
 use std::alloc::{AllocError, Global};
 use std::test::Fail;
@@ -76,6 +78,49 @@ fn prints_the_second_uid(rt: HostRuntime) -> Result<(), Fail> {
         uid.text(alloc)?.as_str(),
         "00000000-0000-0000-0000-000000000002"
     );
+    Ok(())
+}
+
+#[test]
+fn gets_nothing_that_was_deleted(rt: HostRuntime) -> Result<(), Fail> {
+    let alloc = rt.alloc();
+    let mut store = Store::new(alloc);
+    let asked = ask(0, 0, None);
+    let key = key(alloc, &asked)?;
+    for kind in [Kind::CreateCron, Kind::CreateJob] {
+        let _ = call(&mut store, alloc, kind, &asked)?;
+    }
+    assert!(rt; store.get_cron(&key).is_some() && store.get_job(&key).is_some());
+    for kind in [Kind::DeleteCron, Kind::DeleteJob] {
+        let _ = call(&mut store, alloc, kind, &asked)?;
+    }
+    assert!(rt; store.get_cron(&key).is_none() && store.get_job(&key).is_none());
+    Ok(())
+}
+
+// The uid and the version of the Job of that name.
+fn found(store: &Store, alloc: Global, name: &str) -> Result<(u64, u64), Fail> {
+    let key = Key::new(alloc, "default", name)?;
+    let job = store.get_job(&key).ok_or("gone")?;
+    Ok((job.meta.uid.get(), job.meta.version.get()))
+}
+
+#[test]
+fn makes_plans_in_turn(rt: HostRuntime) -> Result<(), Fail> {
+    let alloc = rt.alloc();
+    answer_laws();
+    event_laws();
+    sound_laws();
+    let mut store = Store::new(alloc);
+    let one = owned_draft(alloc, "a", "cron", "u")?;
+    let other = owned_draft(alloc, "b", "cron", "u")?;
+    make_both(&mut store, alloc, one, other, seconds(NOW)?)?;
+    assert_eq!(rt; found(&store, alloc, "a")?, (1, 1));
+    assert_eq!(rt; found(&store, alloc, "b")?, (2, 2));
+    let one = owned_draft(alloc, "b", "cron", "u")?;
+    let other = owned_draft(alloc, "b", "cron", "u")?;
+    update_both(&mut store, alloc, one, other)?;
+    assert_eq!(rt; found(&store, alloc, "b")?, (2, 4));
     Ok(())
 }
 
@@ -231,10 +276,7 @@ fn agrees(store: &Store, alloc: Global, model: &Model) -> Result<bool, Refusal> 
         .as_slice()
         .iter()
         .all(|job| is_listed(model, plain_job(job)));
-    let count = crons
-        .as_slice()
-        .len()
-        .saturating_add(jobs.as_slice().len());
+    let count = crons.as_slice().len().saturating_add(jobs.as_slice().len());
     Ok(crons_agree && jobs_agree && count == model.rows.len())
 }
 
