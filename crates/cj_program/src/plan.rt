@@ -16,7 +16,7 @@ use crate::plan_text::plan_text;
 use crate::request::PlanRequest;
 use cj_decide::{Plan, Steps, decide};
 use cj_scenario::{Scene, SceneFault, read_scene};
-use cj_types::{FieldFault, Seconds, Shared, Text, TryCopy};
+use cj_types::{CronJob, FieldFault, Seconds, Shared, Text, TryCopy};
 use cj_zone::{Zone, ZoneTable, read_time};
 use std::alloc::{AllocError, Global};
 use std::io::Read;
@@ -32,16 +32,16 @@ fn zone_of<'t>(zones: &'t ZoneTable, name: &Option<Text>) -> Option<&'t Zone>
     }
 }
 
-// A copy of that zone.
+// A copy of the zone that the CronJob names.
 fn zone_copy(
     alloc: Global,
     zones: &ZoneTable,
-    name: &Option<Text>,
+    cron: &CronJob,
 ) -> Result<Option<Shared<Zone>>, Failure>
     requires { local_zone zones.now ≡ Some (utc_zone (codes "UTC")) }
-    ensures { IfOk result (λ z. z ≡ zone_for name.now (zones_of zones.now)) }
+    ensures { IfOk result (λ z. z ≡ zone_for cron.now.spec.time_zone (zones_of zones.now)) }
 {
-    match zone_of(zones, name) {
+    match zone_of(zones, &cron.spec.time_zone) {
         Some(zone) => Ok(Some(Shared::new(alloc, zone.try_copy(alloc)?)?)),
         None => Ok(None),
     }
@@ -57,7 +57,7 @@ fn plan_of(alloc: Global, scene: Scene, now: Seconds) -> Result<Plan, Failure>
         jobs,
         active,
     } = scene;
-    let zone = zone_copy(alloc, &zones, &cron.get().spec.get().time_zone)?;
+    let zone = zone_copy(alloc, &zones, cron.get())?;
     Ok(decide(alloc, Some(cron), jobs, active, now, zone)?)
 }
 

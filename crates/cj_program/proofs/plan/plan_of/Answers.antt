@@ -1,8 +1,10 @@
-use Rattle.std.proofs.Common.{◌≡◌, ◌∙◌, subst, ℕ, List, Option}
+use Rattle.std.proofs.Common.{◌≡◌, ◌∙◌, ap, subst, ℕ, List, Option}
 use Rattle.cj_types.specs.declared.cron.CronJob.{CronJob}
 use Rattle.cj_types.specs.declared.job.Job.{Job}
 use Rattle.cj_zone.specs.declared.zone.Zone.{Zone}
+use Rattle.cj_zone.specs.Table.{zones_of}
 use Rattle.cj_decide.specs.Decision.{IsDecided, IsPlan, Planned}
+use Rattle.cj_program.specs.Plan.{zone_for}
 use Rattle.cj_program.proofs.plan.plan_of.Goals as goal
 
 -- a plan is the one of what it rests on
@@ -18,4 +20,4 @@ rests p cron jobs found now z a b l c d h =
 pub returns : goal.returns
 returns c =
     let e = c.in_ok-decide.ensures in
-    rests c.in_ok-decide.field-0 _ _ _ _ _ e.cron e.jobs e.active e.at (e.zone ∙ c.in_ok-zone.ensures) e.decided
+    rests c.in_ok-decide.field-0 _ _ _ _ _ e.cron e.jobs e.active e.at (e.zone ∙ c.in_ok-zone.ensures ∙ ap (λ (x : CronJob). zone_for x.spec.time_zone (zones_of c.args.scene.zones)) c.get.ensures) e.decided
