@@ -1,0 +1,10 @@
+//! What each call of users, runners and informers does with what the world holds.
+#![tactic(auto)]
+
+mod crons;
+mod jobs;
+mod keys;
+mod readings;
+mod roles;
+
+pub use roles::{by_informer, by_runner, by_user};
