@@ -17,7 +17,8 @@ pub(crate) fn is_past(tables: &Tzif, from: Seconds) -> bool
     }
 }
 
-fn plain_timestamp(at: Seconds) -> Timestamp
+/// The same instant, in `jiff`'s plain form.
+pub(crate) fn plain_timestamp(at: Seconds) -> Timestamp
     ensures { result.nanosecond ≡ pos at *ℤ pos 1_000_000_000 }
 {
     Timestamp {
