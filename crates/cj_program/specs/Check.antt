@@ -13,7 +13,7 @@ use Rattle.cj_base.specs.ScheduleCause.{cause_name}
 use Rattle.cj_types.specs.Keys.{Place}
 use Rattle.cj_zone.specs.declared.source.Source.TheVariants.{Rule}
 use Rattle.cj_zone.specs.declared.zone.Zone.{Zone}
-use Rattle.cj_zone.specs.Made.{IsClockOf}
+use Rattle.cj_zone.specs.Made.{IsMade}
 use Rattle.cj_zone.specs.Zones.{is_refused_name, utc_zone}
 use Rattle.cj_manifest.specs.declared.manifest.Manifest.{Manifest}
 use Rattle.cj_manifest.specs.Either.{key_of, kind_of, manifest_draft, manifest_faults, manifest_warnings}
@@ -54,7 +54,8 @@ pub record AddsPair (pair : List ℕ) (zones : List Zone) : Type 0 where
   pub free : is_refused_name utc_zones (name_in pair) ≡ false
   pub zones_are : zones ≡ utc_zones ++ zone ∷ []
   pub name : zone.name ≡ name_in pair
-  pub clock : IsClockOf (Rule (rule_in pair)) zone.rules
+  pub source : zone.source ≡ Rule (rule_in pair)
+  pub clock : IsMade (Rule (rule_in pair))
 
 abbrev pub IsZonesOf : Option (Bor (List ℕ)) → List Zone → Type 0
 IsZonesOf None zones = zones ≡ utc_zones

@@ -10,7 +10,7 @@ use Rattle.cj_schedule.specs.Grammar.{IsSchedule}
 use Rattle.cj_schedule.specs.Reading.{fault_of}
 use Rattle.cj_zone.specs.declared.source.Source.TheVariants.{Rule}
 use Rattle.cj_zone.specs.declared.zone.Zone.{Zone}
-use Rattle.cj_zone.specs.Made.{IsClockOf}
+use Rattle.cj_zone.specs.Made.{IsMade}
 use Rattle.cj_zone.specs.Zones.{utc_zone}
 use Rattle.cj_zone.specs.TimeText.{time_text_of}
 use Rattle.cj_program.specs.NextText.{IsNextText}
@@ -70,7 +70,7 @@ IsNoRule (Some rule) = IsNone (read_whole rule.now)
 -- UTC where no rule is given, else a zone whose clock is what `jiff` makes of the rule
 abbrev pub IsZoneOf : Option (Bor (List ℕ)) → Zone → Type 0
 IsZoneOf None zone = zone ≡ utc_zone (codes "UTC")
-IsZoneOf (Some rule) zone = IsClockOf (Rule rule.now) zone.rules
+IsZoneOf (Some rule) zone = (zone.source ≡ Rule rule.now) × IsMade (Rule rule.now)
 
 -- the schedule is refused first
 pub record RefusesSchedule (r : NextRequest) (o : Outcome) : Type 0 where

@@ -3,7 +3,7 @@ ghost use Rattle.jiff.specs.Words.{read_whole};
 ghost use Rattle.cj_base.specs.declared.refusal.Refusal.TheVariants.{OutOfMemory};
 ghost use Rattle.cj_zone.specs.declared.source.Source.TheVariants.{Rule};
 ghost use Rattle.cj_zone.specs.declared.zone.Zone.{Zone};
-ghost use Rattle.cj_zone.specs.Made.{IsClockOf};
+ghost use Rattle.cj_zone.specs.Made.{IsMade};
 ghost use Rattle.cj_zone.specs.Table.{local_zone};
 ghost use Rattle.cj_program.specs.Outcome.{IsNextOutcome, IsNoRule, IsZoneOf, outcome_of, refusal, schedule_line};
 
@@ -46,7 +46,7 @@ const RULE_NAME: &str = "rule";
 
 // A table whose local zone is the one of the rule.
 fn zones_of_rule(alloc: Global, rule: &str) -> Result<ZoneTable, Refusal>
-    ensures ok { IfOk result (λ table. (zone : Zone) → local_zone table ≡ Some zone → IsClockOf (Rule rule.now) zone.rules) }
+    ensures ok { IfOk result (λ table. (zone : Zone) → local_zone table ≡ Some zone → (zone.source ≡ Rule rule.now) × IsMade (Rule rule.now)) }
     ensures err { IfErr result (λ e. (e ≡ OutOfMemory) ⊎ IsNone (read_whole rule.now)) }
 {
     let mut table = ZoneTable::new(alloc)?;

@@ -1,6 +1,6 @@
 use Rattle.std.proofs.Common.{◌≡◌, ◌∙◌, ap, refl, subst, [], ◌∷◌, ◌++◌, Some, codes}
 use Rattle.cj_zone.specs.declared.zone.Zone.{Zone}
-use Rattle.cj_zone.specs.Made.{IsRuleClock}
+use Rattle.cj_zone.specs.declared.source.Source.TheVariants.{Rule}
 use Rattle.cj_zone.specs.Zones.{utc_zone, zone_named}
 use Rattle.cj_program.proofs.next.zones_of_rule.Goals as goal
 
@@ -15,5 +15,5 @@ returns-clause-ok c = λ zone is.
     let b = c.in_ok-set_local.ensures.set in
     let there = ap (zone_named (codes "rule")) (a.zones ∙ ap (λ zs. zs ++ a.zone ∷ []) c.in_ok-table.ensures.zones) ∙ zone_found a.zone a.name_is in
     let same : a.zone ≡ zone = cc (there, b.found, b.local, is) in
-    let P : Zone → Type 0 = λ z. IsRuleClock c.args.rule.now z.rules in
-    subst P same a.clock
+    let P : Zone → Type 0 = λ z. z.source ≡ Rule c.args.rule.now in
+    (subst P same a.source_is, a.clock)
