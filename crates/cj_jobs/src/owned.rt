@@ -46,7 +46,11 @@ impl Owned {
     }
 
     // The entry of the Job at the key, if one stands there and its controller reference names a CronJob.
-    pub(crate) fn at(alloc: Global, table: &Table<Shared<Job>>, key: &Key) -> Result<Option<Owned>, Refusal>
+    pub(crate) fn at(
+        alloc: Global,
+        table: &Table<Shared<Job>>,
+        key: &Key,
+    ) -> Result<Option<Owned>, Refusal>
         ensures ok { IfOk result (λ o. o ≡ owned_at (map.get table.now key.now)) }
         ensures err { IfErr result (λ e. e ≡ OutOfMemory) }
     {

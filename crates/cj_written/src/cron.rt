@@ -86,7 +86,11 @@ fn active_value(alloc: Global, namespace: &str, name: &str) -> Result<Value, Ref
     Ok(Value::Object(members))
 }
 
-fn active_values(alloc: Global, namespace: &str, names: &[ObjectName]) -> Result<Vec<Value>, Refusal>
+fn active_values(
+    alloc: Global,
+    namespace: &str,
+    names: &[ObjectName],
+) -> Result<Vec<Value>, Refusal>
     ensures ok { IfOk result (λ v. map view v.items ≡ map (object.active_data namespace.now) names.now) }
     ensures err { IfErr result (λ e. e ≡ OutOfMemory) }
 {
