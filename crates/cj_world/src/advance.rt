@@ -1,0 +1,90 @@
+ghost use Rattle.std.specs.Prelude.{◌≡◌, ◌<◌, ◌^◌, ◌∷◌, Ok, Err, IfOk, IfErr, OnErr, vec_len, vec_capacity};
+ghost use mathlib.Core.List.{reverse};
+ghost use Rattle.cj_base.specs.declared.refusal.Refusal.TheVariants.{OutOfMemory};
+ghost use Rattle.cj_state.specs.Sound.{IsSound};
+ghost use Rattle.cj_legal.specs.Answers.{is_empty};
+ghost use Rattle.cj_world.specs.Worlds.{Advanced, receipts_of, told};
+
+use crate::step::step;
+use cj_calls::{Answer, Call, Caller, Entry};
+use cj_state::State;
+use cj_types::{Refusal, Shared, TryCopy};
+use std::alloc::Global;
+
+/// What a call answered, and its entry twice, where it was entered.
+#[derive(Drop)]
+pub struct Made {
+    pub answer: Answer,
+    pub receipts: Option<(Entry, Entry)>,
+}
+
+// A call as often as it is needed: for the history, and for two receipts.
+#[derive(Drop)]
+struct Calls {
+    entered: Shared<Call>,
+    first: Shared<Call>,
+    second: Shared<Call>,
+}
+
+fn thrice(alloc: Global, call: &Call) -> Result<Calls, Refusal>
+    ensures ok { IfOk result (λ c. (c.entered ≡ call.now) × (c.first ≡ call.now) × (c.second ≡ call.now)) }
+    ensures err { IfErr result (λ e. e ≡ OutOfMemory) }
+{
+    let entered = Shared::new(alloc, call.try_copy(alloc)?)?;
+    let first = entered.try_copy(alloc)?;
+    let second = entered.try_copy(alloc)?;
+    Ok(Calls {
+        entered,
+        first,
+        second,
+    })
+}
+
+fn is_empty(answer: &Answer) -> bool
+    ensures { result ≡ is_empty answer.now }
+{
+    matches!(answer, Err(Refusal::Empty))
+}
+
+// Adds the entry.
+fn push(entries: &mut Vec<Entry>, entry: Entry)
+    requires { vec_len entries.old < vec_capacity entries.old }
+    ensures { reverse entries.new.items ≡ entry ∷ reverse entries.old.items }
+{
+    entries.push_reserved(entry);
+}
+
+/// Makes the call on the state, and adds its entry where its answer is one that is entered. Where there is no memory all
+/// is as it was.
+#[tactic(auto, using(crate::proofs::Keeps::row_given, crate::proofs::Keeps::advanced_entered, crate::proofs::Keeps::receipts_entered, crate::proofs::Keeps::receipts_empty))]
+pub(crate) fn advance(
+    alloc: Global,
+    state: &mut State,
+    entries: &mut Vec<Entry>,
+    caller: &Caller,
+    call: &Call,
+) -> Result<Made, Refusal>
+    requires room { state.old.store.version < 2 ^ 40 }
+    requires sound { IsSound state.old }
+    requires place { vec_len entries.old < vec_capacity entries.old }
+    ensures made { IfOk result (λ m. Advanced state.old (reverse entries.old.items) caller.now call.now m.answer state.new (reverse entries.new.items)) }
+    ensures receipts { IfOk result (λ m. m.receipts ≡ receipts_of caller.now call.now m.answer) }
+    ensures err { OnErr result ((state.new ≡ state.old) × (entries.new ≡ entries.old)) }
+    ensures memory { IfErr result (λ e. e ≡ OutOfMemory) }
+{
+    let calls = thrice(alloc, call)?;
+    let parts = step(alloc, state, caller, call)?.parts();
+    if is_empty(&parts.answer) {
+        return Ok(Made {
+            answer: parts.answer,
+            receipts: None,
+        });
+    }
+    push(entries, Entry::new(*caller, calls.entered, parts.entered));
+    let first = Entry::new(*caller, calls.first, parts.first);
+    let second = Entry::new(*caller, calls.second, parts.second);
+    Ok(Made {
+        answer: parts.answer,
+        receipts: Some((first, second)),
+    })
+}

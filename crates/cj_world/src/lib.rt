@@ -1,0 +1,10 @@
+//! The world: what is stored, told, listed and queued, who works on what, and the history of calls that led to it.
+//! Whatever is called by whomever, its type keeps what the history promises.
+#![tactic(auto)]
+
+mod advance;
+mod step;
+mod world;
+
+pub use cj_types::Limits;
+pub use world::World;

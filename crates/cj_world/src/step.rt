@@ -1,0 +1,34 @@
+ghost use Rattle.std.specs.Prelude.{◌≡◌, ◌<◌, ◌^◌, IfOk, IfErr, OnErr};
+ghost use Rattle.cj_base.specs.declared.refusal.Refusal.TheVariants.{OutOfMemory};
+ghost use Rattle.cj_state.specs.Sound.{IsSound};
+ghost use Rattle.cj_state.specs.Moves.{moved};
+ghost use Rattle.cj_state.specs.Step.{step_of};
+
+use cj_arms::{by_informer, by_runner, by_user};
+use cj_calls::{Answered, Call, Caller, Role};
+use cj_moves::by_worker;
+use cj_state::State;
+use cj_types::Refusal;
+use std::alloc::Global;
+
+// Makes the call. Where there is no memory all is as it was.
+#[tactic(auto, unfolding(cj_state::specs::Step::step_of))]
+pub(crate) fn step(
+    alloc: Global,
+    state: &mut State,
+    caller: &Caller,
+    call: &Call,
+) -> Result<Answered, Refusal>
+    requires room { state.old.store.version < 2 ^ 40 }
+    requires sound { IsSound state.old }
+    ensures ok { IfOk result (λ t. step_of state.old caller.now call.now ≡ moved t state.new) }
+    ensures err { OnErr result (state.new ≡ state.old) }
+    ensures memory { IfErr result (λ e. e ≡ OutOfMemory) }
+{
+    match caller.role {
+        Role::User => by_user(alloc, state, call),
+        Role::Runner => by_runner(alloc, state, call),
+        Role::Informer => by_informer(alloc, state, call),
+        Role::Worker => by_worker(alloc, state, caller.number, call),
+    }
+}

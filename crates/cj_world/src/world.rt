@@ -1,0 +1,184 @@
+ghost use Rattle.std.specs.Prelude.{◌≡◌, ◌≤◌, ◌↔◌, [], false, IsTrue, IfOk, IfErr, Err, length};
+ghost use Rattle.std.specs.FinMap as map;
+ghost use mathlib.Core.List.{reverse};
+ghost use Rattle.cj_base.specs.declared.refusal.Refusal.TheVariants.{Empty, OutOfMemory};
+ghost use Rattle.cj_types.specs.WorldLimits.{last_history};
+ghost use Rattle.cj_state.specs.Legal.{IsLegal, IsPlanned, ArePlanned, is_entered};
+ghost use Rattle.cj_legal.specs.Exclusive.{Exclusive};
+ghost use Rattle.cj_once.specs.Once.{Once, Alone};
+ghost use Rattle.cj_world.specs.Worlds.{Applied, Entered, IsAtRest, receipts_of, state_in};
+
+use crate::advance::{Made, advance};
+use cj_calls::{Answer, Call, Caller, Entry};
+use cj_legal::exclusive_law;
+use cj_mirror::Mirror;
+use cj_once::once_law;
+use cj_queue::Queue;
+use cj_seats::Seats;
+use cj_state::State;
+use cj_store::Store;
+use cj_types::{CronJob, Job, Limits, Listing, Refusal, Shared, Version};
+use cj_watch::{WatchLog, Window};
+use std::alloc::Global;
+use std::marker::Model;
+
+/// What is stored, told, listed and queued, who works on what, and the history that led to it.
+///
+/// Contracts see the limits and the history, the newest entry first. Its type keeps that the history is within its limit
+/// and legal, and that all that it holds is what the history leaves.
+#[derive(Drop)]
+pub struct World {
+    alloc: Global,
+    limits: Limits,
+    state: State,
+    entries: Vec<Entry>,
+}
+
+impl Model for World {
+    ghost use mathlib.Core.List.{reverse};
+    ghost use Rattle.cj_world.specs.Worlds.{Ledger, Stands};
+
+    ghost Value = { Ledger };
+
+    ghost view = { λ w. record { limits = w.limits; history = reverse w.entries.items } };
+
+    ghost invariant = { λ w. Stands w.limits (reverse w.entries.items) w.state };
+}
+
+// How many events are kept.
+fn window_of(limits: Limits) -> Window
+    ensures { result ≡ limits.window }
+{
+    Window::new(limits.window()).unwrap()
+}
+
+// A plan that a call carries is a decision, by its type.
+fn is_planned(call: &Call)
+    ensures { IsPlanned call.now }
+{
+    if let Call::Claim(plan) = call {
+        plan.get().steps();
+    }
+}
+
+impl World {
+    /// A world in which nothing was called. It takes its memory from `alloc`.
+    pub fn new(alloc: Global, limits: Limits) -> Result<World, Refusal>
+        ensures ok { IfOk result (λ w. w ≡ record { limits = limits; history = [] }) }
+        ensures err { IfErr result (λ e. e ≡ OutOfMemory) }
+    {
+        let state = State {
+            store: Store::new(alloc),
+            watch: WatchLog::new(alloc, window_of(limits))?,
+            mirror: Mirror::new(alloc),
+            queue: Queue::new(alloc),
+            seats: Seats::new(alloc),
+        };
+        Ok(World {
+            alloc,
+            limits,
+            state,
+            entries: Vec::new(alloc),
+        })
+    }
+
+    /// All entries, the oldest first, with what holds of every history: it is within its limit; each answer is the one that
+    /// the entries before it give, and each plan that came in is a decision; no key is in two workers' hands; no scheduled
+    /// time of a CronJob got two Jobs; and a Job that was made under Forbid or Replace was made alone.
+    pub fn history(&self) -> &[Entry]
+        ensures entries { reverse result.now ≡ self.now.history }
+        ensures short { (length self.now.history ≤ self.now.limits.history) × (self.now.limits.history ≤ last_history) }
+        ensures legal { IsLegal self.now.limits.window self.now.history }
+        ensures planned { ArePlanned self.now.history }
+        ensures exclusive { Exclusive self.now.history }
+        ensures once { Once self.now.limits.window self.now.history }
+        ensures alone { Alone self.now.limits.window self.now.history }
+    {
+        exclusive_law();
+        once_law();
+        self.entries.as_slice()
+    }
+
+    fn is_full(&self) -> bool
+        ensures { IsTrue result ↔ (self.now.limits.history ≤ length self.now.history) }
+    {
+        self.entries.as_slice().len() >= self.limits.history() as usize
+    }
+
+    // Makes one call, unless the history is full.
+    fn make(&mut self, caller: &Caller, call: &Call) -> Result<Made, Refusal>
+        ensures limits { self.new.limits ≡ self.old.limits }
+        ensures made { IfOk result (λ m. Applied self.old.limits self.old.history caller.now call.now m.answer self.new.history) }
+        ensures receipts { IfOk result (λ m. m.receipts ≡ receipts_of caller.now call.now m.answer) }
+        ensures nothing { IfOk result (λ m. is_entered m.answer ≡ false → m.answer ≡ Err Empty) }
+        ensures refused { IfErr result (λ e. Applied self.old.limits self.old.history caller.now call.now (Err e) self.new.history × (is_entered (Err e) ≡ false)) }
+    {
+        if self.is_full() {
+            return Err(Refusal::HistoryFull);
+        }
+        if self.entries.reserve(1).is_err() {
+            return Err(Refusal::OutOfMemory);
+        }
+        is_planned(call);
+        advance(self.alloc, &mut self.state, &mut self.entries, caller, call)
+    }
+
+    /// Makes one call. Its answer is the one that the history gives, and its entry is added; or it is refused for want of
+    /// memory, because the history is full, or because there is nothing to take, and all is as it was.
+    pub fn apply(&mut self, caller: &Caller, call: &Call) -> Answer
+        ensures limits { self.new.limits ≡ self.old.limits }
+        ensures applied { Applied self.old.limits self.old.history caller.now call.now result self.new.history }
+    {
+        match self.make(caller, call) {
+            Ok(made) => made.answer,
+            Err(refusal) => Err(refusal),
+        }
+    }
+
+    /// Makes one call, as `apply` does, and gives its entry twice where it was entered.
+    pub fn enter(&mut self, caller: &Caller, call: &Call) -> Result<(Entry, Entry), Refusal>
+        ensures limits { self.new.limits ≡ self.old.limits }
+        ensures entered { IfOk result (λ p. Entered self.old.limits self.old.history caller.now call.now p self.new.history) }
+        ensures refused { IfErr result (λ e. Applied self.old.limits self.old.history caller.now call.now (Err e) self.new.history × (is_entered (Err e) ≡ false)) }
+    {
+        let Made { receipts, .. } = self.make(caller, call)?;
+        match receipts {
+            Some(receipts) => Ok(receipts),
+            None => Err(Refusal::Empty),
+        }
+    }
+
+    /// The current CronJobs and Jobs, each in the order of their keys. None is copied.
+    pub fn objects(&self) -> Result<(Listing<Shared<CronJob>>, Listing<Shared<Job>>), Refusal>
+        ensures crons { IfOk result (λ p. p.0 ≡ map.values (state_in self.now).store.crons) }
+        ensures jobs { IfOk result (λ p. p.1 ≡ map.values (state_in self.now).store.jobs) }
+        ensures err { IfErr result (λ e. e ≡ OutOfMemory) }
+    {
+        let crons = self.state.store.list_crons(self.alloc)?;
+        let jobs = self.state.store.list_jobs(self.alloc)?;
+        Ok((crons, jobs))
+    }
+
+    /// The version of the last write, 0 before the first.
+    pub fn version(&self) -> Version
+        ensures { result ≡ (state_in self.now).store.version }
+    {
+        self.state.store.version()
+    }
+
+    /// How many writes the lists know of.
+    pub fn fed(&self) -> Version
+        ensures { result ≡ (state_in self.now).mirror.fed }
+    {
+        self.state.mirror.version()
+    }
+
+    /// Whether no key is in the line, and nobody holds one.
+    pub fn at_rest(&self) -> bool
+        ensures { IsTrue result ↔ IsAtRest (state_in self.now) }
+    {
+        let no_line = self.state.queue.front().is_none();
+        let no_seat = self.state.seats.is_empty();
+        no_line && no_seat
+    }
+}
