@@ -1,4 +1,4 @@
-use cj_base::{Cause, Civil, Field, FieldFault, Refusal, Seconds, TryCopy};
+use cj_base::{Cause, Civil, Field, FieldFault, Refusal, Same, Seconds, TryCopy};
 use cj_zone::{ZoneTable, date_of_day, local, read_time, time_text};
 use std::test::Fail;
 
@@ -67,8 +67,9 @@ fn rules_and_names(rt: HostRuntime) -> Result<(), Fail> {
     table.set_local("Europe/Berlin")?;
     let berlin = table.get("Europe/Berlin").ok_or("not there")?;
     let copy = berlin.try_copy(rt.alloc())?;
-    assert!(rt; copy == *table.default_zone());
-    assert!(rt; table.get("UTC") != Some(berlin));
+    assert!(rt; copy.same(table.default_zone()));
+    let utc = table.get("UTC").ok_or("not there")?;
+    assert!(rt; !utc.same(berlin));
     Ok(())
 }
 

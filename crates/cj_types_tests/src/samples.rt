@@ -266,7 +266,7 @@ impl Sample for CronJob {
         Ok(CronJob {
             key: CronKey::sample(alloc, within(change, 0, 3))?,
             meta: Meta::sample(alloc, within(change, 3, 16))?,
-            spec: CronSpec::sample(alloc, within(change, 19, 15))?,
+            spec: Shared::sample(alloc, within(change, 19, 15))?,
             status: CronStatus::sample(alloc, within(change, 34, 10))?,
         })
     }
@@ -277,7 +277,7 @@ impl Sample for CronJobDraft {
         Ok(CronJobDraft {
             key: CronKey::sample(alloc, within(change, 0, 1))?,
             meta: DraftMeta::sample(alloc, within(change, 1, 6))?,
-            spec: CronSpec::sample(alloc, within(change, 7, 1))?,
+            spec: Shared::sample(alloc, within(change, 7, 1))?,
         })
     }
 }
@@ -317,8 +317,8 @@ impl Sample for JobDraft {
 impl Sample for Object {
     fn sample(alloc: Global, change: u8) -> Result<Object, Fail> {
         match change {
-            45..=61 => Ok(Object::Job(Job::sample(alloc, change.saturating_sub(45))?)),
-            _ => Ok(Object::Cron(CronJob::sample(alloc, change)?)),
+            45..=61 => Ok(Object::Job(Shared::sample(alloc, change.saturating_sub(45))?)),
+            _ => Ok(Object::Cron(Shared::sample(alloc, change)?)),
         }
     }
 }
