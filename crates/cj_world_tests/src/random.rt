@@ -106,8 +106,8 @@ impl Random {
     fn user_call(&mut self, alloc: Global, stage: &Stage) -> Result<Call, Refusal> {
         match self.below(10) {
             0..4 => self.create(alloc),
-            4..6 => self.update(alloc),
-            6 => Ok(Call::DeleteCron(key(alloc, self.name())?)),
+            4 => self.update(alloc),
+            5 => Ok(Call::DeleteCron(key(alloc, self.name())?)),
             _ => self.delete_job(alloc, stage),
         }
     }
@@ -132,9 +132,10 @@ impl Random {
         self.plans
             .push(plan.share()?)
             .map_err(|_| Refusal::OutOfMemory)?;
+        let is_old = self.below(12) == 0;
         let place = self.below(self.plans.len() as u64) as usize;
         match self.plans.get(place) {
-            Some(old) if self.below(12) == 0 => Ok(Call::Claim(old.share()?)),
+            Some(old) if is_old => Ok(Call::Claim(old.share()?)),
             _ => Ok(Call::Claim(plan)),
         }
     }
@@ -167,7 +168,10 @@ impl Random {
             Stand::Held => 1,
             Stand::Seen => 2,
             Stand::Listed => 3,
+            // A refused claim is given up sooner or later.
+            Stand::Checked if self.below(4) == 0 => 9,
             Stand::Checked => 4,
+            Stand::Works if self.below(30) == 0 => 9,
             Stand::Works => self.below(4).saturating_add(5),
         }
     }

@@ -62,12 +62,38 @@ fn run(alloc: Global, stage: &mut Stage, seed: u64, calls: u32) -> Result<Counts
     Ok(counts)
 }
 
+// Whether enough came to pass for the run to say something.
+fn is_rich(counts: &Counts) -> bool {
+    let works = counts.made >= 150 && counts.strict >= 2_000;
+    works && counts.stale >= 20 && counts.conflicts >= 20
+}
+
+// Whether the world's CronJobs and unfinished Jobs are as many as the checker knows of.
+fn is_as_checked(stage: &Stage) -> Result<bool, Refusal> {
+    let (crons, jobs) = stage.world.objects()?;
+    let running = jobs.as_slice().iter().filter(|job| job.is_unfinished());
+    let all = crons.as_slice().len() == stage.checker.crons.len();
+    Ok(all && running.count() == stage.checker.running.len())
+}
+
 #[test]
 fn ten_thousand_calls(rt: HostRuntime) -> Result<(), Fail> {
     let alloc = rt.alloc();
     let mut stage = Stage::new(alloc, 100_000, 40)?;
     let counts = run(alloc, &mut stage, 1, 10_000)?;
     assert_eq!(rt; counts.fault, None);
-    assert_eq!(rt; (counts.made, counts.strict, counts.stale, counts.conflicts), (0, 0, 0, 0));
+    assert_eq!(rt; is_as_checked(&stage)?, true);
+    assert!(rt; is_rich(&counts), "{counts:?}");
+    Ok(())
+}
+
+#[test]
+fn ten_thousand_calls_with_a_window_of_two(rt: HostRuntime) -> Result<(), Fail> {
+    let alloc = rt.alloc();
+    let mut stage = Stage::new(alloc, 100_000, 2)?;
+    let counts = run(alloc, &mut stage, 7, 10_000)?;
+    assert_eq!(rt; counts.fault, None);
+    assert_eq!(rt; is_as_checked(&stage)?, true);
+    assert!(rt; is_rich(&counts), "{counts:?}");
     Ok(())
 }
