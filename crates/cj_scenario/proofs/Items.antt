@@ -1,5 +1,5 @@
 -- The Jobs of a list, one after another.
-use Rattle.std.proofs.Common.{◌≡◌, ◌+◌, ◌<◌, ◌∙◌, ℕ, suc, List, [], ◌∷◌, length, drop, get_or, Result, Ok, Err, refl, sym, ap, subst, inl, inr, rules, arith}
+use Rattle.std.proofs.Common.{◌≡◌, ◌+◌, ◌/◌, ◌<◌, ◌==◌, ◌||◌, ◌∙◌, ℕ, Bool, true, false, suc, List, [], ◌∷◌, ◌++◌, length, drop, get_or, Result, Ok, Err, refl, sym, ap, subst, inl, inr, rules, arith}
 use Rattle.std.proofs.Math.Seq.{drop-cons}
 use Rattle.std.specs.Prelude.{IfErr}
 use Rattle.std.specs.Result.{IsErrAnd}
@@ -8,7 +8,11 @@ use Rattle.serde_json.specs.declared.value.Value.{Value}
 use Rattle.cj_scenario.specs.declared.fault.SceneFault.{SceneFault}
 use Rattle.serde_json.specs.Data.{Data, Items, no_items, item}
 use Rattle.cj_scenario.specs.declared.given.GivenJob.{GivenJob}
-use Rattle.cj_scenario.specs.Scenes.{AddsItem, AddsItems, Refuses}
+use Rattle.cj_scenario.specs.Minutes.{AddsMinute, AreMinutesOf}
+use Rattle.cj_scenario.specs.Scenes.{IsGiven, AddsItem, AddsItems, Refuses, has_minute}
+use Rattle.std.proofs.lemmas.List.Folds.{list_any-append}
+use Rattle.std.specs.BTreeSet.{BTreeSet, contains}
+use Rattle.std.specs.Ordering.{nat_cmp}
 
 -- what goes on from these Jobs is what goes on from none
 pub record Leads (ds : Items) (jobs : List GivenJob) (rest : Items) : Type 0 where
@@ -40,6 +44,34 @@ pub leads_nowhere : (ds : Items) (jobs : List GivenJob) (d : Data) (rest : Items
     → ((more : List GivenJob) → AddsItem jobs d more → ⊥) → (all : List GivenJob) → AddsItems [] ds all → ⊥
 leads_nowhere ds jobs d rest leads none all h = ends d jobs rest all none (leads.back all h)
 
+-- ---- the minutes of the Jobs
+
+last_or : (a b : Bool) → (a || b) ≡ (b || (a || false))
+last_or true true = refl
+last_or true false = refl
+last_or false true = refl
+last_or false false = refl
+
+pub minutes_more : (jobs : List GivenJob) (job : GivenJob) (minutes more : BTreeSet ℕ) → AreMinutesOf jobs minutes → AddsMinute minutes (job.time / 60) more
+    → AreMinutesOf (jobs ++ job ∷ []) more
+minutes_more jobs job minutes more are adds minute =
+    adds minute ∙ ap (λ b. (job.time / 60 == minute) || b) (are minute) ∙ last_or (job.time / 60 == minute) (has_minute minute jobs)
+    ∙ sym (list_any-append (λ j. j.time / 60 == minute) jobs (job ∷ []))
+
+-- a Job that is given, and none of its minute
+pub adds_new : (jobs : List GivenJob) (d : Data) (job : GivenJob) (minutes : BTreeSet ℕ) → AreMinutesOf jobs minutes → IsGiven d job
+    → contains nat_cmp minutes (job.time / 60) ≡ false → AddsItem jobs d (jobs ++ job ∷ [])
+adds_new jobs d job minutes are given free =
+    record { job = job; given = given; free = sym (are (job.time / 60)) ∙ free; more_are = refl }
+
+pub adds_only : (jobs : List GivenJob) (d : Data) (job : GivenJob) → ((other : GivenJob) → IsGiven d other → other ≡ job)
+    → (more : List GivenJob) → AddsItem jobs d more → more ≡ jobs ++ job ∷ []
+adds_only jobs d job only more adds = adds.more_are ∙ ap (λ j. jobs ++ j ∷ []) (only adds.job adds.given)
+
+pub adds_none : (jobs : List GivenJob) (d : Data) (minutes : BTreeSet ℕ) → AreMinutesOf jobs minutes
+    → ((job : GivenJob) → IsGiven d job → contains nat_cmp minutes (job.time / 60) ≡ false → ⊥) → (more : List GivenJob) → AddsItem jobs d more → ⊥
+adds_none jobs d minutes are none more adds = none adds.job adds.given (are (adds.job.time / 60) ∙ adds.free)
+
 -- the rest of a list from one of its places
 rest_at : (values : List Value) (i : ℕ) (x : Value) → i < length values → x ≡ get_or values i x → drop i values ≡ x ∷ drop (i + 1) values
 rest_at values i x inside at =
@@ -53,6 +85,20 @@ pub leads_value : (values : List Value) (i : ℕ) (x : Value) (jobs more : List 
 leads_value values i x jobs more inside at leads adds only =
     leads_item (items_view values) jobs more (view x) (items_view (drop (i + 1) values))
     (subst (λ vs. Leads (items_view values) jobs (items_view vs)) (rest_at values i x inside at) leads) adds only
+
+-- what has come as far as a value, with the minutes so far
+abbrev pub HasCome : List Value → ℕ → List GivenJob → BTreeSet ℕ → Type 0
+HasCome values i jobs minutes = Leads (items_view values) jobs (items_view (drop i values)) × AreMinutesOf jobs minutes
+
+-- one Job more of a list
+pub comes_on : (values : List Value) (i : ℕ) (x : Value) (jobs more : List GivenJob) (job : GivenJob) (minutes others : BTreeSet ℕ) → i < length values → x ≡ get_or values i x
+    → HasCome values i jobs minutes → IsGiven (view x) job → ((other : GivenJob) → IsGiven (view x) other → other ≡ job)
+    → contains nat_cmp minutes (job.time / 60) ≡ false → AddsMinute minutes (job.time / 60) others → more ≡ jobs ++ job ∷ [] → HasCome values (i + 1) more others
+comes_on values i x jobs more job minutes others inside at come given only free adds is =
+    rw is (
+      leads_value values i x jobs (jobs ++ job ∷ []) inside at come.0 (adds_new jobs (view x) job minutes come.1 given free) (adds_only jobs (view x) job only),
+      minutes_more jobs job minutes others come.1 adds,
+    )
 
 -- one that can't be added, of a list that is seen in another way
 pub no_value : (items values : List Value) (i : ℕ) (x : Value) (jobs : List GivenJob) → values ≡ items → i < length values → x ≡ get_or values i x

@@ -2,3 +2,4 @@ pub mod Scenes
 pub mod Parts
 pub mod Live
 pub mod Made
+pub mod Minutes

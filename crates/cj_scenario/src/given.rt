@@ -1,7 +1,10 @@
 // The Jobs of a scenario.
-ghost use Rattle.std.specs.Prelude.{◌≡◌, ◌/◌, List, [], Some, IfOk, IfErr, IfSome, OnOk, option_map};
+ghost use Rattle.std.specs.Prelude.{◌≡◌, ◌/◌, List, [], false, Some, IfOk, IfErr, IfSome, OnOk, option_map};
+ghost use Rattle.std.specs.BTreeSet.{contains};
+ghost use Rattle.std.specs.Ordering.{nat_cmp};
 ghost use Rattle.serde_json.specs.View.{view, items_view};
 ghost use Rattle.cj_manifest.specs.Members.{present as member_at};
+ghost use Rattle.cj_scenario.specs.Minutes.{AddsMinute, AreMinutesOf};
 ghost use Rattle.cj_scenario.specs.Scenes as form;
 ghost use Rattle.cj_scenario.specs.declared.given.GivenJob.{GivenJob};
 
@@ -10,6 +13,7 @@ use crate::times::{present, time_at};
 use cj_types::{Outcome, Seconds};
 use serde_json::Value;
 use std::alloc::Global;
+use std::collections::BTreeSet;
 
 /// A Job as a scenario gives it: its time, and how it ended, if it did.
 #[derive(Clone, Copy, Debug)]
@@ -48,25 +52,22 @@ fn given(value: &Value) -> Option<GivenJob>
     Some(GivenJob { time, outcome })
 }
 
-fn has_minute(minute: u64, jobs: &[GivenJob]) -> bool
-    ensures { result ≡ form.has_minute minute jobs.now }
-{
-    jobs.iter().any(|job| job.time.get() / 60 == minute)
-}
-
-// One Job more, at the end.
-fn add_item(jobs: &mut Vec<GivenJob>, value: &Value) -> Result<(), SceneFault>
-    ensures ok { OnOk result (form.AddsItem jobs.old.items (view value.now) jobs.new.items) }
-    ensures only { OnOk result ((more : List GivenJob) → form.AddsItem jobs.old.items (view value.now) more → more ≡ jobs.new.items) }
-    ensures refused { IfErr result (λ e. form.Refuses e ((more : List GivenJob) → form.AddsItem jobs.old.items (view value.now) more → ⊥)) }
+// A Job of a minute that none of the Jobs has, whose minutes these are.
+fn new_job(minutes: &mut BTreeSet<u64>, value: &Value) -> Result<GivenJob, SceneFault>
+    ensures ok { IfOk result (form.IsGiven (view value.now)) }
+    ensures only { IfOk result (λ job. (other : GivenJob) → form.IsGiven (view value.now) other → other ≡ job) }
+    ensures free { IfOk result (λ job. contains nat_cmp minutes.old (job.time / 60) ≡ false) }
+    ensures added { IfOk result (λ job. AddsMinute minutes.old (job.time / 60) minutes.new) }
+    ensures refused { IfErr result (λ e. form.Refuses e ((job : GivenJob) → form.IsGiven (view value.now) job → contains nat_cmp minutes.old (job.time / 60) ≡ false → ⊥)) }
 {
     let Some(job) = given(value) else {
         return Err(SceneFault::Form);
     };
-    if has_minute(job.time.get() / 60, jobs.as_slice()) {
-        return Err(SceneFault::Form);
+    match minutes.insert(job.time.get() / 60) {
+        Ok(true) => Ok(job),
+        Ok(false) => Err(SceneFault::Form),
+        Err(_) => Err(SceneFault::Memory),
     }
-    jobs.push(job).map_err(|_| SceneFault::Memory)
 }
 
 fn items_of(alloc: Global, items: &Vec<Value>) -> Result<Vec<GivenJob>, SceneFault>
@@ -74,8 +75,11 @@ fn items_of(alloc: Global, items: &Vec<Value>) -> Result<Vec<GivenJob>, SceneFau
     ensures refused { IfErr result (λ e. form.Refuses e ((all : List GivenJob) → form.AddsItems [] (items_view items.now.items) all → ⊥)) }
 {
     let mut jobs = Vec::new(alloc);
+    let mut minutes = BTreeSet::new(alloc);
     for item in items {
-        add_item(&mut jobs, item)?;
+        let GivenJob { time, outcome } = new_job(&mut minutes, item)?;
+        jobs.push(GivenJob { time, outcome })
+            .map_err(|_| SceneFault::Memory)?;
     }
     Ok(jobs)
 }

@@ -1,0 +1,5 @@
+mod Bases
+mod Fields
+mod Forms
+mod Placed
+mod Told
