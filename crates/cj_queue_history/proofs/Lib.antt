@@ -1,0 +1,7 @@
+pub mod Turns
+pub mod Rows
+pub mod Readies
+pub mod Steps
+pub mod Holders
+pub mod Whole
+pub mod Sample

@@ -1,0 +1,97 @@
+-- Histories of a few calls, which are legal, and on which the look-backs compute.
+use Rattle.std.proofs.Common.{◌≡◌, ℕ, Bool, true, false, List, [], ◌∷◌, Option, Some, None, is_some, refl, sym, ap, ◌∙◌}
+use Rattle.std.specs.Prelude.{Result, Ok, Err, if◌then◌else◌}
+use Rattle.std.specs.Ordering.{nat_cmp}
+use Rattle.std.specs.FinMap as map
+use Rattle.cj_base.specs.declared.refusal.Refusal.{Refusal}
+use Rattle.cj_types.specs.Keys.{Place, place, place_cmp}
+use Rattle.cj_calls.specs.declared.caller.Caller.{Caller}
+use Rattle.cj_calls.specs.declared.caller.Role.{Role}
+use Rattle.cj_calls.specs.declared.caller.Role.TheVariants.{Informer, Worker}
+use Rattle.cj_calls.specs.declared.call.Call.{Call}
+use Rattle.cj_calls.specs.declared.call.Call.TheVariants as Of
+use Rattle.cj_calls.specs.declared.end.End.TheVariants.{Well, Again}
+use Rattle.cj_calls.specs.declared.reply.Reply.{Reply}
+use Rattle.cj_calls.specs.declared.reply.Reply.TheVariants as Say
+use Rattle.cj_calls.specs.Rows.{Told}
+use Rattle.cj_seats.specs.declared.seat.Seat.{Seat}
+use Rattle.cj_queue.specs.Queue.{has, first, new_row, row_add}
+use Rattle.cj_state.specs.declared.state.State.{State}
+use Rattle.cj_state.specs.Moves.{seat_of, take, take_by, take_first}
+use Rattle.cj_state.specs.Step.{step_of}
+use Rattle.cj_state.specs.Legal.{IsLegal, state_of}
+use Rattle.cj_queue_history.specs.Deeds.{acts}
+use Rattle.cj_queue_history.specs.LookBacks.{queued, held, since, ready_at, failures, mark}
+
+abbrev a : Place
+a = place (1 ∷ []) (97 ∷ [])
+
+abbrev told : ℕ → Role → Call → Result Reply Refusal → Told
+told w role call answer = record { caller = record { number = w; role = role }; call = call; answer = answer }
+
+abbrev added : List Told
+added = told 0 Informer (Of.Add a) (Ok Say.Done) ∷ []
+
+abbrev taken : List Told
+taken = told 1 Worker Of.Take (Ok (Say.Key a)) ∷ added
+
+-- added again while it is held
+abbrev added_again : List Told
+added_again = told 0 Informer (Of.Add a) (Ok Say.Done) ∷ taken
+
+-- to be tried again, from the 1,000th millisecond on, with a delay of 5
+abbrev failed : List Told
+failed = told 1 Worker (Of.Finish (Again 1000) []) (Ok Say.Done) ∷ taken
+
+abbrev early : List Told
+early = told 0 Informer (Of.Tick 1004) (Ok Say.Done) ∷ failed
+
+abbrev due : List Told
+due = told 0 Informer (Of.Tick 1005) (Ok Say.Done) ∷ early
+
+abbrev taken_again : List Told
+taken_again = told 2 Worker Of.Take (Ok (Say.Key a)) ∷ due
+
+pub legal_add : IsLegal 3 added
+unfolding step_of
+legal_add = (refl, refl, tt)
+
+takes_it : (s : State) → seat_of s 1 ≡ None → first s.queue.row.line ≡ Some a → (take s 1).answer ≡ Ok (Say.Key a)
+unfolding take
+takes_it s e f = ap (λ (o : Option Seat). (take_by s 1 o).answer) e ∙ ap (λ (o : Option Place). (take_first s 1 o).answer) f
+
+in_line : first (row_add new_row a).line ≡ Some a
+in_line =
+    let none : has map.empty a ≡ false = ap is_some (map.get-empty {X = Unit {0}} place_cmp a) in
+    ap (λ b. first (if b then new_row else record { line = if b then [] else a ∷ []; dirty = map.insert map.empty a tt; processing = map.empty }).line) none
+
+pub legal_take : IsLegal 3 taken
+unfolding step_of
+legal_take = (sym (takes_it (state_of 3 added) (map.get-empty nat_cmp 1) in_line), refl, legal_add)
+
+pub not_twice : queued (acts added_again) a ≡ false
+not_twice = refl
+
+pub is_held : held (acts added_again) a ≡ true
+is_held = refl
+
+pub waits_first : ready_at (acts early) a ≡ Some 1005
+waits_first = refl
+
+pub not_yet : queued (acts early) a ≡ false
+not_yet = refl
+
+pub failed_once : failures (acts early) a ≡ 1
+failed_once = refl
+
+pub then_queued : queued (acts due) a ≡ true
+then_queued = refl
+
+pub since_then : since (acts due) a ≡ (5, 1005)
+since_then = refl
+
+pub waits_no_more : ready_at (acts due) a ≡ None
+waits_no_more = refl
+
+pub held_again : held (acts taken_again) a ≡ true
+held_again = refl

@@ -1,0 +1,23 @@
+-- The queue that a history leaves.
+use Rattle.std.specs.Prelude.{◌≡◌, ℕ, min, List}
+use Rattle.std.specs.FinMap.{get}
+use Rattle.cj_types.specs.Keys.{Place}
+use Rattle.cj_queue.specs.Queue.{Queue, has, failures_of}
+use Rattle.cj_calls.specs.Rows.{Told}
+use Rattle.cj_state.specs.Legal.{IsLegal, state_of}
+use Rattle.cj_queue_history.specs.Deeds.{Act, acts}
+use Rattle.cj_queue_history.specs.LookBacks.{held, dirty, shut, mark, failures, ready_at, IsLine}
+
+-- it is what the acts say; failures are counted to 18, from where on the delay is the greatest
+pub record IsQueue (h : List Act) (q : Queue) : Type 0 where
+  pub line : IsLine h q.row.line
+  pub dirty : (k : Place) → has q.row.dirty k ≡ dirty h k
+  pub held : (k : Place) → has q.row.processing k ≡ held h k
+  pub waits : (k : Place) → get q.waiting k ≡ ready_at h k
+  pub failed : (k : Place) → failures_of q k ≡ min (failures h k) 18
+  pub tick : q.tick ≡ mark h
+  pub shut : q.shut ≡ shut h
+
+-- whoever called whatever
+abbrev pub QueueLaw : Type 0
+QueueLaw = (window : ℕ) (h : List Told) → IsLegal window h → IsQueue (acts h) (state_of window h).queue

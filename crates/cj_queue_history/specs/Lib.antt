@@ -1,0 +1,3 @@
+pub mod Deeds
+pub mod LookBacks
+pub mod Laws

@@ -1,0 +1,6 @@
+//! What a history says of the work queue, by looking back over its accepted calls; and that the queue of the state agrees.
+#![tactic(auto)]
+
+mod laws;
+
+pub use laws::queue_law;

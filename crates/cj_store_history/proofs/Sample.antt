@@ -1,0 +1,78 @@
+-- A history of a few calls: a CronJob is created, deleted, and created anew under its name.
+use Rattle.std.proofs.Common.{◌≡◌, ℕ, Bool, true, false, List, [], ◌∷◌, length, Option, Some, None, refl, sym}
+use Rattle.std.specs.Prelude.{option_map, Result, Ok, Err}
+use Rattle.cj_base.specs.declared.refusal.Refusal.{Refusal}
+use Rattle.cj_types.specs.Keys.{Place, place}
+use Rattle.cj_types.specs.declared.cron.CronJob.{CronJob}
+use Rattle.cj_types.specs.declared.cron.CronJobDraft.{CronJobDraft}
+use Rattle.cj_types.specs.declared.meta.DraftMeta.{DraftMeta}
+use Rattle.cj_calls.specs.declared.caller.Caller.{Caller}
+use Rattle.cj_calls.specs.declared.caller.Role.{Role}
+use Rattle.cj_calls.specs.declared.caller.Role.TheVariants.{User, Informer}
+use Rattle.cj_calls.specs.declared.call.Call.{Call}
+use Rattle.cj_calls.specs.declared.call.Call.TheVariants as Of
+use Rattle.cj_calls.specs.declared.reply.Reply.{Reply}
+use Rattle.cj_calls.specs.declared.reply.Reply.TheVariants as Say
+use Rattle.cj_calls.specs.Rows.{Told}
+use Rattle.cj_store.specs.Content.{Content}
+use Rattle.cj_store.specs.Crons.{first_status}
+use Rattle.cj_state.specs.Legal.{IsLegal}
+use Rattle.cj_store_history.specs.Written.{version, made, current_cron, current_job}
+use Rattle.cj_store_history.specs.Writes.{writes}
+use Rattle.cj_store_history.specs.Mirrors.{fed}
+use Rattle.cj_store_history.proofs.Answered.{answers_agree}
+
+abbrev a : Place
+a = place (1 ∷ []) (97 ∷ [])
+
+abbrev told : ℕ → Role → Call → Result Reply Refusal → Told
+told w role call answer = record { caller = record { number = w; role = role }; call = call; answer = answer }
+
+abbrev user : Caller
+user = record { number = 1; role = User }
+
+module _ (d : CronJobDraft) where
+  abbrev named : CronJobDraft
+  named = record d { key = a; meta = record { uid = None; version = None; labels = d.meta.labels; annotations = d.meta.annotations } }
+
+  -- the CronJob that the n-th write creates as the u-th object
+  abbrev new : ℕ → ℕ → CronJob
+  new n u = record {
+    key = a;
+    meta = record { uid = u; version = n; generation = 1; created = 60; labels = d.meta.labels; annotations = d.meta.annotations };
+    spec = d.spec;
+    status = first_status;
+  }
+
+  abbrev created : List Told
+  created = told 1 User (Of.CreateCron named 60) (Ok (Say.Cron (new 1 1))) ∷ []
+
+  abbrev deleted : List Told
+  deleted = told 1 User (Of.DeleteCron a) (Ok (Say.Version 2)) ∷ created
+
+  abbrev created_again : List Told
+  created_again = told 1 User (Of.CreateCron named 60) (Ok (Say.Cron (new 3 2))) ∷ deleted
+
+  pub legal_created : IsLegal 3 created
+  legal_created = (sym (answers_agree 3 [] user (Of.CreateCron named 60) tt), refl, tt)
+
+  pub legal_deleted : IsLegal 3 deleted
+  legal_deleted = (sym (answers_agree 3 created user (Of.DeleteCron a) legal_created), refl, legal_created)
+
+  pub legal_again : IsLegal 3 created_again
+  legal_again = (sym (answers_agree 3 deleted user (Of.CreateCron named 60) legal_deleted), refl, legal_deleted)
+
+  pub none_then : current_cron (writes deleted) a ≡ None
+  none_then = refl
+
+  pub another : current_cron (writes created_again) a ≡ Some (new 3 2)
+  another = refl
+
+  pub three_writes : version (writes created_again) ≡ 3
+  three_writes = refl
+
+  pub two_objects : made (writes created_again) ≡ 2
+  two_objects = refl
+
+  pub knows_two : fed 3 (told 2 Informer (Of.Feed 2) (Ok (Say.Version 2)) ∷ created_again) ≡ 2
+  knows_two = refl

@@ -1,0 +1,5 @@
+use Rattle.cj_store_history.proofs.Followed.{events_agree}
+use Rattle.cj_store_history.proofs.laws.event_law.Goals as goal
+
+pub returns : goal.returns
+returns c = events_agree

@@ -1,0 +1,5 @@
+use Rattle.cj_store_history.proofs.Followed.{mirror_agrees}
+use Rattle.cj_store_history.proofs.laws.mirror_law.Goals as goal
+
+pub returns : goal.returns
+returns c = mirror_agrees

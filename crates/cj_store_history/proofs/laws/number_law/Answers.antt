@@ -1,0 +1,8 @@
+use Rattle.cj_store_history.proofs.Numbered.{numbers_law, uid_law}
+use Rattle.cj_store_history.proofs.laws.number_law.Goals as goal
+
+pub returns-clause-versions : goal.returns-clause-versions
+returns-clause-versions c = numbers_law
+
+pub returns-clause-uids : goal.returns-clause-uids
+returns-clause-uids c = uid_law

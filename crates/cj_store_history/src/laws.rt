@@ -1,0 +1,33 @@
+ghost use Rattle.cj_store_history.specs.Store.{StoreLaw};
+ghost use Rattle.cj_store_history.specs.Numbers.{NumbersLaw, UidLaw};
+ghost use Rattle.cj_store_history.specs.Events.{EventLaw};
+ghost use Rattle.cj_store_history.specs.Mirrors.{MirrorLaw};
+ghost use Rattle.cj_store_history.specs.Answers.{AnswerLaw};
+
+/// After any history the store has as many versions as there were accepted writes, as many uids as there were creations, and
+/// at each key of each kind the object that the last write about it left, or none.
+pub fn store_law()
+    ensures { StoreLaw }
+{}
+
+/// The n-th write of any list of entries has version n, and no uid is given twice.
+pub fn number_law()
+    ensures versions { NumbersLaw }
+    ensures uids { UidLaw }
+{}
+
+/// After any history a watch is told the writes after its version, in their order, or that some of them are kept no more.
+pub fn event_law()
+    ensures { EventLaw }
+{}
+
+/// After any history the listing that lags has the Jobs that the first so many writes left, where each accepted Feed counts.
+pub fn mirror_law()
+    ensures { MirrorLaw }
+{}
+
+/// After any history each call that writes, and each reading of one object, of events or of a plan's active names, is answered
+/// as the writes before it and its caller's own entries say.
+pub fn answer_law()
+    ensures { AnswerLaw }
+{}
