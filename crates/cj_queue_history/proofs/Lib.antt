@@ -4,4 +4,5 @@ pub mod Readies
 pub mod Steps
 pub mod Holders
 pub mod Whole
+pub mod Answered
 pub mod Sample

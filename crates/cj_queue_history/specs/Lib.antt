@@ -1,3 +1,4 @@
 pub mod Deeds
 pub mod LookBacks
 pub mod Laws
+pub mod Answers

@@ -3,4 +3,4 @@
 
 mod laws;
 
-pub use laws::queue_law;
+pub use laws::{answer_law, queue_law};

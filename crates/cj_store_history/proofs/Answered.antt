@@ -12,7 +12,13 @@ use Rattle.cj_types.specs.declared.cron.CronStatus.{CronStatus}
 use Rattle.cj_types.specs.declared.job.Job.{Job}
 use Rattle.cj_types.specs.declared.job.JobDraft.{JobDraft}
 use Rattle.cj_types.specs.declared.event.Event.{Event}
-use Rattle.cj_store.specs.Content.{Content}
+use Rattle.cj_types.specs.declared.event.Event.TheVariants.{Added, Modified, Deleted}
+use Rattle.cj_types.specs.declared.event.Object.TheVariants as Kind
+use Rattle.cj_queue.specs.Parts.{key_eq}
+use Rattle.cj_queue.proofs.Sets.{eq_true}
+use Rattle.cj_jobs.specs.Owners.{is_job_of}
+use Rattle.cj_mirror.specs.Lagging.{Mirror}
+use Rattle.cj_mirror.specs.Laws.{next_fed}
 use Rattle.cj_store.specs.Change.{map_ok, cron_added, cron_modified, cron_gone, job_added, job_modified, job_gone}
 use Rattle.cj_store.specs.Crons.{status_set as sets_status}
 use Rattle.cj_store.specs.Jobs.{job_made, job_deleted as deletes_job}
@@ -35,20 +41,24 @@ use Rattle.cj_seats.specs.declared.seat.Phase.{Phase}
 use Rattle.cj_seats.specs.declared.seat.Phase.TheVariants.{Held, Seen, Listed, Checked, Works}
 use Rattle.cj_seats.specs.declared.seat.Seat.{Seat}
 use Rattle.cj_state.specs.declared.state.State.{State}
-use Rattle.cj_state.specs.Readings.{if_mine, active_job, active_of}
-use Rattle.cj_state.specs.Moves.{Moved, refused, by_seat, seat_of, see_cron, see_cron_in, see_active, see_active_in, claim, claim_in, claim_where, claims, wrote, works, drop_next, drop_in, drop_where, drops_it, next_seat, make_next, make_in, make_where, steps_on, event_reply, version_reply, set_status as set_status_next, status_in, status_where, sets_it}
+use Rattle.cj_state.specs.Readings.{if_mine, active_job, active_of, listed_of, fed_up}
+use Rattle.cj_state.specs.Moves.{Moved, refused, by_seat, seat_of, see_cron, see_cron_in, see_jobs, see_jobs_in, see_active, see_active_in, claim, claim_in, claim_where, claims, wrote, works, drop_next, drop_in, drop_where, drops_it, next_seat, make_next, make_in, make_where, steps_on, event_reply, version_reply, set_status as set_status_next, status_in, status_where, sets_it}
 use Rattle.cj_state.specs.Step.{writes as writes_it, found_cron, found_job, told_events, step_of, by_role, by_reader, by_user, by_runner, by_worker, by_informer}
 use Rattle.cj_state.specs.Legal.{IsLegal, state_of}
 use Rattle.cj_legal.specs.Seats.{seat}
 use Rattle.cj_legal.proofs.Seated.{seats_agree}
-use Rattle.cj_store_history.specs.Written.{current_cron, current_job}
+use Rattle.cj_store_history.specs.Written.{version, cron_left, job_left, current_cron, current_job}
+use Rattle.cj_store_history.specs.Lists.{IsListing, passing}
+use Rattle.cj_store_history.specs.Mirrors.{fed, earliest, IsMirror}
 use Rattle.cj_store_history.specs.Writes.{writes}
 use Rattle.cj_store_history.specs.Planned.{set_status, make_job, delete_job}
-use Rattle.cj_store_history.specs.Answers.{Answer, Says, AnswerLaw, cron_found, job_found, active_now, actives_now, on_see_cron, on_see_active, on_claiming, on_plan, on_claim, dropped, on_drop_step, on_drop, on_make_step, on_make, on_setting, on_set, for_seat}
+use Rattle.cj_store_history.specs.Answers.{Answer, Says, AnswerLaw, cron_found, job_found, active_now, actives_now, on_see_cron, on_see_active, on_claiming, on_plan, on_claim, SeesJobs, OnSeeJobs, dropped, on_drop_step, on_drop, on_make_step, on_make, on_setting, on_set, for_seat}
 use Rattle.cj_store_history.specs.Store.{IsStore}
 use Rattle.cj_store_history.proofs.Planned.{create_cron_same, update_cron_same, status_same, delete_cron_same, make_same, create_job_same, update_job_same, delete_job_same, end_same}
 use Rattle.cj_store_history.proofs.Stores.{store_agrees}
-use Rattle.cj_store_history.proofs.Followed.{events_agree}
+use Rattle.cj_store_history.proofs.Numbered.{numbers_law}
+use Rattle.cj_store_history.proofs.Followed.{Follows, followed, learnt, events_agree, mirror_agrees}
+use Rattle.cj_store_history.proofs.Lists.{passed_listing, all_listing}
 
 writes_answer : (s : State) (say : Event → Reply) (r : Result Event Refusal) → (writes_it s say r).answer ≡ map_ok say r
 writes_answer s say (Ok w) = refl
@@ -66,42 +76,107 @@ told_answer : (s : State) (r : Result (List Event) Refusal) → (told_events s r
 told_answer s (Ok es) = refl
 told_answer s (Err e) = refl
 
-module _ (window : ℕ) (ws : List Event) (o : Option Seat) (s : State) (is : IsStore ws s.store)
-    (events : (v max : ℕ) → since s.watch v max ≡ answer_in window (reverse ws) v max) where
+-- each object stands at its own key
+abbrev IsKeyed : {X : Type 0} → (X → Place) → Place → Option X → Type 0
+IsKeyed {X} key k o = (x : X) → o ≡ Some x → key x ≡ k
 
+put_keyed : {X : Type 0} (key : X → Place) (x : X) (k : Place) (b : Bool) (was : Option X) → key_eq (key x) k ≡ b → IsKeyed key k was → IsKeyed key k (if b then Some x else was)
+put_keyed key x k true was t h y e = (let i : x ≡ y = cc in ap key (sym i)) ∙ eq_true (key x) k t
+put_keyed key x k false was t h y e = h y e
+
+cut_keyed : {X : Type 0} (key : X → Place) (k : Place) (b : Bool) (was : Option X) → IsKeyed key k was → IsKeyed key k (if b then None else was)
+cut_keyed key k true was h y e = absurd (cc e)
+cut_keyed key k false was h y e = h y e
+
+crons_keyed : (w : Event) (k : Place) (was : Option CronJob) → IsKeyed (λ (c : CronJob). c.key) k was → IsKeyed (λ (c : CronJob). c.key) k (cron_left w k was)
+crons_keyed (Added (Kind.Cron x)) k was h = put_keyed (λ (c : CronJob). c.key) x k (key_eq x.key k) was refl h
+crons_keyed (Modified (Kind.Cron x)) k was h = put_keyed (λ (c : CronJob). c.key) x k (key_eq x.key k) was refl h
+crons_keyed (Deleted (Kind.Cron x)) k was h = cut_keyed (λ (c : CronJob). c.key) k (key_eq x.key k) was h
+crons_keyed (Added (Kind.Job j)) k was h = h
+crons_keyed (Modified (Kind.Job j)) k was h = h
+crons_keyed (Deleted (Kind.Job j)) k was h = h
+
+cron_keyed : (ws : List Event) (k : Place) → IsKeyed (λ (c : CronJob). c.key) k (current_cron ws k)
+cron_keyed [] k c e = absurd (cc e)
+cron_keyed (w ∷ ws) k c e = crons_keyed w k (current_cron ws k) (cron_keyed ws k) c e
+
+jobs_keyed : (w : Event) (k : Place) (was : Option Job) → IsKeyed (λ (j : Job). j.key) k was → IsKeyed (λ (j : Job). j.key) k (job_left w k was)
+jobs_keyed (Added (Kind.Job x)) k was h = put_keyed (λ (j : Job). j.key) x k (key_eq x.key k) was refl h
+jobs_keyed (Modified (Kind.Job x)) k was h = put_keyed (λ (j : Job). j.key) x k (key_eq x.key k) was refl h
+jobs_keyed (Deleted (Kind.Job x)) k was h = cut_keyed (λ (j : Job). j.key) k (key_eq x.key k) was h
+jobs_keyed (Added (Kind.Cron c)) k was h = h
+jobs_keyed (Modified (Kind.Cron c)) k was h = h
+jobs_keyed (Deleted (Kind.Cron c)) k was h = h
+
+job_keyed : (ws : List Event) (k : Place) → IsKeyed (λ (j : Job). j.key) k (current_job ws k)
+job_keyed [] k j e = absurd (cc e)
+job_keyed (w ∷ ws) k j e = jobs_keyed w k (current_job ws k) (job_keyed ws k) j e
+
+-- what is known of the state after these writes, of which its listing knows `n`
+pub record Knows (window n : ℕ) (ws : List Event) (s : State) : Type 0 where
+  pub store : IsStore ws s.store
+  pub events : (v max : ℕ) → since s.watch v max ≡ answer_in window (reverse ws) v max
+  pub mirror : IsMirror n ws s.mirror
+  pub feeds : (max : ℕ) → (fed_up s max).fed ≡ next_fed window (version ws) n max
+
+module _ (window n : ℕ) (ws : List Event) (o : Option Seat) (s : State) (f : Knows window n ws s) where
   get_cron_says : (k : Place) → (by_reader s (Of.GetCron k)).answer ≡ cron_found (current_cron ws k)
-  get_cron_says k = found_cron_answer s (map.get s.store.crons k) ∙ ap cron_found (is.crons k)
+  get_cron_says k = found_cron_answer s (map.get s.store.crons k) ∙ ap cron_found (f.store.crons k)
 
   get_job_says : (k : Place) → (by_reader s (Of.GetJob k)).answer ≡ job_found (current_job ws k)
-  get_job_says k = found_job_answer s (map.get s.store.jobs k) ∙ ap job_found (is.jobs k)
+  get_job_says k = found_job_answer s (map.get s.store.jobs k) ∙ ap job_found (f.store.jobs k)
 
   watch_says : (v max : ℕ) → (by_reader s (Of.Watch v max)).answer ≡ map_ok (λ es. Say.Events es) (answer_in window (reverse ws) v max)
-  watch_says v max = told_answer s (since s.watch v max) ∙ ap (map_ok (λ (es : List Event). Say.Events es)) (events v max)
+  watch_says v max = told_answer s (since s.watch v max) ∙ ap (map_ok (λ (es : List Event). Say.Events es)) (f.events v max)
 
-  user_says : (call : Call) → Says window ws o User call (by_user s call).answer
-  user_says (Of.CreateCron d n) = writes_answer s event_reply _ ∙ ap (map_ok event_reply) (create_cron_same ws s.store is d n)
-  user_says (Of.UpdateCron d) = writes_answer s event_reply _ ∙ ap (map_ok event_reply) (update_cron_same ws s.store is d)
-  user_says (Of.DeleteCron k) = writes_answer s version_reply _ ∙ ap (map_ok version_reply) (delete_cron_same ws s.store is k)
-  user_says (Of.CreateJob d n) = writes_answer s event_reply _ ∙ ap (map_ok event_reply) (create_job_same ws s.store is d n)
-  user_says (Of.UpdateJob d) = writes_answer s event_reply _ ∙ ap (map_ok event_reply) (update_job_same ws s.store is d)
-  user_says (Of.DeleteJob k) = writes_answer s version_reply _ ∙ ap (map_ok version_reply) (delete_job_same ws s.store is k None)
+  list_crons_says : (cs : List CronJob) × ((by_reader s Of.ListCrons).answer ≡ Ok (Say.Crons cs (version ws))) × IsListing (λ c. c.key) (current_cron ws) cs
+  list_crons_says = (
+    map.values s.store.crons,
+    ap (λ v. Ok (Say.Crons (map.values s.store.crons) v)) f.store.version,
+    all_listing (λ (c : CronJob). c.key) s.store.crons (current_cron ws) f.store.crons (cron_keyed ws),
+  )
+
+  list_jobs_says : (js : List Job) × ((by_reader s Of.ListJobs).answer ≡ Ok (Say.Jobs js (version ws))) × IsListing (λ j. j.key) (current_job ws) js
+  list_jobs_says = (
+    map.values s.store.jobs,
+    ap (λ v. Ok (Say.Jobs (map.values s.store.jobs) v)) f.store.version,
+    all_listing (λ (j : Job). j.key) s.store.jobs (current_job ws) f.store.jobs (job_keyed ws),
+  )
+
+  user_says : (call : Call) → Says window n ws o User call (by_user s call).answer
+  user_says (Of.CreateCron d now) = writes_answer s event_reply _ ∙ ap (map_ok event_reply) (create_cron_same ws s.store f.store d now)
+  user_says (Of.UpdateCron d) = writes_answer s event_reply _ ∙ ap (map_ok event_reply) (update_cron_same ws s.store f.store d)
+  user_says (Of.DeleteCron k) = writes_answer s version_reply _ ∙ ap (map_ok version_reply) (delete_cron_same ws s.store f.store k)
+  user_says (Of.CreateJob d now) = writes_answer s event_reply _ ∙ ap (map_ok event_reply) (create_job_same ws s.store f.store d now)
+  user_says (Of.UpdateJob d) = writes_answer s event_reply _ ∙ ap (map_ok event_reply) (update_job_same ws s.store f.store d)
+  user_says (Of.DeleteJob k) = writes_answer s version_reply _ ∙ ap (map_ok version_reply) (delete_job_same ws s.store f.store k None)
   user_says (Of.GetCron k) = get_cron_says k
   user_says (Of.GetJob k) = get_job_says k
+  user_says Of.ListCrons = list_crons_says
+  user_says Of.ListJobs = list_jobs_says
   user_says (Of.Watch v max) = watch_says v max
-  user_says call = tt
+  user_says call = refl
 
-  runner_says : (call : Call) → Says window ws o Runner call (by_runner s call).answer
-  runner_says (Of.EndJob k u outcome n) = writes_answer s event_reply _ ∙ ap (map_ok event_reply) (end_same ws s.store is k u outcome n)
+  runner_says : (call : Call) → Says window n ws o Runner call (by_runner s call).answer
+  runner_says (Of.EndJob k u outcome now) = writes_answer s event_reply _ ∙ ap (map_ok event_reply) (end_same ws s.store f.store k u outcome now)
   runner_says (Of.GetCron k) = get_cron_says k
   runner_says (Of.GetJob k) = get_job_says k
+  runner_says Of.ListCrons = list_crons_says
+  runner_says Of.ListJobs = list_jobs_says
   runner_says (Of.Watch v max) = watch_says v max
-  runner_says call = tt
+  runner_says call = refl
 
-  informer_says : (call : Call) → Says window ws o Informer call (by_informer s call).answer
+  informer_says : (call : Call) → Says window n ws o Informer call (by_informer s call).answer
+  informer_says (Of.Feed max) = ap (λ v. Ok (Say.Version v)) (f.feeds max)
+  informer_says (Of.Add k) = tt
+  informer_says (Of.Tick now) = tt
+  informer_says Of.Shut = tt
   informer_says (Of.GetCron k) = get_cron_says k
   informer_says (Of.GetJob k) = get_job_says k
+  informer_says Of.ListCrons = list_crons_says
+  informer_says Of.ListJobs = list_jobs_says
   informer_says (Of.Watch v max) = watch_says v max
-  informer_says call = tt
+  informer_says call = refl
 
 -- ---- workers
 
@@ -215,29 +290,54 @@ module _ (ws : List Event) (s : State) (w : ℕ) (is : IsStore ws s.store) where
     set_says (Checked c js ks) = refl
     set_says (Works work) = set_step_says work (step_at work.plan.steps work.place)
 
-  worker_says : (window : ℕ) (call : Call) → Says window ws (seat_of s w) Worker call (by_worker s w call).answer
-  unfolding see_cron see_active claim drop_next make_next set_status_next
-  worker_says window Of.SeeCron = seat_says (see_cron_in s w) (on_see_cron ws) (seat_of s w) cron_says
-  worker_says window Of.SeeActive = seat_says (see_active_in s w) (on_see_active ws) (seat_of s w) active_says
-  worker_says window (Of.Claim p) = seat_says (claim_in s w p) (λ k. on_claim ws k p) (seat_of s w) (λ k. claim_says k p)
-  worker_says window Of.DropNext = seat_says (drop_in s w) (on_drop ws) (seat_of s w) drop_says
-  worker_says window Of.MakeNext = seat_says (make_in s w) (on_make ws) (seat_of s w) make_says
-  worker_says window Of.SetStatus = seat_says (status_in s w) (on_set ws) (seat_of s w) set_says
-  worker_says window call = tt
+-- the Jobs of the key in the listing
+module _ (n : ℕ) (ws : List Event) (s : State) (w : ℕ) (lists : IsMirror n ws s.mirror) where
+  jobs_says : (k : Place) (p : Phase) → SeesJobs n ws k p (see_jobs_in s w k p).answer
+  jobs_says k Held = refl
+  jobs_says k (Seen c) = (listed_of s k, refl, passed_listing (λ (j : Job). j.key) (is_job_of k) s.mirror.jobs (current_job (earliest n ws)) lists.jobs (job_keyed (earliest n ws)))
+  jobs_says k (Listed c js) = refl
+  jobs_says k (Checked c js ks) = refl
+  jobs_says k (Works work) = refl
 
-role_says : (window : ℕ) (ws : List Event) (s : State) (role : Role) (w : ℕ) (call : Call) → IsStore ws s.store
-    → ((v max : ℕ) → since s.watch v max ≡ answer_in window (reverse ws) v max) → Says window ws (seat_of s w) role call (by_role s role w call).answer
-role_says window ws s Worker w call is es = worker_says ws s w is window call
-role_says window ws s Informer w call is es = informer_says window ws (seat_of s w) s is es call
-role_says window ws s User w call is es = user_says window ws (seat_of s w) s is es call
-role_says window ws s Runner w call is es = runner_says window ws (seat_of s w) s is es call
+  seat_lists : (o : Option Seat) → OnSeeJobs n ws o (by_seat s (see_jobs_in s w) o).answer
+  seat_lists None = refl
+  seat_lists (Some y) = jobs_says y.key y.phase
 
-step_says : (window : ℕ) (ws : List Event) (s : State) (caller : Caller) (call : Call) → IsStore ws s.store
-    → ((v max : ℕ) → since s.watch v max ≡ answer_in window (reverse ws) v max) → Says window ws (seat_of s caller.number) caller.role call (step_of s caller call).answer
+worker_says : (window n : ℕ) (ws : List Event) (s : State) (w : ℕ) → Knows window n ws s → (call : Call) → Says window n ws (seat_of s w) Worker call (by_worker s w call).answer
+unfolding see_cron see_jobs see_active claim drop_next make_next set_status_next
+worker_says window n ws s w f Of.SeeCron = seat_says ws s w f.store (see_cron_in s w) (on_see_cron ws) (seat_of s w) (cron_says ws s w f.store)
+worker_says window n ws s w f Of.SeeJobs = seat_lists n ws s w f.mirror (seat_of s w)
+worker_says window n ws s w f Of.SeeActive = seat_says ws s w f.store (see_active_in s w) (on_see_active ws) (seat_of s w) (active_says ws s w f.store)
+worker_says window n ws s w f (Of.Claim p) = seat_says ws s w f.store (claim_in s w p) (λ k. on_claim ws k p) (seat_of s w) (λ k. claim_says ws s w f.store k p)
+worker_says window n ws s w f Of.DropNext = seat_says ws s w f.store (drop_in s w) (on_drop ws) (seat_of s w) (drop_says ws s w f.store)
+worker_says window n ws s w f Of.MakeNext = seat_says ws s w f.store (make_in s w) (on_make ws) (seat_of s w) (make_says ws s w f.store)
+worker_says window n ws s w f Of.SetStatus = seat_says ws s w f.store (status_in s w) (on_set ws) (seat_of s w) (set_says ws s w f.store)
+worker_says window n ws s w f Of.Take = tt
+worker_says window n ws s w f (Of.Finish end rs) = tt
+worker_says window n ws s w f call = refl
+
+role_says : (window n : ℕ) (ws : List Event) (s : State) (role : Role) (w : ℕ) (call : Call) → Knows window n ws s → Says window n ws (seat_of s w) role call (by_role s role w call).answer
+role_says window n ws s Worker w call f = worker_says window n ws s w f call
+role_says window n ws s Informer w call f = informer_says window n ws (seat_of s w) s f call
+role_says window n ws s User w call f = user_says window n ws (seat_of s w) s f call
+role_says window n ws s Runner w call f = runner_says window n ws (seat_of s w) s f call
+
+step_says : (window n : ℕ) (ws : List Event) (s : State) (caller : Caller) (call : Call) → Knows window n ws s → Says window n ws (seat_of s caller.number) caller.role call (step_of s caller call).answer
 unfolding step_of
-step_says window ws s caller call is es = role_says window ws s caller.role caller.number call is es
+step_says window n ws s caller call f = role_says window n ws s caller.role caller.number call f
+
+pub known : (window : ℕ) (h : List Told) → IsLegal window h → Knows window (fed window h) (writes h) (state_of window h)
+known window h l =
+    let is : IsStore (writes h) (state_of window h).store = store_agrees window h l in
+    let f : Follows window (writes h) (fed window h) (state_of window h) = followed window h l in
+    record {
+      store = is;
+      events = events_agree window h l;
+      mirror = mirror_agrees window h l;
+      feeds = λ max. ap (λ (m : Mirror). m.fed) (learnt window (writes h) (fed window h) (state_of window h) max (numbers_law h) is f);
+    }
 
 pub answers_agree : AnswerLaw
 answers_agree window h caller call l =
-    subst (λ (o : Option Seat). Says window (writes h) o caller.role call (step_of (state_of window h) caller call).answer) (seats_agree window h l caller.number)
-    (step_says window (writes h) (state_of window h) caller call (store_agrees window h l) (events_agree window h l))
+    subst (λ (o : Option Seat). Says window (fed window h) (writes h) o caller.role call (step_of (state_of window h) caller call).answer) (seats_agree window h l caller.number)
+    (step_says window (fed window h) (writes h) (state_of window h) caller call (known window h l))

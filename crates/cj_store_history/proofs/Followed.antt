@@ -110,7 +110,7 @@ fed_bound window n was max = by (nat_lt (was + window) n)
     by true = omega arith
     by false = omega arith
 
-learnt : (window : ℕ) (ws : List Event) (n : ℕ) (s : State) (max : ℕ) → IsNumbered 0 (reverse ws) → IsStore ws s.store → Follows window ws n s
+pub learnt : (window : ℕ) (ws : List Event) (n : ℕ) (s : State) (max : ℕ) → IsNumbered 0 (reverse ws) → IsStore ws s.store → Follows window ws n s
     → fed_up s max ≡ mirror_after (reverse ws) (next_fed window (length ws) n max)
 learnt window ws n s max num is f =
     let counted : length (reverse ws) ≡ length ws = length-reverse ws in

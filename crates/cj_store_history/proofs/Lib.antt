@@ -3,6 +3,7 @@ pub mod Keeps
 pub mod Stores
 pub mod Numbered
 pub mod Followed
+pub mod Lists
 pub mod Planned
 pub mod Answered
 pub mod Sample

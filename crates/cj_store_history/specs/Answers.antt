@@ -1,7 +1,7 @@
 -- What a call on the store is answered, by the writes before it and, for a worker, by its seat, which its own entries say.
 use Rattle.std.specs.Prelude.{◌≡◌, ℕ, List, [], map as map_list, Option, Some, None, Result, Ok, Err, if◌then◌else◌, reverse}
 use Rattle.cj_base.specs.declared.refusal.Refusal.{Refusal}
-use Rattle.cj_base.specs.declared.refusal.Refusal.TheVariants.{NotFound, OutOfPhase, Stale}
+use Rattle.cj_base.specs.declared.refusal.Refusal.TheVariants.{NotFound, NotPermitted, OutOfPhase, Stale}
 use Rattle.cj_types.specs.Keys.{Place, place}
 use Rattle.cj_types.specs.Uids.{uid_text}
 use Rattle.cj_types.specs.Events.{version_of}
@@ -9,6 +9,8 @@ use Rattle.cj_types.specs.declared.cron.CronJob.{CronJob}
 use Rattle.cj_types.specs.declared.job.Job.{Job}
 use Rattle.cj_types.specs.declared.event.Event.{Event}
 use Rattle.cj_store.specs.Change.{map_ok}
+use Rattle.cj_jobs.specs.Owners.{is_job_of}
+use Rattle.cj_mirror.specs.Laws.{next_fed}
 use Rattle.cj_watch.specs.Laws.{answer_in}
 use Rattle.cj_decide.specs.Decision.{Planned}
 use Rattle.cj_decide.specs.declared.start.Claim.{Claim}
@@ -30,7 +32,9 @@ use Rattle.cj_state.specs.Readings.{if_mine}
 use Rattle.cj_state.specs.Moves.{event_reply, version_reply}
 use Rattle.cj_state.specs.Legal.{IsLegal, answer_of}
 use Rattle.cj_legal.specs.Seats.{seat}
-use Rattle.cj_store_history.specs.Written.{current_cron, current_job}
+use Rattle.cj_store_history.specs.Written.{version, current_cron, current_job}
+use Rattle.cj_store_history.specs.Lists.{IsListing, passing}
+use Rattle.cj_store_history.specs.Mirrors.{earliest, fed}
 use Rattle.cj_store_history.specs.Writes.{writes}
 use Rattle.cj_store_history.specs.Planned.{create_cron, update_cron, set_status, delete_cron, make_job, create_job, update_job, delete_job, end_job}
 
@@ -113,30 +117,48 @@ abbrev pub for_seat : (Place → Phase → Answer) → Option Seat → Answer
 for_seat f None = Err OutOfPhase
 for_seat f (Some s) = f s.key s.phase
 
+-- the Jobs of the key as the first so many writes left them, in order of name
+abbrev pub SeesJobs : ℕ → List Event → Place → Phase → Answer → Type 0
+SeesJobs n ws k (Seen c) a = (js : List Job) × (a ≡ Ok (Say.SeenJobs js)) × IsListing (λ j. j.key) (λ q. passing (is_job_of k) (current_job (earliest n ws) q)) js
+SeesJobs n ws k p a = a ≡ Err OutOfPhase
+
+abbrev pub OnSeeJobs : ℕ → List Event → Option Seat → Answer → Type 0
+OnSeeJobs n ws None a = a ≡ Err OutOfPhase
+OnSeeJobs n ws (Some s) a = SeesJobs n ws s.key s.phase a
+
 -- ---- whoever calls
 
--- the answers that the writes and the seat determine; lists of objects are told in `Lists`
-abbrev pub Says : ℕ → List Event → Option Seat → Role → Call → Answer → Type 0
-Says window ws o User (Of.CreateCron d now) a = a ≡ map_ok event_reply (create_cron ws d now)
-Says window ws o User (Of.UpdateCron d) a = a ≡ map_ok event_reply (update_cron ws d)
-Says window ws o User (Of.DeleteCron k) a = a ≡ map_ok version_reply (delete_cron ws k)
-Says window ws o User (Of.CreateJob d now) a = a ≡ map_ok event_reply (create_job ws d now)
-Says window ws o User (Of.UpdateJob d) a = a ≡ map_ok event_reply (update_job ws d)
-Says window ws o User (Of.DeleteJob k) a = a ≡ map_ok version_reply (delete_job ws k None)
-Says window ws o Runner (Of.EndJob k u outcome now) a = a ≡ map_ok event_reply (end_job ws k u outcome now)
-Says window ws o Worker Of.SeeCron a = a ≡ for_seat (on_see_cron ws) o
-Says window ws o Worker Of.SeeActive a = a ≡ for_seat (on_see_active ws) o
-Says window ws o Worker (Of.Claim p) a = a ≡ for_seat (λ k. on_claim ws k p) o
-Says window ws o Worker Of.DropNext a = a ≡ for_seat (on_drop ws) o
-Says window ws o Worker Of.MakeNext a = a ≡ for_seat (on_make ws) o
-Says window ws o Worker Of.SetStatus a = a ≡ for_seat (on_set ws) o
-Says window ws o Worker call a = Unit {0}
-Says window ws o role (Of.GetCron k) a = a ≡ cron_found (current_cron ws k)
-Says window ws o role (Of.GetJob k) a = a ≡ job_found (current_job ws k)
-Says window ws o role (Of.Watch v max) a = a ≡ map_ok (λ es. Say.Events es) (answer_in window (reverse ws) v max)
-Says window ws o role call a = Unit {0}
+-- the answer after these writes, of which the listing knows `n`, to a caller with this seat; the queue's calls are told elsewhere
+abbrev pub Says : ℕ → ℕ → List Event → Option Seat → Role → Call → Answer → Type 0
+Says window n ws o User (Of.CreateCron d now) a = a ≡ map_ok event_reply (create_cron ws d now)
+Says window n ws o User (Of.UpdateCron d) a = a ≡ map_ok event_reply (update_cron ws d)
+Says window n ws o User (Of.DeleteCron k) a = a ≡ map_ok version_reply (delete_cron ws k)
+Says window n ws o User (Of.CreateJob d now) a = a ≡ map_ok event_reply (create_job ws d now)
+Says window n ws o User (Of.UpdateJob d) a = a ≡ map_ok event_reply (update_job ws d)
+Says window n ws o User (Of.DeleteJob k) a = a ≡ map_ok version_reply (delete_job ws k None)
+Says window n ws o Runner (Of.EndJob k u outcome now) a = a ≡ map_ok event_reply (end_job ws k u outcome now)
+Says window n ws o Informer (Of.Feed max) a = a ≡ Ok (Say.Version (next_fed window (version ws) n max))
+Says window n ws o Informer (Of.Add k) a = Unit {0}
+Says window n ws o Informer (Of.Tick now) a = Unit {0}
+Says window n ws o Informer Of.Shut a = Unit {0}
+Says window n ws o Worker Of.SeeCron a = a ≡ for_seat (on_see_cron ws) o
+Says window n ws o Worker Of.SeeJobs a = OnSeeJobs n ws o a
+Says window n ws o Worker Of.SeeActive a = a ≡ for_seat (on_see_active ws) o
+Says window n ws o Worker (Of.Claim p) a = a ≡ for_seat (λ k. on_claim ws k p) o
+Says window n ws o Worker Of.DropNext a = a ≡ for_seat (on_drop ws) o
+Says window n ws o Worker Of.MakeNext a = a ≡ for_seat (on_make ws) o
+Says window n ws o Worker Of.SetStatus a = a ≡ for_seat (on_set ws) o
+Says window n ws o Worker Of.Take a = Unit {0}
+Says window n ws o Worker (Of.Finish end reasons) a = Unit {0}
+Says window n ws o Worker call a = a ≡ Err NotPermitted
+Says window n ws o role (Of.GetCron k) a = a ≡ cron_found (current_cron ws k)
+Says window n ws o role (Of.GetJob k) a = a ≡ job_found (current_job ws k)
+Says window n ws o role Of.ListCrons a = (cs : List CronJob) × (a ≡ Ok (Say.Crons cs (version ws))) × IsListing (λ c. c.key) (current_cron ws) cs
+Says window n ws o role Of.ListJobs a = (js : List Job) × (a ≡ Ok (Say.Jobs js (version ws))) × IsListing (λ j. j.key) (current_job ws) js
+Says window n ws o role (Of.Watch v max) a = a ≡ map_ok (λ es. Say.Events es) (answer_in window (reverse ws) v max)
+Says window n ws o role call a = a ≡ Err NotPermitted
 
 -- whoever called whatever before
 abbrev pub AnswerLaw : Type 0
 AnswerLaw = (window : ℕ) (h : List Told) (caller : Caller) (call : Call) → IsLegal window h
-    → Says window (writes h) (seat h caller.number) caller.role call (answer_of window h caller call)
+    → Says window (fed window h) (writes h) (seat h caller.number) caller.role call (answer_of window h caller call)

@@ -4,5 +4,6 @@ pub mod Store
 pub mod Numbers
 pub mod Events
 pub mod Mirrors
+pub mod Lists
 pub mod Planned
 pub mod Answers

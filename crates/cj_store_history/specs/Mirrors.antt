@@ -1,6 +1,6 @@
 -- The listing that lags behind, after a history: Kubernetes API concepts, "Resource versions" (a list may be older than what was written),
 -- and client-go, package cache (a reflector applies events, and lists again where they are gone).
-use Rattle.std.specs.Prelude.{◌≡◌, ℕ, ◌+◌, ◌-◌, min, nat_lt, if◌then◌else◌, List, [], ◌∷◌, drop, Result, Ok, Err}
+use Rattle.std.specs.Prelude.{◌≡◌, ℕ, ◌-◌, List, [], ◌∷◌, drop, Result, Ok, Err}
 use Rattle.std.specs.FinMap as map
 use Rattle.cj_base.specs.declared.refusal.Refusal.{Refusal}
 use Rattle.cj_types.specs.Keys.{Place}
@@ -10,14 +10,15 @@ use Rattle.cj_calls.specs.declared.call.Call.TheVariants as Of
 use Rattle.cj_calls.specs.declared.reply.Reply.{Reply}
 use Rattle.cj_calls.specs.Rows.{Told}
 use Rattle.cj_mirror.specs.Lagging.{Mirror}
+use Rattle.cj_mirror.specs.Laws.{next_fed}
 use Rattle.cj_state.specs.Legal.{IsLegal, state_of}
 use Rattle.cj_store_history.specs.Written.{version, current_job}
 use Rattle.cj_store_history.specs.Writes.{writes}
 
--- how many writes the listing knows after a call, of `n` that were made: an accepted Feed teaches it so many more, or all of them where
--- some that it doesn't know are kept no more
+-- how many writes the listing knows after a call, of `n` that were made: an accepted Feed teaches it so many more, as far as there are, or
+-- all of them where some that it doesn't know are kept no more
 abbrev pub fed_after : ℕ → ℕ → ℕ → Call → Result Reply Refusal → ℕ
-fed_after window n was (Of.Feed max) (Ok r) = if nat_lt (was + window) n then n else min n (was + max)
+fed_after window n was (Of.Feed max) (Ok r) = next_fed window n was max
 fed_after window n was call answer = was
 
 -- how many it knows after a history

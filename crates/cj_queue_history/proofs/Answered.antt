@@ -1,0 +1,112 @@
+-- Each answer on the queue is the one that the acts and the caller's seat give.
+use Rattle.std.proofs.Common.{◌≡◌, ℕ, Bool, true, false, List, [], ◌∷◌, Option, Some, None, refl, sym, ap, subst, ◌∙◌}
+use Rattle.std.specs.Prelude.{Result, Ok, Err, if◌then◌else◌, ◌||◌}
+use Rattle.cj_base.specs.declared.refusal.Refusal.{Refusal}
+use Rattle.cj_base.specs.declared.refusal.Refusal.TheVariants as No
+use Rattle.cj_types.specs.Keys.{Place}
+use Rattle.cj_types.specs.declared.policy.Reason.{Reason}
+use Rattle.cj_queue.specs.Parts.{key_eq, stands_in}
+use Rattle.cj_queue.specs.Queue.{Queue, first}
+use Rattle.cj_calls.specs.declared.caller.Caller.{Caller}
+use Rattle.cj_calls.specs.declared.caller.Role.{Role}
+use Rattle.cj_calls.specs.declared.caller.Role.TheVariants.{User, Runner, Informer, Worker}
+use Rattle.cj_calls.specs.declared.call.Call.{Call}
+use Rattle.cj_calls.specs.declared.call.Call.TheVariants as Of
+use Rattle.cj_calls.specs.declared.end.End.{End}
+use Rattle.cj_calls.specs.declared.end.End.TheVariants.{Well, Again}
+use Rattle.cj_calls.specs.declared.reply.Reply.{Reply}
+use Rattle.cj_calls.specs.declared.reply.Reply.TheVariants as Say
+use Rattle.cj_calls.specs.Rows.{Told}
+use Rattle.cj_seats.specs.Steps.{step_at, is_over}
+use Rattle.cj_seats.specs.declared.seat.Work.{Work}
+use Rattle.cj_seats.specs.declared.seat.Phase.{Phase}
+use Rattle.cj_seats.specs.declared.seat.Phase.TheVariants.{Held, Seen, Listed, Checked, Works}
+use Rattle.cj_seats.specs.declared.seat.Seat.{Seat}
+use Rattle.cj_state.specs.declared.state.State.{State}
+use Rattle.cj_state.specs.Moves.{Moved, by_seat, seat_of, take, take_by, take_first, finish, finish_in, finish_well, finish_work}
+use Rattle.cj_state.specs.Step.{step_of, by_role, by_user, by_runner, by_informer, by_worker}
+use Rattle.cj_state.specs.Legal.{IsLegal, state_of}
+use Rattle.cj_legal.specs.Seats.{seat}
+use Rattle.cj_legal.proofs.Seated.{seats_agree}
+use Rattle.cj_queue_history.specs.Deeds.{Act, acts}
+use Rattle.cj_queue_history.specs.LookBacks.{queued, shut, since, RisesBy}
+use Rattle.cj_queue_history.specs.Laws.{IsQueue}
+use Rattle.cj_queue_history.specs.Answers.{IsFirst, NoneQueued, OnTake, TakeSays, on_end, on_finish, Says, AnswerLaw}
+use Rattle.cj_queue_history.proofs.Rows.{itself}
+use Rattle.cj_queue_history.proofs.Whole.{queue_agrees}
+
+module _ (h : List Act) (s : State) (is : IsQueue h s.queue) where
+  -- a key that stands in the list, and isn't its first, stands behind it
+  behind : (k j : Place) (ks : List Place) → stands_in (k ∷ ks) j ≡ true → key_eq j k ≡ false → stands_in ks j ≡ true
+  behind k j ks m apart = by (key_eq j k) apart m
+    where
+      by : (b : Bool) → b ≡ false → (b || stands_in ks j) ≡ true → stands_in ks j ≡ true
+      by true e f = absurd (cc e)
+      by false e f = f
+
+  is_first : (k : Place) (ks : List Place) → s.queue.row.line ≡ k ∷ ks → IsFirst h k
+  is_first k ks e =
+      let members : (j : Place) → stands_in (k ∷ ks) j ≡ queued h j = λ j. sym (ap (λ l. stands_in l j) e) ∙ is.line.members j in
+      let rises : RisesBy (since h) (k ∷ ks) = subst (RisesBy (since h)) e is.line.order in
+      record {
+        there = sym (members k) ∙ itself k ks;
+        before = λ j q apart. rises.0 j (behind k j ks (members j ∙ q) apart);
+      }
+
+  none_queued : s.queue.row.line ≡ [] → NoneQueued h
+  none_queued e k = sym (is.line.members k) ∙ ap (λ l. stands_in l k) e
+
+  nothing_says : (b : Bool) → s.queue.shut ≡ b → s.queue.row.line ≡ [] → OnTake h (Err (if b then No.ShutDown else No.Empty))
+  nothing_says true e f = (none_queued f, sym is.shut ∙ e)
+  nothing_says false e f = (none_queued f, sym is.shut ∙ e)
+
+  first_says : (w : ℕ) (l : List Place) → s.queue.row.line ≡ l → OnTake h (take_first s w (first l)).answer
+  first_says w [] e = nothing_says s.queue.shut refl e
+  first_says w (k ∷ ks) e = is_first k ks e
+
+  take_says : (w : ℕ) (o : Option Seat) → TakeSays h o (take_by s w o).answer
+  take_says w None = first_says w s.queue.row.line refl
+  take_says w (Some y) = refl
+
+work_says : (s : State) (w : ℕ) (k : Place) (work : Work) (b : Bool) → (finish_work s w k work b).answer ≡ (if b then Ok Say.Done else Err No.OutOfPhase)
+work_says s w k work true = refl
+work_says s w k work false = refl
+
+end_says : (s : State) (w : ℕ) (end : End) (k : Place) (p : Phase) → (finish_in s w end k p).answer ≡ on_end end p
+end_says s w (Again now) k p = refl
+end_says s w Well k Held = refl
+end_says s w Well k (Seen c) = refl
+end_says s w Well k (Listed c js) = refl
+end_says s w Well k (Checked c js ks) = refl
+end_says s w Well k (Works work) = work_says s w k work (is_over (step_at work.plan.steps work.place))
+
+finish_says : (s : State) (w : ℕ) (end : End) (o : Option Seat) → (by_seat s (finish_in s w end) o).answer ≡ on_finish end o
+finish_says s w end None = refl
+finish_says s w end (Some y) = end_says s w end y.key y.phase
+
+worker_says : (h : List Act) (s : State) (w : ℕ) (call : Call) → IsQueue h s.queue → Says h (seat_of s w) Worker call (by_worker s w call).answer
+unfolding take finish
+worker_says h s w Of.Take is = take_says h s is w (seat_of s w)
+worker_says h s w (Of.Finish end rs) is = finish_says s w end (seat_of s w)
+worker_says h s w call is = tt
+
+informer_says : (h : List Act) (s : State) (o : Option Seat) (call : Call) → Says h o Informer call (by_informer s call).answer
+informer_says h s o (Of.Add k) = refl
+informer_says h s o (Of.Tick now) = refl
+informer_says h s o Of.Shut = refl
+informer_says h s o call = tt
+
+role_says : (h : List Act) (s : State) (role : Role) (w : ℕ) (call : Call) → IsQueue h s.queue → Says h (seat_of s w) role call (by_role s role w call).answer
+role_says h s Worker w call is = worker_says h s w call is
+role_says h s Informer w call is = informer_says h s (seat_of s w) call
+role_says h s User w call is = tt
+role_says h s Runner w call is = tt
+
+step_says : (h : List Act) (s : State) (caller : Caller) (call : Call) → IsQueue h s.queue → Says h (seat_of s caller.number) caller.role call (step_of s caller call).answer
+unfolding step_of
+step_says h s caller call is = role_says h s caller.role caller.number call is
+
+pub answers_agree : AnswerLaw
+answers_agree window h caller call l =
+    subst (λ (o : Option Seat). Says (acts h) o caller.role call (step_of (state_of window h) caller call).answer) (seats_agree window h l caller.number)
+    (step_says (acts h) (state_of window h) caller call (queue_agrees window h l))

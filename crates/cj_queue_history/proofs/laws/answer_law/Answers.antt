@@ -1,0 +1,5 @@
+use Rattle.cj_queue_history.proofs.Answered.{answers_agree}
+use Rattle.cj_queue_history.proofs.laws.answer_law.Goals as goal
+
+pub returns : goal.returns
+returns c = answers_agree
