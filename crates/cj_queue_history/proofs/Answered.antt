@@ -1,12 +1,10 @@
 -- Each answer on the queue is the one that the acts and the caller's seat give.
 use Rattle.std.proofs.Common.{◌≡◌, ℕ, Bool, true, false, List, [], ◌∷◌, Option, Some, None, refl, sym, ap, subst, ◌∙◌}
-use Rattle.std.specs.Prelude.{Result, Ok, Err, if◌then◌else◌, ◌||◌}
-use Rattle.cj_base.specs.declared.refusal.Refusal.{Refusal}
+use Rattle.std.specs.Prelude.{Ok, Err, if◌then◌else◌, ◌||◌}
 use Rattle.cj_base.specs.declared.refusal.Refusal.TheVariants as No
 use Rattle.cj_types.specs.Keys.{Place}
-use Rattle.cj_types.specs.declared.policy.Reason.{Reason}
 use Rattle.cj_queue.specs.Parts.{key_eq, stands_in}
-use Rattle.cj_queue.specs.Queue.{Queue, first}
+use Rattle.cj_queue.specs.Queue.{first}
 use Rattle.cj_calls.specs.declared.caller.Caller.{Caller}
 use Rattle.cj_calls.specs.declared.caller.Role.{Role}
 use Rattle.cj_calls.specs.declared.caller.Role.TheVariants.{User, Runner, Informer, Worker}
@@ -14,22 +12,19 @@ use Rattle.cj_calls.specs.declared.call.Call.{Call}
 use Rattle.cj_calls.specs.declared.call.Call.TheVariants as Of
 use Rattle.cj_calls.specs.declared.end.End.{End}
 use Rattle.cj_calls.specs.declared.end.End.TheVariants.{Well, Again}
-use Rattle.cj_calls.specs.declared.reply.Reply.{Reply}
 use Rattle.cj_calls.specs.declared.reply.Reply.TheVariants as Say
-use Rattle.cj_calls.specs.Rows.{Told}
 use Rattle.cj_seats.specs.Steps.{step_at, is_over}
 use Rattle.cj_seats.specs.declared.seat.Work.{Work}
 use Rattle.cj_seats.specs.declared.seat.Phase.{Phase}
 use Rattle.cj_seats.specs.declared.seat.Phase.TheVariants.{Held, Seen, Listed, Checked, Works}
 use Rattle.cj_seats.specs.declared.seat.Seat.{Seat}
 use Rattle.cj_state.specs.declared.state.State.{State}
-use Rattle.cj_state.specs.Moves.{Moved, by_seat, seat_of, take, take_by, take_first, finish, finish_in, finish_well, finish_work}
-use Rattle.cj_state.specs.Step.{step_of, by_role, by_user, by_runner, by_informer, by_worker}
-use Rattle.cj_state.specs.Legal.{IsLegal, state_of}
-use Rattle.cj_legal.specs.Seats.{seat}
+use Rattle.cj_state.specs.Moves.{by_seat, seat_of, take, take_by, take_first, finish, finish_in, finish_work}
+use Rattle.cj_state.specs.Step.{step_of, by_role, by_informer, by_worker}
+use Rattle.cj_state.specs.Legal.{state_of}
 use Rattle.cj_legal.proofs.Seated.{seats_agree}
 use Rattle.cj_queue_history.specs.Deeds.{Act, acts}
-use Rattle.cj_queue_history.specs.LookBacks.{queued, shut, since, RisesBy}
+use Rattle.cj_queue_history.specs.LookBacks.{queued, since, RisesBy}
 use Rattle.cj_queue_history.specs.Laws.{IsQueue}
 use Rattle.cj_queue_history.specs.Answers.{IsFirst, NoneQueued, OnTake, TakeSays, on_end, on_finish, Says, AnswerLaw}
 use Rattle.cj_queue_history.proofs.Rows.{itself}

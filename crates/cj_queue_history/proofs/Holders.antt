@@ -1,16 +1,14 @@
 -- Who holds a key: the look-back of the key and that of the caller agree, so no key is in two hands.
-use Rattle.std.proofs.Common.{◌≡◌, ℕ, ◌==◌, Bool, true, false, cond, not, ◌&&◌, List, [], ◌∷◌, Option, Some, None, is_some, refl, sym, ap, ◌∙◌, subst, arith}
+use Rattle.std.proofs.Common.{◌≡◌, ℕ, ◌==◌, Bool, true, false, cond, not, ◌&&◌, List, ◌∷◌, Option, Some, None, is_some, refl, sym, ap, ◌∙◌, arith}
 use Rattle.std.specs.Prelude.{Result, Ok, Err, if◌then◌else◌}
-use Rattle.std.proofs.lemmas.Bool.{eqb-true, eq-eqb}
+use Rattle.std.proofs.lemmas.Bool.{eqb-true}
 use Rattle.std.proofs.lemmas.Bool.Decides.{nat_tests}
 use Rattle.cj_base.specs.declared.refusal.Refusal.{Refusal}
 use Rattle.cj_types.specs.Keys.{Place}
-use Rattle.cj_types.specs.declared.policy.Reason.{Reason}
 use Rattle.cj_queue.specs.Parts.{key_eq}
-use Rattle.cj_queue.proofs.Sets.{eq_true, eq_self, eq_turned}
+use Rattle.cj_queue.proofs.Sets.{eq_true}
 use Rattle.cj_calls.specs.declared.call.Call.{Call}
 use Rattle.cj_calls.specs.declared.call.Call.TheVariants as Of
-use Rattle.cj_calls.specs.declared.end.End.{End}
 use Rattle.cj_calls.specs.declared.end.End.TheVariants.{Well, Again}
 use Rattle.cj_calls.specs.declared.reply.Reply.{Reply}
 use Rattle.cj_calls.specs.declared.reply.Reply.TheVariants as Is
@@ -18,7 +16,7 @@ use Rattle.cj_calls.specs.Rows.{Told}
 use Rattle.cj_seats.specs.declared.seat.Phase.{Phase}
 use Rattle.cj_seats.specs.declared.seat.Seat.{Seat}
 use Rattle.cj_legal.specs.Seats.{seat, seat_after, accepted, at_phase, on}
-use Rattle.cj_queue_history.specs.Deeds.{Deed, adds, ticks, takes, ends, fails, shuts, nothing, deed, finish}
+use Rattle.cj_queue_history.specs.Deeds.{Deed, adds, ticks, takes, ends, fails, shuts, nothing, deed}
 use Rattle.cj_queue_history.specs.LookBacks.{is_take, is_finish, is_by}
 use Rattle.cj_queue_history.proofs.Turns.{key_of}
 
@@ -66,8 +64,8 @@ pub tie_step : (d : Deed) (v w : ℕ) (k : Place) (o : Place → Option ℕ) (s 
     → is_by (holder_after d v k (o k)) w ≡ holds (cond (v == w) (sits d (s w)) (s w)) k
 tie_step (takes j) v w k o s t may =
     tie_took (key_eq k j) (v == w) v w j k (o k) (s w) refl refl (t k w)
-        (λ is. ap o (eq_true k j is) ∙ may.1)
-        (λ is. ap s (sym (eqb-true v w is)) ∙ may.0)
+    (λ is. ap o (eq_true k j is) ∙ may.1)
+    (λ is. ap s (sym (eqb-true v w is)) ∙ may.0)
 tie_step (ends n) v w k o s t may = tie_finished (is_by (o k) v) (v == w) v w k (o k) (s w) refl refl (t k w)
 tie_step (fails n) v w k o s t may = tie_finished (is_by (o k) v) (v == w) v w k (o k) (s w) refl refl (t k w)
 tie_step (adds j) v w k o s t may = t k w ∙ sym (tie_other (v == w) (s w) k)

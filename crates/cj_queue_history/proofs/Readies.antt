@@ -1,6 +1,6 @@
 -- The keys that a tick adds: just those whose time is not above it, by time, then key.
 use Rattle.std.proofs.Common.{◌≡◌, ℕ, ◌<◌, ◌==◌, ◌⊎◌, inl, inr, Bool, true, false, cond, ◌&&◌, ◌||◌, List, [], ◌∷◌, map as map_list, Option, Some, None, refl, sym, ap, ◌∙◌, subst, arith}
-use Rattle.std.specs.Prelude.{T, nat_le, nat_lt}
+use Rattle.std.specs.Prelude.{T, nat_le}
 use Rattle.std.proofs.lemmas.Bool.{eqb-true, eq-eqb}
 use Rattle.std.proofs.lemmas.Bool.Decides.{nat_tests}
 use Rattle.std.specs.declared.cmp.Ordering.{Ordering}
@@ -16,8 +16,7 @@ use Rattle.cj_queue.specs.Times.{Waiting, timed_cmp, by_time, ready, ready_in, a
 use Rattle.cj_queue.proofs.Sets.{eq_true, eq_self, eq_turned, get_put, get_off}
 use Rattle.cj_queue.proofs.Ready.{by_time_at, timed_total, timed_exact}
 use Rattle.cj_queue_history.specs.LookBacks.{Before, RisesBy, is_within, time_of}
-use Rattle.cj_queue_history.proofs.Rows.{on, off, either, itself, further}
-
+use Rattle.cj_queue_history.proofs.Rows.{on, either, itself, further}
 
 abbrev firsts : List ((ℕ × Place) × Unit {0}) → List (ℕ × Place)
 firsts es = map_list (λ e. e.0) es
@@ -61,7 +60,7 @@ has_it (e ∷ es) now t k f le = by (λ g. has_it es now t k g le) (eq_by_cmp ti
     by rest true h g =
         let same = same_pair (t, k) e.0 h in
         subst (λ (p : ℕ × Place). stands_in (cond (nat_le p.0 now) (p.1 ∷ ready_in (firsts es) now) (ready_in (firsts es) now)) k ≡ true) same
-            (ap (λ l. stands_in l k) (on (nat_le t now) (k ∷ ready_in (firsts es) now) (ready_in (firsts es) now) le) ∙ itself k (ready_in (firsts es) now))
+        (ap (λ l. stands_in l k) (on (nat_le t now) (k ∷ ready_in (firsts es) now) (ready_in (firsts es) now) le) ∙ itself k (ready_in (firsts es) now))
     by rest false h g = in_both (nat_le e.0.0 now) e.0.1 (ready_in (firsts es) now) k (rest g)
 
 time_is : (o : Option ℕ) (t : ℕ) → at_time o t ≡ Some tt → o ≡ Some t
@@ -89,9 +88,11 @@ members m now k = same_truth _ _ there back
   where
     there : stands_in (ready m now) k ≡ true → is_within (map.get m k) now ≡ true
     there n = let g = gives (map.entries (by_time m)) now k n in ap (λ o. is_within o now) (time_is (map.get m k) g.0 (sym (found_at m g.0 k) ∙ g.2)) ∙ g.1
+
     by : (o : Option ℕ) → map.get m k ≡ o → is_within o now ≡ true → stands_in (ready m now) k ≡ true
     by None e w = cc (w)
     by (Some t) e w = has_it (map.entries (by_time m)) now t k (found_at m t k ∙ ap (λ o. at_time o t) e ∙ time_here t) w
+
     back : is_within (map.get m k) now ≡ true → stands_in (ready m now) k ≡ true
     back w = by (map.get m k) refl w
 
@@ -133,13 +134,15 @@ rises_in (e ∷ es) now n tm s all = by (rises_in es now n tm (second _ _ s) (λ
   where
     deeper : (t : ℕ) (k : Place) → find timed_cmp (t, k) es ≡ Some tt → tm k ≡ Some t
     deeper t k f = all t k (kept (eq_by_cmp timed_cmp (t, k) e.0) (find timed_cmp (t, k) es) f)
+
     head : (y : Place) → stands_in (ready_in (firsts es) now) y ≡ true → Before (n, time_of (tm e.0.1)) e.0.1 (n, time_of (tm y)) y
     head y m =
         let g = gives es now y m in
         let a : tm e.0.1 ≡ Some e.0.0 = all e.0.0 e.0.1 (found_first e es e.0.1 (eq_self e.0.1)) in
         let b : tm y ≡ Some g.0 = deeper g.0 y g.2 in
         subst (λ (p : Option ℕ × Option ℕ). Before (n, time_of p.0) e.0.1 (n, time_of p.1) y) (λ i. (sym a i, sym b i))
-            (inr (refl, split e.0.0 g.0 (place_cmp e.0.1 y) (below_found es e.0 (g.0, y) (first _ _ s) g.2)))
+        (inr (refl, split e.0.0 g.0 (place_cmp e.0.1 y) (below_found es e.0 (g.0, y) (first _ _ s) g.2)))
+
     by : RisesBy (λ k. (n, time_of (tm k))) (ready_in (firsts es) now) → (b : Bool) → RisesBy (λ k. (n, time_of (tm k))) (cond b (e.0.1 ∷ ready_in (firsts es) now) (ready_in (firsts es) now))
     by rest true = (head, rest)
     by rest false = rest

@@ -1,7 +1,6 @@
 -- What each change leaves of a row, by key: over any tests of what is dirty and held, and any ranks.
-use Rattle.std.proofs.Common.{◌≡◌, ℕ, ◌+◌, ◌<◌, ◌⊎◌, inl, inr, Bool, true, false, cond, not, ◌&&◌, ◌||◌, List, [], ◌∷◌, ◌++◌, Option, Some, None, is_some, refl, sym, ap, ◌∙◌, subst, arith}
-use Rattle.std.specs.FinMap.{FinMap, get, insert, remove}
-use Rattle.std.specs.Cmp.{nat_cmp_total}
+use Rattle.std.proofs.Common.{◌≡◌, ℕ, inl, inr, Bool, true, false, cond, not, ◌&&◌, ◌||◌, List, [], ◌∷◌, ◌++◌, Some, None, is_some, refl, sym, ap, ◌∙◌, subst, arith}
+use Rattle.std.specs.FinMap.{get, insert, remove}
 use Rattle.std.specs.declared.cmp.Ordering.{Ordering}
 use Rattle.std.specs.declared.cmp.Ordering.TheVariants.{Less, Equal, Greater}
 use Rattle.std.specs.Ordering.{is_eq}
@@ -77,21 +76,19 @@ push_has (x ∷ xs) j k = ap (λ b. key_eq k x || b) (push_has xs j k) ∙ or_as
 
 pub rises_alike : (xs : List Place) (f g : Place → ℕ × ℕ) → ((k : Place) → stands_in xs k ≡ true → g k ≡ f k) → RisesBy f xs → RisesBy g xs
 rises_alike [] f g e r = tt
-rises_alike (x ∷ xs) f g e r =
-    (
-      (λ y m. subst (λ (p : (ℕ × ℕ) × (ℕ × ℕ)). Before p.0 x p.1 y) (λ i. (sym (e x (itself x xs)) i, sym (e y (further x xs y m)) i)) (r.0 y m)),
-      rises_alike xs f g (λ k m. e k (further x xs k m)) r.1,
-    )
+rises_alike (x ∷ xs) f g e r = (
+  (λ y m. subst (λ (p : (ℕ × ℕ) × (ℕ × ℕ)). Before p.0 x p.1 y) (λ i. (sym (e x (itself x xs)) i, sym (e y (further x xs y m)) i)) (r.0 y m)),
+  rises_alike xs f g (λ k m. e k (further x xs k m)) r.1,
+)
 
 pub rises_push : (xs : List Place) (f : Place → ℕ × ℕ) (j : Place) → RisesBy f xs → ((k : Place) → stands_in xs k ≡ true → Before (f k) k (f j) j) → RisesBy f (xs ++ j ∷ [])
 rises_push [] f j r below = ((λ y m. cc (m)), tt)
-rises_push (x ∷ xs) f j r below =
-    (
-      (λ y m. either (stands_in xs y) (key_eq y j) (Before (f x) x (f y) y) (sym (push_has xs j y) ∙ m)
-          (λ a. r.0 y a)
-          (λ b. subst (λ z. Before (f x) x (f z) z) (sym (eq_true y j b)) (below x (itself x xs)))),
-      rises_push xs f j r.1 (λ k m. below k (further x xs k m)),
-    )
+rises_push (x ∷ xs) f j r below = (
+  (λ y m. either (stands_in xs y) (key_eq y j) (Before (f x) x (f y) y) (sym (push_has xs j y) ∙ m)
+      (λ a. r.0 y a)
+      (λ b. subst (λ z. Before (f x) x (f z) z) (sym (eq_true y j b)) (below x (itself x xs)))),
+  rises_push xs f j r.1 (λ k m. below k (further x xs k m)),
+)
 
 less_apart : (o : Ordering) → o ≡ Less → is_eq o ≡ true → ⊥
 less_apart Less e h = cc (h)
@@ -135,7 +132,6 @@ is_new false q n s e f = cc (e)
 
 module _ (D H E G : Place → Bool) (R S N : Place → ℕ × ℕ)
     (ranks : (k : Place) → S k ≡ ranked (line_by D H k) (line_by E G k) (N k) (R k)) where
-
   -- a change that queues and takes nothing
   pub row_same : (r s : Row) → RowIs D H R r → s.line ≡ r.line → ((k : Place) → has s.dirty k ≡ E k) → ((k : Place) → has s.processing k ≡ G k) → ((k : Place) → line_by E G k ≡ line_by D H k) → RowIs E G S s
   row_same r s is line dirty held same = record {
@@ -157,7 +153,7 @@ module _ (D H E G : Place → Bool) (R S N : Place → ℕ × ℕ)
         members = λ k. ap (λ l. stands_in l k) line ∙ push_has r.line j k ∙ or_turned (stands_in r.line k) (key_eq k j) ∙ ap (λ b. key_eq k j || b) (is.members k) ∙ sym (more k);
         order = subst (RisesBy S) (sym line)
             (rises_push r.line S j (rises_alike r.line R S olds is.order)
-                (λ k m. subst (λ (p : (ℕ × ℕ) × (ℕ × ℕ)). Before p.0 k p.1 j) (λ i. (sym (olds k m) i, sym new i)) (fresh k (sym (is.members k) ∙ m))));
+            (λ k m. subst (λ (p : (ℕ × ℕ) × (ℕ × ℕ)). Before p.0 k p.1 j) (λ i. (sym (olds k m) i, sym new i)) (fresh k (sym (is.members k) ∙ m))));
       }
 
   -- the first key goes
@@ -214,27 +210,29 @@ row_add_is D H E R S N r j more ranks fresh is = by (has r.dirty j) (has r.proce
   where
     same : (k : Place) → ((key_eq k j || D k) && not (H k)) ≡ line_by D H k → line_by E H k ≡ line_by D H k
     same k e = ap (λ b. b && not (H k)) (more k) ∙ e
+
     put : (k : Place) → has (insert r.dirty j tt) k ≡ E k
     put k = has_put r.dirty j k ∙ ap (λ b. key_eq k j || b) (is.dirty k) ∙ sym (more k)
+
     by : (a b : Bool) → has r.dirty j ≡ a → has r.processing j ≡ b → RowIs E H S (row_add r j)
     by true b a_is b_is =
         subst (RowIs E H S) (sym (on (has r.dirty j) _ _ a_is))
-            (row_same D H E H R S N ranks r r is refl (λ k. is.dirty k ∙ sym (at (key_eq k j) (D k) (λ t. ap D (eq_true k j t) ∙ sym (is.dirty j) ∙ a_is)) ∙ sym (more k)) is.held
-                (λ k. same k (dirty_again (key_eq k j) (D k) (H k) (λ t. ap D (eq_true k j t) ∙ sym (is.dirty j) ∙ a_is))))
+        (row_same D H E H R S N ranks r r is refl (λ k. is.dirty k ∙ sym (at (key_eq k j) (D k) (λ t. ap D (eq_true k j t) ∙ sym (is.dirty j) ∙ a_is)) ∙ sym (more k)) is.held
+        (λ k. same k (dirty_again (key_eq k j) (D k) (H k) (λ t. ap D (eq_true k j t) ∙ sym (is.dirty j) ∙ a_is))))
       where
         at : (t d : Bool) → (t ≡ true → d ≡ true) → (t || d) ≡ d
         at true d f = sym (f refl)
         at false d f = refl
     by false true a_is b_is =
         subst (RowIs E H S) (sym (off (has r.dirty j) _ _ a_is))
-            (row_same D H E H R S N ranks r _ is (on (has r.processing j) _ _ b_is) put is.held
-                (λ k. same k (while_held (key_eq k j) (D k) (H k) (λ t. ap H (eq_true k j t) ∙ sym (is.held j) ∙ b_is))))
+        (row_same D H E H R S N ranks r _ is (on (has r.processing j) _ _ b_is) put is.held
+        (λ k. same k (while_held (key_eq k j) (D k) (H k) (λ t. ap H (eq_true k j t) ∙ sym (is.held j) ∙ b_is))))
     by false false a_is b_is =
         subst (RowIs E H S) (sym (off (has r.dirty j) _ _ a_is))
-            (row_push D H E H R S N ranks r _ j is (off (has r.processing j) _ _ b_is) put is.held
-                (off_clean (D j) (H j) (sym (is.dirty j) ∙ a_is))
-                (λ k. same_new k)
-                (λ k q. fresh k q (sym (is.dirty j) ∙ a_is)))
+        (row_push D H E H R S N ranks r _ j is (off (has r.processing j) _ _ b_is) put is.held
+        (off_clean (D j) (H j) (sym (is.dirty j) ∙ a_is))
+        (λ k. same_new k)
+        (λ k q. fresh k q (sym (is.dirty j) ∙ a_is)))
       where
         same_new : (k : Place) → line_by E H k ≡ (key_eq k j || line_by D H k)
         same_new k = ap (λ b. b && not (H k)) (more k) ∙ new_add (key_eq k j) (D k) (H k) (λ t. ap H (eq_true k j t) ∙ sym (is.held j) ∙ b_is)
@@ -270,25 +268,29 @@ row_adds_is [] D H E R S N r more ranks fresh rises is =
     row_same D H E H R S N ranks r r is refl (λ k. is.dirty k ∙ sym (more k)) is.held (λ k. ap (λ b. b && not (H k)) (more k))
 row_adds_is (x ∷ ks) D H E R S N r more ranks fresh rises is =
     row_adds_is ks C H E Q S N (row_add r x)
-        (λ k. more k ∙ ap (λ b. b || D k) (or_turned (key_eq k x) (stands_in ks k)) ∙ sym (or_assoc (stands_in ks k) (key_eq k x) (D k)))
-        (λ k. ranks k ∙ ranks_join (D k) (C k) (E k) (H k) (N k) (R k) (λ d. or_right (key_eq k x) (D k) d) (λ c. more k ∙ sym (or_assoc (key_eq k x) (stands_in ks k) (D k)) ∙ up (key_eq k x) (stands_in ks k) (D k) c))
-        (λ k q y m. next k y m q)
-        rises.1
-        (row_add_is D H C R Q N r x (λ k. refl) (λ k. refl) (λ k q out. fresh k q x (itself x ks)) is)
+    (λ k. more k ∙ ap (λ b. b || D k) (or_turned (key_eq k x) (stands_in ks k)) ∙ sym (or_assoc (stands_in ks k) (key_eq k x) (D k)))
+    (λ k. ranks k ∙ ranks_join (D k) (C k) (E k) (H k) (N k) (R k) (λ d. or_right (key_eq k x) (D k) d) (λ c. more k ∙ sym (or_assoc (key_eq k x) (stands_in ks k) (D k)) ∙ up (key_eq k x) (stands_in ks k) (D k) c))
+    (λ k q y m. next k y m q)
+    rises.1
+    (row_add_is D H C R Q N r x (λ k. refl) (λ k. refl) (λ k q out. fresh k q x (itself x ks)) is)
   where
     C : Place → Bool
     C k = key_eq k x || D k
+
     Q : Place → ℕ × ℕ
     Q k = ranked (line_by D H k) (line_by C H k) (N k) (R k)
+
     up : (a b d : Bool) → (a || d) ≡ true → (a || (b || d)) ≡ true
     up true b d e = refl
     up false b d e = or_right b d e
+
     next : (k y : Place) → stands_in ks y ≡ true → line_by C H k ≡ true → Before (Q k) k (N y) y
     next k y m q = by (line_by D H k) refl
       where
         gone : (a d h : Bool) → ((a || d) && not h) ≡ true → (d && not h) ≡ false → a ≡ true
         gone true d h e f = refl
         gone false d h e f = cc (e, f)
+
         by : (b : Bool) → line_by D H k ≡ b → Before (Q k) k (N y) y
         by true e = subst (λ p. Before p k (N y) y) (sym (was_in (line_by C H k) (line_by D H k) (N k) (R k) e)) (fresh k e y (further x ks y m))
         by false e =
@@ -319,14 +321,15 @@ row_end_is D H G R S N r u held less ranks fresh is = by (has r.dirty u) refl
   where
     cut : (k : Place) → has (remove r.processing u) k ≡ G k
     cut k = has_off r.processing u k ∙ ap (λ b. not (key_eq k u) && b) (is.held k) ∙ sym (less k)
+
     by : (a : Bool) → has r.dirty u ≡ a → RowIs D G S (row_end r u)
     by true e =
         row_push D H D G R S N ranks r (row_end r u) u is (on (has r.dirty u) _ _ e) is.dirty cut (held_out (D u) (H u) held)
-            (λ k. ap (λ b. D k && not b) (less k) ∙ done_dirty (key_eq k u) (D k) (H k) (λ t. ap D (eq_true k u t) ∙ sym (is.dirty u) ∙ e) (λ t. ap H (eq_true k u t) ∙ held))
-            fresh
+        (λ k. ap (λ b. D k && not b) (less k) ∙ done_dirty (key_eq k u) (D k) (H k) (λ t. ap D (eq_true k u t) ∙ sym (is.dirty u) ∙ e) (λ t. ap H (eq_true k u t) ∙ held))
+        fresh
     by false e =
         row_same D H D G R S N ranks r (row_end r u) is (off (has r.dirty u) _ _ e) is.dirty cut
-            (λ k. ap (λ b. D k && not b) (less k) ∙ done_clean (key_eq k u) (D k) (H k) (λ t. ap D (eq_true k u t) ∙ sym (is.dirty u) ∙ e))
+        (λ k. ap (λ b. D k && not b) (less k) ∙ done_clean (key_eq k u) (D k) (H k) (λ t. ap D (eq_true k u t) ∙ sym (is.dirty u) ∙ e))
 
 taken_by : (t d h : Bool) → ((not t && d) && not (t || h)) ≡ (not t && (d && not h))
 taken_by true d h = refl
@@ -337,7 +340,7 @@ pub row_take_is : (D H E G : Place → Bool) (R S N : Place → ℕ × ℕ) (r :
     → RowIs D H R r → RowIs E G S (row_take r)
 row_take_is D H E G R S N r j ys whole less more ranks is =
     subst (RowIs E G S) (sym (ap (take_in r) whole))
-        (row_pop D H E G R S N ranks r (take_in r (j ∷ ys)) j ys is whole refl
-            (λ k. has_off r.dirty j k ∙ ap (λ b. not (key_eq k j) && b) (is.dirty k) ∙ sym (less k))
-            (λ k. has_put r.processing j k ∙ ap (λ b. key_eq k j || b) (is.held k) ∙ sym (more k))
-            (λ k. (λ i. less k i && not (more k i)) ∙ taken_by (key_eq k j) (D k) (H k)))
+    (row_pop D H E G R S N ranks r (take_in r (j ∷ ys)) j ys is whole refl
+    (λ k. has_off r.dirty j k ∙ ap (λ b. not (key_eq k j) && b) (is.dirty k) ∙ sym (less k))
+    (λ k. has_put r.processing j k ∙ ap (λ b. key_eq k j || b) (is.held k) ∙ sym (more k))
+    (λ k. (λ i. less k i && not (more k i)) ∙ taken_by (key_eq k j) (D k) (H k)))

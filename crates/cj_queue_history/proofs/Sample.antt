@@ -1,16 +1,15 @@
 -- Histories of a few calls, which are legal, and on which the look-backs compute.
-use Rattle.std.proofs.Common.{◌≡◌, ℕ, Bool, true, false, List, [], ◌∷◌, Option, Some, None, is_some, refl, sym, ap, ◌∙◌}
-use Rattle.std.specs.Prelude.{Result, Ok, Err, if◌then◌else◌}
+use Rattle.std.proofs.Common.{◌≡◌, ℕ, true, false, List, [], ◌∷◌, Option, Some, None, is_some, refl, sym, ap, ◌∙◌}
+use Rattle.std.specs.Prelude.{Result, Ok, if◌then◌else◌}
 use Rattle.std.specs.Ordering.{nat_cmp}
 use Rattle.std.specs.FinMap as map
 use Rattle.cj_base.specs.declared.refusal.Refusal.{Refusal}
 use Rattle.cj_types.specs.Keys.{Place, place, place_cmp}
-use Rattle.cj_calls.specs.declared.caller.Caller.{Caller}
 use Rattle.cj_calls.specs.declared.caller.Role.{Role}
 use Rattle.cj_calls.specs.declared.caller.Role.TheVariants.{Informer, Worker}
 use Rattle.cj_calls.specs.declared.call.Call.{Call}
 use Rattle.cj_calls.specs.declared.call.Call.TheVariants as Of
-use Rattle.cj_calls.specs.declared.end.End.TheVariants.{Well, Again}
+use Rattle.cj_calls.specs.declared.end.End.TheVariants.{Again}
 use Rattle.cj_calls.specs.declared.reply.Reply.{Reply}
 use Rattle.cj_calls.specs.declared.reply.Reply.TheVariants as Say
 use Rattle.cj_calls.specs.Rows.{Told}
@@ -21,7 +20,7 @@ use Rattle.cj_state.specs.Moves.{seat_of, take, take_by, take_first}
 use Rattle.cj_state.specs.Step.{step_of}
 use Rattle.cj_state.specs.Legal.{IsLegal, state_of}
 use Rattle.cj_queue_history.specs.Deeds.{acts}
-use Rattle.cj_queue_history.specs.LookBacks.{queued, held, since, ready_at, failures, mark}
+use Rattle.cj_queue_history.specs.LookBacks.{queued, held, since, ready_at, failures}
 
 abbrev a : Place
 a = place (1 ∷ []) (97 ∷ [])

@@ -1,19 +1,15 @@
 -- What one entry makes of the queue, and that the look-backs say the same.
-use Rattle.std.proofs.Common.{◌≡◌, ℕ, ◌+◌, ◌*◌, ◌^◌, ◌<◌, ◌≤◌, ◌==◌, ◌⊎◌, inl, inr, Bool, true, false, cond, not, ◌&&◌, ◌||◌, List, [], ◌∷◌, ◌++◌, length, Option, Some, None, is_some, refl, sym, ap, ◌∙◌, subst, arith}
-use Rattle.std.specs.Prelude.{min, max, nat_le, unwrap_or}
-use Rattle.std.proofs.Math.Pow.{pow_mono}
-use Rattle.std.proofs.lemmas.Bool.Decides.{nat_tests}
-use Rattle.std.specs.FinMap.{FinMap, get, insert, remove, get-empty}
-use Rattle.cj_types.specs.Keys.{Place, place_cmp}
-use Rattle.cj_queue.specs.Parts.{key_eq, stands_in}
-use Rattle.cj_queue.specs.Times.{Waiting, ready, without, waits_for, earlier}
-use Rattle.cj_queue.specs.Queue.{Queue, Row, has, row_add, row_adds, row_end, row_take, added, taken, ended, added_after, added_where, ticked, closed, failed, forgotten, failures_of, delay, finished_ok, finished_retry, with_row, with_waiting}
-use Rattle.cj_queue.proofs.Sets.{eq_true, eq_self, eq_turned, get_put, get_off}
-use Rattle.cj_queue_history.specs.Deeds.{Deed, adds, ticks, takes, ends, fails, shuts, nothing}
-use Rattle.cj_queue_history.specs.LookBacks.{Before, RisesBy, is_take, is_finish, is_by, is_shut, marks, counts, later_in, is_within, waits_more, waits_in, adds_in, time_of, time_in}
-use Rattle.cj_queue_history.proofs.Rows.{on, off, RowIs, line_by, ranked, row_same, row_add_is, row_adds_is, row_end_is, row_take_is, rises_alike, itself}
-use Rattle.cj_queue_history.proofs.Readies.{members, rises, get_without, get_waits}
-use Rattle.cj_queue_history.proofs.Holders.{holds, holder_after}
+use Rattle.std.proofs.Common.{◌≡◌, ℕ, Bool, true, false, cond, not, ◌&&◌, ◌||◌, Option, Some, None, refl, sym, ap, ◌∙◌, subst}
+use Rattle.std.specs.Prelude.{nat_le}
+use Rattle.std.specs.FinMap.{get}
+use Rattle.cj_types.specs.Keys.{Place}
+use Rattle.cj_queue.specs.Parts.{key_eq}
+use Rattle.cj_queue.specs.Times.{waits_for, earlier}
+use Rattle.cj_queue.specs.Queue.{Queue, row_add, row_end, added_where, with_row, with_waiting}
+use Rattle.cj_queue.proofs.Sets.{eq_true}
+use Rattle.cj_queue_history.specs.LookBacks.{Before, is_within, waits_more}
+use Rattle.cj_queue_history.proofs.Rows.{on, off, RowIs, line_by, ranked, row_same, row_add_is, row_end_is}
+use Rattle.cj_queue_history.proofs.Readies.{get_waits}
 
 -- all but the failures
 pub record Part (D H : Place → Bool) (R : Place → ℕ × ℕ) (W : Place → Option ℕ) (m : ℕ) (s : Bool) (q : Queue) : Type 0 where
@@ -65,7 +61,6 @@ module _ (D H E : Place → Bool) (R S N : Place → ℕ × ℕ) (W V L : Place 
     (ranks : (k : Place) → S k ≡ ranked (line_by D H k) (line_by E H k) (N k) (R k))
     (wait : (k : Place) → V k ≡ cond s (W k) (waits_more (L k) m (W k)))
     (fresh : (k : Place) → line_by D H k ≡ true → D u ≡ false → Before (R k) k (N u) u) where
-
   -- nothing changes
   idle : ((k : Place) → E k ≡ D k) → ((k : Place) → V k ≡ W k) → Part E H S V m s q
   idle same waits = record {
@@ -112,22 +107,22 @@ add_part D H E R S N W V L m true q u (Some a) is late more ranks wait fresh =
     subst (Part E H S V m true) (sym (on q.shut q _ is.shut)) (idle D H E R S N W V L m true q u (Some a) is late more ranks wait fresh more wait)
 add_part D H E R S N W V L m false q u None is late more ranks wait fresh =
     idle D H E R S N W V L m false q u None is late more ranks wait fresh
-        (λ k. more k ∙ ap (λ b. b || D k) (ap (λ o. is_within o m) (late k) ∙ no_time (key_eq k u) m))
-        (λ k. wait k ∙ ap (λ o. waits_more o m (W k)) (late k) ∙ no_wait (key_eq k u) m (W k))
+    (λ k. more k ∙ ap (λ b. b || D k) (ap (λ o. is_within o m) (late k) ∙ no_time (key_eq k u) m))
+    (λ k. wait k ∙ ap (λ o. waits_more o m (W k)) (late k) ∙ no_wait (key_eq k u) m (W k))
 add_part D H E R S N W V L m false q u (Some a) is late more ranks wait fresh =
     subst (Part E H S V m false) (sym (off q.shut q _ is.shut)) (by (nat_le a m) refl)
   where
     by : (b : Bool) → nat_le a m ≡ b → Part E H S V m false (cond (nat_le a q.tick) (with_row q (row_add q.row u)) (with_waiting q (waits_for q.waiting u a)))
     by true e =
         subst (Part E H S V m false) (sym (on (nat_le a q.tick) _ _ (ap (nat_le a) is.tick ∙ e)))
-            (at_once D H E R S N W V L m false q u (Some a) is late more ranks wait fresh
-                (λ k. more k ∙ ap (λ b. b || D k) (ap (λ o. is_within o m) (late k) ∙ within_at (key_eq k u) a m ∙ and_true (key_eq k u) (nat_le a m) e))
-                (λ k. wait k ∙ ap (λ o. waits_more o m (W k)) (late k) ∙ wait_at_once (key_eq k u) a m (W k) e))
+        (at_once D H E R S N W V L m false q u (Some a) is late more ranks wait fresh
+        (λ k. more k ∙ ap (λ b. b || D k) (ap (λ o. is_within o m) (late k) ∙ within_at (key_eq k u) a m ∙ and_true (key_eq k u) (nat_le a m) e))
+        (λ k. wait k ∙ ap (λ o. waits_more o m (W k)) (late k) ∙ wait_at_once (key_eq k u) a m (W k) e))
     by false e =
         subst (Part E H S V m false) (sym (off (nat_le a q.tick) _ _ (ap (nat_le a) is.tick ∙ e)))
-            (in_time D H E R S N W V L m false q u (Some a) is late more ranks wait fresh a
-                (λ k. more k ∙ ap (λ b. b || D k) (ap (λ o. is_within o m) (late k) ∙ within_at (key_eq k u) a m ∙ and_false (key_eq k u) (nat_le a m) e))
-                (λ k. wait k ∙ ap (λ o. waits_more o m (W k)) (late k) ∙ wait_longer (key_eq k u) a m (W k) e))
+        (in_time D H E R S N W V L m false q u (Some a) is late more ranks wait fresh a
+        (λ k. more k ∙ ap (λ b. b || D k) (ap (λ o. is_within o m) (late k) ∙ within_at (key_eq k u) a m ∙ and_false (key_eq k u) (nat_le a m) e))
+        (λ k. wait k ∙ ap (λ o. waits_more o m (W k)) (late k) ∙ wait_longer (key_eq k u) a m (W k) e))
 
 -- ---- the end of the work on a key, and then a delayed add of it
 
@@ -163,28 +158,32 @@ pub end_part : (D H G E : Place → Bool) (R S N : Place → ℕ × ℕ) (W V L 
     → Part E G S V m s (added_where p u at)
 end_part D H G E R S N W V L m s q p u at is row_is waits_is tick_is shut_is held less late more ranks wait fresh =
     add_part D G E Q S N W V L m s p u at
-        (record {
-          row = subst (RowIs D G Q) (sym row_is) (row_end_is D H G R Q N q.row u held less (λ k. refl) fresh is.row);
-          waits = λ k. ap (λ w. get w k) waits_is ∙ is.waits k;
-          tick = tick_is ∙ is.tick;
-          shut = shut_is ∙ is.shut;
-        })
-        late more
-        (λ k. ranks k ∙ ranks_end (D k) (E k) (H k) (G k) (N k) (R k) (λ d. more k ∙ or_right (not s && is_within (L k) m) (D k) d) (λ g. still (key_eq k u) (H k) (sym (less k) ∙ g)))
-        wait
-        (λ k queued clean. subst (λ r. Before r k (N u) u) (sym (old k queued clean)) (fresh k (was k queued clean)))
+    (record {
+      row = subst (RowIs D G Q) (sym row_is) (row_end_is D H G R Q N q.row u held less (λ k. refl) fresh is.row);
+      waits = λ k. ap (λ w. get w k) waits_is ∙ is.waits k;
+      tick = tick_is ∙ is.tick;
+      shut = shut_is ∙ is.shut;
+    })
+    late more
+    (λ k. ranks k ∙ ranks_end (D k) (E k) (H k) (G k) (N k) (R k) (λ d. more k ∙ or_right (not s && is_within (L k) m) (D k) d) (λ g. still (key_eq k u) (H k) (sym (less k) ∙ g)))
+    wait
+    (λ k queued clean. subst (λ r. Before r k (N u) u) (sym (old k queued clean)) (fresh k (was k queued clean)))
   where
     Q : Place → ℕ × ℕ
     Q k = ranked (line_by D H k) (line_by D G k) (N k) (R k)
+
     was_by : (t d h g : Bool) → g ≡ (not t && h) → (t ≡ true → d ≡ false) → (d && not g) ≡ true → (d && not h) ≡ true
     was_by true true h g e f i = cc (f refl)
     was_by true false h g e f i = i
     was_by false d h g e f i = ap (λ b. d && not b) (sym e) ∙ i
+
     was : (k : Place) → line_by D G k ≡ true → D u ≡ false → line_by D H k ≡ true
     was k queued clean = was_by (key_eq k u) (D k) (H k) (G k) (less k) (λ t. ap D (eq_true k u t) ∙ clean) queued
+
     keeps : (a b : Bool) (n s : ℕ × ℕ) → a ≡ true → ranked a b n s ≡ s
     keeps true true n s e = refl
     keeps true false n s e = refl
     keeps false b n s e = cc (e)
+
     old : (k : Place) → line_by D G k ≡ true → D u ≡ false → Q k ≡ R k
     old k queued clean = keeps (line_by D H k) (line_by D G k) (N k) (R k) (was k queued clean)

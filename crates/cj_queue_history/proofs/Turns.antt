@@ -1,9 +1,9 @@
 -- What each call does to the queue: the queue's call that its deed says, on the key that its caller holds.
-use Rattle.std.proofs.Common.{◌≡◌, ℕ, ◌+◌, ◌*◌, Bool, true, false, List, [], ◌∷◌, refl, sym, ap, ◌∙◌}
-use Rattle.std.specs.Prelude.{Option, Some, None, option_map, is_some, ◌==◌, Result, Ok, Err, if◌then◌else◌}
+use Rattle.std.proofs.Common.{◌≡◌, ℕ, Bool, true, false, List, refl, sym, ap, ◌∙◌}
+use Rattle.std.specs.Prelude.{Option, Some, None, Result, Ok, Err, if◌then◌else◌}
 use Rattle.std.specs.FinMap as map
 use Rattle.cj_base.specs.declared.refusal.Refusal.{Refusal}
-use Rattle.cj_base.specs.declared.refusal.Refusal.TheVariants.{NotPermitted, Stale, Empty, ShutDown}
+use Rattle.cj_base.specs.declared.refusal.Refusal.TheVariants.{NotPermitted, Stale}
 use Rattle.cj_types.specs.Keys.{Place}
 use Rattle.cj_types.specs.declared.cron.CronJob.{CronJob}
 use Rattle.cj_types.specs.declared.cron.CronStatus.{CronStatus}
@@ -11,7 +11,6 @@ use Rattle.cj_types.specs.declared.job.Job.{Job}
 use Rattle.cj_types.specs.declared.job.JobDraft.{JobDraft}
 use Rattle.cj_types.specs.declared.policy.Reason.{Reason}
 use Rattle.cj_types.specs.declared.event.Event.{Event}
-use Rattle.cj_types.specs.Events.{version_of}
 use Rattle.cj_store.specs.Change.{map_ok, cron_added, cron_modified, cron_gone, job_added, job_modified, job_gone}
 use Rattle.cj_store.specs.Crons.{cron_created, cron_updated, cron_deleted}
 use Rattle.cj_store.specs.Jobs.{job_created, job_updated, job_deleted, job_ended}
@@ -28,7 +27,6 @@ use Rattle.cj_calls.specs.declared.call.Call.TheVariants as Of
 use Rattle.cj_calls.specs.declared.end.End.{End}
 use Rattle.cj_calls.specs.declared.end.End.TheVariants.{Well, Again}
 use Rattle.cj_calls.specs.declared.reply.Reply.{Reply}
-use Rattle.cj_calls.specs.declared.reply.Reply.TheVariants as Is
 use Rattle.cj_seats.specs.Inputs.{rests_on}
 use Rattle.cj_seats.specs.Steps.{step_at, as_drop, as_make, as_status, is_over}
 use Rattle.cj_seats.specs.declared.seat.Work.{Work}
@@ -36,7 +34,7 @@ use Rattle.cj_seats.specs.declared.seat.Phase.{Phase}
 use Rattle.cj_seats.specs.declared.seat.Phase.TheVariants.{Held, Seen, Listed, Checked, Works}
 use Rattle.cj_seats.specs.declared.seat.Seat.{Seat}
 use Rattle.cj_state.specs.declared.state.State.{State}
-use Rattle.cj_state.specs.Moves.{Moved, moved, refused, by_seat, seat_of, take, take_by, take_first, see_cron, see_cron_in, see_jobs, see_jobs_in, see_active, see_active_in, claim, claim_in, claim_where, claims, wrote, works, drop_next, drop_in, drop_where, drops_it, next_seat, make_next, make_in, make_where, steps_on, event_reply, version_reply, set_status, status_in, status_where, sets_it, finish, finish_in, finish_well, finish_work, next_ms}
+use Rattle.cj_state.specs.Moves.{Moved, refused, by_seat, seat_of, take, take_by, take_first, see_cron, see_cron_in, see_jobs, see_jobs_in, see_active, see_active_in, claim, claim_in, claim_where, claims, wrote, drop_next, drop_in, drop_where, drops_it, make_next, make_in, make_where, steps_on, event_reply, version_reply, set_status, status_in, status_where, sets_it, finish, finish_in, finish_work, next_ms}
 use Rattle.cj_state.specs.Step.{writes, found_cron, found_job, told_events, step_of, by_role, by_reader, by_user, by_runner, by_worker, by_informer}
 use Rattle.cj_queue_history.specs.Deeds.{Deed, adds, ticks, takes, ends, fails, shuts, nothing, deed}
 

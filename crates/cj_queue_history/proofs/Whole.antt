@@ -1,5 +1,5 @@
 -- The queue of the state and the acts of the list agree.
-use Rattle.std.proofs.Common.{◌≡◌, ℕ, ◌+◌, ◌*◌, ◌^◌, ◌<◌, ◌≤◌, ◌==◌, ◌⊎◌, inl, inr, Bool, true, false, cond, not, ◌&&◌, ◌||◌, List, [], ◌∷◌, length, Option, Some, None, is_some, refl, sym, ap, ◌∙◌, subst, arith}
+use Rattle.std.proofs.Common.{◌≡◌, ℕ, ◌+◌, ◌*◌, ◌^◌, ◌<◌, ◌≤◌, ◌==◌, inl, Bool, true, false, cond, not, ◌&&◌, ◌||◌, List, [], ◌∷◌, length, Option, Some, None, is_some, refl, sym, ap, ◌∙◌, subst, arith}
 use Rattle.std.specs.Prelude.{min, max, nat_le, unwrap_or, Result}
 use Rattle.std.proofs.Math.Pow.{pow_mono}
 use Rattle.std.proofs.lemmas.Bool.{cond_both}
@@ -8,23 +8,22 @@ use Rattle.std.specs.FinMap.{FinMap, get, insert, remove, get-empty}
 use Rattle.cj_base.specs.declared.refusal.Refusal.{Refusal}
 use Rattle.cj_types.specs.Keys.{Place, place_cmp}
 use Rattle.cj_queue.specs.Parts.{key_eq, stands_in}
-use Rattle.cj_queue.specs.Times.{Waiting, ready, without, waits_for}
-use Rattle.cj_queue.specs.Queue.{Queue, Row, has, first, row_add, row_adds, row_end, row_take, added, taken, ended, added_after, added_where, ticked, closed, failed, forgotten, failures_of, delay, finished_ok, finished_retry, with_row, with_waiting}
+use Rattle.cj_queue.specs.Times.{ready, waits_for}
+use Rattle.cj_queue.specs.Queue.{Queue, first, row_add, ended, added_after, added_where, forgotten, failures_of, delay, with_row, with_waiting}
 use Rattle.cj_queue.proofs.Sets.{eq_true, eq_self, eq_turned, get_put, get_off}
 use Rattle.cj_calls.specs.declared.reply.Reply.{Reply}
 use Rattle.cj_calls.specs.Rows.{Told}
 use Rattle.cj_seats.specs.declared.seat.Seat.{Seat}
-use Rattle.cj_state.specs.declared.state.State.{State}
-use Rattle.cj_state.specs.Moves.{Moved, seat_of, next_ms}
+use Rattle.cj_state.specs.Moves.{seat_of, next_ms}
 use Rattle.cj_state.specs.Step.{step_of}
 use Rattle.cj_state.specs.Legal.{IsLegal, state_of}
 use Rattle.cj_legal.specs.Seats.{seat}
 use Rattle.cj_legal.proofs.Seated.{seats_agree}
 use Rattle.cj_queue_history.specs.Deeds.{Deed, adds, ticks, takes, ends, fails, shuts, nothing, deed, Act, acts}
-use Rattle.cj_queue_history.specs.LookBacks.{Before, RisesBy, is_take, is_finish, is_by, is_shut, marks, counts, later_in, is_within, waits_more, waits_in, adds_in, time_of, time_in, holder, held, dirty, queued, since, shut, mark, failures, ready_at}
-use Rattle.cj_queue_history.specs.Laws.{IsQueue, QueueLaw}
-use Rattle.cj_queue_history.proofs.Turns.{key_of, ended_ok, ended_retry, stepped, May, Turns, turns}
-use Rattle.cj_queue_history.proofs.Rows.{on, off, RowIs, line_by, ranked, row_same, row_add_is, row_adds_is, row_end_is, row_take_is, rises_alike, itself}
+use Rattle.cj_queue_history.specs.LookBacks.{is_take, is_by, is_shut, marks, counts, later_in, is_within, waits_in, adds_in, time_of, time_in, holder, dirty, queued, since, shut, mark, failures, ready_at}
+use Rattle.cj_queue_history.specs.Laws.{QueueLaw}
+use Rattle.cj_queue_history.proofs.Turns.{key_of, stepped, May, Turns, turns}
+use Rattle.cj_queue_history.proofs.Rows.{on, off, line_by, ranked, row_same, row_add_is, row_adds_is, row_take_is, rises_alike, itself}
 use Rattle.cj_queue_history.proofs.Readies.{members, rises, get_without}
 use Rattle.cj_queue_history.proofs.Holders.{holds, holder_after, MayTake, tie_step, sits, free, next_key}
 use Rattle.cj_queue_history.proofs.Steps.{Part, end_part}
@@ -154,28 +153,29 @@ step (takes j) v n D O R F W m s t q low quiet tie fit fs is =
     clean : (s b : Bool) → ((not s && false) || b) ≡ b
     clean true b = refl
     clean false b = refl
+
     stay : (s : Bool) (w : Option ℕ) → w ≡ cond s w w
     stay true w = refl
     stay false w = refl
 step (ends x) v n D O R F W m s None q low quiet tie fit fs is = absurd (cc (fit.1))
 step (ends x) v n D O R F W m s (Some u) q low quiet tie fit fs is =
     end_part D (held_by O) (held_after (ends x) v O) (dirty_after (ends x) v D O F W m s) R (since_after (ends x) v n D O R F W m s) (rank_in (ends x) n W) W (waits_after (ends x) v O F W m s) (late_by (ends x) v O F) m s
-        q (forgotten (ended q u) u) u (next_ms x) is refl refl refl refl
-        (some_by (O u) v (tie u ∙ eq_self u))
-        (λ k. gone (is_by (O k) v) (O k) ∙ ap (λ b. not b && is_some (O k)) (tie k))
-        (λ k. later_ends x (is_by (O k) v) (F k) ∙ ap (λ b. cond b (next_ms x) None) (tie k))
-        (λ k. refl) (λ k. refl) (λ k. refl) (λ k z. inl (low k))
+    q (forgotten (ended q u) u) u (next_ms x) is refl refl refl refl
+    (some_by (O u) v (tie u ∙ eq_self u))
+    (λ k. gone (is_by (O k) v) (O k) ∙ ap (λ b. not b && is_some (O k)) (tie k))
+    (λ k. later_ends x (is_by (O k) v) (F k) ∙ ap (λ b. cond b (next_ms x) None) (tie k))
+    (λ k. refl) (λ k. refl) (λ k. refl) (λ k z. inl (low k))
 step (fails now) v n D O R F W m s None q low quiet tie fit fs is = absurd (cc (fit.1))
 step (fails now) v n D O R F W m s (Some u) q low quiet tie fit fs is =
     let at = now + delay (failures_of q u) in
     let p =
-        end_part D (held_by O) (held_after (fails now) v O) (dirty_after (fails now) v D O F W m s) R (since_after (fails now) v n D O R F W m s) (rank_in (fails now) n W) W (waits_after (fails now) v O F W m s) (late_by (fails now) v O F) m s
-            q (ended q u) u (Some at) is refl refl refl refl
-            (some_by (O u) v (tie u ∙ eq_self u))
-            (λ k. gone (is_by (O k) v) (O k) ∙ ap (λ b. not b && is_some (O k)) (tie k))
-            (λ k. later_fails now (is_by (O k) v) (F k) ∙ ap (λ b. cond b (Some (now + delay (F k))) None) (tie k)
-                ∙ same_at (key_eq k u) (Some (now + delay (F k))) (Some at) (λ e. ap (λ f. Some (now + f)) (ap (λ i. delay (F i)) (eq_true k u e) ∙ sym (delay_min (F u)) ∙ ap delay (sym (fs u)))))
-            (λ k. refl) (λ k. refl) (λ k. refl) (λ k z. inl (low k)) in
+    end_part D (held_by O) (held_after (fails now) v O) (dirty_after (fails now) v D O F W m s) R (since_after (fails now) v n D O R F W m s) (rank_in (fails now) n W) W (waits_after (fails now) v O F W m s) (late_by (fails now) v O F) m s
+    q (ended q u) u (Some at) is refl refl refl refl
+    (some_by (O u) v (tie u ∙ eq_self u))
+    (λ k. gone (is_by (O k) v) (O k) ∙ ap (λ b. not b && is_some (O k)) (tie k))
+    (λ k. later_fails now (is_by (O k) v) (F k) ∙ ap (λ b. cond b (Some (now + delay (F k))) None) (tie k)
+    ∙ same_at (key_eq k u) (Some (now + delay (F k))) (Some at) (λ e. ap (λ f. Some (now + f)) (ap (λ i. delay (F i)) (eq_true k u e) ∙ sym (delay_min (F u)) ∙ ap delay (sym (fs u)))))
+    (λ k. refl) (λ k. refl) (λ k. refl) (λ k z. inl (low k)) in
     record { row = p.row; waits = p.waits; tick = p.tick; shut = p.shut }
 step shuts v n D O R F W m s t q low quiet tie fit fs is =
     record {
@@ -199,6 +199,7 @@ step nothing v n D O R F W m s t q low quiet tie fit fs is =
     still : (s b : Bool) → ((not s && false) || b) ≡ b
     still true b = refl
     still false b = refl
+
     stay : (s : Bool) (w : Option ℕ) → w ≡ cond s w w
     stay true w = refl
     stay false w = refl

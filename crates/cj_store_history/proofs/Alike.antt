@@ -1,5 +1,5 @@
 -- What the next write leaves by the content is what it leaves by the writes.
-use Rattle.std.proofs.Common.{◌≡◌, ℕ, ◌+◌, Bool, true, false, cond, List, [], ◌∷◌, refl, sym, ap, ◌∙◌, arith}
+use Rattle.std.proofs.Common.{◌≡◌, ℕ, ◌+◌, Bool, cond, List, [], ◌∷◌, refl, sym, ap, ◌∙◌, arith}
 use Rattle.std.specs.Prelude.{Option, Some, None}
 use Rattle.std.specs.FinMap as map
 use Rattle.cj_types.specs.Keys.{Place, place_cmp}
@@ -17,7 +17,7 @@ use Rattle.cj_store.specs.Content.{Content, nothing}
 use Rattle.cj_store.specs.Change.{after, cron_added, cron_modified, cron_gone, job_added, job_modified, job_gone}
 use Rattle.cj_store.specs.Crons.{new_cron, updated_cron, with_status, last_cron}
 use Rattle.cj_store.specs.Jobs.{new_job, updated_job, last_job, ended_job}
-use Rattle.cj_store_history.specs.Written.{version, made, current_cron, current_job, cron_created, cron_updated, status_set, cron_deleted, job_created, job_updated, job_ended, job_deleted}
+use Rattle.cj_store_history.specs.Written.{version, current_cron, current_job, cron_created, cron_updated, status_set, cron_deleted, job_created, job_updated, job_ended, job_deleted}
 use Rattle.cj_store_history.specs.Store.{IsStore}
 
 module _ (ws : List Event) (s : Content) (is : IsStore ws s) where

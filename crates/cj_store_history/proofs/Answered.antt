@@ -1,16 +1,15 @@
 -- Each answer on the store is the one that the writes and the caller's seat give.
-use Rattle.std.proofs.Common.{◌≡◌, ℕ, ◌+◌, Bool, true, false, List, [], ◌∷◌, map as map_list, reverse, refl, sym, ap, subst, ◌∙◌}
+use Rattle.std.proofs.Common.{◌≡◌, ℕ, Bool, true, false, List, [], ◌∷◌, map as map_list, reverse, refl, sym, ap, subst, ◌∙◌}
 use Rattle.std.specs.Prelude.{Option, Some, None, Result, Ok, Err, if◌then◌else◌}
 use Rattle.std.specs.FinMap as map
 use Rattle.cj_base.specs.declared.refusal.Refusal.{Refusal}
-use Rattle.cj_base.specs.declared.refusal.Refusal.TheVariants.{OutOfPhase, Stale}
+use Rattle.cj_base.specs.declared.refusal.Refusal.TheVariants.{Stale}
 use Rattle.cj_types.specs.Keys.{Place, place}
 use Rattle.cj_types.specs.Uids.{uid_text}
 use Rattle.cj_types.specs.Events.{version_of}
 use Rattle.cj_types.specs.declared.cron.CronJob.{CronJob}
 use Rattle.cj_types.specs.declared.cron.CronStatus.{CronStatus}
 use Rattle.cj_types.specs.declared.job.Job.{Job}
-use Rattle.cj_types.specs.declared.job.JobDraft.{JobDraft}
 use Rattle.cj_types.specs.declared.event.Event.{Event}
 use Rattle.cj_types.specs.declared.event.Event.TheVariants.{Added, Modified, Deleted}
 use Rattle.cj_types.specs.declared.event.Object.TheVariants as Kind
@@ -19,7 +18,7 @@ use Rattle.cj_queue.proofs.Sets.{eq_true}
 use Rattle.cj_jobs.specs.Owners.{is_job_of}
 use Rattle.cj_mirror.specs.Lagging.{Mirror}
 use Rattle.cj_mirror.specs.Laws.{next_fed}
-use Rattle.cj_store.specs.Change.{map_ok, cron_added, cron_modified, cron_gone, job_added, job_modified, job_gone}
+use Rattle.cj_store.specs.Change.{map_ok, cron_modified, job_added, job_gone}
 use Rattle.cj_store.specs.Crons.{status_set as sets_status}
 use Rattle.cj_store.specs.Jobs.{job_made, job_deleted as deletes_job}
 use Rattle.cj_watch.specs.Log.{since}
@@ -45,13 +44,11 @@ use Rattle.cj_state.specs.Readings.{if_mine, active_job, active_of, listed_of, f
 use Rattle.cj_state.specs.Moves.{Moved, refused, by_seat, seat_of, see_cron, see_cron_in, see_jobs, see_jobs_in, see_active, see_active_in, claim, claim_in, claim_where, claims, wrote, works, drop_next, drop_in, drop_where, drops_it, next_seat, make_next, make_in, make_where, steps_on, event_reply, version_reply, set_status as set_status_next, status_in, status_where, sets_it}
 use Rattle.cj_state.specs.Step.{writes as writes_it, found_cron, found_job, told_events, step_of, by_role, by_reader, by_user, by_runner, by_worker, by_informer}
 use Rattle.cj_state.specs.Legal.{IsLegal, state_of}
-use Rattle.cj_legal.specs.Seats.{seat}
 use Rattle.cj_legal.proofs.Seated.{seats_agree}
 use Rattle.cj_store_history.specs.Written.{version, cron_left, job_left, current_cron, current_job}
-use Rattle.cj_store_history.specs.Lists.{IsListing, passing}
+use Rattle.cj_store_history.specs.Lists.{IsListing}
 use Rattle.cj_store_history.specs.Mirrors.{fed, earliest, IsMirror}
 use Rattle.cj_store_history.specs.Writes.{writes}
-use Rattle.cj_store_history.specs.Planned.{set_status, make_job, delete_job}
 use Rattle.cj_store_history.specs.Answers.{Answer, Says, AnswerLaw, cron_found, job_found, active_now, actives_now, on_see_cron, on_see_active, on_claiming, on_plan, on_claim, SeesJobs, OnSeeJobs, dropped, on_drop_step, on_drop, on_make_step, on_make, on_setting, on_set, for_seat}
 use Rattle.cj_store_history.specs.Store.{IsStore}
 use Rattle.cj_store_history.proofs.Planned.{create_cron_same, update_cron_same, status_same, delete_cron_same, make_same, create_job_same, update_job_same, delete_job_same, end_same}

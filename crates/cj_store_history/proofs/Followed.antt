@@ -1,5 +1,5 @@
 -- The watch keeps the last of the writes, and the mirror has the Jobs of the first of them.
-use Rattle.std.proofs.Common.{◌≡◌, ℕ, ◌+◌, ◌-◌, ◌≤◌, min, nat_lt, Bool, true, false, cond, List, [], ◌∷◌, ◌++◌, length, take, drop, fold, reverse, refl, sym, ap, subst, ◌∙◌, arith, length-drop}
+use Rattle.std.proofs.Common.{◌≡◌, ℕ, ◌+◌, ◌-◌, ◌≤◌, min, nat_lt, Bool, true, false, cond, List, [], ◌∷◌, ◌++◌, length, take, drop, reverse, refl, sym, ap, subst, ◌∙◌, arith, length-drop}
 use Rattle.std.specs.Prelude.{Option, Some, None, if◌then◌else◌, Result, Ok, Err}
 use Rattle.std.specs.FinMap as map
 use Rattle.std.proofs.Math.Seq.{take-append_seam}
@@ -17,7 +17,7 @@ use Rattle.cj_store.specs.Content.{Content}
 use Rattle.cj_store.specs.Change.{after}
 use Rattle.cj_watch.specs.Numbers.{IsNumbered}
 use Rattle.cj_watch.specs.Log.{Log, new_log, pushed, since}
-use Rattle.cj_watch.specs.Laws.{log_of, answer_in}
+use Rattle.cj_watch.specs.Laws.{log_of}
 use Rattle.cj_watch.proofs.Logs.{tells_all}
 use Rattle.cj_mirror.specs.Lagging.{Jobs, Mirror, told, mirror_of}
 use Rattle.cj_mirror.specs.Laws.{jobs_after, mirror_after, caught_up, next_fed}
@@ -27,7 +27,7 @@ use Rattle.cj_calls.specs.declared.call.Call.TheVariants as Of
 use Rattle.cj_calls.specs.declared.reply.Reply.{Reply}
 use Rattle.cj_calls.specs.Rows.{Told}
 use Rattle.cj_state.specs.declared.state.State.{State}
-use Rattle.cj_state.specs.Moves.{Moved, seat_of}
+use Rattle.cj_state.specs.Moves.{seat_of}
 use Rattle.cj_state.specs.Readings.{fed_up}
 use Rattle.cj_state.specs.Step.{step_of}
 use Rattle.cj_state.specs.Legal.{IsLegal, state_of}
@@ -35,7 +35,7 @@ use Rattle.cj_store_history.specs.Written.{version, current_job, job_left}
 use Rattle.cj_store_history.specs.Writes.{with_write, writes}
 use Rattle.cj_store_history.specs.Store.{IsStore}
 use Rattle.cj_store_history.specs.Events.{EventLaw}
-use Rattle.cj_store_history.specs.Mirrors.{fed_after, fed, earliest, IsMirror, MirrorLaw}
+use Rattle.cj_store_history.specs.Mirrors.{fed_after, fed, earliest, MirrorLaw}
 use Rattle.cj_store_history.proofs.Keeps.{Keeps, stored, logged, fed_by, keeps}
 use Rattle.cj_store_history.proofs.Stores.{store_agrees, entry_writes, written_is}
 use Rattle.cj_store_history.proofs.Numbered.{one_later, numbers_law}

@@ -1,12 +1,11 @@
 -- What each call does to the store, to what the watch keeps, and to the mirror: the write that its entry says.
-use Rattle.std.proofs.Common.{◌≡◌, ℕ, ◌+◌, Bool, true, false, List, [], ◌∷◌, refl, sym, ap, ◌∙◌}
+use Rattle.std.proofs.Common.{◌≡◌, ℕ, Bool, true, false, List, refl, sym, ap, ◌∙◌}
 use Rattle.std.specs.Prelude.{Option, Some, None, option_map, is_some, ◌==◌, Result, Ok, Err, if◌then◌else◌}
 use Rattle.std.specs.FinMap as map
 use Rattle.cj_base.specs.declared.refusal.Refusal.{Refusal}
 use Rattle.cj_base.specs.declared.refusal.Refusal.TheVariants.{NotPermitted, NotFound, Conflict, AlreadyExists, AlreadyFinished, Stale}
 use Rattle.cj_types.specs.Keys.{Place}
 use Rattle.cj_types.specs.Current.{is_current}
-use Rattle.cj_types.specs.Owners.{controller_of}
 use Rattle.cj_types.specs.declared.cron.CronJob.{CronJob}
 use Rattle.cj_types.specs.declared.cron.CronJobDraft.{CronJobDraft}
 use Rattle.cj_types.specs.declared.cron.CronStatus.{CronStatus}
@@ -20,8 +19,8 @@ use Rattle.cj_store.specs.Content.{Content}
 use Rattle.cj_store.specs.Equal.{same_owners}
 use Rattle.cj_store.specs.Metadata.{version_not_allowed}
 use Rattle.cj_store.specs.Change.{after, map_ok, cron_added, cron_modified, cron_gone, job_added, job_modified, job_gone}
-use Rattle.cj_store.specs.Crons.{new_cron, cron_created as creates_cron, updated_cron, cron_updated as updates_cron, cron_updated_from, cron_deleted as deletes_cron, cron_deleted_from, status_set as sets_status, status_set_from, with_status, last_cron}
-use Rattle.cj_store.specs.Jobs.{new_job, job_made, job_created as creates_job, updated_job, job_updated as updates_job, job_updated_from, job_deleted as deletes_job, job_deleted_from, is_asked, last_job, ended_job, job_ended as ends_job, job_ended_from}
+use Rattle.cj_store.specs.Crons.{new_cron, updated_cron, cron_updated_from, cron_deleted_from, status_set_from, with_status, last_cron}
+use Rattle.cj_store.specs.Jobs.{new_job, updated_job, job_updated_from, job_deleted_from, is_asked, last_job, ended_job, job_ended_from}
 use Rattle.cj_watch.specs.Log.{Log, pushed, since}
 use Rattle.cj_mirror.specs.Lagging.{Mirror}
 use Rattle.cj_queue.specs.Queue.{first}
@@ -44,11 +43,10 @@ use Rattle.cj_seats.specs.declared.seat.Phase.TheVariants.{Held, Seen, Listed, C
 use Rattle.cj_seats.specs.declared.seat.Seat.{Seat}
 use Rattle.cj_state.specs.declared.state.State.{State}
 use Rattle.cj_state.specs.Readings.{fed_up}
-use Rattle.cj_state.specs.Moves.{Moved, moved, refused, by_seat, seat_of, written, take, take_by, take_first, see_cron, see_cron_in, see_jobs, see_jobs_in, see_active, see_active_in, claim, claim_in, claim_where, claims, wrote, works, drop_next, drop_in, drop_where, drops_it, next_seat, make_next, make_in, make_where, steps_on, event_reply, version_reply, set_status, status_in, status_where, sets_it, finish, finish_in, finish_well, finish_work}
+use Rattle.cj_state.specs.Moves.{Moved, refused, by_seat, seat_of, take, take_by, take_first, see_cron, see_cron_in, see_jobs, see_jobs_in, see_active, see_active_in, claim, claim_in, claim_where, claims, wrote, works, drop_next, drop_in, drop_where, drops_it, next_seat, make_next, make_in, make_where, steps_on, event_reply, version_reply, set_status, status_in, status_where, sets_it, finish, finish_in, finish_work}
 use Rattle.cj_state.specs.Step.{writes, found_cron, found_job, told_events, step_of, by_role, by_reader, by_user, by_runner, by_worker, by_informer}
-use Rattle.cj_legal.proofs.Shapes.{reader_same}
-use Rattle.cj_store_history.specs.Written.{current_cron, current_job, cron_created, cron_updated, status_set, cron_deleted, job_created, job_updated, job_ended, job_deleted}
-use Rattle.cj_store_history.specs.Writes.{claimed, stepped, written_by, entry_written}
+use Rattle.cj_store_history.specs.Written.{current_cron, current_job, cron_updated, status_set, cron_deleted, job_created, job_updated, job_ended, job_deleted}
+use Rattle.cj_store_history.specs.Writes.{claimed, stepped, entry_written}
 use Rattle.cj_store_history.specs.Store.{IsStore}
 use Rattle.cj_store_history.proofs.Alike.{new_cron_is, new_job_is, updated_cron_is, status_is, last_cron_is, updated_job_is, ended_job_is, last_job_is}
 

@@ -1,5 +1,5 @@
 -- Each write has the number after the last, and each new object a uid that is above all before.
-use Rattle.std.proofs.Common.{◌≡◌, ℕ, ◌+◌, ◌<◌, ◌≤◌, List, [], ◌∷◌, ◌++◌, length, reverse, refl, sym, ap, subst, ◌∙◌, arith}
+use Rattle.std.proofs.Common.{◌≡◌, ◌+◌, ◌<◌, ◌≤◌, List, [], ◌∷◌, ◌++◌, reverse, refl, sym, subst, arith}
 use Rattle.std.specs.Prelude.{Option, Some, None, IfSome, option_map, Result, Ok, Err}
 use Rattle.std.proofs.lemmas.List.{reverse-append, length-reverse}
 use Rattle.cj_base.specs.declared.refusal.Refusal.{Refusal}
@@ -21,7 +21,7 @@ use Rattle.cj_seats.specs.declared.seat.Phase.TheVariants.{Held, Seen, Listed, C
 use Rattle.cj_seats.specs.declared.seat.Seat.{Seat}
 use Rattle.cj_watch.specs.Numbers.{IsNumbered}
 use Rattle.cj_watch.proofs.Numbered.{numbered_snoc}
-use Rattle.cj_store_history.specs.Written.{version, made, current_cron, current_job, status_set, job_deleted}
+use Rattle.cj_store_history.specs.Written.{version, made, current_cron, current_job}
 use Rattle.cj_store_history.specs.Writes.{claimed, stepped, stepped_in, stepped_by, written_by, entry_written, with_write, writes}
 use Rattle.cj_store_history.specs.Numbers.{uid_of, NumbersLaw, UidLaw}
 use Rattle.cj_legal.specs.Seats.{seat}

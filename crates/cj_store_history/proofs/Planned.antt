@@ -1,8 +1,7 @@
 -- Which write a call makes by the content is which it makes by the writes.
-use Rattle.std.proofs.Common.{◌≡◌, ℕ, ◌+◌, Bool, true, false, List, [], ◌∷◌, refl, sym, ap, ◌∙◌}
-use Rattle.std.specs.Prelude.{Option, Some, None, is_some, ◌==◌, Result, Ok, Err, if◌then◌else◌}
+use Rattle.std.proofs.Common.{◌≡◌, ℕ, Bool, true, false, List, refl, sym, ap, ◌∙◌}
+use Rattle.std.specs.Prelude.{Option, Some, None, is_some, ◌==◌, Ok, Err, if◌then◌else◌}
 use Rattle.std.specs.FinMap as map
-use Rattle.cj_base.specs.declared.refusal.Refusal.{Refusal}
 use Rattle.cj_base.specs.declared.refusal.Refusal.TheVariants.{NotPermitted, NotFound, Conflict, AlreadyExists, AlreadyFinished}
 use Rattle.cj_types.specs.Keys.{Place}
 use Rattle.cj_types.specs.Current.{is_current}
@@ -18,9 +17,9 @@ use Rattle.cj_store.specs.Content.{Content}
 use Rattle.cj_store.specs.Equal.{same_owners}
 use Rattle.cj_store.specs.Metadata.{version_not_allowed}
 use Rattle.cj_store.specs.Change.{map_ok, cron_added, cron_modified, cron_gone, job_added, job_modified, job_gone}
-use Rattle.cj_store.specs.Crons.{new_cron, cron_created as creates_cron, updated_cron, cron_updated as updates_cron, cron_updated_from, cron_deleted as deletes_cron, cron_deleted_from, status_set as sets_status, status_set_from, with_status, last_cron}
+use Rattle.cj_store.specs.Crons.{new_cron, cron_created as creates_cron, updated_cron, cron_updated as updates_cron, cron_updated_from, cron_deleted as deletes_cron, cron_deleted_from, status_set as sets_status, status_set_from, with_status}
 use Rattle.cj_store.specs.Jobs.{new_job, job_made, job_created as creates_job, updated_job, job_updated as updates_job, job_updated_from, job_deleted as deletes_job, job_deleted_from, is_asked, last_job, ended_job, job_ended as ends_job, job_ended_from}
-use Rattle.cj_store_history.specs.Written.{current_cron, current_job, cron_created, cron_updated, status_set, cron_deleted, job_created, job_updated, job_ended, job_deleted}
+use Rattle.cj_store_history.specs.Written.{cron_created, cron_updated, status_set, job_created, job_updated, job_ended, job_deleted}
 use Rattle.cj_store_history.specs.Planned.{create_cron, update_cron_from, update_cron, set_status_from, set_status, delete_cron_from, delete_cron, make_job, create_job, update_job_from, update_job, delete_job_from, delete_job, end_job_from, end_job}
 use Rattle.cj_store_history.specs.Store.{IsStore}
 use Rattle.cj_store_history.proofs.Alike.{new_cron_is, new_job_is, updated_cron_is, status_is, last_cron_is, updated_job_is, ended_job_is, last_job_is}

@@ -1,11 +1,10 @@
 -- A history of a few calls: a CronJob is created, deleted, and created anew under its name.
-use Rattle.std.proofs.Common.{◌≡◌, ℕ, Bool, true, false, List, [], ◌∷◌, length, Option, Some, None, refl, sym}
-use Rattle.std.specs.Prelude.{option_map, Result, Ok, Err}
+use Rattle.std.proofs.Common.{◌≡◌, ℕ, List, [], ◌∷◌, Some, None, refl, sym}
+use Rattle.std.specs.Prelude.{Result, Ok}
 use Rattle.cj_base.specs.declared.refusal.Refusal.{Refusal}
 use Rattle.cj_types.specs.Keys.{Place, place}
 use Rattle.cj_types.specs.declared.cron.CronJob.{CronJob}
 use Rattle.cj_types.specs.declared.cron.CronJobDraft.{CronJobDraft}
-use Rattle.cj_types.specs.declared.meta.DraftMeta.{DraftMeta}
 use Rattle.cj_calls.specs.declared.caller.Caller.{Caller}
 use Rattle.cj_calls.specs.declared.caller.Role.{Role}
 use Rattle.cj_calls.specs.declared.caller.Role.TheVariants.{User, Informer}
@@ -14,10 +13,9 @@ use Rattle.cj_calls.specs.declared.call.Call.TheVariants as Of
 use Rattle.cj_calls.specs.declared.reply.Reply.{Reply}
 use Rattle.cj_calls.specs.declared.reply.Reply.TheVariants as Say
 use Rattle.cj_calls.specs.Rows.{Told}
-use Rattle.cj_store.specs.Content.{Content}
 use Rattle.cj_store.specs.Crons.{first_status}
 use Rattle.cj_state.specs.Legal.{IsLegal}
-use Rattle.cj_store_history.specs.Written.{version, made, current_cron, current_job}
+use Rattle.cj_store_history.specs.Written.{version, made, current_cron}
 use Rattle.cj_store_history.specs.Writes.{writes}
 use Rattle.cj_store_history.specs.Mirrors.{fed}
 use Rattle.cj_store_history.proofs.Answered.{answers_agree}

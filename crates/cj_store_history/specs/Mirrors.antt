@@ -1,6 +1,6 @@
 -- The listing that lags behind, after a history: Kubernetes API concepts, "Resource versions" (a list may be older than what was written),
 -- and client-go, package cache (a reflector applies events, and lists again where they are gone).
-use Rattle.std.specs.Prelude.{◌≡◌, ℕ, ◌-◌, List, [], ◌∷◌, drop, Result, Ok, Err}
+use Rattle.std.specs.Prelude.{◌≡◌, ℕ, ◌-◌, List, [], ◌∷◌, drop, Result, Ok}
 use Rattle.std.specs.FinMap as map
 use Rattle.cj_base.specs.declared.refusal.Refusal.{Refusal}
 use Rattle.cj_types.specs.Keys.{Place}

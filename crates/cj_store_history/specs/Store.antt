@@ -1,5 +1,5 @@
 -- The store that a history leaves.
-use Rattle.std.specs.Prelude.{◌≡◌, ℕ, List, Option}
+use Rattle.std.specs.Prelude.{◌≡◌, ℕ, List}
 use Rattle.std.specs.FinMap as map
 use Rattle.cj_types.specs.Keys.{Place}
 use Rattle.cj_types.specs.declared.event.Event.{Event}

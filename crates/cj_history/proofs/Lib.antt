@@ -1,0 +1,4 @@
+pub mod Lists
+pub mod Firsts
+pub mod One
+pub mod Onces

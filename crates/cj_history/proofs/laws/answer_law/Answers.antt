@@ -1,0 +1,5 @@
+use Rattle.cj_history.proofs.One.{one_law}
+use Rattle.cj_history.proofs.laws.answer_law.Goals as goal
+
+pub returns : goal.returns
+returns c = one_law

@@ -1,0 +1,5 @@
+use Rattle.cj_history.proofs.One.{exclusive}
+use Rattle.cj_history.proofs.laws.exclusive_law.Goals as goal
+
+pub returns : goal.returns
+returns c = exclusive

@@ -1,0 +1,5 @@
+use Rattle.cj_history.proofs.One.{legal_law}
+use Rattle.cj_history.proofs.laws.legal_law.Goals as goal
+
+pub returns : goal.returns
+returns c = legal_law

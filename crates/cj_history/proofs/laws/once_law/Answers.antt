@@ -1,0 +1,5 @@
+use Rattle.cj_history.proofs.Onces.{once_and_alone}
+use Rattle.cj_history.proofs.laws.once_law.Goals as goal
+
+pub returns : goal.returns
+returns c = once_and_alone

@@ -1,0 +1,7 @@
+//! Histories by looking back alone: what makes one legal, that a call has one answer, that a key is in one worker's hands at a
+//! time, that no time gets two Jobs and that a Job under Forbid or Replace is made alone. No state stands in these words.
+#![tactic(auto)]
+
+mod laws;
+
+pub use laws::{answer_law, exclusive_law, legal_law, once_law};
