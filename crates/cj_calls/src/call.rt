@@ -37,7 +37,7 @@ pub enum Call {
     Tick(Millis),
     /// An informer shuts the queue.
     Shut,
-    /// An informer feeds the listings with the events of so many writes more.
+    /// An informer feeds the listings with the events of so many writes more. Answers how many writes they know then.
     Feed(Max),
     /// A worker takes the first key of the line.
     Take,

@@ -12,7 +12,7 @@ pub enum Reply {
     Crons(Listing<Shared<CronJob>>, Version),
     /// Jobs by key, and the store's version.
     Jobs(Listing<Shared<Job>>, Version),
-    /// The version of a write.
+    /// The version of a write, or of the last write that the listings know.
     Version(Version),
     Events(Listing<Event>),
     /// Nothing to say.

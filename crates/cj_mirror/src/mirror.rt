@@ -69,6 +69,14 @@ impl Mirror {
         self.fed
     }
 
+    /// How many writes the Jobs will be those of, once these events of the next writes are fed.
+    pub fn version_with(&self, events: &[Event]) -> Version
+        requires next { IsNumbered self.now.fed events.now }
+        ensures { result ≡ (fed_with self.now events.now).fed }
+    {
+        last_version(self.fed, events)
+    }
+
     /// Feeds the events of the next writes, whose versions follow on the one so far. No object is copied. Where there is no
     /// memory the mirror is as it was.
     pub fn feed(&mut self, events: &[Event]) -> Result<(), Refusal>

@@ -10,3 +10,4 @@ pub mod Calls
 pub mod Steps
 pub mod Make
 pub mod Whole
+pub mod Claims

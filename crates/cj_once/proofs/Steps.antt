@@ -187,7 +187,7 @@ module _ {s : State} {ms : List Claimed} {cl : Claims} {home : Homes} where
 
 -- ---- Claim
 
-inputs : (p : Planned) (c : Option CronJob) (js : List Job) (ks : List (Option Job)) → rests_on p c js ks ≡ true → (p.cron ≡ c) × (p.active ≡ ks)
+pub inputs : (p : Planned) (c : Option CronJob) (js : List Job) (ks : List (Option Job)) → rests_on p c js ks ≡ true → (p.cron ≡ c) × (p.active ≡ ks)
 unfolding rests_on
 inputs p c js ks h =
     let a = both_true (same_cron p.cron c && same_jobs p.jobs js) (same_active p.active ks) h in

@@ -37,18 +37,18 @@ use Rattle.cj_once.proofs.Steps.{same_branches, ClaimKept, claim_kept, drop_plai
 use Rattle.cj_once.proofs.Make.{MakeKept, make_kept, Rests, make_rests}
 
 -- each plan that comes in is such as the laws ask for
-abbrev DoesFit : Call → Type 0
+abbrev pub DoesFit : Call → Type 0
 DoesFit (Of.Claim p) = Fits p
 DoesFit _ = Unit {0}
 
-abbrev DoFit : List Told → Type 0
+abbrev pub DoFit : List Told → Type 0
 DoFit h = AllByRecursion (λ e. DoesFit e.call) h
 
 does_fit : (call : Call) → IsPlanned call → DoesFit call
 does_fit (Of.Claim p) h = decided_fits p h
 does_fit call h = tt
 
-do_fit : (h : List Told) → ArePlanned h → DoFit h
+pub do_fit : (h : List Told) → ArePlanned h → DoFit h
 do_fit [] a = tt
 do_fit (e ∷ h) a = (does_fit e.call a.0, do_fit h a.1)
 
@@ -140,7 +140,7 @@ pub record Always (window : ℕ) (h : List Told) : Type 0 where
   pub now : Now (state_of window h) (makes window h) (claim_of window h) home
   pub few : (state_of window h).store.uids ≤ length h
 
-always : (window : ℕ) (h : List Told) → length h ≤ last_uid → IsLegal window h → DoFit h → Always window h
+pub always : (window : ℕ) (h : List Told) → length h ≤ last_uid → IsLegal window h → DoFit h → Always window h
 always window [] short legal fit = record { home = λ u. record { namespace = []; name = [] }; now = record { inv = at_start window }; few = omega arith }
 always window (e ∷ h) short legal fit =
     let f = always window h (omega arith) legal.2 fit.1 in

@@ -54,9 +54,9 @@ tick s now = moved (Ok Say.Done) (record s { queue = ticked s.queue now })
 abbrev pub shut : State → Moved
 shut s = moved (Ok Say.Done) (record s { queue = closed s.queue })
 
--- the lists learn of so many writes more
+-- the lists learn of so many writes more, and the answer is of how many they know then
 abbrev pub feed : State → ℕ → Moved
-feed s max = moved (Ok Say.Done) (record s { mirror = fed_up s max })
+feed s max = moved (Ok (Say.Version (fed_up s max).fed)) (record s { mirror = fed_up s max })
 
 -- ---- each role
 

@@ -6,13 +6,14 @@ ghost use Rattle.cj_types.specs.WorldLimits.{last_history};
 ghost use Rattle.cj_state.specs.Legal.{IsLegal, IsPlanned, ArePlanned, is_entered};
 ghost use Rattle.cj_legal.specs.Exclusive.{Exclusive};
 ghost use Rattle.cj_once.specs.Once.{Once, Alone};
+ghost use Rattle.cj_once.specs.Times.{Timely};
 ghost use Rattle.cj_world.specs.Worlds.{Applied, Entered, IsAtRest, receipts_of, state_in};
 
 use crate::advance::{Made, advance};
 use cj_calls::{Answer, Call, Caller, Entry};
 use cj_legal::exclusive_law;
 use cj_mirror::Mirror;
-use cj_once::once_law;
+use cj_once::{once_law, time_law};
 use cj_queue::Queue;
 use cj_seats::Seats;
 use cj_state::State;
@@ -84,7 +85,8 @@ impl World {
 
     /// All entries, the oldest first, with what holds of every history: it is within its limit; each answer is the one that
     /// the entries before it give, and each plan that came in is a decision; no key is in two workers' hands; no scheduled
-    /// time of a CronJob got two Jobs; and a Job that was made under Forbid or Replace was made alone.
+    /// time of a CronJob got two Jobs; a Job that was made under Forbid or Replace was made alone; and the time of each accepted
+    /// claim is the greatest one missed by the CronJob that stood then.
     pub fn history(&self) -> &[Entry]
         ensures entries { reverse result.now ≡ self.now.history }
         ensures short { (length self.now.history ≤ self.now.limits.history) × (self.now.limits.history ≤ last_history) }
@@ -93,9 +95,11 @@ impl World {
         ensures exclusive { Exclusive self.now.history }
         ensures once { Once self.now.limits.window self.now.history }
         ensures alone { Alone self.now.limits.window self.now.history }
+        ensures timely { Timely self.now.limits.window self.now.history }
     {
         exclusive_law();
         once_law();
+        time_law();
         self.entries.as_slice()
     }
 
