@@ -3,13 +3,13 @@ use Rattle.std.proofs.Common.{◌≡◌, ◌+◌, ◌-◌, ◌<◌, ◌≤◌, �
 use Rattle.std.specs.Prelude.{◌==◌, ◌↔◌, if◌then◌else◌, slice_get, slice_index_or, Option, Some, None, IfSome}
 use Rattle.std.proofs.lemmas.Option.{slice_get_within}
 use Rattle.std.proofs.lemmas.Grind.{common_steps, reverse_onto}
-use Rattle.std.proofs.lemmas.List.{reverse-reverse, length-reverse, append-nil, length-map}
+use Rattle.std.proofs.lemmas.List.{reverse-reverse, length-reverse, append-nil}
 use mathlib.Core.List.{reverse}
 use Rattle.cj_calls.specs.Rows.{Told}
 use Rattle.cj_calls.specs.declared.caller.Role.{Role}
 use Rattle.cj_hub.specs.declared.receipt.Receipt.{Receipt}
 use Rattle.cj_hub.specs.declared.seat.Seat.{Seat}
-use Rattle.cj_hub.specs.Receipts.{placed, receipt_of, Stands, StandsAmong}
+use Rattle.cj_hub.specs.Receipts.{PassView, placed, receipt_of, IsExact, Stands}
 use Rattle.cj_hub.specs.Walks.{placed_from}
 use Rattle.cj_hub.specs.Books.{IsCounted, no_seat}
 
@@ -45,11 +45,15 @@ counts_fit seats h all n counted same short =
     let long = ap (λ (x : List Told). length x) same in
     omega arith
 
+roles_long : (seats : List Seat) → length (map (λ (s : Seat). s.role) seats) ≡ length seats
+roles_long [] = refl
+roles_long (s ∷ seats) = ap suc (roles_long seats)
+
 pub seat_within : (seats : List Seat) (roles : List Role) (n : ℕ) (role : Role) → map (λ s. s.role) seats ≡ roles → slice_get roles n ≡ Some role → n < length seats
 seat_within seats roles n role same found =
     let within = slice_get_within roles n role found in
     let long = ap (λ (x : List Role). length x) same in
-    omega (arith, length-map (λ (s : Seat). s.role) seats)
+    omega (arith, roles_long seats)
 
 -- ---- from the oldest entry on
 
@@ -83,6 +87,9 @@ in_order_of n es h is = ap (placed_from n 1) is ∙ in_order n h
 
 pub exact_of : (n : ℕ) (es h : List Told) (rs : List Receipt) (b : Bool) → es ≡ reverse h → (IsTrue b ↔ (rs ≡ placed_from n 1 es)) → IsTrue b ↔ (rs ≡ placed n h)
 exact_of n es h rs b is e = (λ t. e.0 t ∙ in_order_of n es h is, λ x. e.1 (x ∙ sym (in_order_of n es h is)))
+
+pub fit_of : (h : List Told) (p q : PassView) (rs : List Receipt) → p ≡ q → rs ≡ p.receipts → (rs ≡ placed p.number h) ↔ IsExact h q
+fit_of h p q rs same is = (λ x. subst (IsExact h) same (sym is ∙ x), λ y. is ∙ subst (IsExact h) (sym same) y)
 
 pub turned : (es h : List Told) → reverse es ≡ h → es ≡ reverse h
 turned es h is = sym (reverse-reverse es) ∙ ap reverse is

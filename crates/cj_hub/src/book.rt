@@ -148,7 +148,13 @@ impl Book {
         let place = self.entries().len() as u64 + 1;
         let (kept, given) = self.world.enter(caller, call)?;
         count_one(&mut self.seats, caller.number as usize);
-        Ok((Receipt { place, entry: kept }, Receipt { place, entry: given }))
+        Ok((
+            Receipt { place, entry: kept },
+            Receipt {
+                place,
+                entry: given,
+            },
+        ))
     }
 
     fn fits(&self, pass: &Pass) -> bool

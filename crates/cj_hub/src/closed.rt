@@ -5,6 +5,7 @@ ghost use Rattle.cj_base.specs.declared.refusal.Refusal.TheVariants.{OutOfMemory
 ghost use Rattle.cj_state.specs.Legal.{IsLegal, ArePlanned};
 ghost use Rattle.cj_legal.specs.Exclusive.{Exclusive};
 ghost use Rattle.cj_once.specs.Once.{Once, Alone};
+ghost use Rattle.cj_once.specs.Times.{Timely};
 ghost use Rattle.cj_world.specs.Worlds.{state_in};
 ghost use Rattle.cj_hub.specs.Receipts.{Stands};
 
@@ -42,7 +43,8 @@ impl Closed {
 
     /// All entries, the oldest first, with what holds of every history: each answer is the one that the entries before it
     /// give, and each plan that came in is a decision; no key is in two workers' hands; no scheduled time of a CronJob got
-    /// two Jobs; and a Job that was made under Forbid or Replace was made alone.
+    /// two Jobs; a Job that was made under Forbid or Replace was made alone; and the time of each accepted claim is the
+    /// greatest one missed by the CronJob that stood then.
     pub fn history(&self) -> &[Entry]
         ensures entries { reverse result.now ≡ self.now.history }
         ensures legal { IsLegal self.now.limits.window self.now.history }
@@ -50,6 +52,7 @@ impl Closed {
         ensures exclusive { Exclusive self.now.history }
         ensures once { Once self.now.limits.window self.now.history }
         ensures alone { Alone self.now.limits.window self.now.history }
+        ensures timely { Timely self.now.limits.window self.now.history }
     {
         self.world.history()
     }

@@ -1,8 +1,8 @@
+use cj_calls::Call;
 use cj_types::{
     CronJobDraft, CronKey, CronSpec, DraftMeta, HistoryLimit, JobTemplate, Labels, Policy, Refusal,
     Seconds, Shared, SpecText, Text,
 };
-use cj_calls::Call;
 use std::alloc::Global;
 
 fn template(alloc: Global) -> Result<JobTemplate, Refusal> {

@@ -60,8 +60,14 @@ fn a_pass_of_another_hub(rt: HostRuntime) {
     let other = hub(&rt, alloc, 100);
     let mut mine = pass(&rt, &one, Role::User);
     let mut strange = pass(&rt, &other, Role::Runner);
-    let receipt = one.call(&rt, &mut mine, Call::ListCrons).ok().expect(&rt, "a receipt");
-    let _ = other.call(&rt, &mut strange, Call::ListJobs).ok().expect(&rt, "a receipt");
+    let receipt = one
+        .call(&rt, &mut mine, Call::ListCrons)
+        .ok()
+        .expect(&rt, "a receipt");
+    let _ = other
+        .call(&rt, &mut strange, Call::ListJobs)
+        .ok()
+        .expect(&rt, "a receipt");
     let answer = one.call(&rt, &mut strange, Call::ListJobs);
     assert!(rt; matches!(&answer, Err(Refusal::Estranged)));
     assert_eq!(rt; strange.receipts().len(), 1);
@@ -88,7 +94,10 @@ fn a_full_history(rt: HostRuntime) {
     assert!(rt; matches!(&answer, Err(Refusal::Empty)));
     assert_eq!(rt; worker.receipts().len(), 0);
     for _ in 0..2 {
-        let _ = hub.call(&rt, &mut user, Call::ListCrons).ok().expect(&rt, "a receipt");
+        let _ = hub
+            .call(&rt, &mut user, Call::ListCrons)
+            .ok()
+            .expect(&rt, "a receipt");
     }
     let answer = hub.call(&rt, &mut user, Call::ListCrons);
     assert!(rt; matches!(&answer, Err(Refusal::HistoryFull)));
@@ -132,10 +141,16 @@ fn how_far_the_work_is(rt: HostRuntime) {
     assert_eq!(rt; hub.state(&rt, start), HubState::Behind);
     assert_eq!(rt; hub.state(&rt, first), HubState::Behind);
     let max = Max::new(1).expect(&rt, "a number");
-    let _ = hub.call(&rt, &mut informer, Call::Feed(max)).ok().expect(&rt, "a receipt");
+    let _ = hub
+        .call(&rt, &mut informer, Call::Feed(max))
+        .ok()
+        .expect(&rt, "a receipt");
     assert_eq!(rt; hub.state(&rt, first), HubState::Quiet);
     let added = Call::Add(key(&rt, alloc, "a"));
-    let _ = hub.call(&rt, &mut informer, added).ok().expect(&rt, "a receipt");
+    let _ = hub
+        .call(&rt, &mut informer, added)
+        .ok()
+        .expect(&rt, "a receipt");
     assert_eq!(rt; hub.state(&rt, first), HubState::Busy);
     hub.give_up(&rt);
     assert_eq!(rt; hub.state(&rt, first), HubState::Broken);
@@ -199,7 +214,13 @@ fn ten_receipts_and_a_read_back(rt: HostRuntime) {
         assert!(rt; matches!(&read, Ok(true)));
     }
     assert_eq!(rt; user.receipts().len(), 10);
-    assert_eq!(rt; user.caller(), Caller { number: 0, role: Role::User });
+    assert_eq!(rt;
+        user.caller(),
+        Caller {
+            number: 0,
+            role: Role::User
+        }
+    );
     let mut passes = Vec::new(alloc);
     passes.push(user).expect(&rt, "memory");
     assert!(rt; hub.close(passes).is_ok());
