@@ -1,6 +1,5 @@
 -- The steps of a script: who does what.
-use Rattle.std.specs.Prelude.{List, [], ◌∷◌, ◌++◌, codes, Option, Some, None, option_and_then, Result, Ok, Err}
-use Rattle.std.specs.Result.{result_map}
+use Rattle.std.specs.Prelude.{◌≡◌, List, [], ◌∷◌, ◌++◌, codes, Option, Some, None, option_and_then, Result, Ok, Err}
 use Rattle.serde_json.specs.Data.{Data, Items, no_items, item}
 use Rattle.serde_json.specs.Find.{as_str}
 use Rattle.cj_base.specs.declared.faults.FieldFault.{FieldFault}
@@ -52,9 +51,14 @@ abbrev pub after_fault : FieldFault → Result (List Step) SceneFault → Result
 after_fault fault (Ok steps) = Err (Manifest fault)
 after_fault fault (Err e) = Err (outweighed fault e)
 
+-- steps before others
+abbrev pub before : List Step → Result (List Step) SceneFault → Result (List Step) SceneFault
+before steps (Ok others) = Ok (steps ++ others)
+before steps (Err e) = Err e
+
 -- a step before others: a fault of the form outweighs every manifest's, and a manifest's those of later ones
 abbrev pub both : Result Step SceneFault → Result (List Step) SceneFault → Result (List Step) SceneFault
-both (Ok step) rest = result_map (λ steps. step ∷ steps) rest
+both (Ok step) rest = before (step ∷ []) rest
 both (Err Syntax) rest = Err Syntax
 both (Err Form) rest = Err Form
 both (Err (Manifest fault)) rest = after_fault fault rest
@@ -66,5 +70,13 @@ steps_of zones callers (item d ds) = both (step_of zones callers d) (steps_of zo
 
 -- steps before others, with the first fault of a manifest among them
 abbrev pub joined : List Step → Option FieldFault → Result (List Step) SceneFault → Result (List Step) SceneFault
-joined steps None rest = result_map (λ others. steps ++ others) rest
+joined steps None rest = before steps rest
 joined steps (Some fault) rest = after_fault fault rest
+
+-- with one answer more, these steps and that fault are so many steps and this fault
+pub record Gathers (steps : List Step) (fault : Option FieldFault) (answer : Result Step SceneFault) (more : List Step) (first : Option FieldFault) : Type 0 where
+  pub joins : (rest : Result (List Step) SceneFault) → joined more first rest ≡ joined steps fault (both answer rest)
+
+-- with this answer they end in a refusal
+pub record Stops (steps : List Step) (fault : Option FieldFault) (answer : Result Step SceneFault) (e : SceneFault) : Type 0 where
+  pub joins : (rest : Result (List Step) SceneFault) → joined steps fault (both answer rest) ≡ Err e

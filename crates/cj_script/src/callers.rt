@@ -44,16 +44,19 @@ fn role_in(value: &Value) -> Option<Option<Role>>
     }
 }
 
-// One caller more, at the end.
+// One caller more, at the end, where there is a role.
 fn add_caller(
     alloc: Global,
     callers: &mut Vec<Named>,
     name: &str,
-    role: Role,
+    role: Option<Role>,
 ) -> Result<(), Refusal>
-    ensures ok { OnOk result (callers.new.items ≡ said.with_caller callers.old.items name.now role) }
+    ensures ok { OnOk result (callers.new.items ≡ said.with_role callers.old.items name.now role) }
     ensures err { IfErr result (λ e. e ≡ OutOfMemory) }
 {
+    let Some(role) = role else {
+        return Ok(());
+    };
     let number = callers.len() as u64;
     let name = Shared::new(alloc, Text::new(alloc, name)?)?;
     let caller = Caller { number, role };
@@ -62,20 +65,16 @@ fn add_caller(
         .map_err(|_| Refusal::OutOfMemory)
 }
 
-fn callers_of(
-    alloc: Global,
-    members: &Map<String, Value>,
-) -> Result<Option<Vec<Named>>, Refusal>
+fn callers_of(alloc: Global, members: &Map<String, Value>) -> Result<Option<Vec<Named>>, Refusal>
     ensures ok { IfOk result (λ cs. option_map (λ v. v.items) cs ≡ said.with_callers [] (members_view members.now.entries)) }
     ensures err { IfErr result (λ e. e ≡ OutOfMemory) }
 {
     let mut callers = Vec::new(alloc);
     for (name, member) in members.iter() {
-        match role_in(member) {
-            Some(Some(role)) => add_caller(alloc, &mut callers, name.as_str(), role)?,
-            Some(None) => {}
-            None => return Ok(None),
-        }
+        let Some(role) = role_in(member) else {
+            return Ok(None);
+        };
+        add_caller(alloc, &mut callers, name.as_str(), role)?;
     }
     Ok(Some(callers))
 }

@@ -38,12 +38,7 @@ fn verb_at(value: &Value) -> Option<Verb>
     verb_named(present(value, "do")?.as_str()?)
 }
 
-fn act_of(
-    alloc: Global,
-    zones: &ZoneTable,
-    verb: Verb,
-    value: &Value,
-) -> Result<Act, SceneFault>
+fn act_of(alloc: Global, zones: &ZoneTable, verb: Verb, value: &Value) -> Result<Act, SceneFault>
     requires flat { depth (view value.now) ≤ max_depth }
     ensures ok { IfOk result (λ a. said.act_of (zones_of zones.now) verb (view value.now) ≡ Ok a) }
     ensures err { IfErr result (λ e. e ≢ Memory → said.act_of (zones_of zones.now) verb (view value.now) ≡ Err e) }
@@ -59,6 +54,7 @@ fn act_of(
 
 /// The step that a value says, by these callers and under these zones: `Form` where it has another form, else its manifest's
 /// first fault.
+#[tactic(auto, unfolding(crate::specs::Steps::step_of))]
 pub(crate) fn step_of(
     alloc: Global,
     zones: &ZoneTable,

@@ -1,12 +1,10 @@
 // The steps of a script, one after another.
-ghost use Rattle.std.specs.Prelude.{◌≡◌, ◌≢◌, ◌≤◌, Ok, Err, [], None, IfOk, IfErr, OnOk, result_map};
-ghost use Rattle.serde_json.specs.Data.{items_depth};
+ghost use Rattle.std.specs.Prelude.{◌≡◌, ◌≢◌, ◌≤◌, Ok, Err, [], IfOk, IfErr, OnOk};
+ghost use Rattle.serde_json.specs.Data.{depth, items_depth};
 ghost use Rattle.serde_json.specs.Read.{max_depth};
 ghost use Rattle.serde_json.specs.View.{view, items_view};
 ghost use Rattle.cj_zone.specs.Table.{zones_of};
-ghost use Rattle.cj_scenario.specs.declared.fault.SceneFault.{SceneFault};
 ghost use Rattle.cj_scenario.specs.declared.fault.SceneFault.TheVariants.{Memory};
-ghost use Rattle.cj_script.specs.declared.step.Step.{Step};
 ghost use Rattle.cj_script.specs.Steps as said;
 
 use crate::callers::Named;
@@ -24,20 +22,28 @@ struct Gathered {
     fault: Option<FieldFault>,
 }
 
-// One step more, or one more that is refused.
-fn gather(gathered: &mut Gathered, read: Result<Step, SceneFault>) -> Result<(), SceneFault>
-    ensures ok { OnOk result ((rest : Result (List Step) SceneFault) → said.joined gathered.new.steps.items gathered.new.fault rest ≡ said.joined gathered.old.steps.items gathered.old.fault (said.both read rest)) }
-    ensures err { IfErr result (λ e. e ≢ Memory → ((rest : Result (List Step) SceneFault) → said.joined gathered.old.steps.items gathered.old.fault (said.both read rest) ≡ Err e)) }
+// The step of a value more, or its fault where it is the first.
+#[tactic(auto, using(crate::proofs::Joins::gathers_step, crate::proofs::Joins::gathers_fault, crate::proofs::Joins::stops_form, crate::proofs::Joins::stops_syntax))]
+fn gather(
+    alloc: Global,
+    zones: &ZoneTable,
+    callers: &[Named],
+    gathered: &mut Gathered,
+    value: &Value,
+) -> Result<(), SceneFault>
+    requires flat { depth (view value.now) ≤ max_depth }
+    ensures ok { OnOk result (said.Gathers gathered.old.steps.items gathered.old.fault (said.step_of (zones_of zones.now) callers.now (view value.now)) gathered.new.steps.items gathered.new.fault) }
+    ensures err { IfErr result (λ e. e ≢ Memory → said.Stops gathered.old.steps.items gathered.old.fault (said.step_of (zones_of zones.now) callers.now (view value.now)) e) }
 {
-    match read {
+    match step_of(alloc, zones, callers, value) {
         Ok(step) => gathered.steps.push(step).map_err(|_| SceneFault::Memory),
         Err(SceneFault::Manifest(fault)) => {
-            if gathered.fault.is_none() {
-                gathered.fault = Some(fault);
-            }
+            gathered.fault = Some(gathered.fault.unwrap_or(fault));
             Ok(())
         }
-        Err(fault) => Err(fault),
+        Err(SceneFault::Form) => Err(SceneFault::Form),
+        Err(SceneFault::Syntax) => Err(SceneFault::Syntax),
+        Err(SceneFault::Memory) => Err(SceneFault::Memory),
     }
 }
 
@@ -56,7 +62,7 @@ fn gathered_of(
         fault: None,
     };
     for item in items {
-        gather(&mut gathered, step_of(alloc, zones, callers, item))?;
+        gather(alloc, zones, callers, &mut gathered, item)?;
     }
     Ok(gathered)
 }
