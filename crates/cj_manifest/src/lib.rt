@@ -20,5 +20,5 @@ mod warnings;
 pub use cj_written::Written;
 pub use laws::manifest_laws;
 pub use manifest::Manifest;
-pub use read::{cron_of, read_cronjob, read_job, read_manifest};
+pub use read::{cron_of, job_of, read_cronjob, read_job, read_manifest};
 pub use warning::Warning;

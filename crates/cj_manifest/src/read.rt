@@ -73,8 +73,9 @@ pub fn cron_of(
     }
 }
 
-// What the value of a Job's manifest says.
-fn job_of(alloc: Global, value: &Value) -> Result<(JobDraft, Vec<Warning>), Refusal>
+/// What a JSON value that is the manifest of a Job says, as `read_job` reads its bytes: `Invalid` with every fault, in the
+/// order of the table of fields; the value nests at most as deep as JSON is read.
+pub fn job_of(alloc: Global, value: &Value) -> Result<(JobDraft, Vec<Warning>), Refusal>
     requires flat { depth (view value.now) ≤ max_depth }
     ensures said { IfOk result (λ r. Says JobDraft (table.job_faults (view value.now)) (said.job_draft (view value.now)) (warned.job_warnings (view value.now)) r.0 r.1.items) }
     ensures kept { IfOk result (λ r. IsKept r.0.spec) }

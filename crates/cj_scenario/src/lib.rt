@@ -12,5 +12,6 @@ mod times;
 mod zones;
 
 pub use fault::SceneFault;
-pub use read::read_scene;
+pub use read::{draft_of, first_fault, read_scene, value_of};
 pub use scene::Scene;
+pub use zones::table_of;

@@ -23,8 +23,8 @@ use cj_zone::ZoneTable;
 use serde_json::Value;
 use std::alloc::Global;
 
-// The value that the bytes are.
-fn value_of(alloc: Global, bytes: &[u8]) -> Result<Value, SceneFault>
+/// The value that a scenario's bytes are: `Syntax` where they aren't JSON. It nests at most as deep as JSON is read.
+pub fn value_of(alloc: Global, bytes: &[u8]) -> Result<Value, SceneFault>
     ensures reads { IfOk result (λ v. Reads bytes.now (view v)) }
     ensures flat { IfOk result (λ v. depth (view v) ≤ max_depth) }
     ensures refused { IfErr result (λ e. (e ≡ Memory) ⊎ ((e ≡ Syntax) × IsNoValue bytes.now)) }
@@ -36,8 +36,8 @@ fn value_of(alloc: Global, bytes: &[u8]) -> Result<Value, SceneFault>
     }
 }
 
-// The fault that a manifest's refusal is told by: its first.
-fn first_fault(refusal: &Refusal) -> SceneFault
+/// The fault that a manifest's refusal is told by: its first.
+pub fn first_fault(refusal: &Refusal) -> SceneFault
     ensures { (faults : List FieldFault) → HasFaults faults refusal.now → IsFirst faults result }
 {
     match refusal {
@@ -49,8 +49,8 @@ fn first_fault(refusal: &Refusal) -> SceneFault
     }
 }
 
-// What the manifest says under the zones.
-fn draft_of(alloc: Global, manifest: &Value, zones: &ZoneTable) -> Result<CronJobDraft, SceneFault>
+/// What a CronJob's manifest in a scenario says under the zones, or its first fault.
+pub fn draft_of(alloc: Global, manifest: &Value, zones: &ZoneTable) -> Result<CronJobDraft, SceneFault>
     requires flat { depth (view manifest.now) ≤ max_depth }
     ensures sound { IfOk result (λ _. table.cron_faults (zones_of zones.now) (view manifest.now) ≡ []) }
     ensures said { IfOk result (λ d. said.cron_draft (view manifest.now) ≡ Some d) }

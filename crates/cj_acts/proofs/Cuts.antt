@@ -1,0 +1,30 @@
+-- The key of a text that is cut at its first slash.
+use Rattle.std.proofs.Common.{◌≡◌, ◌<◌, ◌==◌, eqb, ℕ, List, length, Bool, true, false, if◌then◌else◌, Option, Some, None, Result, Ok, Err, IfOk, refl, sym, ap, ◌∙◌, arith}
+use Rattle.std.specs.List.{before_first, after_first, position_or_len}
+use Rattle.std.proofs.lemmas.Bool.Decides.{nat_tests}
+use Rattle.cj_base.specs.declared.refusal.Refusal.{Refusal}
+use Rattle.cj_types.specs.Keys.{Place}
+use Rattle.cj_acts.specs.Acts.{is_slash, key_named, key_of}
+
+uncut : (a b : ℕ) (o : Option Place) → a ≡ b → (if a == b then None else o) ≡ None
+uncut a b o e = grind (arith, nat_tests)
+
+cut : (a b : ℕ) (o : Option Place) → a < b → (if a == b then None else o) ≡ o
+cut a b o lt = grind (arith, nat_tests)
+
+pub key-uncut : (text : List ℕ) → position_or_len is_slash text ≡ length text → None ≡ key_of text
+unfolding key_of
+key-uncut text e = sym (uncut _ _ (key_named (before_first is_slash text) (after_first is_slash text)) e)
+
+pub key-cut : (text namespace name : List ℕ) (o : Option Place) → position_or_len is_slash text < length text → namespace ≡ before_first is_slash text
+    → name ≡ after_first is_slash text → o ≡ key_named namespace name → o ≡ key_of text
+unfolding key_of
+key-cut text namespace name o lt a b e =
+    e ∙ ap (λ n. key_named n name) a ∙ ap (λ n. key_named (before_first is_slash text) n) b
+    ∙ sym (cut _ _ (key_named (before_first is_slash text) (after_first is_slash text)) lt)
+
+-- a key that was made of the two parts
+pub key-made : (r : Result (Option Place) Refusal) (text namespace name : List ℕ) → position_or_len is_slash text < length text
+    → namespace ≡ before_first is_slash text → name ≡ after_first is_slash text → IfOk r (λ k. k ≡ key_named namespace name) → IfOk r (λ k. k ≡ key_of text)
+key-made (Ok o) text namespace name lt a b h = key-cut text namespace name o lt a b h
+key-made (Err e) text namespace name lt a b h = h

@@ -1,0 +1,4 @@
+pub mod Printed
+pub mod Rest
+pub mod Reasons
+pub mod Cuts

@@ -1,0 +1,7 @@
+use Rattle.std.proofs.Common.{◌≡◌, [], drop}
+use Rattle.serde_json.specs.View.{items_view}
+use Rattle.cj_acts.specs.Finishes.{with_reasons}
+use Rattle.cj_acts.proofs.finish.reasons_of.Given as goal
+
+abbrev pub invariant-loop-item : goal.invariant-loop-item
+invariant-loop-item l = with_reasons l.reasons (items_view (drop l.item-index l.item-items)) ≡ with_reasons [] (items_view l.item-items)

@@ -1,0 +1,5 @@
+pub mod Verbs
+pub mod Instants
+pub mod Acts
+pub mod Finishes
+pub mod Plain

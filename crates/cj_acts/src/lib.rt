@@ -1,0 +1,16 @@
+//! What a step of a script does: its verb, and the act of a verb that takes no manifest, as a JSON object says it.
+#![tactic(auto)]
+
+mod act;
+mod finish;
+mod instant;
+mod keys;
+mod member;
+mod plain;
+mod verb;
+
+pub use act::Act;
+pub use instant::time_at;
+pub use member::present;
+pub use plain::plain_act;
+pub use verb::{Plain, Verb, Write, verb_named};

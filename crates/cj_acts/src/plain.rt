@@ -1,0 +1,135 @@
+// One function for each kind of step that takes no manifest.
+ghost use Rattle.std.specs.Prelude.{◌≡◌, IfOk, IfErr};
+ghost use Rattle.serde_json.specs.View.{view};
+ghost use Rattle.cj_base.specs.declared.refusal.Refusal.TheVariants.{OutOfMemory};
+ghost use Rattle.cj_acts.specs.Acts as said;
+ghost use Rattle.cj_acts.specs.Plain.{plain_act};
+
+use crate::act::Act;
+use crate::finish::finish;
+use crate::instant::time_at;
+use crate::keys::key_at;
+use crate::member::{max_at, number_at, present};
+use crate::verb::Plain;
+use cj_calls::Call;
+use cj_types::{Millis, Outcome, Refusal, Seconds, Version};
+use serde_json::Value;
+use std::alloc::Global;
+
+fn delete_cron(alloc: Global, value: &Value) -> Result<Option<Act>, Refusal>
+    ensures ok { IfOk result (λ a. a ≡ said.delete_cron (view value.now)) }
+    ensures err { IfErr result (λ e. e ≡ OutOfMemory) }
+{
+    match key_at(alloc, value)? {
+        Some(key) => Ok(Some(Act::Calls(Call::DeleteCron(key)))),
+        None => Ok(None),
+    }
+}
+
+fn delete_job(alloc: Global, value: &Value) -> Result<Option<Act>, Refusal>
+    ensures ok { IfOk result (λ a. a ≡ said.delete_job (view value.now)) }
+    ensures err { IfErr result (λ e. e ≡ OutOfMemory) }
+{
+    match key_at(alloc, value)? {
+        Some(key) => Ok(Some(Act::Calls(Call::DeleteJob(key)))),
+        None => Ok(None),
+    }
+}
+
+fn add(alloc: Global, value: &Value) -> Result<Option<Act>, Refusal>
+    ensures ok { IfOk result (λ a. a ≡ said.add (view value.now)) }
+    ensures err { IfErr result (λ e. e ≡ OutOfMemory) }
+{
+    match key_at(alloc, value)? {
+        Some(key) => Ok(Some(Act::Calls(Call::Add(key)))),
+        None => Ok(None),
+    }
+}
+
+fn outcome_named(at: Seconds, word: &str) -> Option<Outcome>
+    ensures { result ≡ said.outcome_named at word.now }
+{
+    if word == "Complete" {
+        Some(Outcome::Complete(at))
+    } else if word == "Failed" {
+        Some(Outcome::Failed)
+    } else {
+        None
+    }
+}
+
+fn outcome_at(at: Seconds, value: &Value) -> Option<Outcome>
+    ensures { result ≡ said.outcome_in at (view value.now) }
+{
+    outcome_named(at, present(value, "outcome")?.as_str()?)
+}
+
+fn end_job(alloc: Global, value: &Value) -> Result<Option<Act>, Refusal>
+    ensures ok { IfOk result (λ a. a ≡ said.end_job (view value.now)) }
+    ensures err { IfErr result (λ e. e ≡ OutOfMemory) }
+{
+    let Some(at) = time_at(value, "at") else {
+        return Ok(None);
+    };
+    let Some(outcome) = outcome_at(at, value) else {
+        return Ok(None);
+    };
+    match key_at(alloc, value)? {
+        Some(key) => Ok(Some(Act::Ends(key, outcome, at))),
+        None => Ok(None),
+    }
+}
+
+fn watch(value: &Value) -> Option<Act>
+    ensures { result ≡ said.watch (view value.now) }
+{
+    let version = number_at(value, "version")?;
+    let max = max_at(value)?;
+    Some(Act::Calls(Call::Watch(Version::new(version), max)))
+}
+
+fn feed(value: &Value) -> Option<Act>
+    ensures { result ≡ said.feed (view value.now) }
+{
+    Some(Act::Calls(Call::Feed(max_at(value)?)))
+}
+
+fn tick(value: &Value) -> Option<Act>
+    ensures { result ≡ said.tick (view value.now) }
+{
+    let at = time_at(value, "at")?;
+    Some(Act::Calls(Call::Tick(Millis::from(at))))
+}
+
+fn claim(value: &Value) -> Option<Act>
+    ensures { result ≡ said.claim (view value.now) }
+{
+    Some(Act::Claims(time_at(value, "at")?))
+}
+
+/// What a step with this verb does, or none where a member that it needs is missing or has the wrong form. Members that it
+/// doesn't need aren't looked at.
+pub fn plain_act(alloc: Global, verb: Plain, value: &Value) -> Result<Option<Act>, Refusal>
+    ensures ok { IfOk result (λ a. a ≡ plain_act verb (view value.now)) }
+    ensures err { IfErr result (λ e. e ≡ OutOfMemory) }
+{
+    match verb {
+        Plain::DeleteCron => delete_cron(alloc, value),
+        Plain::DeleteJob => delete_job(alloc, value),
+        Plain::EndJob => end_job(alloc, value),
+        Plain::Watch => Ok(watch(value)),
+        Plain::Add => add(alloc, value),
+        Plain::Tick => Ok(tick(value)),
+        Plain::Shut => Ok(Some(Act::Calls(Call::Shut))),
+        Plain::Feed => Ok(feed(value)),
+        Plain::Take => Ok(Some(Act::Calls(Call::Take))),
+        Plain::SeeCron => Ok(Some(Act::Calls(Call::SeeCron))),
+        Plain::SeeJobs => Ok(Some(Act::Calls(Call::SeeJobs))),
+        Plain::SeeActive => Ok(Some(Act::Calls(Call::SeeActive))),
+        Plain::Claim => Ok(claim(value)),
+        Plain::Drops => Ok(Some(Act::Calls(Call::DropNext))),
+        Plain::Make => Ok(Some(Act::Calls(Call::MakeNext))),
+        Plain::SetStatus => Ok(Some(Act::Calls(Call::SetStatus))),
+        Plain::Finish => finish(alloc, value),
+    }
+}

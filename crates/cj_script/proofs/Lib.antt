@@ -1,0 +1,5 @@
+pub mod Entered
+pub mod Joins
+pub mod Deep
+pub mod Drafted
+pub mod Never

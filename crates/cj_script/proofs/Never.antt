@@ -1,0 +1,152 @@
+-- Why a value is refused: never as no JSON.
+use Rattle.std.proofs.Common.{◌≡◌, ◌≢◌, ◌++◌, List, [], ◌∷◌, codes, Option, Some, None, option_and_then, Result, Ok, Err, refl, inr}
+use Rattle.serde_json.specs.Data.{Data, Items, no_items, item}
+use Rattle.serde_json.specs.Find.{as_array}
+use Rattle.cj_base.specs.declared.faults.FieldFault.{FieldFault}
+use Rattle.cj_zone.specs.declared.zone.Zone.{Zone}
+use Rattle.cj_scenario.specs.declared.fault.SceneFault.{SceneFault}
+use Rattle.cj_scenario.specs.declared.fault.SceneFault.TheVariants.{Form, Manifest, Memory, Syntax}
+use Rattle.cj_types.specs.declared.cron.CronJobDraft.{CronJobDraft}
+use Rattle.cj_types.specs.declared.job.JobDraft.{JobDraft}
+use Rattle.cj_types.specs.WorldLimits.{Kept}
+use Rattle.cj_calls.specs.declared.call.Call.{Call}
+use Rattle.cj_calls.specs.declared.call.Call.TheVariants as Of
+use Rattle.cj_manifest.specs.Drafts.{cron_draft, job_draft}
+use Rattle.cj_manifest.specs.Faults.{cron_faults, job_faults}
+use Rattle.cj_manifest.specs.Members.{present}
+use Rattle.cj_scenario.specs.Scenes.{AreZones}
+use Rattle.cj_acts.specs.Acts.{moment_in}
+use Rattle.cj_acts.specs.Plain.{plain_act}
+use Rattle.cj_acts.specs.declared.act.Act.{Act}
+use Rattle.cj_acts.specs.declared.act.Act.TheVariants.{Calls}
+use Rattle.cj_acts.specs.declared.verb.Verb.{Verb}
+use Rattle.cj_acts.specs.declared.verb.Verb.TheVariants.{Does, Writes}
+use Rattle.cj_acts.specs.declared.verb.Write.{Write}
+use Rattle.cj_acts.specs.declared.verb.Write.TheVariants as Kind
+use Rattle.cj_script.specs.declared.callers.Named.{Named}
+use Rattle.cj_script.specs.declared.step.Step.{Step}
+use Rattle.cj_script.specs.Drafts.{cron_said, drafted, job_said, needed, then}
+use Rattle.cj_script.specs.Callers.{callers_in}
+use Rattle.cj_script.specs.Limits.{limits_in}
+use Rattle.cj_script.specs.Scripts.{IsRefusedValue, told_in}
+use Rattle.cj_script.specs.Steps.{act_of, after_fault, before, both, step_of, steps_of, verb_in, who_in}
+use Rattle.cj_script.specs.Writes.{cron_act, job_act, object_in, write_act}
+
+record IsOther {A : Type 0} (r : Result A SceneFault) : Type 0 where
+  differs : r ≡ Err Syntax → ⊥
+
+other_fine : {A : Type 0} (x : A) → IsOther (Ok x)
+other_fine x = record { differs = λ e. absurd (cc e) }
+
+other_form : {A : Type 0} → IsOther {A = A} (Err Form)
+other_form = record { differs = λ e. absurd (cc e) }
+
+other_manifest : {A : Type 0} (fault : FieldFault) → IsOther {A = A} (Err (Manifest fault))
+other_manifest fault = record { differs = λ e. absurd (cc e) }
+
+other_memory : {A : Type 0} → IsOther {A = A} (Err Memory)
+other_memory = record { differs = λ e. absurd (cc e) }
+
+lost : {A B : Type 0} → IsOther {A = A} (Err Syntax) → IsOther {A = B} (Err Syntax)
+lost h = record { differs = λ e. h.differs refl }
+
+other_needed : {A : Type 0} (o : Option A) → IsOther (needed o)
+other_needed None = other_form
+other_needed (Some x) = other_fine x
+
+other_then : {A B : Type 0} (r : Result A SceneFault) (f : A → Result B SceneFault) → IsOther r → ((x : A) → IsOther (f x)) → IsOther (then r f)
+other_then (Ok x) f h k = k x
+other_then (Err Syntax) f h k = lost h
+other_then (Err Form) f h k = other_form
+other_then (Err (Manifest fault)) f h k = other_manifest fault
+other_then (Err Memory) f h k = other_memory
+
+other_drafted : {A : Type 0} (faults : List FieldFault) (o : Option A) → IsOther (drafted faults o)
+other_drafted [] o = other_needed o
+other_drafted (fault ∷ others) o = other_manifest fault
+
+other_cron : (zones : List Zone) (m : Data) → IsOther (cron_said zones m)
+unfolding cron_said
+other_cron zones m = other_drafted (cron_faults zones m) (cron_draft m)
+
+other_job : (m : Data) → IsOther (job_said m)
+unfolding job_said
+other_job m = other_drafted (job_faults m) (job_draft m)
+
+other_cron_act : (zones : List Zone) (call : CronJobDraft → Call) (d : Data) → IsOther (cron_act zones call d)
+other_cron_act zones call d =
+    other_then (object_in d) (λ m. then (cron_said zones m) (λ draft. Ok (Calls (call draft)))) (other_needed (present (codes "object") d))
+    (λ m. other_then (cron_said zones m) (λ draft. Ok (Calls (call draft))) (other_cron zones m) (λ draft. other_fine (Calls (call draft))))
+
+other_job_act : (call : JobDraft → Call) (d : Data) → IsOther (job_act call d)
+other_job_act call d =
+    other_then (object_in d) (λ m. then (job_said m) (λ draft. Ok (Calls (call draft)))) (other_needed (present (codes "object") d))
+    (λ m. other_then (job_said m) (λ draft. Ok (Calls (call draft))) (other_job m) (λ draft. other_fine (Calls (call draft))))
+
+other_write : (zones : List Zone) (verb : Write) (d : Data) → IsOther (write_act zones verb d)
+other_write zones Kind.CreateCron d =
+    other_then (needed (moment_in d)) (λ at. cron_act zones (λ draft. Of.CreateCron draft at) d) (other_needed (moment_in d))
+    (λ at. other_cron_act zones (λ draft. Of.CreateCron draft at) d)
+other_write zones Kind.UpdateCron d = other_cron_act zones (λ draft. Of.UpdateCron draft) d
+other_write zones Kind.CreateJob d =
+    other_then (needed (moment_in d)) (λ at. job_act (λ draft. Of.CreateJob draft at) d) (other_needed (moment_in d))
+    (λ at. other_job_act (λ draft. Of.CreateJob draft at) d)
+other_write zones Kind.UpdateJob d = other_job_act (λ draft. Of.UpdateJob draft) d
+
+other_act : (zones : List Zone) (verb : Verb) (d : Data) → IsOther (act_of zones verb d)
+other_act zones (Writes verb) d = other_write zones verb d
+other_act zones (Does verb) d = other_needed (plain_act verb d)
+
+other_step : (zones : List Zone) (callers : List Named) (d : Data) → IsOther (step_of zones callers d)
+unfolding step_of
+other_step zones callers d =
+    let made : Named → Verb → Act → Result Step SceneFault =
+    λ named verb act. Ok (record { who = named.name; caller = named.caller; verb = verb; act = act }) in
+    let acted : Named → Verb → Result Step SceneFault = λ named verb. then (act_of zones verb d) (made named verb) in
+    let worded : Named → Result Step SceneFault = λ named. then (needed (verb_in d)) (acted named) in
+    other_then (needed (who_in callers d)) worded (other_needed (who_in callers d))
+    (λ named. other_then (needed (verb_in d)) (acted named) (other_needed (verb_in d))
+    (λ verb. other_then (act_of zones verb d) (made named verb) (other_act zones verb d) (λ act. record { differs = λ e. absurd (cc e) })))
+
+other_after : (fault : FieldFault) (rest : Result (List Step) SceneFault) → IsOther rest → IsOther (after_fault fault rest)
+other_after fault (Ok steps) h = other_manifest fault
+other_after fault (Err Syntax) h = lost h
+other_after fault (Err Form) h = other_form
+other_after fault (Err (Manifest g)) h = other_manifest fault
+other_after fault (Err Memory) h = other_memory
+
+other_before : (steps : List Step) (rest : Result (List Step) SceneFault) → IsOther rest → IsOther (before steps rest)
+other_before steps (Ok others) h = other_fine (steps ++ others)
+other_before steps (Err e) h = h
+
+other_both : (r : Result Step SceneFault) (rest : Result (List Step) SceneFault) → IsOther r → IsOther rest → IsOther (both r rest)
+other_both (Ok step) rest h k = other_before (step ∷ []) rest k
+other_both (Err Syntax) rest h k = lost h
+other_both (Err Form) rest h k = other_form
+other_both (Err (Manifest fault)) rest h k = other_after fault rest k
+other_both (Err Memory) rest h k = other_memory
+
+other_steps : (zones : List Zone) (callers : List Named) (ds : Items) → IsOther (steps_of zones callers ds)
+other_steps zones callers no_items = other_fine []
+other_steps zones callers (item d ds) =
+    other_both (step_of zones callers d) (steps_of zones callers ds) (other_step zones callers d) (other_steps zones callers ds)
+
+other_told : (zones : List Zone) (d : Data) → IsOther (told_in zones d)
+other_told zones d =
+    let list : Option Items = option_and_then as_array (present (codes "steps") d) in
+    let last : Kept → List Step → Result (Kept × List Step) SceneFault = λ limits steps. Ok (limits, steps) in
+    let stepped : Kept → List Named → Items → Result (Kept × List Step) SceneFault = λ limits callers items. then (steps_of zones callers items) (last limits) in
+    let called : Kept → List Named → Result (Kept × List Step) SceneFault = λ limits callers. then (needed list) (stepped limits callers) in
+    let limited : Kept → Result (Kept × List Step) SceneFault = λ limits. then (needed (callers_in d)) (called limits) in
+    other_then (needed (limits_in d)) limited (other_needed (limits_in d))
+    (λ limits. other_then (needed (callers_in d)) (called limits) (other_needed (callers_in d))
+    (λ callers. other_then (needed list) (stepped limits callers) (other_needed list)
+    (λ items. other_then (steps_of zones callers items) (last limits) (other_steps zones callers items) (λ steps. other_fine (limits, steps)))))
+
+-- why a value is refused that has these zones
+pub refused_under : (d : Data) (zones : List Zone) (e : SceneFault) → AreZones (present (codes "zones") d) zones
+    → (e ≢ Memory → told_in zones d ≡ Err e) → IsRefusedValue d e
+refused_under d zones Syntax are h = absurd ((other_told zones d).differs (h (λ q. absurd (cc q))))
+refused_under d zones Form are h = inr (record { zones = zones; are = are; told = h (λ q. absurd (cc q)) })
+refused_under d zones (Manifest fault) are h = record { zones = zones; are = are; told = h (λ q. absurd (cc q)) }
+refused_under d zones Memory are h = tt

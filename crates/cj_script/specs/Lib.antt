@@ -1,0 +1,6 @@
+pub mod Callers
+pub mod Limits
+pub mod Drafts
+pub mod Writes
+pub mod Steps
+pub mod Scripts

@@ -1,0 +1,60 @@
+-- What a script says, and why bytes are none.
+use Rattle.std.specs.Prelude.{◌≡◌, ◌⊎◌, ℕ, List, codes, Some, Result, Ok, Err, option_and_then}
+use Rattle.serde_json.specs.Data.{Data}
+use Rattle.serde_json.specs.Find.{as_array}
+use Rattle.cj_types.specs.WorldLimits.{Kept}
+use Rattle.cj_zone.specs.Table.{local_zone, zones_of}
+use Rattle.cj_zone.specs.Zones.{utc_zone}
+use Rattle.cj_zone.specs.declared.zone.Zone.{Zone}
+use Rattle.cj_manifest.specs.Members.{present}
+use Rattle.cj_manifest.specs.Reading.{IsNoValue, Reads}
+use Rattle.cj_scenario.specs.Scenes.{AreZones}
+use Rattle.cj_scenario.specs.declared.fault.SceneFault.{SceneFault}
+use Rattle.cj_scenario.specs.declared.fault.SceneFault.TheVariants.{Form, Manifest, Memory, Syntax}
+use Rattle.cj_script.specs.declared.script.Script.{Script}
+use Rattle.cj_script.specs.declared.step.Step.{Step}
+use Rattle.cj_script.specs.Callers.{callers_in}
+use Rattle.cj_script.specs.Drafts.{needed, then}
+use Rattle.cj_script.specs.Limits.{limits_in}
+use Rattle.cj_script.specs.Steps.{steps_of}
+
+-- the limits and the steps that a value says under its zones; or the fault of its form, else the first of a manifest
+abbrev pub told_in : List Zone → Data → Result (Kept × List Step) SceneFault
+told_in zones d =
+    then (needed (limits_in d)) (λ limits.
+    then (needed (callers_in d)) (λ callers.
+    then (needed (option_and_then as_array (present (codes "steps") d))) (λ items.
+    then (steps_of zones callers items) (λ steps. Ok (limits, steps)))))
+
+-- a value says this: its zones beside UTC, which is the local one, and under these its limits and its steps
+pub record Says (d : Data) (s : Script) : Type 0 where
+  pub zones : AreZones (present (codes "zones") d) (zones_of s.zones)
+  pub local : local_zone s.zones ≡ Some (utc_zone (codes "UTC"))
+  pub told : told_in (zones_of s.zones) d ≡ Ok (s.limits, s.steps.items)
+
+-- what the bytes of a script say
+abbrev pub IsScript : List ℕ → Script → Type 0
+IsScript bytes s = (d : Data) × Reads bytes d × Says d s
+
+-- none of its zones' forms fits
+abbrev pub HasNoZones : Data → Type 0
+HasNoZones d = (zones : List Zone) → AreZones (present (codes "zones") d) zones → ⊥
+
+-- under its zones it is refused so
+pub record IsAtFault (d : Data) (e : SceneFault) : Type 0 where
+  pub zones : List Zone
+  pub are : AreZones (present (codes "zones") d) zones
+  pub told : told_in zones d ≡ Err e
+
+-- why a value is no script: its form or one of its zones; else a manifest; or there was no memory
+abbrev pub IsRefusedValue : Data → SceneFault → Type 0
+IsRefusedValue d Form = HasNoZones d ⊎ IsAtFault d Form
+IsRefusedValue d (Manifest fault) = IsAtFault d (Manifest fault)
+IsRefusedValue d Memory = Unit {0}
+IsRefusedValue d Syntax = ⊥
+
+-- why bytes are none: they are no JSON; else the value that they are is none; or there was no memory
+abbrev pub IsRefusedScript : List ℕ → SceneFault → Type 0
+IsRefusedScript bytes Syntax = IsNoValue bytes
+IsRefusedScript bytes Memory = Unit {0}
+IsRefusedScript bytes e = (d : Data) × Reads bytes d × IsRefusedValue d e

@@ -1,0 +1,81 @@
+// One step of a script.
+ghost use Rattle.std.specs.Prelude.{◌≡◌, ◌≢◌, ◌≤◌, Ok, Err, IfOk, IfErr, option_copied};
+ghost use Rattle.serde_json.specs.Data.{depth};
+ghost use Rattle.serde_json.specs.Read.{max_depth};
+ghost use Rattle.serde_json.specs.View.{view};
+ghost use Rattle.cj_zone.specs.Table.{zones_of};
+ghost use Rattle.cj_scenario.specs.declared.fault.SceneFault.TheVariants.{Memory};
+ghost use Rattle.cj_script.specs.Steps as said;
+
+use crate::callers::{Named, caller_named};
+use crate::writes::write_act;
+use cj_acts::{Act, Verb, plain_act, present, verb_named};
+use cj_base::{Shared, Text};
+use cj_calls::Caller;
+use cj_scenario::SceneFault;
+use cj_zone::ZoneTable;
+use serde_json::Value;
+use std::alloc::Global;
+
+/// Who does what: the caller with its name, and the verb with what it does.
+#[derive(Drop)]
+pub struct Step {
+    pub who: Shared<Text>,
+    pub caller: Caller,
+    pub verb: Verb,
+    pub act: Act,
+}
+
+fn who_at<'c>(callers: &'c [Named], value: &Value) -> Option<&'c Named>
+    ensures { option_copied result ≡ said.who_in callers.now (view value.now) }
+{
+    caller_named(callers, present(value, "who")?.as_str()?)
+}
+
+fn verb_at(value: &Value) -> Option<Verb>
+    ensures { result ≡ said.verb_in (view value.now) }
+{
+    verb_named(present(value, "do")?.as_str()?)
+}
+
+fn act_of(alloc: Global, zones: &ZoneTable, verb: Verb, value: &Value) -> Result<Act, SceneFault>
+    requires flat { depth (view value.now) ≤ max_depth }
+    ensures ok { IfOk result (λ a. said.act_of (zones_of zones.now) verb (view value.now) ≡ Ok a) }
+    ensures err { IfErr result (λ e. e ≢ Memory → said.act_of (zones_of zones.now) verb (view value.now) ≡ Err e) }
+{
+    match verb {
+        Verb::Writes(write) => write_act(alloc, zones, write, value),
+        Verb::Does(plain) => match plain_act(alloc, plain, value)? {
+            Some(act) => Ok(act),
+            None => Err(SceneFault::Form),
+        },
+    }
+}
+
+/// The step that a value says, by these callers and under these zones: `Form` where it has another form, else its manifest's
+/// first fault.
+#[tactic(auto, unfolding(crate::specs::Steps::step_of))]
+pub(crate) fn step_of(
+    alloc: Global,
+    zones: &ZoneTable,
+    callers: &[Named],
+    value: &Value,
+) -> Result<Step, SceneFault>
+    requires flat { depth (view value.now) ≤ max_depth }
+    ensures ok { IfOk result (λ s. said.step_of (zones_of zones.now) callers.now (view value.now) ≡ Ok s) }
+    ensures err { IfErr result (λ e. e ≢ Memory → said.step_of (zones_of zones.now) callers.now (view value.now) ≡ Err e) }
+{
+    let Some(named) = who_at(callers, value) else {
+        return Err(SceneFault::Form);
+    };
+    let Some(verb) = verb_at(value) else {
+        return Err(SceneFault::Form);
+    };
+    let act = act_of(alloc, zones, verb, value)?;
+    Ok(Step {
+        who: named.name.share()?,
+        caller: named.caller,
+        verb,
+        act,
+    })
+}
