@@ -51,19 +51,17 @@ makes_same window (e ∷ h) l =
 
 once_same : (window : ℕ) (h : List Told) → IsLegal window h → state.Once window h → Once h
 once_same window [] l o = tt
-once_same window (e ∷ h) l o =
-    (
-      (λ m. let c = o.0 m in (c.0, sym (claim_same window h l.2 e.caller.number) ∙ c.1, subst (IsNew c.0) (makes_same window h l.2) c.2)),
-      once_same window h l.2 o.1,
-    )
+once_same window (e ∷ h) l o = (
+  (λ m. let c = o.0 m in (c.0, sym (claim_same window h l.2 e.caller.number) ∙ c.1, subst (IsNew c.0) (makes_same window h l.2) c.2)),
+  once_same window h l.2 o.1,
+)
 
 alone_same : (window : ℕ) (h : List Told) → IsLegal window h → state.Alone window h → Alone h
 alone_same window [] l o = tt
-alone_same window (e ∷ h) l o =
-    (
-      (λ m c at strict q j there. o.0 m c (claim_same window h l.2 e.caller.number ∙ at) strict q j ((store_agrees window h l.2).jobs q ∙ there)),
-      alone_same window h l.2 o.1,
-    )
+alone_same window (e ∷ h) l o = (
+  (λ m c at strict q j there. o.0 m c (claim_same window h l.2 e.caller.number ∙ at) strict q j ((store_agrees window h l.2).jobs q ∙ there)),
+  alone_same window h l.2 o.1,
+)
 
 pub once_and_alone : OnceAndAlone
 once_and_alone window h short l planned =

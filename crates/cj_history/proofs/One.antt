@@ -114,8 +114,7 @@ legal_law window h = (lawful window h, legal window h)
 
 pub one_law : OneAnswer
 one_law window h caller call a l =
-    let r : IsLegal window h = legal window h l in
-    (
+    let r : IsLegal window h = legal window h l in (
       (λ p. same_answer window h caller call a (answer_of window h caller call) p (answered window h caller call r)),
       (λ e. subst (λ (x : Answer). IsAnswered window h caller call x) (sym e) (answered window h caller call r)),
     )

@@ -50,10 +50,7 @@ fn named_text(alloc: Global, key: &Key, version: Version) -> Result<String, Refu
     Ok(format!(in alloc; "ok {name} v={count}")?)
 }
 
-fn claimed_text(
-    alloc: Global,
-    claimed: &Option<(Seconds, Version)>,
-) -> Result<String, Refusal>
+fn claimed_text(alloc: Global, claimed: &Option<(Seconds, Version)>) -> Result<String, Refusal>
     ensures ok { IfOk result (λ s. string_bytes s ≡ said.claimed_text claimed.now) }
     ensures err { IfErr result (λ e. e ≡ OutOfMemory) }
 {

@@ -3,7 +3,7 @@ ghost use Rattle.std.specs.Prelude.{◌≡◌, ◌++◌, IfOk, IfErr, OnOk, stri
 ghost use Rattle.cj_base.specs.declared.refusal.Refusal.TheVariants.{OutOfMemory};
 ghost use Rattle.cj_lines.specs.Objects as said;
 
-use cj_types::{CronJob, Job, OwnerRefs, Outcome, Refusal, Seconds, Shared};
+use cj_types::{CronJob, Job, Outcome, OwnerRefs, Refusal, Seconds, Shared};
 use cj_zone::time_text;
 use std::alloc::Global;
 

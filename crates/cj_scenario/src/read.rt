@@ -50,7 +50,11 @@ pub fn first_fault(refusal: &Refusal) -> SceneFault
 }
 
 /// What a CronJob's manifest in a scenario says under the zones, or its first fault.
-pub fn draft_of(alloc: Global, manifest: &Value, zones: &ZoneTable) -> Result<CronJobDraft, SceneFault>
+pub fn draft_of(
+    alloc: Global,
+    manifest: &Value,
+    zones: &ZoneTable,
+) -> Result<CronJobDraft, SceneFault>
     requires flat { depth (view manifest.now) ≤ max_depth }
     ensures sound { IfOk result (λ _. table.cron_faults (zones_of zones.now) (view manifest.now) ≡ []) }
     ensures said { IfOk result (λ d. said.cron_draft (view manifest.now) ≡ Some d) }
