@@ -1,7 +1,8 @@
 // The objects that users give: CronJobs of the namespace `default`, by name, policy and schedule, and Jobs.
 use cj_types::{
     CronJobDraft, CronKey, CronSpec, DraftMeta, HistoryLimit, JobDraft, JobTemplate, Key, Labels,
-    OwnerRef, OwnerRefs, Policy, Refusal, Seconds, Shared, SpecText, Text, Version, version_text,
+    Max, OwnerRef, OwnerRefs, Policy, Refusal, Seconds, Shared, SpecText, Text, Version,
+    version_text,
 };
 use std::alloc::Global;
 
@@ -11,6 +12,11 @@ pub const START: u64 = 1_704_067_200;
 // So many seconds after the start.
 pub fn moment(after: u64) -> Result<Seconds, Refusal> {
     Seconds::new(START.saturating_add(after)).ok_or(Refusal::Syntax)
+}
+
+pub fn max_of(count: u64) -> Result<Max, Refusal> {
+    let count = u16::try_from(count).map_err(|_| Refusal::Syntax)?;
+    Max::new(count).ok_or(Refusal::Syntax)
 }
 
 pub fn key(alloc: Global, name: &str) -> Result<Key, Refusal> {

@@ -1,10 +1,10 @@
 // Calls at random: of users, who create, change and delete CronJobs and delete Jobs; an informer, whose feeds lag; a runner; and three
 // workers, who mostly make the next call of a sync and now and then any other, with plans of their own, of others, and of old.
-use crate::drafts::{START, cron, key, moment};
+use crate::drafts::{START, cron, key, max_of, moment};
 use crate::stage::{Stage, Stand};
 use cj_calls::{Call, Caller, End, Role};
 use cj_decide::Plan;
-use cj_types::{Job, Max, Millis, Outcome, Policy, Reasons, Refusal, Seconds, Shared};
+use cj_types::{Job, Millis, Outcome, Policy, Reasons, Refusal, Seconds, Shared};
 use std::alloc::Global;
 
 const NAMES: [&str; 3] = ["a", "b", "c"];
@@ -37,7 +37,7 @@ impl Random {
             .state
             .wrapping_mul(6_364_136_223_846_793_005)
             .wrapping_add(1_442_695_040_888_963_407);
-        (self.state >> 33) % count.max(1)
+        (self.state >> 33).checked_rem(count).unwrap_or(0)
     }
 
     fn name(&mut self) -> &'static str {
@@ -99,8 +99,7 @@ impl Random {
     }
 
     fn feed(&mut self) -> Result<Call, Refusal> {
-        let max = Max::new((self.below(6) as u16).saturating_add(1)).ok_or(Refusal::Syntax)?;
-        Ok(Call::Feed(max))
+        Ok(Call::Feed(max_of(self.below(6).saturating_add(1))?))
     }
 
     fn user_call(&mut self, alloc: Global, stage: &Stage) -> Result<Call, Refusal> {
@@ -132,12 +131,18 @@ impl Random {
         self.plans
             .push(plan.share()?)
             .map_err(|_| Refusal::OutOfMemory)?;
-        let is_old = self.below(12) == 0;
-        let place = self.below(self.plans.len() as u64) as usize;
-        match self.plans.get(place) {
-            Some(old) if is_old => Ok(Call::Claim(old.share()?)),
-            _ => Ok(Call::Claim(plan)),
+        if self.below(12) == 0 {
+            return self.old_claim();
         }
+        Ok(Call::Claim(plan))
+    }
+
+    // The claim of one of the plans so far.
+    fn old_claim(&mut self) -> Result<Call, Refusal> {
+        let count = self.plans.len() as u64;
+        let place = self.below(count) as usize;
+        let plan = self.plans.get(place).ok_or(Refusal::NotFound)?;
+        Ok(Call::Claim(plan.share()?))
     }
 
     fn any_call(

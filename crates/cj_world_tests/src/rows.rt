@@ -319,7 +319,7 @@ const CLAIMED_BEFORE: [&str; 10] = [
     "w finish|10 ok",
 ];
 
-fn row(history: u32, window: u32, lines: &'static [&'static str]) -> Row {
+fn kept(history: u32, window: u32, lines: &'static [&'static str]) -> Row {
     Row {
         history,
         window,
@@ -330,20 +330,20 @@ fn row(history: u32, window: u32, lines: &'static [&'static str]) -> Row {
 /// All rows.
 pub fn rows() -> [Row; 15] {
     [
-        row(100_000, 10_000, &FORBID_BEHIND),
-        row(100_000, 10_000, &ONE_HAND),
-        row(2, 10_000, &FULL),
-        row(2, 10_000, &EMPTY),
-        row(100_000, 10_000, &RECREATED),
-        row(100_000, 10_000, &CHANGED),
-        row(100_000, 10_000, &REPLACED),
-        row(100_000, 10_000, &GONE),
-        row(100_000, 3, &WINDOW),
-        row(100_000, 10_000, &VERSIONS),
-        row(100_000, 10_000, &ROLES),
-        row(100_000, 10_000, &SHUT),
-        row(100_000, 10_000, &FAR),
-        row(100_000, 10_000, &SEEN_BEFORE),
-        row(100_000, 10_000, &CLAIMED_BEFORE),
+        kept(100_000, 10_000, &FORBID_BEHIND),
+        kept(100_000, 10_000, &ONE_HAND),
+        kept(2, 10_000, &FULL),
+        kept(2, 10_000, &EMPTY),
+        kept(100_000, 10_000, &RECREATED),
+        kept(100_000, 10_000, &CHANGED),
+        kept(100_000, 10_000, &REPLACED),
+        kept(100_000, 10_000, &GONE),
+        kept(100_000, 3, &WINDOW),
+        kept(100_000, 10_000, &VERSIONS),
+        kept(100_000, 10_000, &ROLES),
+        kept(100_000, 10_000, &SHUT),
+        kept(100_000, 10_000, &FAR),
+        kept(100_000, 10_000, &SEEN_BEFORE),
+        kept(100_000, 10_000, &CLAIMED_BEFORE),
     ]
 }

@@ -1,5 +1,5 @@
 // Calls in words: who makes it, what it is, and what it is given.
-use crate::drafts::{cron, job, key, moment};
+use crate::drafts::{cron, job, key, max_of, moment};
 use crate::stage::Stage;
 use cj_calls::{Call, Caller, End, Role};
 use cj_types::{Max, Millis, Outcome, Policy, Reasons, Refusal, Seconds, Uid, Version};
@@ -34,7 +34,7 @@ impl<'a> Words<'a> {
     }
 
     fn max(&self, place: usize) -> Result<Max, Refusal> {
-        Max::new(self.number(place)? as u16).ok_or(Refusal::Syntax)
+        max_of(self.number(place)?)
     }
 
     // A version that may be left out.
