@@ -1,5 +1,5 @@
 -- What calls through a desk add.
-use Rattle.std.specs.Prelude.{◌≡◌, Bool, IsTrue, List, [], ◌∷◌, ◌++◌, Result, Ok, Err, IsOk, IsErr, map, ◌⊎◌}
+use Rattle.std.specs.Prelude.{◌≡◌, Bool, IsTrue, List, [], ◌∷◌, ◌++◌, Result, Ok, Err, IsOk, IsErr, map}
 use Rattle.std.specs.List.{AllByRecursion}
 use Rattle.cj_base.specs.declared.refusal.Refusal.{Refusal}
 use Rattle.cj_base.specs.declared.refusal.Refusal.TheVariants.{Empty, HistoryFull, Estranged, OutOfMemory}
@@ -69,22 +69,3 @@ abbrev pub IsDone : Call → Result (Unit {0}) Halt → List Told → Type 0
 IsDone call (Ok u) es = IsOne call IsOk es
 IsDone call (Err (Refused r)) es = IsOne call (λ a. IsErr a × (a ≡ r.entry.answer)) es
 IsDone call (Err (Unentered e)) es = (es ≡ []) × IsDeskRefusal call e
-
--- the entries are of just these calls, in order, all accepted
-abbrev pub AllAccepted : List Call → List Told → Type 0
-AllAccepted [] [] = Unit {0}
-AllAccepted [] (e ∷ es) = ⊥
-AllAccepted (c ∷ cs) [] = ⊥
-AllAccepted (c ∷ cs) (e ∷ es) = (e.call ≡ c) × IsOk e.answer × AllAccepted cs es
-
--- the entries are of a beginning of these calls, in order, all accepted
-abbrev pub Begun : List Call → List Told → Type 0
-Begun cs [] = Unit {0}
-Begun [] (e ∷ es) = ⊥
-Begun (c ∷ cs) (e ∷ es) = (e.call ≡ c) × IsOk e.answer × Begun cs es
-
--- the entries are of a beginning of these calls, in order, up to the first refusal
-abbrev pub FirstRefused : List Call → List Told → Refusal → Type 0
-FirstRefused [] es r = ⊥
-FirstRefused (c ∷ cs) [] r = ⊥
-FirstRefused (c ∷ cs) (e ∷ es) r = (e.call ≡ c) × (((e.answer ≡ Err r) × (es ≡ [])) ⊎ (IsOk e.answer × FirstRefused cs es r))

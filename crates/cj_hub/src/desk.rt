@@ -1,5 +1,5 @@
 //! What calls go through: a hub that threads share, or a book of one's own.
-ghost use Rattle.std.specs.Prelude.{◌≡◌, [], ◌∷◌, Bool, true, false, IsTrue, IfOk, IfErr, OnErr};
+ghost use Rattle.std.specs.Prelude.{◌≡◌, [], ◌∷◌, ◌++◌, Bool, true, false, IsTrue, IfOk, IfErr, OnOk, OnErr, length};
 ghost use Rattle.cj_base.specs.declared.refusal.Refusal.TheVariants.{OutOfMemory};
 ghost use Rattle.cj_types.specs.WorldLimits.{kept};
 ghost use Rattle.cj_calls.specs.Rows.{is_in_row};
@@ -93,11 +93,12 @@ impl PlainDesk {
         })
     }
 
-    /// A pass with no receipts.
+    /// A pass of the next number, with no receipts.
     pub fn enroll(&mut self, role: Role) -> Result<Pass, Refusal>
-        ensures pass { IfOk result (λ p. p ≡ fresh p.number role) }
-        ensures history { (self.new.history ≡ self.old.history) × (self.new.limits ≡ self.old.limits) }
-        ensures err { IfErr result (λ e. e ≡ OutOfMemory) }
+        ensures pass { IfOk result (λ p. p ≡ fresh (length self.old.roles) role) }
+        ensures book { OnOk result (self.new ≡ record self.old { roles = self.old.roles ++ role ∷ [] }) }
+        ensures which { IfErr result (λ e. e ≡ OutOfMemory) }
+        ensures err { OnErr result (self.new ≡ self.old) }
     {
         self.book.enroll(role)
     }

@@ -1,7 +1,7 @@
 use crate::drafts::create;
-use crate::users::{create_and_read, work};
+use crate::users::{Worked, create_and_read, work};
 use cj_calls::{Call, Caller, Reply, Role};
-use cj_hub::{Desk, Hub, HubDesk, HubState, Pass, PlainDesk};
+use cj_hub::{Desk, Hub, HubDesk, HubState, NotClosed, Pass, PlainDesk};
 use cj_types::{Key, Limits, Max, Refusal, Version};
 use std::alloc::Global;
 use std::process::Abort;
@@ -35,10 +35,15 @@ fn four_users_on_threads(rt: HostRuntime) {
     let mut passes = Vec::new(alloc);
     let mut receipts = Vec::new(alloc);
     for worked in back.expect(&rt, "memory") {
-        assert!(rt; worked.is_fine);
-        assert_eq!(rt; worked.pass.receipts().len(), 200);
-        passes.push(worked.pass).expect(&rt, "memory");
-        for receipt in worked.receipts {
+        let Worked {
+            pass,
+            receipts: own,
+            is_fine,
+        } = worked;
+        assert!(rt; is_fine);
+        assert_eq!(rt; pass.receipts().len(), 200);
+        passes.push(pass).expect(&rt, "memory");
+        for receipt in own {
             receipts.push(receipt).expect(&rt, "memory");
         }
     }
@@ -75,11 +80,15 @@ fn a_pass_of_another_hub(rt: HostRuntime) {
     passes.push(mine).expect(&rt, "memory");
     passes.push(strange).expect(&rt, "memory");
     let refused = one.close(passes).err().expect(&rt, "a strange pass");
-    assert!(rt; matches!(&refused.refusal, Refusal::Estranged));
-    let mut passes = refused.passes;
+    let NotClosed {
+        book,
+        mut passes,
+        refusal,
+    } = refused;
+    assert!(rt; matches!(&refusal, Refusal::Estranged));
     assert_eq!(rt; passes.len(), 2);
     let _ = passes.pop();
-    let closed = refused.book.close(passes).ok().expect(&rt, "exact passes");
+    let closed = book.close(passes).ok().expect(&rt, "exact passes");
     assert_eq!(rt; closed.history().len(), 1);
     assert!(rt; closed.has(&receipt));
 }
@@ -109,22 +118,25 @@ fn a_full_history(rt: HostRuntime) {
     assert_eq!(rt; worker.receipts().len(), 0);
 }
 
+fn is_told_of_a_full_history(rt: &impl Wait, hub: &Hub, worker: &mut Pass) -> bool {
+    let answer = hub.take_wait(rt, worker);
+    matches!(&answer, Err(Refusal::HistoryFull))
+}
+
 #[test]
 fn a_waiting_take_is_told_of_a_full_history(rt: HostRuntime) {
     let alloc = rt.alloc();
     let hub = hub(&rt, alloc, 1);
     let mut user = pass(&rt, &hub, Role::User);
-    let worker = pass(&rt, &hub, Role::Worker);
-    let (told, _) = thread::join(
+    let mut worker = pass(&rt, &hub, Role::Worker);
+    let (told, listed) = thread::join(
         &rt,
-        || {
-            let mut worker = worker;
-            let answer = hub.take_wait(&rt, &mut worker);
-            matches!(&answer, Err(Refusal::HistoryFull))
-        },
+        || is_told_of_a_full_history(&rt, &hub, &mut worker),
         || hub.call(&rt, &mut user, Call::ListCrons).is_ok(),
     );
     assert!(rt; told);
+    assert!(rt; listed);
+    assert_eq!(rt; worker.receipts().len(), 0);
 }
 
 #[test]
@@ -156,24 +168,26 @@ fn how_far_the_work_is(rt: HostRuntime) {
     assert_eq!(rt; hub.state(&rt, first), HubState::Broken);
 }
 
+fn is_told_of_the_end(rt: &impl Wait, hub: &Hub, worker: &mut Pass) -> bool {
+    match hub.take_wait(rt, worker) {
+        Ok(receipt) => matches!(receipt.answer(), Err(Refusal::ShutDown)),
+        Err(_) => false,
+    }
+}
+
 #[test]
 fn a_shut_queue_ends_a_waiting_take(rt: HostRuntime) {
     let alloc = rt.alloc();
     let hub = hub(&rt, alloc, 100);
     let mut informer = pass(&rt, &hub, Role::Informer);
-    let worker = pass(&rt, &hub, Role::Worker);
-    let (told, _) = thread::join(
+    let mut worker = pass(&rt, &hub, Role::Worker);
+    let (told, shut) = thread::join(
         &rt,
-        || {
-            let mut worker = worker;
-            match hub.take_wait(&rt, &mut worker) {
-                Ok(receipt) => matches!(receipt.answer(), Err(Refusal::ShutDown)),
-                Err(_) => false,
-            }
-        },
+        || is_told_of_the_end(&rt, &hub, &mut worker),
         || hub.call(&rt, &mut informer, Call::Shut).is_ok(),
     );
     assert!(rt; told);
+    assert!(rt; shut);
 }
 
 fn take<D: Desk>(desk: &mut D, worker: &mut Pass) -> bool {
