@@ -1,5 +1,5 @@
 -- Steps that are gathered one after another.
-use Rattle.std.proofs.Common.{◌≡◌, ◌≢◌, ◌∙◌, ◌+◌, ◌<◌, ℕ, List, [], ◌∷◌, ◌++◌, length, drop, get_or, Option, Some, None, unwrap_or, Result, Ok, Err, refl, sym, ap, append_assoc}
+use Rattle.std.proofs.Common.{◌≡◌, ◌∙◌, ◌+◌, ◌<◌, ℕ, List, [], ◌∷◌, ◌++◌, length, drop, get_or, Option, Some, None, unwrap_or, Result, Ok, Err, refl, sym, ap, append_assoc}
 use Rattle.std.proofs.lemmas.List.{append-nil}
 use Rattle.serde_json.specs.View.{items_view, view}
 use Rattle.serde_json.specs.declared.value.Value.{Value}
@@ -9,7 +9,7 @@ use Rattle.cj_scenario.specs.declared.fault.SceneFault.{SceneFault}
 use Rattle.cj_scenario.specs.declared.fault.SceneFault.TheVariants.{Form, Manifest, Memory, Syntax}
 use Rattle.cj_script.specs.declared.callers.Named.{Named}
 use Rattle.cj_script.specs.declared.step.Step.{Step}
-use Rattle.cj_script.specs.Steps.{Gathers, Stops, after_fault, both, joined, step_of, steps_of}
+use Rattle.cj_script.specs.Steps.{Gathers, Stops, both, joined, step_of, steps_of}
 use Rattle.cj_acts.proofs.Rest.{rest_at}
 
 one_step : (steps : List Step) (fault : Option FieldFault) (s : Step) (rest : Result (List Step) SceneFault)
