@@ -28,8 +28,8 @@ fn commit(store: &mut Store, alloc: Global, plan: Result<Change, Refusal>) -> An
 fn create_cron(store: &mut Store, alloc: Global, ask: &Ask) -> Result<Answer, Refusal>
     requires { store.old.version < 2 ^ 40 }
 {
-    let draft = cron_draft(alloc, ask)?;
     let now = seconds(ask.now)?;
+    let draft = cron_draft(alloc, ask)?;
     if ask.is_planned {
         let plan = store.plan_create_cron(alloc, draft, now);
         return Ok(commit(store, alloc, plan));
@@ -80,8 +80,8 @@ fn delete_cron(store: &mut Store, alloc: Global, ask: &Ask) -> Result<Answer, Re
 fn create_job(store: &mut Store, alloc: Global, ask: &Ask) -> Result<Answer, Refusal>
     requires { store.old.version < 2 ^ 40 }
 {
-    let draft = job_draft(alloc, ask)?;
     let now = seconds(ask.now)?;
+    let draft = job_draft(alloc, ask)?;
     if ask.is_planned {
         let plan = store.plan_create_job(alloc, draft, now);
         return Ok(commit(store, alloc, plan));
@@ -92,8 +92,8 @@ fn create_job(store: &mut Store, alloc: Global, ask: &Ask) -> Result<Answer, Ref
 fn make_job(store: &mut Store, alloc: Global, ask: &Ask) -> Result<Answer, Refusal>
     requires { store.old.version < 2 ^ 40 }
 {
-    let draft = job_draft(alloc, ask)?;
     let now = seconds(ask.now)?;
+    let draft = job_draft(alloc, ask)?;
     if ask.is_planned {
         let plan = store.plan_make_job(alloc, draft, now);
         return Ok(commit(store, alloc, plan));

@@ -1,8 +1,8 @@
 use crate::ask::{Ask, name_at, spec_at};
 use cj_types::{
-    CronJobDraft, CronKey, CronSpec, CronStatus, DraftMeta, HistoryLimit, JobDraft, JobTemplate,
-    Key, Labels, Names, OwnerRef, OwnerRefs, Policy, Refusal, Seconds, Shared, SpecText, Text, Uid,
-    Version, version_text,
+    CronJobDraft, CronKey, CronSpec, CronStatus, DraftMeta, Heap, HistoryLimit, JobDraft,
+    JobTemplate, Key, Labels, Names, OwnerRef, OwnerRefs, Policy, Refusal, Seconds, Shared,
+    SpecText, Text, Uid, Version, version_text,
 };
 use std::alloc::Global;
 
@@ -33,9 +33,11 @@ fn uid_given(alloc: Global, count: Option<u64>) -> Result<Option<Text>, Refusal>
 }
 
 fn meta(alloc: Global, ask: &Ask) -> Result<DraftMeta, Refusal> {
+    let uid = uid_given(alloc, ask.uid)?;
+    let version = version_given(alloc, ask.version)?;
     Ok(DraftMeta {
-        uid: uid_given(alloc, ask.uid)?,
-        version: version_given(alloc, ask.version)?,
+        uid,
+        version,
         labels: Labels::new(alloc),
         annotations: Labels::new(alloc),
     })
@@ -64,11 +66,10 @@ fn cron_spec(alloc: Global, schedule: &str) -> Result<CronSpec, Refusal> {
 }
 
 pub fn cron_draft(alloc: Global, ask: &Ask) -> Result<CronJobDraft, Refusal> {
-    Ok(CronJobDraft {
-        key: CronKey::new(alloc, "default", name_at(ask.name))?,
-        meta: meta(alloc, ask)?,
-        spec: Shared::new(alloc, cron_spec(alloc, spec_at(ask.spec))?)?,
-    })
+    let spec = Shared::new(alloc, cron_spec(alloc, spec_at(ask.spec))?)?;
+    let key = CronKey::new(alloc, "default", name_at(ask.name))?;
+    let meta = meta(alloc, ask)?;
+    Ok(CronJobDraft { key, meta, spec })
 }
 
 pub fn status(alloc: Global, time: u64) -> Result<CronStatus, Refusal> {
@@ -80,23 +81,27 @@ pub fn status(alloc: Global, time: u64) -> Result<CronStatus, Refusal> {
     })
 }
 
-fn owner_texts(alloc: Global) -> Result<(Text, Text), Refusal> {
-    Ok((Text::new(alloc, "batch/v1")?, Text::new(alloc, "CronJob")?))
+fn texts(alloc: Global, one: &str, other: &str) -> Result<Heap<(Text, Text)>, Refusal> {
+    let one = Text::new(alloc, one)?;
+    Heap::new(alloc, (one, Text::new(alloc, other)?))
 }
 
 fn owner(alloc: Global, name: &str, uid: &str, is_controller: bool) -> Result<OwnerRef, Refusal> {
-    let (api_version, kind) = owner_texts(alloc)?;
+    let group = texts(alloc, "batch/v1", "CronJob")?;
+    let owner = texts(alloc, name, uid)?;
+    let (api_version, kind) = group.into_inner();
+    let (name, uid) = owner.into_inner();
     Ok(OwnerRef {
         api_version,
         kind,
-        name: Text::new(alloc, name)?,
-        uid: Text::new(alloc, uid)?,
+        name,
+        uid,
         controller: is_controller,
         block_owner_deletion: true,
     })
 }
 
-pub fn one_owner(
+fn one_owner(
     alloc: Global,
     name: &str,
     uid: &str,
@@ -115,12 +120,44 @@ fn owners(alloc: Global, place: usize) -> Result<OwnerRefs, Refusal> {
     }
 }
 
+// The parts of a draft of a Job that aren't of its metadata.
+fn job_parts(alloc: Global, name: &str, spec: &str) -> Result<Heap<(Key, SpecText)>, Refusal> {
+    let key = Key::new(alloc, "default", name)?;
+    let spec = SpecText::new(alloc, Text::new(alloc, spec)?)?;
+    Heap::new(alloc, (key, spec))
+}
+
 pub fn job_draft(alloc: Global, ask: &Ask) -> Result<JobDraft, Refusal> {
-    let spec = SpecText::new(alloc, Text::new(alloc, spec_at(ask.spec))?)?;
+    let parts = job_parts(alloc, name_at(ask.name), spec_at(ask.spec))?;
+    let owners = Heap::new(alloc, owners(alloc, ask.owner)?)?;
+    let meta = meta(alloc, ask)?;
+    let (key, spec) = parts.into_inner();
     Ok(JobDraft {
-        key: key(alloc, ask)?,
-        meta: meta(alloc, ask)?,
-        owners: owners(alloc, ask.owner)?,
+        key,
+        meta,
+        owners: owners.into_inner(),
+        spec,
+    })
+}
+
+fn no_meta(alloc: Global) -> DraftMeta {
+    DraftMeta {
+        uid: None,
+        version: None,
+        labels: Labels::new(alloc),
+        annotations: Labels::new(alloc),
+    }
+}
+
+// A Job that a CronJob of this name and uid controls.
+pub fn owned_draft(alloc: Global, name: &str, cron: &str, uid: &str) -> Result<JobDraft, Refusal> {
+    let parts = job_parts(alloc, name, "{}")?;
+    let owners = one_owner(alloc, cron, uid, true)?;
+    let (key, spec) = parts.into_inner();
+    Ok(JobDraft {
+        key,
+        meta: no_meta(alloc),
+        owners,
         spec,
     })
 }

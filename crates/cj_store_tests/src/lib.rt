@@ -9,9 +9,15 @@ mod calls;
 #[cfg(test)]
 mod drafts;
 #[cfg(test)]
+mod listed;
+#[cfg(test)]
 mod plain;
 #[cfg(test)]
-mod tests;
+mod planned;
+#[cfg(test)]
+mod random;
+#[cfg(test)]
+mod rows;
 #[cfg(test)]
 mod told;
 mod turns;

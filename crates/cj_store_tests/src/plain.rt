@@ -3,7 +3,7 @@ use crate::told::{Answer, Plain};
 use std::alloc::{AllocError, Global};
 
 // The calls of the random test.
-#[derive(Clone, Copy, Debug, PartialEq, Eq)]
+#[derive(Clone, Copy, PartialEq, Eq)]
 pub enum Kind {
     CreateCron,
     UpdateCron,

@@ -3,7 +3,7 @@ use cj_store::Change;
 use cj_types::{CronJob, Event, Job, Object, Outcome, Refusal, Seconds, Shared, Version};
 
 // An object in numbers.
-#[derive(Clone, Copy, Debug, PartialEq, Eq)]
+#[derive(Clone, Copy, PartialEq, Eq)]
 pub struct Plain {
     pub is_job: bool,
     pub name: usize,
@@ -17,7 +17,7 @@ pub struct Plain {
     pub state: u64,
 }
 
-#[derive(Clone, Copy, Debug, PartialEq, Eq)]
+#[derive(Clone, Copy, PartialEq, Eq)]
 pub enum Answer {
     Done(Plain),
     Gone(u64),

@@ -1,16 +1,39 @@
-ghost use Rattle.std.specs.Prelude.{◌≡◌, ◌+◌, OnOk};
+ghost use Rattle.std.specs.Prelude.{◌≡◌, ◌+◌, ◌<◌, ◌^◌, OnOk};
 
 use cj_store::Store;
-use cj_types::{JobDraft, Refusal, Seconds};
+use cj_types::{Heap, JobDraft, Refusal, Seconds};
 use std::alloc::Global;
+
+// Makes a Job by a plan.
+fn make(
+    store: &mut Store,
+    alloc: Global,
+    draft: Heap<JobDraft>,
+    now: Seconds,
+) -> Result<(), Refusal>
+    requires { store.old.version < 2 ^ 40 }
+    ensures { OnOk result (store.new.version ≡ store.old.version + 1) }
+{
+    let change = store.plan_make_job(alloc, draft.into_inner(), now)?;
+    store.commit(alloc, change)
+}
+
+// Updates a Job by a plan.
+fn update(store: &mut Store, alloc: Global, draft: Heap<JobDraft>) -> Result<(), Refusal>
+    requires { store.old.version < 2 ^ 40 }
+    ensures { OnOk result (store.new.version ≡ store.old.version + 1) }
+{
+    let change = store.plan_update_job(alloc, draft.into_inner())?;
+    store.commit(alloc, change)
+}
 
 /// Makes two Jobs, each by a plan. The second is planned once the first is made: a plan is for the content that it was made
 /// on, and no other.
 pub fn make_both(
     store: &mut Store,
     alloc: Global,
-    one: JobDraft,
-    other: JobDraft,
+    one: Heap<JobDraft>,
+    other: Heap<JobDraft>,
     now: Seconds,
 ) -> Result<(), Refusal>
     ensures { OnOk result (store.new.version ≡ store.old.version + 2) }
@@ -18,26 +41,22 @@ pub fn make_both(
     if store.version().get() >= 1_099_511_627_775 {
         return Err(Refusal::HistoryFull);
     }
-    let first = store.plan_make_job(alloc, one, now)?;
-    store.commit(alloc, first)?;
-    let second = store.plan_make_job(alloc, other, now)?;
-    store.commit(alloc, second)
+    make(store, alloc, one, now)?;
+    make(store, alloc, other, now)
 }
 
 /// Updates two Jobs, or one twice, each by a plan.
 pub fn update_both(
     store: &mut Store,
     alloc: Global,
-    one: JobDraft,
-    other: JobDraft,
+    one: Heap<JobDraft>,
+    other: Heap<JobDraft>,
 ) -> Result<(), Refusal>
     ensures { OnOk result (store.new.version ≡ store.old.version + 2) }
 {
     if store.version().get() >= 1_099_511_627_775 {
         return Err(Refusal::HistoryFull);
     }
-    let first = store.plan_update_job(alloc, one)?;
-    store.commit(alloc, first)?;
-    let second = store.plan_update_job(alloc, other)?;
-    store.commit(alloc, second)
+    update(store, alloc, one)?;
+    update(store, alloc, other)
 }

@@ -1,0 +1,91 @@
+use crate::drafts::{owned_draft, seconds};
+use cj_store::Store;
+use cj_types::{Job, JobDraft, Key, Refusal, Shared};
+use std::alloc::{AllocError, Global};
+use std::test::Fail;
+
+fn numbered(alloc: Global, prefix: &str, number: u64) -> Result<String, AllocError> {
+    format!(in alloc; "{prefix}-{number:04}")
+}
+
+fn key(alloc: Global, prefix: &str, number: u64) -> Result<Key, Refusal> {
+    let name = numbered(alloc, prefix, number)?;
+    Key::new(alloc, "default", name.as_str())
+}
+
+// The Job of this number, of the CronJob of the number modulo 40, under one of two uids.
+fn draft(alloc: Global, number: u64) -> Result<JobDraft, Refusal> {
+    let name = numbered(alloc, "job", number)?;
+    let cron = numbered(alloc, "cron", number % 40)?;
+    let uid = if number < 1_000 { "old" } else { "new" };
+    owned_draft(alloc, name.as_str(), cron.as_str(), uid)
+}
+
+fn make(store: &mut Store, alloc: Global, number: u64) -> Result<(), Refusal> {
+    if !store.has_room() {
+        return Err(Refusal::HistoryFull);
+    }
+    let now = seconds(1_704_067_200)?;
+    let _ = store.make_job(alloc, draft(alloc, number)?, now)?;
+    Ok(())
+}
+
+fn delete(store: &mut Store, alloc: Global, number: u64) -> Result<(), Refusal> {
+    if !store.has_room() {
+        return Err(Refusal::HistoryFull);
+    }
+    let _ = store.delete_job(alloc, &key(alloc, "job", number)?, None)?;
+    Ok(())
+}
+
+pub fn rise(jobs: &[Shared<Job>]) -> bool {
+    jobs.windows(2).all(|pair| pair[0].key < pair[1].key)
+}
+
+// Whether so many Jobs of the CronJob of this number are listed, by name.
+fn lists(store: &Store, alloc: Global, number: u64, count: usize) -> Result<bool, Refusal> {
+    let jobs = store.jobs_of(alloc, &key(alloc, "cron", number)?)?;
+    Ok(jobs.as_slice().len() == count && rise(jobs.as_slice()))
+}
+
+// Whether so many Jobs of the first CronJob are listed, and 50 of each other.
+fn lists_all(store: &Store, alloc: Global, count: usize) -> Result<bool, Refusal> {
+    for number in 1..40 {
+        if !lists(store, alloc, number, 50)? {
+            return Ok(false);
+        }
+    }
+    lists(store, alloc, 0, count)
+}
+
+// Two thousand Jobs in falling order of name.
+fn make_all(store: &mut Store, alloc: Global) -> Result<(), Refusal> {
+    for number in (0..2_000).rev() {
+        make(store, alloc, number)?;
+    }
+    Ok(())
+}
+
+// Every second Job of the first CronJob.
+fn delete_half(store: &mut Store, alloc: Global) -> Result<(), Refusal> {
+    for turn in 0..25 {
+        delete(store, alloc, turn * 80)?;
+    }
+    Ok(())
+}
+
+fn is_right(store: &mut Store, alloc: Global) -> Result<bool, Refusal> {
+    make_all(store, alloc)?;
+    let before = lists_all(store, alloc, 50)?;
+    delete_half(store, alloc)?;
+    let after = lists_all(store, alloc, 25)?;
+    Ok(before && after)
+}
+
+#[test]
+fn lists_the_jobs_of_each(rt: HostRuntime) -> Result<(), Fail> {
+    let mut store = Store::new(rt.alloc());
+    let is_right = is_right(&mut store, rt.alloc())?;
+    assert!(rt; is_right);
+    Ok(())
+}

@@ -1,0 +1,162 @@
+use crate::ask::{Ask, name_at};
+use crate::calls::call;
+use crate::listed::rise;
+use crate::plain::{Kind, Model};
+use crate::told::{Plain, plain_cron, plain_job};
+use cj_store::Store;
+use cj_types::{Key, Refusal};
+use std::alloc::Global;
+use std::test::Fail;
+
+const NOW: u64 = 1_704_067_200;
+
+const KINDS: [Kind; 9] = [
+    Kind::CreateCron,
+    Kind::UpdateCron,
+    Kind::SetStatus,
+    Kind::DeleteCron,
+    Kind::CreateJob,
+    Kind::MakeJob,
+    Kind::UpdateJob,
+    Kind::DeleteJob,
+    Kind::EndJob,
+];
+
+// The next number of a linear congruential generator, whose high bits are used.
+fn next(seed: u64) -> u64 {
+    seed.wrapping_mul(6_364_136_223_846_793_005)
+        .wrapping_add(1_442_695_040_888_963_407)
+}
+
+fn pick(seed: u64, shift: u32, count: u64) -> usize {
+    if count == 0 {
+        return 0;
+    }
+    (seed.wrapping_shr(shift) % count) as usize
+}
+
+// A number that is current or not, or none where one needn't be given.
+fn maybe(choice: usize, current: u64, is_needed: bool) -> Option<u64> {
+    match choice {
+        0 => Some(current.saturating_add(1)),
+        1 => Some(current),
+        _ if is_needed => Some(current),
+        _ => None,
+    }
+}
+
+fn random_ask(model: &Model, kind: Kind, seed: u64) -> Ask {
+    let name = pick(seed, 24, 6);
+    let (uid, version) = match model.find(kind.is_of_jobs(), name) {
+        Some(row) => (row.uid, row.version),
+        None => (1, 1),
+    };
+    let is_needed = kind == Kind::SetStatus || kind == Kind::EndJob;
+    Ask {
+        name,
+        spec: pick(seed, 28, 3),
+        version: maybe(pick(seed, 32, 6), version, is_needed),
+        uid: maybe(pick(seed, 40, 6), uid, is_needed),
+        owner: pick(seed, 48, 8),
+        is_complete: pick(seed, 52, 2) == 0,
+        is_planned: pick(seed, 56, 2) == 0,
+        now: NOW,
+    }
+}
+
+fn is_listed(model: &Model, row: Plain) -> bool {
+    model.find(row.is_job, row.name) == Some(row)
+}
+
+// Whether the store lists just the rows of the model.
+fn lists_agree(store: &Store, alloc: Global, model: &Model) -> Result<bool, Refusal> {
+    let crons = store.list_crons(alloc)?;
+    let jobs = store.list_jobs(alloc)?;
+    let crons_agree = crons
+        .as_slice()
+        .iter()
+        .all(|cron| is_listed(model, plain_cron(cron)));
+    let jobs_agree = jobs
+        .as_slice()
+        .iter()
+        .all(|job| is_listed(model, plain_job(job)));
+    let count = crons.as_slice().len().saturating_add(jobs.as_slice().len());
+    Ok(crons_agree && jobs_agree && count == model.rows.len())
+}
+
+// Whether the Jobs of the CronJob at the key of that place are those of the model.
+fn owned_agree(
+    store: &Store,
+    alloc: Global,
+    model: &Model,
+    place: usize,
+    key: &Key,
+) -> Result<bool, Refusal> {
+    let jobs = store.jobs_of(alloc, key)?;
+    let owner = place.saturating_add(2);
+    let count = model.rows.iter().filter(|row| row.owner == owner).count();
+    let jobs = jobs.as_slice();
+    let listed = jobs.iter().all(|job| is_listed(model, plain_job(job)));
+    Ok(listed && jobs.len() == count && rise(jobs))
+}
+
+// Whether the objects at the key of that place are those of the model.
+fn reads_agree(store: &Store, model: &Model, place: usize, key: &Key) -> bool {
+    let cron = store.get_cron(key).map(|cron| plain_cron(cron));
+    let job = store.get_job(key).map(|job| plain_job(job));
+    cron == model.find(false, place) && job == model.find(true, place)
+}
+
+fn agrees(store: &Store, alloc: Global, model: &Model, place: usize) -> Result<bool, Refusal> {
+    let key = Key::new(alloc, "default", name_at(place))?;
+    let listed = lists_agree(store, alloc, model)?;
+    let owned = owned_agree(store, alloc, model, place, &key)?;
+    let read = reads_agree(store, model, place, &key);
+    Ok(listed && owned && read && store.version().get() == model.version)
+}
+
+// Whether the call is answered as the model says, and the store then is as the model.
+fn is_right(
+    store: &mut Store,
+    alloc: Global,
+    model: &mut Model,
+    seed: u64,
+) -> Result<bool, Refusal> {
+    let kind = KINDS[pick(seed, 16, 9) % 9];
+    let asked = random_ask(model, kind, seed);
+    let wanted = model.answer(kind, &asked);
+    if call(store, alloc, kind, &asked)? != wanted {
+        return Ok(false);
+    }
+    model.take_in(kind, &asked, wanted)?;
+    agrees(store, alloc, model, pick(seed, 20, 6))
+}
+
+// The first of 10,000 calls that isn't right.
+fn first_wrong(
+    store: &mut Store,
+    alloc: Global,
+    model: &mut Model,
+) -> Result<Option<u64>, Refusal> {
+    let mut seed = 1;
+    for turn in 0..10_000 {
+        seed = next(seed);
+        if !is_right(store, alloc, model, seed)? {
+            return Ok(Some(turn));
+        }
+    }
+    Ok(None)
+}
+
+fn wrong(alloc: Global) -> Result<Option<u64>, Refusal> {
+    let mut store = Store::new(alloc);
+    let mut model = Model::new(alloc);
+    first_wrong(&mut store, alloc, &mut model)
+}
+
+#[test]
+fn agrees_with_a_plain_list(rt: HostRuntime) -> Result<(), Fail> {
+    let wrong = wrong(rt.alloc())?;
+    assert_eq!(rt; wrong, None);
+    Ok(())
+}
