@@ -1,12 +1,10 @@
 -- Only one key is the first of the line.
-use Rattle.std.proofs.Common.{◌≡◌, ℕ, ◌<◌, ◌⊎◌, inl, inr, Bool, true, false, Option, Some, None, refl, sym, ap, ◌∙◌, arith}
-use Rattle.std.specs.Prelude.{List, Result, Ok, Err}
-use Rattle.cj_base.specs.declared.refusal.Refusal.{Refusal}
+use Rattle.std.proofs.Common.{◌≡◌, ℕ, inl, inr, Bool, true, false, Option, Some, None, refl, sym, ap, ◌∙◌, arith}
+use Rattle.std.specs.Prelude.{List, Ok, Err}
 use Rattle.cj_base.specs.declared.refusal.Refusal.TheVariants as No
 use Rattle.cj_types.specs.Keys.{Place}
 use Rattle.cj_queue.specs.Parts.{key_eq}
 use Rattle.cj_queue.proofs.Sets.{eq_true, eq_turned}
-use Rattle.cj_calls.specs.declared.reply.Reply.{Reply}
 use Rattle.cj_calls.specs.declared.reply.Reply.TheVariants as Say
 use Rattle.cj_seats.specs.declared.seat.Seat.{Seat}
 use Rattle.cj_queue_history.specs.Deeds.{Act}

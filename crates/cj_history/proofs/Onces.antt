@@ -1,9 +1,7 @@
 -- Claims and makings by looking back are those by the state.
-use Rattle.std.proofs.Common.{◌≡◌, ℕ, ◌≤◌, ◌==◌, Bool, true, false, cond, List, [], ◌∷◌, length, Option, Some, None, refl, sym, ap, subst, ◌∙◌}
-use Rattle.std.specs.Prelude.{Result, Ok, Err, if◌then◌else◌}
-use Rattle.std.specs.FinMap as map
+use Rattle.std.proofs.Common.{◌≡◌, ℕ, ◌==◌, cond, List, [], ◌∷◌, Option, Some, None, refl, sym, ap, subst, ◌∙◌}
+use Rattle.std.specs.Prelude.{Result, Ok, Err}
 use Rattle.cj_base.specs.declared.refusal.Refusal.{Refusal}
-use Rattle.cj_types.specs.Keys.{Place}
 use Rattle.cj_types.specs.declared.cron.CronJob.{CronJob}
 use Rattle.cj_types.specs.declared.event.Event.{Event}
 use Rattle.cj_store.specs.Content.{Content}
@@ -51,19 +49,17 @@ makes_same window (e ∷ h) l =
 
 once_same : (window : ℕ) (h : List Told) → IsLegal window h → state.Once window h → Once h
 once_same window [] l o = tt
-once_same window (e ∷ h) l o =
-    (
-      (λ m. let c = o.0 m in (c.0, sym (claim_same window h l.2 e.caller.number) ∙ c.1, subst (IsNew c.0) (makes_same window h l.2) c.2)),
-      once_same window h l.2 o.1,
-    )
+once_same window (e ∷ h) l o = (
+  (λ m. let c = o.0 m in (c.0, sym (claim_same window h l.2 e.caller.number) ∙ c.1, subst (IsNew c.0) (makes_same window h l.2) c.2)),
+  once_same window h l.2 o.1,
+)
 
 alone_same : (window : ℕ) (h : List Told) → IsLegal window h → state.Alone window h → Alone h
 alone_same window [] l o = tt
-alone_same window (e ∷ h) l o =
-    (
-      (λ m c at strict q j there. o.0 m c (claim_same window h l.2 e.caller.number ∙ at) strict q j ((store_agrees window h l.2).jobs q ∙ there)),
-      alone_same window h l.2 o.1,
-    )
+alone_same window (e ∷ h) l o = (
+  (λ m c at strict q j there. o.0 m c (claim_same window h l.2 e.caller.number ∙ at) strict q j ((store_agrees window h l.2).jobs q ∙ there)),
+  alone_same window h l.2 o.1,
+)
 
 pub once_and_alone : OnceAndAlone
 once_and_alone window h short l planned =

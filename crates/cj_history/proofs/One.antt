@@ -1,6 +1,6 @@
 -- Looking back gives a call one answer.
-use Rattle.std.proofs.Common.{◌≡◌, ℕ, Bool, true, false, List, [], ◌∷◌, Option, Some, None, refl, sym, ap, subst, ◌∙◌}
-use Rattle.std.specs.Prelude.{◌↔◌, Result, Ok, Err}
+use Rattle.std.proofs.Common.{◌≡◌, ℕ, List, [], ◌∷◌, Option, Some, None, sym, ap, subst, ◌∙◌}
+use Rattle.std.specs.Prelude.{Result, Ok}
 use Rattle.cj_types.specs.Keys.{Place}
 use Rattle.cj_types.specs.declared.cron.CronJob.{CronJob}
 use Rattle.cj_types.specs.declared.job.Job.{Job}
@@ -114,8 +114,7 @@ legal_law window h = (lawful window h, legal window h)
 
 pub one_law : OneAnswer
 one_law window h caller call a l =
-    let r : IsLegal window h = legal window h l in
-    (
+    let r : IsLegal window h = legal window h l in (
       (λ p. same_answer window h caller call a (answer_of window h caller call) p (answered window h caller call r)),
       (λ e. subst (λ (x : Answer). IsAnswered window h caller call x) (sym e) (answered window h caller call r)),
     )
