@@ -1,27 +1,15 @@
 -- Only one key is the first of the line.
-use Rattle.std.proofs.Common.{◌≡◌, ℕ, ◌<◌, ◌⊎◌, inl, inr, Bool, true, false, Option, Some, None, refl, sym, ap, ◌∙◌, arith}
-use Rattle.std.specs.Prelude.{List, Result, Ok, Err}
-use Rattle.cj_base.specs.declared.refusal.Refusal.{Refusal}
+use Rattle.std.proofs.Common.{◌≡◌, Bool, true, false, Option, Some, None, refl, sym, ap, ◌∙◌}
+use Rattle.std.specs.Prelude.{List, Ok, Err}
 use Rattle.cj_base.specs.declared.refusal.Refusal.TheVariants as No
 use Rattle.cj_types.specs.Keys.{Place}
 use Rattle.cj_queue.specs.Parts.{key_eq}
 use Rattle.cj_queue.proofs.Sets.{eq_true, eq_turned}
-use Rattle.cj_calls.specs.declared.reply.Reply.{Reply}
 use Rattle.cj_calls.specs.declared.reply.Reply.TheVariants as Say
 use Rattle.cj_seats.specs.declared.seat.Seat.{Seat}
 use Rattle.cj_queue_history.specs.Deeds.{Act}
-use Rattle.cj_queue_history.specs.LookBacks.{Before}
 use Rattle.cj_queue_history.specs.Answers.{Answer, IsFirst, OnTake, TakeSays}
-use Rattle.cj_history.proofs.Lists.{not_both}
-
-both_ways : (p q : ℕ × ℕ) (j k : Place) → Before p j q k → Before q k p j → ⊥
-both_ways p q j k (inl a) (inl b) = omega (arith, a, b)
-both_ways p q j k (inl a) (inr b) = let c = b.0 in omega (arith, a, c)
-both_ways p q j k (inr a) (inl b) = let c = a.0 in omega (arith, c, b)
-both_ways p q j k (inr (e, inl a)) (inr (f, inl b)) = omega (arith, a, b)
-both_ways p q j k (inr (e, inl a)) (inr (f, inr b)) = let c = b.0 in omega (arith, a, c)
-both_ways p q j k (inr (e, inr a)) (inr (f, inl b)) = let c = a.0 in omega (arith, c, b)
-both_ways p q j k (inr (e, inr a)) (inr (f, inr b)) = not_both j k a.1 b.1
+use Rattle.cj_queue_history.proofs.Firsts.{both_ways}
 
 one_first : (h : List Act) (j k : Place) → IsFirst h j → IsFirst h k → j ≡ k
 one_first h j k p q = by (key_eq j k) refl

@@ -8,7 +8,7 @@ use Rattle.std.specs.declared.cmp.Ordering.TheVariants.{Less, Equal, Greater}
 use Rattle.cj_types.specs.Keys.{Place, place_cmp}
 use Rattle.cj_table.proofs.Order.{places_total}
 use Rattle.cj_queue.specs.Parts.{key_eq}
-use Rattle.cj_queue.proofs.Sets.{eq_is, eq_true, eq_self, eq_turned}
+use Rattle.cj_queue.proofs.Sets.{eq_is, eq_true, eq_self}
 use Rattle.cj_store_history.specs.Lists.{found, Rises, IsListing}
 
 never_less : (o : Ordering) → o ≡ Less → is_eq o ≡ true → ⊥

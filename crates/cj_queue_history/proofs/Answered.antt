@@ -28,7 +28,7 @@ use Rattle.cj_queue_history.specs.LookBacks.{queued, since, RisesBy}
 use Rattle.cj_queue_history.specs.Laws.{IsQueue}
 use Rattle.cj_queue_history.specs.Answers.{IsFirst, NoneQueued, OnTake, TakeSays, on_end, on_finish, Says, AnswerLaw}
 use Rattle.cj_queue_history.proofs.Rows.{itself}
-use Rattle.cj_queue_history.proofs.Whole.{queue_agrees}
+use Rattle.cj_queue_history.proofs.Agreed.{queue_agrees}
 
 module _ (h : List Act) (s : State) (is : IsQueue h s.queue) where
   -- a key that stands in the list, and isn't its first, stands behind it

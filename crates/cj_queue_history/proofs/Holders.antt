@@ -18,14 +18,8 @@ use Rattle.cj_seats.specs.declared.seat.Seat.{Seat}
 use Rattle.cj_legal.specs.Seats.{seat, seat_after, accepted, at_phase, on}
 use Rattle.cj_queue_history.specs.Deeds.{Deed, adds, ticks, takes, ends, fails, shuts, nothing, deed}
 use Rattle.cj_queue_history.specs.LookBacks.{is_take, is_finish, is_by}
+use Rattle.cj_queue_history.specs.Calls.{sits}
 use Rattle.cj_queue_history.proofs.Turns.{key_of}
-
--- what a deed of a caller leaves of the key that it holds
-abbrev pub sits : Deed → Option Place → Option Place
-sits (takes k) was = Some k
-sits (ends n) was = None
-sits (fails n) was = None
-sits d was = was
 
 abbrev pub holds : Option Place → Place → Bool
 holds None k = false

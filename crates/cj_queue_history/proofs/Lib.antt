@@ -4,5 +4,7 @@ pub mod Readies
 pub mod Steps
 pub mod Holders
 pub mod Whole
+pub mod Firsts
+pub mod Agreed
 pub mod Answered
 pub mod Sample

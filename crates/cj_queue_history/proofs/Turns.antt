@@ -15,7 +15,7 @@ use Rattle.cj_store.specs.Change.{map_ok, cron_added, cron_modified, cron_gone, 
 use Rattle.cj_store.specs.Crons.{cron_created, cron_updated, cron_deleted}
 use Rattle.cj_store.specs.Jobs.{job_created, job_updated, job_deleted, job_ended}
 use Rattle.cj_watch.specs.Log.{since}
-use Rattle.cj_queue.specs.Queue.{Queue, first, added, taken, ticked, closed, finished_ok, finished_retry}
+use Rattle.cj_queue.specs.Queue.{first}
 use Rattle.cj_decide.specs.Decision.{Planned}
 use Rattle.cj_decide.specs.declared.start.Claim.{Claim}
 use Rattle.cj_status.specs.declared.refs.JobRef.{JobRef}
@@ -34,32 +34,15 @@ use Rattle.cj_seats.specs.declared.seat.Phase.{Phase}
 use Rattle.cj_seats.specs.declared.seat.Phase.TheVariants.{Held, Seen, Listed, Checked, Works}
 use Rattle.cj_seats.specs.declared.seat.Seat.{Seat}
 use Rattle.cj_state.specs.declared.state.State.{State}
-use Rattle.cj_state.specs.Moves.{Moved, refused, by_seat, seat_of, take, take_by, take_first, see_cron, see_cron_in, see_jobs, see_jobs_in, see_active, see_active_in, claim, claim_in, claim_where, claims, wrote, drop_next, drop_in, drop_where, drops_it, make_next, make_in, make_where, steps_on, event_reply, version_reply, set_status, status_in, status_where, sets_it, finish, finish_in, finish_work, next_ms}
+use Rattle.cj_state.specs.Moves.{Moved, refused, by_seat, seat_of, take, take_by, take_first, see_cron, see_cron_in, see_jobs, see_jobs_in, see_active, see_active_in, claim, claim_in, claim_where, claims, wrote, drop_next, drop_in, drop_where, drops_it, make_next, make_in, make_where, steps_on, event_reply, version_reply, set_status, status_in, status_where, sets_it, finish, finish_in, finish_work}
 use Rattle.cj_state.specs.Step.{writes, found_cron, found_job, told_events, step_of, by_role, by_reader, by_user, by_runner, by_worker, by_informer}
 use Rattle.cj_queue_history.specs.Deeds.{Deed, adds, ticks, takes, ends, fails, shuts, nothing, deed}
+use Rattle.cj_queue_history.specs.Calls.{called}
 
 -- the key of a seat
 abbrev pub key_of : Option Seat → Option Place
 key_of None = None
 key_of (Some s) = Some s.key
-
-abbrev pub ended_ok : Option Place → Queue → Option ℕ → Queue
-ended_ok None q next = q
-ended_ok (Some k) q next = finished_ok q k (next_ms next)
-
-abbrev pub ended_retry : Option Place → Queue → ℕ → Queue
-ended_retry None q now = q
-ended_retry (Some k) q now = finished_retry q k now
-
--- the queue after a deed of a caller who holds this key
-abbrev pub stepped : Deed → Option Place → Queue → Queue
-stepped (adds k) t q = added q k
-stepped (ticks now) t q = ticked q now
-stepped (takes k) t q = taken q
-stepped (ends next) t q = ended_ok t q next
-stepped (fails now) t q = ended_retry t q now
-stepped shuts t q = closed q
-stepped nothing t q = q
 
 -- a take is of the first of the line, by one who holds no key; an end is by one who holds one
 abbrev pub May : Deed → Option Place → List Place → Type 0
@@ -69,13 +52,13 @@ May (fails n) t line = (u : Place) × (t ≡ Some u)
 May d t line = Unit {0}
 
 pub record Turns (x : Option Seat) (call : Call) (s : State) (m : Moved) : Type 0 where
-  pub queue : m.state.queue ≡ stepped (deed x call m.answer) (key_of x) s.queue
+  pub queue : m.state.queue ≡ called (deed x call m.answer) (key_of x) s.queue
   pub may : May (deed x call m.answer) (key_of x) s.queue.row.line
 
 module _ {x : Option Seat} {call : Call} {s : State} where
   idle : (m : Moved) → deed x call m.answer ≡ nothing → m.state.queue ≡ s.queue → Turns x call s m
   idle m e f = record {
-    queue = f ∙ ap (λ d. stepped d (key_of x) s.queue) (sym e);
+    queue = f ∙ ap (λ d. called d (key_of x) s.queue) (sym e);
     may = by (deed x call m.answer) e;
   }
     where

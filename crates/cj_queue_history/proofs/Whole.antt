@@ -1,31 +1,24 @@
--- The queue of the state and the acts of the list agree.
+-- What a call leaves of the queue is what the acts with its act say.
 use Rattle.std.proofs.Common.{◌≡◌, ℕ, ◌+◌, ◌*◌, ◌^◌, ◌<◌, ◌≤◌, ◌==◌, inl, Bool, true, false, cond, not, ◌&&◌, ◌||◌, List, [], ◌∷◌, length, Option, Some, None, is_some, refl, sym, ap, ◌∙◌, subst, arith}
-use Rattle.std.specs.Prelude.{min, max, nat_le, unwrap_or, Result}
+use Rattle.std.specs.Prelude.{min, max, nat_le, unwrap_or}
 use Rattle.std.proofs.Math.Pow.{pow_mono}
 use Rattle.std.proofs.lemmas.Bool.{cond_both}
 use Rattle.std.proofs.lemmas.Bool.Decides.{nat_tests}
 use Rattle.std.specs.FinMap.{FinMap, get, insert, remove, get-empty}
-use Rattle.cj_base.specs.declared.refusal.Refusal.{Refusal}
 use Rattle.cj_types.specs.Keys.{Place, place_cmp}
 use Rattle.cj_queue.specs.Parts.{key_eq, stands_in}
 use Rattle.cj_queue.specs.Times.{ready, waits_for}
-use Rattle.cj_queue.specs.Queue.{Queue, first, row_add, ended, added_after, added_where, forgotten, failures_of, delay, with_row, with_waiting}
+use Rattle.cj_queue.specs.Queue.{new_queue, Queue, first, row_add, ended, added_after, added_where, forgotten, failures_of, delay, with_row, with_waiting}
 use Rattle.cj_queue.proofs.Sets.{eq_true, eq_self, eq_turned, get_put, get_off}
-use Rattle.cj_calls.specs.declared.reply.Reply.{Reply}
-use Rattle.cj_calls.specs.Rows.{Told}
-use Rattle.cj_seats.specs.declared.seat.Seat.{Seat}
-use Rattle.cj_state.specs.Moves.{seat_of, next_ms}
-use Rattle.cj_state.specs.Step.{step_of}
-use Rattle.cj_state.specs.Legal.{IsLegal, state_of}
-use Rattle.cj_legal.specs.Seats.{seat}
-use Rattle.cj_legal.proofs.Seated.{seats_agree}
-use Rattle.cj_queue_history.specs.Deeds.{Deed, adds, ticks, takes, ends, fails, shuts, nothing, deed, Act, acts}
+use Rattle.cj_state.specs.Moves.{next_ms}
+use Rattle.cj_queue_history.specs.Deeds.{Deed, adds, ticks, takes, ends, fails, shuts, nothing, Act}
 use Rattle.cj_queue_history.specs.LookBacks.{is_take, is_by, is_shut, marks, counts, later_in, is_within, waits_in, adds_in, time_of, time_in, holder, dirty, queued, since, shut, mark, failures, ready_at}
-use Rattle.cj_queue_history.specs.Laws.{QueueLaw}
-use Rattle.cj_queue_history.proofs.Turns.{key_of, stepped, May, Turns, turns}
+use Rattle.cj_queue_history.specs.Laws.{IsQueue}
+use Rattle.cj_queue_history.specs.Calls.{called, sits}
+use Rattle.cj_queue_history.proofs.Turns.{May}
 use Rattle.cj_queue_history.proofs.Rows.{on, off, line_by, ranked, row_same, row_add_is, row_adds_is, row_take_is, rises_alike, itself}
 use Rattle.cj_queue_history.proofs.Readies.{members, rises, get_without}
-use Rattle.cj_queue_history.proofs.Holders.{holds, holder_after, MayTake, tie_step, sits, free, next_key}
+use Rattle.cj_queue_history.proofs.Holders.{holds, holder_after, MayTake, tie_step, free}
 use Rattle.cj_queue_history.proofs.Steps.{Part, end_part}
 
 abbrev held_by : (Place → Option ℕ) → Place → Bool
@@ -54,7 +47,7 @@ After d v n D O R F W m s q = Part (dirty_after d v D O F W m s) (held_after d v
 
 -- ---- the first of the line
 
-first_is : (l : List Place) (j : Place) → first l ≡ Some j → (ys : List Place) × (l ≡ j ∷ ys)
+pub first_is : (l : List Place) (j : Place) → first l ≡ Some j → (ys : List Place) × (l ≡ j ∷ ys)
 first_is [] j e = absurd (cc e)
 first_is (x ∷ ys) j e = (ys, ap (λ k. k ∷ ys) (let i : x ≡ j = cc in i))
 
@@ -105,7 +98,7 @@ none_within o n e = ap (λ x. cond (is_within x n) None x) e ∙ sym e
 pub step : (d : Deed) (v n : ℕ) (D : Place → Bool) (O : Place → Option ℕ) (R : Place → ℕ × ℕ) (F : Place → ℕ) (W : Place → Option ℕ) (m : ℕ) (s : Bool) (t : Option Place) (q : Queue)
     → ((k : Place) → (R k).0 < n) → ((k : Place) → s ≡ true → W k ≡ None) → ((k : Place) → is_by (O k) v ≡ holds t k) → May d t q.row.line
     → ((k : Place) → failures_of q k ≡ min (F k) 18)
-    → Part D (held_by O) R W m s q → After d v n D O R F W m s (stepped d t q)
+    → Part D (held_by O) R W m s q → After d v n D O R F W m s (called d t q)
 step (adds j) v n D O R F W m true t q low quiet tie fit fs is =
     subst (After (adds j) v n D O R F W m true) (sym (on q.shut q _ is.shut)) (record {
       row = row_same D (held_by O) (dirty_after (adds j) v D O F W m true) (held_after (adds j) v O) R (since_after (adds j) v n D O R F W m true) (rank_in (adds j) n W) (λ k. refl) q.row q.row is.row refl is.row.dirty is.row.held (λ k. refl);
@@ -246,7 +239,7 @@ count_retry now false f g a e h = e
 
 pub failures_step : (d : Deed) (v : ℕ) (O : Place → Option ℕ) (F : Place → ℕ) (t : Option Place) (q : Queue)
     → ((k : Place) → is_by (O k) v ≡ holds t k) → ((k : Place) → failures_of q k ≡ min (F k) 18)
-    → (k : Place) → failures_of (stepped d t q) k ≡ min (counts d (is_by (O k) v) (F k)) 18
+    → (k : Place) → failures_of (called d t q) k ≡ min (counts d (is_by (O k) v) (F k)) 18
 failures_step (adds j) v O F t q tie fs k = ap (λ m. unwrap_or (get m k) 0) (one_of q.shut q q (with_row q (row_add q.row j)) refl refl) ∙ fs k
 failures_step (ticks ms) v O F t q tie fs k = ap (λ m. unwrap_or (get m k) 0) (one_of q.shut q _ _ refl refl) ∙ fs k
 failures_step (takes j) v O F t q tie fs k = fs k
@@ -299,6 +292,29 @@ pub record Stands (h : List Act) (keys : ℕ → Option Place) (q : Queue) : Typ
   pub failed : (k : Place) → failures_of q k ≡ min (failures h k) 18
   pub tied : (k : Place) (w : ℕ) → is_by (holder h k) w ≡ holds (keys w) k
 
+pub stands_nothing : Stands [] (λ w. None) new_queue
+stands_nothing = record {
+  part = record {
+    row = record { dirty = λ k. ap is_some (get-empty place_cmp k); held = λ k. ap is_some (get-empty place_cmp k); members = λ k. refl; order = tt };
+    waits = λ k. get-empty place_cmp k;
+    tick = refl;
+    shut = refl;
+  };
+  failed = λ k. ap (λ o. unwrap_or o 0) (get-empty place_cmp k);
+  tied = λ k w. refl;
+}
+
+pub is_queue : (h : List Act) (keys : ℕ → Option Place) (q : Queue) → Stands h keys q → IsQueue h q
+is_queue h keys q s = record {
+  line = record { members = s.part.row.members; order = s.part.row.order };
+  dirty = s.part.row.dirty;
+  held = s.part.row.held;
+  waits = s.part.waits;
+  failed = s.failed;
+  tick = s.part.tick;
+  shut = s.part.shut;
+}
+
 -- one act more
 may_take : (d : Deed) (t : Option Place) (h : List Act) (keys : ℕ → Option Place) (q : Queue) → Stands h keys q → May d t q.row.line → MayTake d t (holder h)
 may_take (takes j) t h keys q f may =
@@ -310,62 +326,11 @@ may_take (ticks n) t h keys q f may = tt
 may_take shuts t h keys q f may = tt
 may_take nothing t h keys q f may = tt
 
-one_more : (h : List Act) (v : ℕ) (d : Deed) (keys after : ℕ → Option Place) (q : Queue) → ((w : ℕ) → after w ≡ cond (v == w) (sits d (keys w)) (keys w))
-    → May d (keys v) q.row.line → Stands h keys q → Stands (record { by = v; deed = d } ∷ h) after (stepped d (keys v) q)
+pub one_more : (h : List Act) (v : ℕ) (d : Deed) (keys after : ℕ → Option Place) (q : Queue) → ((w : ℕ) → after w ≡ cond (v == w) (sits d (keys w)) (keys w))
+    → May d (keys v) q.row.line → Stands h keys q → Stands (record { by = v; deed = d } ∷ h) after (called d (keys v) q)
 one_more h v d keys after q next may f = record {
   part = step d v (length (record { by = v; deed = d } ∷ h)) (dirty h) (holder h) (since h) (failures h) (ready_at h) (mark h) (shut h) (keys v) q
       (next_low h (record { by = v; deed = d })) (quiet h) (λ k. f.tied k v) may f.failed f.part;
   failed = failures_step d v (holder h) (failures h) (keys v) q (λ k. f.tied k v) f.failed;
   tied = λ k w. tie_step d v w k (holder h) keys f.tied (may_take d (keys v) h keys q f may) ∙ ap (λ o. holds o k) (sym (next w));
 }
-
-abbrev pub keys_of : List Told → ℕ → Option Place
-keys_of h w = key_of (seat h w)
-
--- the act of an entry of a legal history
-abbrev pub entry_deed : Told → List Told → Deed
-entry_deed e h = deed (seat h e.caller.number) e.call e.answer
-
-module _ (window : ℕ) (e : Told) (h : List Told) (l : IsLegal window (e ∷ h)) where
-  seat_same : seat_of (state_of window h) e.caller.number ≡ seat h e.caller.number
-  seat_same = seats_agree window h l.2 e.caller.number
-
-  turned : Turns (seat h e.caller.number) e.call (state_of window h) (step_of (state_of window h) e.caller e.call)
-  turned = subst (λ (o : Option Seat). Turns o e.call (state_of window h) (step_of (state_of window h) e.caller e.call)) seat_same (turns (state_of window h) e.caller e.call)
-
-  deed_same : deed (seat h e.caller.number) e.call (step_of (state_of window h) e.caller e.call).answer ≡ entry_deed e h
-  deed_same = ap (λ (a : Result Reply Refusal). deed (seat h e.caller.number) e.call a) (sym l.0)
-
-  queue_after : (state_of window (e ∷ h)).queue ≡ stepped (entry_deed e h) (keys_of h e.caller.number) (state_of window h).queue
-  queue_after = turned.queue ∙ ap (λ d. stepped d (keys_of h e.caller.number) (state_of window h).queue) deed_same
-
-  may_after : May (entry_deed e h) (keys_of h e.caller.number) (state_of window h).queue.row.line
-  may_after = subst (λ (d : Deed). May d (keys_of h e.caller.number) (state_of window h).queue.row.line) deed_same turned.may
-
-pub stands : (window : ℕ) (h : List Told) → IsLegal window h → Stands (acts h) (keys_of h) (state_of window h).queue
-stands window [] l = record {
-  part = record {
-    row = record { dirty = λ k. ap is_some (get-empty place_cmp k); held = λ k. ap is_some (get-empty place_cmp k); members = λ k. refl; order = tt };
-    waits = λ k. get-empty place_cmp k;
-    tick = refl;
-    shut = refl;
-  };
-  failed = λ k. ap (λ o. unwrap_or o 0) (get-empty place_cmp k);
-  tied = λ k w. refl;
-}
-stands window (e ∷ h) l =
-    subst (λ (q : Queue). Stands (acts (e ∷ h)) (keys_of (e ∷ h)) q) (sym (queue_after window e h l))
-    (one_more (acts h) e.caller.number (entry_deed e h) (keys_of h) (keys_of (e ∷ h)) (state_of window h).queue (next_key e h) (may_after window e h l) (stands window h l.2))
-
-pub queue_agrees : QueueLaw
-queue_agrees window h l =
-    let s = stands window h l in
-    record {
-      line = record { members = s.part.row.members; order = s.part.row.order };
-      dirty = s.part.row.dirty;
-      held = s.part.row.held;
-      waits = s.part.waits;
-      failed = s.failed;
-      tick = s.part.tick;
-      shut = s.part.shut;
-    }

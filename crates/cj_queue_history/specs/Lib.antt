@@ -2,3 +2,4 @@ pub mod Deeds
 pub mod LookBacks
 pub mod Laws
 pub mod Answers
+pub mod Calls

@@ -1,4 +1,5 @@
 ghost use Rattle.cj_queue_history.specs.Answers.{AnswerLaw};
+ghost use Rattle.cj_queue_history.specs.Calls.{ActLaw, FitLaw};
 ghost use Rattle.cj_queue_history.specs.Laws.{QueueLaw};
 
 /// After any history the queue's line are the keys that were added and not taken since, without those that are held, in the
@@ -12,4 +13,11 @@ pub fn queue_law()
 /// is none, and whether the queue is shut; and each other call of the queue as its caller's own entries say.
 pub fn answer_law()
     ensures { AnswerLaw }
+{}
+
+/// The calls of the queue that the acts of a history stand for leave its queue; and those of any acts leave what looking back
+/// over them says, where each take is of the first of the line by one who holds no key, and each end by one who holds one.
+pub fn call_law()
+    ensures acts { ActLaw }
+    ensures fit { FitLaw }
 {}

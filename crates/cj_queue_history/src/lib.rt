@@ -3,4 +3,4 @@
 
 mod laws;
 
-pub use laws::{answer_law, queue_law};
+pub use laws::{answer_law, call_law, queue_law};

@@ -1,4 +1,4 @@
-use Rattle.cj_queue_history.proofs.Whole.{queue_agrees}
+use Rattle.cj_queue_history.proofs.Agreed.{queue_agrees}
 use Rattle.cj_queue_history.proofs.Sample.{legal_take, not_twice, is_held, waits_first, not_yet, failed_once, then_queued, since_then, waits_no_more, held_again}
 use Rattle.cj_queue_history.proofs.laws.queue_law.Goals as goal
 

@@ -1,0 +1,8 @@
+use Rattle.cj_queue_history.proofs.Agreed.{acts_agree, fits_agree}
+use Rattle.cj_queue_history.proofs.laws.call_law.Goals as goal
+
+pub returns-clause-acts : goal.returns-clause-acts
+returns-clause-acts c = acts_agree
+
+pub returns-clause-fit : goal.returns-clause-fit
+returns-clause-fit c = fits_agree
