@@ -1,5 +1,5 @@
 -- What the answer of a step prints.
-use Rattle.std.specs.Prelude.{ℕ, List, ◌++◌, codes, count_by, is_some, length, Option, Some, None, Result, Ok, Err}
+use Rattle.std.specs.Prelude.{ℕ, List, ◌++◌, codes, filter, is_some, length, Option, Some, None, Result, Ok, Err}
 use Rattle.std.specs.Fmt.{decimal}
 use Rattle.cj_base.specs.declared.refusal.Refusal.{Refusal}
 use Rattle.cj_types.specs.declared.job.Job.{Job}
@@ -53,6 +53,10 @@ abbrev pub seen_text : {A : Type 0} → Option A → List ℕ
 seen_text None = codes "ok none"
 seen_text (Some cron) = codes "ok"
 
+-- how many of the Jobs are there
+abbrev pub found : List (Option Job) → ℕ
+found jobs = length (filter is_some jobs)
+
 unfoldable pub reply_text : Verb → Reply → List ℕ
 reply_text verb (Is.Cron cron) = version_text cron.meta.version
 reply_text verb (Is.Job job) = job_text verb job
@@ -64,7 +68,7 @@ reply_text verb Is.Done = codes "ok"
 reply_text verb (Is.Key key) = key_text key
 reply_text verb (Is.SeenCron cron) = seen_text cron
 reply_text verb (Is.SeenJobs jobs) = count_text (length jobs)
-reply_text verb (Is.SeenActive jobs) = count_text (count_by is_some jobs)
+reply_text verb (Is.SeenActive jobs) = count_text (found jobs)
 reply_text verb (Is.Claimed claimed) = claimed_text claimed
 reply_text verb (Is.Dropped dropped) = dropped_text dropped
 

@@ -1,5 +1,5 @@
 // What a step's answer prints.
-ghost use Rattle.std.specs.Prelude.{◌≡◌, IfOk, IfErr, string_bytes, count_by, is_some, length};
+ghost use Rattle.std.specs.Prelude.{◌≡◌, IfOk, IfErr, string_bytes};
 ghost use Rattle.cj_base.specs.declared.refusal.Refusal.TheVariants.{OutOfMemory};
 ghost use Rattle.cj_lines.specs.Answers as said;
 
@@ -86,10 +86,17 @@ fn job_text(alloc: Global, verb: Verb, job: &Job) -> Result<String, Refusal>
     }
 }
 
+// How many of them are there.
 fn found(jobs: &[Option<Shared<Job>>]) -> usize
-    ensures { result ≡ count_by is_some jobs.now }
+    ensures { result ≡ said.found jobs.now }
 {
-    jobs.iter().filter(|job| job.is_some()).count()
+    let mut count = 0;
+    for job in jobs {
+        if job.is_some() {
+            count += 1;
+        }
+    }
+    count
 }
 
 #[tactic(auto, unfolding(crate::specs::Answers::reply_text))]

@@ -2,9 +2,9 @@
 #![tactic(auto)]
 
 mod answers;
+mod line;
 mod objects;
-mod step_line;
 mod words;
 
+pub use line::step_line;
 pub use objects::objects_text;
-pub use step_line::step_line;

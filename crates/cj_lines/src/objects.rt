@@ -22,8 +22,8 @@ fn cron_line(alloc: Global, cron: &CronJob) -> Result<String, Refusal>
     ensures ok { IfOk result (λ s. string_bytes s ≡ said.cron_line cron.now) }
     ensures err { IfErr result (λ e. e ≡ OutOfMemory) }
 {
-    let namespace = cron.key.namespace();
-    let name = cron.key.name();
+    let namespace = cron.key.key().namespace();
+    let name = cron.key.key().name();
     let last = moment_text(alloc, cron.status.last_schedule_time)?;
     let last = last.as_str();
     let success = moment_text(alloc, cron.status.last_successful_time)?;

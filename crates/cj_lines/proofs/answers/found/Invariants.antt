@@ -1,0 +1,9 @@
+use Rattle.std.proofs.Common.{◌≡◌, ◌≤◌, take}
+use Rattle.cj_lines.specs.Answers.{found}
+use Rattle.cj_lines.proofs.answers.found.Given as goal
+
+abbrev pub invariant-loop-job : goal.invariant-loop-job
+invariant-loop-job l = record {
+  counted : l.count ≡ found (take l.job-index l.jobs);
+  below : l.count ≤ l.job-index;
+}
