@@ -1,5 +1,5 @@
 use crate::samples::Sample;
-use cj_types::{CronJobDraft, Event, JobDraft, Reasons, Refusal, Same, TryCopy};
+use cj_types::{CronJobDraft, Event, Heap, JobDraft, Reasons, Refusal, Same, TryCopy};
 use std::alloc::Global;
 use std::test::Fail;
 
@@ -8,19 +8,19 @@ fn is_told<T: Sample + TryCopy + Same + Drop>(
     alloc: Global,
     change: u8,
     other_change: u8,
-) -> Result<bool, Fail> {
-    let value = T::sample(alloc, change)?;
-    let other = T::sample(alloc, other_change)?;
-    let copy = value.try_copy(alloc)?;
-    let is_same = copy.same(&other);
-    Ok(is_same == (change == other_change) && other.same(&value) == is_same)
+) -> Result<bool, Refusal> {
+    let value = Heap::new(alloc, T::sample(alloc, change)?)?;
+    let other = Heap::new(alloc, T::sample(alloc, other_change)?)?;
+    let copy = value.get().try_copy(alloc)?;
+    let is_same = copy.same(other.get());
+    Ok(is_same == (change == other_change) && other.get().same(value.get()) == is_same)
 }
 
 // The first two of so many changes that copies and comparisons don't tell apart, or don't find the same.
 fn first_wrong<T: Sample + TryCopy + Same + Drop>(
     alloc: Global,
     changes: u8,
-) -> Result<Option<(u8, u8)>, Fail> {
+) -> Result<Option<(u8, u8)>, Refusal> {
     for change in 0..=changes {
         for other in 0..=changes {
             if !is_told::<T>(alloc, change, other)? {
@@ -34,21 +34,25 @@ fn first_wrong<T: Sample + TryCopy + Same + Drop>(
 // An event holds every stored type; the changes go through all of them.
 #[test]
 fn tells_events(rt: HostRuntime) -> Result<(), Fail> {
-    assert_eq!(rt; first_wrong::<Event>(rt.alloc(), 64)?, None);
+    let wrong = first_wrong::<Event>(rt.alloc(), 64)?;
+    assert_eq!(rt; wrong, None);
     Ok(())
 }
 
 #[test]
 fn tells_drafts(rt: HostRuntime) -> Result<(), Fail> {
-    let alloc = rt.alloc();
-    assert_eq!(rt; first_wrong::<CronJobDraft>(alloc, 8)?, None);
-    assert_eq!(rt; first_wrong::<JobDraft>(alloc, 4)?, None);
+    let wrong = first_wrong::<CronJobDraft>(rt.alloc(), 8)?;
+    assert_eq!(rt; wrong, None);
+    let wrong = first_wrong::<JobDraft>(rt.alloc(), 4)?;
+    assert_eq!(rt; wrong, None);
     Ok(())
 }
 
 #[test]
 fn tells_reasons_and_refusals(rt: HostRuntime) -> Result<(), Fail> {
-    assert_eq!(rt; first_wrong::<Reasons>(rt.alloc(), 4)?, None);
-    assert_eq!(rt; first_wrong::<Refusal>(rt.alloc(), 18)?, None);
+    let wrong = first_wrong::<Reasons>(rt.alloc(), 4)?;
+    assert_eq!(rt; wrong, None);
+    let wrong = first_wrong::<Refusal>(rt.alloc(), 18)?;
+    assert_eq!(rt; wrong, None);
     Ok(())
 }

@@ -1,5 +1,6 @@
+use crate::rows::{Question, first_wrong, halves};
 use crate::samples::read_labels;
-use cj_types::Labels;
+use cj_types::{Labels, Refusal};
 use std::alloc::Global;
 use std::test::Fail;
 
@@ -17,41 +18,61 @@ a=1 B=2 _=3 é=4 -=5 0=6|-=5 0=6 B=2 _=3 a=1 é=4
 a/b=1 a.b=2 a-b=3|a-b=3 a.b=2 a/b=1
 a= =b|=b a=";
 
-// The entries, as the table has them.
-fn printed(alloc: Global, labels: &Labels) -> Result<String, Fail> {
-    let mut text = String::new(alloc);
+/// Writes the entries, as the table has them.
+pub fn write_labels(labels: &Labels, text: &mut String) -> Result<(), Refusal> {
+    let mut gap = "";
     for (name, value) in labels.as_slice() {
-        if !text.is_empty() {
-            text.push(' ')?;
-        }
-        write!(text, "{}={}", name.as_str(), value.as_str())?;
-    }
-    Ok(text)
-}
-
-#[test]
-fn keeps_entries_by_name(rt: HostRuntime) -> Result<(), Fail> {
-    let alloc = rt.alloc();
-    for row in PUT.lines() {
-        let (words, entries) = row.split_once('|').ok_or("a row without entries")?;
-        let labels = read_labels(alloc, words)?;
-        assert_eq!(rt; printed(alloc, &labels)?.as_str(), entries, "{row}");
-        assert_eq!(rt; labels.is_empty(), entries == "", "{row}");
+        write!(text, "{gap}{}={}", name.as_str(), value.as_str())?;
+        gap = " ";
     }
     Ok(())
 }
 
-fn value_at(labels: &Labels, name: &str, value: &str) -> bool {
-    labels
-        .get(name)
-        .is_some_and(|found| found.as_str() == value)
+struct Entries;
+
+impl Question for Entries {
+    fn answer(alloc: Global, words: &str, text: &mut String) -> Result<(), Refusal> {
+        let labels = read_labels(alloc, words)?;
+        if labels.is_empty() && words != "" {
+            return Err(Refusal::Empty);
+        }
+        write_labels(&labels, text)
+    }
+}
+
+#[test]
+fn keeps_entries_by_name(rt: HostRuntime) -> Result<(), Fail> {
+    let wrong = first_wrong::<Entries>(rt.alloc(), PUT)?;
+    assert_eq!(rt; wrong, None);
+    Ok(())
+}
+
+// Entries, a name behind a `?`, and its value.
+const FOUND: &str = "\
+k=old app=c k=new?k|new
+k=old app=c k=new?app|c
+k=old app=c k=new?j|none
+k=old app=c k=new?|none
+k=old app=c k=new?kk|none
+k=old app=c k=new?ap|none";
+
+struct Value;
+
+impl Question for Value {
+    fn answer(alloc: Global, words: &str, text: &mut String) -> Result<(), Refusal> {
+        let (words, name) = halves(words, '?')?;
+        let labels = read_labels(alloc, words)?;
+        match labels.get(name) {
+            Some(value) => text.push_str(value.as_str())?,
+            None => text.push_str("none")?,
+        }
+        Ok(())
+    }
 }
 
 #[test]
 fn finds_entries(rt: HostRuntime) -> Result<(), Fail> {
-    let labels = read_labels(rt.alloc(), "k=old app=c k=new")?;
-    assert!(rt; value_at(&labels, "k", "new") && value_at(&labels, "app", "c"));
-    assert!(rt; labels.get("j").is_none() && labels.get("").is_none());
-    assert!(rt; labels.get("kk").is_none() && labels.get("ap").is_none());
+    let wrong = first_wrong::<Value>(rt.alloc(), FOUND)?;
+    assert_eq!(rt; wrong, None);
     Ok(())
 }

@@ -1,5 +1,8 @@
+use crate::rows::{Question, first_wrong, halves};
 use crate::samples::Sample;
-use cj_types::{DraftMeta, Job, Meta, Outcome, OwnerRef, OwnerRefs, Text, Uid, Version};
+use cj_types::{
+    DraftMeta, Heap, Job, Labels, Meta, OwnerRef, OwnerRefs, Refusal, Seconds, Text, Uid, Version,
+};
 use std::alloc::Global;
 use std::test::Fail;
 
@@ -22,93 +25,130 @@ batch/v1 CronJobs hello *|none
 batch/v1 Job x *, batch/v1 CronJob y *|none
 apps/v1 ReplicaSet x, batch/v1 CronJob y *|y";
 
-// The reference of these words, if they make one.
-fn read_owner(alloc: Global, words: &str) -> Result<OwnerRef, Fail> {
-    let parts: Vec<&str> = words.split(' ').collect(alloc)?;
-    let (api_version, kind, name, controller) = match parts.as_slice() {
-        [version, kind, name] => (*version, *kind, *name, false),
-        [version, kind, name, _] => (*version, *kind, *name, true),
-        _ => ("", "", "", false),
-    };
-    Ok(OwnerRef {
-        api_version: Text::new(alloc, api_version)?,
-        kind: Text::new(alloc, kind)?,
-        name: Text::new(alloc, name)?,
-        uid: Text::new(alloc, "u")?,
-        controller,
-        block_owner_deletion: false,
-    })
+type Pair = Heap<(Text, Text)>;
+
+fn texts(alloc: Global, one: &str, other: &str) -> Result<Pair, Refusal> {
+    let one = Text::new(alloc, one)?;
+    Heap::new(alloc, (one, Text::new(alloc, other)?))
 }
 
-fn read_owners(alloc: Global, text: &str) -> Result<OwnerRefs, Fail> {
+fn owner_of(group: Pair, name: Pair, controller: bool) -> OwnerRef {
+    let (api_version, kind) = group.into_inner();
+    let (name, uid) = name.into_inner();
+    OwnerRef {
+        api_version,
+        kind,
+        name,
+        uid,
+        controller,
+        block_owner_deletion: false,
+    }
+}
+
+// The reference of these words.
+fn read_owner(alloc: Global, words: &str) -> Result<OwnerRef, Refusal> {
+    let (api_version, words) = halves(words, ' ')?;
+    let (kind, name) = halves(words, ' ')?;
+    let group = texts(alloc, api_version, kind)?;
+    match name.strip_suffix(" *") {
+        Some(name) => Ok(owner_of(group, texts(alloc, name, "u")?, true)),
+        None => Ok(owner_of(group, texts(alloc, name, "u")?, false)),
+    }
+}
+
+fn push_owner(owners: &mut OwnerRefs, alloc: Global, words: &str) -> Result<(), Refusal> {
+    owners.push(read_owner(alloc, words)?)
+}
+
+fn read_owners(alloc: Global, text: &str) -> Result<OwnerRefs, Refusal> {
     let mut owners = OwnerRefs::new(alloc);
-    if text != "" {
-        for words in text.split(", ") {
-            owners.push(read_owner(alloc, words)?)?;
-        }
+    if text == "" {
+        return Ok(owners);
+    }
+    for words in text.split(", ") {
+        push_owner(&mut owners, alloc, words)?;
     }
     Ok(owners)
 }
 
-// Whether a Job of these owners names this CronJob.
-fn names_cron(job: Job, owners: OwnerRefs, name: &str) -> bool {
-    let owned = Job { owners, ..job };
-    match owned.cron_name() {
-        Some(cron) => cron.as_str() == name,
-        None => name == "none",
+fn owned(owners: OwnerRefs, job: Heap<Job>) -> Job {
+    Job {
+        owners,
+        ..job.into_inner()
+    }
+}
+
+fn job(alloc: Global, owners: &str) -> Result<Job, Refusal> {
+    let sample = Heap::new(alloc, Job::sample(alloc, 0)?)?;
+    Ok(owned(read_owners(alloc, owners)?, sample))
+}
+
+struct Owner;
+
+impl Question for Owner {
+    fn answer(alloc: Global, words: &str, text: &mut String) -> Result<(), Refusal> {
+        let job = Heap::new(alloc, job(alloc, words)?)?;
+        match job.get().cron_name() {
+            Some(name) => text.push_str(name.as_str())?,
+            None => text.push_str("none")?,
+        }
+        Ok(())
     }
 }
 
 #[test]
 fn finds_the_cron_job_of_a_job(rt: HostRuntime) -> Result<(), Fail> {
-    let alloc = rt.alloc();
-    for row in OWNERS.lines() {
-        let (owners, name) = row.split_once('|').ok_or("a row without a name")?;
-        let job = Job::sample(alloc, 0)?;
-        assert!(rt; names_cron(job, read_owners(alloc, owners)?, name), "{row}");
-    }
+    let wrong = first_wrong::<Owner>(rt.alloc(), OWNERS)?;
+    assert_eq!(rt; wrong, None);
     Ok(())
+}
+
+// The number of a sample of a Job, and whether it is unfinished.
+const OUTCOMES: &str = "\
+5|true
+6|false
+7|false";
+
+struct Unfinished;
+
+impl Question for Unfinished {
+    fn answer(alloc: Global, words: &str, text: &mut String) -> Result<(), Refusal> {
+        let change = words.parse::<u8>().ok().ok_or(Refusal::Syntax)?;
+        let job = Heap::new(alloc, Job::sample(alloc, change)?)?;
+        let is_unfinished = job.get().is_unfinished();
+        write!(text, "{is_unfinished}")?;
+        Ok(())
+    }
 }
 
 #[test]
 fn tells_unfinished_jobs(rt: HostRuntime) -> Result<(), Fail> {
-    let alloc = rt.alloc();
-    assert!(rt; Job::sample(alloc, 5)?.is_unfinished());
-    assert!(rt; !Job::sample(alloc, 6)?.is_unfinished());
-    assert!(rt; !Job::sample(alloc, 7)?.is_unfinished());
-    Ok(())
-}
-
-#[test]
-fn tells_outcomes(rt: HostRuntime) -> Result<(), Fail> {
-    let early = Job::sample(rt.alloc(), 0)?.outcome;
-    let late = Job::sample(rt.alloc(), 7)?.outcome;
-    assert!(rt; early == early && early != late);
-    assert!(rt; early != Some(Outcome::Failed) && late != None);
+    let wrong = first_wrong::<Unfinished>(rt.alloc(), OUTCOMES)?;
+    assert_eq!(rt; wrong, None);
     Ok(())
 }
 
 // The uid and version that a draft gives, `-` for none, and whether they are those of uid 10, version 12.
 const GIVEN: &str = "\
--|-|yes
-00000000-0000-0000-0000-00000000000a|-|yes
--|12|yes
-00000000-0000-0000-0000-00000000000a|12|yes
-00000000-0000-0000-0000-00000000000A|-|no
-00000000-0000-0000-0000-00000000000b|-|no
-00000000-0000-0000-0000-00000000000a|13|no
-00000000-0000-0000-0000-00000000000b|12|no
-a|-|no
-|-|no
--|11|no
--|012|no
--|+12|no
--| 12|no
--|1|no
--||no
-12|12|no";
+- -|true
+00000000-0000-0000-0000-00000000000a -|true
+- 12|true
+00000000-0000-0000-0000-00000000000a 12|true
+00000000-0000-0000-0000-00000000000A -|false
+00000000-0000-0000-0000-00000000000b -|false
+00000000-0000-0000-0000-00000000000a 13|false
+00000000-0000-0000-0000-00000000000b 12|false
+a -|false
+ -|false
+- 11|false
+- 012|false
+- +12|false
+-  12|false
+- 1|false
+- |false
+12 12|false";
 
-fn given(alloc: Global, word: &str) -> Result<Option<Text>, Fail> {
+fn given(alloc: Global, word: &str) -> Result<Option<Text>, Refusal> {
     if word == "-" {
         Ok(None)
     } else {
@@ -116,30 +156,46 @@ fn given(alloc: Global, word: &str) -> Result<Option<Text>, Fail> {
     }
 }
 
-// Whether a draft of these texts is one of uid 10 and version 12.
-fn is_current(alloc: Global, uid: Option<Text>, version: Option<Text>) -> Result<bool, Fail> {
-    let draft = DraftMeta {
+fn draft(alloc: Global, uid: &str, version: &str) -> Result<DraftMeta, Refusal> {
+    let uid = given(alloc, uid)?;
+    let version = given(alloc, version)?;
+    Ok(DraftMeta {
         uid,
         version,
-        ..DraftMeta::sample(alloc, 0)?
-    };
-    let meta = Meta {
-        uid: Uid::new(10).ok_or("uid")?,
+        labels: Labels::new(alloc),
+        annotations: Labels::new(alloc),
+    })
+}
+
+fn standing(alloc: Global) -> Result<Meta, Refusal> {
+    let uid = Uid::new(10).ok_or(Refusal::Syntax)?;
+    let created = Seconds::new(0).ok_or(Refusal::Syntax)?;
+    Ok(Meta {
+        uid,
         version: Version::new(12),
-        ..Meta::sample(alloc, 0)?
-    };
-    Ok(draft.is_current(alloc, &meta)?)
+        generation: 11,
+        created,
+        labels: Labels::new(alloc),
+        annotations: Labels::new(alloc),
+    })
+}
+
+struct Current;
+
+impl Question for Current {
+    fn answer(alloc: Global, words: &str, text: &mut String) -> Result<(), Refusal> {
+        let (uid, version) = halves(words, ' ')?;
+        let draft = Heap::new(alloc, draft(alloc, uid, version)?)?;
+        let meta = Heap::new(alloc, standing(alloc)?)?;
+        let is_current = draft.get().is_current(alloc, meta.get())?;
+        write!(text, "{is_current}")?;
+        Ok(())
+    }
 }
 
 #[test]
 fn tells_current_objects(rt: HostRuntime) -> Result<(), Fail> {
-    let alloc = rt.alloc();
-    for row in GIVEN.lines() {
-        let parts: Vec<&str> = row.split('|').collect(alloc)?;
-        if let [uid, version, answer] = parts.as_slice() {
-            let current = is_current(alloc, given(alloc, uid)?, given(alloc, version)?)?;
-            assert_eq!(rt; current, *answer == "yes", "{row}");
-        }
-    }
+    let wrong = first_wrong::<Current>(rt.alloc(), GIVEN)?;
+    assert_eq!(rt; wrong, None);
     Ok(())
 }

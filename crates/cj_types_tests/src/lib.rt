@@ -1,5 +1,5 @@
-//! Tests of the stored types: what names are accepted, the texts of uids, versions and Jobs' names, the Job that a CronJob
-//! makes, that copies and comparisons see each field, and the table by key.
+//! Tests of the stored types: the texts of uids, versions and Jobs' names, the Job that a CronJob makes, that copies and
+//! comparisons see each field, the order of keys, and the table by key.
 #![tactic(auto)]
 
 #[cfg(test)]
@@ -14,6 +14,8 @@ mod keys;
 mod made;
 #[cfg(test)]
 mod numbers;
+#[cfg(test)]
+mod rows;
 #[cfg(test)]
 mod samples;
 #[cfg(test)]

@@ -1,22 +1,21 @@
 use cj_types::{
     Cause, CronJob, CronJobDraft, CronKey, CronSpec, CronStatus, Deadline, DraftMeta, Event, Field,
-    FieldFault, FieldFaults, HistoryLimit, Job, JobDraft, JobTemplate, Key, Labels, Meta, Names,
-    Object, ObjectName, Outcome, OwnerRef, OwnerRefs, Policy, Reason, Reasons, Refusal, Seconds,
-    Shared, SpecText, Text, Uid, Version,
+    FieldFault, FieldFaults, Heap, HistoryLimit, Job, JobDraft, JobTemplate, Key, Labels, Meta,
+    Names, Object, ObjectName, Outcome, OwnerRef, OwnerRefs, Policy, Reason, Reasons, Refusal,
+    Seconds, Shared, SpecText, Text, Uid, Version,
 };
 use std::alloc::Global;
-use std::test::Fail;
 
 /// A value, and others that differ from it in one place each.
 pub trait Sample {
     /// The value with the change of this number; as it is for 0, and for a number that names none.
-    fn sample(alloc: Global, change: u8) -> Result<Self, Fail>;
+    fn sample(alloc: Global, change: u8) -> Result<Self, Refusal>;
 }
 
 // One of two texts.
-fn text(alloc: Global, is_changed: bool) -> Result<Text, Fail> {
+fn text(alloc: Global, is_changed: bool) -> Result<Text, Refusal> {
     let text = if is_changed { "other" } else { "this" };
-    Ok(Text::new(alloc, text)?)
+    Text::new(alloc, text)
 }
 
 // The change of a part where its own changes begin after this number and are so many; 0 elsewhere.
@@ -25,12 +24,12 @@ fn within(change: u8, after: u8, changes: u8) -> u8 {
     if number <= changes { number } else { 0 }
 }
 
-fn uid(is_changed: bool) -> Result<Uid, Fail> {
-    Ok(Uid::new(if is_changed { 9 } else { 8 }).ok_or("uid")?)
+fn uid(is_changed: bool) -> Result<Uid, Refusal> {
+    Uid::new(if is_changed { 9 } else { 8 }).ok_or(Refusal::Syntax)
 }
 
 // One of two texts, or none.
-fn perhaps_text(alloc: Global, is_there: bool, is_changed: bool) -> Result<Option<Text>, Fail> {
+fn perhaps_text(alloc: Global, is_there: bool, is_changed: bool) -> Result<Option<Text>, Refusal> {
     if is_there {
         Ok(Some(text(alloc, is_changed)?))
     } else {
@@ -39,42 +38,48 @@ fn perhaps_text(alloc: Global, is_there: bool, is_changed: bool) -> Result<Optio
 }
 
 impl Sample for Key {
-    fn sample(alloc: Global, change: u8) -> Result<Key, Fail> {
+    fn sample(alloc: Global, change: u8) -> Result<Key, Refusal> {
         let (namespace, name) = match change {
             1 => ("up", "right"),
             2 => ("left", "down"),
             3 => ("right", "left"),
             _ => ("left", "right"),
         };
-        Ok(Key::new(alloc, namespace, name)?)
+        Key::new(alloc, namespace, name)
     }
 }
 
 impl Sample for CronKey {
-    fn sample(alloc: Global, change: u8) -> Result<CronKey, Fail> {
+    fn sample(alloc: Global, change: u8) -> Result<CronKey, Refusal> {
         let (namespace, name) = match change {
             1 => ("up", "right"),
             2 => ("left", "down"),
             3 => ("right", "left"),
             _ => ("left", "right"),
         };
-        Ok(CronKey::new(alloc, namespace, name)?)
+        CronKey::new(alloc, namespace, name)
+    }
+}
+
+// Puts the entry that the word `NAME=VALUE` is.
+fn put_word(labels: &mut Labels, alloc: Global, word: &str) -> Result<(), Refusal> {
+    match word.split_once('=') {
+        Some((name, value)) => labels.put(Text::new(alloc, name)?, Text::new(alloc, value)?),
+        None => Ok(()),
     }
 }
 
 /// The labels that come of putting an entry for each word `NAME=VALUE`.
-pub fn read_labels(alloc: Global, words: &str) -> Result<Labels, Fail> {
+pub fn read_labels(alloc: Global, words: &str) -> Result<Labels, Refusal> {
     let mut labels = Labels::new(alloc);
     for word in words.split(' ') {
-        if let Some((name, value)) = word.split_once('=') {
-            labels.put(Text::new(alloc, name)?, Text::new(alloc, value)?)?;
-        }
+        put_word(&mut labels, alloc, word)?;
     }
     Ok(labels)
 }
 
 impl Sample for Labels {
-    fn sample(alloc: Global, change: u8) -> Result<Labels, Fail> {
+    fn sample(alloc: Global, change: u8) -> Result<Labels, Refusal> {
         let words = match change {
             1 => "app=web tier=front",
             2 => "app=web part=back",
@@ -89,19 +94,23 @@ impl Sample for Labels {
 }
 
 impl Sample for SpecText {
-    fn sample(alloc: Global, change: u8) -> Result<SpecText, Fail> {
+    fn sample(alloc: Global, change: u8) -> Result<SpecText, Refusal> {
         let text = match change {
             1 => "{\"a\":2}",
             2 => "{\"a\":1,\"b\":1}",
             3 => "",
             _ => "{\"a\":1}",
         };
-        Ok(SpecText::new(alloc, Text::new(alloc, text)?)?)
+        SpecText::new(alloc, Text::new(alloc, text)?)
     }
 }
 
+fn push_name(names: &mut Names, alloc: Global, word: &str) -> Result<(), Refusal> {
+    names.push(ObjectName::new(alloc, word)?)
+}
+
 impl Sample for Names {
-    fn sample(alloc: Global, change: u8) -> Result<Names, Fail> {
+    fn sample(alloc: Global, change: u8) -> Result<Names, Refusal> {
         let words = match change {
             1 => "a other",
             2 => "b a",
@@ -113,14 +122,14 @@ impl Sample for Names {
         };
         let mut names = Names::new(alloc);
         for word in words.split(' ') {
-            names.push(ObjectName::new(alloc, word)?)?;
+            push_name(&mut names, alloc, word)?;
         }
         Ok(names)
     }
 }
 
 impl Sample for Reasons {
-    fn sample(alloc: Global, change: u8) -> Result<Reasons, Fail> {
+    fn sample(alloc: Global, change: u8) -> Result<Reasons, Refusal> {
         let list = match change {
             1 => [Reason::UnknownTimeZone, Reason::TooManyMissedTimes],
             2 => [Reason::JobAlreadyActive, Reason::UnknownTimeZone],
@@ -137,7 +146,7 @@ impl Sample for Reasons {
 }
 
 impl Sample for OwnerRef {
-    fn sample(alloc: Global, change: u8) -> Result<OwnerRef, Fail> {
+    fn sample(alloc: Global, change: u8) -> Result<OwnerRef, Refusal> {
         Ok(OwnerRef {
             api_version: text(alloc, change == 1)?,
             kind: text(alloc, change == 2)?,
@@ -149,8 +158,12 @@ impl Sample for OwnerRef {
     }
 }
 
+fn push_owner(owners: &mut OwnerRefs, alloc: Global, change: u8) -> Result<(), Refusal> {
+    owners.push(OwnerRef::sample(alloc, change)?)
+}
+
 impl Sample for OwnerRefs {
-    fn sample(alloc: Global, change: u8) -> Result<OwnerRefs, Fail> {
+    fn sample(alloc: Global, change: u8) -> Result<OwnerRefs, Refusal> {
         let changes = match change {
             1 => "03",
             2 => "02",
@@ -162,19 +175,19 @@ impl Sample for OwnerRefs {
         };
         let mut owners = OwnerRefs::new(alloc);
         for digit in changes.bytes() {
-            owners.push(OwnerRef::sample(alloc, digit.saturating_sub(b'0'))?)?;
+            push_owner(&mut owners, alloc, digit.saturating_sub(b'0'))?;
         }
         Ok(owners)
     }
 }
 
 impl Sample for Meta {
-    fn sample(alloc: Global, change: u8) -> Result<Meta, Fail> {
+    fn sample(alloc: Global, change: u8) -> Result<Meta, Refusal> {
         Ok(Meta {
             uid: uid(change == 1)?,
             version: Version::new(if change == 2 { 5 } else { 4 }),
             generation: if change == 3 { 2 } else { 1 },
-            created: Seconds::new(if change == 4 { 61 } else { 60 }).ok_or("created")?,
+            created: Seconds::new(if change == 4 { 61 } else { 60 }).ok_or(Refusal::Syntax)?,
             labels: Labels::sample(alloc, within(change, 4, 6))?,
             annotations: Labels::sample(alloc, within(change, 10, 6))?,
         })
@@ -182,7 +195,7 @@ impl Sample for Meta {
 }
 
 impl Sample for DraftMeta {
-    fn sample(alloc: Global, change: u8) -> Result<DraftMeta, Fail> {
+    fn sample(alloc: Global, change: u8) -> Result<DraftMeta, Refusal> {
         Ok(DraftMeta {
             uid: perhaps_text(alloc, change != 2, change == 1)?,
             version: perhaps_text(alloc, change != 4, change == 3)?,
@@ -193,7 +206,7 @@ impl Sample for DraftMeta {
 }
 
 impl Sample for JobTemplate {
-    fn sample(alloc: Global, change: u8) -> Result<JobTemplate, Fail> {
+    fn sample(alloc: Global, change: u8) -> Result<JobTemplate, Refusal> {
         Ok(JobTemplate {
             labels: Labels::sample(alloc, within(change, 0, 1))?,
             annotations: Labels::sample(alloc, within(change, 1, 1))?,
@@ -218,33 +231,45 @@ fn deadline(change: u8) -> Option<Deadline> {
     }
 }
 
+/// The spec with this template.
+pub fn spec_with(
+    alloc: Global,
+    change: u8,
+    template: Heap<JobTemplate>,
+) -> Result<CronSpec, Refusal> {
+    let schedule = text(alloc, change == 1)?;
+    let time_zone = perhaps_text(alloc, change != 9, change == 2)?;
+    Ok(CronSpec {
+        schedule,
+        time_zone,
+        policy: policy(change),
+        suspend: change == 4,
+        starting_deadline_seconds: deadline(change),
+        successful_limit: HistoryLimit::from(match change {
+            6 => 4,
+            8 => 5,
+            _ => 3,
+        }),
+        failed_limit: HistoryLimit::from(if change == 7 { 4 } else { 3 }),
+        template: template.into_inner(),
+    })
+}
+
 impl Sample for CronSpec {
-    fn sample(alloc: Global, change: u8) -> Result<CronSpec, Fail> {
-        Ok(CronSpec {
-            schedule: text(alloc, change == 1)?,
-            time_zone: perhaps_text(alloc, change != 9, change == 2)?,
-            policy: policy(change),
-            suspend: change == 4,
-            starting_deadline_seconds: deadline(change),
-            successful_limit: HistoryLimit::from(match change {
-                6 => 4,
-                8 => 5,
-                _ => 3,
-            }),
-            failed_limit: HistoryLimit::from(if change == 7 { 4 } else { 3 }),
-            template: JobTemplate::sample(alloc, within(change, 11, 5))?,
-        })
+    fn sample(alloc: Global, change: u8) -> Result<CronSpec, Refusal> {
+        let template = JobTemplate::sample(alloc, within(change, 11, 5))?;
+        spec_with(alloc, change, Heap::new(alloc, template)?)
     }
 }
 
 impl<T: Sample + Drop> Sample for Shared<T> {
-    fn sample(alloc: Global, change: u8) -> Result<Shared<T>, Fail> {
-        Ok(Shared::new(alloc, T::sample(alloc, change)?)?)
+    fn sample(alloc: Global, change: u8) -> Result<Shared<T>, Refusal> {
+        Shared::new(alloc, T::sample(alloc, change)?)
     }
 }
 
 impl Sample for CronStatus {
-    fn sample(alloc: Global, change: u8) -> Result<CronStatus, Fail> {
+    fn sample(alloc: Global, change: u8) -> Result<CronStatus, Refusal> {
         Ok(CronStatus {
             active: Names::sample(alloc, within(change, 4, 6))?,
             last_schedule_time: match change {
@@ -261,24 +286,38 @@ impl Sample for CronStatus {
     }
 }
 
+fn head(alloc: Global, change: u8) -> Result<Heap<(CronKey, Meta)>, Refusal> {
+    let key = CronKey::sample(alloc, within(change, 0, 3))?;
+    let meta = Meta::sample(alloc, within(change, 3, 16))?;
+    Heap::new(alloc, (key, meta))
+}
+
+/// The CronJob with this spec.
+pub fn cron_with(alloc: Global, change: u8, spec: Shared<CronSpec>) -> Result<CronJob, Refusal> {
+    let head = head(alloc, change)?;
+    let status = CronStatus::sample(alloc, within(change, 34, 10))?;
+    let (key, meta) = head.into_inner();
+    Ok(CronJob {
+        key,
+        meta,
+        spec,
+        status,
+    })
+}
+
 impl Sample for CronJob {
-    fn sample(alloc: Global, change: u8) -> Result<CronJob, Fail> {
-        Ok(CronJob {
-            key: CronKey::sample(alloc, within(change, 0, 3))?,
-            meta: Meta::sample(alloc, within(change, 3, 16))?,
-            spec: Shared::sample(alloc, within(change, 19, 15))?,
-            status: CronStatus::sample(alloc, within(change, 34, 10))?,
-        })
+    fn sample(alloc: Global, change: u8) -> Result<CronJob, Refusal> {
+        let spec = Shared::sample(alloc, within(change, 19, 15))?;
+        cron_with(alloc, change, spec)
     }
 }
 
 impl Sample for CronJobDraft {
-    fn sample(alloc: Global, change: u8) -> Result<CronJobDraft, Fail> {
-        Ok(CronJobDraft {
-            key: CronKey::sample(alloc, within(change, 0, 1))?,
-            meta: DraftMeta::sample(alloc, within(change, 1, 6))?,
-            spec: Shared::sample(alloc, within(change, 7, 1))?,
-        })
+    fn sample(alloc: Global, change: u8) -> Result<CronJobDraft, Refusal> {
+        let spec = Shared::sample(alloc, within(change, 7, 1))?;
+        let key = CronKey::sample(alloc, within(change, 0, 1))?;
+        let meta = DraftMeta::sample(alloc, within(change, 1, 6))?;
+        Ok(CronJobDraft { key, meta, spec })
     }
 }
 
@@ -291,31 +330,53 @@ fn outcome(change: u8) -> Option<Outcome> {
     }
 }
 
+type Parts<M> = Heap<(Key, M)>;
+
+fn job_head(alloc: Global, change: u8) -> Result<Parts<Meta>, Refusal> {
+    let key = Key::sample(alloc, within(change, 7, 3))?;
+    let meta = Meta::sample(alloc, within(change, 0, 1))?;
+    Heap::new(alloc, (key, meta))
+}
+
 impl Sample for Job {
-    fn sample(alloc: Global, change: u8) -> Result<Job, Fail> {
+    fn sample(alloc: Global, change: u8) -> Result<Job, Refusal> {
+        let head = job_head(alloc, change)?;
+        let spec = SpecText::sample(alloc, within(change, 1, 3))?;
+        let owners = OwnerRefs::sample(alloc, within(change, 10, 6))?;
+        let (key, meta) = head.into_inner();
         Ok(Job {
-            key: Key::sample(alloc, within(change, 7, 3))?,
-            meta: Meta::sample(alloc, within(change, 0, 1))?,
-            owners: OwnerRefs::sample(alloc, within(change, 10, 6))?,
-            spec: SpecText::sample(alloc, within(change, 1, 3))?,
+            key,
+            meta,
+            owners,
+            spec,
             outcome: outcome(change),
         })
     }
 }
 
+fn draft_head(alloc: Global, change: u8) -> Result<Parts<DraftMeta>, Refusal> {
+    let key = Key::sample(alloc, within(change, 0, 1))?;
+    let meta = DraftMeta::sample(alloc, within(change, 1, 1))?;
+    Heap::new(alloc, (key, meta))
+}
+
 impl Sample for JobDraft {
-    fn sample(alloc: Global, change: u8) -> Result<JobDraft, Fail> {
+    fn sample(alloc: Global, change: u8) -> Result<JobDraft, Refusal> {
+        let head = draft_head(alloc, change)?;
+        let spec = SpecText::sample(alloc, within(change, 3, 1))?;
+        let owners = OwnerRefs::sample(alloc, within(change, 2, 1))?;
+        let (key, meta) = head.into_inner();
         Ok(JobDraft {
-            key: Key::sample(alloc, within(change, 0, 1))?,
-            meta: DraftMeta::sample(alloc, within(change, 1, 1))?,
-            owners: OwnerRefs::sample(alloc, within(change, 2, 1))?,
-            spec: SpecText::sample(alloc, within(change, 3, 1))?,
+            key,
+            meta,
+            owners,
+            spec,
         })
     }
 }
 
 impl Sample for Object {
-    fn sample(alloc: Global, change: u8) -> Result<Object, Fail> {
+    fn sample(alloc: Global, change: u8) -> Result<Object, Refusal> {
         match change {
             45..=61 => Ok(Object::Job(Shared::sample(alloc, change.saturating_sub(45))?)),
             _ => Ok(Object::Cron(Shared::sample(alloc, change)?)),
@@ -324,7 +385,7 @@ impl Sample for Object {
 }
 
 impl Sample for Event {
-    fn sample(alloc: Global, change: u8) -> Result<Event, Fail> {
+    fn sample(alloc: Global, change: u8) -> Result<Event, Refusal> {
         match change {
             62 => Ok(Event::Modified(Object::sample(alloc, 0)?)),
             63 => Ok(Event::Deleted(Object::sample(alloc, 0)?)),
@@ -335,7 +396,7 @@ impl Sample for Event {
 }
 
 // A name's fault, and perhaps a namespace's.
-fn faults(alloc: Global, cause: Cause, is_longer: bool) -> Result<FieldFaults, Fail> {
+fn faults(alloc: Global, cause: Cause, is_longer: bool) -> Result<FieldFaults, Refusal> {
     let field = Field::Name;
     let mut faults = FieldFaults::one(alloc, FieldFault { field, cause })?;
     if is_longer {
@@ -346,7 +407,7 @@ fn faults(alloc: Global, cause: Cause, is_longer: bool) -> Result<FieldFaults, F
 }
 
 impl Sample for Refusal {
-    fn sample(alloc: Global, change: u8) -> Result<Refusal, Fail> {
+    fn sample(alloc: Global, change: u8) -> Result<Refusal, Refusal> {
         Ok(match change {
             1 => Refusal::Syntax,
             2 => Refusal::NotPermitted,

@@ -1,5 +1,7 @@
+use crate::keys::read_key;
+use crate::rows::{Question, first_wrong, halves};
 use cj_table::Table;
-use cj_types::{Key, Text};
+use cj_types::{Refusal, Text};
 use std::alloc::Global;
 use std::test::Fail;
 
@@ -17,80 +19,87 @@ a/b=1 -a/b|
 a/b=1 -a/b a/b=2|2
 b/a=1 a-b/c=2 a/z=3 a/b=4|4 3 2 1";
 
-fn read_key(alloc: Global, text: &str) -> Result<Key, Fail> {
-    let (namespace, name) = text.split_once('/').ok_or("a key without a name")?;
-    Ok(Key::new(alloc, namespace, name)?)
+fn put(alloc: Global, table: &mut Table<Text>, word: &str) -> Result<(), Refusal> {
+    let (key, value) = halves(word, '=')?;
+    let key = read_key(alloc, key)?;
+    table.insert(key, Text::new(alloc, value)?)
 }
 
-fn put(alloc: Global, table: &mut Table<Text>, key: &str, value: &str) -> Result<(), Fail> {
-    let key = read_key(alloc, key)?;
-    table.insert(key, Text::new(alloc, value)?)?;
+fn do_word(alloc: Global, table: &mut Table<Text>, word: &str) -> Result<(), Refusal> {
+    match word.strip_prefix('-') {
+        Some(key) => {
+            table.remove(&read_key(alloc, key)?);
+            Ok(())
+        }
+        None => put(alloc, table, word),
+    }
+}
+
+fn do_words(alloc: Global, table: &mut Table<Text>, words: &str) -> Result<(), Refusal> {
+    for word in words.split(' ') {
+        do_word(alloc, table, word)?;
+    }
     Ok(())
 }
 
-fn do_word(alloc: Global, table: &mut Table<Text>, word: &str) -> Result<(), Fail> {
-    if let Some(key) = word.strip_prefix('-') {
-        table.remove(&read_key(alloc, key)?);
-        return Ok(());
-    }
-    match word.split_once('=') {
-        Some((key, value)) => put(alloc, table, key, value),
-        None => Ok(()),
-    }
-}
-
-fn read_table(alloc: Global, words: &str) -> Result<Table<Text>, Fail> {
+fn read_table(alloc: Global, words: &str) -> Result<Table<Text>, Refusal> {
     let mut table = Table::new(alloc);
-    for word in words.split(' ') {
-        do_word(alloc, &mut table, word)?;
+    if words != "" {
+        do_words(alloc, &mut table, words)?;
     }
     Ok(table)
 }
 
-fn listed(alloc: Global, table: &Table<Text>) -> Result<String, Fail> {
-    let mut text = String::new(alloc);
-    for value in &table.list(alloc)? {
-        if !text.is_empty() {
-            text.push(' ')?;
-        }
-        text.push_str(value.as_str())?;
-    }
-    Ok(text)
-}
-
-#[test]
-fn lists_values_by_key(rt: HostRuntime) -> Result<(), Fail> {
-    let alloc = rt.alloc();
-    for row in DONE.lines() {
-        let (words, values) = row.split_once('|').ok_or("a row without values")?;
-        let table = read_table(alloc, words)?;
-        assert_eq!(rt; listed(alloc, &table)?.as_str(), values, "{row}");
+fn write_values(values: &[Text], text: &mut String) -> Result<(), Refusal> {
+    let mut gap = "";
+    for value in values {
+        write!(text, "{gap}{}", value.as_str())?;
+        gap = " ";
     }
     Ok(())
 }
 
-// The value at a key, `none` where there is none; `contains` must agree.
-fn value_at(alloc: Global, table: &Table<Text>, key: &str) -> Result<String, Fail> {
-    let key = read_key(alloc, key)?;
-    let value = match table.get(&key) {
-        Some(value) => value.as_str(),
-        None => "none",
-    };
-    Ok(format!(in alloc; "{value} {}", table.contains(&key))?)
+struct Listed;
+
+impl Question for Listed {
+    fn answer(alloc: Global, words: &str, text: &mut String) -> Result<(), Refusal> {
+        let table = read_table(alloc, words)?;
+        let values = table.list(alloc)?;
+        write_values(values.as_slice(), text)
+    }
+}
+
+#[test]
+fn lists_values_by_key(rt: HostRuntime) -> Result<(), Fail> {
+    let wrong = first_wrong::<Listed>(rt.alloc(), DONE)?;
+    assert_eq!(rt; wrong, None);
+    Ok(())
+}
+
+// What is done, a key behind a `?`, its value, and whether the table has it.
+const FOUND: &str = "\
+a/b=1 b/a=2 a/a=3 a/b=4 -b/a?a/b|4 true
+a/b=1 b/a=2 a/a=3 a/b=4 -b/a?a/a|3 true
+a/b=1 b/a=2 a/a=3 a/b=4 -b/a?b/a|none false
+a/b=1 b/a=2 a/a=3 a/b=4 -b/a?b/b|none false
+a/b=1 b/a=2 a/a=3 a/b=4 -b/a?a/c|none false";
+
+struct Found;
+
+impl Question for Found {
+    fn answer(alloc: Global, words: &str, text: &mut String) -> Result<(), Refusal> {
+        let (words, key) = halves(words, '?')?;
+        let key = read_key(alloc, key)?;
+        let table = read_table(alloc, words)?;
+        let value = table.get(&key).map_or("none", |value| value.as_str());
+        write!(text, "{value} {}", table.contains(&key))?;
+        Ok(())
+    }
 }
 
 #[test]
 fn finds_values(rt: HostRuntime) -> Result<(), Fail> {
-    let alloc = rt.alloc();
-    let table = read_table(alloc, "a/b=1 b/a=2 a/a=3 a/b=4 -b/a")?;
-    for (key, wanted) in [
-        ("a/b", "4 true"),
-        ("a/a", "3 true"),
-        ("b/a", "none false"),
-        ("b/b", "none false"),
-        ("a/c", "none false"),
-    ] {
-        assert_eq!(rt; value_at(alloc, &table, key)?.as_str(), wanted, "{key}");
-    }
+    let wrong = first_wrong::<Found>(rt.alloc(), FOUND)?;
+    assert_eq!(rt; wrong, None);
     Ok(())
 }
