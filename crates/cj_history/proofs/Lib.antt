@@ -2,3 +2,4 @@ pub mod Lists
 pub mod Firsts
 pub mod One
 pub mod Onces
+pub mod Claims

@@ -1,5 +1,6 @@
 ghost use Rattle.cj_history.specs.Legal.{AlwaysExclusive, LegalLaw, OneAnswer};
 ghost use Rattle.cj_history.specs.Once.{OnceAndAlone};
+ghost use Rattle.cj_history.specs.Times.{AlwaysTimely};
 
 /// A history is legal, with the state that its calls leave one after the other, just where each of its answers is the one that
 /// looking back over the entries before it gives.
@@ -21,4 +22,10 @@ pub fn exclusive_law()
 /// Forbid or Replace, no other Job of its CronJob is unfinished.
 pub fn once_law()
     ensures { OnceAndAlone }
+{}
+
+/// The time of each accepted claim is the greatest one missed by the CronJob that is current at the claim at the key that its
+/// worker holds.
+pub fn time_law()
+    ensures { AlwaysTimely }
 {}

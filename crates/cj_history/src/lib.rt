@@ -1,7 +1,8 @@
 //! Histories by looking back alone: what makes one legal, that a call has one answer, that a key is in one worker's hands at a
-//! time, that no time gets two Jobs and that a Job under Forbid or Replace is made alone. No state stands in these words.
+//! time, that no time gets two Jobs, that a Job under Forbid or Replace is made alone, and that a claim is of the greatest time
+//! missed. No state stands in these words.
 #![tactic(auto)]
 
 mod laws;
 
-pub use laws::{answer_law, exclusive_law, legal_law, once_law};
+pub use laws::{answer_law, exclusive_law, legal_law, once_law, time_law};

@@ -1,0 +1,5 @@
+use Rattle.cj_history.proofs.Claims.{timely}
+use Rattle.cj_history.proofs.laws.time_law.Goals as goal
+
+pub returns : goal.returns
+returns c = timely
