@@ -1,6 +1,6 @@
+use cj_calls::Reply;
 use cj_lines::step_line;
 use cj_script::{Script, read_script};
-use cj_calls::Reply;
 use std::alloc::{AllocError, Global};
 use std::test::Fail;
 
@@ -62,7 +62,13 @@ fn lines(alloc: Global, script: &Script) -> Result<String, AllocError> {
         if place < 1_000 {
             place += 1;
         }
-        let line = step_line(alloc, Some(place), step.who.get().as_str(), step.verb, &Ok(Reply::Done));
+        let line = step_line(
+            alloc,
+            Some(place),
+            step.who.get().as_str(),
+            step.verb,
+            &Ok(Reply::Done),
+        );
         text.push_str(line.map_err(|_| AllocError)?.as_str())?;
     }
     Ok(text)

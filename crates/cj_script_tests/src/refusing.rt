@@ -18,19 +18,55 @@ const ANSWERS: [(&str, &str); 19] = [
     (r#""callers":{}"#, "scenario"),
     (r#""callers":{"u":"Admin"},"steps":[]"#, "scenario"),
     (r#""callers":{"u":null},"steps":[]"#, "0 steps"),
-    (r#""callers":{"u":null},"steps":[{"who":"u","do":"take"}]"#, "scenario"),
-    (r#""callers":{"u":"User"},"steps":[{"who":"u","do":"take"}]"#, "1 steps"),
-    (r#""callers":{"u":"User"},"steps":[{"who":"u","do":"getCron"}]"#, "scenario"),
-    (r#""callers":{"u":"User"},"steps":[{"who":"u","do":"add","key":"hello"}]"#, "scenario"),
-    (r#""callers":{"u":"User"},"steps":[{"who":"u","do":"add","key":"a/b/c"}]"#, "scenario"),
-    (r#""callers":{"u":"User"},"steps":[{"who":"u","do":"feed","max":501}]"#, "scenario"),
-    (r#""callers":{"u":"User"},"steps":[{"who":"u","do":"finish","reasons":["Other"]}]"#, "scenario"),
-    (r#""callers":{"u":"User"},"steps":[{"who":"u","do":"endJob","key":"a/b","outcome":"Running","at":"2024-01-01T00:00:00Z"}]"#, "scenario"),
-    (r#""callers":{"u":"User"},"steps":[{"who":"u","do":"updateCron","object":7}]"#, "refused 2 $ Type"),
-    (r#""callers":{"u":"User"},"steps":[{"who":"u","do":"updateJob","object":{}},{"who":"u","do":"updateCron","object":7}]"#, "refused 2 apiVersion Required"),
-    (r#""callers":{"u":"User"},"steps":[{"who":"u","do":"updateCron","object":7},{"who":"u","do":"nothing"}]"#, "scenario"),
+    (
+        r#""callers":{"u":null},"steps":[{"who":"u","do":"take"}]"#,
+        "scenario",
+    ),
+    (
+        r#""callers":{"u":"User"},"steps":[{"who":"u","do":"take"}]"#,
+        "1 steps",
+    ),
+    (
+        r#""callers":{"u":"User"},"steps":[{"who":"u","do":"getCron"}]"#,
+        "scenario",
+    ),
+    (
+        r#""callers":{"u":"User"},"steps":[{"who":"u","do":"add","key":"hello"}]"#,
+        "scenario",
+    ),
+    (
+        r#""callers":{"u":"User"},"steps":[{"who":"u","do":"add","key":"a/b/c"}]"#,
+        "scenario",
+    ),
+    (
+        r#""callers":{"u":"User"},"steps":[{"who":"u","do":"feed","max":501}]"#,
+        "scenario",
+    ),
+    (
+        r#""callers":{"u":"User"},"steps":[{"who":"u","do":"finish","reasons":["Other"]}]"#,
+        "scenario",
+    ),
+    (
+        r#""callers":{"u":"User"},"steps":[{"who":"u","do":"endJob","key":"a/b","outcome":"Running","at":"2024-01-01T00:00:00Z"}]"#,
+        "scenario",
+    ),
+    (
+        r#""callers":{"u":"User"},"steps":[{"who":"u","do":"updateCron","object":7}]"#,
+        "$ Type",
+    ),
+    (
+        r#""callers":{"u":"User"},"steps":[{"who":"u","do":"updateJob","object":{}},{"who":"u","do":"updateCron","object":7}]"#,
+        "apiVersion Required",
+    ),
+    (
+        r#""callers":{"u":"User"},"steps":[{"who":"u","do":"updateCron","object":7},{"who":"u","do":"nothing"}]"#,
+        "scenario",
+    ),
     (r#""callers":{},"steps":[],"history":0"#, "scenario"),
-    (r#""callers":{},"steps":[],"zones":{"Rome":"x"}"#, "scenario"),
+    (
+        r#""callers":{},"steps":[],"zones":{"Rome":"x"}"#,
+        "scenario",
+    ),
 ];
 
 #[test]
