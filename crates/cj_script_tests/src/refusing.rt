@@ -52,11 +52,11 @@ const ANSWERS: [(&str, &str); 19] = [
     ),
     (
         r#""callers":{"u":"User"},"steps":[{"who":"u","do":"updateCron","object":7}]"#,
-        "refused 2 $ Type",
+        "$ Type",
     ),
     (
         r#""callers":{"u":"User"},"steps":[{"who":"u","do":"updateJob","object":{}},{"who":"u","do":"updateCron","object":7}]"#,
-        "refused 2 apiVersion Required",
+        "apiVersion Required",
     ),
     (
         r#""callers":{"u":"User"},"steps":[{"who":"u","do":"updateCron","object":7},{"who":"u","do":"nothing"}]"#,
