@@ -25,6 +25,7 @@ abbrev pub number_in : Option Data → Option ℕ
 number_in o = option_and_then as_u64 (option_and_then as_number o)
 
 -- how many events at most: 1 to 500
+-- rule: step-form
 abbrev pub max_of : ℕ → Option ℕ
 max_of n = if nat_le 1 n && nat_le n 500 then Some n else None
 
@@ -38,6 +39,7 @@ abbrev pub key_named : List ℕ → List ℕ → Option Place
 key_named namespace name = result_ok (new_key longest namespace name)
 
 -- NAMESPACE/NAME, cut at the first `/`
+-- rule: step-form
 unfoldable pub key_of : List ℕ → Option Place
 key_of text =
     if position_or_len is_slash text == length text then None

@@ -50,5 +50,6 @@ abbrev pub finish_with : End → Option Data → Option Act
 finish_with end None = Some (Closes end)
 finish_with end (Some list) = finished end list
 
+-- rule: step-form
 abbrev pub finish : Data → Option Act
 finish d = option_and_then (λ end. finish_with end (present (codes "reasons") d)) (end_in d)

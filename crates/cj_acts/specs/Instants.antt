@@ -11,6 +11,7 @@ printed_by zero text = if bytes_eq text (time_text_of 0) then Some 0 else None
 printed_by (suc n) text = if bytes_eq text (time_text_of (suc n)) then Some (suc n) else printed_by n text
 
 -- the instant that is printed so
+-- rule: step-form
 unfoldable pub instant_of : List ℕ → Option ℕ
 instant_of text = printed_by last_second text
 

@@ -9,6 +9,7 @@ use Rattle.cj_acts.specs.declared.verb.Plain.TheVariants as Kind
 use Rattle.cj_acts.specs.Acts as said
 use Rattle.cj_acts.specs.Finishes.{finish}
 
+-- rule: step-form
 abbrev pub plain_act : Plain → Data → Option Act
 plain_act Kind.DeleteCron d = said.delete_cron d
 plain_act Kind.DeleteJob d = said.delete_job d

@@ -30,6 +30,7 @@ informer_verb word =
     else worker_verb word))))
 
 -- what users and runners do, or else others
+-- rule: step-form
 unfoldable pub verb_named : List ℕ → Option Verb
 verb_named word =
     if bytes_eq word (codes "createCron") then Some (Writes Written.CreateCron)

@@ -3,6 +3,7 @@ use Rattle.std.specs.Prelude.{ℕ, List, codes}
 use Rattle.cj_base.specs.declared.field.Field.{Field}
 use Rattle.cj_base.specs.declared.field.Field.TheVariants as Of
 
+-- rule: printed-words
 abbrev pub path_of : Field → List ℕ
 path_of Of.Whole = codes "$"
 path_of Of.ApiVersion = codes "apiVersion"

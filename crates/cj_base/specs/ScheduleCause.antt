@@ -3,6 +3,7 @@ use Rattle.std.specs.Prelude.{ℕ, List, codes}
 use Rattle.cj_base.specs.declared.schedule_fault.ScheduleCause.{ScheduleCause}
 use Rattle.cj_base.specs.declared.schedule_fault.ScheduleCause.TheVariants as Of
 
+-- rule: printed-words
 abbrev pub cause_name : ScheduleCause → List ℕ
 cause_name Of.Length = codes "Length"
 cause_name Of.Empty = codes "Empty"

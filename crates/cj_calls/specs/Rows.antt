@@ -81,6 +81,7 @@ is_refused (Of.Finish e r) No.OutOfPhase = true
 is_refused _ _ = false
 
 -- the answer is one that the call can have
+-- rule: roles
 abbrev pub is_in_row : Call → Result Reply Refusal → Bool
 is_in_row call (Ok reply) = is_reply call reply
 is_in_row call (Err refusal) = is_refused call refusal

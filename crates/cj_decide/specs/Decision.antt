@@ -30,10 +30,12 @@ reason_of None = []
 reason_of (Some reason) = reason ∷ []
 
 -- that more than 100 times were missed comes first
+-- rule: too-many-missed
 abbrev pub reasons_of : Verdict → List Reason
 reasons_of v = many_of v.is_late ++ reason_of v.reason
 
 -- the unfinished Jobs of the CronJob that the live read found, the oldest first
+-- rule: live-read-decides
 abbrev pub running_of : CronJob → List (Option Job) → List JobRef
 running_of cron found = running (uid_text cron.meta.uid) (present found)
 
@@ -42,6 +44,7 @@ abbrev pub claim_by : CronJob → Verdict → Option Claim
 claim_by cron v = option_map (claim_of cron) v.start
 
 -- the steps that a verdict means, with the status at the end
+-- rule: step-order
 abbrev pub steps_of : CronJob → List Job → List (Option Job) → Verdict → Option CronStatus → Steps
 steps_of cron jobs found v status = record {
   claim = claim_by cron v;
@@ -72,6 +75,7 @@ pub record AreSteps (cron : CronJob) (jobs : List Job) (found : List (Option Job
   pub are : steps ≡ steps_of cron jobs found v status
 
 -- the steps are those of the one verdict
+-- rule: decision-cases
 pub record IsDecision (cron : CronJob) (jobs : List Job) (found : List (Option Job)) (now : ℕ) (z : Option Zone) (steps : Steps) : Type 0 where
   pub verdict : Verdict
   pub judged : IsVerdict cron z (has_any (running_of cron found)) now verdict
@@ -79,6 +83,7 @@ pub record IsDecision (cron : CronJob) (jobs : List Job) (found : List (Option J
 
 -- the plan of a CronJob or none, the listed Jobs, what a live read found for each of its active names, the moment and the
 -- zone, if it is known
+-- rule: decision-cases
 abbrev pub IsPlan : Option CronJob → List Job → List (Option Job) → ℕ → Option Zone → Steps → Type 0
 IsPlan None jobs found now z steps = steps ≡ clearing jobs
 IsPlan (Some cron) jobs found now z steps = IsDecision cron jobs found now z steps
@@ -93,6 +98,7 @@ pub record Planned : Type 0 where
   pub steps : Steps
 
 -- it is the decision of what it rests on
+-- rule: decision-cases
 abbrev pub IsDecided : Planned → Type 0
 IsDecided p = IsPlan p.cron p.jobs p.active p.at p.zone p.steps
 

@@ -31,6 +31,7 @@ standing cron None = cron.status
 standing cron (Some claim) = claim.status
 
 -- the status at the end
+-- rule: final-status
 abbrev pub final : CronJob → List Job → List (Option Job) → Verdict → Option Claim → CronStatus
 final cron jobs found v claim = record {
   active = active_after cron found v;
@@ -39,11 +40,13 @@ final cron jobs found v claim = record {
 }
 
 -- a step only where it changes something
+-- rule: final-status
 abbrev pub IsStatusStep : CronStatus → CronStatus → Option CronStatus → Type 0
 IsStatusStep old new None = new ≡ old
 IsStatusStep old new (Some status) = (status ≡ new) × (new ≢ old)
 
 -- the listed Jobs of another uid by name, then the CronJob's own that are no longer kept
+-- rule: cleanup
 abbrev pub cleanup_of : CronJob → List Job → List JobRef
 cleanup_of cron jobs =
     picked Meant.Foreign ByName (uid_text cron.meta.uid) jobs

@@ -9,6 +9,7 @@ use Rattle.cj_status.specs.Active.{names_with}
 use Rattle.cj_decide.specs.declared.start.Claim.{Claim}
 
 -- the status that stands, with the time as the last one that was scheduled, and the name of the Job to be made
+-- rule: claim-status
 abbrev pub claimed : CronJob → ℕ → CronStatus
 claimed cron time = record {
   active = names_with (made_name cron.key.name time) cron.status.active;

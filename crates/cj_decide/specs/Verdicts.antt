@@ -25,10 +25,12 @@ abbrev pub starts : ℕ → Bool → Option ℕ → Verdict
 starts time replaces next = record { start = Some time; replaces = replaces; is_late = false; reason = None; next = next }
 
 -- the same where more than 100 times were missed
+-- rule: too-many-missed
 abbrev pub late : Verdict → Verdict
 late v = record { start = v.start; replaces = v.replaces; is_late = true; reason = v.reason; next = v.next }
 
 -- by the concurrency policy, and whether a Job of the CronJob runs
+-- rule: decision-cases
 abbrev pub by_policy : Policy → Bool → ℕ → Option ℕ → Verdict
 by_policy Forbid true time next = rests (Some JobAlreadyActive) next
 by_policy Forbid false time next = starts time false next
@@ -36,12 +38,14 @@ by_policy Replace busy time next = starts time true next
 by_policy Allow busy time next = starts time false next
 
 -- by the times missed, however many: the latest of them is the one to start for
+-- rule: too-many-missed
 abbrev pub by_missed : Missed → Policy → Bool → Option ℕ → Verdict
 by_missed Kind.None policy busy next = rests None next
 by_missed (Kind.Some count latest) policy busy next = by_policy policy busy latest next
 by_missed (Kind.Many latest) policy busy next = late (by_policy policy busy latest next)
 
 -- the least due time after now and within 3,000 days, none where there is none
+-- rule: next-of-plan
 abbrev pub IsNext : Sets → Zone → ℕ → Option ℕ → Type 0
 IsNext s z now None = IsQuiet s z now (now + 259_200_000)
 IsNext s z now (Some t) = IsLeastDue s z now (now + 259_200_000) t
@@ -69,5 +73,6 @@ IsUnlessSuspended true cron z busy now v = v ≡ rests None None
 IsUnlessSuspended false cron z busy now v = IsByZone cron z busy now v
 
 -- the first of these cases that holds
+-- rule: decision-cases
 abbrev pub IsVerdict : CronJob → Option Zone → Bool → ℕ → Verdict → Type 0
 IsVerdict cron z busy now v = IsUnlessSuspended cron.spec.suspend cron z busy now v

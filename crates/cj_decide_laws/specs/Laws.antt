@@ -33,6 +33,7 @@ OnePlan = (cron : Option CronJob) (jobs : List Job) (found : List (Option Job)) 
 -- ---- claims
 
 -- the latest time missed
+-- rule: claim-time
 pub record IsClaimed (cron : CronJob) (now : ℕ) (z : Zone) (time : ℕ) : Type 0 where
   pub sets : Sets
   pub schedule : IsSchedule cron.spec.schedule sets
@@ -53,6 +54,7 @@ pub record Starts (cron : CronJob) (found : List (Option Job)) (now : ℕ) (z : 
   pub make : p.make ≡ Some (draft_of cron claim.time)
   pub allowed : IsAllowed cron.spec.policy (running_of cron found) p.drop_first
 
+-- rule: live-read-decides
 abbrev pub ClaimsLatest : Type 0
 ClaimsLatest = (cron : CronJob) (jobs : List Job) (found : List (Option Job)) (now : ℕ) (z : Option Zone) (p : Steps) (claim : Claim) →
     IsPlan (Some cron) jobs found now z p → p.claim ≡ Some claim → Starts cron found now z p claim
@@ -78,10 +80,12 @@ NoClaim = (cron : Option CronJob) (jobs : List Job) (found : List (Option Job)) 
 -- ---- what runs
 
 -- the unfinished Jobs of a CronJob come by creation time, then name ..
+-- rule: live-read-decides
 abbrev pub OldestFirst : Type 0
 OldestFirst = (uid : List ℕ) (jobs : List Job) → IsRising is_older (running uid jobs)
 
 -- .. and are all of them, each once
+-- rule: live-read-decides
 abbrev pub AllRunning : Type 0
 AllRunning = (uid : List ℕ) (jobs : List Job) → IsPermutation (map ref (filter (is_running uid) jobs)) (running uid jobs)
 
@@ -98,6 +102,7 @@ pub record IsCleaned (uid : List ℕ) (jobs : List Job) (r : JobRef) : Type 0 wh
   pub is : ref job ≡ r
   pub rests : is_running uid job ≡ false
 
+-- rule: cleanup
 abbrev pub CleansFinished : Type 0
 CleansFinished = (cron : CronJob) (jobs : List Job) (found : List (Option Job)) (now : ℕ) (z : Option Zone) (p : Steps) →
     IsPlan (Some cron) jobs found now z p → (r : JobRef) → IsIn r p.cleanup → IsCleaned (uid_text cron.meta.uid) jobs r
@@ -136,6 +141,7 @@ pub record Names (cron : CronJob) (found : List (Option Job)) (p : Steps) (f : C
   pub only : IsIn name f.active → IsNamed cron found p name
   pub all : IsNamed cron found p name → IsIn name f.active
 
+-- rule: final-status
 abbrev pub NamesAtEnd : Type 0
 NamesAtEnd = (cron : CronJob) (jobs : List Job) (found : List (Option Job)) (now : ℕ) (z : Option Zone) (p : Steps) (f : CronStatus) →
     IsPlan (Some cron) jobs found now z p → p.status ≡ Some f → (name : List ℕ) → Names cron found p f name

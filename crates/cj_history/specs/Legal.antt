@@ -16,20 +16,24 @@ use Rattle.cj_queue_history.specs.Deeds.{acts}
 use Rattle.cj_queue_history.specs.Answers as queue
 
 -- what the call is answered by the entries before it: by their writes and acts, and by its caller's seat among them
+-- rule: looking-back
 pub record IsAnswered (window : ℕ) (h : List Told) (caller : Caller) (call : Call) (a : Result Reply Refusal) : Type 0 where
   pub of_store : store.Says window (fed window h) (writes h) (seat h caller.number) caller.role call a
   pub of_queue : queue.Says (acts h) (seat h caller.number) caller.role call a
 
 -- each answer is such a one, and is one that is entered
+-- rule: looking-back
 abbrev pub IsLawful : ℕ → List Told → Type 0
 IsLawful window [] = Unit {0}
 IsLawful window (e ∷ h) = IsAnswered window h e.caller e.call e.answer × (is_entered e.answer ≡ true) × IsLawful window h
 
 -- that is what a legal history is, with the state that its calls leave one after the other
+-- rule: looking-back
 abbrev pub LegalLaw : Type 0
 LegalLaw = (window : ℕ) (h : List Told) → IsLegal window h ↔ IsLawful window h
 
 -- a call has just one answer, which is the one that the state gives
+-- rule: looking-back
 abbrev pub OneAnswer : Type 0
 OneAnswer = (window : ℕ) (h : List Told) (caller : Caller) (call : Call) (a : Result Reply Refusal) → IsLawful window h
     → IsAnswered window h caller call a ↔ (a ≡ answer_of window h caller call)

@@ -45,6 +45,7 @@ makes [] = []
 makes (e ∷ h) = with_made (is_making e) (claim_of h e.caller.number) (makes h)
 
 -- an accepted making rests on a claim, of a CronJob and a time that no earlier one has
+-- rule: looking-back
 abbrev pub Once : List Told → Type 0
 Once [] = Unit {0}
 Once (e ∷ h) = (is_making e ≡ true → (m : Claimed) × (claim_of h e.caller.number ≡ Some m) × IsNew m (makes h)) × Once h
@@ -54,6 +55,7 @@ abbrev pub NoneRuns : ℕ → List Event → Type 0
 NoneRuns u ws = (q : Place) (j : Job) → current_job ws q ≡ Some j → runs u j ≡ false
 
 -- what is made under Forbid or Replace is made where no Job of its CronJob is unfinished
+-- rule: looking-back
 abbrev pub Alone : List Told → Type 0
 Alone [] = Unit {0}
 Alone (e ∷ h) =
@@ -61,5 +63,6 @@ Alone (e ∷ h) =
     × Alone h
 
 -- whoever calls whatever in any order, as often as there are uids
+-- rule: looking-back
 abbrev pub OnceAndAlone : Type 0
 OnceAndAlone = (window : ℕ) (h : List Told) → length h ≤ last_uid → IsLawful window h → ArePlanned h → Once h × Alone h

@@ -30,10 +30,12 @@ abbrev pub IsTimely : List Told → ℕ → Planned → ℕ → Type 0
 IsTimely h w p time = (s : Seat) × (seat h w ≡ Some s) × IsLatestMissed (writes h) s.key p time
 
 -- the time of each accepted claim is the greatest one missed by the CronJob that is current at the claim
+-- rule: looking-back
 abbrev pub Timely : List Told → Type 0
 Timely [] = Unit {0}
 Timely (e ∷ h) = ((p : Planned) (time : ℕ) → IsClaim e p time → IsTimely h e.caller.number p time) × Timely h
 
 -- whoever calls whatever
+-- rule: looking-back
 abbrev pub AlwaysTimely : Type 0
 AlwaysTimely = (window : ℕ) (h : List Told) → length h ≤ last_uid → IsLawful window h → ArePlanned h → Timely h

@@ -29,6 +29,7 @@ abbrev pub no_seat : Seat
 no_seat = record { role = User; count = 0 }
 
 -- each pass has as many entries as its seat counts, and nobody else has any
+-- rule: hub-call
 abbrev pub IsCounted : List Seat → List Told → Type 0
 IsCounted seats h = (n : ℕ) → (slice_index_or seats n no_seat).count ≡ length (placed n h)
 
@@ -36,15 +37,18 @@ abbrev pub IsEnrolled : BookView → PassView → Type 0
 IsEnrolled b p = slice_get b.roles p.number ≡ Some p.role
 
 -- the book enrolled the pass with this role, has as many entries of it as the pass has receipts, and has the last of them at its place
+-- rule: hub-call
 pub record Knows (b : BookView) (p : PassView) : Type 0 where
   pub enrolled : IsEnrolled b p
   pub counts : length p.receipts ≡ length (placed p.number b.history)
   pub stands : IfSome (last_of p.receipts) (Stands b.history)
 
 -- the book enrolled the pass, whose receipts are exactly its entries
+-- rule: closing
 abbrev pub Fits : BookView → PassView → Type 0
 Fits b p = IsEnrolled b p × IsExact b.history p
 
+-- rule: hub-call
 abbrev pub IsFull : BookView → Type 0
 IsFull b = b.limits.history ≤ length b.history
 
@@ -56,6 +60,7 @@ abbrev pub answer_in : BookView → Caller → Call → Result Reply Refusal
 answer_in b caller call = answer_of b.limits.window b.history caller call
 
 -- one call was entered: the receipt is of it, with the answer that the history gives, at the place after the last, and the entry was added
+-- rule: hub-call
 pub record IsEntered (b : BookView) (caller : Caller) (call : Call) (r : Receipt) (b' : BookView) : Type 0 where
   pub room : length b.history < b.limits.history
   pub entry : r.entry ≡ told caller call (answer_in b caller call)
@@ -64,6 +69,7 @@ pub record IsEntered (b : BookView) (caller : Caller) (call : Call) (r : Receipt
   pub book : b' ≡ record b { history = r.entry ∷ b.history }
 
 -- one call of the pass was entered, and the pass has its receipt
+-- rule: hub-call
 pub record IsStep (b : BookView) (p : PassView) (call : Call) (r : Receipt) (b' : BookView) (p' : PassView) : Type 0 where
   pub entered : IsEntered b (caller_of p) call r b'
   pub pass : p' ≡ with_receipt p r
@@ -75,6 +81,7 @@ IsUnentered s call OutOfMemory = Unit {0}
 IsUnentered s call _ = ⊥
 
 -- a refusal of the hub itself: Empty to a Take alone, where the line is empty and the queue isn't shut
+-- rule: hub-call
 abbrev pub IsHubRefusal : State → Call → Refusal → Type 0
 IsHubRefusal s call Empty = FindsNothing s call
 IsHubRefusal s call HistoryFull = Unit {0}

@@ -14,6 +14,7 @@ use Rattle.cj_hub.specs.declared.receipt.Receipt.{Receipt}
 use Rattle.cj_hub.specs.Receipts.{PassView, caller_of}
 
 -- a refusal that isn't entered: Empty to a Take alone
+-- rule: desks
 abbrev pub IsDeskRefusal : Call → Refusal → Type 0
 IsDeskRefusal call Empty = call ≡ Of.Take
 IsDeskRefusal call HistoryFull = Unit {0}
@@ -22,6 +23,7 @@ IsDeskRefusal call OutOfMemory = Unit {0}
 IsDeskRefusal call _ = ⊥
 
 -- a refusal to one who waits where nothing is there to take
+-- rule: waiting-take
 abbrev pub IsWaitRefusal : Refusal → Type 0
 IsWaitRefusal HistoryFull = Unit {0}
 IsWaitRefusal Estranged = Unit {0}
@@ -37,6 +39,7 @@ abbrev pub extended : Ledger → List Told → Ledger
 extended w es = record w { history = more w.history es }
 
 -- the pass got receipts of these entries, all its own, and a history that is told gained just these
+-- rule: desks
 pub record Gains (tells : Bool) (w w' : Ledger) (p p' : PassView) (es : List Told) : Type 0 where
   pub told : IsTrue tells → w' ≡ extended w es
   pub news : List Receipt
@@ -45,6 +48,7 @@ pub record Gains (tells : Bool) (w w' : Ledger) (p p' : PassView) (es : List Tol
   pub kept : p' ≡ record p { receipts = p.receipts ++ news }
 
 -- the entries gained meet F
+-- rule: desks
 pub record Adds (tells : Bool) (w w' : Ledger) (p p' : PassView) (F : List Told → Type 0) : Type 0 where
   pub entries : List Told
   pub gains : Gains tells w w' p p' entries
@@ -59,12 +63,14 @@ pub record IsOne (call : Call) (P : Result Reply Refusal → Type 0) (es : List 
   pub row : IsTrue (is_in_row call entry.answer)
 
 -- what one call adds, by what came of it: an entry with a reply, which the receipt has; an entry with a refusal; or nothing
+-- rule: desks
 abbrev pub IsAsked : Call → Result Receipt Halt → List Told → Type 0
 IsAsked call (Ok r) es = IsOne call (λ a. IsOk a × (a ≡ r.entry.answer)) es
 IsAsked call (Err (Refused r)) es = IsOne call (λ a. IsErr a × (a ≡ r.entry.answer)) es
 IsAsked call (Err (Unentered e)) es = (es ≡ []) × IsDeskRefusal call e
 
 -- the same of a call of whose reply nothing is kept
+-- rule: desks
 abbrev pub IsDone : Call → Result (Unit {0}) Halt → List Told → Type 0
 IsDone call (Ok u) es = IsOne call IsOk es
 IsDone call (Err (Refused r)) es = IsOne call (λ a. IsErr a × (a ≡ r.entry.answer)) es

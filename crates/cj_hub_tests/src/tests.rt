@@ -21,6 +21,7 @@ fn key(rt: &impl Abort, alloc: Global, name: &str) -> Key {
     Key::new(alloc, "default", name).ok().expect(rt, "a key")
 }
 
+// rule: closing
 #[test]
 fn four_users_on_threads(rt: HostRuntime) {
     let alloc = rt.alloc();
@@ -58,6 +59,7 @@ fn four_users_on_threads(rt: HostRuntime) {
     assert_eq!(rt; jobs.as_slice().len(), 0);
 }
 
+// rules: hub-call, closing
 #[test]
 fn a_pass_of_another_hub(rt: HostRuntime) {
     let alloc = rt.alloc();
@@ -93,6 +95,7 @@ fn a_pass_of_another_hub(rt: HostRuntime) {
     assert!(rt; closed.has(&receipt));
 }
 
+// rule: hub-call
 #[test]
 fn a_full_history(rt: HostRuntime) {
     let alloc = rt.alloc();
@@ -123,6 +126,7 @@ fn is_told_of_a_full_history(rt: &impl Wait, hub: &Hub, worker: &mut Pass) -> bo
     matches!(&answer, Err(Refusal::HistoryFull))
 }
 
+// rule: waiting-take
 #[test]
 fn a_waiting_take_is_told_of_a_full_history(rt: HostRuntime) {
     let alloc = rt.alloc();
@@ -139,6 +143,7 @@ fn a_waiting_take_is_told_of_a_full_history(rt: HostRuntime) {
     assert_eq!(rt; worker.receipts().len(), 0);
 }
 
+// rule: hub-state
 #[test]
 fn how_far_the_work_is(rt: HostRuntime) {
     let alloc = rt.alloc();
@@ -175,6 +180,7 @@ fn is_told_of_the_end(rt: &impl Wait, hub: &Hub, worker: &mut Pass) -> bool {
     }
 }
 
+// rule: waiting-take
 #[test]
 fn a_shut_queue_ends_a_waiting_take(rt: HostRuntime) {
     let alloc = rt.alloc();
@@ -197,6 +203,7 @@ fn take<D: Desk>(desk: &mut D, worker: &mut Pass) -> bool {
     }
 }
 
+// rule: desks
 #[test]
 fn a_key_is_taken_at_either_desk(rt: HostRuntime) {
     let alloc = rt.alloc();
@@ -217,6 +224,7 @@ fn a_key_is_taken_at_either_desk(rt: HostRuntime) {
     assert!(rt; take(&mut desk, &mut worker));
 }
 
+// rule: receipts
 #[test]
 fn ten_receipts_and_a_read_back(rt: HostRuntime) {
     let alloc = rt.alloc();

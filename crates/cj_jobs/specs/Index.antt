@@ -61,6 +61,7 @@ abbrev pub stands : map.FinMap place_cmp Job → Owned → Bool
 stands jobs entry = stands_at jobs entry entry.at
 
 -- each Job stands at its own key, and the index has exactly the entries of the Jobs
+-- rule: jobs-of
 pub record IsIndex (jobs : map.FinMap place_cmp Job) (index : BTreeSet Owned) : Type 0 where
   pub keyed : (key : Place) (job : Job) → map.get jobs key ≡ Some job → job.key ≡ key
   pub exact : (entry : Owned) → contains owned_cmp index entry ≡ stands jobs entry

@@ -14,10 +14,12 @@ names name None = false
 names name (Some named) = bytes_eq named name
 
 -- a Job of the key's namespace whose controller reference names a CronJob of the key's name, whatever its uid
+-- rule: jobs-of
 abbrev pub is_job_of : Place → Job → Bool
 is_job_of key job = bytes_eq job.key.namespace key.namespace && names key.name (cron_of job)
 
 -- of Jobs by key those of a CronJob's key, in order of name
+-- rule: jobs-of
 abbrev pub owned_by : map.FinMap place_cmp Job → Place → List Job
 owned_by jobs key = filter (is_job_of key) (map.values jobs)
 

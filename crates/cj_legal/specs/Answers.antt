@@ -17,6 +17,7 @@ is_empty (Err Empty) = true
 is_empty _ = false
 
 -- a Take where the line is empty and the queue isn't shut
+-- rule: hub-call
 pub record FindsNothing (s : State) (call : Call) : Type 0 where
   pub call_is : call ≡ Of.Take
   pub line : s.queue.row.line ≡ []
@@ -27,5 +28,6 @@ abbrev pub Fine : State → Call → Moved → Type 0
 Fine s call m = ((is_empty m.answer ≡ true) × (m.state ≡ s) × FindsNothing s call) ⊎ ((is_empty m.answer ≡ false) × (is_entered m.answer ≡ true) × (is_in_row call m.answer ≡ true))
 
 -- whoever calls whatever
+-- rule: legal
 abbrev pub AnswersFit : Type 0
 AnswersFit = (s : State) (caller : Caller) (call : Call) → Fine s call (step_of s caller call)

@@ -57,6 +57,7 @@ seen_text (Some cron) = codes "ok"
 abbrev pub found : List (Option Job) → ℕ
 found jobs = length (filter is_some jobs)
 
+-- rule: step-line
 unfoldable pub reply_text : Verb → Reply → List ℕ
 reply_text verb (Is.Cron cron) = version_text cron.meta.version
 reply_text verb (Is.Job job) = job_text verb job
@@ -73,6 +74,7 @@ reply_text verb (Is.Claimed claimed) = claimed_text claimed
 reply_text verb (Is.Dropped dropped) = dropped_text dropped
 
 -- a refusal prints its name
+-- rule: step-line
 abbrev pub answer_text : Verb → Result Reply Refusal → List ℕ
 answer_text verb (Ok reply) = reply_text verb reply
 answer_text verb (Err refusal) = refusal_name refusal

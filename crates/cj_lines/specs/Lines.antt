@@ -8,11 +8,13 @@ use Rattle.cj_lines.specs.Answers.{answer_text}
 use Rattle.cj_lines.specs.Words.{verb_word}
 
 -- the place of an entry in the history, counted from 1
+-- rule: step-line
 abbrev pub place_text : Option ℕ → List ℕ
 place_text None = codes "-"
 place_text (Some number) = decimal number
 
 -- `PLACE WHO DO ANSWER`
+-- rule: step-line
 abbrev pub step_line : Option ℕ → List ℕ → Verb → Result Reply Refusal → List ℕ
 step_line place who verb answer =
     place_text place ++ (codes " " ++ (who ++ (codes " " ++ (verb_word verb ++ (codes " " ++ (answer_text verb answer ++ codes "\n"))))))

@@ -14,6 +14,7 @@ moment_text None = codes "-"
 moment_text (Some time) = time_text_of time
 
 -- `cron NAMESPACE/NAME last TIME success TIME active COUNT`
+-- rule: object-lines
 unfoldable pub cron_line : CronJob → List ℕ
 cron_line cron =
     codes "cron " ++ (cron.key.namespace ++ (codes "/" ++ (cron.key.name ++ (codes " last " ++ (moment_text cron.status.last_schedule_time
@@ -33,16 +34,19 @@ state_text (Some (Complete time)) = codes "Complete"
 state_text (Some Failed) = codes "Failed"
 
 -- `job NAMESPACE/NAME OWNER STATE`
+-- rule: object-lines
 unfoldable pub job_line : Job → List ℕ
 job_line job =
     codes "job " ++ (job.key.namespace ++ (codes "/" ++ (job.key.name ++ (codes " " ++ (owner_text job.owners ++ (codes " " ++ (state_text job.outcome ++ codes "\n")))))))
 
 -- a line for each CronJob
+-- rule: object-lines
 abbrev pub cron_lines : List CronJob → List ℕ
 cron_lines [] = []
 cron_lines (cron ∷ crons) = cron_line cron ++ cron_lines crons
 
 -- a line for each Job
+-- rule: object-lines
 abbrev pub job_lines : List Job → List ℕ
 job_lines [] = []
 job_lines (job ∷ jobs) = job_line job ++ job_lines jobs

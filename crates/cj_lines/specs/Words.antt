@@ -35,10 +35,12 @@ plain_word Kind.SetStatus = codes "setStatus"
 plain_word Kind.Finish = codes "finish"
 
 -- the name of a call with a small first letter
+-- rule: step-line
 unfoldable pub verb_word : Verb → List ℕ
 verb_word (Writes verb) = write_word verb
 verb_word (Does verb) = plain_word verb
 
+-- rule: step-line
 unfoldable pub refusal_name : Refusal → List ℕ
 refusal_name No.Syntax = codes "Syntax"
 refusal_name (No.Invalid faults) = codes "Invalid"

@@ -70,6 +70,7 @@ labels_of m = label_map (given (row.labels m))
 abbrev pub annotations_of : Data → List (List ℕ × List ℕ)
 annotations_of m = label_map (given (row.annotations m))
 
+-- rule: drafts
 abbrev pub meta_of : Data → DraftMeta
 meta_of m = record { uid = uid_of m; version = version_of m; labels = labels_of m; annotations = annotations_of m }
 
@@ -124,6 +125,7 @@ then_do None f = None
 then_do (Some x) f = f x
 
 -- the draft of a CronJob, where the objects in it are there
+-- rule: drafts
 abbrev pub cron_draft : Data → Option CronJobDraft
 cron_draft d =
     then_do (result_ok (row.metadata d)) (λ m.
@@ -134,6 +136,7 @@ cron_draft d =
 
 -- ---- a Job
 
+-- rule: drafts
 abbrev pub job_draft : Data → Option JobDraft
 job_draft d =
     then_do (result_ok (row.metadata d)) (λ m.

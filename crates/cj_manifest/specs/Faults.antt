@@ -52,6 +52,7 @@ pod_spec_faults at p = fault_by at.restart_policy (row.restart_policy p)
 abbrev pub pods_faults : PodFields → Data → List FieldFault
 pods_faults at p = with_rows at.spec (pod_spec_faults at) (row.pod_spec p)
 
+-- rule: job-rows
 abbrev pub job_spec_faults : PodFields → Data → List FieldFault
 job_spec_faults at j = with_rows at.template (pods_faults at) (row.pods j)
 
@@ -107,9 +108,11 @@ abbrev pub object_faults : ObjectKind → (Data → List FieldFault) → Data �
 object_faults k spec_faults d = top_faults k d ++ with_rows At.Spec spec_faults (row.spec d)
 
 -- of a CronJob's manifest, under the zones of a table
+-- rule: all-faults
 abbrev pub cron_faults : List Zone → Data → List FieldFault
 cron_faults zones d = with_rows At.Whole (object_faults Of.Cron (cron_spec_faults zones)) (row.whole d)
 
 -- of a Job's
+-- rules: all-faults, job-rows
 abbrev pub job_faults : Data → List FieldFault
 job_faults d = with_rows At.Whole (object_faults Of.Job (job_spec_faults job_fields)) (row.whole d)

@@ -52,12 +52,14 @@ pub record ReadsBack (X : Type 0) (faults : Data → List FieldFault) (draft : D
 
 -- where some bytes are read as the manifest of a CronJob under the zones of a table, each CronJob that has what the draft says
 -- reads back under the same zones as that draft, with the CronJob's uid and version
+-- rule: reads-back
 abbrev pub CronReadsBack : Type 0
 CronReadsBack = (zones : List Zone) (bytes : List ℕ) (draft : CronJobDraft) (warnings : List (List ℕ)) (o : CronJob) →
     IsReading CronJobDraft (cron_faults zones) cron_draft cron_warnings bytes draft warnings → IsCronOf draft o →
     ReadsBack CronJobDraft (cron_faults zones) cron_draft cron_warnings (cron_written o) (record draft { meta = identified draft.meta o.meta })
 
 -- and so each Job
+-- rule: reads-back
 abbrev pub JobReadsBack : Type 0
 JobReadsBack = (bytes : List ℕ) (draft : JobDraft) (warnings : List (List ℕ)) (o : Job) →
     IsReading JobDraft job_faults job_draft job_warnings bytes draft warnings → IsJobOf draft o →

@@ -12,5 +12,6 @@ unless_null (array ds) = Some (array ds)
 unless_null (object ms) = Some (object ms)
 
 -- the member of that name, where it is there
+-- rule: null-absent
 abbrev pub present : List ℕ → Data → Option Data
 present name d = option_and_then unless_null (get name d)

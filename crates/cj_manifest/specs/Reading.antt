@@ -10,6 +10,7 @@ use Rattle.cj_manifest.specs.declared.kind.ObjectKind.{ObjectKind}
 use Rattle.cj_manifest.specs.Table as row
 
 -- the bytes are UTF-8, and as JSON (RFC 8259) they are this value
+-- rule: manifest-json
 abbrev pub Reads : List ℕ → Data → Type 0
 Reads bytes d = IsUtf8 bytes × (read bytes ≡ Some d)
 
@@ -30,6 +31,7 @@ HasFaults faults OutOfMemory = Unit {0}
 HasFaults faults other = ⊥
 
 -- the bytes are a value without a fault, with this draft and these warnings
+-- rule: manifest-json
 pub record IsReading (X : Type 0) (faults : Data → List FieldFault) (draft : Data → Option X) (warnings : Data → List (List ℕ)) (bytes : List ℕ) (x : X) (ws : List (List ℕ)) : Type 0 where
   pub value : Data
   pub reads : Reads bytes value
@@ -38,6 +40,7 @@ pub record IsReading (X : Type 0) (faults : Data → List FieldFault) (draft : D
   pub warned : ws ≡ warnings value
 
 -- the bytes are no JSON, or a value with just these faults, or there was no memory
+-- rule: manifest-json
 abbrev pub IsRefused : (Data → List FieldFault) → List ℕ → Refusal → Type 0
 IsRefused faults bytes Syntax = (d : Data) → Reads bytes d → ⊥
 IsRefused faults bytes (Invalid fs) = (d : Data) × Reads bytes d × (fs ≡ faults d) × (fs ≢ [])

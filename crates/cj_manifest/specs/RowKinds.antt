@@ -38,6 +38,7 @@ text d = or_wrong_type (as_str d)
 abbrev pub truth : Data → Result Bool Cause
 truth d = or_wrong_type (as_bool d)
 
+-- rule: fraction
 abbrev pub an_object : Data → Result Data Cause
 an_object d = if is_some (as_object d) then Ok d else Err Why.WrongType
 
@@ -75,6 +76,7 @@ range most d = and_then (up_to most) (or_wrong_type (as_number d))
 
 -- ---- names
 
+-- rule: all-faults
 abbrev pub name : ℕ → Data → Result (List ℕ) Cause
 name limit d = and_then (λ s. unless (name_cause limit s) s) (text d)
 
@@ -87,6 +89,7 @@ abbrev pub schedule : Data → Result (List ℕ) Cause
 schedule d = and_then (λ s. unless (option_map Why.Schedule (fault_of s)) s) (text d)
 
 -- the name of a zone that is there
+-- rule: all-faults
 abbrev pub zone : List Zone → Data → Result (List ℕ) Cause
 zone zones d = and_then (λ s. when (is_some (zone_named s zones)) Why.Zone s) (text d)
 
@@ -102,10 +105,12 @@ texts d = and_then (λ ms. when (all_texts ms) Why.WrongType ms) (or_wrong_type 
 
 -- ---- required, optional, or with a default
 
+-- rule: all-faults
 abbrev pub required : {A : Type 0} → (Data → Result A Cause) → Option Data → Result A Cause
 required row None = Err Why.Required
 required row (Some d) = row d
 
+-- rule: all-faults
 abbrev pub optional : {A : Type 0} → (Data → Result A Cause) → Option Data → Result (Option A) Cause
 optional row None = Ok None
 optional row (Some d) = and_then (λ x. Ok (Some x)) (row d)

@@ -38,6 +38,7 @@ abbrev pub supported : ObjectKind → Data → Result (List ℕ) Cause
 supported Of.Cron d = either (codes "batch/v1") (codes "batch/v1beta1") d
 supported Of.Job d = choice (codes "batch/v1") d
 
+-- rules: all-faults, v1beta1
 abbrev pub api_version : ObjectKind → Data → Result (List ℕ) Cause
 api_version k d = required (supported k) (present (codes "apiVersion") d)
 
@@ -52,6 +53,7 @@ spec d = required an_object (present (codes "spec") d)
 
 -- ---- in `metadata`
 
+-- rule: all-faults
 abbrev pub name : ObjectKind → Data → Result (List ℕ) Cause
 name k m = required (row.name (name_limit k)) (present (codes "name") m)
 
@@ -76,6 +78,7 @@ owners m = optional owners_in.owners (present (codes "ownerReferences") m)
 
 -- ---- in a CronJob's `spec`
 
+-- rule: all-faults
 abbrev pub schedule : Data → Result (List ℕ) Cause
 schedule s = required row.schedule (present (codes "schedule") s)
 
@@ -122,5 +125,6 @@ pods j = required an_object (present (codes "template") j)
 abbrev pub pod_spec : Data → Result Data Cause
 pod_spec p = required an_object (present (codes "spec") p)
 
+-- rule: all-faults
 abbrev pub restart_policy : Data → Result (List ℕ) Cause
 restart_policy p = required (either (codes "Never") (codes "OnFailure")) (present (codes "restartPolicy") p)

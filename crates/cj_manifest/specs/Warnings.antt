@@ -21,6 +21,7 @@ is_metadata_name k =
     || bytes_eq k (codes "annotations") || bytes_eq k (codes "uid") || bytes_eq k (codes "resourceVersion")
 
 -- those that a server sets, which no client's manifest decides
+-- rule: dropped-silently
 abbrev pub is_set_by_server : List ℕ → Bool
 is_set_by_server k =
     bytes_eq k (codes "managedFields") || bytes_eq k (codes "creationTimestamp")
@@ -38,6 +39,7 @@ is_cron_spec_name k =
     || bytes_eq k (codes "successfulJobsHistoryLimit") || bytes_eq k (codes "failedJobsHistoryLimit")
     || bytes_eq k (codes "jobTemplate")
 
+-- rule: dropped-silently
 abbrev pub is_known : Level → List ℕ → Bool
 is_known In.Top k = is_top_name k
 is_known In.CronMetadata k = is_metadata_name k || is_set_by_server k
@@ -64,6 +66,7 @@ unknown at (member k d ms) =
     if is_known at k || is_none (unless_null d) then unknown at ms else (prefix at ++ k) ∷ unknown at ms
 
 -- of an object, where it is there
+-- rule: warnings
 abbrev pub dropped : Level → Option Data → List (List ℕ)
 dropped at None = []
 dropped at (Some d) = unknown at (unwrap_or (as_object d) no_members)
@@ -84,6 +87,7 @@ abbrev pub version_warnings : Data → List (List ℕ)
 version_warnings d = if is_beta (result_ok (row.api_version Of.Cron d)) then codes "apiVersion" ∷ [] else []
 
 -- first the version of the API, then the members that are dropped
+-- rules: v1beta1, warnings
 abbrev pub cron_warnings : Data → List (List ℕ)
 cron_warnings d =
     version_warnings d
@@ -93,5 +97,6 @@ cron_warnings d =
     ++ dropped In.Template (template_in d)
     ++ dropped In.TemplateMetadata (template_metadata_in d)
 
+-- rule: warnings
 abbrev pub job_warnings : Data → List (List ℕ)
 job_warnings d = dropped In.Top (Some d) ++ dropped In.JobMetadata (result_ok (row.metadata d))

@@ -34,6 +34,7 @@ told jobs (Modified object) = standing jobs object
 told jobs (Deleted object) = gone jobs object
 
 -- and after several, one after the other
+-- rule: mirror
 abbrev pub told_all : Jobs → List Event → Jobs
 told_all jobs events = fold told jobs events
 
@@ -58,9 +59,11 @@ abbrev pub new_mirror : Mirror
 new_mirror = mirror_of empty 0
 
 -- after the events of the next writes
+-- rule: mirror
 abbrev pub fed_with : Mirror → List Event → Mirror
 fed_with m events = mirror_of (told_all m.jobs events) (m.fed + length events)
 
 -- with the Jobs that a list has after so many writes
+-- rule: mirror
 abbrev pub reset_to : List Job → ℕ → Mirror
 reset_to jobs version = mirror_of (listed jobs) version

@@ -29,11 +29,13 @@ abbrev pub next_fed : ℕ → ℕ → ℕ → ℕ → ℕ
 next_fed window count fed max = if nat_lt (fed + window) count then count else min count (fed + max)
 
 -- the Jobs are those that as many writes left; and what the window tells can be fed
+-- rule: mirror
 pub record IsFollowed (window : ℕ) (events : List Event) (n max : ℕ) : Type 0 where
   pub follows : caught_up (mirror_after events n) (since (log_of window events) n max) (values (jobs_after events)) (length events)
       ≡ mirror_after events (next_fed window (length events) n max)
   pub next : (told : List Event) → since (log_of window events) n max ≡ Ok told → IsNumbered n told
 
 -- whatever the writes were and how far the mirror lags
+-- rule: mirror
 abbrev pub MirrorsFollow : Type 0
 MirrorsFollow = (window : ℕ) (events : List Event) (n max : ℕ) → IsNumbered 0 events → n ≤ length events → IsFollowed window events n max

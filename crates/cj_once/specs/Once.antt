@@ -44,6 +44,7 @@ claim_after s (Of.Claim p) answer before = claim_answered s p answer before
 claim_after s call answer before = before
 
 -- the caller's last accepted claim
+-- rule: once
 abbrev pub claim_of : ℕ → List Told → ℕ → Option Claimed
 claim_of window [] w = None
 claim_of window (e ∷ h) w = cond (w == e.caller.number) (claim_after (state_of window h).store e.call e.answer (claim_of window h w)) (claim_of window h w)
@@ -65,6 +66,7 @@ with_made true (Some m) ms = m ∷ ms
 with_made _ _ ms = ms
 
 -- what was claimed for each Job that was made
+-- rule: once
 abbrev pub makes : ℕ → List Told → List Claimed
 makes window [] = []
 makes window (e ∷ h) = with_made (is_making e) (claim_of window h e.caller.number) (makes window h)
@@ -73,14 +75,17 @@ abbrev pub IsNew : Claimed → List Claimed → Type 0
 IsNew m ms = AllByRecursion (λ x. x.owner ≡ m.owner → x.time ≡ m.time → ⊥) ms
 
 -- an accepted making rests on a claim, of an owner and a time that no earlier one has
+-- rule: once
 abbrev pub Once : ℕ → List Told → Type 0
 Once window [] = Unit {0}
 Once window (e ∷ h) = (is_making e ≡ true → (m : Claimed) × (claim_of window h e.caller.number ≡ Some m) × IsNew m (makes window h)) × Once window h
 
+-- rule: alone
 abbrev pub NoneRuns : ℕ → map.FinMap place_cmp Job → Type 0
 NoneRuns u jobs = (q : Place) (j : Job) → map.get jobs q ≡ Some j → runs u j ≡ false
 
 -- what is made under Forbid or Replace is made where no Job of its owner is unfinished
+-- rule: alone
 abbrev pub Alone : ℕ → List Told → Type 0
 Alone window [] = Unit {0}
 Alone window (e ∷ h) =

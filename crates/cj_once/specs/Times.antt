@@ -24,6 +24,7 @@ pub record IsClaim (e : Told) (p : Planned) (time : ℕ) : Type 0 where
   pub answer : e.answer ≡ Ok (Say.Claimed (Some (time, version)))
 
 -- the greatest of the times missed by the CronJob that stands at the key, in its window, at the plan's moment and in the plan's zone
+-- rule: claim-time
 pub record IsLatestMissed (s : Content) (k : Place) (p : Planned) (time : ℕ) : Type 0 where
   pub cron : CronJob
   pub stands : map.get s.crons k ≡ Some cron
@@ -32,10 +33,12 @@ pub record IsLatestMissed (s : Content) (k : Place) (p : Planned) (time : ℕ) :
   pub latest : IsClaimed cron p.at zone time
 
 -- of the key that the worker holds
+-- rule: claim-time
 abbrev pub IsTimely : State → ℕ → Planned → ℕ → Type 0
 IsTimely s w p time = (seat : Seat) × (seat_of s w ≡ Some seat) × IsLatestMissed s.store seat.key p time
 
 -- the time of each accepted claim is the greatest one missed by the CronJob that is current at the claim
+-- rule: claim-time
 abbrev pub Timely : ℕ → List Told → Type 0
 Timely window [] = Unit {0}
 Timely window (e ∷ h) = ((p : Planned) (time : ℕ) → IsClaim e p time → IsTimely (state_of window h) e.caller.number p time) × Timely window h

@@ -7,6 +7,7 @@ use Rattle.cj_program.specs.declared.request.Request.{Request}
 use Rattle.cj_program.specs.declared.request.Request.TheVariants.{Check, Next, Plan}
 
 -- the outcome of a request on an input, where what it holds is known
+-- rule: statuses
 abbrev pub IsOutcome : Request → Option (List ℕ) → Outcome → Type 0
 IsOutcome (Next r) input o = IsNextOutcome r o
 IsOutcome (Check r) input o = IsCheckOutcome r input o

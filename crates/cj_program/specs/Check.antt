@@ -143,5 +143,6 @@ pub record ChecksInput (r : CheckRequest) (input : Option (List ℕ)) (o : Outco
   pub checked : IsChecked zones bytes o
 
 -- what `check` answers, where the input is known
+-- rule: check-lines
 abbrev pub IsCheckOutcome : CheckRequest → Option (List ℕ) → Outcome → Type 0
 IsCheckOutcome r input o = RefusesNamedZone r o ⊎ ChecksInput r input o

@@ -54,6 +54,7 @@ reading_app =
     let top = record bare { top = record bare.top { has_version = true; subcommand_required = true } } in
     with_subcommand (with_subcommand top next_app.top) check_app.top
 
+-- rules: words, help
 abbrev pub cronsim_app : App
 cronsim_app = with_subcommand reading_app plan_app.top
 
@@ -87,6 +88,7 @@ IsOfRows found (Check r) = (rows : List Row) × (found ≡ Some (codes "check", 
 IsOfRows found (Plan r) = (rows : List Row) × (found ≡ Some (codes "plan", rows)) × IsPlan rows r
 
 -- the request is of the subcommand that `clap` states for the words, with the values that it states
+-- rule: words
 abbrev pub IsOf : List Text → Request → Type 0
 IsOf words r = IsOfRows (subcommand_of cronsim_app words) r
 
@@ -97,6 +99,7 @@ file_of (Check r) = Some r.file.now
 file_of (Plan r) = Some r.file.now
 
 -- when words are refused: `clap` doesn't take them, or no request has the values that it states for them
+-- rule: words
 abbrev pub RefusesWords : List Text → WordFault → Type 0
 RefusesWords words (Refused e) = takes cronsim_app words ≢ true
 RefusesWords words Incomplete = (r : Request) → ¬ (IsOf words r)

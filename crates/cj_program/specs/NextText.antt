@@ -28,6 +28,7 @@ pub record Ends (s : Sets) (z : Zone) (after : ℕ) (text : List ℕ) : Type 0 w
 
 -- the lines of so many due instants, each the least one after the one before, or `none` and an end where
 -- there is none
+-- rule: next-lines
 abbrev pub IsNextText : Sets → Zone → ℕ → ℕ → List ℕ → Type 0
 IsNextText s z after zero text = text ≡ []
 IsNextText s z after (suc n) text =

@@ -28,11 +28,13 @@ pub record Outcome : Type 0 where
   pub said : List ℕ
 
 -- the exit status of the program
+-- rule: statuses
 abbrev pub status_of : Verdict → ℕ
 status_of Done = 0
 status_of Refused = 1
 
 -- what standard error says of a failure, which ends with status 3
+-- rule: statuses
 abbrev pub failure_line : Failure → List ℕ
 failure_line Device = codes "cronsim: input or output failed\n"
 failure_line Memory = codes "cronsim: out of memory\n"
@@ -107,5 +109,6 @@ pub record PrintsTimes (r : NextRequest) (o : Outcome) : Type 0 where
   pub answer : o ≡ done text
 
 -- what `next` answers
+-- rule: next-lines
 abbrev pub IsNextOutcome : NextRequest → Outcome → Type 0
 IsNextOutcome r o = RefusesSchedule r o ⊎ RefusesTime r o ⊎ RefusesZone r o ⊎ PrintsTimes r o

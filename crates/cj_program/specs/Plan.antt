@@ -44,6 +44,7 @@ reason_lines [] = []
 reason_lines (reason ∷ reasons) = word_line (codes "reason") (reason_name reason) ++ reason_lines reasons
 
 -- the steps of a plan in their order, then its reasons and when to look again
+-- rule: plan-lines
 abbrev pub plan_lines : Steps → List ℕ
 plan_lines p =
     word_line (codes "claim") (time_value (option_map (λ c. c.time) p.claim))
@@ -101,5 +102,6 @@ pub record PlansInput (r : PlanRequest) (input : Option (List ℕ)) (o : Outcome
   pub planned : IsPlannedFor bytes now o
 
 -- what `plan` answers, where the input is known
+-- rule: plan-lines
 abbrev pub IsPlanOutcome : PlanRequest → Option (List ℕ) → Outcome → Type 0
 IsPlanOutcome r input o = RefusesMoment r o ⊎ PlansInput r input o

@@ -24,6 +24,7 @@ telling_of t = record { status = t.status; printed = string_bytes t.printed; sai
 abbrev pub TellsOf : Error → Telling → Type 0
 TellsOf e t = (IsAsked e × (t.status ≡ 0) × (t.said ≡ [])) ⊎ (¬ (IsAsked e) × (t.status ≡ 2) × (t.printed ≡ []))
 
+-- rule: statuses
 abbrev pub Tells : WordFault → Telling → Type 0
 Tells (Refused e) t = TellsOf e t
 Tells Incomplete t = t ≡ record { status = 2; printed = []; said = codes "cronsim: incomplete words\n" }

@@ -38,5 +38,6 @@ pub record IsAnswerCut (request : Request) (input out out' err err' : Option (Li
   pub cut : IsCut outcome.printed outcome.said out out' err err'
 
 -- a request that ended with status 3
+-- rule: statuses
 abbrev pub IsFailed : Request → Option (List ℕ) → Option (List ℕ) → Option (List ℕ) → Option (List ℕ) → Option (List ℕ) → Type 0
 IsFailed request input out out' err err' = IsUnanswered out out' err err' ⊎ IsAnswerCut request input out out' err err'

@@ -41,6 +41,7 @@ abbrev pub rows_code : Coded Rows
 rows_code = code_by (Row × ℕ) (coded× row_code coded_ℕ) (λ r. (r.row, r.room)) (λ p. record { row = p.0; room = p.1 }) (λ _. refl)
 
 -- no key of the line is being worked on, each of those that were added again is, and no key stands twice in the line
+-- rule: queue-line
 pub record IsLined (line again processing : List Place) : Type 0 where
   pub free : (k : Place) → stands_in line k ≡ true → stands_in processing k ≡ false
   pub held : (k : Place) → stands_in again k ≡ true → stands_in processing k ≡ true

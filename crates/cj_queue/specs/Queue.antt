@@ -27,6 +27,7 @@ row_code =
     (λ r. (r.line, (r.dirty, r.processing))) (λ p. record { line = p.0; dirty = (p.1).0; processing = (p.1).1 }) (λ _. refl)
 
 -- an add (Add): the key is dirty, and goes last in the line unless it was dirty or is being worked on
+-- rule: queue-add
 abbrev pub row_add : Row → Place → Row
 row_add r k =
     if has r.dirty k then r
@@ -42,10 +43,12 @@ take_in r [] = r
 take_in r (k ∷ ks) = record { line = ks; dirty = remove r.dirty k; processing = insert r.processing k tt }
 
 -- a take (Get): the first of the line is being worked on, and no longer dirty
+-- rule: queue-take
 abbrev pub row_take : Row → Row
 row_take r = take_in r r.line
 
 -- the end of the work on a key (Done), which goes last in the line where it is dirty
+-- rule: queue-done
 abbrev pub row_end : Row → Place → Row
 row_end r k = record { line = if has r.dirty k then r.line ++ k ∷ [] else r.line; dirty = r.dirty; processing = remove r.processing k }
 
@@ -87,16 +90,20 @@ abbrev pub with_failures : Queue → FinMap place_cmp ℕ → Queue
 with_failures q f = record { row = q.row; waiting = q.waiting; failures = f; tick = q.tick; shut = q.shut }
 
 -- after the shutdown an add does nothing
+-- rule: queue-add
 abbrev pub added : Queue → Place → Queue
 added q k = if q.shut then q else with_row q (row_add q.row k)
 
+-- rule: queue-take
 abbrev pub taken : Queue → Queue
 taken q = with_row q (row_take q.row)
 
+-- rule: queue-done
 abbrev pub ended : Queue → Place → Queue
 ended q k = with_row q (row_end q.row k)
 
 -- a delayed add (AddAfter): at once where the time is not above the greatest tick, else the key waits
+-- rule: queue-delay
 abbrev pub added_after : Queue → Place → ℕ → Queue
 added_after q k at =
     if q.shut then q
@@ -104,12 +111,14 @@ added_after q k at =
     else with_waiting q (waits_for q.waiting k at)
 
 -- a tick: the keys that are ready are added, by time, then key, and wait no more
+-- rule: queue-tick
 abbrev pub ticked : Queue → ℕ → Queue
 ticked q now =
     if q.shut then record { row = q.row; waiting = q.waiting; failures = q.failures; tick = max q.tick now; shut = q.shut }
     else record { row = row_adds q.row (ready q.waiting now); waiting = without q.waiting (ready q.waiting now); failures = q.failures; tick = max q.tick now; shut = q.shut }
 
 -- the shutdown (ShutDown): nothing waits any more
+-- rule: queue-shut
 abbrev pub closed : Queue → Queue
 closed q = record { row = q.row; waiting = empty; failures = q.failures; tick = q.tick; shut = true }
 
@@ -118,14 +127,17 @@ abbrev pub failures_of : Queue → Place → ℕ
 failures_of q k = unwrap_or (get q.failures k) 0
 
 -- 5 ms, doubled for each failure in a row, and at most 1,000 s (ItemExponentialFailureRateLimiter)
+-- rule: queue-retry
 abbrev pub delay : ℕ → ℕ
 delay f = min (5 * 2 ^ f) 1000000
 
 -- one failure more, counted to 18: from there on the delay is the greatest
+-- rule: queue-retry
 abbrev pub failed : Queue → Place → Queue
 failed q k = with_failures q (insert q.failures k (min (failures_of q k + 1) 18))
 
 -- the failures are counted from 0 again (Forget)
+-- rule: queue-retry
 abbrev pub forgotten : Queue → Place → Queue
 forgotten q k = with_failures q (remove q.failures k)
 
@@ -134,9 +146,11 @@ added_where q k None = q
 added_where q k (Some at) = added_after q k at
 
 -- the end of a sync that went well: done, forget, and a delayed add where there is a next time
+-- rule: queue-retry
 abbrev pub finished_ok : Queue → Place → Option ℕ → Queue
 finished_ok q k at = added_where (forgotten (ended q k) k) k at
 
 -- the end of one that did not: done, a delayed add, one failure more
+-- rule: queue-retry
 abbrev pub finished_retry : Queue → Place → ℕ → Queue
 finished_retry q k now = failed (added_after (ended q k) k (now + delay (failures_of q k))) k

@@ -24,10 +24,12 @@ ready_in [] now = []
 ready_in (p ∷ ps) now = if nat_le p.0 now then p.1 ∷ ready_in ps now else ready_in ps now
 
 -- the keys whose time is not above now, by time, then key
+-- rule: queue-tick
 abbrev pub ready : Waiting → ℕ → List Place
 ready m now = ready_in (keys (by_time m)) now
 
 -- the earlier of the time for which a key waits already, if it does, and another
+-- rule: queue-delay
 abbrev pub earlier : Option ℕ → ℕ → ℕ
 earlier None at = at
 earlier (Some before) at = min before at
@@ -57,6 +59,7 @@ at_time None t = None
 at_time (Some s) t = if s == t then Some tt else None
 
 -- a key stands in the order at its time, and nowhere else
+-- rule: queue-delay
 pub record Agrees (times : BTreeMap Place ℕ) (order : BTreeMap (ℕ × Place) (Unit {0})) : Type 0 where
   pub same : (k : Place) (t : ℕ) → waits_at order t k ≡ at_time (time_of times k) t
 

@@ -27,6 +27,7 @@ abbrev pub Answer : Type 0
 Answer = Result Reply Refusal
 
 -- the key is queued, and became so before each other queued key
+-- rule: looking-back
 pub record IsFirst (h : List Act) (k : Place) : Type 0 where
   pub there : queued h k ≡ true
   pub before : (j : Place) → queued h j ≡ true → key_eq j k ≡ false → Before (since h k) k (since h j) j
@@ -56,6 +57,7 @@ on_finish end None = Err No.OutOfPhase
 on_finish end (Some s) = on_end end s.phase
 
 -- the answer after these acts to a caller with this seat; the store's calls are told elsewhere
+-- rule: looking-back
 abbrev pub Says : List Act → Option Seat → Role → Call → Answer → Type 0
 Says h o Informer (Of.Add k) a = a ≡ Ok Say.Done
 Says h o Informer (Of.Tick now) a = a ≡ Ok Say.Done

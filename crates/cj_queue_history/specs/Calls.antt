@@ -50,14 +50,17 @@ May (ends next) t h = IsSome t
 May (fails now) t h = IsSome t
 May d t h = Unit {0}
 
+-- rule: queued-history
 abbrev pub IsFit : List Act → Type 0
 IsFit [] = Unit {0}
 IsFit (a ∷ h) = May a.deed (key_by h a.by) h × IsFit h
 
 -- whatever the acts are: their calls leave what they say
+-- rule: queued-history
 abbrev pub FitLaw : Type 0
 FitLaw = (h : List Act) → IsFit h → IsQueue h (queue_of h)
 
 -- and the acts of a history leave its queue
+-- rule: queued-history
 abbrev pub ActLaw : Type 0
 ActLaw = (window : ℕ) (h : List Told) → IsLegal window h → (state_of window h).queue ≡ queue_of (acts h)

@@ -57,6 +57,7 @@ pub record Act : Type 0 where
   pub deed : Deed
 
 -- of each entry of a history, by the seat that its caller's own entries before it say
+-- rule: queued-history
 abbrev pub acts : List Told → List Act
 acts [] = []
 acts (e ∷ h) = record { by = e.caller.number; deed = deed (seat h e.caller.number) e.call e.answer } ∷ acts h

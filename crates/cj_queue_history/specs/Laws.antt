@@ -9,6 +9,7 @@ use Rattle.cj_queue_history.specs.Deeds.{Act, acts}
 use Rattle.cj_queue_history.specs.LookBacks.{held, dirty, shut, mark, failures, ready_at, IsLine}
 
 -- it is what the acts say; failures are counted to 18, from where on the delay is the greatest
+-- rule: queued-history
 pub record IsQueue (h : List Act) (q : Queue) : Type 0 where
   pub line : IsLine h q.row.line
   pub dirty : (k : Place) → has q.row.dirty k ≡ dirty h k
@@ -19,5 +20,6 @@ pub record IsQueue (h : List Act) (q : Queue) : Type 0 where
   pub shut : q.shut ≡ shut h
 
 -- whoever called whatever
+-- rule: queued-history
 abbrev pub QueueLaw : Type 0
 QueueLaw = (window : ℕ) (h : List Told) → IsLegal window h → IsQueue (acts h) (state_of window h).queue

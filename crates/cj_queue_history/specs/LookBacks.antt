@@ -24,6 +24,7 @@ is_by None w = false
 is_by (Some v) w = v == w
 
 -- who took the key last, where no end by the same caller came after
+-- rule: queued-history
 abbrev pub holder : List Act → Place → Option ℕ
 holder [] k = None
 holder (a ∷ h) k =
@@ -63,6 +64,7 @@ counts (fails now) true was = was + 1
 counts d is_its was = was
 
 -- how often a sync of the key was to be tried again since the last that ended well
+-- rule: queued-history
 abbrev pub failures : List Act → Place → ℕ
 failures [] k = 0
 failures (a ∷ h) k = counts a.deed (is_holder h a k) (failures h k)
@@ -94,6 +96,7 @@ waits_in (ticks now) is_over m at was = if is_within was now then None else was
 waits_in d is_over m at was = if is_over then was else waits_more at m was
 
 -- the least time for which the key waits, of the delayed adds since it last was ready; after a shutdown nothing waits
+-- rule: queued-history
 abbrev pub ready_at : List Act → Place → Option ℕ
 ready_at [] k = None
 ready_at (a ∷ h) k = waits_in a.deed (shut h) (mark h) (later h a k) (ready_at h k)
@@ -110,10 +113,12 @@ abbrev pub is_add : List Act → Act → Place → Bool
 is_add h a k = not (shut h) && adds_in a.deed k (mark h) (later h a k) (ready_at h k)
 
 -- some add of the key has no later take of it
+-- rule: queued-history
 abbrev pub dirty : List Act → Place → Bool
 dirty [] k = false
 dirty (a ∷ h) k = is_add h a k || (not (is_take a.deed k) && dirty h k)
 
+-- rule: queued-history
 abbrev pub queued : List Act → Place → Bool
 queued h k = dirty h k && not (held h k)
 
@@ -127,6 +132,7 @@ time_in (ticks now) was = time_of was
 time_in d was = 0
 
 -- the place of the act by which the key last became queued, and its time among those of a tick
+-- rule: queued-history
 abbrev pub since : List Act → Place → ℕ × ℕ
 since [] k = (0, 0)
 since (a ∷ h) k = if queued (a ∷ h) k && not (queued h k) then (length (a ∷ h), time_in a.deed (ready_at h k)) else since h k
@@ -141,6 +147,7 @@ RisesBy f [] = Unit {0}
 RisesBy f (x ∷ xs) = ((y : Place) → stands_in xs y ≡ true → Before (f x) x (f y) y) × RisesBy f xs
 
 -- the line: just the queued keys, each once, in the order in which they became queued
+-- rule: queued-history
 pub record IsLine (h : List Act) (xs : List Place) : Type 0 where
   pub members : (k : Place) → stands_in xs k ≡ queued h k
   pub order : RisesBy (since h) xs

@@ -25,5 +25,6 @@ pub record IsStingyQueue (q : Queue) : Type 0 where
   pub quiet : q.shut ≡ true → q.waiting ≡ empty
 
 -- whatever was called
+-- rule: queue-line
 abbrev pub QueuesAreStingy : Type 0
 QueuesAreStingy = (q : Queue) → IsReached q → IsStingyQueue q

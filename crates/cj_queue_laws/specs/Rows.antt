@@ -16,6 +16,7 @@ AreOnce (k ∷ ks) = (IsIn k ks → ⊥) × AreOnce ks
 
 -- a key of the line stands there once, wants work and is not being worked on; and a key that wants work stands there, unless
 -- it is being worked on
+-- rule: queue-line
 pub record IsStingy (r : Row) : Type 0 where
   pub once : AreOnce r.line
   pub wanted : (k : Place) → IsIn k r.line → has r.dirty k ≡ true
@@ -24,6 +25,7 @@ pub record IsStingy (r : Row) : Type 0 where
 
 -- so it is at first and after each call, of which the end of the work on a key needs that it is being worked on; and adds
 -- leave it as it is what is being worked on
+-- rule: queue-line
 pub record RowsStayStingy : Type 0 where
   pub new : IsStingy new_row
   pub add : (r : Row) (k : Place) → IsStingy r → IsStingy (row_add r k)

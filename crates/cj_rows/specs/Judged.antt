@@ -5,6 +5,7 @@ use Rattle.cj_rows.specs.Run.{Given, IsRun}
 use Rattle.cj_rows.specs.declared.tally.Tally.{Tally}
 
 -- a run is as its row wants it where all three are
+-- rule: rows
 pub record IsWanted (r : Stated) (g : Given) : Type 0 where
   pub status : g.status ≡ r.status
   pub printed : g.printed ≡ r.stdout
@@ -55,6 +56,7 @@ AddsLine file line text old new =
     ((is_comment text ≡ true) × (new ≡ old)) ⊎ ((is_comment text ≡ false) × AddsRow file line text old new)
 
 -- the lines one after another, from that number on
+-- rule: rows
 abbrev pub AddsLines : List ℕ → ℕ → List (List ℕ) → Count → Count → Type 0
 AddsLines file line [] old new = new ≡ old
 AddsLines file line (text ∷ texts) old new =

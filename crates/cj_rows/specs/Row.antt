@@ -54,6 +54,7 @@ pub record IsRow (d : Data) (r : Stated) : Type 0 where
   pub small : r.status ≤ 255
 
 -- the line is such a value
+-- rule: rows
 pub record IsRowLine (line : List ℕ) (r : Stated) : Type 0 where
   pub value : Data
   pub read : read_text line ≡ Some value
@@ -65,6 +66,7 @@ is_comment [] = false
 is_comment (b ∷ bs) = b == 35
 
 -- the lines that have to be rows
+-- rule: rows
 abbrev pub rows_in : List (List ℕ) → List (List ℕ)
 rows_in lines = filter (λ line. not (is_comment line)) lines
 

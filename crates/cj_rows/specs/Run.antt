@@ -49,5 +49,6 @@ IsRunOf words input g =
     ⊎ ((fault : WordFault) × RefusesWords words fault × IsToldOf fault g)
 
 -- the same of a row's words
+-- rule: rows
 abbrev pub IsRun : List (List ℕ) → List ℕ → Given → Type 0
 IsRun words input g = IsRunOf (codes "cronsim" ∷ words) input g

@@ -88,6 +88,7 @@ pub record Says (d : Data) (s : Scene) : Type 0 where
   pub active : s.active ≡ map (λ job. Some job) (live_jobs s.jobs)
 
 -- what the bytes of a scenario say
+-- rule: plan-scenario
 abbrev pub IsScene : List ℕ → Scene → Type 0
 IsScene bytes s = (d : Data) × Reads bytes d × Says d s
 
@@ -111,6 +112,7 @@ IsRefusedValue d Memory = Unit {0}
 IsRefusedValue d Syntax = ⊥
 
 -- why bytes are none: they are no JSON; else the value that they are is none; or there was no memory
+-- rule: plan-scenario
 abbrev pub IsRefusedScene : List ℕ → SceneFault → Type 0
 IsRefusedScene bytes Syntax = IsNoValue bytes
 IsRefusedScene bytes Memory = Unit {0}

@@ -128,6 +128,7 @@ pub record Form : Type 0 where
   pub last : Option ℕ
   pub jobs : List GivenJob
 
+-- rule: plan-scenario
 pub record IsForm (d : Data) (f : Form) : Type 0 where
   pub zones : AreZones (present (codes "zones") d) f.zones
   pub manifest : present (codes "manifest") d ≡ Some f.manifest
@@ -146,5 +147,6 @@ abbrev pub names_of : List Zone → List (List ℕ)
 names_of zones = map (λ z. z.name) zones
 
 -- a value of no form
+-- rule: plan-scenario
 abbrev pub IsNoForm : Data → Type 0
 IsNoForm d = (f : Form) → IsForm d f → ⊥

@@ -86,6 +86,7 @@ IsTextFault text Order = ⊥
 IsTextFault text Step = ⊥
 
 -- the fault is one of the whole text, at field 0 and byte 0, or one of a field
+-- rule: one-fault
 abbrev pub IsFault : List ℕ → ScheduleFault → Type 0
 IsFault text fault =
     ((fault.field ≡ 0) × (fault.byte ≡ 0) × IsTextFault text fault.cause)

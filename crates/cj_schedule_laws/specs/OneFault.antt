@@ -12,19 +12,23 @@ abbrev pub IsWhole : List ℕ → Type 0
 IsWhole text = (cause : ScheduleCause) → IsTextFault text cause → ⊥
 
 -- a fault of the whole text, at field 0 and byte 0; where there is none, that of the first faulty field
+-- rule: one-fault
 abbrev pub IsFaultOf : List ℕ → ScheduleFault → Type 0
 IsFaultOf text fault =
     ((fault.field ≡ 0) × (fault.byte ≡ 0) × IsTextFault text fault.cause)
     ⊎ (IsWhole text × HasFieldFault text fault)
 
 -- no text has two faults
+-- rule: one-fault
 abbrev pub NoTwoFaults : Type 0
 NoTwoFaults = (text : List ℕ) (a b : ScheduleFault) → IsFaultOf text a → IsFaultOf text b → a ≡ b
 
 -- a text that has a fault is no schedule
+-- rule: one-fault
 abbrev pub FaultyIsNoSchedule : Type 0
 FaultyIsNoSchedule = (text : List ℕ) (fault : ScheduleFault) → IsFaultOf text fault → (s : Sets) → IsSchedule text s → ⊥
 
 -- the fault by which a text is refused is one that it has
+-- rule: one-fault
 abbrev pub ToldIsFault : Type 0
 ToldIsFault = (text : List ℕ) (fault : ScheduleFault) → fault_of text ≡ Some fault → IsFaultOf text fault

@@ -35,9 +35,11 @@ abbrev pub with_callers : List Named → Members → Option (List Named)
 with_callers callers no_members = Some callers
 with_callers callers (member name d ms) = option_and_then (λ role. with_callers (with_role callers name role) ms) (role_in (unless_null d))
 
+-- rule: script
 abbrev pub callers_in : Data → Option (List Named)
 callers_in d = option_and_then (with_callers []) (option_and_then as_object (present (codes "callers") d))
 
 -- the caller of that name, if one has it
+-- rule: script
 abbrev pub caller_named : List Named → List ℕ → Option Named
 caller_named callers name = find (λ named. bytes_eq named.name name) callers

@@ -21,6 +21,7 @@ then (Ok x) f = f x
 then (Err e) f = Err e
 
 -- the draft of a manifest with these faults
+-- rule: script-order
 abbrev pub drafted : {A : Type 0} → List FieldFault → Option A → Result A SceneFault
 drafted [] draft = needed draft
 drafted (fault ∷ others) draft = Err (Manifest fault)

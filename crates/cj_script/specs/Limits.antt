@@ -15,6 +15,7 @@ abbrev pub limits_of : ℕ → ℕ → Option Kept
 limits_of history window =
     if nat_le 1 history && nat_le history last_history && nat_le 1 window && nat_le window last_window then Some (kept history window) else None
 
+-- rule: script
 abbrev pub limits_in : Data → Option Kept
 limits_in d =
     option_and_then (λ history.

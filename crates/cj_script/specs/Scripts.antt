@@ -19,6 +19,7 @@ use Rattle.cj_script.specs.Limits.{limits_in}
 use Rattle.cj_script.specs.Steps.{steps_of}
 
 -- the limits and the steps that a value says under its zones; or the fault of its form, else the first of a manifest
+-- rule: script
 abbrev pub told_in : List Zone → Data → Result (Kept × List Step) SceneFault
 told_in zones d =
     then (needed (limits_in d)) (λ limits.
@@ -27,12 +28,14 @@ told_in zones d =
     then (steps_of zones callers items) (λ steps. Ok (limits, steps)))))
 
 -- a value says this: its zones beside UTC, which is the local one, and under these its limits and its steps
+-- rule: script
 pub record Says (d : Data) (s : Script) : Type 0 where
   pub zones : AreZones (present (codes "zones") d) (zones_of s.zones)
   pub local : local_zone s.zones ≡ Some (utc_zone (codes "UTC"))
   pub told : told_in (zones_of s.zones) d ≡ Ok (s.limits, s.steps.items)
 
 -- what the bytes of a script say
+-- rule: script
 abbrev pub IsScript : List ℕ → Script → Type 0
 IsScript bytes s = (d : Data) × Reads bytes d × Says d s
 
@@ -47,6 +50,7 @@ pub record IsAtFault (d : Data) (e : SceneFault) : Type 0 where
   pub told : told_in zones d ≡ Err e
 
 -- why a value is no script: its form or one of its zones; else a manifest; or there was no memory
+-- rule: script-order
 abbrev pub IsRefusedValue : Data → SceneFault → Type 0
 IsRefusedValue d Form = HasNoZones d ⊎ IsAtFault d Form
 IsRefusedValue d (Manifest fault) = IsAtFault d (Manifest fault)
@@ -54,6 +58,7 @@ IsRefusedValue d Memory = Unit {0}
 IsRefusedValue d Syntax = ⊥
 
 -- why bytes are none: they are no JSON; else the value that they are is none; or there was no memory
+-- rule: script-order
 abbrev pub IsRefusedScript : List ℕ → SceneFault → Type 0
 IsRefusedScript bytes Syntax = IsNoValue bytes
 IsRefusedScript bytes Memory = Unit {0}

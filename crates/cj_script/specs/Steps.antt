@@ -21,10 +21,12 @@ use Rattle.cj_script.specs.Writes.{write_act}
 -- ---- one step
 
 -- `who` is the name of a caller
+-- rule: step-form
 abbrev pub who_in : List Named → Data → Option Named
 who_in callers d = option_and_then (caller_named callers) (option_and_then as_str (present (codes "who") d))
 
 -- `do` is the word of a verb
+-- rule: step-form
 abbrev pub verb_in : Data → Option Verb
 verb_in d = option_and_then verb_named (option_and_then as_str (present (codes "do") d))
 
@@ -32,6 +34,7 @@ abbrev pub act_of : List Zone → Verb → Data → Result Act SceneFault
 act_of zones (Writes verb) d = write_act zones verb d
 act_of zones (Does verb) d = needed (plain_act verb d)
 
+-- rule: step-form
 unfoldable pub step_of : List Zone → List Named → Data → Result Step SceneFault
 step_of zones callers d =
     then (needed (who_in callers d)) (λ named.
@@ -57,6 +60,7 @@ before steps (Ok others) = Ok (steps ++ others)
 before steps (Err e) = Err e
 
 -- a step before others: a fault of the form outweighs every manifest's, and a manifest's those of later ones
+-- rule: script-order
 abbrev pub both : Result Step SceneFault → Result (List Step) SceneFault → Result (List Step) SceneFault
 both (Ok step) rest = before (step ∷ []) rest
 both (Err Syntax) rest = Err Syntax
@@ -64,6 +68,7 @@ both (Err Form) rest = Err Form
 both (Err (Manifest fault)) rest = after_fault fault rest
 both (Err Memory) rest = Err Memory
 
+-- rule: script-order
 abbrev pub steps_of : List Zone → List Named → Items → Result (List Step) SceneFault
 steps_of zones callers no_items = Ok []
 steps_of zones callers (item d ds) = both (step_of zones callers d) (steps_of zones callers ds)

@@ -36,6 +36,7 @@ create_job d = then (needed (moment_in d)) (λ at. job_act (λ draft. Of.CreateJ
 abbrev pub update_job : Data → Result Act SceneFault
 update_job d = job_act (λ draft. Of.UpdateJob draft) d
 
+-- rule: step-form
 abbrev pub write_act : List Zone → Write → Data → Result Act SceneFault
 write_act zones Kind.CreateCron d = create_cron zones d
 write_act zones Kind.UpdateCron d = update_cron zones d

@@ -74,6 +74,7 @@ fn lines(alloc: Global, script: &Script) -> Result<String, AllocError> {
     Ok(text)
 }
 
+// rules: script, step-form, step-line
 #[test]
 fn every_kind_of_step_is_read(rt: HostRuntime) -> Result<(), Fail> {
     let script = read_script(rt.alloc(), ALL.as_bytes())?;

@@ -69,6 +69,7 @@ const ANSWERS: [(&str, &str); 19] = [
     ),
 ];
 
+// rules: script-order, step-form
 #[test]
 fn scripts_are_refused_for_their_first_reason(rt: HostRuntime) -> Result<(), Fail> {
     for (members, wanted) in &ANSWERS {

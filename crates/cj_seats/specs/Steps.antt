@@ -20,10 +20,12 @@ settings None = []
 settings (Some s) = sets s ∷ []
 
 -- the drops, the making, the cleanup, the final status
+-- rule: plan-steps
 abbrev pub all_steps : Steps → List Step
 all_steps s = map drops s.drop_first ++ (makings s.make ++ (map drops s.cleanup ++ settings s.status))
 
 -- the step after so many, if there is one
+-- rule: plan-steps
 unfoldable pub step_at : Steps → ℕ → Option Step
 step_at s place = slice_get (all_steps s) place
 

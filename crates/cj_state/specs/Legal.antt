@@ -14,11 +14,13 @@ use Rattle.cj_state.specs.declared.state.State.{State}
 use Rattle.cj_state.specs.Step.{step_of, start}
 
 -- the state that a history leaves, where the watch keeps so many events
+-- rule: history
 abbrev pub state_of : ℕ → List Told → State
 state_of window [] = start window
 state_of window (e ∷ h) = (step_of (state_of window h) e.caller e.call).state
 
 -- what the call is answered after the history
+-- rule: history
 abbrev pub answer_of : ℕ → List Told → Caller → Call → Result Reply Refusal
 answer_of window h caller call = (step_of (state_of window h) caller call).answer
 
@@ -30,6 +32,7 @@ is_entered (Err OutOfMemory) = false
 is_entered _ = true
 
 -- each answer is the one that the entries before it give
+-- rule: legal
 abbrev pub IsLegal : ℕ → List Told → Type 0
 IsLegal window [] = Unit {0}
 IsLegal window (e ∷ h) = (e.answer ≡ answer_of window h e.caller e.call) × (is_entered e.answer ≡ true) × IsLegal window h
@@ -39,5 +42,6 @@ abbrev pub IsPlanned : Call → Type 0
 IsPlanned (Of.Claim p) = IsDecided p
 IsPlanned _ = Unit {0}
 
+-- rule: legal
 abbrev pub ArePlanned : List Told → Type 0
 ArePlanned h = AllByRecursion (λ e. IsPlanned e.call) h

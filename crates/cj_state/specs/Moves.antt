@@ -75,6 +75,7 @@ abbrev pub take_by : State → ℕ → Option Seat → Moved
 take_by s w None = take_first s w (first s.queue.row.line)
 take_by s w (Some seat) = refused s OutOfPhase
 
+-- rule: phases
 unfoldable pub take : State → ℕ → Moved
 take s w = take_by s w (seat_of s w)
 
@@ -84,6 +85,7 @@ abbrev pub see_cron_in : State → ℕ → Place → Phase → Moved
 see_cron_in s w k Held = moved (Ok (Say.SeenCron (map.get s.store.crons k))) (seated s w k (Seen (map.get s.store.crons k)))
 see_cron_in s w k _ = refused s OutOfPhase
 
+-- rule: phases
 unfoldable pub see_cron : State → ℕ → Moved
 see_cron s w = by_seat s (see_cron_in s w) (seat_of s w)
 
@@ -91,6 +93,7 @@ abbrev pub see_jobs_in : State → ℕ → Place → Phase → Moved
 see_jobs_in s w k (Seen c) = moved (Ok (Say.SeenJobs (listed_of s k))) (seated s w k (Listed c (listed_of s k)))
 see_jobs_in s w k _ = refused s OutOfPhase
 
+-- rule: phases
 unfoldable pub see_jobs : State → ℕ → Moved
 see_jobs s w = by_seat s (see_jobs_in s w) (seat_of s w)
 
@@ -98,6 +101,7 @@ abbrev pub see_active_in : State → ℕ → Place → Phase → Moved
 see_active_in s w k (Listed c js) = moved (Ok (Say.SeenActive (active_of s.store c))) (seated s w k (Checked c js (active_of s.store c)))
 see_active_in s w k _ = refused s OutOfPhase
 
+-- rule: phases
 unfoldable pub see_active : State → ℕ → Moved
 see_active s w = by_seat s (see_active_in s w) (seat_of s w)
 
@@ -131,6 +135,7 @@ abbrev pub claim_in : State → ℕ → Planned → Place → Phase → Moved
 claim_in s w p k (Checked c js ks) = if rests_on p c js ks then claim_where s w k p p.steps.claim else refused s Stale
 claim_in s w p k _ = refused s OutOfPhase
 
+-- rules: phases, claim-inputs
 unfoldable pub claim : State → ℕ → Planned → Moved
 claim s w p = by_seat s (claim_in s w p) (seat_of s w)
 
@@ -164,6 +169,7 @@ abbrev pub drop_in : State → ℕ → Place → Phase → Moved
 drop_in s w k (Works work) = drop_where s w k work (as_drop (step_at work.plan.steps work.place))
 drop_in s w k _ = refused s OutOfPhase
 
+-- rules: phases, plan-steps
 unfoldable pub drop_next : State → ℕ → Moved
 drop_next s w = by_seat s (drop_in s w) (seat_of s w)
 
@@ -185,6 +191,7 @@ abbrev pub make_in : State → ℕ → Place → Phase → Moved
 make_in s w k (Works work) = make_where s w k work (as_make (step_at work.plan.steps work.place))
 make_in s w k _ = refused s OutOfPhase
 
+-- rules: phases, plan-steps
 unfoldable pub make_next : State → ℕ → Moved
 make_next s w = by_seat s (make_in s w) (seat_of s w)
 
@@ -204,6 +211,7 @@ abbrev pub status_in : State → ℕ → Place → Phase → Moved
 status_in s w k (Works work) = status_where s w k work (as_status (step_at work.plan.steps work.place))
 status_in s w k _ = refused s OutOfPhase
 
+-- rules: phases, plan-steps
 unfoldable pub set_status : State → ℕ → Moved
 set_status s w = by_seat s (status_in s w) (seat_of s w)
 
@@ -227,5 +235,6 @@ abbrev pub finish_in : State → ℕ → End → Place → Phase → Moved
 finish_in s w (Again now) k p = leaves s w (finished_retry s.queue k now)
 finish_in s w Well k p = finish_well s w k p
 
+-- rules: phases, finish
 unfoldable pub finish : State → ℕ → End → Moved
 finish s w end = by_seat s (finish_in s w end) (seat_of s w)

@@ -15,10 +15,12 @@ use Rattle.cj_mirror.specs.Laws.{caught_up}
 use Rattle.cj_state.specs.declared.state.State.{State}
 
 -- the Jobs of a CronJob's key as the list has them, in order of name
+-- rule: lagging-listing
 abbrev pub listed_of : State → Place → List Job
 listed_of s k = owned_by s.mirror.jobs k
 
 -- the list after the events of so many writes more, or with all current Jobs where some of these events are gone
+-- rule: lagging-listing
 abbrev pub fed_up : State → ℕ → Mirror
 fed_up s max = caught_up s.mirror (since s.watch s.mirror.fed max) (map.values s.store.jobs) s.store.version
 
@@ -31,6 +33,7 @@ abbrev pub active_job : Content → List ℕ → List ℕ → List ℕ → Optio
 active_job s uid namespace name = if_mine uid (map.get s.jobs (place namespace name))
 
 -- of each name that the seen status names as active
+-- rule: live-read
 abbrev pub active_of : Content → Option CronJob → List (Option Job)
 active_of s None = []
 active_of s (Some cron) = map_list (active_job s (uid_text cron.meta.uid) cron.key.namespace) cron.status.active

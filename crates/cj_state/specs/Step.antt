@@ -69,6 +69,7 @@ by_reader s Of.ListJobs = moved (Ok (Say.Jobs (map.values s.store.jobs) s.store.
 by_reader s (Of.Watch v max) = told_events s (since s.watch v max)
 by_reader s _ = refused s NotPermitted
 
+-- rule: roles
 abbrev pub by_user : State → Call → Moved
 by_user s (Of.CreateCron d n) = writes s event_reply (map_ok cron_added (cron_created s.store d n))
 by_user s (Of.UpdateCron d) = writes s event_reply (map_ok cron_modified (cron_updated s.store d))
@@ -78,10 +79,12 @@ by_user s (Of.UpdateJob d) = writes s event_reply (map_ok job_modified (job_upda
 by_user s (Of.DeleteJob k) = writes s version_reply (map_ok job_gone (job_deleted s.store k None))
 by_user s call = by_reader s call
 
+-- rule: roles
 abbrev pub by_runner : State → Call → Moved
 by_runner s (Of.EndJob k u o n) = writes s event_reply (map_ok job_modified (job_ended s.store k u o n))
 by_runner s call = by_reader s call
 
+-- rule: roles
 abbrev pub by_informer : State → Call → Moved
 by_informer s (Of.Add k) = add s k
 by_informer s (Of.Tick now) = tick s now
@@ -89,6 +92,7 @@ by_informer s Of.Shut = shut s
 by_informer s (Of.Feed max) = feed s max
 by_informer s call = by_reader s call
 
+-- rule: roles
 abbrev pub by_worker : State → ℕ → Call → Moved
 by_worker s w Of.Take = take s w
 by_worker s w Of.SeeCron = see_cron s w
@@ -101,6 +105,7 @@ by_worker s w Of.SetStatus = set_status s w
 by_worker s w (Of.Finish end reasons) = finish s w end
 by_worker s w _ = refused s NotPermitted
 
+-- rules: history, roles
 abbrev pub by_role : State → Role → ℕ → Call → Moved
 by_role s User w call = by_user s call
 by_role s Runner w call = by_runner s call
@@ -108,6 +113,7 @@ by_role s Informer w call = by_informer s call
 by_role s Worker w call = by_worker s w call
 
 -- what the call answers and leaves
+-- rule: history
 unfoldable pub step_of : State → Caller → Call → Moved
 step_of s caller call = by_role s caller.role caller.number call
 

@@ -16,6 +16,7 @@ abbrev pub names_of : List JobRef → List (List ℕ)
 names_of refs = map (λ r. r.key.name) refs
 
 -- the names of the unfinished Jobs of the CronJob with this uid, in byte order
+-- rule: final-status
 abbrev pub active_of : List Job → List ℕ → List (List ℕ)
 active_of jobs uid = names_of (picked Meant.Running ByName uid jobs)
 
@@ -26,6 +27,7 @@ placed Equal name first others rest = first ∷ others
 placed Greater name first others rest = first ∷ rest
 
 -- names in byte order with one more, which stands there once
+-- rule: claim-status
 abbrev pub names_with : List ℕ → List (List ℕ) → List (List ℕ)
 names_with name [] = name ∷ []
 names_with name (first ∷ others) = placed (slice_cmp nat_cmp name first) name first others (names_with name others)
@@ -36,6 +38,7 @@ is_found uid name None = false
 is_found uid name (Some job) = bytes_eq job.key.name name && is_running uid job
 
 -- of names with what a live read found for each, those whose Job it found unfinished
+-- rule: final-status
 abbrev pub still_active : List ℕ → List (List ℕ) → List (Option Job) → List (List ℕ)
 still_active uid [] found = []
 still_active uid (name ∷ names) [] = []

@@ -21,5 +21,6 @@ later (Some s) None = Some s
 later (Some s) (Some t) = Some (max s t)
 
 -- the greatest of a time, if there is one, and the completion times of the Jobs
+-- rule: final-status
 abbrev pub success_of : Option ℕ → List Job → List ℕ → Option ℕ
 success_of standing jobs uid = fold (λ last job. later last (completed_at uid job)) standing jobs

@@ -14,6 +14,7 @@ abbrev pub newer_count : List JobRef → JobRef → ℕ
 newer_count all r = length (filter (is_older r) all)
 
 -- a finished Job is kept where fewer of its outcome than that outcome's limit are newer
+-- rule: kept
 abbrev pub is_kept : ℕ → List JobRef → JobRef → Bool
 is_kept limit all r = nat_lt (newer_count all r) limit
 
@@ -25,6 +26,7 @@ abbrev pub surplus_by : Pick → ℕ → List ℕ → List Job → List JobRef
 surplus_by pick limit uid jobs = not_kept limit (picked pick ByAge uid jobs)
 
 -- first all that ended with success, then all that failed
+-- rule: kept
 abbrev pub surplus_of : ℕ → ℕ → List ℕ → List Job → List JobRef
 surplus_of successful failed uid jobs =
     surplus_by Meant.Completed successful uid jobs ++ surplus_by Meant.Failed failed uid jobs

@@ -38,6 +38,7 @@ map_ok f (Ok x) = Ok (f x)
 map_ok f (Err e) = Err e
 
 -- the content after the write: one version more, one uid more after a creation
+-- rules: versions, events
 abbrev pub after : Content → Event → Content
 after s (Added (Of.Cron c)) = record s { crons = map.insert s.crons c.key c; version = s.version + 1; uids = s.uids + 1 }
 after s (Modified (Of.Cron c)) = record s { crons = map.insert s.crons c.key c; version = s.version + 1 }
@@ -61,5 +62,6 @@ Stands s (Modified (Of.Job j)) = (owners_at s j.key ≡ Some j.owners) × (uid_a
 Stands s (Deleted (Of.Job j)) = (owners_at s j.key ≡ Some j.owners) × (uid_at s (JobAt j.key) ≡ Some j.meta.uid)
 
 -- the content is the one that the change was planned for, as far as numbers tell: its version is that of the next write
+-- rule: planned-change
 abbrev pub IsFor : Content → Event → Type 0
 IsFor s e = (version_of e ≡ s.version + 1) × Stands s e

@@ -11,6 +11,7 @@ use Rattle.cj_types.specs.declared.job.Job.{Job}
 use Rattle.cj_types.specs.contracts.job.Job.{the_row as job}
 
 -- the current objects of both kinds by key, the count of writes, and the count of creations
+-- rule: store-objects
 pub record Content : Type 0 where
   pub crons : map.FinMap place_cmp CronJob
   pub jobs : map.FinMap place_cmp Job
@@ -52,6 +53,7 @@ abbrev pub HasOwnUids : Content → Type 0
 HasOwnUids s = (g h : Home) (m n : Meta) → meta_at s g ≡ Some m → meta_at s h ≡ Some n → m.uid ≡ n.uid → g ≡ h
 
 -- each object stands at its own key and wasn't changed more often than there were writes
+-- rule: store-objects
 pub record IsSound (s : Content) : Type 0 where
   pub crons : (k : Place) (c : CronJob) → map.get s.crons k ≡ Some c → (c.key ≡ k) × (c.meta.generation ≤ s.version)
   pub jobs : (k : Place) (j : Job) → map.get s.jobs k ≡ Some j → (j.key ≡ k) × (j.meta.generation ≤ s.version)

@@ -21,6 +21,7 @@ abbrev pub new_cron : Content → CronJobDraft → ℕ → CronJob
 new_cron s draft now = record { key = draft.key; meta = new_meta s draft.meta now; spec = draft.spec; status = first_status }
 
 -- a create: refused with a version, and where the name is there; a uid in the draft is dropped
+-- rules: create, refusals
 abbrev pub cron_created : Content → CronJobDraft → ℕ → Result CronJob Refusal
 cron_created s draft now =
     if is_some draft.meta.version then Err version_not_allowed
@@ -36,6 +37,7 @@ cron_updated_from s draft None = Err NotFound
 cron_updated_from s draft (Some cron) = if is_current draft.meta cron.meta then Ok (updated_cron s draft cron) else Err (Conflict cron.meta.version)
 
 -- an update, conditional on the version and the uid that the draft gives
+-- rules: update, refusals
 abbrev pub cron_updated : Content → CronJobDraft → Result CronJob Refusal
 cron_updated s draft = cron_updated_from s draft (map.get s.crons draft.key)
 
@@ -50,6 +52,7 @@ status_set_from s uid version status (Some cron) =
     else Err NotFound
 
 -- an update of the status of the object with this uid, conditional on its version
+-- rule: status-update
 abbrev pub status_set : Content → Place → ℕ → ℕ → CronStatus → Result CronJob Refusal
 status_set s key uid version status = status_set_from s uid version status (map.get s.crons key)
 
@@ -60,5 +63,6 @@ abbrev pub cron_deleted_from : Content → Option CronJob → Result CronJob Ref
 cron_deleted_from s None = Err NotFound
 cron_deleted_from s (Some cron) = Ok (last_cron s cron)
 
+-- rule: deletion
 abbrev pub cron_deleted : Content → Place → Result CronJob Refusal
 cron_deleted s key = cron_deleted_from s (map.get s.crons key)

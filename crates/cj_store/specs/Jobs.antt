@@ -21,10 +21,12 @@ abbrev pub new_job : Content → JobDraft → ℕ → Job
 new_job s draft now = record { key = draft.key; meta = new_meta s draft.meta now; owners = draft.owners; spec = draft.spec; outcome = None }
 
 -- a controller's create: refused where the name is there; a uid or version in the draft is dropped
+-- rule: owned-create
 abbrev pub job_made : Content → JobDraft → ℕ → Result Job Refusal
 job_made s draft now = if is_some (map.get s.jobs draft.key) then Err AlreadyExists else Ok (new_job s draft now)
 
 -- a user's create: refused also with a controller reference, and with a version
+-- rules: create, owned-create, refusals
 abbrev pub job_created : Content → JobDraft → ℕ → Result Job Refusal
 job_created s draft now =
     if is_some (controller_of draft.owners) then Err NotPermitted
@@ -43,6 +45,7 @@ job_updated_from s draft (Some job) =
     else Err (Conflict job.meta.version)
 
 -- an update, conditional on the version and the uid that the draft gives; owner references can't change
+-- rules: update, refusals
 abbrev pub job_updated : Content → JobDraft → Result Job Refusal
 job_updated s draft = job_updated_from s draft (map.get s.jobs draft.key)
 
@@ -59,10 +62,12 @@ job_deleted_from s uid None = Err NotFound
 job_deleted_from s uid (Some job) = if is_asked uid job.meta.uid then Ok (last_job s job) else Err NotFound
 
 -- a deletion, with a uid as its precondition where one is given
+-- rule: deletion
 abbrev pub job_deleted : Content → Place → Option ℕ → Result Job Refusal
 job_deleted s key uid = job_deleted_from s uid (map.get s.jobs key)
 
 -- a Job that ends now with success has this moment as its completion time
+-- rule: job-end
 abbrev pub ended_at : ℕ → Outcome → Outcome
 ended_at now (Complete _) = Complete now
 ended_at now Failed = Failed
@@ -78,9 +83,11 @@ job_ended_from s uid outcome now (Some job) =
     else Err NotFound
 
 -- the end of the Job with this uid, which is final
+-- rules: job-end, refusals
 abbrev pub job_ended : Content → Place → ℕ → Outcome → ℕ → Result Job Refusal
 job_ended s key uid outcome now = job_ended_from s uid outcome now (map.get s.jobs key)
 
 -- the Jobs of a CronJob's key, in order of name
+-- rule: jobs-of
 abbrev pub jobs_of : Content → Place → List Job
 jobs_of s key = filter (is_job_of key) (map.values s.jobs)

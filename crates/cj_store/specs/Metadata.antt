@@ -9,6 +9,7 @@ use Rattle.cj_types.specs.declared.meta.DraftMeta.{DraftMeta}
 use Rattle.cj_store.specs.Content.{Content}
 
 -- of a new object: a uid that no object had, the version of this write, generation 1
+-- rule: create
 abbrev pub new_meta : Content → DraftMeta → ℕ → Meta
 new_meta s draft now = record {
   uid = s.uids + 1;
@@ -24,6 +25,7 @@ abbrev pub touched : Content → Meta → Meta
 touched s meta = record meta { version = s.version + 1 }
 
 -- after an update: the draft's labels and annotations, and a generation more unless the spec is the same
+-- rule: update
 abbrev pub updated : Content → DraftMeta → Bool → Meta → Meta
 updated s draft is_same meta = record meta {
   version = s.version + 1;

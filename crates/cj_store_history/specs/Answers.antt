@@ -129,6 +129,7 @@ OnSeeJobs n ws (Some s) a = SeesJobs n ws s.key s.phase a
 -- ---- whoever calls
 
 -- the answer after these writes, of which the listing knows `n`, to a caller with this seat; the queue's calls are told elsewhere
+-- rule: looking-back
 abbrev pub Says : ℕ → ℕ → List Event → Option Seat → Role → Call → Answer → Type 0
 Says window n ws o User (Of.CreateCron d now) a = a ≡ map_ok event_reply (create_cron ws d now)
 Says window n ws o User (Of.UpdateCron d) a = a ≡ map_ok event_reply (update_cron ws d)

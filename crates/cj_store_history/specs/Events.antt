@@ -8,5 +8,6 @@ use Rattle.cj_store_history.specs.Writes.{writes}
 
 -- of all writes in their order the first so many after a version; or that some of them are kept no more, where more came since than the
 -- window has room for
+-- rule: written-history
 abbrev pub EventLaw : Type 0
 EventLaw = (window : ℕ) (h : List Told) → IsLegal window h → (version max : ℕ) → since (state_of window h).watch version max ≡ answer_in window (reverse (writes h)) version max

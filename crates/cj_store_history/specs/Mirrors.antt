@@ -22,6 +22,7 @@ fed_after window n was (Of.Feed max) (Ok r) = next_fed window n was max
 fed_after window n was call answer = was
 
 -- how many it knows after a history
+-- rule: written-history
 abbrev pub fed : ℕ → List Told → ℕ
 fed window [] = 0
 fed window (e ∷ h) = fed_after window (version (writes h)) (fed window h) e.call e.answer
@@ -31,10 +32,12 @@ abbrev pub earliest : ℕ → List Event → List Event
 earliest n ws = drop (version ws - n) ws
 
 -- it has the Jobs that these writes left
+-- rule: written-history
 pub record IsMirror (n : ℕ) (ws : List Event) (m : Mirror) : Type 0 where
   pub fed : m.fed ≡ n
   pub jobs : (k : Place) → map.get m.jobs k ≡ current_job (earliest n ws) k
 
 -- whoever called whatever
+-- rule: written-history
 abbrev pub MirrorLaw : Type 0
 MirrorLaw = (window : ℕ) (h : List Told) → IsLegal window h → IsMirror (fed window h) (writes h) (state_of window h).mirror

@@ -19,6 +19,7 @@ use Rattle.cj_store.specs.Jobs.{is_asked}
 use Rattle.cj_store_history.specs.Written.{current_cron, current_job, cron_created, cron_updated, status_set, cron_deleted, job_created, job_updated, job_ended, job_deleted}
 
 -- a create gives no version, and its name is free
+-- rule: looking-back
 abbrev pub create_cron : List Event → CronJobDraft → ℕ → Result Event Refusal
 create_cron ws d now =
     if is_some d.meta.version then Err version_not_allowed
@@ -30,6 +31,7 @@ abbrev pub update_cron_from : List Event → CronJobDraft → Option CronJob →
 update_cron_from ws d None = Err NotFound
 update_cron_from ws d (Some c) = if is_current d.meta c.meta then Ok (cron_updated ws d c) else Err (Conflict c.meta.version)
 
+-- rule: looking-back
 abbrev pub update_cron : List Event → CronJobDraft → Result Event Refusal
 update_cron ws d = update_cron_from ws d (current_cron ws d.key)
 
@@ -41,6 +43,7 @@ set_status_from ws uid version status (Some c) =
     if c.meta.version == version then Ok (status_set ws status c) else Err (Conflict c.meta.version)
     else Err NotFound
 
+-- rule: looking-back
 abbrev pub set_status : List Event → Place → ℕ → ℕ → CronStatus → Result Event Refusal
 set_status ws k uid version status = set_status_from ws uid version status (current_cron ws k)
 
@@ -77,6 +80,7 @@ abbrev pub delete_job_from : List Event → Option ℕ → Option Job → Result
 delete_job_from ws uid None = Err NotFound
 delete_job_from ws uid (Some j) = if is_asked uid j.meta.uid then Ok (job_deleted ws j) else Err NotFound
 
+-- rule: looking-back
 abbrev pub delete_job : List Event → Place → Option ℕ → Result Event Refusal
 delete_job ws k uid = delete_job_from ws uid (current_job ws k)
 
@@ -88,5 +92,6 @@ end_job_from ws uid outcome now (Some j) =
     if is_some j.outcome then Err AlreadyFinished else Ok (job_ended ws outcome now j)
     else Err NotFound
 
+-- rule: looking-back
 abbrev pub end_job : List Event → Place → ℕ → Outcome → ℕ → Result Event Refusal
 end_job ws k uid outcome now = end_job_from ws uid outcome now (current_job ws k)

@@ -11,6 +11,7 @@ use Rattle.cj_store_history.specs.Writes.{writes}
 
 -- its version is the number of the writes, its count of uids that of the creations, and what stands at a key is what the last write
 -- about it left
+-- rule: written-history
 pub record IsStore (ws : List Event) (s : Content) : Type 0 where
   pub version : s.version ≡ version ws
   pub uids : s.uids ≡ made ws
@@ -18,5 +19,6 @@ pub record IsStore (ws : List Event) (s : Content) : Type 0 where
   pub jobs : (k : Place) → map.get s.jobs k ≡ current_job ws k
 
 -- whoever called whatever
+-- rule: written-history
 abbrev pub StoreLaw : Type 0
 StoreLaw = (window : ℕ) (h : List Told) → IsLegal window h → IsStore (writes h) (state_of window h).store

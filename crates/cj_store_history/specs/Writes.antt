@@ -42,6 +42,7 @@ stepped_by ws (Some s) = stepped_in ws s.key s.phase
 -- ---- what an entry writes
 
 -- by the writes before it, its caller's seat before it, and its call, where that was accepted
+-- rule: written-history
 abbrev pub written_by : List Event → Option Seat → Call → Reply → Option Event
 written_by ws o (Of.CreateCron d now) r = Some (cron_created ws d now)
 written_by ws o (Of.UpdateCron d) r = option_map (cron_updated ws d) (current_cron ws d.key)
@@ -65,6 +66,7 @@ abbrev pub with_write : Option Event → List Event → List Event
 with_write None ws = ws
 with_write (Some w) ws = w ∷ ws
 
+-- rule: written-history
 abbrev pub writes : List Told → List Event
 writes [] = []
 writes (e ∷ h) = with_write (entry_written (writes h) (seat h e.caller.number) e.call e.answer) (writes h)

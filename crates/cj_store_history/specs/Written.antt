@@ -24,6 +24,7 @@ abbrev pub version : List Event → ℕ
 version ws = length ws
 
 -- how many objects were created
+-- rule: written-history
 abbrev pub made : List Event → ℕ
 made [] = 0
 made (Added o ∷ ws) = made ws + 1
@@ -38,6 +39,7 @@ cron_left (Deleted (Kind.Cron c)) k was = if key_eq c.key k then None else was
 cron_left w k was = was
 
 -- the current CronJob of a key: the one that the last write about it left
+-- rule: written-history
 abbrev pub current_cron : List Event → Place → Option CronJob
 current_cron [] k = None
 current_cron (w ∷ ws) k = cron_left w k (current_cron ws k)
@@ -49,6 +51,7 @@ job_left (Modified (Kind.Job j)) k was = if key_eq j.key k then Some j else was
 job_left (Deleted (Kind.Job j)) k was = if key_eq j.key k then None else was
 job_left w k was = was
 
+-- rule: written-history
 abbrev pub current_job : List Event → Place → Option Job
 current_job [] k = None
 current_job (w ∷ ws) k = job_left w k (current_job ws k)
@@ -56,6 +59,7 @@ current_job (w ∷ ws) k = job_left w k (current_job ws k)
 -- ---- the next write
 
 -- a new object: its version is the number of the write, its uid that of the creation, so that no uid is given twice
+-- rule: written-history
 abbrev pub new_meta : List Event → DraftMeta → ℕ → Meta
 new_meta ws d now = record {
   uid = made ws + 1;

@@ -30,6 +30,7 @@ pub record CronAnswersAt (s : Content) : Type 0 where
       → IsFrom (map.get s.crons key) (λ old. (old.meta.uid ≡ uid) × (old.meta.version ≡ version)) (with_status s status) c
   pub deleted : (key : Place) (c : CronJob) → cron_deleted s key ≡ Ok c → IsFrom (map.get s.crons key) (λ _. Unit {0}) (last_cron s) c
 
+-- rule: planned-change
 abbrev pub CronAnswers : Type 0
 CronAnswers = (s : Content) → CronAnswersAt s
 
@@ -42,5 +43,6 @@ pub record JobAnswersAt (s : Content) : Type 0 where
   pub ended : (key : Place) (uid : ℕ) (outcome : Outcome) (now : ℕ) (j : Job) → job_ended s key uid outcome now ≡ Ok j
       → IsFrom (map.get s.jobs key) (λ old. (old.meta.uid ≡ uid) × (old.outcome ≡ None)) (ended_job s outcome now) j
 
+-- rule: planned-change
 abbrev pub JobAnswers : Type 0
 JobAnswers = (s : Content) → JobAnswersAt s

@@ -43,5 +43,6 @@ pub record Writes (s t : Content) (e : Event) : Type 0 where
   pub version : t.version ≡ s.version + 1
   pub uids : t.uids ≡ s.uids + made_by e
 
+-- rule: planned-change
 abbrev pub EventsWrite : Type 0
 EventsWrite = (s : Content) (e : Event) → Writes s (after s e) e

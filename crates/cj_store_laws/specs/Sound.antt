@@ -31,5 +31,6 @@ pub record ArePlansFor (s : Content) : Type 0 where
   pub job_deleted : (key : Place) (uid : Option ℕ) (e : Event) → map_ok job_gone (job_deleted s key uid) ≡ Ok e → IsFor s e
   pub job_ended : (key : Place) (uid : ℕ) (outcome : Outcome) (now : ℕ) (e : Event) → map_ok job_modified (job_ended s key uid outcome now) ≡ Ok e → IsFor s e
 
+-- rule: planned-change
 abbrev pub PlansSound : Type 0
 PlansSound = (s : Content) → IsSound s → ArePlansFor s

@@ -46,6 +46,7 @@ fn planned(alloc: Global) -> Result<[(u64, u64); 3], Refusal> {
     numbers(&mut store, alloc)
 }
 
+// rule: planned-change
 #[test]
 fn makes_plans_in_turn(rt: HostRuntime) -> Result<(), Fail> {
     let numbers = planned(rt.alloc())?;

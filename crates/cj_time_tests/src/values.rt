@@ -4,6 +4,7 @@ use cj_base::{
 };
 use std::test::Fail;
 
+// rules: instant-range, moment-range
 #[test]
 fn numbers_keep_their_range(rt: HostRuntime) -> Result<(), Fail> {
     let last = Seconds::new(253_370_764_799).ok_or("out of range")?;

@@ -67,6 +67,7 @@ fn lower(
     Ok(window(&cron, now))
 }
 
+// rule: window
 #[test]
 fn window_of_a_cron_job(rt: HostRuntime) -> Result<(), Fail> {
     let alloc = rt.alloc();

@@ -52,6 +52,7 @@ Pacific/Apia|30 3 * * *|2012-03-31T00:00:00Z|2012-03-31T13:30:00Z 2012-03-31T14:
 Pacific/Apia|30 3 * * *|2012-09-28T12:00:00Z|2012-09-28T14:30:00Z 2012-09-30T13:30:00Z
 ";
 
+// rule: zone-made-by-jiff
 #[test]
 fn due_times_under_zone_files(rt: HostRuntime) -> Result<(), Fail> {
     let alloc = rt.alloc();

@@ -53,6 +53,7 @@ fn prints_and_reads(rt: HostRuntime) -> Result<(), Fail> {
     Ok(())
 }
 
+// rule: zone-table
 #[test]
 fn rules_and_names(rt: HostRuntime) -> Result<(), Fail> {
     let mut table = ZoneTable::new(rt.alloc())?;

@@ -3,5 +3,6 @@ use Rattle.std.specs.Prelude.{◌≡◌, ◌≤◌, ℕ}
 use Rattle.cj_types.specs.Uids.{last_uid, uid_text}
 
 -- the text of a uid is that of no other
+-- rule: uid-text
 abbrev pub AreApart : Type 0
 AreApart = (m n : ℕ) → m ≤ last_uid → n ≤ last_uid → uid_text m ≡ uid_text n → m ≡ n

@@ -12,5 +12,6 @@ says None current = true
 says (Some given) current = bytes_eq given current
 
 -- the draft's uid and version are those of the standing object, where it gives them
+-- rule: update
 abbrev pub is_current : DraftMeta → Meta → Bool
 is_current draft meta = says draft.uid (uid_text meta.uid) && says draft.version (decimal meta.version)

@@ -11,6 +11,7 @@ object_version (Kind.Cron cron) = cron.meta.version
 object_version (Kind.Job job) = job.meta.version
 
 -- the resource version of the object that an event carries
+-- rule: events
 abbrev pub version_of : Event → ℕ
 version_of (Added object) = object_version object
 version_of (Modified object) = object_version object

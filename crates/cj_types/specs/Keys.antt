@@ -16,6 +16,7 @@ pub record Place : Type 0 where
   pub namespace : List ℕ
   pub name : List ℕ
 
+-- rule: active-names
 abbrev pub place : List ℕ → List ℕ → Place
 place n m = record { namespace = n; name = m }
 
@@ -24,6 +25,7 @@ abbrev pub is_place : ℕ → Place → Bool
 is_place limit k = is_none (name_cause limit k.name) && is_none (namespace_cause k.namespace)
 
 -- by the bytes of the namespace, then of the name
+-- rule: key-order
 abbrev pub place_cmp : Place → Place → Ordering
 place_cmp = then_cmp (on (λ k. k.namespace) (slice_cmp nat_cmp)) (on (λ k. k.name) (slice_cmp nat_cmp))
 
@@ -36,6 +38,7 @@ fault_of f None = []
 fault_of f (Some c) = record { field = f; cause = c } ∷ []
 
 -- the faults of a namespace and a name, in the order of the manifest's fields
+-- rule: name-faults
 abbrev pub key_faults : ℕ → List ℕ → List ℕ → List FieldFault
 key_faults limit namespace name = fault_of Of.Name (name_cause limit name) ++ fault_of Of.Namespace (namespace_cause namespace)
 

@@ -14,6 +14,7 @@ abbrev pub scheduled_annotation : List ℕ
 scheduled_annotation = codes "batch.kubernetes.io/cronjob-scheduled-timestamp"
 
 -- the CronJob's name, `-`, and the time in whole minutes since 1970
+-- rule: made-job
 abbrev pub made_name : List ℕ → ℕ → List ℕ
 made_name name time = name ++ 45 ∷ decimal (time / 60)
 
@@ -33,6 +34,7 @@ owner_of cron = record {
 }
 
 -- the template's labels, and its annotations with the scheduled time
+-- rule: made-job
 abbrev pub made_meta : CronJob → List ℕ → DraftMeta
 made_meta cron time_text = record {
   uid = None;
@@ -42,6 +44,7 @@ made_meta cron time_text = record {
 }
 
 -- the Job for a time, whose printed form is given
+-- rule: made-job
 abbrev pub made_job : CronJob → ℕ → List ℕ → JobDraft
 made_job cron time time_text = record {
   key = made_place cron.key time;

@@ -14,6 +14,7 @@ abbrev pub is_label_byte : ℕ → Bool
 is_label_byte b = is_letter_or_digit b || b == 45
 
 -- DNS label: one or more of `a` to `z`, `0` to `9` and `-`, beginning and ending with a letter or digit
+-- rule: names
 unfoldable pub is_label : List ℕ → Bool
 is_label bs =
     nat_lt 0 (length bs)
@@ -22,6 +23,7 @@ is_label bs =
     && list_all is_label_byte bs
 
 -- DNS subdomain: one or more labels joined by `.`
+-- rules: names, active-names
 unfoldable pub is_subdomain : List ℕ → Bool
 is_subdomain bs = list_all is_label (slice_split (λ b. b == 46) bs)
 
@@ -30,13 +32,16 @@ abbrev pub char_len : List ℕ → ℕ
 char_len text = length (chars text)
 
 -- the most characters of a name, and of a CronJob's, whose Jobs add up to 11
+-- rule: names
 abbrev pub longest : ℕ
 longest = 63
 
+-- rule: names
 abbrev pub longest_cron : ℕ
 longest_cron = 52
 
 -- too long comes before badly formed
+-- rule: name-faults
 abbrev pub cause_of : ℕ → (List ℕ → Bool) → List ℕ → Option Cause
 cause_of limit is_well_formed text =
     if nat_lt limit (char_len text) then Some TooLong
@@ -44,6 +49,7 @@ cause_of limit is_well_formed text =
     else Some Format
 
 -- why a text is no name of at most so many characters
+-- rule: name-faults
 abbrev pub name_cause : ℕ → List ℕ → Option Cause
 name_cause limit text = cause_of limit is_subdomain text
 
@@ -52,5 +58,6 @@ abbrev pub is_name : List ℕ → Bool
 is_name text = is_none (name_cause longest text)
 
 -- why a text is no namespace
+-- rule: name-faults
 abbrev pub namespace_cause : List ℕ → Option Cause
 namespace_cause text = cause_of longest is_label text

@@ -4,6 +4,7 @@ use Rattle.cj_types.specs.declared.job.Job.{Job}
 use Rattle.cj_types.specs.Owners.{cron_name_of}
 
 -- a Job that is neither Complete nor Failed
+-- rule: unfinished
 abbrev pub is_unfinished : Job → Bool
 is_unfinished job = is_none job.outcome
 

@@ -4,6 +4,7 @@ use Rattle.std.specs.Str.{bytes_eq}
 use Rattle.cj_types.specs.declared.owners.OwnerRef.{OwnerRef}
 
 -- the controller reference: the first that has `controller` set
+-- rule: controller
 abbrev pub controller_of : List OwnerRef → Option OwnerRef
 controller_of owners = find (λ o. o.controller) owners
 
@@ -17,5 +18,6 @@ cron_in None = None
 cron_in (Some o) = if is_cron_reference o then Some o.name else None
 
 -- the name of the CronJob that the controller reference names, if it names one
+-- rule: controller
 abbrev pub cron_name_of : List OwnerRef → Option (List ℕ)
 cron_name_of owners = cron_in (controller_of owners)

@@ -5,11 +5,13 @@ use Rattle.cj_types.specs.declared.policy.Policy.TheVariants.{Allow, Forbid, Rep
 use Rattle.cj_types.specs.declared.policy.Reason.{Reason}
 use Rattle.cj_types.specs.declared.policy.Reason.TheVariants.{UnknownTimeZone, TooManyMissedTimes, JobAlreadyActive, FailedCreate}
 
+-- rule: printed-words
 abbrev pub policy_name : Policy → List ℕ
 policy_name Allow = codes "Allow"
 policy_name Forbid = codes "Forbid"
 policy_name Replace = codes "Replace"
 
+-- rule: printed-words
 abbrev pub reason_name : Reason → List ℕ
 reason_name UnknownTimeZone = codes "UnknownTimeZone"
 reason_name TooManyMissedTimes = codes "TooManyMissedTimes"

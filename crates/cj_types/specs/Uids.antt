@@ -15,5 +15,6 @@ hex_digits zero n = []
 hex_digits (suc k) n = hex_digits k (n / 16) ++ hex_digit (n % 16) ∷ []
 
 -- `00000000-0000-0000-0000-` and twelve lower-case hexadecimal digits
+-- rule: uid-text
 abbrev pub uid_text : ℕ → List ℕ
 uid_text n = codes "00000000-0000-0000-0000-" ++ hex_digits 12 n

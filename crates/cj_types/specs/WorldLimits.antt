@@ -2,10 +2,12 @@
 use Rattle.std.specs.Prelude.{ℕ}
 
 -- the most entries of a history, 2^24
+-- rule: world-limits
 abbrev pub last_history : ℕ
 last_history = 16_777_216
 
 -- the most events of a window
+-- rule: world-limits
 abbrev pub last_window : ℕ
 last_window = 100_000
 

@@ -54,6 +54,7 @@ fn first_wrong(alloc: Global) -> Result<Option<&'static str>, Refusal> {
     Ok(None)
 }
 
+// rule: key-order
 #[test]
 fn orders_keys(rt: HostRuntime) -> Result<(), Fail> {
     let wrong = first_wrong(rt.alloc())?;

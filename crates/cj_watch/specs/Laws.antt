@@ -11,6 +11,7 @@ abbrev pub log_of : ℕ → List Event → Log
 log_of window events = fold pushed (new_log window) events
 
 -- it keeps the last of them
+-- rule: watch-window
 abbrev pub KeepsLatest : Type 0
 KeepsLatest = (window : ℕ) (events : List Event) →
     log_of window events ≡ record { kept = latest window events; count = length events; window = window }
@@ -22,6 +23,7 @@ answer_in window events version max =
     else Ok (take max (drop version events))
 
 -- where the n-th event has version n, no event after the version is missed
+-- rule: watch-window
 abbrev pub TellsAll : Type 0
 TellsAll = (window : ℕ) (events : List Event) (version max : ℕ) → IsNumbered 0 events →
     since (log_of window events) version max ≡ answer_in window events version max

@@ -24,6 +24,7 @@ abbrev pub pushed : Log → Event → Log
 pushed log e = record { kept = latest log.window (log.kept ++ e ∷ []); count = log.count + 1; window = log.window }
 
 -- as many events are kept as there were, up to the window, and their versions are the last ones, in their order
+-- rule: watch-window
 pub record IsWindow (log : Log) : Type 0 where
   pub nonempty : 1 ≤ log.window
   pub size : length log.kept ≡ min log.count log.window
@@ -31,6 +32,7 @@ pub record IsWindow (log : Log) : Type 0 where
 
 -- the first so many of the events after a version; or "Gone", with the oldest version from which no event is lost,
 -- where the version is before it
+-- rules: watch-window, refusals
 abbrev pub since : Log → ℕ → ℕ → Result (List Event) Refusal
 since log version max =
     if nat_lt (version + log.window) log.count then Err (Expired (log.count - log.window))

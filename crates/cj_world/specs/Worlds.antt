@@ -22,10 +22,12 @@ abbrev pub told : Caller → Call → Result Reply Refusal → Told
 told caller call answer = record { caller = caller; call = call; answer = answer }
 
 -- what the history leaves
+-- rule: objects
 abbrev pub state_in : Ledger → State
 state_in w = state_of w.limits.window w.history
 
 -- no key is in the line, and nobody holds one
+-- rule: objects
 abbrev pub IsAtRest : State → Type 0
 IsAtRest s = (s.queue.row.line ≡ []) × (s.seats ≡ map.empty)
 
@@ -39,6 +41,7 @@ pub record Stands (limits : Kept) (h : List Told) (s : State) : Type 0 where
 
 -- what one call answers and adds. It is refused with HistoryFull exactly at a full history, before anything else; there, where nothing can
 -- be taken, and for want of memory nothing is added. Else the answer is the one that the history gives, and the entry is added.
+-- rule: entered
 pub record Applied (limits : Kept) (h : List Told) (caller : Caller) (call : Call) (r : Result Reply Refusal) (h' : List Told) : Type 0 where
   pub entered : is_entered r ≡ true → (r ≡ answer_of limits.window h caller call) × (h' ≡ told caller call r ∷ h)
   pub unentered : is_entered r ≡ false → h' ≡ h
@@ -58,6 +61,7 @@ abbrev pub receipts_of : Caller → Call → Result Reply Refusal → Option (To
 receipts_of caller call r = if is_entered r then Some (told caller call r, told caller call r) else None
 
 -- a call that was entered: two receipts of its entry, which was added
+-- rule: entered
 pub record Entered (limits : Kept) (h : List Told) (caller : Caller) (call : Call) (p : Told × Told) (h' : List Told) : Type 0 where
   pub answer : Result Reply Refusal
   pub is_entered : is_entered answer ≡ true

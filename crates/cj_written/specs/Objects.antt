@@ -92,6 +92,7 @@ cron_data o job =
     object_data (codes "CronJob") (metadata_members o.key o.meta []) (cron_spec_data o.spec job) (cron_status_members o.key.namespace o.status)
 
 -- what is written, where the kept spec has a value
+-- rule: written
 abbrev pub cron_written : CronJob → Option Data
 cron_written o = option_map (cron_data o) (kept_value o.spec.template.spec)
 
@@ -118,5 +119,6 @@ abbrev pub job_data : Job → Data → Data
 job_data o spec =
     object_data (codes "Job") (metadata_members o.key o.meta o.owners) spec (job_status_members o.outcome)
 
+-- rule: written
 abbrev pub job_written : Job → Option Data
 job_written o = option_map (job_data o) (kept_value o.spec)

@@ -60,13 +60,16 @@ owner_data o = object (
 
 -- ---- kept specs
 
+-- rule: fraction
 abbrev pub unless_float : Data → Option Data
 unless_float d = if has_float d then None else Some d
 
 -- the value of a kept text, where it is JSON (RFC 8259) whose numbers are i64 and u64
+-- rule: kept-spec
 abbrev pub kept_value : List ℕ → Option Data
 kept_value text = option_and_then unless_float (read text)
 
 -- a text that has one, so that an object which keeps it can be written
+-- rules: kept-spec, kept-below
 abbrev pub IsKept : List ℕ → Type 0
 IsKept text = IsSome (kept_value text)

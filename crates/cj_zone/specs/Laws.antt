@@ -14,5 +14,6 @@ pub record DateIsNear (zone : Zone) (t : ℕ) : Type 0 where
   pub to : day ≤ℤ (pos (t / 86_400) +ℤ pos 2)
   pub date : SameDate (civil_at zone t) (civil_of (day *ℤ pos 86_400))
 
+-- rule: civil-time
 abbrev pub DatesAreNear : Type 0
 DatesAreNear = (zone : Zone) (t : ℕ) → DateIsNear zone t
