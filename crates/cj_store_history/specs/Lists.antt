@@ -1,4 +1,4 @@
--- Lists of objects: Kubernetes API concepts, "Retrieving large results sets in chunks" (a list is ordered by key).
+-- Lists of objects (Kubernetes API concepts, "Collections"), which are in the order of keys (own).
 use Rattle.std.specs.Prelude.{◌≡◌, Bool, List, [], ◌∷◌, Option, Some, None, if◌then◌else◌}
 use Rattle.std.specs.List.{AllByRecursion}
 use Rattle.std.specs.declared.cmp.Ordering.TheVariants.{Less}

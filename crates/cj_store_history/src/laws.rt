@@ -26,8 +26,8 @@ pub fn mirror_law()
     ensures { MirrorLaw }
 {}
 
-/// After any history each call that writes, and each reading of one object, of events or of a plan's active names, is answered
-/// as the writes before it and its caller's own entries say.
+/// After any history each call on the store, and each Feed, is answered as the writes before it and its caller's own entries
+/// say; a list has just the objects that stand then, in the order of their keys; and who may not make a call is not permitted.
 pub fn answer_law()
     ensures { AnswerLaw }
 {}
