@@ -1,0 +1,77 @@
+-- What calls through a desk add.
+use Rattle.std.specs.Prelude.{◌≡◌, Bool, IsTrue, List, [], ◌∷◌, ◌++◌, Result, Ok, Err, IsOk, IsErr, map}
+use Rattle.std.specs.List.{AllByRecursion}
+use Rattle.cj_base.specs.declared.refusal.Refusal.{Refusal}
+use Rattle.cj_base.specs.declared.refusal.Refusal.TheVariants.{Empty, HistoryFull, Estranged, OutOfMemory}
+use Rattle.cj_calls.specs.Rows.{Told, is_in_row}
+use Rattle.cj_calls.specs.declared.call.Call.{Call}
+use Rattle.cj_calls.specs.declared.call.Call.TheVariants as Of
+use Rattle.cj_calls.specs.declared.reply.Reply.{Reply}
+use Rattle.cj_world.specs.Worlds.{Ledger}
+use Rattle.cj_hub.specs.declared.asking.Halt.{Halt}
+use Rattle.cj_hub.specs.declared.asking.Halt.TheVariants.{Refused, Unentered}
+use Rattle.cj_hub.specs.declared.receipt.Receipt.{Receipt}
+use Rattle.cj_hub.specs.Receipts.{PassView, caller_of}
+
+-- a refusal that isn't entered: Empty to a Take alone
+-- rule: desks
+abbrev pub IsDeskRefusal : Call → Refusal → Type 0
+IsDeskRefusal call Empty = call ≡ Of.Take
+IsDeskRefusal call HistoryFull = Unit {0}
+IsDeskRefusal call Estranged = Unit {0}
+IsDeskRefusal call OutOfMemory = Unit {0}
+IsDeskRefusal call _ = ⊥
+
+-- a refusal to one who waits where nothing is there to take
+-- rule: waiting-take
+abbrev pub IsWaitRefusal : Refusal → Type 0
+IsWaitRefusal HistoryFull = Unit {0}
+IsWaitRefusal Estranged = Unit {0}
+IsWaitRefusal OutOfMemory = Unit {0}
+IsWaitRefusal _ = ⊥
+
+-- a history with these entries more, one after the other
+abbrev pub more : List Told → List Told → List Told
+more h [] = h
+more h (e ∷ es) = more (e ∷ h) es
+
+abbrev pub extended : Ledger → List Told → Ledger
+extended w es = record w { history = more w.history es }
+
+-- the pass got receipts of these entries, all its own, and a history that is told gained just these
+-- rule: desks
+pub record Gains (tells : Bool) (w w' : Ledger) (p p' : PassView) (es : List Told) : Type 0 where
+  pub told : IsTrue tells → w' ≡ extended w es
+  pub news : List Receipt
+  pub entries : map (λ r. r.entry) news ≡ es
+  pub own : AllByRecursion (λ e. e.caller ≡ caller_of p) es
+  pub kept : p' ≡ record p { receipts = p.receipts ++ news }
+
+-- the entries gained meet F
+-- rule: desks
+pub record Adds (tells : Bool) (w w' : Ledger) (p p' : PassView) (F : List Told → Type 0) : Type 0 where
+  pub entries : List Told
+  pub gains : Gains tells w w' p p' entries
+  pub meets : F entries
+
+-- one entry, of this call with an answer that meets P
+pub record IsOne (call : Call) (P : Result Reply Refusal → Type 0) (es : List Told) : Type 0 where
+  pub entry : Told
+  pub only : es ≡ entry ∷ []
+  pub of : entry.call ≡ call
+  pub says : P entry.answer
+  pub row : IsTrue (is_in_row call entry.answer)
+
+-- what one call adds, by what came of it: an entry with a reply, which the receipt has; an entry with a refusal; or nothing
+-- rule: desks
+abbrev pub IsAsked : Call → Result Receipt Halt → List Told → Type 0
+IsAsked call (Ok r) es = IsOne call (λ a. IsOk a × (a ≡ r.entry.answer)) es
+IsAsked call (Err (Refused r)) es = IsOne call (λ a. IsErr a × (a ≡ r.entry.answer)) es
+IsAsked call (Err (Unentered e)) es = (es ≡ []) × IsDeskRefusal call e
+
+-- the same of a call of whose reply nothing is kept
+-- rule: desks
+abbrev pub IsDone : Call → Result (Unit {0}) Halt → List Told → Type 0
+IsDone call (Ok u) es = IsOne call IsOk es
+IsDone call (Err (Refused r)) es = IsOne call (λ a. IsErr a × (a ≡ r.entry.answer)) es
+IsDone call (Err (Unentered e)) es = (es ≡ []) × IsDeskRefusal call e

@@ -1,0 +1,45 @@
+//! One call through a desk, by what came of it.
+ghost use Rattle.std.specs.Prelude.{◌≡◌, IsTrue, Err};
+ghost use Rattle.cj_legal.specs.Answers.{FindsNothing};
+ghost use Rattle.cj_world.specs.Worlds.{state_in};
+ghost use Rattle.cj_hub.specs.Runs.{Adds, IsAsked, IsDone};
+
+use crate::desk::Desk;
+use crate::pass::Pass;
+use crate::receipt::Receipt;
+use cj_calls::Call;
+use cj_types::Refusal;
+
+/// Why a call wasn't accepted.
+#[derive(Drop)]
+pub enum Halt {
+    /// Its receipt has the refusal.
+    Refused(Receipt),
+    /// It has no entry.
+    Unentered(Refusal),
+}
+
+/// Makes one call. Where it is accepted its receipt has the reply.
+pub fn ask<D: Desk>(desk: &mut D, pass: &mut Pass, call: Call) -> Result<Receipt, Halt>
+    ensures adds { Adds D.tells (D.history desk.old) (D.history desk.new) pass.old pass.new (IsAsked call result) }
+    ensures empty { IsTrue D.tells → result ≡ Err (Halt.Unentered Refusal.Empty) → FindsNothing (state_in (D.history desk.old)) call }
+{
+    match desk.call(pass, call) {
+        Ok(receipt) => {
+            if receipt.answer().is_ok() {
+                Ok(receipt)
+            } else {
+                Err(Halt::Refused(receipt))
+            }
+        }
+        Err(refusal) => Err(Halt::Unentered(refusal)),
+    }
+}
+
+/// Makes one call of whose reply nothing is kept.
+pub fn enter<D: Desk>(desk: &mut D, pass: &mut Pass, call: Call) -> Result<(), Halt>
+    ensures { Adds D.tells (D.history desk.old) (D.history desk.new) pass.old pass.new (IsDone call result) }
+{
+    let _receipt = ask(desk, pass, call)?;
+    Ok(())
+}

@@ -1,0 +1,224 @@
+ghost use Rattle.std.specs.Prelude.{◌≡◌, ◌↔◌, ◌+◌, ◌<◌, ◌^◌, ◌==◌, if◌then◌else◌, ℕ, [], ◌∷◌, ◌++◌, true, false, Some, length, All, IfOk, OnOk, OnErr, IfErr, IsTrue, IsOk, slice_get, slice_index_or, map, vec_len};
+ghost use mathlib.Core.List.{reverse};
+ghost use Rattle.cj_base.specs.declared.refusal.Refusal.TheVariants.{Estranged, OutOfMemory};
+ghost use Rattle.cj_types.specs.WorldLimits.{last_history};
+ghost use Rattle.cj_calls.specs.Rows.{is_in_row};
+ghost use Rattle.cj_state.specs.Legal.{IsLegal};
+ghost use Rattle.cj_legal.specs.Exclusive.{Exclusive};
+ghost use Rattle.cj_once.specs.Once.{Once, Alone};
+ghost use Rattle.cj_hub.specs.Receipts.{fresh, IsExact};
+ghost use Rattle.cj_hub.specs.Books.{no_seat, state_in, Fits, IsEnrolled, IsEntered, IsFull, IsUnentered, Knows};
+ghost use Rattle.cj_hub.specs.States.{IsState};
+
+use crate::closed::{Closed, NotClosed};
+use crate::exact::{is_exact, stands};
+use crate::pass::Pass;
+use crate::receipt::Receipt;
+use crate::seat::Seat;
+use crate::state::HubState;
+use cj_calls::{Call, Caller, Entry, Role};
+use cj_legal::answer_law;
+use cj_types::{Limits, Refusal, Version};
+use cj_world::World;
+use std::alloc::{AllocError, Global};
+use std::marker::Model;
+
+/// A world, and who is enrolled to make calls on it.
+///
+/// Contracts see its limits, its history with the newest entry first, the role of each pass by its number, and whether
+/// work on it was given up. Its type keeps that it counts each pass's entries.
+#[derive(Drop)]
+pub struct Book {
+    alloc: Global,
+    limits: Limits,
+    world: World,
+    seats: Vec<Seat>,
+    given_up: bool,
+}
+
+impl Model for Book {
+    ghost use Rattle.std.specs.Prelude.{◌≡◌, map};
+    ghost use Rattle.cj_hub.specs.Books.{BookView, IsCounted};
+
+    ghost Value = { BookView };
+
+    ghost view = { λ b. record { limits = b.world.limits; history = b.world.history; roles = map (λ s. s.role) b.seats.items; given_up = b.given_up } };
+
+    ghost invariant = { λ b. (b.limits ≡ b.world.limits) × IsCounted b.seats.items b.world.history };
+}
+
+// The pass with the number has one entry more.
+fn count_one(seats: &mut Vec<Seat>, number: usize)
+    requires seated { number < vec_len seats.old }
+    requires fits { (slice_index_or seats.old.items number no_seat).count + 1 < 2 ^ 64 }
+    ensures roles { map (λ s. s.role) seats.new.items ≡ map (λ s. s.role) seats.old.items }
+    ensures counts { (k : ℕ) → (slice_index_or seats.new.items k no_seat).count ≡ (slice_index_or seats.old.items k no_seat).count + (if number == k then 1 else 0) }
+{
+    seats[number].count += 1;
+}
+
+impl Book {
+    /// A book with an empty history, in which nobody is enrolled. It takes its memory from `alloc`.
+    pub fn new(alloc: Global, limits: Limits) -> Result<Book, Refusal>
+        ensures ok { IfOk result (λ b. b ≡ record { limits = limits; history = []; roles = []; given_up = false }) }
+        ensures err { IfErr result (λ e. e ≡ OutOfMemory) }
+    {
+        Ok(Book {
+            alloc,
+            limits,
+            world: World::new(alloc, limits)?,
+            seats: Vec::new(alloc),
+            given_up: false,
+        })
+    }
+
+    /// A pass of the next number, with no receipts.
+    pub fn enroll(&mut self, role: Role) -> Result<Pass, Refusal>
+        ensures pass { IfOk result (λ p. p ≡ fresh (length self.old.roles) role) }
+        ensures book { OnOk result (self.new ≡ record self.old { roles = self.old.roles ++ role ∷ [] }) }
+        ensures which { IfErr result (λ e. e ≡ OutOfMemory) }
+        ensures err { OnErr result (self.new ≡ self.old) }
+    {
+        let number = self.seats.len() as u64;
+        self.seats
+            .push(Seat { role, count: 0 })
+            .map_err(AllocError::from)?;
+        Ok(Pass {
+            number,
+            role,
+            receipts: Vec::new(self.alloc),
+        })
+    }
+
+    // All entries, the oldest first.
+    fn entries(&self) -> &[Entry]
+        ensures value { result.now ≡ reverse self.now.history }
+        ensures short { length self.now.history < 2 ^ 25 }
+    {
+        self.world.history()
+    }
+
+    fn is_enrolled(&self, pass: &Pass) -> bool
+        ensures { IsTrue result ↔ IsEnrolled self.now pass.now }
+    {
+        match self.seats.get(pass.number as usize) {
+            Some(seat) => seat.role == pass.role,
+            None => false,
+        }
+    }
+
+    /// Whether the book enrolled the pass with this role, counts its receipts, and has the last of them at its place.
+    pub(crate) fn knows(&self, pass: &Pass) -> bool
+        ensures { IsTrue result ↔ Knows self.now pass.now }
+    {
+        if !self.is_enrolled(pass) {
+            return false;
+        }
+        if self.seats[pass.number as usize].count != pass.receipts.as_slice().len() as u64 {
+            return false;
+        }
+        match pass.receipts.as_slice().last() {
+            Some(last) => stands(self.entries(), last),
+            None => true,
+        }
+    }
+
+    /// Whether the history has as many entries as its limit.
+    pub(crate) fn is_full(&self) -> bool
+        ensures { IsTrue result ↔ IsFull self.now }
+    {
+        self.entries().len() >= self.limits.history() as usize
+    }
+
+    #[tactic(auto, using(crate::proofs::Entered::added, crate::proofs::Entered::unentered))]
+    /// Makes one call of an enrolled caller, and gives the receipt of it twice where it was entered.
+    pub(crate) fn enter(
+        &mut self,
+        caller: &Caller,
+        call: &Call,
+    ) -> Result<(Receipt, Receipt), Refusal>
+        requires seated { slice_get self.old.roles caller.now.number ≡ Some caller.now.role }
+        requires room { length self.old.history < self.old.limits.history }
+        ensures twice { IfOk result (λ r. r.0 ≡ r.1) }
+        ensures entered { IfOk result (λ r. IsEntered self.old caller.now call.now r.0 self.new) }
+        ensures which { IfErr result (IsUnentered (state_in self.old) call.now) }
+        ensures err { OnErr result (self.new ≡ self.old) }
+    {
+        answer_law();
+        let place = self.entries().len() as u64 + 1;
+        let (kept, given) = self.world.enter(caller, call)?;
+        count_one(&mut self.seats, caller.number as usize);
+        Ok((
+            Receipt { place, entry: kept },
+            Receipt {
+                place,
+                entry: given,
+            },
+        ))
+    }
+
+    fn fits(&self, pass: &Pass) -> bool
+        ensures { IsTrue result ↔ Fits self.now pass.now }
+    {
+        let enrolled = self.is_enrolled(pass);
+        enrolled && is_exact(self.entries(), pass.number, pass.receipts.as_slice())
+    }
+
+    fn all_fit(&self, passes: &[Pass]) -> bool
+        ensures { IsTrue result ↔ All (Fits self.now) passes.now }
+    {
+        passes.iter().all(|pass| self.fits(pass))
+    }
+
+    /// Closes the book. It is refused exactly where a pass isn't one that the book enrolled with this role, or its receipts
+    /// aren't exactly its entries, in order, each at its place; then book and passes come back.
+    pub fn close(self, passes: Vec<Pass>) -> Result<Closed, NotClosed>
+        ensures ok { IsOk result ↔ All (Fits self) passes.items }
+        ensures history { IfOk result (λ c. (c.limits ≡ self.limits) × (c.history ≡ self.history)) }
+        ensures exact { OnOk result (All (IsExact self.history) passes.items) }
+        ensures legal { OnOk result (IsLegal self.limits.window self.history) }
+        ensures exclusive { OnOk result (Exclusive self.history) }
+        ensures once { OnOk result (Once self.limits.window self.history) }
+        ensures alone { OnOk result (Alone self.limits.window self.history) }
+        ensures same { IfErr result (λ e. (e.book ≡ self) × (e.passes.items ≡ passes.items)) }
+        ensures refusal { IfErr result (λ e. e.refusal ≡ Estranged) }
+    {
+        if self.all_fit(passes.as_slice()) {
+            self.world.history();
+            let Book { world, .. } = self;
+            Ok(Closed::new(world))
+        } else {
+            Err(NotClosed {
+                book: self,
+                passes,
+                refusal: Refusal::Estranged,
+            })
+        }
+    }
+
+    /// Marks that work on the book was given up.
+    pub(crate) fn give_up(&mut self)
+        ensures { self.new ≡ record self.old { given_up = true } }
+    {
+        self.given_up = true;
+    }
+
+    /// How far the work is, for one who has seen the writes up to the version.
+    pub(crate) fn state(&self, seen: Version) -> HubState
+        ensures { IsState self.now seen result }
+    {
+        if self.given_up {
+            return HubState::Broken;
+        }
+        let stored = self.world.version() == seen;
+        let fed = self.world.fed() == seen;
+        if !(stored && fed) {
+            return HubState::Behind;
+        }
+        if self.world.at_rest() {
+            HubState::Quiet
+        } else {
+            HubState::Busy
+        }
+    }
+}

@@ -1,0 +1,119 @@
+ghost use Rattle.std.specs.Prelude.{◌≡◌, All, IsTrue, IfOk, IfErr, OnErr};
+ghost use Rattle.cj_base.specs.declared.refusal.Refusal.TheVariants.{Estranged, OutOfMemory};
+ghost use Rattle.cj_calls.specs.Rows.{is_in_row};
+ghost use Rattle.cj_calls.specs.declared.call.Call.TheVariants as Of;
+ghost use Rattle.cj_state.specs.Legal.{IsLegal};
+ghost use Rattle.cj_legal.specs.Exclusive.{Exclusive};
+ghost use Rattle.cj_once.specs.Once.{Once, Alone};
+ghost use Rattle.cj_hub.specs.Receipts.{fresh, IsExact, IsReceipt};
+ghost use Rattle.cj_hub.specs.Books.{Fits};
+ghost use Rattle.cj_hub.specs.Runs.{IsDeskRefusal, IsWaitRefusal};
+
+use crate::book::Book;
+use crate::closed::{Closed, NotClosed};
+use crate::laws;
+use crate::pass::Pass;
+use crate::receipt::Receipt;
+use crate::state::HubState;
+use cj_calls::{Call, Role};
+use cj_types::{Limits, Refusal, Version};
+use std::alloc::Global;
+use std::sync::{Condvar, Mutex, Wait};
+
+/// A book that threads share. Each of its calls takes the lock once and may wait for it.
+///
+/// A contract knows of the book under the lock what its type keeps; what one call does to it is said at `laws`.
+#[derive(Drop)]
+pub struct Hub {
+    book: Mutex<Book>,
+    changed: Condvar,
+}
+
+impl Hub {
+    /// A hub with an empty history. It takes its memory from `alloc`.
+    pub fn new(alloc: Global, limits: Limits) -> Result<Hub, Refusal>
+        ensures { IfErr result (λ e. e ≡ OutOfMemory) }
+    {
+        Ok(Hub {
+            book: Mutex::new(Book::new(alloc, limits)?),
+            changed: Condvar::new(),
+        })
+    }
+
+    /// A pass with no receipts.
+    pub fn enroll(&self, rt: &impl Wait, role: Role) -> Result<Pass, Refusal>
+        ensures ok { IfOk result (λ p. p ≡ fresh p.number role) }
+        ensures err { IfErr result (λ e. e ≡ OutOfMemory) }
+    {
+        self.book.lock(rt).enroll(role)
+    }
+
+    // Wakes all that wait, where something was entered.
+    fn tell(&self, answer: &Result<Receipt, Refusal>) {
+        if answer.is_ok() {
+            self.changed.notify_all();
+        }
+    }
+
+    /// Makes one call of the pass. Its receipt names the caller and the call, stands after the pass's last one, and is the
+    /// pass's too; a refusal leaves the pass as it was: Empty, to a Take alone, HistoryFull, Estranged or OutOfMemory.
+    pub fn call(&self, rt: &impl Wait, pass: &mut Pass, call: Call) -> Result<Receipt, Refusal>
+        ensures ok { IfOk result (λ r. IsReceipt pass.old call r pass.new) }
+        ensures row { IfOk result (λ r. IsTrue (is_in_row call r.entry.answer)) }
+        ensures which { IfErr result (IsDeskRefusal call) }
+        ensures err { OnErr result (pass.new ≡ pass.old) }
+    {
+        let mut book = self.book.lock(rt);
+        let result = laws::step(&mut book, pass, call);
+        drop(book);
+        self.tell(&result);
+        result
+    }
+
+    /// Makes a Take of the pass, and makes it again after each other call of the hub while there is nothing to take.
+    pub fn take_wait(&self, rt: &impl Wait, pass: &mut Pass) -> Result<Receipt, Refusal>
+        ensures ok { IfOk result (λ r. IsReceipt pass.old Of.Take r pass.new) }
+        ensures row { IfOk result (λ r. IsTrue (is_in_row Of.Take r.entry.answer)) }
+        ensures which { IfErr result IsWaitRefusal }
+        ensures err { OnErr result (pass.new ≡ pass.old) }
+    {
+        let mut book = self.book.lock(rt);
+        for _ in rt.forever() {
+            let result = laws::step(&mut book, pass, Call::Take);
+            if let Err(Refusal::Empty) = &result {
+                book = self.changed.wait(rt, book);
+            } else {
+                drop(book);
+                self.tell(&result);
+                return result;
+            }
+        }
+        unreachable!()
+    }
+
+    /// Marks that work was given up.
+    pub fn give_up(&self, rt: &impl Wait) {
+        laws::give_up(&mut self.book.lock(rt));
+    }
+
+    /// How far the work is, for one who has seen the writes up to the version.
+    pub fn state(&self, rt: &impl Wait, seen: Version) -> HubState {
+        laws::state(&self.book.lock(rt), seen)
+    }
+
+    /// Closes the book, where the passes fit it: then its history is legal, no key was in two workers' hands, no scheduled
+    /// time got two Jobs, what was made under Forbid or Replace was made alone, and the entries of each pass are exactly its
+    /// receipts, in order, each at its place.
+    pub fn close(self, passes: Vec<Pass>) -> Result<Closed, NotClosed>
+        ensures exact { IfOk result (λ c. All (IsExact c.history) passes.items) }
+        ensures legal { IfOk result (λ c. IsLegal c.limits.window c.history) }
+        ensures exclusive { IfOk result (λ c. Exclusive c.history) }
+        ensures once { IfOk result (λ c. Once c.limits.window c.history) }
+        ensures alone { IfOk result (λ c. Alone c.limits.window c.history) }
+        ensures same { IfErr result (λ e. e.passes.items ≡ passes.items) }
+        ensures refused { IfErr result (λ e. (All (Fits e.book) e.passes.items → ⊥) × (e.refusal ≡ Estranged)) }
+    {
+        let Hub { book, changed: _ } = self;
+        book.into_inner().close(passes)
+    }
+}

@@ -1,0 +1,60 @@
+ghost use Rattle.std.specs.Prelude.{◌≡◌, IsTrue};
+ghost use Rattle.cj_calls.specs.Rows.{is_in_row};
+
+use cj_calls::{Answer, Call, Caller, Entry};
+use cj_types::{Refusal, Same, TryCopy};
+use std::alloc::Global;
+
+/// An entry of a history with its place; the first entry has place 1. It shares the entry with the history.
+#[derive(Drop)]
+pub struct Receipt {
+    pub(crate) place: u64,
+    pub(crate) entry: Entry,
+}
+
+impl Receipt {
+    /// The place of the entry in the history.
+    pub fn place(&self) -> u64
+        ensures { result ≡ self.now.place }
+    {
+        self.place
+    }
+
+    /// Who made the call.
+    pub fn caller(&self) -> Caller
+        ensures { result ≡ self.now.entry.caller }
+    {
+        self.entry.caller()
+    }
+
+    /// The call.
+    pub fn call(&self) -> &Call
+        ensures value { result.now ≡ self.now.entry.call }
+        ensures row { IsTrue (is_in_row self.now.entry.call self.now.entry.answer) }
+    {
+        self.entry.call()
+    }
+
+    /// What the call was answered.
+    pub fn answer(&self) -> &Answer
+        ensures { result.now ≡ self.now.entry.answer }
+    {
+        self.entry.answer()
+    }
+}
+
+impl TryCopy for Receipt {
+    fn try_copy(&self, alloc: Global) -> Result<Receipt, Refusal> {
+        Ok(Receipt {
+            place: self.place,
+            entry: self.entry.try_copy(alloc)?,
+        })
+    }
+}
+
+impl Same for Receipt {
+    fn same(&self, other: &Receipt) -> bool {
+        let entry = self.entry.same(&other.entry);
+        entry && self.place == other.place
+    }
+}
