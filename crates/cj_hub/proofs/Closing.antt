@@ -1,5 +1,5 @@
 -- What the hub's close hands on from the book's.
-use Rattle.std.proofs.Common.{◌≡◌, ℕ, Bool, true, false, List, All, refl, sym, ap, subst, ◌∙◌}
+use Rattle.std.proofs.Common.{◌≡◌, List, All, sym, subst}
 use Rattle.std.specs.Prelude.{◌↔◌, Result, Ok, Err, IfOk, IfErr, OnOk, IsOk}
 use Rattle.cj_base.specs.declared.refusal.Refusal.TheVariants.{Estranged}
 use Rattle.cj_types.specs.WorldLimits.{Kept}
@@ -23,6 +23,6 @@ same_passes b ps (Err e) same = same.1
 pub still_refused : {A : Type 0} (b : BookView) (ps : List PassView) (r : Result A NotClosed)
     → (IsOk r ↔ All (Fits b) ps) → IfErr r (λ e. (e.book ≡ b) × (e.passes.items ≡ ps)) → IfErr r (λ e. e.refusal ≡ Estranged)
     → IfErr r (λ e. (All (Fits e.book) e.passes.items → ⊥) × (e.refusal ≡ Estranged))
-still_refused b ps (Ok x) ok same no = tt
-still_refused b ps (Err e) ok same no =
-    (λ all. absurd (cc (ok.1 (subst (λ (x : BookView). All (Fits x) ps) same.0 (subst (λ (xs : List PassView). All (Fits e.book) xs) same.1 all)))), no)
+still_refused b ps (Ok x) ok same told = tt
+still_refused b ps (Err e) ok same told =
+    (λ all. absurd (cc (ok.1 (subst (λ (x : BookView). All (Fits x) ps) same.0 (subst (λ (xs : List PassView). All (Fits e.book) xs) same.1 all)))), told)
