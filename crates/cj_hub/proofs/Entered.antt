@@ -8,13 +8,10 @@ use Rattle.cj_calls.specs.Rows.{Told}
 use Rattle.cj_calls.specs.declared.caller.Caller.{Caller}
 use Rattle.cj_calls.specs.declared.call.Call.{Call}
 use Rattle.cj_calls.specs.declared.reply.Reply.{Reply}
-use Rattle.cj_state.specs.declared.state.State.{State}
-use Rattle.cj_state.specs.Moves.{Moved}
-use Rattle.cj_state.specs.Step.{step_of}
 use Rattle.cj_state.specs.Legal.{state_of, answer_of, is_entered}
-use Rattle.cj_legal.specs.Answers.{is_empty, Fine, FindsNothing, AnswersFit}
 use Rattle.cj_world.specs.Worlds.{told, Applied, Entered}
 use Rattle.cj_hub.specs.Books.{IsUnentered}
+use Rattle.cj_hub.proofs.Finds.{finds}
 
 -- what an entered call adds
 pub record Added (limits : Kept) (h : List Told) (caller : Caller) (call : Call) (one two : Told) (h' : List Told) : Type 0 where
@@ -32,14 +29,9 @@ added limits h caller call p h' e =
       history = x.1 ∙ ap (λ y. y ∷ h) (sym e.first);
     }
 
--- an empty answer is one to a Take that finds nothing
-finds : (s : State) (call : Call) (m : Moved) → Fine s call m → m.answer ≡ Err Empty → FindsNothing s call
-finds s call m (inl f) e = f.2
-finds s call m (inr f) e = absurd (cc (f.0, ap is_empty e))
-
-pub unentered : AnswersFit → (limits : Kept) (h : List Told) (caller : Caller) (call : Call) (e : Refusal) (h' : List Told)
+pub unentered : (limits : Kept) (h : List Told) (caller : Caller) (call : Call) (e : Refusal) (h' : List Told)
     → Applied limits h caller call (Err e) h' → is_entered (Err e) ≡ false → length h < limits.history → IsUnentered (state_of limits.window h) call e
-unentered fits limits h caller call Empty h' a u room = finds _ call _ (fits (state_of limits.window h) caller call) (a.empty refl)
-unentered fits limits h caller call OutOfMemory h' a u room = tt
-unentered fits limits h caller call HistoryFull h' a u room = let f = a.full.0 refl in absurd (omega arith)
-unentered fits limits h caller call x h' a u room = absurd (cc u)
+unentered limits h caller call Empty h' a u room = finds (state_of limits.window h) caller call (a.empty refl)
+unentered limits h caller call OutOfMemory h' a u room = tt
+unentered limits h caller call HistoryFull h' a u room = let f = a.full.0 refl in absurd (omega arith)
+unentered limits h caller call x h' a u room = absurd (cc u)

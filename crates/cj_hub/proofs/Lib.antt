@@ -1,3 +1,5 @@
 pub mod Placed
+pub mod Finds
 pub mod Entered
 pub mod Runs
+pub mod Closing

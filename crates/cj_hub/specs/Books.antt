@@ -1,17 +1,17 @@
 -- The book under the lock: a world, and the passes that it enrolled.
-use Rattle.std.specs.Prelude.{◌≡◌, ℕ, ◌+◌, ◌<◌, ◌≤◌, Bool, true, List, [], ◌∷◌, Result, Ok, Err, Some, IfSome, slice_get, slice_index_or, length}
+use Rattle.std.specs.Prelude.{◌≡◌, ℕ, ◌+◌, ◌<◌, ◌≤◌, Bool, true, false, List, [], ◌∷◌, Result, Ok, Err, Some, IfSome, slice_get, slice_index_or, length}
 use Rattle.cj_base.specs.declared.refusal.Refusal.{Refusal}
 use Rattle.cj_base.specs.declared.refusal.Refusal.TheVariants.{Empty, HistoryFull, Estranged, OutOfMemory}
 use Rattle.cj_types.specs.WorldLimits.{Kept}
 use Rattle.cj_calls.specs.Rows.{Told}
 use Rattle.cj_calls.specs.declared.call.Call.{Call}
+use Rattle.cj_calls.specs.declared.call.Call.TheVariants as Of
 use Rattle.cj_calls.specs.declared.caller.Caller.{Caller}
 use Rattle.cj_calls.specs.declared.caller.Role.{Role}
 use Rattle.cj_calls.specs.declared.caller.Role.TheVariants.{User}
 use Rattle.cj_calls.specs.declared.reply.Reply.{Reply}
 use Rattle.cj_state.specs.declared.state.State.{State}
 use Rattle.cj_state.specs.Legal.{state_of, answer_of, is_entered}
-use Rattle.cj_legal.specs.Answers.{FindsNothing}
 use Rattle.cj_world.specs.Worlds.{Ledger, told}
 use Rattle.cj_hub.specs.declared.receipt.Receipt.{Receipt}
 use Rattle.cj_hub.specs.declared.seat.Seat.{Seat}
@@ -73,6 +73,12 @@ pub record IsEntered (b : BookView) (caller : Caller) (call : Call) (r : Receipt
 pub record IsStep (b : BookView) (p : PassView) (call : Call) (r : Receipt) (b' : BookView) (p' : PassView) : Type 0 where
   pub entered : IsEntered b (caller_of p) call r b'
   pub pass : p' ≡ with_receipt p r
+
+-- a Take where the line is empty and the queue isn't shut
+pub record FindsNothing (s : State) (call : Call) : Type 0 where
+  pub call_is : call ≡ Of.Take
+  pub line : s.queue.row.line ≡ []
+  pub open_still : s.queue.shut ≡ false
 
 -- why nothing was entered: for want of memory, or because nothing was there to take
 abbrev pub IsUnentered : State → Call → Refusal → Type 0

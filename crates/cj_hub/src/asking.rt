@@ -1,7 +1,7 @@
 //! One call through a desk, by what came of it.
 ghost use Rattle.std.specs.Prelude.{◌≡◌, IsTrue, Err};
-ghost use Rattle.cj_legal.specs.Answers.{FindsNothing};
 ghost use Rattle.cj_world.specs.Worlds.{state_in};
+ghost use Rattle.cj_hub.specs.Books.{FindsNothing};
 ghost use Rattle.cj_hub.specs.Runs.{Adds, IsAsked, IsDone};
 
 use crate::desk::Desk;

@@ -17,7 +17,6 @@ use crate::receipt::Receipt;
 use crate::seat::Seat;
 use crate::state::HubState;
 use cj_calls::{Call, Caller, Entry, Role};
-use cj_legal::answer_law;
 use cj_types::{Limits, Refusal, Version};
 use cj_world::World;
 use std::alloc::{AllocError, Global};
@@ -144,7 +143,6 @@ impl Book {
         ensures which { IfErr result (IsUnentered (state_in self.old) call.now) }
         ensures err { OnErr result (self.new ≡ self.old) }
     {
-        answer_law();
         let place = self.entries().len() as u64 + 1;
         let (kept, given) = self.world.enter(caller, call)?;
         count_one(&mut self.seats, caller.number as usize);

@@ -3,10 +3,9 @@ ghost use Rattle.std.specs.Prelude.{◌≡◌, [], ◌∷◌, ◌++◌, Bool, tr
 ghost use Rattle.cj_base.specs.declared.refusal.Refusal.TheVariants.{OutOfMemory};
 ghost use Rattle.cj_types.specs.WorldLimits.{kept};
 ghost use Rattle.cj_calls.specs.Rows.{is_in_row};
-ghost use Rattle.cj_legal.specs.Answers.{FindsNothing};
 ghost use Rattle.cj_world.specs.Worlds.{Ledger, state_in};
 ghost use Rattle.cj_hub.specs.Receipts.{fresh, IsReceipt};
-ghost use Rattle.cj_hub.specs.Books.{BookView};
+ghost use Rattle.cj_hub.specs.Books.{BookView, FindsNothing};
 ghost use Rattle.cj_hub.specs.Runs.{IsDeskRefusal};
 
 use crate::book::Book;

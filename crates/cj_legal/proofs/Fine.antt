@@ -50,13 +50,13 @@ seat_fine : (s : State) (call : Call) (f : Place → Phase → Moved) (o : Optio
 seat_fine s call f None n h = n
 seat_fine s call f (Some seat) n h = h seat.key seat.phase
 
-first_fine : (s : State) (w : ℕ) (line : List Place) → s.queue.row.line ≡ line → (b : Bool) → s.queue.shut ≡ b → Fine s Of.Take (take_first s w (first line))
-first_fine s w (k ∷ line) l b e = inr (refl, refl, refl)
-first_fine s w [] l true e = inr (rw e refl, rw e refl, rw e refl)
-first_fine s w [] l false e = inl (rw e refl, refl, record { call_is = refl; line = l; open_still = e })
+first_fine : (s : State) (w : ℕ) (o : Option Place) (b : Bool) → s.queue.shut ≡ b → Fine s Of.Take (take_first s w o)
+first_fine s w (Some k) b e = inr (refl, refl, refl)
+first_fine s w None true e = inr (rw e refl, rw e refl, rw e refl)
+first_fine s w None false e = inl (rw e refl, refl)
 
 take_fine : (s : State) (w : ℕ) (o : Option Seat) → Fine s Of.Take (take_by s w o)
-take_fine s w None = first_fine s w s.queue.row.line refl s.queue.shut refl
+take_fine s w None = first_fine s w _ _ refl
 take_fine s w (Some seat) = inr (refl, refl, refl)
 
 cron_fine : (s : State) (w : ℕ) (k : Place) (p : Phase) → Fine s Of.SeeCron (see_cron_in s w k p)

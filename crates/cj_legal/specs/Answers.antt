@@ -1,11 +1,10 @@
 -- What a call can be answered.
-use Rattle.std.specs.Prelude.{◌≡◌, ◌⊎◌, Bool, true, false, [], Result, Ok, Err}
+use Rattle.std.specs.Prelude.{◌≡◌, ◌⊎◌, Bool, true, false, Result, Ok, Err}
 use Rattle.cj_base.specs.declared.refusal.Refusal.{Refusal}
 use Rattle.cj_base.specs.declared.refusal.Refusal.TheVariants.{Empty}
 use Rattle.cj_calls.specs.Rows.{is_in_row}
 use Rattle.cj_calls.specs.declared.caller.Caller.{Caller}
 use Rattle.cj_calls.specs.declared.call.Call.{Call}
-use Rattle.cj_calls.specs.declared.call.Call.TheVariants as Of
 use Rattle.cj_calls.specs.declared.reply.Reply.{Reply}
 use Rattle.cj_state.specs.declared.state.State.{State}
 use Rattle.cj_state.specs.Moves.{Moved}
@@ -16,18 +15,10 @@ abbrev pub is_empty : Result Reply Refusal → Bool
 is_empty (Err Empty) = true
 is_empty _ = false
 
--- a Take where the line is empty and the queue isn't shut
--- rule: hub-call
-pub record FindsNothing (s : State) (call : Call) : Type 0 where
-  pub call_is : call ≡ Of.Take
-  pub line : s.queue.row.line ≡ []
-  pub open_still : s.queue.shut ≡ false
-
 -- nothing was there to take, and all is as it was; or the answer is entered, and is one of the call's
 abbrev pub Fine : State → Call → Moved → Type 0
-Fine s call m = ((is_empty m.answer ≡ true) × (m.state ≡ s) × FindsNothing s call) ⊎ ((is_empty m.answer ≡ false) × (is_entered m.answer ≡ true) × (is_in_row call m.answer ≡ true))
+Fine s call m = ((is_empty m.answer ≡ true) × (m.state ≡ s)) ⊎ ((is_empty m.answer ≡ false) × (is_entered m.answer ≡ true) × (is_in_row call m.answer ≡ true))
 
 -- whoever calls whatever
--- rule: legal
 abbrev pub AnswersFit : Type 0
 AnswersFit = (s : State) (caller : Caller) (call : Call) → Fine s call (step_of s caller call)
