@@ -2,3 +2,4 @@ pub mod Words
 pub mod Answers
 pub mod Lines
 pub mod Objects
+pub mod Reasons

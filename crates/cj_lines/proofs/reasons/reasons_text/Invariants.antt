@@ -1,0 +1,8 @@
+use Rattle.std.proofs.Common.{◌≡◌, ◌++◌, drop, string_bytes}
+use mathlib.Core.List.{reverse}
+use Rattle.cj_lines.specs.Reasons as said
+use Rattle.cj_lines.proofs.reasons.reasons_text.Given as goal
+
+abbrev pub invariant-loop-cron : goal.invariant-loop-cron
+invariant-loop-cron l =
+    string_bytes l.text ++ said.reason_lines (reverse l.entries) (drop l.cron-index l.crons) ≡ said.reason_lines (reverse l.entries) l.crons
