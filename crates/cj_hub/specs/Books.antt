@@ -75,6 +75,7 @@ pub record IsStep (b : BookView) (p : PassView) (call : Call) (r : Receipt) (b' 
   pub pass : p' ≡ with_receipt p r
 
 -- a Take where the line is empty and the queue isn't shut
+-- rule: hub-call
 pub record FindsNothing (s : State) (call : Call) : Type 0 where
   pub call_is : call ≡ Of.Take
   pub line : s.queue.row.line ≡ []

@@ -20,5 +20,6 @@ abbrev pub Fine : State → Call → Moved → Type 0
 Fine s call m = ((is_empty m.answer ≡ true) × (m.state ≡ s)) ⊎ ((is_empty m.answer ≡ false) × (is_entered m.answer ≡ true) × (is_in_row call m.answer ≡ true))
 
 -- whoever calls whatever
+-- rule: legal
 abbrev pub AnswersFit : Type 0
 AnswersFit = (s : State) (caller : Caller) (call : Call) → Fine s call (step_of s caller call)

@@ -29,10 +29,12 @@ pub data SomeFinish (caller : Caller) : List Told → Type 0 where
   later : (e : Told) (h : List Told) → SomeFinish caller h → SomeFinish caller (e ∷ h)
 
 -- between two Takes of a key its first taker has ended its sync; a history has its newest entry first
+-- rule: exclusive
 abbrev pub Exclusive : List Told → Type 0
 Exclusive h = (k : Place) (after between before : List Told) (second first : Told) → h ≡ after ++ second ∷ (between ++ first ∷ before)
     → IsTake k second → IsTake k first → SomeFinish first.caller between
 
 -- whoever calls whatever
+-- rule: exclusive
 abbrev pub AlwaysExclusive : Type 0
 AlwaysExclusive = (window : ℕ) (h : List Told) → IsLegal window h → Exclusive h

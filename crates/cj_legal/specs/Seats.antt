@@ -60,6 +60,7 @@ abbrev pub seat : List Told → ℕ → Option Seat
 seat [] w = None
 seat (e ∷ h) w = if w == e.caller.number then seat_after (seat h w) e.call e.answer else seat h w
 
+-- rule: phases
 abbrev pub SeatLaw : Type 0
 SeatLaw = (window : ℕ) (h : List Told) → IsLegal window h → (w : ℕ) → map.get (state_of window h).seats w ≡ seat h w
 
