@@ -1,4 +1,5 @@
-pub mod NextLemmas
 pub mod Refused
 pub mod Pairs
-pub mod Written
+pub mod NextLemmas
+pub mod Given
+pub mod Runs

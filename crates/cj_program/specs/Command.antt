@@ -7,8 +7,9 @@ use Rattle.clap.specs.declared.builder.value_parser.ValueParser.TheVariants.{Uns
 use Rattle.cj_program.specs.declared.request.CheckRequest.{CheckRequest}
 use Rattle.cj_program.specs.declared.request.NextRequest.{NextRequest}
 use Rattle.cj_program.specs.declared.request.PlanRequest.{PlanRequest}
+use Rattle.cj_program.specs.declared.request.ReplayRequest.{ReplayRequest}
 use Rattle.cj_program.specs.declared.request.Request.{Request}
-use Rattle.cj_program.specs.declared.request.Request.TheVariants.{Check, Next, Plan}
+use Rattle.cj_program.specs.declared.request.Request.TheVariants.{Check, Next, Plan, Replay}
 use Rattle.cj_program.specs.declared.word_fault.WordFault.{WordFault}
 use Rattle.cj_program.specs.declared.word_fault.WordFault.TheVariants.{Incomplete, OutOfMemory, Refused}
 
@@ -47,6 +48,10 @@ now_rule = record (new_rule (codes "now")) { long = Some (codes "now"); required
 abbrev pub plan_app : App
 plan_app = with_rule (with_rule (new_app (codes "plan")) file_rule) now_rule
 
+-- `cronsim replay FILE`
+abbrev pub replay_app : App
+replay_app = with_rule (new_app (codes "replay")) file_rule
+
 -- the commands on a schedule and on a manifest
 abbrev pub reading_app : App
 reading_app =
@@ -56,7 +61,7 @@ reading_app =
 
 -- rules: words, help
 abbrev pub cronsim_app : App
-cronsim_app = with_subcommand reading_app plan_app.top
+cronsim_app = with_subcommand (with_subcommand reading_app plan_app.top) replay_app.top
 
 -- the text is decimal digits, after a plus or none, that spell the number
 abbrev pub IsDecimal : Text → ℕ → Type 0
@@ -81,11 +86,16 @@ pub record IsPlan (rows : List Row) (r : PlanRequest) : Type 0 where
   pub file : first_of (codes "file") rows ≡ Some r.file.now
   pub moment : first_of (codes "now") rows ≡ Some r.moment.now
 
+-- and for those of `replay`
+pub record IsReplay (rows : List Row) (r : ReplayRequest) : Type 0 where
+  pub file : first_of (codes "file") rows ≡ Some r.file.now
+
 -- the request is of the subcommand with that name, and has the values of its arguments
 abbrev pub IsOfRows : Option (Text × List Row) → Request → Type 0
 IsOfRows found (Next r) = (rows : List Row) × (found ≡ Some (codes "next", rows)) × IsNext rows r
 IsOfRows found (Check r) = (rows : List Row) × (found ≡ Some (codes "check", rows)) × IsCheck rows r
 IsOfRows found (Plan r) = (rows : List Row) × (found ≡ Some (codes "plan", rows)) × IsPlan rows r
+IsOfRows found (Replay r) = (rows : List Row) × (found ≡ Some (codes "replay", rows)) × IsReplay rows r
 
 -- the request is of the subcommand that `clap` states for the words, with the values that it states
 -- rule: words
@@ -97,6 +107,7 @@ abbrev pub file_of : Request → Option Text
 file_of (Next r) = None
 file_of (Check r) = Some r.file.now
 file_of (Plan r) = Some r.file.now
+file_of (Replay r) = Some r.file.now
 
 -- when words are refused: `clap` doesn't take them, or no request has the values that it states for them
 -- rule: words

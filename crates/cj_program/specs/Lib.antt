@@ -3,6 +3,7 @@ pub mod NextText
 pub mod Outcome
 pub mod Check
 pub mod Plan
+pub mod Replay
 pub mod Answers
 pub mod Writing
 pub mod Told

@@ -17,8 +17,6 @@ use Rattle.cj_program.specs.NextText.{IsNextText}
 use Rattle.cj_program.specs.declared.answer.Answer.{Answer}
 use Rattle.cj_program.specs.declared.answer.Verdict.{Verdict}
 use Rattle.cj_program.specs.declared.answer.Verdict.TheVariants.{Done, Refused}
-use Rattle.cj_program.specs.declared.failure.Failure.{Failure}
-use Rattle.cj_program.specs.declared.failure.Failure.TheVariants.{Device, Memory}
 use Rattle.cj_program.specs.declared.request.NextRequest.{NextRequest}
 
 -- the verdict, and the bytes on standard output and on standard error
@@ -32,12 +30,6 @@ pub record Outcome : Type 0 where
 abbrev pub status_of : Verdict → ℕ
 status_of Done = 0
 status_of Refused = 1
-
--- what standard error says of a failure, which ends with status 3
--- rule: statuses
-abbrev pub failure_line : Failure → List ℕ
-failure_line Device = codes "cronsim: input or output failed\n"
-failure_line Memory = codes "cronsim: out of memory\n"
 
 abbrev pub outcome_of : Answer → Outcome
 outcome_of a = record { verdict = a.verdict; printed = string_bytes a.printed; said = string_bytes a.said }

@@ -1,14 +1,13 @@
 -- What standard output and standard error hold where a writer fails.
-use Rattle.std.specs.Prelude.{◌≡◌, ◌⊎◌, ℕ, List, [], take, Option}
+use Rattle.std.specs.Prelude.{◌≡◌, ◌⊎◌, ℕ, List, Option}
 use Rattle.std.specs.Io.KnownBytes.{Appends, Keeps}
-use Rattle.cj_program.specs.declared.failure.Failure.{Failure}
+use Rattle.cj_output.specs.declared.failure.Failure.{Failure}
+use Rattle.cj_output.specs.Writing.{AppendsSome, failure_line}
 use Rattle.cj_program.specs.declared.request.Request.{Request}
+use Rattle.cj_program.specs.declared.request.Request.TheVariants.{Check, Next, Plan, Replay}
 use Rattle.cj_program.specs.Answers.{IsOutcome}
-use Rattle.cj_program.specs.Outcome.{Outcome, failure_line}
-
--- a beginning of the bytes was appended, none or all of them included
-abbrev pub AppendsSome : Option (List ℕ) → Option (List ℕ) → List ℕ → Type 0
-AppendsSome old new bytes = (count : ℕ) × Appends old new (take count bytes)
+use Rattle.cj_program.specs.Outcome.{Outcome, status_of}
+use Rattle.cj_program.specs.Replay.{IsFailedRun, IsReplayOutcome}
 
 -- standard output was cut off, and a line on standard error tells of which failure
 pub record IsOutputCut (printed : List ℕ) (out out' err err' : Option (List ℕ)) : Type 0 where
@@ -25,6 +24,12 @@ pub record IsErrorCut (printed said : List ℕ) (out out' err err' : Option (Lis
 abbrev pub IsCut : List ℕ → List ℕ → Option (List ℕ) → Option (List ℕ) → Option (List ℕ) → Option (List ℕ) → Type 0
 IsCut printed said out out' err err' = IsOutputCut printed out out' err err' ⊎ IsErrorCut printed said out out' err err'
 
+-- an outcome was given, and its status is this one
+pub record IsGiven (status : ℕ) (o : Outcome) (out out' err err' : Option (List ℕ)) : Type 0 where
+  pub status_is : status ≡ status_of o.verdict
+  pub printed : Appends out out' o.printed
+  pub said : Appends err err' o.said
+
 -- there is no answer: nothing was printed, and a line on standard error tells of which failure
 pub record IsUnanswered (out out' err err' : Option (List ℕ)) : Type 0 where
   pub failure : Failure
@@ -37,7 +42,25 @@ pub record IsAnswerCut (request : Request) (input out out' err err' : Option (Li
   pub answer : IsOutcome request input outcome
   pub cut : IsCut outcome.printed outcome.said out out' err err'
 
+-- the answer of `replay` was cut off
+pub record IsRefusalCut (input out out' err err' : Option (List ℕ)) : Type 0 where
+  pub outcome : Outcome
+  pub answer : IsReplayOutcome input outcome
+  pub cut : IsCut outcome.printed outcome.said out out' err err'
+
+-- `replay` ended with status 3
+-- rule: statuses
+abbrev pub FailsReplay : Option (List ℕ) → Option (List ℕ) → Option (List ℕ) → Option (List ℕ) → Option (List ℕ) → Type 0
+FailsReplay input out out' err err' = IsUnanswered out out' err err' ⊎ IsRefusalCut input out out' err err' ⊎ IsFailedRun input out out' err err'
+
+-- another command did
+abbrev pub FailsAnswer : Request → Option (List ℕ) → Option (List ℕ) → Option (List ℕ) → Option (List ℕ) → Option (List ℕ) → Type 0
+FailsAnswer request input out out' err err' = IsUnanswered out out' err err' ⊎ IsAnswerCut request input out out' err err'
+
 -- a request that ended with status 3
 -- rule: statuses
 abbrev pub IsFailed : Request → Option (List ℕ) → Option (List ℕ) → Option (List ℕ) → Option (List ℕ) → Option (List ℕ) → Type 0
-IsFailed request input out out' err err' = IsUnanswered out out' err err' ⊎ IsAnswerCut request input out out' err err'
+IsFailed (Replay r) input out out' err err' = FailsReplay input out out' err err'
+IsFailed (Next r) input out out' err err' = FailsAnswer (Next r) input out out' err err'
+IsFailed (Check r) input out out' err err' = FailsAnswer (Check r) input out out' err err'
+IsFailed (Plan r) input out out' err err' = FailsAnswer (Plan r) input out out' err err'

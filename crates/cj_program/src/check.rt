@@ -5,13 +5,12 @@ ghost use Rattle.cj_program.specs.Check.{AddsPair, IsCheckOutcome, IsChecked, Is
 ghost use Rattle.cj_program.specs.Outcome.{done, outcome_of};
 
 use crate::answer::{Answer, Verdict};
-use crate::failure::Failure;
-use crate::input::{MOST_BYTES, MOST_READS, read_input};
 use crate::lines::{print_faults, print_ok, print_warnings};
 use crate::next::refused;
 use crate::request::CheckRequest;
 use cj_base::Refusal;
 use cj_manifest::{Manifest, Warning, read_manifest};
+use cj_output::{Failure, MOST_BYTES, MOST_READS, read_input};
 use cj_zone::ZoneTable;
 use std::alloc::Global;
 use std::io::Read;

@@ -1,7 +1,7 @@
 ghost use Rattle.std.specs.Prelude.{◌≡◌, IfOk, false};
 ghost use Rattle.clap.specs.Words.{app_of, rule_of};
 ghost use Rattle.clap.specs.declared.builder.command.Command.TheViews.{out-Command};
-ghost use Rattle.cj_program.specs.Command.{after_rule, check_app, count_rule, cronsim_app, file_rule, next_app, now_rule, plan_app, reading_app, schedule_rule, zone_rule};
+ghost use Rattle.cj_program.specs.Command.{after_rule, check_app, count_rule, cronsim_app, file_rule, next_app, now_rule, plan_app, reading_app, replay_app, schedule_rule, zone_rule};
 
 use clap::builder::ValueParser;
 use clap::{Arg, Command};
@@ -127,6 +127,28 @@ fn plan_command<'a>(alloc: Global) -> Result<Command<'a>, AllocError>
     Ok(command)
 }
 
+fn script_arg<'a>(alloc: Global) -> Arg<'a>
+    ensures rule { rule_of result ≡ file_rule }
+    ensures local { result.global ≡ false }
+{
+    Arg::new(alloc, "file")
+        .required(true)
+        .value_name("FILE")
+        .help(
+            "File with a script in JSON: callers, and steps that say who does what; - is standard input",
+        )
+}
+
+fn replay_command<'a>(alloc: Global) -> Result<Command<'a>, AllocError>
+    ensures app { IfOk result (λ c. app_of c ≡ replay_app) }
+    ensures local { IfOk result (λ c. (out-Command c).has_globals ≡ false) }
+{
+    let command = Command::new(alloc, "replay")
+        .about("Make the steps of a script on an empty world, and print what each is answered")
+        .arg(script_arg(alloc))?;
+    Ok(command)
+}
+
 // The commands on a schedule and on a manifest.
 fn reading_command<'a>(alloc: Global) -> Result<Command<'a>, AllocError>
     ensures { IfOk result (λ c. app_of c ≡ reading_app) }
@@ -147,6 +169,9 @@ pub fn cronsim_command<'a>(alloc: Global) -> Result<Command<'a>, AllocError>
     ensures { IfOk result (λ c. app_of c ≡ cronsim_app) }
 {
     let plan = plan_command(alloc)?;
-    let command = reading_command(alloc)?.subcommand(plan)?;
+    let replay = replay_command(alloc)?;
+    let command = reading_command(alloc)?
+        .subcommand(plan)?
+        .subcommand(replay)?;
     Ok(command)
 }

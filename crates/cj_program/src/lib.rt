@@ -4,13 +4,12 @@
 mod answer;
 mod check;
 mod command;
-mod failure;
-mod input;
 mod lines;
 mod next;
 mod next_text;
 mod plan;
 mod plan_text;
+mod replay;
 mod request;
 mod serving;
 mod told;
@@ -18,10 +17,9 @@ mod word_fault;
 mod words;
 mod writing;
 
-pub use failure::Failure;
-pub use request::{CheckRequest, NextRequest, PlanRequest, Request};
+pub use cj_output::{Failure, tell_failure};
+pub use request::{CheckRequest, NextRequest, PlanRequest, ReplayRequest, Request};
 pub use serving::serve;
 pub use told::tell_fault;
 pub use word_fault::WordFault;
 pub use words::parse_words;
-pub use writing::tell_failure;

@@ -8,10 +8,10 @@ ghost use Rattle.cj_zone.specs.Table.{local_zone};
 ghost use Rattle.cj_program.specs.Outcome.{IsNextOutcome, IsNoRule, IsZoneOf, outcome_of, refusal, schedule_line};
 
 use crate::answer::{Answer, Verdict};
-use crate::failure::Failure;
 use crate::next_text::next_text;
 use crate::request::NextRequest;
 use cj_base::{Refusal, ScheduleFault};
+use cj_output::Failure;
 use cj_schedule::Schedule;
 use cj_zone::{ZoneTable, read_time};
 use std::alloc::{AllocError, Global};

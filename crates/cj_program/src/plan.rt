@@ -8,13 +8,12 @@ ghost use Rattle.cj_program.specs.Outcome.{done, outcome_of, refusal};
 ghost use Rattle.cj_program.specs.Plan.{IsPlanOutcome, IsPlannedFor, plan_lines, scene_line, zone_for};
 
 use crate::answer::{Answer, Verdict};
-use crate::failure::Failure;
-use crate::input::{MOST_BYTES, MOST_READS, read_input};
 use crate::lines::print_fault;
 use crate::next::refused;
 use crate::plan_text::plan_text;
 use crate::request::PlanRequest;
 use cj_decide::{Plan, Steps, decide};
+use cj_output::{Failure, MOST_BYTES, MOST_READS, read_input};
 use cj_scenario::{Scene, SceneFault, read_scene};
 use cj_types::{CronJob, FieldFault, Seconds, Shared, Text, TryCopy};
 use cj_zone::{Zone, ZoneTable, read_time};
@@ -89,8 +88,8 @@ fn fault_text(alloc: Global, fault: FieldFault) -> Result<String, AllocError>
     Ok(text)
 }
 
-// A scenario that is refused.
-fn refused_scene(alloc: Global, fault: SceneFault) -> Result<Answer, Failure>
+/// What a scenario or a script is answered that is refused.
+pub(crate) fn refused_scene(alloc: Global, fault: SceneFault) -> Result<Answer, Failure>
     ensures told { IfOk result (λ _. fault ≢ Memory) }
     ensures answer { IfOk result (λ a. outcome_of a ≡ refusal (scene_line fault)) }
 {

@@ -2,8 +2,8 @@
 ghost use Rattle.std.specs.Prelude.{◌≡◌, ◌++◌, codes, option_map, IfOk, OnOk, string_bytes};
 ghost use Rattle.cj_program.specs.Plan.{job_lines, name_value, plan_lines, reason_lines, time_value, word_line};
 
-use crate::failure::Failure;
 use cj_decide::{Claim, JobRef, Steps};
+use cj_output::Failure;
 use cj_types::{JobDraft, Reason, Seconds};
 use cj_zone::time_text;
 use std::alloc::{AllocError, Global};

@@ -9,6 +9,8 @@ pub enum Request<'a> {
     Check(CheckRequest<'a>),
     /// What the next sync of a scenario's CronJob does.
     Plan(PlanRequest<'a>),
+    /// What the steps of a script are answered, one after the other.
+    Replay(ReplayRequest<'a>),
 }
 
 impl<'a> Request<'a> {
@@ -22,6 +24,7 @@ impl<'a> Request<'a> {
             Request::Next(_) => None,
             Request::Check(check) => Some(check.file),
             Request::Plan(plan) => Some(plan.file),
+            Request::Replay(replay) => Some(replay.file),
         }
     }
 }
@@ -55,4 +58,11 @@ pub struct PlanRequest<'a> {
     pub file: &'a str,
     /// The moment that the plan is for: a printed time.
     pub moment: &'a str,
+}
+
+/// The words of the command `replay`, as they were given.
+#[derive(Debug, Drop)]
+pub struct ReplayRequest<'a> {
+    /// The name of the file with the script; `-` is standard input.
+    pub file: &'a str,
 }

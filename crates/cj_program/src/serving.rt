@@ -1,32 +1,20 @@
-ghost use Rattle.std.specs.Prelude.{◌≡◌, ◌<◌, ◌≤◌, IfOk};
+ghost use Rattle.std.specs.Prelude.{◌≡◌, ◌<◌, ◌≤◌, ◌⊎◌};
+ghost use Rattle.std.specs.Result.{IsOkAnd};
 ghost use Rattle.std.specs.Io.KnownBytes.{Appends};
 ghost use Rattle.cj_program.specs.Answers.{IsOutcome};
 ghost use Rattle.cj_program.specs.Outcome.{Outcome, outcome_of, status_of};
-ghost use Rattle.cj_program.specs.Writing.{IsFailed};
+ghost use Rattle.cj_program.specs.Writing.{IsCut, IsFailed, IsGiven, IsUnanswered};
 
 use crate::answer::{Answer, Verdict};
 use crate::check::check_answer;
-use crate::failure::Failure;
 use crate::next::next_answer;
 use crate::plan::plan_answer;
+use crate::replay::serve_replay;
 use crate::request::Request;
-use crate::writing::{give, tell_failure};
+use crate::writing::give;
+use cj_output::{Failure, tell_failure};
 use std::alloc::Global;
 use std::io::{Read, Write};
-
-fn answer_to<R: Read>(
-    alloc: Global,
-    request: &Request<'_>,
-    input: &mut R,
-) -> Result<Answer, Failure>
-    ensures { IfOk result (λ a. IsOutcome request.now (R.remaining input.old) (outcome_of a)) }
-{
-    match request {
-        Request::Next(next) => next_answer(alloc, next),
-        Request::Check(check) => check_answer(alloc, check, input),
-        Request::Plan(plan) => plan_answer(alloc, plan, input),
-    }
-}
 
 fn status_code(verdict: Verdict) -> u8
     ensures code { result ≡ status_of verdict }
@@ -38,8 +26,32 @@ fn status_code(verdict: Verdict) -> u8
     }
 }
 
+/// Gives an answer, or tells why there is none.
+pub(crate) fn give_answer<W: Write, E: Write>(
+    answer: Result<Answer, Failure>,
+    out: &mut W,
+    err: &mut E,
+) -> u8
+    ensures given { result < 3 → IsOkAnd answer (λ a. IsGiven result (outcome_of a) (W.contents out.old) (W.contents out.new) (E.contents err.old) (E.contents err.new)) }
+    ensures failed { result ≡ 3 → IsUnanswered (W.contents out.old) (W.contents out.new) (E.contents err.old) (E.contents err.new)
+        ⊎ IsOkAnd answer (λ a. IsCut (outcome_of a).printed (outcome_of a).said (W.contents out.old) (W.contents out.new) (E.contents err.old) (E.contents err.new)) }
+    ensures most { result ≤ 3 }
+{
+    match answer {
+        Ok(answer) => give(
+            status_code(answer.verdict),
+            answer.printed.as_str(),
+            answer.said.as_str(),
+            out,
+            err,
+        ),
+        Err(failure) => tell_failure(failure, err),
+    }
+}
+
 /// Serves a request, and answers the status: 0 where it is done, 1 where what it asks about is refused, 3
-/// where reading, writing or memory failed, which one line on standard error then says.
+/// where reading, writing or memory failed, or where a step of a script found the history full; one line on standard error says
+/// which.
 pub fn serve<R: Read, W: Write, E: Write>(
     alloc: Global,
     request: &Request<'_>,
@@ -53,14 +65,10 @@ pub fn serve<R: Read, W: Write, E: Write>(
     ensures failed { result ≡ 3 → IsFailed request.now (R.remaining input.old) (W.contents out.old) (W.contents out.new) (E.contents err.old) (E.contents err.new) }
     ensures most { result ≤ 3 }
 {
-    match answer_to(alloc, request, input) {
-        Ok(answer) => give(
-            status_code(answer.verdict),
-            answer.printed.as_str(),
-            answer.said.as_str(),
-            out,
-            err,
-        ),
-        Err(failure) => tell_failure(failure, err),
+    match request {
+        Request::Next(next) => give_answer(next_answer(alloc, next), out, err),
+        Request::Check(check) => give_answer(check_answer(alloc, check, input), out, err),
+        Request::Plan(plan) => give_answer(plan_answer(alloc, plan, input), out, err),
+        Request::Replay(_) => serve_replay(alloc, input, out, err),
     }
 }

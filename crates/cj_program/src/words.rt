@@ -1,14 +1,15 @@
 ghost use Rattle.std.specs.Prelude.{◌≡◌, ℕ, ◌≤◌, map, option_map, IfOk, IfErr, IfSome, None, Some};
 ghost use Rattle.clap.specs.Words.{first_of, found_of, rows_of, subcommand_rows_of};
-ghost use Rattle.cj_program.specs.Command.{IsCheck, IsDecimal, IsNext, IsOf, IsOfRows, IsPlan, RefusesWords};
+ghost use Rattle.cj_program.specs.Command.{IsCheck, IsDecimal, IsNext, IsOf, IsOfRows, IsPlan, IsReplay, RefusesWords};
 ghost use Rattle.cj_program.specs.declared.request.CheckRequest.{CheckRequest};
 ghost use Rattle.cj_program.specs.declared.request.NextRequest.{NextRequest};
 ghost use Rattle.cj_program.specs.declared.request.PlanRequest.{PlanRequest};
+ghost use Rattle.cj_program.specs.declared.request.ReplayRequest.{ReplayRequest};
 ghost use Rattle.cj_program.specs.declared.request.Request.{Request};
 ghost use Rattle.cj_program.specs.declared.word_fault.WordFault.TheVariants.{Incomplete};
 
 use crate::command::cronsim_command;
-use crate::request::{CheckRequest, NextRequest, PlanRequest, Request};
+use crate::request::{CheckRequest, NextRequest, PlanRequest, ReplayRequest, Request};
 use crate::word_fault::WordFault;
 use clap::ArgMatches;
 use std::alloc::Global;
@@ -84,6 +85,16 @@ fn plan_request<'a>(found: &ArgMatches<'a>) -> Result<PlanRequest<'a>, WordFault
     })
 }
 
+fn replay_request<'a>(found: &ArgMatches<'a>) -> Result<ReplayRequest<'a>, WordFault>
+    ensures stated { IfOk result (IsReplay (rows_of (found_of found.now))) }
+    ensures refused { IfErr result (λ e. e ≡ Incomplete) }
+    ensures only { IfErr result (λ _. (r : ReplayRequest) → ¬ (IsReplay (rows_of (found_of found.now)) r)) }
+{
+    Ok(ReplayRequest {
+        file: text(found, "file")?,
+    })
+}
+
 fn request_of<'a>(matches: &ArgMatches<'a>) -> Result<Request<'a>, WordFault>
     ensures stated { IfOk result (IsOfRows (subcommand_rows_of matches.now)) }
     ensures refused { IfErr result (λ e. e ≡ Incomplete) }
@@ -93,6 +104,7 @@ fn request_of<'a>(matches: &ArgMatches<'a>) -> Result<Request<'a>, WordFault>
         Some(("next", found)) => Ok(Request::Next(next_request(found)?)),
         Some(("plan", found)) => Ok(Request::Plan(plan_request(found)?)),
         Some(("check", found)) => Ok(Request::Check(check_request(found)?)),
+        Some(("replay", found)) => Ok(Request::Replay(replay_request(found)?)),
         _ => Err(WordFault::Incomplete),
     }
 }

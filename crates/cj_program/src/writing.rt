@@ -1,72 +1,10 @@
 // What is written, and told where it can't be.
-ghost use Rattle.std.specs.Prelude.{◌≡◌, ◌<◌, ◌≤◌, IfOk, OnErr, OnOk, length, take};
-ghost use Rattle.std.specs.Io.KnownBytes.{Appends, Keeps};
-ghost use Rattle.cj_program.specs.Outcome.{failure_line};
-ghost use Rattle.cj_program.specs.Writing.{AppendsSome, IsCut};
+ghost use Rattle.std.specs.Prelude.{◌≡◌, ◌<◌, ◌≤◌};
+ghost use Rattle.std.specs.Io.KnownBytes.{Appends};
+ghost use Rattle.cj_program.specs.Writing.{IsCut};
 
-use crate::failure::Failure;
-use std::io;
-use std::io::{ErrorKind, Write};
-
-// A writer takes a text within so many writes.
-const MOST_WRITES: u64 = u64::MAX;
-
-// One write: how many of the bytes the writer took, which is none where it was interrupted.
-fn write_once<W: Write>(writer: &mut W, bytes: &[u8]) -> io::Result<usize>
-    ensures within { IfOk result (λ count. count ≤ length bytes.now) }
-    ensures taken { IfOk result (λ count. Appends (W.contents writer.old) (W.contents writer.new) (take count bytes.now)) }
-    ensures kept { OnErr result (Keeps (W.contents writer.old) (W.contents writer.new)) }
-{
-    match writer.write(bytes) {
-        Ok(0) => Err(io::Error::from(ErrorKind::WriteZero)),
-        Ok(count) => Ok(count),
-        Err(error) if error.kind() == ErrorKind::Interrupted => Ok(0),
-        Err(error) => Err(error),
-    }
-}
-
-// Writes all the bytes, or where the writer fails a beginning of them.
-fn write_whole<W: Write>(writer: &mut W, bytes: &[u8]) -> io::Result<()>
-    ensures whole { OnOk result (Appends (W.contents writer.old) (W.contents writer.new) bytes.now) }
-    ensures begun { AppendsSome (W.contents writer.old) (W.contents writer.new) bytes.now }
-{
-    let mut at = 0;
-    for _ in 0..MOST_WRITES {
-        if at == bytes.len() {
-            return Ok(());
-        }
-        let count = write_once(writer, &bytes[at..])?;
-        at += count;
-    }
-    Err(io::Error::from(ErrorKind::Interrupted))
-}
-
-fn line_of(failure: Failure) -> &'static [u8]
-    ensures { result.now ≡ failure_line failure }
-{
-    match failure {
-        Failure::Device => b"cronsim: input or output failed\n",
-        Failure::Memory => b"cronsim: out of memory\n",
-    }
-}
-
-/// Tells a failure on standard error, as far as that takes it, and answers its status.
-pub fn tell_failure<E: Write>(failure: Failure, err: &mut E) -> u8
-    ensures status { result ≡ 3 }
-    ensures told { AppendsSome (E.contents err.old) (E.contents err.new) (failure_line failure) }
-{
-    let _ = write_whole(err, line_of(failure));
-    3
-}
-
-fn write_and_flush<W: Write>(writer: &mut W, bytes: &[u8]) -> Result<(), Failure>
-    ensures whole { OnOk result (Appends (W.contents writer.old) (W.contents writer.new) bytes.now) }
-    ensures begun { AppendsSome (W.contents writer.old) (W.contents writer.new) bytes.now }
-{
-    write_whole(writer, bytes)?;
-    writer.flush()?;
-    Ok(())
-}
+use cj_output::{tell_failure, write_and_flush, write_whole};
+use std::io::Write;
 
 /// Writes both texts and answers the status, or 3 where a writer fails.
 pub fn give<W: Write, E: Write>(

@@ -1,92 +1,88 @@
 use crate::calls::{Call, Kind};
 use std::alloc::{AllocError, Global};
 
-// The queue as plain lists of numbers of keys.
+// The queue in plain lists, by the numbers of eight keys.
 #[derive(Drop)]
 pub struct Plain {
     pub line: Vec<usize>,
-    pub dirty: Vec<usize>,
-    pub held: Vec<usize>,
-    // The keys that wait, each with its time, in the order of the calls.
-    pub waiting: Vec<(u64, usize)>,
-    // The keys that failed, as often as they did.
-    pub failed: Vec<usize>,
+    pub dirty: [bool; 8],
+    pub held: [bool; 8],
+    // The time for which each key waits.
+    pub waiting: [Option<u64>; 8],
+    // How often each key failed.
+    pub failed: [u32; 8],
     pub tick: u64,
     pub is_shut: bool,
-}
-
-fn cut(list: &mut Vec<usize>, key: usize) {
-    list.retain(|other| *other != key);
 }
 
 impl Plain {
     pub fn new(alloc: Global) -> Plain {
         Plain {
             line: Vec::new(alloc),
-            dirty: Vec::new(alloc),
-            held: Vec::new(alloc),
-            waiting: Vec::new(alloc),
-            failed: Vec::new(alloc),
+            dirty: [false; 8],
+            held: [false; 8],
+            waiting: [None; 8],
+            failed: [0; 8],
             tick: 0,
             is_shut: false,
         }
     }
 
     fn put(&mut self, key: usize) -> Result<(), AllocError> {
-        if self.is_shut || self.dirty.contains(&key) {
+        if self.is_shut || self.dirty[key % 8] {
             return Ok(());
         }
-        self.dirty.push(key)?;
-        if !self.held.contains(&key) {
-            self.line.push(key)?;
+        self.dirty[key % 8] = true;
+        if self.held[key % 8] {
+            return Ok(());
         }
+        self.line.push(key)?;
         Ok(())
     }
 
-    fn take(&mut self) -> Result<Option<usize>, AllocError> {
-        let Some(key) = self.line.first().copied() else {
-            return Ok(None);
-        };
-        cut(&mut self.line, key);
-        cut(&mut self.dirty, key);
-        self.held.push(key)?;
-        Ok(Some(key))
+    fn take(&mut self) -> Option<usize> {
+        let key = self.line.first().copied()?;
+        self.line.retain(|other| *other != key);
+        self.dirty[key % 8] = false;
+        self.held[key % 8] = true;
+        Some(key)
     }
 
     fn end(&mut self, key: usize) -> Result<(), AllocError> {
-        cut(&mut self.held, key);
-        if self.dirty.contains(&key) {
+        self.held[key % 8] = false;
+        if self.dirty[key % 8] {
             self.line.push(key)?;
         }
         Ok(())
-    }
-
-    // The time for which the key waits.
-    fn time_of(&self, key: usize) -> Option<u64> {
-        let wait = self.waiting.iter().find(|wait| wait.1 == key);
-        wait.map(|wait| wait.0)
     }
 
     fn put_after(&mut self, key: usize, at: u64) -> Result<(), AllocError> {
         if self.is_shut || at <= self.tick {
             return self.put(key);
         }
-        let time = at.min(self.time_of(key).unwrap_or(at));
-        self.waiting.retain(|wait| wait.1 != key);
-        self.waiting.push((time, key))?;
+        let time = at.min(self.waiting[key % 8].unwrap_or(at));
+        self.waiting[key % 8] = Some(time);
         Ok(())
     }
 
-    // The first key of those that wait, where its time isn't above the moment.
+    // The earliest of those that wait, where its time isn't above the moment; of several the first key.
     fn next_ready(&self, now: u64) -> Option<usize> {
-        let wait = self.waiting.iter().min()?;
-        if wait.0 > now { None } else { Some(wait.1) }
+        let mut earliest = now.saturating_add(1);
+        let mut first = None;
+        for key in 0..8 {
+            let time = self.waiting[key].unwrap_or(u64::MAX);
+            if time < earliest {
+                earliest = time;
+                first = Some(key);
+            }
+        }
+        first
     }
 
     fn pass(&mut self, now: u64) -> Result<(), AllocError> {
-        for _ in 0..self.waiting.len() {
+        for _ in 0..8 {
             if let Some(key) = self.next_ready(now) {
-                self.waiting.retain(|wait| wait.1 != key);
+                self.waiting[key % 8] = None;
                 self.put(key)?;
             }
         }
@@ -94,69 +90,71 @@ impl Plain {
         Ok(())
     }
 
-    fn shut(&mut self) {
-        self.is_shut = true;
-        self.waiting.clear();
-    }
-
-    fn fail(&mut self, key: usize) -> Result<(), AllocError> {
-        self.failed.push(key)?;
-        Ok(())
-    }
-
-    pub fn failures(&self, key: usize) -> usize {
-        self.failed.iter().filter(|other| **other == key).count()
-    }
-
     // The delay before a retry, in milliseconds.
     pub fn delay(&self, key: usize) -> u64 {
         let mut delay = 5u64;
-        for _ in 0..self.failures(key) {
+        for _ in 0..self.failed[key % 8] {
             delay = delay.saturating_mul(2).min(1_000_000);
         }
         delay
     }
 
+    fn fail(&mut self, key: usize) {
+        self.failed[key % 8] = self.failed[key % 8].saturating_add(1);
+    }
+
     fn retry(&mut self, key: usize, now: u64) -> Result<(), AllocError> {
         self.end(key)?;
         let at = now.saturating_add(self.delay(key));
-        self.put_after(key, at)?;
-        self.fail(key)
+        self.fail(key);
+        self.put_after(key, at)
     }
 
-    fn finish(&mut self, kind: Kind, key: usize, at: u64) -> Result<(), AllocError> {
-        if kind == Kind::FinishRetry {
-            return self.retry(key, at);
-        }
+    // The end of the work on a key, and of its failures, with the time to come again.
+    fn finish(&mut self, key: usize, again: Option<u64>) -> Result<(), AllocError> {
         self.end(key)?;
-        if kind != Kind::Done {
-            cut(&mut self.failed, key);
+        self.failed[key % 8] = 0;
+        match again {
+            Some(at) => self.put_after(key, at),
+            None => Ok(()),
         }
-        if kind == Kind::FinishOk {
-            return self.put_after(key, at);
+    }
+
+    fn finish_held(&mut self, kind: Kind, key: usize, at: u64) -> Result<(), AllocError> {
+        match kind {
+            _ if !self.held[key % 8] => Ok(()),
+            Kind::FinishRetry => self.retry(key, at),
+            Kind::FinishOk => self.finish(key, Some(at)),
+            Kind::FinishLast => self.finish(key, None),
+            _ => self.end(key),
+        }
+    }
+
+    fn shut(&mut self) {
+        self.is_shut = true;
+        self.waiting = [None; 8];
+    }
+
+    // A call that answers nothing.
+    fn change(&mut self, kind: Kind, key: usize, at: u64) -> Result<(), AllocError> {
+        match kind {
+            Kind::Add => self.put(key)?,
+            Kind::AddAfter => self.put_after(key, at)?,
+            Kind::Tick => self.pass(at)?,
+            Kind::Failed => self.fail(key),
+            Kind::Shut => self.shut(),
+            Kind::Forget => self.failed[key % 8] = 0,
+            _ => self.finish_held(kind, key, at)?,
         }
         Ok(())
     }
 
-    fn change(&mut self, kind: Kind, key: usize, at: u64) -> Result<(), AllocError> {
-        match kind {
-            Kind::Add => self.put(key),
-            Kind::AddAfter => self.put_after(key, at),
-            Kind::Tick => self.pass(at),
-            Kind::Failed => self.fail(key),
-            _ if self.held.contains(&key) => self.finish(kind, key, at),
-            _ => Ok(()),
-        }
-    }
-
     // The same call as that of the queue, with its answer.
     pub fn call(&mut self, call: Call) -> Result<Option<usize>, AllocError> {
-        match call.kind {
-            Kind::Take => return self.take(),
-            Kind::Shut => self.shut(),
-            Kind::Forget => cut(&mut self.failed, call.key),
-            kind => self.change(kind, call.key, call.at)?,
+        if let Kind::Take = call.kind {
+            return Ok(self.take());
         }
+        self.change(call.kind, call.key, call.at)?;
         Ok(None)
     }
 }

@@ -1,9 +1,9 @@
+use crate::boxed::boxed;
 use crate::calls::{Call, Kind, ask, eight_keys, number_of};
 use crate::plain::Plain;
 use cj_queue::Queue;
 use cj_types::{Key, Refusal};
 use std::alloc::Global;
-use std::test::Fail;
 
 // Adds and takes come more often than the other calls.
 const KINDS: [Kind; 16] = [
@@ -33,35 +33,39 @@ fn next(seed: u64) -> u64 {
 
 // A call about the time at which the queue is; the 400th of 500 shuts it.
 fn random_call(turn: u64, tick: u64, seed: u64) -> Call {
-    let kind = KINDS[(seed >> 33) as usize % 16];
-    let key = (seed >> 40) as usize % 8;
-    let at = tick.saturating_add((seed >> 48) % 40).saturating_sub(10);
-    if turn % 500 == 400 {
-        return Call {
-            kind: Kind::Shut,
-            key,
-            at,
-        };
+    let kind = if turn % 500 == 400 {
+        Kind::Shut
+    } else {
+        KINDS[(seed >> 33) as usize % 16]
+    };
+    Call {
+        kind,
+        key: (seed >> 40) as usize % 8,
+        at: tick.saturating_add((seed >> 48) % 40).saturating_sub(10),
     }
-    Call { kind, key, at }
 }
 
 // Whether what the queue tells of the key is what the lists say.
 fn is_same(queue: &Queue, plain: &Plain, number: usize, key: &Key) -> bool {
-    let is_held = plain.held.contains(&number);
+    let is_held = plain.held[number % 8];
     let delay = plain.delay(number);
     queue.is_processing(key) == is_held && queue.retry_delay(key).get() == delay
 }
 
+// The number of the first key of the line.
+fn first_of(queue: &Queue, keys: &[Key]) -> Option<usize> {
+    number_of(keys, queue.front()?)
+}
+
 // Whether the queue tells what the lists say.
 fn agrees(queue: &Queue, plain: &Plain, keys: &[Key]) -> bool {
-    let first = number_of(keys, queue.front());
-    if first != plain.line.first().copied() || queue.is_shut() != plain.is_shut {
-        return false;
+    for (number, key) in keys.iter().enumerate() {
+        if !is_same(queue, plain, number, key) {
+            return false;
+        }
     }
-    keys.iter()
-        .enumerate()
-        .all(|(number, key)| is_same(queue, plain, number, key))
+    let first = first_of(queue, keys);
+    first == plain.line.first().copied() && queue.is_shut() == plain.is_shut
 }
 
 // Whether the call's answer is that of the lists, and the queue then tells what they say.
@@ -95,18 +99,25 @@ fn first_wrong(
 }
 
 // The same of a new queue, with calls of its own for each first number.
-fn wrong_in(alloc: Global, first: u64) -> Result<Option<u64>, Refusal> {
-    let mut queue = Queue::new(alloc);
-    let mut plain = Plain::new(alloc);
+fn wrong_from(alloc: Global, first: u64) -> Result<Option<u64>, Refusal> {
     let keys = eight_keys(alloc)?;
+    let mut queue = boxed(alloc, Queue::new(alloc))?;
+    let mut plain = boxed(alloc, Plain::new(alloc))?;
     first_wrong(&mut queue, &mut plain, keys.as_slice(), first)
 }
 
-#[test]
-fn agrees_with_plain_lists(rt: HostRuntime) -> Result<(), Fail> {
+// The first number of the calls of which one isn't right, and its turn.
+fn wrong(alloc: Global) -> Result<Option<(u64, u64)>, Refusal> {
     for first in 0..20 {
-        let wrong = wrong_in(rt.alloc(), first)?;
-        assert_eq!(rt; wrong, None, "from {first}");
+        if let Some(turn) = wrong_from(alloc, first)? {
+            return Ok(Some((first, turn)));
+        }
     }
-    Ok(())
+    Ok(None)
+}
+
+#[test]
+fn agrees_with_plain_lists(rt: HostRuntime) {
+    let wrong = wrong(rt.alloc()).unwrap_or(Some((99, 0)));
+    assert_eq!(rt; wrong, None);
 }

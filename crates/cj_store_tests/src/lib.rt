@@ -5,6 +5,8 @@
 #[cfg(test)]
 mod ask;
 #[cfg(test)]
+mod boxed;
+#[cfg(test)]
 mod calls;
 #[cfg(test)]
 mod drafts;

@@ -1,8 +1,8 @@
+use crate::boxed::boxed;
 use crate::drafts::{owned_draft, seconds};
 use cj_store::Store;
 use cj_types::{Job, JobDraft, Key, Refusal, Shared};
 use std::alloc::{AllocError, Global};
-use std::test::Fail;
 
 fn numbered(alloc: Global, prefix: &str, number: u64) -> Result<String, AllocError> {
     format!(in alloc; "{prefix}-{number:04}")
@@ -82,10 +82,13 @@ fn is_right(store: &mut Store, alloc: Global) -> Result<bool, Refusal> {
     Ok(before && after)
 }
 
+fn are_listed(alloc: Global) -> Result<bool, Refusal> {
+    let mut store = boxed(alloc, Store::new(alloc))?;
+    is_right(&mut store, alloc)
+}
+
 #[test]
-fn lists_the_jobs_of_each(rt: HostRuntime) -> Result<(), Fail> {
-    let mut store = Store::new(rt.alloc());
-    let is_right = is_right(&mut store, rt.alloc())?;
-    assert!(rt; is_right);
-    Ok(())
+fn lists_the_jobs_of_each(rt: HostRuntime) {
+    let listed = are_listed(rt.alloc()).unwrap_or(false);
+    assert!(rt; listed);
 }

@@ -1,10 +1,10 @@
+use crate::boxed::boxed;
 use crate::drafts::{owned_draft, seconds};
 use crate::turns::{make_both, update_both};
 use cj_store::{Store, equality_laws};
 use cj_store_laws::{answer_laws, event_laws, sound_laws};
 use cj_types::{Heap, JobDraft, Key, Refusal};
 use std::alloc::Global;
-use std::test::Fail;
 
 // The uid and the version of the Job of that name.
 fn found(store: &Store, alloc: Global, name: &str) -> Result<(u64, u64), Refusal> {
@@ -42,16 +42,15 @@ fn numbers(store: &mut Store, alloc: Global) -> Result<[(u64, u64); 3], Refusal>
 }
 
 fn planned(alloc: Global) -> Result<[(u64, u64); 3], Refusal> {
-    let mut store = Store::new(alloc);
+    let mut store = boxed(alloc, Store::new(alloc))?;
     numbers(&mut store, alloc)
 }
 
 // rule: planned-change
 #[test]
-fn makes_plans_in_turn(rt: HostRuntime) -> Result<(), Fail> {
-    let numbers = planned(rt.alloc())?;
+fn makes_plans_in_turn(rt: HostRuntime) {
+    let numbers = planned(rt.alloc()).unwrap_or([(0, 0); 3]);
     assert_eq!(rt; numbers, [(1, 1), (2, 2), (2, 4)]);
-    Ok(())
 }
 
 #[test]

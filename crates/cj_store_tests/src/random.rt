@@ -1,4 +1,5 @@
 use crate::ask::{Ask, name_at};
+use crate::boxed::boxed;
 use crate::calls::call;
 use crate::listed::rise;
 use crate::plain::{Kind, Model};
@@ -6,7 +7,6 @@ use crate::told::{Plain, plain_cron, plain_job};
 use cj_store::Store;
 use cj_types::{Key, Refusal};
 use std::alloc::Global;
-use std::test::Fail;
 
 const NOW: u64 = 1_704_067_200;
 
@@ -149,14 +149,13 @@ fn first_wrong(
 }
 
 fn wrong(alloc: Global) -> Result<Option<u64>, Refusal> {
-    let mut store = Store::new(alloc);
-    let mut model = Model::new(alloc);
+    let mut store = boxed(alloc, Store::new(alloc))?;
+    let mut model = boxed(alloc, Model::new(alloc))?;
     first_wrong(&mut store, alloc, &mut model)
 }
 
 #[test]
-fn agrees_with_a_plain_list(rt: HostRuntime) -> Result<(), Fail> {
-    let wrong = wrong(rt.alloc())?;
+fn agrees_with_a_plain_list(rt: HostRuntime) {
+    let wrong = wrong(rt.alloc()).unwrap_or(Some(99_999));
     assert_eq!(rt; wrong, None);
-    Ok(())
 }

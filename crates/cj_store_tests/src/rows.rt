@@ -1,11 +1,11 @@
 use crate::ask::Ask;
+use crate::boxed::boxed;
 use crate::calls::call;
 use crate::plain::Kind;
 use crate::told::{Answer, Plain};
 use cj_store::Store;
 use cj_types::Refusal;
 use std::alloc::Global;
-use std::test::Fail;
 
 const NOW: u64 = 1_704_067_200;
 
@@ -57,7 +57,7 @@ fn is_right(store: &mut Store, alloc: Global, row: &Row) -> Result<bool, Refusal
 
 // The first row of calls to a new store that isn't answered so.
 fn first_wrong(alloc: Global, rows: &[Row]) -> Result<Option<usize>, Refusal> {
-    let mut store = Store::new(alloc);
+    let mut store = boxed(alloc, Store::new(alloc))?;
     for (place, row) in rows.iter().enumerate() {
         if !is_right(&mut store, alloc, row)? {
             return Ok(Some(place));
@@ -67,9 +67,8 @@ fn first_wrong(alloc: Global, rows: &[Row]) -> Result<Option<usize>, Refusal> {
 }
 
 #[test]
-fn answers_a_row_of_calls(rt: HostRuntime) -> Result<(), Fail> {
+fn answers_a_row_of_calls(rt: HostRuntime) {
     let rows = rows();
-    let wrong = first_wrong(rt.alloc(), &rows)?;
+    let wrong = first_wrong(rt.alloc(), &rows).unwrap_or(Some(99));
     assert_eq!(rt; wrong, None);
-    Ok(())
 }

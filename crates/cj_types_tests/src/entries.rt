@@ -2,7 +2,6 @@ use crate::rows::{Question, first_wrong, halves};
 use crate::samples::read_labels;
 use cj_types::{Labels, Refusal};
 use std::alloc::Global;
-use std::test::Fail;
 
 // Entries in the order in which they are put, and as they then stand: each name once, by its bytes, with its last value.
 const PUT: &str = "\
@@ -22,7 +21,10 @@ a= =b|=b a=";
 pub fn write_labels(labels: &Labels, text: &mut String) -> Result<(), Refusal> {
     let mut gap = "";
     for (name, value) in labels.as_slice() {
-        write!(text, "{gap}{}={}", name.as_str(), value.as_str())?;
+        text.push_str(gap)?;
+        text.push_str(name.as_str())?;
+        text.push('=')?;
+        text.push_str(value.as_str())?;
         gap = " ";
     }
     Ok(())
@@ -41,10 +43,9 @@ impl Question for Entries {
 }
 
 #[test]
-fn keeps_entries_by_name(rt: HostRuntime) -> Result<(), Fail> {
-    let wrong = first_wrong::<Entries>(rt.alloc(), PUT)?;
-    assert_eq!(rt; wrong, None);
-    Ok(())
+fn keeps_entries_by_name(rt: HostRuntime) {
+    let wrong = first_wrong::<Entries>(rt.alloc(), PUT);
+    assert_eq!(rt; wrong, "");
 }
 
 // Entries, a name behind a `?`, and its value.
@@ -56,23 +57,26 @@ k=old app=c k=new?|none
 k=old app=c k=new?kk|none
 k=old app=c k=new?ap|none";
 
+fn write_value(labels: &Labels, name: &str, text: &mut String) -> Result<(), Refusal> {
+    match labels.get(name) {
+        Some(value) => text.push_str(value.as_str())?,
+        None => text.push_str("none")?,
+    }
+    Ok(())
+}
+
 struct Value;
 
 impl Question for Value {
     fn answer(alloc: Global, words: &str, text: &mut String) -> Result<(), Refusal> {
         let (words, name) = halves(words, '?')?;
         let labels = read_labels(alloc, words)?;
-        match labels.get(name) {
-            Some(value) => text.push_str(value.as_str())?,
-            None => text.push_str("none")?,
-        }
-        Ok(())
+        write_value(&labels, name, text)
     }
 }
 
 #[test]
-fn finds_entries(rt: HostRuntime) -> Result<(), Fail> {
-    let wrong = first_wrong::<Value>(rt.alloc(), FOUND)?;
-    assert_eq!(rt; wrong, None);
-    Ok(())
+fn finds_entries(rt: HostRuntime) {
+    let wrong = first_wrong::<Value>(rt.alloc(), FOUND);
+    assert_eq!(rt; wrong, "");
 }

@@ -1,10 +1,9 @@
-use crate::rows::{Question, first_wrong, halves};
+use crate::rows::{Question, first_wrong, halves, number, write_truth};
 use crate::samples::Sample;
 use cj_types::{
     DraftMeta, Heap, Job, Labels, Meta, OwnerRef, OwnerRefs, Refusal, Seconds, Text, Uid, Version,
 };
 use std::alloc::Global;
-use std::test::Fail;
 
 // Owner references, each with version, kind, name and `*` where it is the controller, and the CronJob that they name.
 const OWNERS: &str = "\
@@ -45,28 +44,33 @@ fn owner_of(group: Pair, name: Pair, controller: bool) -> OwnerRef {
     }
 }
 
-// The reference of these words.
-fn read_owner(alloc: Global, words: &str) -> Result<OwnerRef, Refusal> {
-    let (api_version, words) = halves(words, ' ')?;
-    let (kind, name) = halves(words, ' ')?;
-    let group = texts(alloc, api_version, kind)?;
-    match name.strip_suffix(" *") {
-        Some(name) => Ok(owner_of(group, texts(alloc, name, "u")?, true)),
-        None => Ok(owner_of(group, texts(alloc, name, "u")?, false)),
-    }
+fn word_at<'a>(words: &[&'a str], place: usize) -> &'a str {
+    words.get(place).copied().unwrap_or("")
 }
 
-fn push_owner(owners: &mut OwnerRefs, alloc: Global, words: &str) -> Result<(), Refusal> {
-    owners.push(read_owner(alloc, words)?)
+// The reference of these words.
+fn read_owner(alloc: Global, words: &[&str]) -> Result<OwnerRef, Refusal> {
+    let group = texts(alloc, word_at(words, 0), word_at(words, 1))?;
+    let name = texts(alloc, word_at(words, 2), "u")?;
+    Ok(owner_of(group, name, words.len() == 4))
+}
+
+fn push_owner(owners: &mut OwnerRefs, alloc: Global, text: &str) -> Result<(), Refusal> {
+    let words: Vec<&str> = text.split(' ').collect(alloc)?;
+    owners.push(read_owner(alloc, words.as_slice())?)
+}
+
+fn push_owners(owners: &mut OwnerRefs, alloc: Global, text: &str) -> Result<(), Refusal> {
+    for words in text.split(", ") {
+        push_owner(owners, alloc, words)?;
+    }
+    Ok(())
 }
 
 fn read_owners(alloc: Global, text: &str) -> Result<OwnerRefs, Refusal> {
     let mut owners = OwnerRefs::new(alloc);
-    if text == "" {
-        return Ok(owners);
-    }
-    for words in text.split(", ") {
-        push_owner(&mut owners, alloc, words)?;
+    if text != "" {
+        push_owners(&mut owners, alloc, text)?;
     }
     Ok(owners)
 }
@@ -97,10 +101,9 @@ impl Question for Owner {
 }
 
 #[test]
-fn finds_the_cron_job_of_a_job(rt: HostRuntime) -> Result<(), Fail> {
-    let wrong = first_wrong::<Owner>(rt.alloc(), OWNERS)?;
-    assert_eq!(rt; wrong, None);
-    Ok(())
+fn finds_the_cron_job_of_a_job(rt: HostRuntime) {
+    let wrong = first_wrong::<Owner>(rt.alloc(), OWNERS);
+    assert_eq!(rt; wrong, "");
 }
 
 // The number of a sample of a Job, and whether it is unfinished.
@@ -113,19 +116,16 @@ struct Unfinished;
 
 impl Question for Unfinished {
     fn answer(alloc: Global, words: &str, text: &mut String) -> Result<(), Refusal> {
-        let change = words.parse::<u8>().ok().ok_or(Refusal::Syntax)?;
+        let change = (number(words)? % 64) as u8;
         let job = Heap::new(alloc, Job::sample(alloc, change)?)?;
-        let is_unfinished = job.get().is_unfinished();
-        write!(text, "{is_unfinished}")?;
-        Ok(())
+        write_truth(job.get().is_unfinished(), text)
     }
 }
 
 #[test]
-fn tells_unfinished_jobs(rt: HostRuntime) -> Result<(), Fail> {
-    let wrong = first_wrong::<Unfinished>(rt.alloc(), OUTCOMES)?;
-    assert_eq!(rt; wrong, None);
-    Ok(())
+fn tells_unfinished_jobs(rt: HostRuntime) {
+    let wrong = first_wrong::<Unfinished>(rt.alloc(), OUTCOMES);
+    assert_eq!(rt; wrong, "");
 }
 
 // The uid and version that a draft gives, `-` for none, and whether they are those of uid 10, version 12.
@@ -180,22 +180,24 @@ fn standing(alloc: Global) -> Result<Meta, Refusal> {
     })
 }
 
+// Whether the draft is of the object.
+fn is_current(alloc: Global, draft: DraftMeta) -> Result<bool, Refusal> {
+    let draft = Heap::new(alloc, draft)?;
+    let meta = Heap::new(alloc, standing(alloc)?)?;
+    draft.get().is_current(alloc, meta.get())
+}
+
 struct Current;
 
 impl Question for Current {
     fn answer(alloc: Global, words: &str, text: &mut String) -> Result<(), Refusal> {
         let (uid, version) = halves(words, ' ')?;
-        let draft = Heap::new(alloc, draft(alloc, uid, version)?)?;
-        let meta = Heap::new(alloc, standing(alloc)?)?;
-        let is_current = draft.get().is_current(alloc, meta.get())?;
-        write!(text, "{is_current}")?;
-        Ok(())
+        write_truth(is_current(alloc, draft(alloc, uid, version)?)?, text)
     }
 }
 
 #[test]
-fn tells_current_objects(rt: HostRuntime) -> Result<(), Fail> {
-    let wrong = first_wrong::<Current>(rt.alloc(), GIVEN)?;
-    assert_eq!(rt; wrong, None);
-    Ok(())
+fn tells_current_objects(rt: HostRuntime) {
+    let wrong = first_wrong::<Current>(rt.alloc(), GIVEN);
+    assert_eq!(rt; wrong, "");
 }

@@ -1,12 +1,12 @@
 use crate::entries::write_labels;
-use crate::rows::{Question, first_wrong, halves, number};
+use crate::keys::write_key;
+use crate::rows::{Question, first_wrong, halves, number, write_truth};
 use crate::samples::{Sample, cron_with, read_labels, spec_with};
 use cj_types::{
-    CronJob, CronKey, Heap, JobDraft, JobTemplate, Labels, OwnerRef, Refusal, Seconds, Shared,
+    CronJob, CronKey, Heap, JobDraft, JobTemplate, Key, Labels, OwnerRef, Refusal, Seconds, Shared,
     SpecText,
 };
 use std::alloc::Global;
-use std::test::Fail;
 
 // A CronJob's name, a time in seconds, and the key of its Job for that time.
 const NAMES: &str = "\
@@ -23,24 +23,26 @@ fn time(word: &str) -> Result<Seconds, Refusal> {
     Seconds::new(number(word)?).ok_or(Refusal::Syntax)
 }
 
+// The key of the Job of the CronJob with the name.
+fn job_key(alloc: Global, name: &str, time: Seconds) -> Result<Key, Refusal> {
+    let cron = CronKey::new(alloc, "default", name)?;
+    cron.job_key(alloc, time)
+}
+
 struct JobName;
 
 impl Question for JobName {
     fn answer(alloc: Global, words: &str, text: &mut String) -> Result<(), Refusal> {
-        let (name, time_word) = halves(words, ' ')?;
-        let time = time(time_word)?;
-        let cron = CronKey::new(alloc, "default", name)?;
-        let key = cron.job_key(alloc, time)?;
-        write!(text, "{}/{}", key.namespace(), key.name())?;
-        Ok(())
+        let (name, word) = halves(words, ' ')?;
+        let key = job_key(alloc, name, time(word)?)?;
+        write_key(&key, text)
     }
 }
 
 #[test]
-fn names_jobs_by_minutes(rt: HostRuntime) -> Result<(), Fail> {
-    let wrong = first_wrong::<JobName>(rt.alloc(), NAMES)?;
-    assert_eq!(rt; wrong, None);
-    Ok(())
+fn names_jobs_by_minutes(rt: HostRuntime) {
+    let wrong = first_wrong::<JobName>(rt.alloc(), NAMES);
+    assert_eq!(rt; wrong, "");
 }
 
 // The annotations of the template of `right` in `left`, whose uid is the 8th, and its Job for 2024-01-01T00:05:00Z.
@@ -73,16 +75,25 @@ fn made(alloc: Global, annotations: &str) -> Result<Heap<JobDraft>, Refusal> {
     Heap::new(alloc, cron.job_for(alloc, time, "2024-01-01T00:05:00Z")?)
 }
 
-fn write_owner(owner: &OwnerRef, text: &mut String) -> Result<(), Refusal> {
-    let (group, kind) = (owner.api_version.as_str(), owner.kind.as_str());
-    let (name, uid) = (owner.name.as_str(), owner.uid.as_str());
-    write!(text, "; {group} {kind} {name} {uid}")?;
-    write!(text, " {} {}", owner.controller, owner.block_owner_deletion)?;
+fn write_word(word: &str, text: &mut String) -> Result<(), Refusal> {
+    text.push_str(word)?;
+    text.push(' ')?;
     Ok(())
+}
+
+fn write_owner(owner: &OwnerRef, text: &mut String) -> Result<(), Refusal> {
+    write_word(owner.api_version.as_str(), text)?;
+    write_word(owner.kind.as_str(), text)?;
+    write_word(owner.name.as_str(), text)?;
+    write_word(owner.uid.as_str(), text)?;
+    write_truth(owner.controller, text)?;
+    text.push(' ')?;
+    write_truth(owner.block_owner_deletion, text)
 }
 
 fn write_owners(owners: &[OwnerRef], text: &mut String) -> Result<(), Refusal> {
     for owner in owners {
+        text.push_str("; ")?;
         write_owner(owner, text)?;
     }
     Ok(())
@@ -93,12 +104,14 @@ fn write_draft(draft: &JobDraft, text: &mut String) -> Result<(), Refusal> {
     if draft.meta.uid.is_some() || draft.meta.version.is_some() {
         text.push('?')?;
     }
-    write!(text, "{}/{} ", draft.key.namespace(), draft.key.name())?;
+    write_key(&draft.key, text)?;
+    text.push(' ')?;
     write_labels(&draft.meta.labels, text)?;
     text.push_str("; ")?;
     write_labels(&draft.meta.annotations, text)?;
     write_owners(draft.owners.as_slice(), text)?;
-    write!(text, "; {}", draft.spec.as_str())?;
+    text.push_str("; ")?;
+    text.push_str(draft.spec.as_str())?;
     Ok(())
 }
 
@@ -112,8 +125,7 @@ impl Question for MadeJob {
 }
 
 #[test]
-fn makes_the_job_of_a_time(rt: HostRuntime) -> Result<(), Fail> {
-    let wrong = first_wrong::<MadeJob>(rt.alloc(), MADE)?;
-    assert_eq!(rt; wrong, None);
-    Ok(())
+fn makes_the_job_of_a_time(rt: HostRuntime) {
+    let wrong = first_wrong::<MadeJob>(rt.alloc(), MADE);
+    assert_eq!(rt; wrong, "");
 }

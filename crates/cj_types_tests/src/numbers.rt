@@ -1,7 +1,6 @@
 use crate::rows::{Question, first_wrong, halves, number};
 use cj_types::{Deadline, HistoryLimit, Max, Refusal, Uid, Version, version_text};
 use std::alloc::Global;
-use std::test::Fail;
 
 // A count, and the texts of the uid and of the version of that count.
 const TEXTS: &str = "\
@@ -40,10 +39,9 @@ impl Question for Texts {
 }
 
 #[test]
-fn prints_uids_and_versions(rt: HostRuntime) -> Result<(), Fail> {
-    let wrong = first_wrong::<Texts>(rt.alloc(), TEXTS)?;
-    assert_eq!(rt; wrong, None);
-    Ok(())
+fn prints_uids_and_versions(rt: HostRuntime) {
+    let wrong = first_wrong::<Texts>(rt.alloc(), TEXTS);
+    assert_eq!(rt; wrong, "");
 }
 
 // A limit, a count, and whether the limit holds it.
@@ -83,22 +81,25 @@ fn held(name: &str, count: u64) -> Option<u64> {
     }
 }
 
+fn write_held(count: Option<u64>, text: &mut String) -> Result<(), Refusal> {
+    match count {
+        Some(count) => write!(text, "{count}")?,
+        None => text.push_str("none")?,
+    }
+    Ok(())
+}
+
 impl Question for Limits {
     fn answer(_alloc: Global, words: &str, text: &mut String) -> Result<(), Refusal> {
         let (name, word) = halves(words, ' ')?;
-        match held(name, number(word)?) {
-            Some(count) => write!(text, "{count}")?,
-            None => text.push_str("none")?,
-        }
-        Ok(())
+        write_held(held(name, number(word)?), text)
     }
 }
 
 #[test]
-fn limits_keep_their_range(rt: HostRuntime) -> Result<(), Fail> {
-    let wrong = first_wrong::<Limits>(rt.alloc(), LIMITS)?;
-    assert_eq!(rt; wrong, None);
-    Ok(())
+fn limits_keep_their_range(rt: HostRuntime) {
+    let wrong = first_wrong::<Limits>(rt.alloc(), LIMITS);
+    assert_eq!(rt; wrong, "");
 }
 
 fn are_the_same() -> bool {

@@ -14,22 +14,25 @@ fn is_right<Q: Question>(alloc: Global, row: &str) -> Result<bool, Refusal> {
     Ok(text.as_str() == wanted)
 }
 
-/// The first row that isn't answered so.
-pub fn first_wrong<Q: Question>(
-    alloc: Global,
-    rows: &'static str,
-) -> Result<Option<&'static str>, Refusal> {
+/// The first row that isn't answered so, nothing where there is none.
+pub fn first_wrong<Q: Question>(alloc: Global, rows: &'static str) -> &'static str {
     for row in rows.lines() {
-        if !is_right::<Q>(alloc, row)? {
-            return Ok(Some(row));
+        if !is_right::<Q>(alloc, row).unwrap_or(false) {
+            return row;
         }
     }
-    Ok(None)
+    ""
 }
 
 /// The two sides of a sign.
 pub fn halves(words: &str, sign: char) -> Result<(&str, &str), Refusal> {
     words.split_once(sign).ok_or(Refusal::Syntax)
+}
+
+/// Writes whether it is so.
+pub fn write_truth(is_so: bool, text: &mut String) -> Result<(), Refusal> {
+    text.push_str(if is_so { "true" } else { "false" })?;
+    Ok(())
 }
 
 /// The number that the word is.

@@ -1,4 +1,4 @@
-ghost use Rattle.std.specs.Prelude.{◌≡◌, ◌≤◌, ◌↔◌, [], false, IsTrue, IfOk, IfErr, Err, length};
+ghost use Rattle.std.specs.Prelude.{◌≡◌, ◌≤◌, ◌↔◌, [], false, IsTrue, IfOk, IfErr, Err, length, option_copied};
 ghost use Rattle.std.specs.FinMap as map;
 ghost use mathlib.Core.List.{reverse};
 ghost use Rattle.cj_base.specs.declared.refusal.Refusal.TheVariants.{Empty, OutOfMemory};
@@ -18,7 +18,7 @@ use cj_queue::Queue;
 use cj_seats::Seats;
 use cj_state::State;
 use cj_store::Store;
-use cj_types::{CronJob, Job, Limits, Listing, Refusal, Shared, Version};
+use cj_types::{CronJob, Job, Key, Limits, Listing, Refusal, Shared, Version};
 use cj_watch::{WatchLog, Window};
 use std::alloc::Global;
 use std::marker::Model;
@@ -161,6 +161,13 @@ impl World {
         let crons = self.state.store.list_crons(self.alloc)?;
         let jobs = self.state.store.list_jobs(self.alloc)?;
         Ok((crons, jobs))
+    }
+
+    /// The Job that stands at the key. It isn't copied.
+    pub fn job(&self, key: &Key) -> Option<&Shared<Job>>
+        ensures { option_copied result ≡ map.get (state_in self.now).store.jobs key.now }
+    {
+        self.state.store.get_job(key)
     }
 
     /// The version of the last write, 0 before the first.

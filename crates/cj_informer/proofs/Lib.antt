@@ -1,0 +1,4 @@
+pub mod Goes
+pub mod Items
+pub mod Feeds
+pub mod Steps

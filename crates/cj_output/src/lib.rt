@@ -1,0 +1,12 @@
+//! What the program reads and writes, and what it says where that fails.
+#![tactic(auto)]
+
+mod failure;
+mod input;
+mod pending;
+mod writing;
+
+pub use failure::Failure;
+pub use input::{MOST_BYTES, MOST_READS, read_input};
+pub use pending::Pending;
+pub use writing::{tell_failure, write_and_flush, write_whole};

@@ -1,0 +1,80 @@
+-- What `replay` answers of a script.
+use Rattle.std.specs.Prelude.{◌≡◌, ◌≢◌, ◌⊎◌, ℕ, ◌≤◌, List, [], length, Option, IfSome, codes, false, true}
+use Rattle.std.specs.Io.KnownBytes.{Appends}
+use Rattle.cj_output.specs.declared.failure.Failure.{Failure}
+use Rattle.cj_output.specs.Writing.{AppendsSome, failure_line}
+use Rattle.cj_scenario.specs.declared.fault.SceneFault.{SceneFault}
+use Rattle.cj_scenario.specs.declared.fault.SceneFault.TheVariants as Why
+use Rattle.cj_script.specs.declared.script.Script.{Script}
+use Rattle.cj_script.specs.Scripts.{IsRefusedScript, IsScript}
+use Rattle.cj_replay.specs.Replays.{IsPartOf, IsReplayed}
+use Rattle.cj_program.specs.Outcome.{Outcome, done, refusal}
+use Rattle.cj_program.specs.Plan.{scene_line}
+
+-- what was read, all of the input
+pub record IsRead (input : Option (List ℕ)) (bytes : List ℕ) : Type 0 where
+  pub are : IfSome input (λ xs. bytes ≡ xs)
+  pub fits : length bytes ≤ 16_777_216
+
+-- the script that is read
+pub record ReadsScript (input : Option (List ℕ)) (script : Script) : Type 0 where
+  pub bytes : List ℕ
+  pub read : IsRead input bytes
+  pub said : IsScript bytes script
+
+-- what is read is no script, for another cause than memory
+pub record RefusesScript (input : Option (List ℕ)) (o : Outcome) : Type 0 where
+  pub bytes : List ℕ
+  pub read : IsRead input bytes
+  pub fault : SceneFault
+  pub refused : IsRefusedScript bytes fault
+  pub told : fault ≢ Why.Memory
+  pub answer : o ≡ refusal (scene_line fault)
+
+-- the lines of its steps and the report, where no step found the history full
+pub record PrintsRun (input : Option (List ℕ)) (o : Outcome) : Type 0 where
+  pub script : Script
+  pub reads : ReadsScript input script
+  pub text : List ℕ
+  pub run : IsReplayed script text false
+  pub answer : o ≡ done text
+
+-- what `replay` answers, where the input is known
+-- rules: replay, replay-lines
+abbrev pub IsReplayOutcome : Option (List ℕ) → Outcome → Type 0
+IsReplayOutcome input o = RefusesScript input o ⊎ PrintsRun input o
+
+-- ---- a run that ends with status 3
+
+-- a step found the history full: all was printed all the same, and a line on standard error says so
+-- rule: replay-full
+pub record FillsHistory (script : Script) (out out' err err' : Option (List ℕ)) : Type 0 where
+  pub text : List ℕ
+  pub run : IsReplayed script text true
+  pub printed : Appends out out' text
+  pub told : AppendsSome err err' (codes "cronsim: history full\n")
+
+-- memory or the writer failed as it went: a beginning of what it prints was printed
+-- rule: replay-cut
+pub record IsRunCut (script : Script) (out out' err err' : Option (List ℕ)) : Type 0 where
+  pub text : List ℕ
+  pub part : IsPartOf script text
+  pub begun : AppendsSome out out' text
+  pub failure : Failure
+  pub told : AppendsSome err err' (failure_line failure)
+
+abbrev pub EndsBadly : Script → Option (List ℕ) → Option (List ℕ) → Option (List ℕ) → Option (List ℕ) → Type 0
+EndsBadly script out out' err err' = FillsHistory script out out' err err' ⊎ IsRunCut script out out' err err'
+
+-- the script of the input was run, which ended so
+pub record IsFailedRun (input out out' err err' : Option (List ℕ)) : Type 0 where
+  pub script : Script
+  pub reads : ReadsScript input script
+  pub ends : EndsBadly script out out' err err'
+
+-- all of a run was printed, and nothing was said
+pub record EndsWell (script : Script) (out out' err err' : Option (List ℕ)) : Type 0 where
+  pub text : List ℕ
+  pub run : IsReplayed script text false
+  pub printed : Appends out out' text
+  pub said : Appends err err' []

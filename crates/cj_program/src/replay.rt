@@ -1,0 +1,77 @@
+// Running a script.
+ghost use Rattle.std.specs.Prelude.{◌≡◌, ◌<◌, ◌≤◌, List, ℕ, Option, [], codes, false, true};
+ghost use Rattle.std.specs.Io.KnownBytes.{Appends};
+ghost use Rattle.cj_output.specs.Writing.{AppendsSome};
+ghost use Rattle.cj_program.specs.Outcome.{Outcome, status_of};
+ghost use Rattle.cj_program.specs.Replay.{EndsBadly, EndsWell, IsRead, IsReplayOutcome};
+ghost use Rattle.cj_program.specs.Writing.{FailsReplay};
+
+use crate::plan::refused_scene;
+use crate::serving::give_answer;
+use cj_output::{MOST_BYTES, MOST_READS, read_input, tell_failure, write_whole};
+use cj_replay::replay;
+use cj_script::{Script, read_script};
+use std::alloc::Global;
+use std::io::{Read, Write};
+
+// Says that the history was full.
+fn tell_full<E: Write>(err: &mut E) -> u8
+    ensures status { result ≡ 3 }
+    ensures told { AppendsSome (E.contents err.old) (E.contents err.new) (codes "cronsim: history full\n") }
+{
+    let _ = write_whole(err, b"cronsim: history full\n");
+    3
+}
+
+// Ends a run that was printed, by whether a step found the history full.
+fn end_of<E: Write>(is_full: bool, err: &mut E) -> u8
+    ensures well { result < 3 → (result ≡ 0) × (is_full ≡ false) × Appends (E.contents err.old) (E.contents err.new) [] }
+    ensures full { result ≡ 3 → (is_full ≡ true) × AppendsSome (E.contents err.old) (E.contents err.new) (codes "cronsim: history full\n") }
+    ensures most { result ≤ 3 }
+{
+    if is_full { tell_full(err) } else { 0 }
+}
+
+fn run_script<W: Write, E: Write>(alloc: Global, script: &Script, out: &mut W, err: &mut E) -> u8
+    ensures well { result < 3 → (result ≡ 0) × EndsWell script.now (W.contents out.old) (W.contents out.new) (E.contents err.old) (E.contents err.new) }
+    ensures badly { result ≡ 3 → EndsBadly script.now (W.contents out.old) (W.contents out.new) (E.contents err.old) (E.contents err.new) }
+    ensures most { result ≤ 3 }
+{
+    match replay(alloc, script, out) {
+        Ok(is_full) => end_of(is_full, err),
+        Err(failure) => tell_failure(failure, err),
+    }
+}
+
+// Runs the script that the bytes are.
+fn serve_bytes<W: Write, E: Write>(alloc: Global, bytes: &[u8], out: &mut W, err: &mut E) -> u8
+    ensures served { result < 3 → (input : Option (List ℕ)) → IsRead input bytes.now → (o : Outcome) × IsReplayOutcome input o × (result ≡ status_of o.verdict)
+        × Appends (W.contents out.old) (W.contents out.new) o.printed
+        × Appends (E.contents err.old) (E.contents err.new) o.said }
+    ensures failed { result ≡ 3 → (input : Option (List ℕ)) → IsRead input bytes.now → FailsReplay input (W.contents out.old) (W.contents out.new) (E.contents err.old) (E.contents err.new) }
+    ensures most { result ≤ 3 }
+{
+    match read_script(alloc, bytes) {
+        Ok(script) => run_script(alloc, &script, out, err),
+        Err(fault) => give_answer(refused_scene(alloc, fault), out, err),
+    }
+}
+
+/// Serves the command `replay`: all of the input is read first. Status 3 also tells that a step found the history full.
+pub(crate) fn serve_replay<R: Read, W: Write, E: Write>(
+    alloc: Global,
+    input: &mut R,
+    out: &mut W,
+    err: &mut E,
+) -> u8
+    ensures served { result < 3 → (o : Outcome) × IsReplayOutcome (R.remaining input.old) o × (result ≡ status_of o.verdict)
+        × Appends (W.contents out.old) (W.contents out.new) o.printed
+        × Appends (E.contents err.old) (E.contents err.new) o.said }
+    ensures failed { result ≡ 3 → FailsReplay (R.remaining input.old) (W.contents out.old) (W.contents out.new) (E.contents err.old) (E.contents err.new) }
+    ensures most { result ≤ 3 }
+{
+    match read_input(alloc, input, MOST_BYTES, MOST_READS) {
+        Ok(bytes) => serve_bytes(alloc, bytes.as_slice(), out, err),
+        Err(failure) => tell_failure(failure, err),
+    }
+}

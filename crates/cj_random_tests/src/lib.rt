@@ -1,0 +1,23 @@
+//! Tests of the world: ten thousand calls of several callers, looked over by plain lists.
+#![tactic(auto)]
+
+#[cfg(test)]
+mod ask;
+#[cfg(test)]
+mod boxed;
+#[cfg(test)]
+mod checker;
+#[cfg(test)]
+mod drafts;
+#[cfg(test)]
+mod hands;
+#[cfg(test)]
+mod plan;
+#[cfg(test)]
+mod random;
+#[cfg(test)]
+mod random_tests;
+#[cfg(test)]
+mod stage;
+#[cfg(test)]
+mod told;

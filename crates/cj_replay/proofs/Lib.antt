@@ -1,0 +1,4 @@
+pub mod Answered
+pub mod Played
+pub mod Printed
+pub mod Replayed

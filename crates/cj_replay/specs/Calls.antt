@@ -1,0 +1,40 @@
+-- The call of a step of a script. Some of it is known only when the step's turn comes.
+use Rattle.std.specs.Prelude.{◌≡◌, ℕ, Option, Some, None}
+use Rattle.cj_types.specs.Keys.{Place}
+use Rattle.cj_types.specs.declared.job.Job.{Job}
+use Rattle.cj_types.specs.declared.policy.Outcome.{Outcome}
+use Rattle.cj_zone.specs.declared.table.ZoneTable.{ZoneTable}
+use Rattle.cj_decide.specs.Decision.{Planned}
+use Rattle.cj_calls.specs.declared.call.Call.{Call}
+use Rattle.cj_calls.specs.declared.call.Call.TheVariants as Of
+use Rattle.cj_acts.specs.declared.act.Act.{Act}
+use Rattle.cj_acts.specs.declared.act.Act.TheVariants.{Calls, Claims, Closes, Ends}
+use Rattle.cj_sights.specs.declared.sight.Sight.{Sight}
+use Rattle.cj_sights.specs.Plans.{Inputs, IsPlanFor, inputs_of, reasons_of}
+
+-- the uid of the Job that stands; any where there is none
+abbrev pub IsUidOf : Option Job → ℕ → Type 0
+IsUidOf None uid = Unit {0}
+IsUidOf (Some job) uid = uid ≡ job.meta.uid
+
+-- the end of that Job
+-- rule: end-step
+pub record IsEnd (job : Option Job) (key : Place) (outcome : Outcome) (at : ℕ) (call : Call) : Type 0 where
+  pub uid : ℕ
+  pub whose : IsUidOf job uid
+  pub is : call ≡ Of.EndJob key uid outcome at
+
+-- the claim of the plan of these readings
+-- rule: claim-step
+pub record IsClaim (zones : ZoneTable) (inputs : Inputs) (at : ℕ) (call : Call) : Type 0 where
+  pub plan : Planned
+  pub is_for : IsPlanFor zones inputs at plan
+  pub is : call ≡ Of.Claim plan
+
+-- the call of an act of a caller that has seen so much, where these Jobs stand
+-- rules: claim-step, end-step, finish-step
+abbrev pub IsCallOf : ZoneTable → Sight → (Place → Option Job) → Act → Call → Type 0
+IsCallOf zones sight job_at (Calls said) call = call ≡ said
+IsCallOf zones sight job_at (Ends key outcome at) call = IsEnd (job_at key) key outcome at call
+IsCallOf zones sight job_at (Claims at) call = IsClaim zones (inputs_of sight) at call
+IsCallOf zones sight job_at (Closes end) call = call ≡ Of.Finish end (reasons_of sight.plan)

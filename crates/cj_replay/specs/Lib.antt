@@ -1,0 +1,4 @@
+pub mod Calls
+pub mod Runs
+pub mod Replays
+pub mod Printing

@@ -1,0 +1,10 @@
+//! The run of a script over a world: what each step is answered, one after the other from an empty world, and then the report.
+#![tactic(auto)]
+
+mod answer;
+mod call;
+mod play;
+mod report;
+mod run;
+
+pub use run::replay;

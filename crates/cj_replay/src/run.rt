@@ -1,0 +1,128 @@
+// All steps, and the report.
+ghost use Rattle.std.specs.Prelude.{◌≡◌, [], List, ℕ, IfOk, OnOk, OnErr};
+ghost use Rattle.std.specs.Io.KnownBytes.{Appends};
+ghost use Rattle.cj_output.specs.Writing.{AppendsSome};
+ghost use Rattle.cj_sights.specs.Remembered.{Remembers};
+ghost use Rattle.cj_replay.specs.Replays.{IsPartOf, IsReplayed, KeepsPromise};
+ghost use Rattle.cj_replay.specs.Printing.{BreaksOff, CutsReport, HasPlayed, PrintsPart, PrintsReport, PrintsStep};
+
+use crate::play::play;
+use crate::report::report_text;
+use cj_output::{Failure, Pending};
+use cj_script::{Script, Step};
+use cj_sights::Sights;
+use cj_world::World;
+use cj_zone::ZoneTable;
+use std::alloc::Global;
+use std::io::Write;
+
+// Makes a step, and prints its line. Answers whether the history was found full.
+#[tactic(auto, using(crate::proofs::Printed::step_printed, crate::proofs::Printed::step_cut, crate::proofs::Printed::step_lacking))]
+fn print_step<W: Write>(
+    alloc: Global,
+    zones: &ZoneTable,
+    world: &mut World,
+    sights: &mut Sights,
+    pending: &mut Pending,
+    out: &mut W,
+    step: &Step,
+) -> Result<bool, Failure>
+    requires { Remembers sights.old world.old.history }
+    ensures ok { IfOk result (λ full. PrintsStep zones.now world.old.limits world.old.history step.now full world.new.history (W.contents out.old) pending.old (W.contents out.new) pending.new) }
+    ensures remembered { OnOk result (Remembers sights.new world.new.history) }
+    ensures limits { world.new.limits ≡ world.old.limits }
+    ensures err { OnErr result (PrintsPart zones.now world.old.limits world.old.history step.now (W.contents out.old) pending.old (W.contents out.new)) }
+{
+    let played = play(alloc, zones, world, sights, step)?;
+    pending.print(out, played.line.as_str())?;
+    Ok(played.is_full)
+}
+
+// Makes all steps, and prints their lines. Answers whether the history was found full.
+fn print_all<W: Write>(
+    alloc: Global,
+    zones: &ZoneTable,
+    steps: &[Step],
+    world: &mut World,
+    sights: &mut Sights,
+    pending: &mut Pending,
+    out: &mut W,
+) -> Result<bool, Failure>
+    requires remembered { Remembers sights.old world.old.history }
+    requires empty { pending.old ≡ [] }
+    ensures ok { IfOk result (λ full. HasPlayed zones.now world.old.limits world.old.history steps.now full world.new.history (W.contents out.old) (W.contents out.new) pending.new) }
+    ensures limits { world.new.limits ≡ world.old.limits }
+    ensures err { OnErr result (BreaksOff zones.now world.old.limits world.old.history steps.now (W.contents out.old) (W.contents out.new)) }
+{
+    let mut is_full = false;
+    for step in steps {
+        let found = print_step(alloc, zones, world, sights, pending, out, step)?;
+        is_full = is_full || found;
+    }
+    Ok(is_full)
+}
+
+// What the world's type promises of its history.
+fn promised(world: &World)
+    ensures { KeepsPromise world.now.limits.window world.now.history }
+{
+    world.history();
+}
+
+// Prints the report of the world after what waits to be written.
+#[tactic(auto, using(crate::proofs::Printed::report_printed, crate::proofs::Printed::report_cut, crate::proofs::Printed::report_begun, crate::proofs::Printed::report_lacking))]
+fn print_report<W: Write>(
+    alloc: Global,
+    world: &World,
+    mut pending: Pending,
+    out: &mut W,
+) -> Result<(), Failure>
+    ensures ok { OnOk result (PrintsReport world.now.limits.window world.now.history (W.contents out.old) pending (W.contents out.new)) }
+    ensures err { OnErr result (CutsReport world.now.limits.window world.now.history (W.contents out.old) pending (W.contents out.new)) }
+{
+    let report = report_text(alloc, world)?;
+    pending.print(out, report.as_str())?;
+    pending.finish(out)
+}
+
+// Makes the steps of a script on an empty world.
+#[tactic(auto, using(crate::proofs::Printed::replayed, crate::proofs::Printed::broken_off, crate::proofs::Printed::cut_in_report))]
+fn replay_on<W: Write>(
+    alloc: Global,
+    script: &Script,
+    world: &mut World,
+    out: &mut W,
+) -> Result<bool, Failure>
+    requires { world.old ≡ record { limits = script.now.limits; history = [] } }
+    ensures whole { IfOk result (λ full. (text : List ℕ) × IsReplayed script.now text full × Appends (W.contents out.old) (W.contents out.new) text) }
+    ensures begun { OnErr result ((text : List ℕ) × IsPartOf script.now text × AppendsSome (W.contents out.old) (W.contents out.new) text) }
+{
+    let mut sights = Sights::new(alloc);
+    let mut pending = Pending::new(alloc);
+    let is_full = print_all(
+        alloc,
+        &script.zones,
+        script.steps.as_slice(),
+        world,
+        &mut sights,
+        &mut pending,
+        out,
+    )?;
+    promised(world);
+    print_report(alloc, world, pending, out)?;
+    Ok(is_full)
+}
+
+/// Makes the steps of a script one after the other on an empty world, and prints the line of each as the world answers it, and
+/// then the report: the objects and the reasons of the end. Answers whether a step found the history full, which stops nothing.
+///
+/// Lines are written as the steps go, through a buffer of 64 KiB. Where memory or the writer fails the run ends, and a
+/// beginning of what it prints was printed.
+#[tactic(auto, using(crate::proofs::Printed::nothing_done))]
+pub fn replay<W: Write>(alloc: Global, script: &Script, out: &mut W) -> Result<bool, Failure>
+    ensures whole { IfOk result (λ full. (text : List ℕ) × IsReplayed script.now text full × Appends (W.contents out.old) (W.contents out.new) text) }
+    ensures begun { OnErr result ((text : List ℕ) × IsPartOf script.now text × AppendsSome (W.contents out.old) (W.contents out.new) text) }
+{
+    let mut world = World::new(alloc, script.limits)?;
+    replay_on(alloc, script, &mut world, out)
+}

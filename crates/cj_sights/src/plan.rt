@@ -1,0 +1,104 @@
+ghost use Rattle.std.specs.Prelude.{◌≡◌, None, [], IfOk, IfErr, option_copied};
+ghost use Rattle.cj_base.specs.declared.refusal.Refusal.TheVariants.{OutOfMemory};
+ghost use Rattle.cj_sights.specs.Plans.{IsPlanFor, inputs_of, no_inputs, reasons_of, zone_named_by, zone_of};
+
+use crate::sight::Sight;
+use cj_decide::{Plan, decide};
+use cj_types::{CronJob, Job, Listing, Reasons, Refusal, Seconds, Shared, Text, TryCopy};
+use cj_zone::{Zone, ZoneTable};
+use std::alloc::Global;
+
+fn zone_named<'t>(zones: &'t ZoneTable, name: &Option<Text>) -> Option<&'t Zone>
+    ensures { option_copied result ≡ zone_named_by zones.now name.now }
+{
+    match name {
+        Some(name) => zones.get(name.as_str()),
+        None => Some(zones.default_zone()),
+    }
+}
+
+// A copy of the zone of that name, if it is known.
+fn zone_copy(
+    alloc: Global,
+    zones: &ZoneTable,
+    name: &Option<Text>,
+) -> Result<Option<Shared<Zone>>, Refusal>
+    ensures ok { IfOk result (λ z. z ≡ zone_named_by zones.now name.now) }
+    ensures err { IfErr result (λ e. e ≡ OutOfMemory) }
+{
+    match zone_named(zones, name) {
+        Some(zone) => Ok(Some(Shared::new(alloc, zone.try_copy(alloc)?)?)),
+        None => Ok(None),
+    }
+}
+
+// The zone of a CronJob, if it is known.
+fn zone_of_cron(
+    alloc: Global,
+    zones: &ZoneTable,
+    cron: &Option<Shared<CronJob>>,
+) -> Result<Option<Shared<Zone>>, Refusal>
+    ensures ok { IfOk result (λ z. z ≡ zone_of zones.now cron.now) }
+    ensures err { IfErr result (λ e. e ≡ OutOfMemory) }
+{
+    match cron {
+        Some(cron) => zone_copy(alloc, zones, &cron.get().spec.time_zone),
+        None => Ok(None),
+    }
+}
+
+fn plan_of(
+    alloc: Global,
+    zones: &ZoneTable,
+    cron: &Option<Shared<CronJob>>,
+    jobs: &Listing<Shared<Job>>,
+    active: &Listing<Option<Shared<Job>>>,
+    at: Seconds,
+) -> Result<Plan, Refusal>
+    ensures ok { IfOk result (IsPlanFor zones.now (record { cron = cron.now; jobs = jobs.now; active = active.now }) at) }
+    ensures err { IfErr result (λ e. e ≡ OutOfMemory) }
+{
+    let zone = zone_of_cron(alloc, zones, cron)?;
+    let cron = cron.try_copy(alloc)?;
+    let jobs = jobs.try_copy(alloc)?;
+    let active = active.try_copy(alloc)?;
+    decide(alloc, cron, jobs, active, at, zone)
+}
+
+// The plan of nothing seen.
+fn empty_plan(alloc: Global, zones: &ZoneTable, at: Seconds) -> Result<Plan, Refusal>
+    ensures ok { IfOk result (IsPlanFor zones.now no_inputs at) }
+    ensures err { IfErr result (λ e. e ≡ OutOfMemory) }
+{
+    let jobs = Listing::new(alloc, Vec::new(alloc))?;
+    let active = Listing::new(alloc, Vec::new(alloc))?;
+    plan_of(alloc, zones, &None, &jobs, &active, at)
+}
+
+/// The plan of what a worker has seen, at the moment and in the CronJob's zone; of nothing where it lacks one of the three
+/// readings.
+pub fn plan_for(
+    alloc: Global,
+    zones: &ZoneTable,
+    sight: &Sight,
+    at: Seconds,
+) -> Result<Plan, Refusal>
+    ensures ok { IfOk result (IsPlanFor zones.now (inputs_of sight.now) at) }
+    ensures err { IfErr result (λ e. e ≡ OutOfMemory) }
+{
+    match (&sight.cron, &sight.jobs, &sight.active) {
+        (Some(cron), Some(jobs), Some(active)) => plan_of(alloc, zones, cron, jobs, active, at),
+        _ => empty_plan(alloc, zones, at),
+    }
+}
+
+/// The reasons of the plan that the worker claimed; none where it claimed none.
+pub fn reasons_for(alloc: Global, sight: &Sight) -> Result<Reasons, Refusal>
+    ensures ok { IfOk result (λ r. r ≡ reasons_of sight.now.plan) }
+    ensures err { IfErr result (λ e. e ≡ OutOfMemory) }
+{
+    match &sight.plan {
+        Some(plan) => plan.get().steps().reasons.try_copy(alloc),
+        None => Ok(Reasons::new(alloc)),
+    }
+}

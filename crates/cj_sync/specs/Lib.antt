@@ -1,0 +1,6 @@
+pub mod Sequences
+pub mod Zoned
+pub mod Syncs
+pub mod Outlines
+pub mod Hitches
+pub mod Ends

@@ -1,0 +1,115 @@
+ghost use Rattle.std.specs.Prelude.{◌≡◌, IfOk};
+ghost use Rattle.cj_watch.specs.Numbers.{version_of};
+
+use cj_types::{
+    Event, Heap, Job, Key, Labels, Meta, Object, OwnerRef, OwnerRefs, Refusal, Seconds, Shared,
+    SpecText, Text, Uid, Version,
+};
+use std::alloc::Global;
+
+fn meta(alloc: Global, version: u64) -> Result<Meta, Refusal>
+    ensures { IfOk result (λ m. m.version ≡ version) }
+{
+    let uid = Uid::new(1).ok_or(Refusal::NotFound)?;
+    let created = Seconds::new(0).ok_or(Refusal::NotFound)?;
+    Ok(Meta {
+        uid,
+        version: Version::new(version),
+        generation: 1,
+        created,
+        labels: Labels::new(alloc),
+        annotations: Labels::new(alloc),
+    })
+}
+
+type Pair = Heap<(Text, Text)>;
+
+fn texts(alloc: Global, one: &str, other: &str) -> Result<Pair, Refusal> {
+    let one = Text::new(alloc, one)?;
+    Heap::new(alloc, (one, Text::new(alloc, other)?))
+}
+
+fn owner_of(group: Pair, name: Pair) -> OwnerRef {
+    let (api_version, kind) = group.into_inner();
+    let (name, uid) = name.into_inner();
+    OwnerRef {
+        api_version,
+        kind,
+        name,
+        uid,
+        controller: true,
+        block_owner_deletion: false,
+    }
+}
+
+// The CronJob `hello`, as the controller.
+fn owner(alloc: Global) -> Result<OwnerRef, Refusal> {
+    let group = texts(alloc, "batch/v1", "CronJob")?;
+    Ok(owner_of(group, texts(alloc, "hello", "u")?))
+}
+
+fn owners(alloc: Global) -> Result<OwnerRefs, Refusal> {
+    let mut owners = OwnerRefs::new(alloc);
+    owners.push(owner(alloc)?)?;
+    Ok(owners)
+}
+
+type Head = Heap<(Key, SpecText)>;
+
+fn head(alloc: Global, name: &str) -> Result<Head, Refusal> {
+    let key = Key::new(alloc, "default", name)?;
+    let text = Text::new(alloc, "{}")?;
+    Heap::new(alloc, (key, SpecText::new(alloc, text)?))
+}
+
+fn job_of(head: Head, meta: Meta, owners: OwnerRefs) -> Job
+    ensures { result.meta ≡ meta }
+{
+    let (key, spec) = head.into_inner();
+    Job {
+        key,
+        meta,
+        owners,
+        spec,
+        outcome: None,
+    }
+}
+
+pub fn job(alloc: Global, name: &str, version: u64) -> Result<Shared<Job>, Refusal>
+    ensures { IfOk result (λ j. j.meta.version ≡ version) }
+{
+    let head = head(alloc, name)?;
+    let owners = owners(alloc)?;
+    Shared::new(alloc, job_of(head, meta(alloc, version)?, owners))
+}
+
+// An event of one of three kinds about one of two Jobs.
+pub fn event(alloc: Global, tag: u8, version: u64) -> Result<Event, Refusal>
+    ensures { IfOk result (λ e. version_of e ≡ version) }
+{
+    let name = if tag < 3 { "a" } else { "b" };
+    let object = Object::Job(job(alloc, name, version)?);
+    Ok(match tag % 3 {
+        0 => Event::Added(object),
+        1 => Event::Modified(object),
+        _ => Event::Deleted(object),
+    })
+}
+
+// 0 for the Job `a`, 3 for `b`, 6 for a CronJob.
+fn tag_of_object(object: &Object) -> u8 {
+    match object {
+        Object::Job(job) if job.key.name() == "a" => 0,
+        Object::Job(_) => 3,
+        Object::Cron(_) => 6,
+    }
+}
+
+// The tag of the event, from 0 to 5.
+pub fn tag_of(event: &Event) -> u8 {
+    match event {
+        Event::Added(object) => tag_of_object(object),
+        Event::Modified(object) => tag_of_object(object).saturating_add(1),
+        Event::Deleted(object) => tag_of_object(object).saturating_add(2),
+    }
+}

@@ -1,0 +1,9 @@
+use Rattle.cj_worker.specs.Ends.{Extends}
+use Rattle.cj_worker.proofs.work.work.Given as goal
+
+abbrev pub invariant-loop : goal.invariant-loop
+invariant-loop g l = record {
+  can : (goal.iterator-loop g).can_next l.iterator';
+  ends : (goal.iterator-loop g).is_finite l.iterator';
+  longer : Extends l.fn.pass l.pass;
+}

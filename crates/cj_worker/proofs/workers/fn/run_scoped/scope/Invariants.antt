@@ -1,0 +1,10 @@
+use Rattle.std.proofs.Common.{map}
+use Rattle.std.specs.List.{AllZip}
+use Rattle.cj_worker.specs.Ends.{IsPart, Went}
+use Rattle.cj_worker.proofs.workers.fn.run_scoped.scope.Given as goal
+
+abbrev pub invariant-loop-pass : goal.invariant-loop-pass
+invariant-loop-pass g l = IsPart (map (λ h. h.promise.0.value) l.started.items) l.yielded
+
+abbrev pub invariant-loop-child : goal.invariant-loop-child
+invariant-loop-child g l = AllZip Went (map (λ h. h.promise.0.value) l.yielded) l.ends.items

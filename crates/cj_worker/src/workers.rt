@@ -1,0 +1,96 @@
+ghost use Rattle.std.specs.Prelude.{◌≡◌, IfOk, IfErr};
+ghost use Rattle.cj_base.specs.declared.refusal.Refusal.TheVariants.{OutOfMemory};
+ghost use Rattle.cj_worker.specs.Ends.{Went, WentSome};
+
+use crate::work::work;
+use cj_hub::{Hub, Pass};
+use cj_sync::{Clock, Gate, SyncEnd};
+use cj_types::Refusal;
+use cj_zone::ZoneTable;
+use std::alloc::{AllocError, Global};
+use std::snapshot::Snapshot;
+use std::sync::Wait;
+use std::thread;
+use std::thread::{Promise, Threads};
+
+/// A pass, and the sync on which its worker ended: `ShutDown`, `Broken` or `Stopped`.
+#[derive(Drop)]
+pub struct WorkerEnd {
+    pub pass: Pass,
+    pub end: SyncEnd,
+}
+
+// What a worker that was given the pass hands back.
+#[derive(Drop)]
+struct WentFrom(Snapshot<Pass>);
+
+impl Promise<WorkerEnd> for WentFrom {
+    ghost kept_by = { λ p e. Went p.0.value e };
+}
+
+// Each pass in a thread of its own. All memory that this takes is there before the first thread is started.
+fn run_scoped<R: Threads + Wait + Sync, G: Gate + Sync, C: Clock + Sync>(
+    rt: &R,
+    alloc: Global,
+    hub: &Hub,
+    passes: Vec<Pass>,
+    gate: &G,
+    clock: &C,
+    zones: &ZoneTable,
+) -> Result<Vec<WorkerEnd>, AllocError>
+    ensures { IfOk result (λ v. WentSome passes.items v.items) }
+{
+    thread::scope(
+        thread::scope_env(),
+        rt,
+        |scope| -> Result<Vec<WorkerEnd>, AllocError>
+            ensures { IfOk result (λ v. WentSome passes.items v.items) }
+        {
+            let count = passes.as_slice().len();
+            let mut started = Vec::with_capacity(alloc, count)?;
+            let mut ends = Vec::with_capacity(alloc, count)?;
+            for pass in passes {
+                let promise = WentFrom(Snapshot::of(&pass));
+                if let Ok(child) = scope.spawn_with(
+                    promise,
+                    move || work(rt, alloc, hub, pass, gate, clock, zones),
+                ) {
+                    started.push(child)?;
+                } else {
+                    hub.give_up(rt);
+                }
+            }
+            for child in started {
+                ends.push(child.join(rt))?;
+            }
+            Ok(ends)
+        },
+    )
+}
+
+/// Workers, each with a pass of its own in a thread of its own, until the queue is shut and has no key.
+///
+/// A worker goes on after a sync that is done or to be tried again, and ends after one that broke or was stopped. The passes
+/// come back in order, each with the end of its worker's last sync. One whose thread can't be started is lost. Work on the
+/// hub is given up where not every worker can be started, where a sync broke, and where one lacked memory. Refused
+/// `OutOfMemory` where the threads can't be listed; no thread is started then, and all passes are lost.
+pub fn run_workers<R: Threads + Wait + Sync, G: Gate + Sync, C: Clock + Sync>(
+    rt: &R,
+    alloc: Global,
+    hub: &Hub,
+    passes: Vec<Pass>,
+    gate: &G,
+    clock: &C,
+    zones: &ZoneTable,
+) -> Result<Vec<WorkerEnd>, Refusal>
+    ensures ok { IfOk result (λ v. WentSome passes.items v.items) }
+    ensures err { IfErr result (λ e. e ≡ OutOfMemory) }
+{
+    match run_scoped(rt, alloc, hub, passes, gate, clock, zones) {
+        Ok(ends) => Ok(ends),
+        Err(_) => {
+            hub.give_up(rt);
+            Err(Refusal::OutOfMemory)
+        }
+    }
+}

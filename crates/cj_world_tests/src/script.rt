@@ -1,0 +1,62 @@
+// What callers do one after the other, and what each is answered.
+
+// Each way in which the world refuses a call. The world keeps 24 entries and three events.
+pub const SCRIPT: &str =
+    r#"{"history":24,"window":3,"callers":{"u":"User","r":"Runner","i":"Informer","w":"Worker","v":"Worker"},"steps":[
+{"who":"u","do":"createCron","at":"2024-01-01T00:00:00Z","object":{"apiVersion":"batch/v1","kind":"CronJob","metadata":{"name":"hello"},"spec":{"schedule":"* * * * *","jobTemplate":{"spec":{"template":{"spec":{"restartPolicy":"Never"}}}}}}},
+{"who":"u","do":"createCron","at":"2024-01-01T00:00:00Z","object":{"apiVersion":"batch/v1","kind":"CronJob","metadata":{"name":"hello"},"spec":{"schedule":"* * * * *","jobTemplate":{"spec":{"template":{"spec":{"restartPolicy":"Never"}}}}}}},
+{"who":"u","do":"createCron","at":"2024-01-01T00:00:00Z","object":{"apiVersion":"batch/v1","kind":"CronJob","metadata":{"name":"b","resourceVersion":"7"},"spec":{"schedule":"* * * * *","jobTemplate":{"spec":{"template":{"spec":{"restartPolicy":"Never"}}}}}}},
+{"who":"u","do":"updateCron","object":{"apiVersion":"batch/v1","kind":"CronJob","metadata":{"name":"hello","resourceVersion":"7"},"spec":{"schedule":"* * * * *","jobTemplate":{"spec":{"template":{"spec":{"restartPolicy":"Never"}}}}}}},
+{"who":"u","do":"deleteCron","key":"default/b"},
+{"who":"u","do":"createJob","at":"2024-01-01T00:00:00Z","object":{"apiVersion":"batch/v1","kind":"Job","metadata":{"name":"j"},"spec":{"template":{"spec":{"restartPolicy":"Never"}}}}},
+{"who":"r","do":"endJob","key":"default/j","outcome":"Complete","at":"2024-01-01T00:00:00Z"},
+{"who":"r","do":"endJob","key":"default/j","outcome":"Complete","at":"2024-01-01T00:00:00Z"},
+{"who":"u","do":"updateCron","object":{"apiVersion":"batch/v1","kind":"CronJob","metadata":{"name":"hello"},"spec":{"schedule":"* * * * *","jobTemplate":{"spec":{"template":{"spec":{"restartPolicy":"Never"}}}}}}},
+{"who":"u","do":"watch","version":0,"max":500},
+{"who":"u","do":"watch","version":1,"max":500},
+{"who":"i","do":"feed","max":3},
+{"who":"w","do":"take"},
+{"who":"u","do":"take"},
+{"who":"i","do":"add","key":"default/hello"},
+{"who":"v","do":"make"},
+{"who":"w","do":"take"},
+{"who":"w","do":"seeCron"},
+{"who":"w","do":"seeJobs"},
+{"who":"w","do":"seeActive"},
+{"who":"w","do":"claim","at":"2024-01-01T00:01:00Z"},
+{"who":"i","do":"shut"},
+{"who":"v","do":"take"},
+{"who":"w","do":"finish","retry":false},
+{"who":"w","do":"finish","retry":true,"at":"2024-01-01T00:01:00Z"},
+{"who":"u","do":"deleteCron","key":"default/hello"}]}"#;
+
+// The line of each step, and what the world tells then: the version, the writes that the lists know of, 1 where it is at rest, and how
+// many CronJobs and Jobs there are.
+pub const WANTED: [(&str, [u64; 5]); 26] = [
+    ("1 u createCron ok v=1\n", [1, 0, 1, 1, 0]),
+    ("2 u createCron AlreadyExists\n", [1, 0, 1, 1, 0]),
+    ("3 u createCron Invalid\n", [1, 0, 1, 1, 0]),
+    ("4 u updateCron Conflict\n", [1, 0, 1, 1, 0]),
+    ("5 u deleteCron NotFound\n", [1, 0, 1, 1, 0]),
+    ("6 u createJob ok v=2\n", [2, 0, 1, 1, 1]),
+    ("7 r endJob ok v=3\n", [3, 0, 1, 1, 1]),
+    ("8 r endJob AlreadyFinished\n", [3, 0, 1, 1, 1]),
+    ("9 u updateCron ok v=4\n", [4, 0, 1, 1, 1]),
+    ("10 u watch Expired\n", [4, 0, 1, 1, 1]),
+    ("11 u watch ok 3\n", [4, 0, 1, 1, 1]),
+    ("12 i feed ok v=4\n", [4, 4, 1, 1, 1]),
+    ("- w take Empty\n", [4, 4, 1, 1, 1]),
+    ("13 u take NotPermitted\n", [4, 4, 1, 1, 1]),
+    ("14 i add ok\n", [4, 4, 0, 1, 1]),
+    ("15 v make OutOfPhase\n", [4, 4, 0, 1, 1]),
+    ("16 w take ok default/hello\n", [4, 4, 0, 1, 1]),
+    ("17 w seeCron ok\n", [4, 4, 0, 1, 1]),
+    ("18 w seeJobs ok 0\n", [4, 4, 0, 1, 1]),
+    ("19 w seeActive ok 0\n", [4, 4, 0, 1, 1]),
+    ("20 w claim Stale\n", [4, 4, 0, 1, 1]),
+    ("21 i shut ok\n", [4, 4, 0, 1, 1]),
+    ("22 v take ShutDown\n", [4, 4, 0, 1, 1]),
+    ("23 w finish OutOfPhase\n", [4, 4, 0, 1, 1]),
+    ("24 w finish ok\n", [4, 4, 1, 1, 1]),
+    ("- u deleteCron HistoryFull\n", [4, 4, 1, 1, 1]),
+];
