@@ -20,7 +20,8 @@ fn key_named(alloc: Global, namespace: &str, name: &str) -> Result<Option<Key>, 
     }
 }
 
-fn key_of(alloc: Global, text: &str) -> Result<Option<Key>, Refusal>
+/// The key that a text says, NAMESPACE/NAME.
+pub fn key_of(alloc: Global, text: &str) -> Result<Option<Key>, Refusal>
     ensures ok { IfOk result (λ k. k ≡ said.key_of text.now) }
     ensures err { IfErr result (λ e. e ≡ OutOfMemory) }
 {

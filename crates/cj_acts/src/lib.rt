@@ -11,6 +11,7 @@ mod verb;
 
 pub use act::Act;
 pub use instant::time_at;
-pub use member::present;
+pub use keys::key_of;
+pub use member::{number_at, present};
 pub use plain::plain_act;
 pub use verb::{Plain, Verb, Write, verb_named};

@@ -35,8 +35,8 @@ impl Concerns for Shared<Job> {
     }
 }
 
-// The key of the CronJob that the Job's controller reference names. A name that no object can have is none.
-fn owner_key(alloc: Global, job: &Job) -> Result<Option<Key>, Refusal>
+/// The key of the CronJob that the Job's controller reference names. A name that no object can have is none.
+pub fn owner_key(alloc: Global, job: &Job) -> Result<Option<Key>, Refusal>
     ensures ok { IfOk result (λ k. k ≡ key_of_job job.now) }
     ensures err { IfErr result (λ e. (e ≡ OutOfMemory) × IsSome (key_of_job job.now)) }
 {

@@ -8,4 +8,5 @@ mod informer;
 mod listing;
 mod watching;
 
+pub use concerns::owner_key;
 pub use informer::Informer;

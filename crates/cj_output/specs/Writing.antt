@@ -2,7 +2,7 @@
 use Rattle.std.specs.Prelude.{◌≡◌, ℕ, List, ◌++◌, codes, take, Option}
 use Rattle.std.specs.Io.KnownBytes.{Appends}
 use Rattle.cj_output.specs.declared.failure.Failure.{Failure}
-use Rattle.cj_output.specs.declared.failure.Failure.TheVariants.{Device, Memory}
+use Rattle.cj_output.specs.declared.failure.Failure.TheVariants.{Device, HistoryFull, Memory}
 
 -- a beginning of the bytes was appended, none or all of them included
 abbrev pub AppendsSome : Option (List ℕ) → Option (List ℕ) → List ℕ → Type 0
@@ -13,6 +13,7 @@ AppendsSome old new bytes = (count : ℕ) × Appends old new (take count bytes)
 abbrev pub failure_line : Failure → List ℕ
 failure_line Device = codes "cronsim: input or output failed\n"
 failure_line Memory = codes "cronsim: out of memory\n"
+failure_line HistoryFull = codes "cronsim: history full\n"
 
 -- text that waited, and then this one, were appended up to what waits now
 pub record Prints (old : Option (List ℕ)) (waited text : List ℕ) (new : Option (List ℕ)) (waits : List ℕ) : Type 0 where

@@ -12,9 +12,12 @@ pub enum Failure {
     /// Reading, writing or opening failed.
     #[error("input or output failed")]
     Device,
-    /// Memory was asked for and refused.
+    /// Memory was asked for and refused, or a thread couldn't be started.
     #[error("out of memory")]
     Memory,
+    /// A call found the history full.
+    #[error("history full")]
+    HistoryFull,
 }
 
 impl From<AllocError> for Failure {

@@ -46,6 +46,7 @@ fn line_of(failure: Failure) -> &'static [u8]
     match failure {
         Failure::Device => b"cronsim: input or output failed\n",
         Failure::Memory => b"cronsim: out of memory\n",
+        Failure::HistoryFull => b"cronsim: history full\n",
     }
 }
 

@@ -10,6 +10,7 @@ use Rattle.cj_calls.specs.declared.call.Call.TheVariants as Of
 use Rattle.cj_acts.specs.declared.act.Act.{Act}
 use Rattle.cj_acts.specs.declared.act.Act.TheVariants.{Calls, Claims, Closes, Ends}
 use Rattle.cj_sights.specs.declared.sight.Sight.{Sight}
+use Rattle.cj_sights.specs.Sights.{unseen}
 use Rattle.cj_sights.specs.Plans.{Inputs, IsPlanFor, inputs_of, reasons_of}
 
 -- the uid of the Job that stands; any where there is none
@@ -38,3 +39,8 @@ IsCallOf zones sight job_at (Calls said) call = call ≡ said
 IsCallOf zones sight job_at (Ends key outcome at) call = IsEnd (job_at key) key outcome at call
 IsCallOf zones sight job_at (Claims at) call = IsClaim zones (inputs_of sight) at call
 IsCallOf zones sight job_at (Closes end) call = call ≡ Of.Finish end (reasons_of sight.plan)
+
+-- the call of an act of a caller that has seen nothing, where no Job is known
+-- rules: claim-step, end-step, finish-step
+abbrev pub IsUnseenCall : ZoneTable → Act → Call → Type 0
+IsUnseenCall zones act call = IsCallOf zones unseen (λ _. None) act call

@@ -1,6 +1,8 @@
 -- What the run of a script prints: the lines of its steps, and the report of the end.
 use Rattle.std.specs.Prelude.{◌≡◌, ◌⊎◌, ℕ, Bool, List, [], ◌++◌}
 use Rattle.std.specs.FinMap as map
+use Rattle.cj_types.specs.declared.cron.CronJob.{CronJob}
+use Rattle.cj_types.specs.declared.job.Job.{Job}
 use Rattle.cj_calls.specs.Rows.{Told}
 use Rattle.cj_state.specs.declared.state.State.{State}
 use Rattle.cj_state.specs.Legal.{ArePlanned, IsLegal, state_of}
@@ -14,8 +16,11 @@ use Rattle.cj_script.specs.declared.step.Step.{Step}
 use Rattle.cj_replay.specs.Runs.{AllPlay}
 
 -- the lines of the objects, and of the reasons that the history tells
+abbrev pub report_lines : List CronJob → List Job → List Told → List ℕ
+report_lines crons jobs h = (cron_lines crons ++ job_lines jobs) ++ reason_lines h crons
+
 abbrev pub report_in : State → List Told → List ℕ
-report_in s h = (cron_lines (map.values s.store.crons) ++ job_lines (map.values s.store.jobs)) ++ reason_lines h (map.values s.store.crons)
+report_in s h = report_lines (map.values s.store.crons) (map.values s.store.jobs) h
 
 -- rule: replay-report
 unfoldable pub report_of : ℕ → List Told → List ℕ

@@ -12,7 +12,7 @@ use Rattle.cj_calls.specs.declared.caller.Caller.{Caller}
 use Rattle.cj_calls.specs.declared.reply.Reply.{Reply}
 use Rattle.cj_calls.specs.Rows.{Told}
 use Rattle.cj_state.specs.Legal.{answer_of, is_entered, state_of}
-use Rattle.cj_world.specs.Worlds.{told}
+use Rattle.cj_world.specs.Worlds.{Ledger, told}
 use Rattle.cj_lines.specs.Lines.{step_line}
 use Rattle.cj_script.specs.declared.step.Step.{Step}
 use Rattle.cj_sights.specs.Sights.{seen_of}
@@ -23,6 +23,11 @@ use Rattle.cj_replay.specs.Calls.{IsCallOf}
 -- the Job that stands at the key
 abbrev pub job_at : ℕ → List Told → Place → Option Job
 job_at window h key = map.get (state_of window h).store.jobs key
+
+-- the Job that stands at the key in a world, if one is given
+abbrev pub jobs_in : Option Ledger → Place → Option Job
+jobs_in None key = None
+jobs_in (Some w) key = job_at w.limits.window w.history key
 
 -- what a call is answered after the history: HistoryFull at a full one, else what the history gives
 -- rule: replay-lines

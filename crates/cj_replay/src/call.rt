@@ -5,8 +5,8 @@ ghost use Rattle.cj_calls.specs.declared.call.Call.TheVariants.{Finish};
 ghost use Rattle.cj_sights.specs.Plans.{inputs_of, reasons_of};
 ghost use Rattle.cj_sights.specs.Remembered.{Remembers, sight_or_none};
 ghost use Rattle.cj_sights.specs.Sights.{seen_of};
-ghost use Rattle.cj_replay.specs.Calls.{IsCallOf, IsClaim, IsEnd, IsUidOf};
-ghost use Rattle.cj_replay.specs.Runs.{job_at};
+ghost use Rattle.cj_replay.specs.Calls.{IsCallOf, IsClaim, IsEnd, IsUidOf, IsUnseenCall};
+ghost use Rattle.cj_replay.specs.Runs.{job_at, jobs_in};
 
 use cj_acts::Act;
 use cj_calls::{Call, End};
@@ -30,18 +30,24 @@ fn uid_of(job: Option<&Shared<Job>>) -> Uid
     }
 }
 
+fn job_in<'w>(world: Option<&'w World>, key: &Key) -> Option<&'w Shared<Job>>
+    ensures { option_copied result ≡ jobs_in (option_copied world.entry) key.now }
+{
+    world?.job(key)
+}
+
 // The end of the Job that stands at the key.
 fn end_call(
     alloc: Global,
-    world: &World,
+    world: Option<&World>,
     key: &Key,
     outcome: Outcome,
     at: Seconds,
 ) -> Result<Call, Refusal>
-    ensures ok { IfOk result (IsEnd (job_at world.now.limits.window world.now.history key.now) key.now outcome at) }
+    ensures ok { IfOk result (IsEnd (jobs_in (option_copied world.entry) key.now) key.now outcome at) }
     ensures err { IfErr result (λ e. e ≡ OutOfMemory) }
 {
-    let uid = uid_of(world.job(key));
+    let uid = uid_of(job_in(world, key));
     Ok(Call::EndJob(key.try_copy(alloc)?, uid, outcome, at))
 }
 
@@ -60,15 +66,15 @@ fn finish_call(alloc: Global, sight: &Sight, end: End) -> Result<Call, Refusal>
     Ok(Call::Finish(end, reasons_for(alloc, sight)?))
 }
 
-// The call of an act of a caller that has seen so much.
+// The call of an act of a caller that has seen so much, where these Jobs stand, or none is known.
 fn call_of(
     alloc: Global,
     zones: &ZoneTable,
-    world: &World,
+    world: Option<&World>,
     sight: &Sight,
     act: &Act,
 ) -> Result<Call, Refusal>
-    ensures ok { IfOk result (IsCallOf zones.now sight.now (job_at world.now.limits.window world.now.history) act.now) }
+    ensures ok { IfOk result (IsCallOf zones.now sight.now (jobs_in (option_copied world.entry)) act.now) }
     ensures err { IfErr result (λ e. e ≡ OutOfMemory) }
 {
     match act {
@@ -77,6 +83,14 @@ fn call_of(
         Act::Claims(at) => claim_call(alloc, zones, sight, *at),
         Act::Closes(end) => finish_call(alloc, sight, *end),
     }
+}
+
+/// The call of an act of a caller that has seen nothing, where no Job is known.
+pub fn unseen_call(alloc: Global, zones: &ZoneTable, act: &Act) -> Result<Call, Refusal>
+    ensures ok { IfOk result (IsUnseenCall zones.now act.now) }
+    ensures err { IfErr result (λ e. e ≡ OutOfMemory) }
+{
+    call_of(alloc, zones, None, &Sight::unseen(), act)
 }
 
 fn call_by(
@@ -90,8 +104,8 @@ fn call_by(
     ensures err { IfErr result (λ e. e ≡ OutOfMemory) }
 {
     match sight {
-        Some(sight) => call_of(alloc, zones, world, sight, act),
-        None => call_of(alloc, zones, world, &Sight::unseen(), act),
+        Some(sight) => call_of(alloc, zones, Some(world), sight, act),
+        None => call_of(alloc, zones, Some(world), &Sight::unseen(), act),
     }
 }
 

@@ -7,4 +7,6 @@ mod play;
 mod report;
 mod run;
 
+pub use call::unseen_call;
+pub use report::report_text;
 pub use run::replay;

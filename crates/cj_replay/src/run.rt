@@ -7,7 +7,7 @@ ghost use Rattle.cj_replay.specs.Replays.{IsPartOf, IsReplayed, KeepsPromise};
 ghost use Rattle.cj_replay.specs.Printing.{BreaksOff, CutsReport, HasPlayed, PrintsPart, PrintsReport, PrintsStep};
 
 use crate::play::play;
-use crate::report::report_text;
+use crate::report::world_report;
 use cj_output::{Failure, Pending};
 use cj_script::{Script, Step};
 use cj_sights::Sights;
@@ -80,7 +80,7 @@ fn print_report<W: Write>(
     ensures ok { OnOk result (PrintsReport world.now.limits.window world.now.history (W.contents out.old) pending (W.contents out.new)) }
     ensures err { OnErr result (CutsReport world.now.limits.window world.now.history (W.contents out.old) pending (W.contents out.new)) }
 {
-    let report = report_text(alloc, world)?;
+    let report = world_report(alloc, world)?;
     pending.print(out, report.as_str())?;
     pending.finish(out)
 }

@@ -24,37 +24,39 @@ use Rattle.cj_acts.specs.declared.verb.Verb.TheVariants.{Does, Writes}
 use Rattle.cj_acts.specs.declared.verb.Write.{Write}
 use Rattle.cj_acts.specs.declared.verb.Write.TheVariants as Kind
 use Rattle.cj_script.specs.declared.callers.Named.{Named}
+use Rattle.cj_script.specs.declared.step.Deed.{Deed}
 use Rattle.cj_script.specs.declared.step.Step.{Step}
 use Rattle.cj_script.specs.Drafts.{cron_said, drafted, job_said, needed, then}
 use Rattle.cj_script.specs.Callers.{callers_in}
 use Rattle.cj_script.specs.Limits.{limits_in}
 use Rattle.cj_script.specs.Scripts.{IsRefusedValue, told_in}
-use Rattle.cj_script.specs.Steps.{act_of, after_fault, before, both, step_of, steps_of, verb_in, who_in}
+use Rattle.cj_script.specs.Lists.{after_fault, all_of, before, both}
+use Rattle.cj_script.specs.Steps.{act_of, deed_in, step_of, steps_of, verb_in, who_in}
 use Rattle.cj_script.specs.Writes.{cron_act, job_act, object_in, write_act}
 
-record IsOther {A : Type 0} (r : Result A SceneFault) : Type 0 where
-  differs : r ≡ Err Syntax → ⊥
+pub record IsOther {A : Type 0} (r : Result A SceneFault) : Type 0 where
+  pub differs : r ≡ Err Syntax → ⊥
 
-other_fine : {A : Type 0} (x : A) → IsOther (Ok x)
+pub other_fine : {A : Type 0} (x : A) → IsOther (Ok x)
 other_fine x = record { differs = λ e. absurd (cc e) }
 
-other_form : {A : Type 0} → IsOther {A = A} (Err Form)
+pub other_form : {A : Type 0} → IsOther {A = A} (Err Form)
 other_form = record { differs = λ e. absurd (cc e) }
 
-other_manifest : {A : Type 0} (fault : FieldFault) → IsOther {A = A} (Err (Manifest fault))
+pub other_manifest : {A : Type 0} (fault : FieldFault) → IsOther {A = A} (Err (Manifest fault))
 other_manifest fault = record { differs = λ e. absurd (cc e) }
 
-other_memory : {A : Type 0} → IsOther {A = A} (Err Memory)
+pub other_memory : {A : Type 0} → IsOther {A = A} (Err Memory)
 other_memory = record { differs = λ e. absurd (cc e) }
 
-lost : {A B : Type 0} → IsOther {A = A} (Err Syntax) → IsOther {A = B} (Err Syntax)
+pub lost : {A B : Type 0} → IsOther {A = A} (Err Syntax) → IsOther {A = B} (Err Syntax)
 lost h = record { differs = λ e. h.differs refl }
 
-other_needed : {A : Type 0} (o : Option A) → IsOther (needed o)
+pub other_needed : {A : Type 0} (o : Option A) → IsOther (needed o)
 other_needed None = other_form
 other_needed (Some x) = other_fine x
 
-other_then : {A B : Type 0} (r : Result A SceneFault) (f : A → Result B SceneFault) → IsOther r → ((x : A) → IsOther (f x)) → IsOther (then r f)
+pub other_then : {A B : Type 0} (r : Result A SceneFault) (f : A → Result B SceneFault) → IsOther r → ((x : A) → IsOther (f x)) → IsOther (then r f)
 other_then (Ok x) f h k = k x
 other_then (Err Syntax) f h k = lost h
 other_then (Err Form) f h k = other_form
@@ -65,7 +67,7 @@ other_drafted : {A : Type 0} (faults : List FieldFault) (o : Option A) → IsOth
 other_drafted [] o = other_needed o
 other_drafted (fault ∷ others) o = other_manifest fault
 
-other_cron : (zones : List Zone) (m : Data) → IsOther (cron_said zones m)
+pub other_cron : (zones : List Zone) (m : Data) → IsOther (cron_said zones m)
 unfolding cron_said
 other_cron zones m = other_drafted (cron_faults zones m) (cron_draft m)
 
@@ -97,39 +99,47 @@ other_act : (zones : List Zone) (verb : Verb) (d : Data) → IsOther (act_of zon
 other_act zones (Writes verb) d = other_write zones verb d
 other_act zones (Does verb) d = other_needed (plain_act verb d)
 
+pub other_deed : (zones : List Zone) (d : Data) → IsOther (deed_in zones d)
+unfolding deed_in
+other_deed zones d =
+    let made : Verb → Act → Result Deed SceneFault = λ verb act. Ok (record { verb = verb; act = act }) in
+    let acted : Verb → Result Deed SceneFault = λ verb. then (act_of zones verb d) (made verb) in
+    other_then (needed (verb_in d)) acted (other_needed (verb_in d))
+    (λ verb. other_then (act_of zones verb d) (made verb) (other_act zones verb d) (λ act. record { differs = λ e. absurd (cc e) }))
+
 other_step : (zones : List Zone) (callers : List Named) (d : Data) → IsOther (step_of zones callers d)
 unfolding step_of
 other_step zones callers d =
-    let made : Named → Verb → Act → Result Step SceneFault =
-    λ named verb act. Ok (record { who = named.name; caller = named.caller; verb = verb; act = act }) in
-    let acted : Named → Verb → Result Step SceneFault = λ named verb. then (act_of zones verb d) (made named verb) in
-    let worded : Named → Result Step SceneFault = λ named. then (needed (verb_in d)) (acted named) in
-    other_then (needed (who_in callers d)) worded (other_needed (who_in callers d))
-    (λ named. other_then (needed (verb_in d)) (acted named) (other_needed (verb_in d))
-    (λ verb. other_then (act_of zones verb d) (made named verb) (other_act zones verb d) (λ act. record { differs = λ e. absurd (cc e) })))
+    let made : Named → Deed → Result Step SceneFault =
+    λ named deed. Ok (record { who = named.name; caller = named.caller; verb = deed.verb; act = deed.act }) in
+    let done : Named → Result Step SceneFault = λ named. then (deed_in zones d) (made named) in
+    other_then (needed (who_in callers d)) done (other_needed (who_in callers d))
+    (λ named. other_then (deed_in zones d) (made named) (other_deed zones d) (λ deed. record { differs = λ e. absurd (cc e) }))
 
-other_after : (fault : FieldFault) (rest : Result (List Step) SceneFault) → IsOther rest → IsOther (after_fault fault rest)
-other_after fault (Ok steps) h = other_manifest fault
+pub other_after : {A B : Type 0} (fault : FieldFault) (rest : Result A SceneFault) → IsOther rest → IsOther {A = B} (after_fault fault rest)
+other_after fault (Ok x) h = other_manifest fault
 other_after fault (Err Syntax) h = lost h
 other_after fault (Err Form) h = other_form
 other_after fault (Err (Manifest g)) h = other_manifest fault
 other_after fault (Err Memory) h = other_memory
 
-other_before : (steps : List Step) (rest : Result (List Step) SceneFault) → IsOther rest → IsOther (before steps rest)
-other_before steps (Ok others) h = other_fine (steps ++ others)
-other_before steps (Err e) h = h
+other_before : {A : Type 0} (items : List A) (rest : Result (List A) SceneFault) → IsOther rest → IsOther (before items rest)
+other_before items (Ok others) h = other_fine (items ++ others)
+other_before items (Err e) h = h
 
-other_both : (r : Result Step SceneFault) (rest : Result (List Step) SceneFault) → IsOther r → IsOther rest → IsOther (both r rest)
-other_both (Ok step) rest h k = other_before (step ∷ []) rest k
+other_both : {A : Type 0} (r : Result A SceneFault) (rest : Result (List A) SceneFault) → IsOther r → IsOther rest → IsOther (both r rest)
+other_both (Ok x) rest h k = other_before (x ∷ []) rest k
 other_both (Err Syntax) rest h k = lost h
 other_both (Err Form) rest h k = other_form
 other_both (Err (Manifest fault)) rest h k = other_after fault rest k
 other_both (Err Memory) rest h k = other_memory
 
+pub other_all : {A : Type 0} (said : Data → Result A SceneFault) (ds : Items) → ((d : Data) → IsOther (said d)) → IsOther (all_of said ds)
+other_all said no_items h = other_fine []
+other_all said (item d ds) h = other_both (said d) (all_of said ds) (h d) (other_all said ds h)
+
 other_steps : (zones : List Zone) (callers : List Named) (ds : Items) → IsOther (steps_of zones callers ds)
-other_steps zones callers no_items = other_fine []
-other_steps zones callers (item d ds) =
-    other_both (step_of zones callers d) (steps_of zones callers ds) (other_step zones callers d) (other_steps zones callers ds)
+other_steps zones callers ds = other_all (step_of zones callers) ds (other_step zones callers)
 
 other_told : (zones : List Zone) (d : Data) → IsOther (told_in zones d)
 other_told zones d =

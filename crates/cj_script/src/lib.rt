@@ -4,12 +4,16 @@
 mod callers;
 mod drafts;
 mod limits;
+mod lists;
 mod read;
 mod script;
 mod step;
 mod steps;
 mod writes;
 
+pub use drafts::cron_said;
+pub use limits::number_or;
+pub use lists::{Reads, list_of};
 pub use read::read_script;
 pub use script::Script;
-pub use step::Step;
+pub use step::{Deed, Step, deed_of};

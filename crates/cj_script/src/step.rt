@@ -17,6 +17,13 @@ use cj_zone::ZoneTable;
 use serde_json::Value;
 use std::alloc::Global;
 
+/// What is done: the verb with what it does.
+#[derive(Drop)]
+pub struct Deed {
+    pub verb: Verb,
+    pub act: Act,
+}
+
 /// Who does what: the caller with its name, and the verb with what it does.
 #[derive(Drop)]
 pub struct Step {
@@ -52,6 +59,20 @@ fn act_of(alloc: Global, zones: &ZoneTable, verb: Verb, value: &Value) -> Result
     }
 }
 
+/// What a value says that is done, under these zones: `Form` where it has another form, else its manifest's first fault.
+#[tactic(auto, unfolding(crate::specs::Steps::deed_in))]
+pub fn deed_of(alloc: Global, zones: &ZoneTable, value: &Value) -> Result<Deed, SceneFault>
+    requires flat { depth (view value.now) ≤ max_depth }
+    ensures ok { IfOk result (λ s. said.deed_in (zones_of zones.now) (view value.now) ≡ Ok s) }
+    ensures err { IfErr result (λ e. e ≢ Memory → said.deed_in (zones_of zones.now) (view value.now) ≡ Err e) }
+{
+    let Some(verb) = verb_at(value) else {
+        return Err(SceneFault::Form);
+    };
+    let act = act_of(alloc, zones, verb, value)?;
+    Ok(Deed { verb, act })
+}
+
 /// The step that a value says, by these callers and under these zones: `Form` where it has another form, else its manifest's
 /// first fault.
 #[tactic(auto, unfolding(crate::specs::Steps::step_of))]
@@ -68,10 +89,7 @@ pub(crate) fn step_of(
     let Some(named) = who_at(callers, value) else {
         return Err(SceneFault::Form);
     };
-    let Some(verb) = verb_at(value) else {
-        return Err(SceneFault::Form);
-    };
-    let act = act_of(alloc, zones, verb, value)?;
+    let Deed { verb, act } = deed_of(alloc, zones, value)?;
     Ok(Step {
         who: named.name.share()?,
         caller: named.caller,

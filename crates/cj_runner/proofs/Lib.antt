@@ -1,0 +1,4 @@
+pub mod Parts
+pub mod Calls
+pub mod Wholes
+pub mod Gathers

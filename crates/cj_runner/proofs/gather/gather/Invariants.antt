@@ -1,0 +1,5 @@
+use Rattle.cj_runner.specs.Shares.{IsGathered}
+use Rattle.cj_runner.proofs.gather.gather.Given as goal
+
+abbrev pub invariant-loop-end : goal.invariant-loop-end
+invariant-loop-end l = IsGathered l.yielded l.gathered

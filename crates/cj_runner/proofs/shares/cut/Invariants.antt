@@ -1,0 +1,9 @@
+use Rattle.std.proofs.Common.{◌≡◌, ◌++◌, map}
+use Rattle.std.specs.List.{flat_map}
+use Rattle.cj_runner.proofs.shares.cut.Given as goal
+
+abbrev pub invariant-loop-pass : goal.invariant-loop-pass
+invariant-loop-pass l = record {
+  owners : map (λ s. s.pass) l.shares.items ≡ l.yielded;
+  parts : flat_map (λ s. s.running.items) l.shares.items ++ l.left.items ≡ l.fn.running.items;
+}
