@@ -8,6 +8,7 @@
 #include <errno.h>
 #include <stdio.h>
 #include <stdlib.h>
+#include <sys/syscall.h>
 #include <unistd.h>
 
 enum kind { MEMORY, READ, WRITE, KINDS };
@@ -92,4 +93,12 @@ __attribute__((destructor)) static void tell(void)
         return;
     fprintf(file, "%ld %ld %ld\n", counts[MEMORY], counts[READ], counts[WRITE]);
     fclose(file);
+}
+
+/* The end of a program that may start threads, which calls no destructor. */
+void _exit(int status)
+{
+    tell();
+    syscall(SYS_exit_group, status);
+    __builtin_unreachable();
 }

@@ -20,6 +20,35 @@ use cj_types::{Limits, Refusal, Version};
 use std::alloc::Global;
 use std::sync::{Condvar, Mutex, Wait};
 
+// Whom a call concerns of those that wait for something to take.
+#[derive(Clone, Copy)]
+enum Wake {
+    Nobody,
+    One,
+    Everybody,
+}
+
+// Whom a call concerns that was entered: after an Add or a Finish a key more may be in the line for one of them; a moment, the
+// end of the queue and a history that is full by now concern them all.
+fn concerned(book: &Book, receipt: &Receipt) -> Wake {
+    if book.is_full() {
+        return Wake::Everybody;
+    }
+    match receipt.call() {
+        Call::Add(_) | Call::Finish(..) => Wake::One,
+        Call::Tick(_) | Call::Shut => Wake::Everybody,
+        _ => Wake::Nobody,
+    }
+}
+
+// Whom the end of a waiting Take concerns: one that was refused may have been woken for a key that another can take.
+fn after_take(book: &Book, taken: &Result<Receipt, Refusal>) -> Wake {
+    match taken {
+        Ok(receipt) => concerned(book, receipt),
+        Err(_) => Wake::One,
+    }
+}
+
 /// A book that threads share. Each of its calls takes the lock once and may wait for it.
 ///
 /// A contract knows of the book under the lock what its type keeps; what one call does to it is said at `laws`.
@@ -48,10 +77,12 @@ impl Hub {
         self.book.lock(rt).enroll(role)
     }
 
-    // Wakes all that wait, where something was entered.
-    fn tell(&self, answer: &Result<Receipt, Refusal>) {
-        if answer.is_ok() {
-            self.changed.notify_all();
+    // Wakes whom a call concerned.
+    fn wake(&self, whom: Wake) {
+        match whom {
+            Wake::Nobody => {}
+            Wake::One => self.changed.notify_one(),
+            Wake::Everybody => self.changed.notify_all(),
         }
     }
 
@@ -65,12 +96,16 @@ impl Hub {
     {
         let mut book = self.book.lock(rt);
         let result = laws::step(&mut book, pass, call);
+        let whom = match &result {
+            Ok(receipt) => concerned(&book, receipt),
+            Err(_) => Wake::Nobody,
+        };
         drop(book);
-        self.tell(&result);
+        self.wake(whom);
         result
     }
 
-    /// Makes a Take of the pass, and makes it again after each other call of the hub while there is nothing to take.
+    /// Makes a Take of the pass, and makes it again after each other call that may concern it while there is nothing to take.
     pub fn take_wait(&self, rt: &impl Wait, pass: &mut Pass) -> Result<Receipt, Refusal>
         ensures ok { IfOk result (λ r. IsReceipt pass.old Of.Take r pass.new) }
         ensures row { IfOk result (λ r. IsTrue (is_in_row Of.Take r.entry.answer)) }
@@ -83,8 +118,9 @@ impl Hub {
             if let Err(Refusal::Empty) = &result {
                 book = self.changed.wait(rt, book);
             } else {
+                let whom = after_take(&book, &result);
                 drop(book);
-                self.tell(&result);
+                self.wake(whom);
                 return result;
             }
         }

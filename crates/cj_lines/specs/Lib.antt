@@ -3,3 +3,4 @@ pub mod Answers
 pub mod Lines
 pub mod Objects
 pub mod Reasons
+pub mod Tellings

@@ -5,6 +5,7 @@ mod answers;
 mod line;
 mod objects;
 mod reasons;
+mod tellings;
 mod words;
 
 pub use line::step_line;

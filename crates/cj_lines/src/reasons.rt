@@ -1,111 +1,29 @@
 // The reasons that a history tells.
-ghost use Rattle.std.specs.Prelude.{◌≡◌, ◌++◌, IfOk, IfErr, OnOk, option_copied, string_bytes};
+ghost use Rattle.std.specs.Prelude.{◌≡◌, List, IfOk, IfErr, string_bytes};
 ghost use mathlib.Core.List.{reverse};
 ghost use Rattle.cj_base.specs.declared.refusal.Refusal.TheVariants.{OutOfMemory};
+ghost use Rattle.cj_calls.specs.Rows.{Told};
 ghost use Rattle.cj_lines.specs.Reasons as said;
+ghost use Rattle.cj_lines.specs.Tellings.{Knows, known_of};
 
-use cj_calls::{Call, Entry, Reply};
+use crate::tellings::Tellings;
+use cj_calls::Entry;
 use cj_types::{CronJob, Key, Reason, Refusal, Shared};
 use std::alloc::Global;
-
-fn key_in(reply: &Reply) -> Option<&Key>
-    ensures { option_copied result ≡ said.key_in reply.now }
-{
-    match reply {
-        Reply::Key(key) => Some(key),
-        _ => None,
-    }
-}
-
-// The key that the entry says the worker took.
-fn taken(number: u64, entry: &Entry) -> Option<&Key>
-    ensures { option_copied result ≡ said.taken number entry.now }
-{
-    if entry.caller().number != number {
-        return None;
-    }
-    match entry.answer() {
-        Ok(reply) => key_in(reply),
-        Err(_) => None,
-    }
-}
-
-// The key that the worker took last.
-fn held(number: u64, entries: &[Entry]) -> Option<&Key>
-    ensures { option_copied result ≡ said.held number (reverse entries.now) }
-{
-    let mut count = entries.len();
-    while count > 0 {
-        count -= 1;
-        if let Some(key) = taken(number, &entries[count]) {
-            return Some(key);
-        }
-    }
-    None
-}
-
-fn is_key(key: &Key, other: Option<&Key>) -> bool
-    ensures { result ≡ said.is_key key.now (option_copied other.entry) }
-{
-    match other {
-        Some(other) => other.namespace() == key.namespace() && other.name() == key.name(),
-        None => false,
-    }
-}
-
-fn is_told(reason: Reason, reasons: &[Reason]) -> bool
-    ensures { result ≡ said.is_told reason reasons.now }
-{
-    reasons.iter().any(|told| told.name() == reason.name())
-}
-
-fn finishes(reason: Reason, call: &Call) -> bool
-    ensures { result ≡ said.is_told reason (said.reasons_in call.now) }
-{
-    match call {
-        Call::Finish(_, reasons) => is_told(reason, reasons.as_slice()),
-        _ => false,
-    }
-}
-
-// Whether the entry is an accepted Finish with the reason.
-fn tells(reason: Reason, entry: &Entry) -> bool
-    ensures { result ≡ said.tells reason entry.now.call entry.now.answer }
-{
-    match entry.answer() {
-        Ok(_) => finishes(reason, entry.call()),
-        Err(_) => false,
-    }
-}
-
-// Whether the reason was told of the key: by an accepted Finish of a worker that had taken it.
-fn has_reason(key: &Key, reason: Reason, entries: &[Entry]) -> bool
-    ensures { result ≡ said.has_reason key.now reason (reverse entries.now) }
-{
-    let mut count = entries.len();
-    while count > 0 {
-        count -= 1;
-        let entry = &entries[count];
-        if tells(reason, entry) && is_key(key, held(entry.caller().number, &entries[..count])) {
-            return true;
-        }
-    }
-    false
-}
 
 // Those of the reasons that were told of the key.
 fn told_of(
     alloc: Global,
     key: &Key,
-    entries: &[Entry],
+    tellings: &Tellings,
     reasons: &[Reason],
 ) -> Result<Vec<Reason>, Refusal>
-    ensures ok { IfOk result (λ r. r.items ≡ said.told_of key.now (reverse entries.now) reasons.now) }
+    ensures ok { IfOk result (λ r. r.items ≡ known_of key.now tellings.now reasons.now) }
     ensures err { IfErr result (λ e. e ≡ OutOfMemory) }
 {
     let mut told = Vec::new(alloc);
     for reason in reasons {
-        if has_reason(key, *reason, entries) {
+        if tellings.has(key, *reason) {
             told.push(*reason).map_err(|_| Refusal::OutOfMemory)?;
         }
     }
@@ -145,8 +63,8 @@ fn lines_or_none(alloc: Global, key: &Key, reasons: &[Reason]) -> Result<String,
 }
 
 #[tactic(auto, unfolding(crate::specs::Reasons::key_lines))]
-fn key_lines(alloc: Global, key: &Key, entries: &[Entry]) -> Result<String, Refusal>
-    ensures ok { IfOk result (λ s. string_bytes s ≡ said.key_lines key.now (reverse entries.now)) }
+fn key_lines(alloc: Global, key: &Key, tellings: &Tellings) -> Result<String, Refusal>
+    ensures ok { IfOk result (λ s. (h : List Told) → Knows tellings.now h → string_bytes s ≡ said.key_lines key.now h) }
     ensures err { IfErr result (λ e. e ≡ OutOfMemory) }
 {
     let by_name = [
@@ -155,7 +73,7 @@ fn key_lines(alloc: Global, key: &Key, entries: &[Entry]) -> Result<String, Refu
         Reason::TooManyMissedTimes,
         Reason::UnknownTimeZone,
     ];
-    let told = told_of(alloc, key, entries, &by_name)?;
+    let told = told_of(alloc, key, tellings, &by_name)?;
     lines_or_none(alloc, key, told.as_slice())
 }
 
@@ -169,9 +87,10 @@ pub fn reasons_text(
     ensures ok { IfOk result (λ s. string_bytes s ≡ said.reason_lines (reverse entries.now) crons.now) }
     ensures err { IfErr result (λ e. e ≡ OutOfMemory) }
 {
+    let tellings = Tellings::read(alloc, entries)?;
     let mut text = String::new(alloc);
     for cron in crons {
-        let lines = key_lines(alloc, cron.get().key.key(), entries)?;
+        let lines = key_lines(alloc, cron.get().key.key(), &tellings)?;
         text.push_str(lines.as_str())?;
     }
     Ok(text)

@@ -4,8 +4,9 @@ use Rattle.cj_program.specs.Check.{IsCheckOutcome}
 use Rattle.cj_program.specs.Outcome.{IsNextOutcome, Outcome}
 use Rattle.cj_program.specs.Plan.{IsPlanOutcome}
 use Rattle.cj_program.specs.Replay.{IsReplayOutcome}
+use Rattle.cj_program.specs.Run.{IsRunOutcome}
 use Rattle.cj_program.specs.declared.request.Request.{Request}
-use Rattle.cj_program.specs.declared.request.Request.TheVariants.{Check, Next, Plan, Replay}
+use Rattle.cj_program.specs.declared.request.Request.TheVariants.{Check, Next, Plan, Replay, Run}
 
 -- the outcome of a request on an input, where what it holds is known
 -- rule: statuses
@@ -14,3 +15,4 @@ IsOutcome (Next r) input o = IsNextOutcome r o
 IsOutcome (Check r) input o = IsCheckOutcome r input o
 IsOutcome (Plan r) input o = IsPlanOutcome r input o
 IsOutcome (Replay r) input o = IsReplayOutcome input o
+IsOutcome (Run r) input o = IsRunOutcome input o

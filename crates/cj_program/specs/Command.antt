@@ -8,8 +8,9 @@ use Rattle.cj_program.specs.declared.request.CheckRequest.{CheckRequest}
 use Rattle.cj_program.specs.declared.request.NextRequest.{NextRequest}
 use Rattle.cj_program.specs.declared.request.PlanRequest.{PlanRequest}
 use Rattle.cj_program.specs.declared.request.ReplayRequest.{ReplayRequest}
+use Rattle.cj_program.specs.declared.request.RunRequest.{RunRequest}
 use Rattle.cj_program.specs.declared.request.Request.{Request}
-use Rattle.cj_program.specs.declared.request.Request.TheVariants.{Check, Next, Plan, Replay}
+use Rattle.cj_program.specs.declared.request.Request.TheVariants.{Check, Next, Plan, Replay, Run}
 use Rattle.cj_program.specs.declared.word_fault.WordFault.{WordFault}
 use Rattle.cj_program.specs.declared.word_fault.WordFault.TheVariants.{Incomplete, OutOfMemory, Refused}
 
@@ -52,6 +53,18 @@ plan_app = with_rule (with_rule (new_app (codes "plan")) file_rule) now_rule
 abbrev pub replay_app : App
 replay_app = with_rule (new_app (codes "replay")) file_rule
 
+abbrev pub workers_rule : Rule
+workers_rule = record (new_rule (codes "workers")) {
+  long = Some (codes "workers");
+  required = true;
+  value_names = 1;
+  parser = Some (Unsigned 1 32);
+}
+
+-- `cronsim run FILE --workers N`
+abbrev pub run_app : App
+run_app = with_rule (with_rule (new_app (codes "run")) file_rule) workers_rule
+
 -- the commands on a schedule and on a manifest
 abbrev pub reading_app : App
 reading_app =
@@ -59,9 +72,13 @@ reading_app =
     let top = record bare { top = record bare.top { has_version = true; subcommand_required = true } } in
     with_subcommand (with_subcommand top next_app.top) check_app.top
 
+-- those and the command on a decision
+abbrev pub deciding_app : App
+deciding_app = with_subcommand reading_app plan_app.top
+
 -- rules: words, help
 abbrev pub cronsim_app : App
-cronsim_app = with_subcommand (with_subcommand reading_app plan_app.top) replay_app.top
+cronsim_app = with_subcommand (with_subcommand deciding_app replay_app.top) run_app.top
 
 -- the text is decimal digits, after a plus or none, that spell the number
 abbrev pub IsDecimal : Text → ℕ → Type 0
@@ -90,12 +107,20 @@ pub record IsPlan (rows : List Row) (r : PlanRequest) : Type 0 where
 pub record IsReplay (rows : List Row) (r : ReplayRequest) : Type 0 where
   pub file : first_of (codes "file") rows ≡ Some r.file.now
 
+-- and for those of `run`
+pub record IsRunOf (rows : List Row) (r : RunRequest) : Type 0 where
+  pub file : first_of (codes "file") rows ≡ Some r.file.now
+  pub workers : (text : Text) × (first_of (codes "workers") rows ≡ Some text) × IsDecimal text r.workers
+  pub least : 1 ≤ r.workers
+  pub most : r.workers ≤ 32
+
 -- the request is of the subcommand with that name, and has the values of its arguments
 abbrev pub IsOfRows : Option (Text × List Row) → Request → Type 0
 IsOfRows found (Next r) = (rows : List Row) × (found ≡ Some (codes "next", rows)) × IsNext rows r
 IsOfRows found (Check r) = (rows : List Row) × (found ≡ Some (codes "check", rows)) × IsCheck rows r
 IsOfRows found (Plan r) = (rows : List Row) × (found ≡ Some (codes "plan", rows)) × IsPlan rows r
 IsOfRows found (Replay r) = (rows : List Row) × (found ≡ Some (codes "replay", rows)) × IsReplay rows r
+IsOfRows found (Run r) = (rows : List Row) × (found ≡ Some (codes "run", rows)) × IsRunOf rows r
 
 -- the request is of the subcommand that `clap` states for the words, with the values that it states
 -- rule: words
@@ -108,6 +133,7 @@ file_of (Next r) = None
 file_of (Check r) = Some r.file.now
 file_of (Plan r) = Some r.file.now
 file_of (Replay r) = Some r.file.now
+file_of (Run r) = Some r.file.now
 
 -- when words are refused: `clap` doesn't take them, or no request has the values that it states for them
 -- rule: words

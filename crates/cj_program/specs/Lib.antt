@@ -4,6 +4,7 @@ pub mod Outcome
 pub mod Check
 pub mod Plan
 pub mod Replay
+pub mod Run
 pub mod Answers
 pub mod Writing
 pub mod Told

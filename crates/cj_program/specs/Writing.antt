@@ -4,7 +4,7 @@ use Rattle.std.specs.Io.KnownBytes.{Appends, Keeps}
 use Rattle.cj_output.specs.declared.failure.Failure.{Failure}
 use Rattle.cj_output.specs.Writing.{AppendsSome, failure_line}
 use Rattle.cj_program.specs.declared.request.Request.{Request}
-use Rattle.cj_program.specs.declared.request.Request.TheVariants.{Check, Next, Plan, Replay}
+use Rattle.cj_program.specs.declared.request.Request.TheVariants.{Check, Next, Plan, Replay, Run}
 use Rattle.cj_program.specs.Answers.{IsOutcome}
 use Rattle.cj_program.specs.Outcome.{Outcome, status_of}
 use Rattle.cj_program.specs.Replay.{IsFailedRun, IsReplayOutcome}
@@ -64,3 +64,4 @@ IsFailed (Replay r) input out out' err err' = FailsReplay input out out' err err
 IsFailed (Next r) input out out' err err' = FailsAnswer (Next r) input out out' err err'
 IsFailed (Check r) input out out' err err' = FailsAnswer (Check r) input out out' err err'
 IsFailed (Plan r) input out out' err err' = FailsAnswer (Plan r) input out out' err err'
+IsFailed (Run r) input out out' err err' = FailsAnswer (Run r) input out out' err err'

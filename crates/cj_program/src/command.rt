@@ -1,8 +1,9 @@
 ghost use Rattle.std.specs.Prelude.{◌≡◌, IfOk, false};
 ghost use Rattle.clap.specs.Words.{app_of, rule_of};
 ghost use Rattle.clap.specs.declared.builder.command.Command.TheViews.{out-Command};
-ghost use Rattle.cj_program.specs.Command.{after_rule, check_app, count_rule, cronsim_app, file_rule, next_app, now_rule, plan_app, reading_app, replay_app, schedule_rule, zone_rule};
+ghost use Rattle.cj_program.specs.Command.{after_rule, check_app, count_rule, cronsim_app, deciding_app, file_rule, next_app, now_rule, plan_app, reading_app, replay_app, run_app, schedule_rule, workers_rule, zone_rule};
 
+use crate::help;
 use clap::builder::ValueParser;
 use clap::{Arg, Command};
 use std::alloc::{AllocError, Global};
@@ -55,6 +56,7 @@ fn next_command<'a>(alloc: Global) -> Result<Command<'a>, AllocError>
 {
     let command = Command::new(alloc, "next")
         .about("Print the next due times of a schedule, one UTC time a line")
+        .after_help(help::NEXT)
         .arg(schedule_arg(alloc))?
         .arg(after_arg(alloc))?
         .arg(count_arg(alloc))?
@@ -90,6 +92,7 @@ fn check_command<'a>(alloc: Global) -> Result<Command<'a>, AllocError>
 {
     let command = Command::new(alloc, "check")
         .about("Check the manifest of a CronJob or a Job, and name every fault in it")
+        .after_help(help::CHECK)
         .arg(file_arg(alloc))?
         .arg(named_zone_arg(alloc))?;
     Ok(command)
@@ -122,6 +125,7 @@ fn plan_command<'a>(alloc: Global) -> Result<Command<'a>, AllocError>
 {
     let command = Command::new(alloc, "plan")
         .about("Print what the next sync of a CronJob does")
+        .after_help(help::PLAN)
         .arg(scenario_arg(alloc))?
         .arg(now_arg(alloc))?;
     Ok(command)
@@ -145,7 +149,44 @@ fn replay_command<'a>(alloc: Global) -> Result<Command<'a>, AllocError>
 {
     let command = Command::new(alloc, "replay")
         .about("Make the steps of a script on an empty world, and print what each is answered")
+        .after_help(help::REPLAY)
         .arg(script_arg(alloc))?;
+    Ok(command)
+}
+
+fn course_arg<'a>(alloc: Global) -> Arg<'a>
+    ensures rule { rule_of result ≡ file_rule }
+    ensures local { result.global ≡ false }
+{
+    Arg::new(alloc, "file")
+        .required(true)
+        .value_name("FILE")
+        .help(
+            "File with a scenario in JSON: a clock, CronJobs, how their Jobs run, edits; - is standard input",
+        )
+}
+
+fn workers_arg<'a>(alloc: Global) -> Arg<'a>
+    ensures rule { rule_of result ≡ workers_rule }
+    ensures local { result.global ≡ false }
+{
+    Arg::new(alloc, "workers")
+        .long("workers")
+        .required(true)
+        .value_name("N")
+        .value_parser(ValueParser::unsigned(1, 32))
+        .help("How many workers, 1 to 32, each in a thread of its own")
+}
+
+fn run_command<'a>(alloc: Global) -> Result<Command<'a>, AllocError>
+    ensures app { IfOk result (λ c. app_of c ≡ run_app) }
+    ensures local { IfOk result (λ c. (out-Command c).has_globals ≡ false) }
+{
+    let command = Command::new(alloc, "run")
+        .about("Run the whole controller under a simulated clock, and print what it leaves")
+        .after_help(help::RUN)
+        .arg(course_arg(alloc))?
+        .arg(workers_arg(alloc))?;
     Ok(command)
 }
 
@@ -164,14 +205,23 @@ fn reading_command<'a>(alloc: Global) -> Result<Command<'a>, AllocError>
     Ok(command)
 }
 
+// Those and the command on a decision.
+fn deciding_command<'a>(alloc: Global) -> Result<Command<'a>, AllocError>
+    ensures { IfOk result (λ c. app_of c ≡ deciding_app) }
+{
+    let plan = plan_command(alloc)?;
+    let command = reading_command(alloc)?.subcommand(plan)?;
+    Ok(command)
+}
+
 /// The program's command line.
 pub fn cronsim_command<'a>(alloc: Global) -> Result<Command<'a>, AllocError>
     ensures { IfOk result (λ c. app_of c ≡ cronsim_app) }
 {
-    let plan = plan_command(alloc)?;
     let replay = replay_command(alloc)?;
-    let command = reading_command(alloc)?
-        .subcommand(plan)?
-        .subcommand(replay)?;
+    let run = run_command(alloc)?;
+    let command = deciding_command(alloc)?
+        .subcommand(replay)?
+        .subcommand(run)?;
     Ok(command)
 }

@@ -4,6 +4,7 @@
 mod answer;
 mod check;
 mod command;
+mod help;
 mod lines;
 mod next;
 mod next_text;
@@ -11,6 +12,7 @@ mod plan;
 mod plan_text;
 mod replay;
 mod request;
+mod run;
 mod serving;
 mod told;
 mod word_fault;
@@ -18,7 +20,7 @@ mod words;
 mod writing;
 
 pub use cj_output::{Failure, tell_failure};
-pub use request::{CheckRequest, NextRequest, PlanRequest, ReplayRequest, Request};
+pub use request::{CheckRequest, NextRequest, PlanRequest, ReplayRequest, Request, RunRequest};
 pub use serving::serve;
 pub use told::tell_fault;
 pub use word_fault::WordFault;

@@ -8,20 +8,11 @@ ghost use Rattle.cj_program.specs.Writing.{FailsReplay};
 
 use crate::plan::refused_scene;
 use crate::serving::give_answer;
-use cj_output::{MOST_BYTES, MOST_READS, read_input, tell_failure, write_whole};
+use cj_output::{Failure, MOST_BYTES, MOST_READS, read_input, tell_failure};
 use cj_replay::replay;
 use cj_script::{Script, read_script};
 use std::alloc::Global;
 use std::io::{Read, Write};
-
-// Says that the history was full.
-fn tell_full<E: Write>(err: &mut E) -> u8
-    ensures status { result ≡ 3 }
-    ensures told { AppendsSome (E.contents err.old) (E.contents err.new) (codes "cronsim: history full\n") }
-{
-    let _ = write_whole(err, b"cronsim: history full\n");
-    3
-}
 
 // Ends a run that was printed, by whether a step found the history full.
 fn end_of<E: Write>(is_full: bool, err: &mut E) -> u8
@@ -29,7 +20,11 @@ fn end_of<E: Write>(is_full: bool, err: &mut E) -> u8
     ensures full { result ≡ 3 → (is_full ≡ true) × AppendsSome (E.contents err.old) (E.contents err.new) (codes "cronsim: history full\n") }
     ensures most { result ≤ 3 }
 {
-    if is_full { tell_full(err) } else { 0 }
+    if is_full {
+        tell_failure(Failure::HistoryFull, err)
+    } else {
+        0
+    }
 }
 
 fn run_script<W: Write, E: Write>(alloc: Global, script: &Script, out: &mut W, err: &mut E) -> u8

@@ -11,6 +11,8 @@ pub enum Request<'a> {
     Plan(PlanRequest<'a>),
     /// What the steps of a script are answered, one after the other.
     Replay(ReplayRequest<'a>),
+    /// What the whole controller leaves of a scenario.
+    Run(RunRequest<'a>),
 }
 
 impl<'a> Request<'a> {
@@ -25,6 +27,7 @@ impl<'a> Request<'a> {
             Request::Check(check) => Some(check.file),
             Request::Plan(plan) => Some(plan.file),
             Request::Replay(replay) => Some(replay.file),
+            Request::Run(run) => Some(run.file),
         }
     }
 }
@@ -65,4 +68,13 @@ pub struct PlanRequest<'a> {
 pub struct ReplayRequest<'a> {
     /// The name of the file with the script; `-` is standard input.
     pub file: &'a str,
+}
+
+/// The words of the command `run`, as they were given.
+#[derive(Debug, Drop)]
+pub struct RunRequest<'a> {
+    /// The name of the file with the scenario; `-` is standard input.
+    pub file: &'a str,
+    /// How many workers, 1 to 32.
+    pub workers: u8,
 }

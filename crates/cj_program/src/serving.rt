@@ -11,10 +11,13 @@ use crate::next::next_answer;
 use crate::plan::plan_answer;
 use crate::replay::serve_replay;
 use crate::request::Request;
+use crate::run::run_answer;
 use crate::writing::give;
 use cj_output::{Failure, tell_failure};
 use std::alloc::Global;
 use std::io::{Read, Write};
+use std::sync::Wait;
+use std::thread::Threads;
 
 fn status_code(verdict: Verdict) -> u8
     ensures code { result ≡ status_of verdict }
@@ -50,9 +53,9 @@ pub(crate) fn give_answer<W: Write, E: Write>(
 }
 
 /// Serves a request, and answers the status: 0 where it is done, 1 where what it asks about is refused, 3
-/// where reading, writing or memory failed, or where a step of a script found the history full; one line on standard error says
-/// which.
-pub fn serve<R: Read, W: Write, E: Write>(
+/// where reading, writing or memory failed, or where a call found the history full; one line on standard error says which.
+pub fn serve<T: Threads + Wait + Sync, R: Read, W: Write, E: Write>(
+    rt: &T,
     alloc: Global,
     request: &Request<'_>,
     input: &mut R,
@@ -70,5 +73,6 @@ pub fn serve<R: Read, W: Write, E: Write>(
         Request::Check(check) => give_answer(check_answer(alloc, check, input), out, err),
         Request::Plan(plan) => give_answer(plan_answer(alloc, plan, input), out, err),
         Request::Replay(_) => serve_replay(alloc, input, out, err),
+        Request::Run(run) => give_answer(run_answer(rt, alloc, run, input), out, err),
     }
 }

@@ -1,15 +1,16 @@
 ghost use Rattle.std.specs.Prelude.{◌≡◌, ℕ, ◌≤◌, map, option_map, IfOk, IfErr, IfSome, None, Some};
 ghost use Rattle.clap.specs.Words.{first_of, found_of, rows_of, subcommand_rows_of};
-ghost use Rattle.cj_program.specs.Command.{IsCheck, IsDecimal, IsNext, IsOf, IsOfRows, IsPlan, IsReplay, RefusesWords};
+ghost use Rattle.cj_program.specs.Command.{IsCheck, IsDecimal, IsNext, IsOf, IsOfRows, IsPlan, IsReplay, IsRunOf, RefusesWords};
 ghost use Rattle.cj_program.specs.declared.request.CheckRequest.{CheckRequest};
 ghost use Rattle.cj_program.specs.declared.request.NextRequest.{NextRequest};
 ghost use Rattle.cj_program.specs.declared.request.PlanRequest.{PlanRequest};
 ghost use Rattle.cj_program.specs.declared.request.ReplayRequest.{ReplayRequest};
+ghost use Rattle.cj_program.specs.declared.request.RunRequest.{RunRequest};
 ghost use Rattle.cj_program.specs.declared.request.Request.{Request};
 ghost use Rattle.cj_program.specs.declared.word_fault.WordFault.TheVariants.{Incomplete};
 
 use crate::command::cronsim_command;
-use crate::request::{CheckRequest, NextRequest, PlanRequest, ReplayRequest, Request};
+use crate::request::{CheckRequest, NextRequest, PlanRequest, ReplayRequest, Request, RunRequest};
 use crate::word_fault::WordFault;
 use clap::ArgMatches;
 use std::alloc::Global;
@@ -42,6 +43,20 @@ fn count(text: &str) -> Result<u16, WordFault>
 {
     match text.parse::<u16>() {
         Ok(count) if count >= 1 && count <= 1_000 => Ok(count),
+        _ => Err(WordFault::Incomplete),
+    }
+}
+
+// A number of workers.
+fn workers(text: &str) -> Result<u8, WordFault>
+    ensures decimal { IfOk result (IsDecimal text.now) }
+    ensures least { IfOk result (λ n. 1 ≤ n) }
+    ensures most { IfOk result (λ n. n ≤ 32) }
+    ensures refused { IfErr result (λ e. e ≡ Incomplete) }
+    ensures only { IfErr result (λ _. (n : ℕ) → IsDecimal text.now n → 1 ≤ n → n ≤ 32 → ⊥) }
+{
+    match text.parse::<u8>() {
+        Ok(workers) if workers >= 1 && workers <= 32 => Ok(workers),
         _ => Err(WordFault::Incomplete),
     }
 }
@@ -95,6 +110,16 @@ fn replay_request<'a>(found: &ArgMatches<'a>) -> Result<ReplayRequest<'a>, WordF
     })
 }
 
+fn run_request<'a>(found: &ArgMatches<'a>) -> Result<RunRequest<'a>, WordFault>
+    ensures stated { IfOk result (IsRunOf (rows_of (found_of found.now))) }
+    ensures refused { IfErr result (λ e. e ≡ Incomplete) }
+    ensures only { IfErr result (λ _. (r : RunRequest) → ¬ (IsRunOf (rows_of (found_of found.now)) r)) }
+{
+    let file = text(found, "file")?;
+    let workers = workers(text(found, "workers")?)?;
+    Ok(RunRequest { file, workers })
+}
+
 fn request_of<'a>(matches: &ArgMatches<'a>) -> Result<Request<'a>, WordFault>
     ensures stated { IfOk result (IsOfRows (subcommand_rows_of matches.now)) }
     ensures refused { IfErr result (λ e. e ≡ Incomplete) }
@@ -105,6 +130,7 @@ fn request_of<'a>(matches: &ArgMatches<'a>) -> Result<Request<'a>, WordFault>
         Some(("plan", found)) => Ok(Request::Plan(plan_request(found)?)),
         Some(("check", found)) => Ok(Request::Check(check_request(found)?)),
         Some(("replay", found)) => Ok(Request::Replay(replay_request(found)?)),
+        Some(("run", found)) => Ok(Request::Run(run_request(found)?)),
         _ => Err(WordFault::Incomplete),
     }
 }

@@ -50,7 +50,7 @@ fn each_write_fails_in_turn(rt: HostRuntime) -> Result<(), Fail> {
             fails_at,
         };
         let mut err = Vec::new(alloc);
-        let status = serve(alloc, &request, &mut input, &mut out, &mut err);
+        let status = serve(&rt, alloc, &request, &mut input, &mut out, &mut err);
         assert!(rt; whole.starts_with(out.held.as_slice()), "write {fails_at}");
         if fails_at <= 6 {
             assert_eq!(rt; status, 3, "write {fails_at}");
@@ -98,7 +98,7 @@ fn a_failed_read_is_told(rt: HostRuntime) {
         let mut input = FaultyReader { reads: 0, fails_at };
         let mut out = Vec::new(alloc);
         let mut err = Vec::new(alloc);
-        let status = serve(alloc, &request, &mut input, &mut out, &mut err);
+        let status = serve(&rt, alloc, &request, &mut input, &mut out, &mut err);
         let wanted = if fails_at < 4 { 3 } else { 1 };
         assert_eq!(rt; status, wanted, "read {fails_at}");
     }

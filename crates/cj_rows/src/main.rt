@@ -1,26 +1,25 @@
-//! Runs rows of data: the program on the words and input of each, beside the output, the error text and the status that the row
-//! wants. The files that hold the rows are its arguments.
+//! Runs rows of data, and says which of them differ. The files that hold the rows are its arguments.
 #![tactic(auto)]
 
-mod fault;
-mod judge;
-mod row;
-mod run;
-mod tally;
-
-use judge::judge_text;
+use cj_judge::{Tally, judge_text};
 use std::io;
 use std::io::Write;
 use std::process::ExitCode;
-use tally::Tally;
+use std::sync::Wait;
+use std::thread::Threads;
 
 // Judges the rows of a file, and answers whether that went to its end.
-fn judge_file(rt: &HostRuntime, tally: &mut Tally, file: &str) -> io::Result<bool> {
+fn judge_file<T: Threads + Wait + Sync>(
+    threads: &T,
+    rt: &HostRuntime,
+    tally: &mut Tally,
+    file: &str,
+) -> io::Result<bool> {
     let Ok(text) = std::fs::read_to_string(rt, file) else {
         println!(rt; "{file}: can't be read")?;
         return Ok(false);
     };
-    match judge_text(rt.alloc(), tally, file, text.as_str()) {
+    match judge_text(threads, rt.alloc(), tally, file, text.as_str()) {
         Ok(()) => Ok(true),
         Err(misread) => {
             println!(rt; "{file}:{}: {}", misread.line, misread.fault)?;
@@ -30,7 +29,7 @@ fn judge_file(rt: &HostRuntime, tally: &mut Tally, file: &str) -> io::Result<boo
 }
 
 // Judges the rows of all the files, and answers whether none differs.
-fn judge_all(rt: &HostRuntime) -> io::Result<bool> {
+fn judge_all<T: Threads + Wait + Sync>(threads: &T, rt: &HostRuntime) -> io::Result<bool> {
     let alloc = rt.alloc();
     let args: Vec<String> = std::env::args(rt)?.collect(alloc)?;
     let mut tally = Tally {
@@ -40,7 +39,7 @@ fn judge_all(rt: &HostRuntime) -> io::Result<bool> {
     };
     let mut are_whole = true;
     for file in args.iter().skip(1) {
-        let is_whole = judge_file(rt, &mut tally, file.as_str())?;
+        let is_whole = judge_file(threads, rt, &mut tally, file.as_str())?;
         are_whole = are_whole && is_whole;
     }
     rt.stdout().write_all(tally.report.as_slice())?;
@@ -49,7 +48,7 @@ fn judge_all(rt: &HostRuntime) -> io::Result<bool> {
 }
 
 fn main(rt: HostRuntime) -> ExitCode {
-    match judge_all(&rt) {
+    match judge_all(&rt, &rt) {
         Ok(true) => ExitCode::SUCCESS,
         Ok(false) => ExitCode::from(1),
         Err(_) => ExitCode::from(3),

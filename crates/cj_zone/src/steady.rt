@@ -93,6 +93,8 @@ fn offset_by(rules: &Rules, at: Seconds) -> i64
 fn from_rules(rules: &Rules, at: Seconds) -> Stretch
     ensures offsets { IsStretch (rules_offset rules.now) result.one result.other at result.last }
     ensures last { at ≤ result.last }
+    ensures begins { result.first ≡ at }
+    ensures steady { result.other ≡ result.one }
 {
     let offset = offset_by(rules, at);
     Stretch {
@@ -108,6 +110,8 @@ fn from_rules(rules: &Rules, at: Seconds) -> Stretch
 pub fn steady_from(zone: &Zone, at: Seconds) -> Stretch
     ensures offsets { IsStretch (zone_offset zone.now) result.one result.other at result.last }
     ensures last { at ≤ result.last }
+    ensures begins { result.first ≡ at }
+    ensures steady { result.other ≡ result.one }
 {
     from_rules(&zone.rules, at)
 }

@@ -6,9 +6,11 @@ mod source;
 use cj_program::{Failure, parse_words, serve, tell_failure, tell_fault};
 use source::Input;
 use std::process::ExitCode;
+use std::sync::Wait;
+use std::thread::Threads;
 
 // Reads the words of the command line and serves what they ask for.
-fn run(rt: &HostRuntime) -> Result<u8, Failure> {
+fn run<T: Threads + Wait + Sync>(threads: &T, rt: &HostRuntime) -> Result<u8, Failure> {
     let alloc = rt.alloc();
     let args: Vec<String> = std::env::args(rt)?.collect(alloc)?;
     let mut words = Vec::new(alloc);
@@ -20,14 +22,14 @@ fn run(rt: &HostRuntime) -> Result<u8, Failure> {
     Ok(match parse_words(alloc, words.as_slice()) {
         Ok(request) => {
             let mut input = Input::open(rt, request.file());
-            serve(alloc, &request, &mut input, &mut out, &mut err)
+            serve(threads, alloc, &request, &mut input, &mut out, &mut err)
         }
         Err(fault) => tell_fault(alloc, &fault, &mut out, &mut err),
     })
 }
 
 fn main(rt: HostRuntime) -> ExitCode {
-    match run(&rt) {
+    match run(&rt, &rt) {
         Ok(status) => ExitCode::from(status),
         Err(failure) => ExitCode::from(tell_failure(failure, &mut rt.stderr())),
     }

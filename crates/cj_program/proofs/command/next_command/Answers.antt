@@ -5,7 +5,7 @@ use Rattle.cj_program.proofs.command.next_command.Goals as goal
 
 pub returns-clause-app : goal.returns-clause-app
 returns-clause-app c =
-    let bare = ap app_of_fields c.about.ensures ∙ c.new.ensures.app in
+    let bare = ap app_of_fields c.after_help.ensures ∙ (ap app_of_fields c.about.ensures ∙ c.new.ensures.app) in
     let one = c.in_ok-arg.ensures.shape c.schedule_arg.ensures.local ∙ ap₂ with_rule bare c.schedule_arg.ensures.rule in
     let two = c.in_ok-arg-2.ensures.shape c.after_arg.ensures.local ∙ ap₂ with_rule one c.after_arg.ensures.rule in
     let three = c.in_ok-arg-3.ensures.shape c.count_arg.ensures.local ∙ ap₂ with_rule two c.count_arg.ensures.rule in

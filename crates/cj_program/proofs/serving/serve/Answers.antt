@@ -24,3 +24,9 @@ returns-in-Replay-clause-served g c = λ lt. replayed_at c.args.request.now (g.R
 
 pub returns-in-Replay-clause-failed : goal.returns-in-Replay-clause-failed
 returns-in-Replay-clause-failed g c = λ e. failed_at c.args.request.now (g.R.Read.remaining c.args.input.now) _ _ _ _ _ c.in-Replay.is (c.serve_replay.ensures.failed e)
+
+pub returns-in-Run-clause-served : goal.returns-in-Run-clause-served
+returns-in-Run-clause-served g c = λ lt. served_at c.args.request.now (g.R.Read.remaining c.args.input.now) _ _ _ _ _ c.in-Run.is c.run_answer.result _ c.run_answer.ensures (c.give_answer-in-Run.ensures.given lt)
+
+pub returns-in-Run-clause-failed : goal.returns-in-Run-clause-failed
+returns-in-Run-clause-failed g c = λ e. failed_at c.args.request.now (g.R.Read.remaining c.args.input.now) _ _ _ _ _ c.in-Run.is (cut _ _ _ _ _ _ c.run_answer.result c.run_answer.ensures (c.give_answer-in-Run.ensures.failed e))

@@ -1,0 +1,54 @@
+-- What a row's run gives: what the program answers to its words and input.
+use Rattle.std.specs.Prelude.{◌≡◌, ◌⊎◌, ℕ, ◌<◌, List, ◌∷◌, Option, None, Some, codes}
+use Rattle.cj_program.specs.Answers.{IsOutcome}
+use Rattle.cj_program.specs.Command.{IsOf, RefusesWords, file_of}
+use Rattle.cj_program.specs.Outcome.{Outcome, status_of}
+use Rattle.cj_program.specs.Told.{Telling, Tells}
+use Rattle.cj_program.specs.declared.request.Request.{Request}
+use Rattle.cj_program.specs.declared.word_fault.WordFault.{WordFault}
+use Rattle.cj_judge.specs.declared.run.Seen.{Seen}
+
+-- the status, and the bytes on standard output and on standard error
+pub record Given : Type 0 where
+  pub status : ℕ
+  pub printed : List ℕ
+  pub said : List ℕ
+
+abbrev pub given_of : Seen → Given
+given_of s = record { status = s.status; printed = s.printed.items; said = s.said.items }
+
+-- an outcome of the request on that input
+pub record IsOutcomeOf (request : Request) (input : List ℕ) (g : Given) : Type 0 where
+  pub outcome : Outcome
+  pub answer : IsOutcome request (Some input) outcome
+  pub status : g.status ≡ status_of outcome.verdict
+  pub printed : g.printed ≡ outcome.printed
+  pub said : g.said ≡ outcome.said
+
+-- the request reads no file by its name, and a status below 3 comes with its outcome
+pub record IsAnswered (request : Request) (input : List ℕ) (g : Given) : Type 0 where
+  pub file : (file_of request ≡ None) ⊎ (file_of request ≡ Some (codes "-"))
+  pub outcome : g.status < 3 → IsOutcomeOf request input g
+
+-- what is told of words that are no request
+pub record IsTelling (fault : WordFault) (g : Given) : Type 0 where
+  pub telling : Telling
+  pub tells : Tells fault telling
+  pub status : g.status ≡ telling.status
+  pub printed : g.printed ≡ telling.printed
+  pub said : g.said ≡ telling.said
+
+-- a status below 3 comes with it
+abbrev pub IsToldOf : WordFault → Given → Type 0
+IsToldOf fault g = g.status < 3 → IsTelling fault g
+
+-- the words, the program's name first, are a request that is answered so, or are refused and that is told
+abbrev pub IsRunOf : List (List ℕ) → List ℕ → Given → Type 0
+IsRunOf words input g =
+    ((request : Request) × IsOf words request × IsAnswered request input g)
+    ⊎ ((fault : WordFault) × RefusesWords words fault × IsToldOf fault g)
+
+-- the same of a row's words
+-- rule: rows
+abbrev pub IsRun : List (List ℕ) → List ℕ → Given → Type 0
+IsRun words input g = IsRunOf (codes "cronsim" ∷ words) input g

@@ -1,0 +1,100 @@
+// Running a row.
+ghost use Rattle.std.specs.Prelude.{◌≡◌, ◌⊎◌, map, None, Some, IfOk, OnOk, codes};
+ghost use Rattle.cj_program.specs.Command.{file_of};
+ghost use Rattle.cj_judge.specs.Row.{stated_of};
+ghost use Rattle.cj_judge.specs.Run.{IsAnswered, IsRun, IsRunOf, IsToldOf, given_of};
+
+use crate::fault::Fault;
+use crate::row::Row;
+use cj_program::{Request, WordFault, parse_words, serve, tell_fault};
+use std::alloc::Global;
+use std::sync::Wait;
+use std::thread::Threads;
+
+/// What a run gave.
+#[derive(Debug, Drop)]
+pub struct Seen {
+    pub status: u8,
+    pub printed: Vec<u8>,
+    pub said: Vec<u8>,
+}
+
+// That a request reads what it is given, and no file by its name.
+fn reads_input(request: &Request<'_>) -> Result<(), Fault>
+    ensures { OnOk result ((file_of request.now ≡ None) ⊎ (file_of request.now ≡ Some (codes "-"))) }
+{
+    match request.file() {
+        None => Ok(()),
+        Some(name) => {
+            if name == "-" {
+                Ok(())
+            } else {
+                Err(Fault::NamesFile)
+            }
+        }
+    }
+}
+
+// What a request that reads no file by its name is answered on that input.
+fn served<T: Threads + Wait + Sync>(
+    rt: &T,
+    alloc: Global,
+    request: &Request<'_>,
+    input: &str,
+) -> Result<Seen, Fault>
+    ensures { IfOk result (λ s. IsAnswered request.now input.now (given_of s)) }
+{
+    reads_input(request)?;
+    let mut input: &[u8] = input.as_bytes();
+    let mut printed = Vec::new(alloc);
+    let mut said = Vec::new(alloc);
+    let status = serve(rt, alloc, request, &mut input, &mut printed, &mut said);
+    Ok(Seen {
+        status,
+        printed,
+        said,
+    })
+}
+
+// What is told of words that are no request.
+fn told(alloc: Global, fault: &WordFault) -> Seen
+    ensures { IsToldOf fault.now (given_of result) }
+{
+    let mut printed = Vec::new(alloc);
+    let mut said = Vec::new(alloc);
+    let status = tell_fault(alloc, fault, &mut printed, &mut said);
+    Seen {
+        status,
+        printed,
+        said,
+    }
+}
+
+// Runs the program on these words, its own name first, and that input.
+fn run_words<T: Threads + Wait + Sync>(
+    rt: &T,
+    alloc: Global,
+    words: &[&str],
+    input: &str,
+) -> Result<Seen, Fault>
+    ensures { IfOk result (λ s. IsRunOf (map (λ w. w.now) words.entry.now) input.now (given_of s)) }
+{
+    match parse_words(alloc, words) {
+        Ok(request) => served(rt, alloc, &request, input),
+        Err(fault) => Ok(told(alloc, &fault)),
+    }
+}
+
+/// Runs the program on a row's words and input.
+pub fn run_row<T: Threads + Wait + Sync>(
+    rt: &T,
+    alloc: Global,
+    row: &Row<'_>,
+) -> Result<Seen, Fault>
+    ensures { IfOk result (λ s. IsRun (stated_of row.now).words (stated_of row.now).input (given_of s)) }
+{
+    let mut words = Vec::new(alloc);
+    words.push("cronsim")?;
+    words.extend_from_slice(row.words.as_slice())?;
+    run_words(rt, alloc, words.as_slice(), row.input)
+}

@@ -1,0 +1,7 @@
+use Rattle.std.proofs.Common.{take}
+use mathlib.Core.List.{reverse}
+use Rattle.cj_lines.specs.Tellings.{Knows}
+use Rattle.cj_lines.proofs.tellings.Tellings.read.Given as goal
+
+abbrev pub invariant-loop-entry : goal.invariant-loop-entry
+invariant-loop-entry l = Knows l.tellings (reverse (take l.entry-index l.entries))

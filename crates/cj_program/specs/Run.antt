@@ -1,0 +1,36 @@
+-- What `run` answers of a scenario.
+use Rattle.std.specs.Prelude.{◌≡◌, ◌≢◌, ◌⊎◌, ℕ, ◌≤◌, List, length, Option, IfSome}
+use Rattle.cj_scenario.specs.declared.fault.SceneFault.{SceneFault}
+use Rattle.cj_scenario.specs.declared.fault.SceneFault.TheVariants as Why
+use Rattle.cj_course.specs.Courses.{IsCourse, IsRefusedCourse}
+use Rattle.cj_course.specs.declared.course.Course.{Course}
+use Rattle.cj_run.specs.Runs.{IsRun}
+use Rattle.cj_program.specs.Outcome.{Outcome, done, refusal}
+use Rattle.cj_program.specs.Plan.{scene_line}
+
+-- the bytes are no scenario of a run, for another cause than memory
+pub record RefusesCourse (bytes : List ℕ) (o : Outcome) : Type 0 where
+  pub fault : SceneFault
+  pub refused : IsRefusedCourse bytes fault
+  pub told : fault ≢ Why.Memory
+  pub answer : o ≡ refusal (scene_line fault)
+
+-- the report of a run of the scenario that they are
+pub record PrintsReport (bytes : List ℕ) (o : Outcome) : Type 0 where
+  pub course : Course
+  pub said : IsCourse bytes course
+  pub text : List ℕ
+  pub run : IsRun course text
+  pub answer : o ≡ done text
+
+-- what the bytes are answered
+abbrev pub IsRanOf : List ℕ → Outcome → Type 0
+IsRanOf bytes o = RefusesCourse bytes o ⊎ PrintsReport bytes o
+
+-- what `run` answers, where the input is known: all of it is read
+-- rule: run
+pub record IsRunOutcome (input : Option (List ℕ)) (o : Outcome) : Type 0 where
+  pub bytes : List ℕ
+  pub bytes_are : IfSome input (λ xs. bytes ≡ xs)
+  pub fits : length bytes ≤ 16_777_216
+  pub ran : IsRanOf bytes o

@@ -1,0 +1,41 @@
+-- The report of a run in which the user did what the scenario says.
+use Rattle.std.proofs.Common.{◌≡◌, ◌+◌, ◌<◌, ◌∙◌, ℕ, List, [], ◌∷◌, ◌++◌, length, refl, sym, ap, subst, arith}
+use Rattle.std.specs.Prelude.{All, slice_index_or}
+use Rattle.std.proofs.lemmas.List.{length-append}
+use Rattle.cj_calls.specs.Rows.{Told}
+use Rattle.cj_hub.specs.Receipts.{IsExact, PassView, placed}
+use Rattle.cj_hub.specs.declared.receipt.Receipt.{Receipt}
+use Rattle.cj_course.specs.declared.course.Course.{Course}
+use Rattle.cj_run.specs.Courses.{acts_below}
+use Rattle.cj_run.specs.Deeds.{AreDone, AreOf, Does, HasPlayed}
+use Rattle.cj_run.specs.Runs.{IsReport, IsRun}
+
+last_at : {X : Type 0} (xs : List X) (x d : X) → slice_index_or (xs ++ x ∷ []) (length xs) d ≡ x
+last_at [] x d = refl
+last_at (y ∷ xs) x d = last_at xs x d
+
+last_of_all : {X : Type 0} (P : X → Type 0) (xs : List X) (x : X) → All P (xs ++ x ∷ []) → P x
+last_of_all P xs x all = subst P (last_at xs x x) (all (length xs) x (omega (arith, length-append xs (x ∷ []))))
+
+-- the receipts of a pass that had none are the new ones
+news_alone : (c : Course) (h : List Told) (p p' : PassView) (n : ℕ) → p.receipts ≡ [] → (d : Does c.zones (acts_below c n) p p') → IsExact h p' → AreOf c.zones (acts_below c n) (placed p'.number h)
+news_alone c h p p' n none d exact =
+    subst (λ (rs : List Receipt). AreOf c.zones (acts_below c n) rs)
+    (ap (λ (rs : List Receipt). rs ++ d.news) (sym none) ∙ ap (λ (q : PassView). q.receipts) (sym d.kept) ∙ exact)
+    d.are
+
+pub played_report : (c : Course) (p p' : PassView) (others : List PassView) (text : List ℕ) → p.receipts ≡ [] → HasPlayed c p p' → IsReport (others ++ p' ∷ []) text → IsRun c text
+played_report c p p' others text none h r = record {
+  window = r.window;
+  history = r.history;
+  promise = r.promise;
+  instants = h.instants;
+  all = h.all;
+  user = p'.number;
+  did = news_alone c r.history p p' h.instants none h.did (last_of_all (IsExact r.history) others p' r.exact);
+  printed = r.printed;
+}
+
+pub done_report : (c : Course) (ps : List PassView) (text : List ℕ) → AreDone c ps → IsReport ps text → IsRun c text
+done_report c ps text done r =
+    played_report c done.3.0 done.1 done.0 text done.3.1 done.3.2 (subst (λ (qs : List PassView). IsReport qs text) done.2 r)

@@ -1,0 +1,6 @@
+use Rattle.cj_run.specs.Courses.{acts_below}
+use Rattle.cj_run.specs.Deeds.{Does}
+use Rattle.cj_run.proofs.drive.drive.Given as goal
+
+abbrev pub invariant-loop-n : goal.invariant-loop-n
+invariant-loop-n g l = Does l.course.zones (acts_below l.course l.n) l.fn.cast.user l.cast.user

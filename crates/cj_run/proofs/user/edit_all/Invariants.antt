@@ -1,0 +1,7 @@
+use Rattle.std.proofs.Common.{take}
+use Rattle.cj_run.specs.Courses.{edits_at}
+use Rattle.cj_run.specs.Deeds.{Does}
+use Rattle.cj_run.proofs.user.edit_all.Given as goal
+
+abbrev pub invariant-loop-one : goal.invariant-loop-one
+invariant-loop-one g l = Does l.zones (edits_at (take l.one-index l.edits) l.now) l.initial.user l.user

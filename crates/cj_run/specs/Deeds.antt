@@ -1,0 +1,43 @@
+-- What was done through a pass.
+use Rattle.std.specs.Prelude.{◌≡◌, ◌<◌, ◌↔◌, ℕ, List, [], ◌∷◌, ◌++◌}
+use Rattle.std.specs.List.{AllZip}
+use Rattle.cj_zone.specs.declared.table.ZoneTable.{ZoneTable}
+use Rattle.cj_calls.specs.declared.call.Call.{Call}
+use Rattle.cj_acts.specs.declared.act.Act.{Act}
+use Rattle.cj_hub.specs.Receipts.{IsReceipt, PassView}
+use Rattle.cj_hub.specs.declared.receipt.Receipt.{Receipt}
+use Rattle.cj_replay.specs.Calls.{IsUnseenCall}
+use Rattle.cj_course.specs.Spans.{IsInstant}
+use Rattle.cj_course.specs.declared.course.Course.{Course}
+use Rattle.cj_run.specs.Courses.{acts_below}
+
+-- the call was entered, and the pass got its receipt
+pub record Called (call : Call) (p p' : PassView) : Type 0 where
+  pub receipt : Receipt
+  pub is : IsReceipt p call receipt p'
+
+-- each receipt is of the call of its act
+abbrev pub AreOf : ZoneTable → List Act → List Receipt → Type 0
+AreOf zones acts rs = AllZip (λ act r. IsUnseenCall zones act r.entry.call) acts rs
+
+-- the pass got one receipt for each of the acts, in their order
+-- rule: run-edits
+pub record Does (zones : ZoneTable) (acts : List Act) (p p' : PassView) : Type 0 where
+  pub news : List Receipt
+  pub kept : p' ≡ record p { receipts = p.receipts ++ news }
+  pub are : AreOf zones acts news
+
+-- the user did all that the scenario says, up to the clock's last instant
+-- rule: run-edits
+pub record HasPlayed (c : Course) (p p' : PassView) : Type 0 where
+  pub instants : ℕ
+  pub all : (n : ℕ) → (n < instants) ↔ IsInstant c.span n
+  pub did : Does c.zones (acts_below c instants) p p'
+
+-- a user who had done nothing before did so
+abbrev pub HasDone : Course → PassView → Type 0
+HasDone c p' = (p : PassView) × (p.receipts ≡ []) × HasPlayed c p p'
+
+-- the last of the passes is such a user's
+abbrev pub AreDone : Course → List PassView → Type 0
+AreDone c ps = (others : List PassView) × (user : PassView) × (ps ≡ others ++ user ∷ []) × HasDone c user

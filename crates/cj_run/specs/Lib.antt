@@ -1,0 +1,5 @@
+pub mod Courses
+pub mod Deeds
+pub mod Made
+pub mod Readings
+pub mod Runs

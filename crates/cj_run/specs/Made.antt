@@ -1,0 +1,66 @@
+-- Which run each Job takes that a CronJob makes.
+use Rattle.std.specs.Prelude.{ℕ, ◌+◌, ◌^◌, ◌-◌, nat_lt, min, List, [], ◌∷◌, ◌++◌, Option, Some, None, bytes_eq, if◌then◌else◌}
+use Rattle.std.specs.FinMap as map
+use Rattle.cj_types.specs.Keys.{Place, place_cmp}
+use Rattle.cj_types.specs.Owners.{controller_of}
+use Rattle.cj_types.specs.declared.job.Job.{Job}
+use Rattle.cj_types.specs.declared.owners.OwnerRef.{OwnerRef}
+use Rattle.cj_course.specs.Runs.{RunTable, run_of}
+use Rattle.cj_course.specs.declared.run.Run.{Run}
+use Rattle.cj_informer.specs.Informs.{key_of_job}
+use Rattle.cj_runner.specs.declared.running.Running.{Running}
+use Rattle.cj_run.specs.declared.made.Count.{Count}
+
+-- how many Jobs the CronJob with each key made, and that CronJob's uid
+abbrev pub Counts : Type 0
+Counts = map.FinMap place_cmp Count
+
+-- what was noted of the Jobs that were made: how many of each CronJob, and those that run and will end
+pub record Notes : Type 0 where
+  pub counts : Counts
+  pub running : List Running
+
+abbrev pub notes : Counts → List Running → Notes
+notes counts running = record { counts = counts; running = running }
+
+-- how many Jobs a CronJob with this uid made before
+-- rule: run-jobs
+abbrev pub made_before : Option Count → List ℕ → ℕ
+made_before None uid = 0
+made_before (Some count) uid = if bytes_eq count.uid uid then count.jobs else 0
+
+-- the count after one Job more, which stays at the last that is counted
+abbrev pub counted : List ℕ → ℕ → Count
+counted uid before = record { uid = uid; jobs = min (before + 1) (2 ^ 64 - 1) }
+
+-- the Job as it runs
+-- rule: run-jobs
+abbrev pub running_as : ℕ → Job → Run → Running
+running_as now job run = record { key = job.key; uid = job.meta.uid; made = now; seconds = run.seconds; end = run.end }
+
+-- those that run, with one more where it ends at all
+abbrev pub with_run : List Running → ℕ → Job → Option Run → List Running
+with_run rs now job None = rs
+with_run rs now job (Some run) = rs ++ running_as now job run ∷ []
+
+-- a Job of the CronJob with this key and uid is noted: it takes the run of its number
+-- rule: run-jobs
+abbrev pub noted_of : RunTable → ℕ → Job → Place → List ℕ → Notes → Notes
+noted_of runs now job key uid n =
+    let before = made_before (map.get n.counts key) uid in
+    notes (map.insert n.counts key (counted uid before)) (with_run n.running now job (run_of runs key before))
+
+-- a Job is noted that was made at the moment; one that no CronJob made isn't
+abbrev pub noted_by : RunTable → ℕ → Job → Option Place → Option OwnerRef → Notes → Notes
+noted_by runs now job (Some key) (Some owner) n = noted_of runs now job key owner.uid n
+noted_by runs now job None owner n = n
+noted_by runs now job (Some key) None n = n
+
+abbrev pub noted : RunTable → ℕ → Job → Notes → Notes
+noted runs now job n = noted_by runs now job (key_of_job job) (controller_of job.owners) n
+
+-- those of a listing whose uid is above the last that was noted before
+-- rule: run-jobs
+abbrev pub noted_all : RunTable → ℕ → ℕ → List Job → Notes → Notes
+noted_all runs now last [] n = n
+noted_all runs now last (job ∷ jobs) n = noted_all runs now last jobs (if nat_lt last job.meta.uid then noted runs now job n else n)

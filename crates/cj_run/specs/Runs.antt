@@ -1,0 +1,35 @@
+-- What a run reports.
+use Rattle.std.specs.Prelude.{◌≡◌, ◌<◌, ◌↔◌, ℕ, List, All}
+use Rattle.cj_calls.specs.Rows.{Told}
+use Rattle.cj_hub.specs.Receipts.{IsExact, PassView, placed}
+use Rattle.cj_course.specs.Spans.{IsInstant}
+use Rattle.cj_course.specs.declared.course.Course.{Course}
+use Rattle.cj_replay.specs.Replays.{KeepsPromise, report_of}
+use Rattle.cj_run.specs.Courses.{acts_below}
+use Rattle.cj_run.specs.Deeds.{AreOf}
+
+-- each pass's entries of the history are its receipts
+abbrev pub IsClosed : List PassView → ℕ → List Told → Type 0
+IsClosed passes window h = All (IsExact h) passes
+
+-- the text is the report of a history, which keeps what is promised of every history, and of which each pass's entries are its receipts
+-- rule: run-report
+pub record IsReport (passes : List PassView) (text : List ℕ) : Type 0 where
+  pub window : ℕ
+  pub history : List Told
+  pub promise : KeepsPromise window history
+  pub exact : All (IsExact history) passes
+  pub printed : text ≡ report_of window history
+
+-- the text is the report of a history, which keeps what is promised of every history, and in which the user did just what the scenario says:
+-- the CronJobs were created, and then each edit was made, in the order of its instants
+-- rules: run-edits, run-report
+pub record IsRun (c : Course) (text : List ℕ) : Type 0 where
+  pub window : ℕ
+  pub history : List Told
+  pub promise : KeepsPromise window history
+  pub instants : ℕ
+  pub all : (n : ℕ) → (n < instants) ↔ IsInstant c.span n
+  pub user : ℕ
+  pub did : AreOf c.zones (acts_below c instants) (placed user history)
+  pub printed : text ≡ report_of window history

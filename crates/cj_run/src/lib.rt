@@ -1,0 +1,13 @@
+//! The whole controller: workers, runners and an informer at one hub, under a clock that moves on only where all is at rest.
+#![tactic(auto)]
+
+mod clock;
+mod drive;
+mod ends;
+mod made;
+mod rest;
+mod run;
+mod stage;
+mod user;
+
+pub use run::run_course;

@@ -1,0 +1,149 @@
+// Which Jobs were made, and how long each of them runs.
+ghost use Rattle.std.specs.Prelude.{◌≡◌, [], None, OnOk, IfOk, IfErr, nat_lt, if◌then◌else◌, option_copied, option_map};
+ghost use Rattle.std.specs.FinMap as map;
+ghost use Rattle.cj_base.specs.declared.refusal.Refusal.TheVariants.{OutOfMemory};
+ghost use Rattle.cj_run.specs.Made.{counted, made_before, noted, noted_all, notes, with_run};
+
+use cj_base::{Refusal, Text, TryCopy};
+use cj_course::{Run, Runs};
+use cj_informer::owner_key;
+use cj_runner::Running;
+use cj_table::Table;
+use cj_types::{Job, Key, Seconds, Shared};
+use std::alloc::Global;
+
+/// How many Jobs the CronJob with this uid made.
+#[derive(Drop)]
+pub(crate) struct Count {
+    pub uid: Text,
+    pub jobs: u64,
+}
+
+/// What was noted of the Jobs that were made.
+#[derive(Drop)]
+pub(crate) struct Made {
+    // The count in the uid of the last Job that was noted, 0 before the first.
+    last: u64,
+    counts: Table<Count>,
+    /// The Jobs that run and will end.
+    pub running: Vec<Running>,
+}
+
+// How many of the Jobs a CronJob with this uid made.
+fn jobs_of(count: Option<&Count>, uid: &Text) -> u64
+    ensures { result ≡ made_before (option_copied count.entry) uid.now }
+{
+    match count {
+        Some(count) if count.uid.as_str() == uid.as_str() => count.jobs,
+        _ => 0,
+    }
+}
+
+impl Made {
+    /// Nothing was made.
+    pub(crate) fn new(alloc: Global) -> Made {
+        Made {
+            last: 0,
+            counts: Table::new(alloc),
+            running: Vec::new(alloc),
+        }
+    }
+
+    // Counts a Job of the CronJob with this key and uid, and answers how many it made before.
+    fn count(&mut self, alloc: Global, key: Key, uid: &Text) -> Result<u64, Refusal>
+        ensures before { IfOk result (λ n. n ≡ made_before (map.get self.old.counts key) uid.now) }
+        ensures counts { IfOk result (λ n. self.new.counts ≡ map.insert self.old.counts key (counted uid.now n)) }
+        ensures running { self.new.running ≡ self.old.running }
+        ensures err { IfErr result (λ e. e ≡ OutOfMemory) }
+    {
+        let before = jobs_of(self.counts.get(&key), uid);
+        let count = Count {
+            uid: uid.try_copy(alloc)?,
+            jobs: before.saturating_add(1),
+        };
+        self.counts.insert(key, count)?;
+        Ok(before)
+    }
+
+    // A Job more that runs, where it ends at all.
+    fn start(
+        &mut self,
+        alloc: Global,
+        now: Seconds,
+        job: &Job,
+        run: Option<Run>,
+    ) -> Result<(), Refusal>
+        ensures running { OnOk result (self.new.running.items ≡ with_run self.old.running.items now job.now run) }
+        ensures counts { self.new.counts ≡ self.old.counts }
+        ensures err { IfErr result (λ e. e ≡ OutOfMemory) }
+    {
+        let Some(run) = run else {
+            return Ok(());
+        };
+        let running = Running {
+            key: job.key.try_copy(alloc)?,
+            uid: job.meta.uid,
+            made: now,
+            seconds: run.seconds,
+            end: run.end,
+        };
+        self.running.push(running).map_err(|_| Refusal::OutOfMemory)
+    }
+
+    // Notes a Job that was made at the moment.
+    fn note(&mut self, alloc: Global, runs: &Runs, now: Seconds, job: &Job) -> Result<(), Refusal>
+        ensures ok { OnOk result (notes self.new.counts self.new.running.items ≡ noted runs.now now job.now (notes self.old.counts self.old.running.items)) }
+        ensures err { IfErr result (λ e. e ≡ OutOfMemory) }
+    {
+        let Some(key) = owner_key(alloc, job)? else {
+            return Ok(());
+        };
+        let Some(owner) = job.owners.controller() else {
+            return Ok(());
+        };
+        let place = key.try_copy(alloc)?;
+        let before = self.count(alloc, key, &owner.uid)?;
+        self.start(alloc, now, job, runs.of(&place, before))
+    }
+
+    // Notes a Job of a listing, unless it was noted before.
+    fn note_new(
+        &mut self,
+        alloc: Global,
+        runs: &Runs,
+        now: Seconds,
+        noted_before: u64,
+        job: &Job,
+    ) -> Result<(), Refusal>
+        ensures ok { OnOk result (notes self.new.counts self.new.running.items
+            ≡ (if nat_lt noted_before job.now.meta.uid then noted runs.now now job.now (notes self.old.counts self.old.running.items) else notes self.old.counts self.old.running.items)) }
+        ensures err { IfErr result (λ e. e ≡ OutOfMemory) }
+    {
+        let uid = job.meta.uid.get();
+        if noted_before < uid {
+            self.last = self.last.max(uid);
+            self.note(alloc, runs, now, job)
+        } else {
+            Ok(())
+        }
+    }
+
+    /// Notes the Jobs of a listing that weren't noted before, which were made at the moment.
+    pub(crate) fn note_all(
+        &mut self,
+        alloc: Global,
+        runs: &Runs,
+        now: Seconds,
+        jobs: &[Shared<Job>],
+    ) -> Result<(), Refusal>
+        ensures ok { OnOk result (notes self.new.counts self.new.running.items
+            ≡ noted_all runs.now now self.old.last jobs.now (notes self.old.counts self.old.running.items)) }
+        ensures err { IfErr result (λ e. e ≡ OutOfMemory) }
+    {
+        let noted_before = self.last;
+        for job in jobs {
+            self.note_new(alloc, runs, now, noted_before, job)?;
+        }
+        Ok(())
+    }
+}

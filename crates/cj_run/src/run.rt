@@ -1,0 +1,212 @@
+// A run, from its scenario to its report.
+ghost use Rattle.std.specs.Prelude.{◌≡◌, List, [], ◌∷◌, ◌++◌, IfOk, IsOk, OnOk, string_bytes};
+ghost use Rattle.cj_replay.specs.Replays.{KeepsPromise, report_of};
+ghost use Rattle.cj_hub.specs.Receipts.{PassView};
+ghost use Rattle.cj_run.specs.Deeds.{AreDone, HasDone};
+ghost use Rattle.cj_run.specs.Runs.{IsClosed, IsReport, IsRun};
+
+use crate::clock::RunClock;
+use crate::drive::Cast;
+use crate::made::Made;
+use crate::rest::{Follower, Halt};
+use crate::stage::{Staged, stage};
+use cj_calls::Role;
+use cj_course::Course;
+use cj_hub::{Closed, Hub, HubState, Pass};
+use cj_informer::Informer;
+use cj_output::Failure;
+use cj_replay::report_text;
+use cj_types::{Heap, Limits, Max, Refusal};
+use cj_worker::{SyncEnd, WorkerEnd};
+use std::alloc::Global;
+use std::sync::Wait;
+use std::thread::Threads;
+
+// How many runners a run has.
+const RUNNERS: u64 = 2;
+
+// So many passes of a role.
+fn enroll<R: Wait>(
+    rt: &R,
+    alloc: Global,
+    hub: &Hub,
+    role: Role,
+    count: u64,
+) -> Result<Vec<Pass>, Refusal> {
+    let mut passes = Vec::new(alloc);
+    for _ in 0..count {
+        let pass = hub.enroll(rt, role)?;
+        passes.push(pass).map_err(|_| Refusal::OutOfMemory)?;
+    }
+    Ok(passes)
+}
+
+fn new_follower<R: Wait>(rt: &R, alloc: Global, hub: &Hub) -> Result<Follower, Refusal> {
+    let max = Max::new(500).unwrap();
+    Ok(Follower {
+        informer: Informer::new(alloc, max),
+        pass: hub.enroll(rt, Role::Informer)?,
+    })
+}
+
+fn new_cast<R: Wait>(rt: &R, alloc: Global, hub: &Hub) -> Result<Cast, Refusal>
+    ensures { IfOk result (λ c. c.user.receipts ≡ []) }
+{
+    let runners = enroll(rt, alloc, hub, Role::Runner, RUNNERS)?;
+    let follower = new_follower(rt, alloc, hub)?;
+    Ok(Cast {
+        user: hub.enroll(rt, Role::User)?,
+        follower,
+        runners,
+        made: Made::new(alloc),
+    })
+}
+
+// Whether a worker found the history full.
+fn found_full(end: &WorkerEnd) -> bool {
+    matches!(&end.end, SyncEnd::Broken(Refusal::HistoryFull))
+}
+
+// Why workers gave up.
+fn failure_of(ends: &Result<Vec<WorkerEnd>, Refusal>) -> Failure {
+    match ends {
+        Ok(ends) => {
+            if ends.as_slice().iter().any(found_full) {
+                Failure::HistoryFull
+            } else {
+                Failure::Memory
+            }
+        }
+        Err(_) => Failure::Memory,
+    }
+}
+
+// Why the instants were not all lived through, or were in vain since a worker gave up.
+fn judge<R: Wait>(rt: &R, hub: &Hub, staged: &Staged) -> Result<(), Failure>
+    ensures { OnOk result (IsOk staged.now.driven) }
+{
+    match &staged.driven {
+        Err(Halt::Refused(Refusal::HistoryFull)) => Err(Failure::HistoryFull),
+        Err(Halt::Refused(_)) => Err(Failure::Memory),
+        Err(Halt::GivenUp) => Err(failure_of(&staged.ends)),
+        Ok(()) => match hub.state(rt, staged.cast.follower.informer.seen()) {
+            HubState::Broken => Err(failure_of(&staged.ends)),
+            _ => Ok(()),
+        },
+    }
+}
+
+// All passes of a run, the user's last.
+fn passes_of(
+    alloc: Global,
+    cast: Cast,
+    ends: Result<Vec<WorkerEnd>, Refusal>,
+) -> Result<Vec<Pass>, Failure>
+    ensures { IfOk result (λ ps. (others : List PassView) × (ps.items ≡ others ++ cast.user ∷ [])) }
+{
+    let ends = ends?;
+    let Cast {
+        user,
+        follower,
+        runners,
+        made: _,
+    } = cast;
+    let mut passes = Vec::new(alloc);
+    passes.push(follower.pass)?;
+    for runner in runners {
+        passes.push(runner)?;
+    }
+    for end in ends {
+        passes.push(end.pass)?;
+    }
+    passes.push(user)?;
+    Ok(passes)
+}
+
+#[tactic(auto, unfolding(cj_replay::specs::Replays::report_of))]
+fn closed_report(alloc: Global, closed: &Closed) -> Result<String, Refusal>
+    ensures { IfOk result (λ s. string_bytes s ≡ report_of closed.now.limits.window closed.now.history) }
+{
+    let (crons, jobs) = closed.objects()?;
+    report_text(alloc, crons.as_slice(), jobs.as_slice(), closed.history())
+}
+
+// Closes the hub with these passes.
+fn close(alloc: Global, hub: Heap<Hub>, passes: Vec<Pass>) -> Result<Heap<Closed>, Failure>
+    ensures { IfOk result (λ c. IsClosed passes.items c.limits.window c.history) }
+{
+    match hub.into_inner().close(passes) {
+        Ok(closed) => Ok(Heap::new(alloc, closed)?),
+        Err(_) => Err(Failure::Memory),
+    }
+}
+
+// What is promised of every closed history.
+fn promised(closed: &Closed)
+    ensures { KeepsPromise closed.now.limits.window closed.now.history }
+{
+    closed.history();
+}
+
+// Closes the hub, and reports of its history.
+fn report(alloc: Global, hub: Heap<Hub>, passes: Vec<Pass>) -> Result<String, Failure>
+    ensures { IfOk result (λ s. IsReport passes.items (string_bytes s)) }
+{
+    let closed = close(alloc, hub, passes)?;
+    promised(closed.get());
+    let text = closed_report(alloc, closed.get())?;
+    Ok(text)
+}
+
+// The threads of a run on the hub.
+fn staged<R: Threads + Wait + Sync>(
+    rt: &R,
+    alloc: Global,
+    hub: &Hub,
+    course: &Course,
+    workers: u64,
+) -> Result<Heap<Staged>, Refusal>
+    ensures { IfOk result (λ s. OnOk s.driven (HasDone course.now s.cast.user)) }
+{
+    let passes = enroll(rt, alloc, hub, Role::Worker, workers)?;
+    let cast = new_cast(rt, alloc, hub)?;
+    let clock = RunClock::new(course.span);
+    Heap::new(alloc, stage(rt, alloc, hub, &clock, course, cast, passes))
+}
+
+// What a run on the hub leaves: all its passes, the user's last.
+fn played<R: Threads + Wait + Sync>(
+    rt: &R,
+    alloc: Global,
+    hub: &Hub,
+    course: &Course,
+    workers: u64,
+) -> Result<Vec<Pass>, Failure>
+    ensures { IfOk result (λ ps. AreDone course.now ps.items) }
+{
+    let staged = staged(rt, alloc, hub, course, workers)?;
+    judge(rt, hub, staged.get())?;
+    let Staged { cast, ends, .. } = staged.into_inner();
+    passes_of(alloc, cast, ends)
+}
+
+/// Runs a scenario on an empty world with so many workers, and gives the report of the end: a line for each object and for each
+/// reason that the history tells.
+///
+/// At each instant the Jobs end whose time has come, then the user's edits are made, and then the informer and the workers go
+/// on until the hub is at rest; only then does the clock move. Each thread has ended when this returns. There is no report
+/// where a call found the history full, or where memory was wanting or a thread couldn't be started.
+#[tactic(auto, using(crate::proofs::Ran::done_report))]
+pub fn run_course<R: Threads + Wait + Sync>(
+    rt: &R,
+    alloc: Global,
+    course: &Course,
+    workers: u64,
+) -> Result<String, Failure>
+    ensures { IfOk result (λ s. IsRun course.now (string_bytes s)) }
+{
+    let limits = Limits::new(16_777_216, 1_000).unwrap();
+    let hub = Heap::new(alloc, Hub::new(alloc, limits)?)?;
+    let passes = played(rt, alloc, hub.get(), course, workers)?;
+    report(alloc, hub, passes)
+}
