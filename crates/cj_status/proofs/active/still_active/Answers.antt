@@ -1,4 +1,4 @@
-use Rattle.std.proofs.Common.{◌≡◌, ◌∙◌, ap, sym, subst, refl, ℕ, ◌+◌, ◌<◌, zero, suc, Bool, true, false, cond, List, [], ◌∷◌, ◌++◌, drop, length, Option, None, Some, arith, append_assoc, add-one, get_or}
+use Rattle.std.proofs.Common.{◌≡◌, ◌∙◌, ap, sym, refl, ℕ, ◌+◌, ◌<◌, zero, suc, Bool, true, false, cond, List, [], ◌∷◌, ◌++◌, drop, length, Option, None, arith, append_assoc, add-one, get_or}
 use Rattle.std.proofs.Math.Seq.{drop-cons}
 use Rattle.cj_types.specs.declared.job.Job.{Job}
 use Rattle.cj_status.specs.Active.{is_found, still_active}

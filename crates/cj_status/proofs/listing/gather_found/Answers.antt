@@ -1,4 +1,4 @@
-use Rattle.std.proofs.Common.{◌≡◌, ◌∙◌, ap, sym, subst, refl, ℕ, ◌+◌, ◌<◌, suc, Bool, true, false, cond, List, [], ◌∷◌, ◌++◌, drop, length, map, filter, Option, None, Some, arith, append_assoc, add-one, get_or}
+use Rattle.std.proofs.Common.{◌≡◌, ◌∙◌, ap, sym, refl, ℕ, ◌+◌, ◌<◌, suc, Bool, true, false, cond, List, [], ◌∷◌, ◌++◌, drop, length, map, filter, Option, None, Some, arith, append_assoc, add-one, get_or}
 use Rattle.std.proofs.Math.Seq.{drop-cons}
 use Rattle.cj_types.specs.declared.job.Job.{Job}
 use Rattle.cj_status.specs.declared.refs.JobRef.{JobRef}
