@@ -1,5 +1,5 @@
 -- Two statuses are equal or not, so there is a plan.
-use Rattle.std.proofs.Common.{◌≡◌, ◌∙◌, ◌⊎◌, inl, inr, ap, sym, subst, refl, ℕ, nat_eq, Bool, true, false, List, [], ◌∷◌, Option, None, Some, eq-eqb}
+use Rattle.std.proofs.Common.{◌≡◌, ◌⊎◌, inl, inr, ap, sym, subst, refl, ℕ, nat_eq, Bool, true, false, List, [], ◌∷◌, Option, None, Some, eq-eqb}
 use Rattle.std.proofs.lemmas.Bool.{eqb-true}
 use Rattle.cj_types.specs.declared.cron.CronJob.{CronJob}
 use Rattle.cj_types.specs.declared.cron.CronStatus.{CronStatus}
@@ -10,7 +10,7 @@ use Rattle.cj_decide.specs.declared.steps.Steps.{Steps}
 use Rattle.cj_decide.specs.declared.verdict.Verdict.{Verdict}
 use Rattle.cj_decide.specs.Finally.{standing, final, IsStatusStep}
 use Rattle.cj_decide.specs.Verdicts.{IsVerdict}
-use Rattle.cj_decide.specs.Decision.{running_of, claim_by, steps_of, AreSteps, IsDecision}
+use Rattle.cj_decide.specs.Decision.{running_of, claim_by, steps_of, IsDecision}
 
 -- equal, or not
 abbrev Differs : {X : Type 0} → X → X → Type 0

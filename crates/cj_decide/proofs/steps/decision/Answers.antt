@@ -4,12 +4,10 @@ use Rattle.std.proofs.lemmas.Result.{IfOk-weaker}
 use Rattle.cj_types.specs.declared.cron.CronJob.{CronJob}
 use Rattle.cj_types.specs.declared.job.Job.{Job}
 use Rattle.cj_types.specs.Uids.{uid_text}
-use Rattle.cj_zone.specs.declared.zone.Zone.{Zone}
 use Rattle.cj_status.specs.declared.refs.JobRef.{JobRef}
 use Rattle.cj_status.specs.Mine.{present}
 use Rattle.cj_status.specs.Picked.{running}
 use Rattle.cj_status.specs.Refs.{has_any}
-use Rattle.cj_decide.specs.declared.verdict.Verdict.{Verdict}
 use Rattle.cj_decide.specs.Decision.{running_of}
 use Rattle.cj_decide.specs.Verdicts.{IsVerdict}
 use Rattle.cj_decide.proofs.steps.decision.Goals as goal
