@@ -1,9 +1,8 @@
 -- Lines one after another.
 use Rattle.std.proofs.Common.{◌≡◌, ◌∙◌, ◌+◌, ◌<◌, ◌≤◌, ℕ, List, [], ◌∷◌, length, map, drop, get_or, refl, sym, ap, subst, inl, inr, true, false, Bool, not, cond, arith, drop_of_length-le}
 use Rattle.std.proofs.lemmas.List.{get_or_default}
-use Rattle.std.specs.List.{filter}
 use Rattle.std.specs.Borrow.{Bor}
-use Rattle.cj_judge.specs.Judged.{AddsLine, AddsLines, AddsRow, AddsRun, Count, IsWanted}
+use Rattle.cj_judge.specs.Judged.{AddsLine, AddsLines, AddsRow, Count}
 use Rattle.cj_judge.specs.Row.{is_comment, rows_in}
 use Rattle.cj_judge.proofs.Words.{rest_at}
 

@@ -1,6 +1,6 @@
 -- A row: one JSON object (RFC 8259) on a line, with the words and the input that the program is given, and the standard output, the
 -- standard error and the status that are wanted of it.
-use Rattle.std.specs.Prelude.{◌≡◌, ◌⊎◌, ℕ, ◌≤◌, ◌==◌, List, [], ◌∷◌, ◌++◌, map, codes, Bool, false, not, option_map, Option, Some, None, option_and_then}
+use Rattle.std.specs.Prelude.{◌≡◌, ◌⊎◌, ℕ, ◌≤◌, ◌==◌, List, [], ◌∷◌, ◌++◌, map, codes, Bool, false, not, option_map, Option, Some, option_and_then}
 use Rattle.std.specs.List.{filter}
 use Rattle.serde_json.specs.Data.{Data, Items, no_items, item}
 use Rattle.serde_json.specs.Find.{as_array, as_number, as_str, as_u64, get}

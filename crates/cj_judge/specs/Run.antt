@@ -1,5 +1,5 @@
 -- What a row's run gives: what the program answers to its words and input.
-use Rattle.std.specs.Prelude.{◌≡◌, ◌⊎◌, ℕ, ◌<◌, List, ◌∷◌, Option, None, Some, codes}
+use Rattle.std.specs.Prelude.{◌≡◌, ◌⊎◌, ℕ, ◌<◌, List, ◌∷◌, None, Some, codes}
 use Rattle.cj_program.specs.Answers.{IsOutcome}
 use Rattle.cj_program.specs.Command.{IsOf, RefusesWords, file_of}
 use Rattle.cj_program.specs.Outcome.{Outcome, status_of}

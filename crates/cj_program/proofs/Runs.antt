@@ -13,7 +13,7 @@ use Rattle.cj_replay.specs.Replays.{IsPartOf, IsReplayed}
 use Rattle.cj_program.specs.declared.answer.Answer.{Answer}
 use Rattle.cj_program.specs.Outcome.{Outcome, done, outcome_of, refusal, status_of}
 use Rattle.cj_program.specs.Plan.{scene_line}
-use Rattle.cj_program.specs.Replay.{EndsBadly, EndsWell, IsFailedRun, IsRead, IsReplayOutcome, ReadsScript}
+use Rattle.cj_program.specs.Replay.{EndsBadly, EndsWell, IsRead, IsReplayOutcome}
 use Rattle.cj_program.specs.Writing.{FailsReplay, IsCut, IsGiven, IsUnanswered}
 
 module _ (s : Script) (out out' err err' : Option (List ℕ)) where

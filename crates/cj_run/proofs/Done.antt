@@ -1,5 +1,5 @@
 -- What is done through a pass, one act after the other.
-use Rattle.std.proofs.Common.{◌≡◌, ◌+◌, ◌<◌, ◌∙◌, ℕ, ◌==◌, List, [], ◌∷◌, ◌++◌, length, get_or, take, map, add-one, refl, sym, ap, subst, append_assoc, append-nil}
+use Rattle.std.proofs.Common.{◌≡◌, ◌+◌, ◌<◌, ◌∙◌, ℕ, ◌==◌, List, [], ◌∷◌, ◌++◌, length, get_or, take, map, add-one, sym, ap, subst, append_assoc, append-nil}
 use Rattle.std.specs.List.{AllZip, filter}
 use Rattle.std.proofs.lemmas.List.{map-append, take_more}
 use Rattle.std.proofs.lemmas.List.Elements.{filter-append}

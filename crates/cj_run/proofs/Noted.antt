@@ -1,5 +1,5 @@
 -- The Jobs of a listing, noted one after the other.
-use Rattle.std.proofs.Common.{◌≡◌, ◌+◌, ◌<◌, ◌∙◌, ℕ, List, [], ◌∷◌, length, get_or, drop, nat_lt, if◌then◌else◌, refl, sym, ap}
+use Rattle.std.proofs.Common.{◌≡◌, ◌+◌, ◌<◌, ◌∙◌, ℕ, List, ◌∷◌, length, get_or, drop, nat_lt, if◌then◌else◌, sym, ap}
 use Rattle.std.proofs.lemmas.List.{drop_more}
 use Rattle.cj_types.specs.declared.job.Job.{Job}
 use Rattle.cj_course.specs.Runs.{RunTable}
