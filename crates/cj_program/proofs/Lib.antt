@@ -3,3 +3,4 @@ pub mod Pairs
 pub mod NextLemmas
 pub mod Given
 pub mod Runs
+pub mod Scenes

@@ -14,5 +14,5 @@ abbrev pub IsOutcome : Request → Option (List ℕ) → Outcome → Type 0
 IsOutcome (Next r) input o = IsNextOutcome r o
 IsOutcome (Check r) input o = IsCheckOutcome r input o
 IsOutcome (Plan r) input o = IsPlanOutcome r input o
-IsOutcome (Replay r) input o = IsReplayOutcome input o
-IsOutcome (Run r) input o = IsRunOutcome input o
+IsOutcome (Replay r) input o = IsReplayOutcome r.explain input o
+IsOutcome (Run r) input o = IsRunOutcome r input o

@@ -20,7 +20,8 @@ use Rattle.cj_manifest.specs.Either.{key_of, kind_of, manifest_draft, manifest_f
 use Rattle.cj_manifest.specs.Reading.{IsReading, IsRefused}
 use Rattle.cj_program.specs.declared.answer.Verdict.TheVariants.{Refused}
 use Rattle.cj_program.specs.declared.request.CheckRequest.{CheckRequest}
-use Rattle.cj_program.specs.Outcome.{Outcome, done, refusal}
+use Rattle.cj_explain.specs.Faults.{faults_words}
+use Rattle.cj_program.specs.Outcome.{Outcome, done, explained, refusal}
 
 -- ---- the zones that a manifest may name
 
@@ -106,16 +107,26 @@ ok_line kind key = codes "ok " ++ (kind ++ (codes " " ++ (key.namespace ++ (code
 abbrev pub faulty : List ℕ → Outcome
 faulty lines = record { verdict = Refused; printed = lines; said = [] }
 
+-- what a manifest has to be
+-- rule: explain
+abbrev pub json_words : List ℕ
+json_words = codes "manifest: want JSON; kubectl create --dry-run=client -o json -f FILE makes it of YAML\n"
+
+-- what a zone has to be
+-- rule: explain
+abbrev pub pair_words : List ℕ
+pair_words = codes "--zone: want NAME=RULE like Europe/Berlin=CET-1CEST,M3.5.0,M10.5.0/3\n"
+
 -- the bytes are no JSON
-pub record IsNoManifest (zones : List Zone) (bytes : List ℕ) (o : Outcome) : Type 0 where
+pub record IsNoManifest (explain : Bool) (zones : List Zone) (bytes : List ℕ) (o : Outcome) : Type 0 where
   pub refused : IsRefused (manifest_faults zones) bytes Syntax
-  pub answer : o ≡ faulty (codes "refused 1 Syntax\n")
+  pub answer : o ≡ explained explain json_words (faulty (codes "refused 1 Syntax\n"))
 
 -- every fault is named
-pub record IsFaulty (zones : List Zone) (bytes : List ℕ) (o : Outcome) : Type 0 where
+pub record IsFaulty (explain : Bool) (zones : List Zone) (bytes : List ℕ) (o : Outcome) : Type 0 where
   pub faults : List FieldFault
   pub refused : IsRefused (manifest_faults zones) bytes (Invalid faults)
-  pub answer : o ≡ faulty (fault_lines faults)
+  pub answer : o ≡ explained explain (faults_words faults) (faulty (fault_lines faults))
 
 -- there is none, and every member that is dropped is named
 pub record IsFine (zones : List Zone) (bytes : List ℕ) (o : Outcome) : Type 0 where
@@ -124,14 +135,14 @@ pub record IsFine (zones : List Zone) (bytes : List ℕ) (o : Outcome) : Type 0 
   pub reading : IsReading Manifest (manifest_faults zones) manifest_draft manifest_warnings bytes manifest warnings
   pub answer : o ≡ done (ok_line (kind_of manifest) (key_of manifest) ++ warning_lines warnings)
 
--- what the bytes of a manifest are answered under these zones
-abbrev pub IsChecked : List Zone → List ℕ → Outcome → Type 0
-IsChecked zones bytes o = IsNoManifest zones bytes o ⊎ IsFaulty zones bytes o ⊎ IsFine zones bytes o
+-- what the bytes of a manifest are answered under these zones, its faults explained or not
+abbrev pub IsChecked : Bool → List Zone → List ℕ → Outcome → Type 0
+IsChecked explain zones bytes o = IsNoManifest explain zones bytes o ⊎ IsFaulty explain zones bytes o ⊎ IsFine zones bytes o
 
 -- the zone is refused first, and nothing is read then
 pub record RefusesNamedZone (r : CheckRequest) (o : Outcome) : Type 0 where
   pub pair : RefusesPair r.zone
-  pub answer : o ≡ refusal (codes "cronsim: zone\n")
+  pub answer : o ≡ explained r.explain pair_words (refusal (codes "cronsim: zone\n"))
 
 -- else what is read, all of the input, is checked
 pub record ChecksInput (r : CheckRequest) (input : Option (List ℕ)) (o : Outcome) : Type 0 where
@@ -140,7 +151,7 @@ pub record ChecksInput (r : CheckRequest) (input : Option (List ℕ)) (o : Outco
   pub bytes : List ℕ
   pub bytes_are : IfSome input (λ xs. bytes ≡ xs)
   pub fits : length bytes ≤ 16_777_216
-  pub checked : IsChecked zones bytes o
+  pub checked : IsChecked r.explain zones bytes o
 
 -- what `check` answers, where the input is known
 -- rule: check-lines

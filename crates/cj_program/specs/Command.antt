@@ -1,8 +1,9 @@
 -- The command line, as `clap` reads it.
-use Rattle.std.specs.Prelude.{◌≡◌, ℕ, ◌≤◌, List, [], ◌∷◌, codes, Option, None, Some, option_map, true}
+use Rattle.std.specs.Prelude.{◌≡◌, ℕ, ◌≤◌, List, [], ◌∷◌, codes, Option, None, Some, option_map, Bool, true, false, bytes_eq}
 use Rattle.std.specs.Prelude.{⊤, ◌≢◌}
 use Rattle.std.specs.Str.Parse.{IsNumeral, digits_value, without_leading_plus}
 use Rattle.clap.specs.Words.{App, Row, Rule, Text, first_of, new_app, new_rule, with_rule, with_subcommand, subcommand_of, takes}
+use Rattle.clap.specs.declared.builder.action.ArgAction.TheVariants.{SetTrue}
 use Rattle.clap.specs.declared.builder.value_parser.ValueParser.TheVariants.{Unsigned}
 use Rattle.cj_program.specs.declared.request.CheckRequest.{CheckRequest}
 use Rattle.cj_program.specs.declared.request.NextRequest.{NextRequest}
@@ -31,27 +32,34 @@ count_rule = record (new_rule (codes "count")) {
 abbrev pub zone_rule : Rule
 zone_rule = record (new_rule (codes "zone")) { long = Some (codes "zone"); value_names = 1 }
 
--- `cronsim next SCHEDULE --after TIME [--count N] [--zone RULE]`
+-- a flag of every command
+-- rule: explain
+abbrev pub explain_rule : Rule
+explain_rule = record (new_rule (codes "explain")) { long = Some (codes "explain"); action = Some SetTrue }
+
+-- `cronsim next SCHEDULE --after TIME [--count N] [--zone RULE] [--explain]`
 abbrev pub next_app : App
-next_app = with_rule (with_rule (with_rule (with_rule (new_app (codes "next")) schedule_rule) after_rule) count_rule) zone_rule
+next_app =
+    with_rule (with_rule (with_rule (with_rule (with_rule (new_app (codes "next")) schedule_rule) after_rule) count_rule) zone_rule)
+    explain_rule
 
 abbrev pub file_rule : Rule
 file_rule = record (new_rule (codes "file")) { required = true; value_names = 1 }
 
--- `cronsim check FILE [--zone NAME=RULE]`
+-- `cronsim check FILE [--zone NAME=RULE] [--explain]`
 abbrev pub check_app : App
-check_app = with_rule (with_rule (new_app (codes "check")) file_rule) zone_rule
+check_app = with_rule (with_rule (with_rule (new_app (codes "check")) file_rule) zone_rule) explain_rule
 
 abbrev pub now_rule : Rule
 now_rule = record (new_rule (codes "now")) { long = Some (codes "now"); required = true; value_names = 1 }
 
--- `cronsim plan FILE --now TIME`
+-- `cronsim plan FILE --now TIME [--explain]`
 abbrev pub plan_app : App
-plan_app = with_rule (with_rule (new_app (codes "plan")) file_rule) now_rule
+plan_app = with_rule (with_rule (with_rule (new_app (codes "plan")) file_rule) now_rule) explain_rule
 
--- `cronsim replay FILE`
+-- `cronsim replay FILE [--explain]`
 abbrev pub replay_app : App
-replay_app = with_rule (new_app (codes "replay")) file_rule
+replay_app = with_rule (with_rule (new_app (codes "replay")) file_rule) explain_rule
 
 abbrev pub workers_rule : Rule
 workers_rule = record (new_rule (codes "workers")) {
@@ -61,9 +69,9 @@ workers_rule = record (new_rule (codes "workers")) {
   parser = Some (Unsigned 1 32);
 }
 
--- `cronsim run FILE --workers N`
+-- `cronsim run FILE --workers N [--explain]`
 abbrev pub run_app : App
-run_app = with_rule (with_rule (new_app (codes "run")) file_rule) workers_rule
+run_app = with_rule (with_rule (with_rule (new_app (codes "run")) file_rule) workers_rule) explain_rule
 
 -- the commands on a schedule and on a manifest
 abbrev pub reading_app : App
@@ -84,6 +92,14 @@ cronsim_app = with_subcommand (with_subcommand deciding_app replay_app.top) run_
 abbrev pub IsDecimal : Text → ℕ → Type 0
 IsDecimal text n = IsNumeral 10 (without_leading_plus text) × (digits_value 10 (without_leading_plus text) ≡ n)
 
+-- `clap` states `true` as the value of a flag that stands among the words
+abbrev pub is_true : Option Text → Bool
+is_true None = false
+is_true (Some text) = bytes_eq text (codes "true")
+
+abbrev pub is_given : Text → List Row → Bool
+is_given id rows = is_true (first_of id rows)
+
 -- the request has the values that `clap` states for the arguments of `next`
 pub record IsNext (rows : List Row) (r : NextRequest) : Type 0 where
   pub schedule : first_of (codes "schedule") rows ≡ Some r.schedule.now
@@ -92,20 +108,24 @@ pub record IsNext (rows : List Row) (r : NextRequest) : Type 0 where
   pub least : 1 ≤ r.count
   pub most : r.count ≤ 1_000
   pub zone : first_of (codes "zone") rows ≡ option_map (λ s. s.now) r.zone
+  pub explain : r.explain ≡ is_given (codes "explain") rows
 
 -- and for those of `check`
 pub record IsCheck (rows : List Row) (r : CheckRequest) : Type 0 where
   pub file : first_of (codes "file") rows ≡ Some r.file.now
   pub zone : first_of (codes "zone") rows ≡ option_map (λ s. s.now) r.zone
+  pub explain : r.explain ≡ is_given (codes "explain") rows
 
 -- and for those of `plan`
 pub record IsPlan (rows : List Row) (r : PlanRequest) : Type 0 where
   pub file : first_of (codes "file") rows ≡ Some r.file.now
   pub moment : first_of (codes "now") rows ≡ Some r.moment.now
+  pub explain : r.explain ≡ is_given (codes "explain") rows
 
 -- and for those of `replay`
 pub record IsReplay (rows : List Row) (r : ReplayRequest) : Type 0 where
   pub file : first_of (codes "file") rows ≡ Some r.file.now
+  pub explain : r.explain ≡ is_given (codes "explain") rows
 
 -- and for those of `run`
 pub record IsRunOf (rows : List Row) (r : RunRequest) : Type 0 where
@@ -113,6 +133,7 @@ pub record IsRunOf (rows : List Row) (r : RunRequest) : Type 0 where
   pub workers : (text : Text) × (first_of (codes "workers") rows ≡ Some text) × IsDecimal text r.workers
   pub least : 1 ≤ r.workers
   pub most : r.workers ≤ 32
+  pub explain : r.explain ≡ is_given (codes "explain") rows
 
 -- the request is of the subcommand with that name, and has the values of its arguments
 abbrev pub IsOfRows : Option (Text × List Row) → Request → Type 0
@@ -134,6 +155,15 @@ file_of (Check r) = Some r.file.now
 file_of (Plan r) = Some r.file.now
 file_of (Replay r) = Some r.file.now
 file_of (Run r) = Some r.file.now
+
+-- whether a request has its refusal explained
+-- rule: explain
+abbrev pub explains : Request → Bool
+explains (Next r) = r.explain
+explains (Check r) = r.explain
+explains (Plan r) = r.explain
+explains (Replay r) = r.explain
+explains (Run r) = r.explain
 
 -- when words are refused: `clap` doesn't take them, or no request has the values that it states for them
 -- rule: words

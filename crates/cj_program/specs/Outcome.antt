@@ -1,5 +1,5 @@
 -- What the program answers to a request.
-use Rattle.std.specs.Prelude.{◌≡◌, ◌≢◌, ◌⊎◌, ℕ, ◌≤◌, List, [], ◌++◌, Option, None, Some, IsNone, codes, decimal, string_bytes}
+use Rattle.std.specs.Prelude.{◌≡◌, ◌≢◌, ◌⊎◌, ℕ, ◌≤◌, List, [], ◌++◌, Option, None, Some, IsNone, Bool, true, false, bytes_eq, codes, decimal, string_bytes}
 use Rattle.std.specs.Borrow.{Bor}
 use Rattle.jiff.specs.Words.{read_whole}
 use Rattle.cj_base.specs.Instant.{last_second}
@@ -13,6 +13,7 @@ use Rattle.cj_zone.specs.declared.zone.Zone.{Zone}
 use Rattle.cj_zone.specs.Made.{IsMade}
 use Rattle.cj_zone.specs.Zones.{utc_zone}
 use Rattle.cj_zone.specs.TimeText.{time_text_of}
+use Rattle.cj_explain.specs.Schedules.{IsExplained}
 use Rattle.cj_program.specs.NextText.{IsNextText}
 use Rattle.cj_program.specs.declared.answer.Answer.{Answer}
 use Rattle.cj_program.specs.declared.answer.Verdict.{Verdict}
@@ -38,6 +39,12 @@ outcome_of a = record { verdict = a.verdict; printed = string_bytes a.printed; s
 abbrev pub refusal : List ℕ → Outcome
 refusal line = record { verdict = Refused; printed = []; said = line }
 
+-- a refusal with what is said of it to people, after its line and only where they asked for it
+-- rule: explain
+abbrev pub explained : Bool → List ℕ → Outcome → Outcome
+explained true words o = record o { said = o.said ++ words }
+explained false words o = o
+
 abbrev pub done : List ℕ → Outcome
 done text = record { verdict = Done; printed = text; said = [] }
 
@@ -56,28 +63,52 @@ pub record IsTime (text : List ℕ) (t : ℕ) : Type 0 where
   pub in_range : t ≤ last_second
   pub printed : text ≡ time_text_of t
 
--- the rule is one that is given, and `jiff` refuses it
+abbrev pub is_utc : List ℕ → Bool
+is_utc rule = bytes_eq rule (codes "UTC")
+
+-- the rule is one that is given, isn't `UTC`, and `jiff` refuses it
 abbrev pub IsNoRule : Option (Bor (List ℕ)) → Type 0
 IsNoRule None = ⊥
-IsNoRule (Some rule) = IsNone (read_whole rule.now)
+IsNoRule (Some rule) = (is_utc rule.now ≡ false) × IsNone (read_whole rule.now)
 
--- UTC where no rule is given, else a zone whose clock is what `jiff` makes of the rule
+-- UTC by its name, else a zone whose clock is what `jiff` makes of the rule
+abbrev pub IsZoneBy : Bool → List ℕ → Zone → Type 0
+IsZoneBy true rule zone = zone ≡ utc_zone (codes "UTC")
+IsZoneBy false rule zone = (zone.source ≡ Rule rule) × IsMade (Rule rule)
+
+-- UTC where no rule is given, else the zone of the rule
 abbrev pub IsZoneOf : Option (Bor (List ℕ)) → Zone → Type 0
 IsZoneOf None zone = zone ≡ utc_zone (codes "UTC")
-IsZoneOf (Some rule) zone = (zone.source ≡ Rule rule.now) × IsMade (Rule rule.now)
+IsZoneOf (Some rule) zone = IsZoneBy (is_utc rule.now) rule.now zone
+
+-- the line of a schedule's fault, and what is wrong with the text
+pub record IsScheduleRefusal (explain : Bool) (text : List ℕ) (fault : ScheduleFault) (o : Outcome) : Type 0 where
+  pub words : List ℕ
+  pub are : IsExplained text fault words
+  pub answer : o ≡ explained explain words (refusal (schedule_line fault))
+
+-- what a start has to be
+-- rule: explain
+abbrev pub after_words : List ℕ
+after_words = codes "--after: want a UTC time like 2024-01-01T00:00:00Z\n"
+
+-- what a rule has to be
+-- rule: explain
+abbrev pub rule_words : List ℕ
+rule_words = codes "--zone: want UTC or a POSIX rule like CET-1CEST,M3.5.0,M10.5.0/3\n"
 
 -- the schedule is refused first
 pub record RefusesSchedule (r : NextRequest) (o : Outcome) : Type 0 where
   pub fault : ScheduleFault
   pub at : fault_of r.schedule.now ≡ Some fault
-  pub answer : o ≡ refusal (schedule_line fault)
+  pub told : IsScheduleRefusal r.explain r.schedule.now fault o
 
 -- then the start
 pub record RefusesTime (r : NextRequest) (o : Outcome) : Type 0 where
   pub sets : Sets
   pub schedule : IsSchedule r.schedule.now sets
   pub start : IsNoTime r.after.now
-  pub answer : o ≡ refusal (codes "cronsim: time\n")
+  pub answer : o ≡ explained r.explain after_words (refusal (codes "cronsim: time\n"))
 
 -- then the rule of the zone
 pub record RefusesZone (r : NextRequest) (o : Outcome) : Type 0 where
@@ -86,7 +117,7 @@ pub record RefusesZone (r : NextRequest) (o : Outcome) : Type 0 where
   pub after : ℕ
   pub start : IsTime r.after.now after
   pub rule : IsNoRule r.zone
-  pub answer : o ≡ refusal (codes "cronsim: zone\n")
+  pub answer : o ≡ explained r.explain rule_words (refusal (codes "cronsim: zone\n"))
 
 -- else the due times are printed
 pub record PrintsTimes (r : NextRequest) (o : Outcome) : Type 0 where

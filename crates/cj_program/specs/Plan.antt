@@ -1,5 +1,5 @@
 -- What `plan` answers of a scenario.
-use Rattle.std.specs.Prelude.{◌≡◌, ◌≢◌, ◌⊎◌, ℕ, ◌≤◌, List, [], ◌∷◌, ◌++◌, length, Option, None, Some, IfSome, option_map, codes}
+use Rattle.std.specs.Prelude.{◌≡◌, ◌≢◌, ◌⊎◌, ℕ, ◌≤◌, List, [], ◌∷◌, ◌++◌, length, Option, None, Some, IfSome, option_map, codes, Bool}
 use Rattle.cj_types.specs.declared.job.JobDraft.{JobDraft}
 use Rattle.cj_types.specs.declared.policy.Reason.{Reason}
 use Rattle.cj_types.specs.Printed.{reason_name}
@@ -16,7 +16,8 @@ use Rattle.cj_scenario.specs.declared.scene.Scene.{Scene}
 use Rattle.cj_scenario.specs.Made.{IsRefusedScene, IsScene}
 use Rattle.cj_program.specs.declared.request.PlanRequest.{PlanRequest}
 use Rattle.cj_program.specs.Check.{fault_line}
-use Rattle.cj_program.specs.Outcome.{IsNoTime, IsTime, Outcome, done, refusal}
+use Rattle.cj_explain.specs.Faults.{fault_words}
+use Rattle.cj_program.specs.Outcome.{IsNoTime, IsTime, Outcome, done, explained, refusal}
 
 -- ---- lines
 
@@ -61,6 +62,24 @@ scene_line Why.Form = codes "cronsim: scenario\n"
 scene_line (Why.Manifest fault) = codes "cronsim: " ++ fault_line fault
 scene_line Why.Memory = codes "cronsim: out of memory\n"
 
+-- what is wrong with a scenario, of which a form is wanted
+-- rule: explain
+abbrev pub scene_words : List ℕ → SceneFault → List ℕ
+scene_words form Why.Syntax = codes "FILE: want JSON\n"
+scene_words form Why.Form = form
+scene_words form (Why.Manifest fault) = fault_words fault
+scene_words form Why.Memory = []
+
+-- the form of a scenario of `plan`
+-- rule: explain
+abbrev pub scenario_form : List ℕ
+scenario_form = codes "FILE: want an object with manifest and created, and perhaps last, jobs and zones, as docs/examples/replace.json\n"
+
+-- what a moment has to be
+-- rule: explain
+abbrev pub now_words : List ℕ
+now_words = codes "--now: want a UTC time like 2024-01-01T00:00:00Z\n"
+
 -- ---- the answer
 
 -- the zone that the CronJob names, UTC where it names none
@@ -69,11 +88,11 @@ zone_for None zones = Some (utc_zone (codes "UTC"))
 zone_for (Some name) zones = zone_named name zones
 
 -- the scenario is refused, for another cause than memory
-pub record RefusesScene (bytes : List ℕ) (o : Outcome) : Type 0 where
+pub record RefusesScene (explain : Bool) (bytes : List ℕ) (o : Outcome) : Type 0 where
   pub fault : SceneFault
   pub refused : IsRefusedScene bytes fault
   pub told : fault ≢ Why.Memory
-  pub answer : o ≡ refusal (scene_line fault)
+  pub answer : o ≡ explained explain (scene_words scenario_form fault) (refusal (scene_line fault))
 
 -- the lines of the one plan of the CronJob, its Jobs, those of them that run, the moment and its zone
 pub record PrintsPlan (bytes : List ℕ) (now : ℕ) (o : Outcome) : Type 0 where
@@ -84,13 +103,13 @@ pub record PrintsPlan (bytes : List ℕ) (now : ℕ) (o : Outcome) : Type 0 wher
   pub answer : o ≡ done (plan_lines steps)
 
 -- what the bytes of a scenario are answered
-abbrev pub IsPlannedFor : List ℕ → ℕ → Outcome → Type 0
-IsPlannedFor bytes now o = RefusesScene bytes o ⊎ PrintsPlan bytes now o
+abbrev pub IsPlannedFor : Bool → List ℕ → ℕ → Outcome → Type 0
+IsPlannedFor explain bytes now o = RefusesScene explain bytes o ⊎ PrintsPlan bytes now o
 
 -- the moment is refused first, and nothing is read then
 pub record RefusesMoment (r : PlanRequest) (o : Outcome) : Type 0 where
   pub moment : IsNoTime r.moment.now
-  pub answer : o ≡ refusal (codes "cronsim: time\n")
+  pub answer : o ≡ explained r.explain now_words (refusal (codes "cronsim: time\n"))
 
 -- else what is read, all of the input, is planned for
 pub record PlansInput (r : PlanRequest) (input : Option (List ℕ)) (o : Outcome) : Type 0 where
@@ -99,7 +118,7 @@ pub record PlansInput (r : PlanRequest) (input : Option (List ℕ)) (o : Outcome
   pub bytes : List ℕ
   pub bytes_are : IfSome input (λ xs. bytes ≡ xs)
   pub fits : length bytes ≤ 16_777_216
-  pub planned : IsPlannedFor bytes now o
+  pub planned : IsPlannedFor r.explain bytes now o
 
 -- what `plan` answers, where the input is known
 -- rule: plan-lines

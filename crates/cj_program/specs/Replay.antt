@@ -1,5 +1,5 @@
 -- What `replay` answers of a script.
-use Rattle.std.specs.Prelude.{◌≡◌, ◌≢◌, ◌⊎◌, ℕ, ◌≤◌, List, [], length, Option, IfSome, codes, false, true}
+use Rattle.std.specs.Prelude.{◌≡◌, ◌≢◌, ◌⊎◌, ℕ, ◌≤◌, List, [], length, Option, IfSome, codes, false, true, Bool}
 use Rattle.std.specs.Io.KnownBytes.{Appends}
 use Rattle.cj_output.specs.declared.failure.Failure.{Failure}
 use Rattle.cj_output.specs.Writing.{AppendsSome, failure_line}
@@ -8,8 +8,8 @@ use Rattle.cj_scenario.specs.declared.fault.SceneFault.TheVariants as Why
 use Rattle.cj_script.specs.declared.script.Script.{Script}
 use Rattle.cj_script.specs.Scripts.{IsRefusedScript, IsScript}
 use Rattle.cj_replay.specs.Replays.{IsPartOf, IsReplayed}
-use Rattle.cj_program.specs.Outcome.{Outcome, done, refusal}
-use Rattle.cj_program.specs.Plan.{scene_line}
+use Rattle.cj_program.specs.Outcome.{Outcome, done, explained, refusal}
+use Rattle.cj_program.specs.Plan.{scene_line, scene_words}
 
 -- what was read, all of the input
 pub record IsRead (input : Option (List ℕ)) (bytes : List ℕ) : Type 0 where
@@ -22,14 +22,19 @@ pub record ReadsScript (input : Option (List ℕ)) (script : Script) : Type 0 wh
   pub read : IsRead input bytes
   pub said : IsScript bytes script
 
+-- the form of a script
+-- rule: explain
+abbrev pub script_form : List ℕ
+script_form = codes "FILE: want an object with callers and steps, and perhaps zones, history and window, as docs/examples/made-anew.json\n"
+
 -- what is read is no script, for another cause than memory
-pub record RefusesScript (input : Option (List ℕ)) (o : Outcome) : Type 0 where
+pub record RefusesScript (explain : Bool) (input : Option (List ℕ)) (o : Outcome) : Type 0 where
   pub bytes : List ℕ
   pub read : IsRead input bytes
   pub fault : SceneFault
   pub refused : IsRefusedScript bytes fault
   pub told : fault ≢ Why.Memory
-  pub answer : o ≡ refusal (scene_line fault)
+  pub answer : o ≡ explained explain (scene_words script_form fault) (refusal (scene_line fault))
 
 -- the lines of its steps and the report, where no step found the history full
 pub record PrintsRun (input : Option (List ℕ)) (o : Outcome) : Type 0 where
@@ -41,8 +46,8 @@ pub record PrintsRun (input : Option (List ℕ)) (o : Outcome) : Type 0 where
 
 -- what `replay` answers, where the input is known
 -- rules: replay, replay-lines
-abbrev pub IsReplayOutcome : Option (List ℕ) → Outcome → Type 0
-IsReplayOutcome input o = RefusesScript input o ⊎ PrintsRun input o
+abbrev pub IsReplayOutcome : Bool → Option (List ℕ) → Outcome → Type 0
+IsReplayOutcome explain input o = RefusesScript explain input o ⊎ PrintsRun input o
 
 -- ---- a run that ends with status 3
 

@@ -1,19 +1,25 @@
 -- What `run` answers of a scenario.
-use Rattle.std.specs.Prelude.{◌≡◌, ◌≢◌, ◌⊎◌, ℕ, ◌≤◌, List, length, Option, IfSome}
+use Rattle.std.specs.Prelude.{◌≡◌, ◌≢◌, ◌⊎◌, ℕ, ◌≤◌, List, length, Option, IfSome, Bool, codes}
 use Rattle.cj_scenario.specs.declared.fault.SceneFault.{SceneFault}
 use Rattle.cj_scenario.specs.declared.fault.SceneFault.TheVariants as Why
 use Rattle.cj_course.specs.Courses.{IsCourse, IsRefusedCourse}
 use Rattle.cj_course.specs.declared.course.Course.{Course}
 use Rattle.cj_run.specs.Runs.{IsRun}
-use Rattle.cj_program.specs.Outcome.{Outcome, done, refusal}
-use Rattle.cj_program.specs.Plan.{scene_line}
+use Rattle.cj_program.specs.declared.request.RunRequest.{RunRequest}
+use Rattle.cj_program.specs.Outcome.{Outcome, done, explained, refusal}
+use Rattle.cj_program.specs.Plan.{scene_line, scene_words}
+
+-- the form of a scenario of `run`
+-- rule: explain
+abbrev pub course_form : List ℕ
+course_form = codes "FILE: want an object with start, end and cronJobs, and perhaps stepSeconds, runs, edits and zones, as docs/examples/forbid.json\n"
 
 -- the bytes are no scenario of a run, for another cause than memory
-pub record RefusesCourse (bytes : List ℕ) (o : Outcome) : Type 0 where
+pub record RefusesCourse (explain : Bool) (bytes : List ℕ) (o : Outcome) : Type 0 where
   pub fault : SceneFault
   pub refused : IsRefusedCourse bytes fault
   pub told : fault ≢ Why.Memory
-  pub answer : o ≡ refusal (scene_line fault)
+  pub answer : o ≡ explained explain (scene_words course_form fault) (refusal (scene_line fault))
 
 -- the report of a run of the scenario that they are
 pub record PrintsReport (bytes : List ℕ) (o : Outcome) : Type 0 where
@@ -24,13 +30,13 @@ pub record PrintsReport (bytes : List ℕ) (o : Outcome) : Type 0 where
   pub answer : o ≡ done text
 
 -- what the bytes are answered
-abbrev pub IsRanOf : List ℕ → Outcome → Type 0
-IsRanOf bytes o = RefusesCourse bytes o ⊎ PrintsReport bytes o
+abbrev pub IsRanOf : Bool → List ℕ → Outcome → Type 0
+IsRanOf explain bytes o = RefusesCourse explain bytes o ⊎ PrintsReport bytes o
 
 -- what `run` answers, where the input is known: all of it is read
 -- rule: run
-pub record IsRunOutcome (input : Option (List ℕ)) (o : Outcome) : Type 0 where
+pub record IsRunOutcome (r : RunRequest) (input : Option (List ℕ)) (o : Outcome) : Type 0 where
   pub bytes : List ℕ
   pub bytes_are : IfSome input (λ xs. bytes ≡ xs)
   pub fits : length bytes ≤ 16_777_216
-  pub ran : IsRanOf bytes o
+  pub ran : IsRanOf r.explain bytes o

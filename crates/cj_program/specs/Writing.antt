@@ -1,5 +1,5 @@
 -- What standard output and standard error hold where a writer fails.
-use Rattle.std.specs.Prelude.{◌≡◌, ◌⊎◌, ℕ, List, Option}
+use Rattle.std.specs.Prelude.{◌≡◌, ◌⊎◌, ℕ, List, Option, Bool}
 use Rattle.std.specs.Io.KnownBytes.{Appends, Keeps}
 use Rattle.cj_output.specs.declared.failure.Failure.{Failure}
 use Rattle.cj_output.specs.Writing.{AppendsSome, failure_line}
@@ -43,15 +43,15 @@ pub record IsAnswerCut (request : Request) (input out out' err err' : Option (Li
   pub cut : IsCut outcome.printed outcome.said out out' err err'
 
 -- the answer of `replay` was cut off
-pub record IsRefusalCut (input out out' err err' : Option (List ℕ)) : Type 0 where
+pub record IsRefusalCut (explain : Bool) (input out out' err err' : Option (List ℕ)) : Type 0 where
   pub outcome : Outcome
-  pub answer : IsReplayOutcome input outcome
+  pub answer : IsReplayOutcome explain input outcome
   pub cut : IsCut outcome.printed outcome.said out out' err err'
 
 -- `replay` ended with status 3
 -- rule: statuses
-abbrev pub FailsReplay : Option (List ℕ) → Option (List ℕ) → Option (List ℕ) → Option (List ℕ) → Option (List ℕ) → Type 0
-FailsReplay input out out' err err' = IsUnanswered out out' err err' ⊎ IsRefusalCut input out out' err err' ⊎ IsFailedRun input out out' err err'
+abbrev pub FailsReplay : Bool → Option (List ℕ) → Option (List ℕ) → Option (List ℕ) → Option (List ℕ) → Option (List ℕ) → Type 0
+FailsReplay explain input out out' err err' = IsUnanswered out out' err err' ⊎ IsRefusalCut explain input out out' err err' ⊎ IsFailedRun input out out' err err'
 
 -- another command did
 abbrev pub FailsAnswer : Request → Option (List ℕ) → Option (List ℕ) → Option (List ℕ) → Option (List ℕ) → Option (List ℕ) → Type 0
@@ -60,7 +60,7 @@ FailsAnswer request input out out' err err' = IsUnanswered out out' err err' ⊎
 -- a request that ended with status 3
 -- rule: statuses
 abbrev pub IsFailed : Request → Option (List ℕ) → Option (List ℕ) → Option (List ℕ) → Option (List ℕ) → Option (List ℕ) → Type 0
-IsFailed (Replay r) input out out' err err' = FailsReplay input out out' err err'
+IsFailed (Replay r) input out out' err err' = FailsReplay r.explain input out out' err err'
 IsFailed (Next r) input out out' err err' = FailsAnswer (Next r) input out out' err err'
 IsFailed (Check r) input out out' err err' = FailsAnswer (Check r) input out out' err err'
 IsFailed (Plan r) input out out' err err' = FailsAnswer (Plan r) input out out' err err'

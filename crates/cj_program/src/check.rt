@@ -1,18 +1,19 @@
-ghost use Rattle.std.specs.Prelude.{◌≡◌, ◌++◌, IfOk, MatchOption, string_bytes};
+ghost use Rattle.std.specs.Prelude.{◌≡◌, ◌++◌, IfOk, MatchOption, codes, string_bytes};
 ghost use Rattle.cj_manifest.specs.Either.{key_of, kind_of};
 ghost use Rattle.cj_zone.specs.Table.{zones_of};
-ghost use Rattle.cj_program.specs.Check.{AddsPair, IsCheckOutcome, IsChecked, IsNoZone, IsZonesOf, RefusesPair, faulty, ok_line, warning_lines};
-ghost use Rattle.cj_program.specs.Outcome.{done, outcome_of};
+ghost use Rattle.cj_explain.specs.Faults.{faults_words};
+ghost use Rattle.cj_program.specs.Check.{AddsPair, IsCheckOutcome, IsChecked, IsNoZone, IsZonesOf, RefusesPair, fault_lines, faulty, json_words, ok_line, pair_words, warning_lines};
+ghost use Rattle.cj_program.specs.Outcome.{done, explained, outcome_of, refusal};
 
 use crate::answer::{Answer, Verdict};
 use crate::lines::{print_faults, print_ok, print_warnings};
-use crate::next::refused;
 use crate::request::CheckRequest;
-use cj_base::Refusal;
+use cj_base::{FieldFault, Refusal};
+use cj_explain::explain_faults;
 use cj_manifest::{Manifest, Warning, read_manifest};
 use cj_output::{Failure, MOST_BYTES, MOST_READS, read_input};
 use cj_zone::ZoneTable;
-use std::alloc::Global;
+use std::alloc::{AllocError, Global};
 use std::io::Read;
 
 // UTC and the zone NAME=RULE, cut at the first `=`; none where that is refused.
@@ -55,7 +56,7 @@ fn fine(alloc: Global, manifest: &Manifest, warnings: &[Warning]) -> Result<Answ
 }
 
 // A manifest that is refused, with what is printed of it.
-fn refused_with(alloc: Global, printed: String) -> Answer
+fn faulty(alloc: Global, printed: String) -> Answer
     ensures { outcome_of result ≡ faulty (string_bytes printed) }
 {
     Answer {
@@ -65,22 +66,50 @@ fn refused_with(alloc: Global, printed: String) -> Answer
     }
 }
 
+// What a manifest has to be.
+const JSON_WORDS: &str =
+    "manifest: want JSON; kubectl create --dry-run=client -o json -f FILE makes it of YAML\n";
+
+// What a zone has to be.
+const PAIR_WORDS: &str =
+    "--zone: want NAME=RULE like Europe/Berlin=CET-1CEST,M3.5.0,M10.5.0/3\n";
+
+fn no_json(alloc: Global, explain: bool) -> Result<Answer, AllocError>
+    ensures { IfOk result (λ a. outcome_of a ≡ explained explain json_words (faulty (codes "refused 1 Syntax\n"))) }
+{
+    let printed = String::from_str(alloc, "refused 1 Syntax\n")?;
+    faulty(alloc, printed).explained(explain, JSON_WORDS)
+}
+
+fn with_faults(alloc: Global, explain: bool, faults: &[FieldFault]) -> Result<Answer, AllocError>
+    ensures { IfOk result (λ a. outcome_of a ≡ explained explain (faults_words faults.now) (faulty (fault_lines faults.now))) }
+{
+    let printed = print_faults(alloc, faults)?;
+    let words = explain_faults(alloc, faults)?;
+    faulty(alloc, printed).explained(explain, words.as_str())
+}
+
 // What a manifest is answered under these zones.
-fn manifest_answer(alloc: Global, bytes: &[u8], zones: &ZoneTable) -> Result<Answer, Failure>
-    ensures { IfOk result (λ a. IsChecked (zones_of zones.now) bytes.now (outcome_of a)) }
+fn manifest_answer(
+    alloc: Global,
+    explain: bool,
+    bytes: &[u8],
+    zones: &ZoneTable,
+) -> Result<Answer, Failure>
+    ensures { IfOk result (λ a. IsChecked explain (zones_of zones.now) bytes.now (outcome_of a)) }
 {
     match read_manifest(alloc, bytes, zones) {
         Ok((manifest, warnings)) => fine(alloc, &manifest, warnings.as_slice()),
-        Err(Refusal::Syntax) => Ok(refused_with(
-            alloc,
-            String::from_str(alloc, "refused 1 Syntax\n")?,
-        )),
-        Err(Refusal::Invalid(faults)) => Ok(refused_with(
-            alloc,
-            print_faults(alloc, faults.as_slice())?,
-        )),
+        Err(Refusal::Syntax) => Ok(no_json(alloc, explain)?),
+        Err(Refusal::Invalid(faults)) => Ok(with_faults(alloc, explain, faults.as_slice())?),
         Err(_) => Err(Failure::Memory),
     }
+}
+
+fn refused_pair(alloc: Global, explain: bool) -> Result<Answer, AllocError>
+    ensures { IfOk result (λ a. outcome_of a ≡ explained explain pair_words (refusal (codes "cronsim: zone\n"))) }
+{
+    Answer::refused(alloc, "cronsim: zone\n")?.explained(explain, PAIR_WORDS)
 }
 
 /// What the command `check` answers: the zone is looked at first, then all of the input is read.
@@ -92,8 +121,8 @@ pub fn check_answer<R: Read>(
     ensures { IfOk result (λ a. IsCheckOutcome check.now (R.remaining input.old) (outcome_of a)) }
 {
     let Some(zones) = zones(alloc, check.zone)? else {
-        return Ok(refused(alloc, "cronsim: zone\n")?);
+        return Ok(refused_pair(alloc, check.explain)?);
     };
     let bytes = read_input(alloc, input, MOST_BYTES, MOST_READS)?;
-    manifest_answer(alloc, bytes.as_slice(), &zones)
+    manifest_answer(alloc, check.explain, bytes.as_slice(), &zones)
 }

@@ -1,11 +1,11 @@
 ghost use Rattle.std.specs.Prelude.{◌≡◌, IfOk, false};
 ghost use Rattle.clap.specs.Words.{app_of, rule_of};
 ghost use Rattle.clap.specs.declared.builder.command.Command.TheViews.{out-Command};
-ghost use Rattle.cj_program.specs.Command.{after_rule, check_app, count_rule, cronsim_app, deciding_app, file_rule, next_app, now_rule, plan_app, reading_app, replay_app, run_app, schedule_rule, workers_rule, zone_rule};
+ghost use Rattle.cj_program.specs.Command.{after_rule, check_app, count_rule, cronsim_app, deciding_app, explain_rule, file_rule, next_app, now_rule, plan_app, reading_app, replay_app, run_app, schedule_rule, workers_rule, zone_rule};
 
 use crate::help;
 use clap::builder::ValueParser;
-use clap::{Arg, Command};
+use clap::{Arg, ArgAction, Command};
 use std::alloc::{AllocError, Global};
 
 fn schedule_arg<'a>(alloc: Global) -> Arg<'a>
@@ -50,6 +50,16 @@ fn zone_arg<'a>(alloc: Global) -> Arg<'a>
     )
 }
 
+fn explain_arg<'a>(alloc: Global) -> Arg<'a>
+    ensures rule { rule_of result ≡ explain_rule }
+    ensures local { result.global ≡ false }
+{
+    Arg::new(alloc, "explain")
+        .long("explain")
+        .action(ArgAction::SetTrue)
+        .help("Say of a refusal, on standard error after its line, what is wrong and what is wanted")
+}
+
 fn next_command<'a>(alloc: Global) -> Result<Command<'a>, AllocError>
     ensures app { IfOk result (λ c. app_of c ≡ next_app) }
     ensures local { IfOk result (λ c. (out-Command c).has_globals ≡ false) }
@@ -60,7 +70,8 @@ fn next_command<'a>(alloc: Global) -> Result<Command<'a>, AllocError>
         .arg(schedule_arg(alloc))?
         .arg(after_arg(alloc))?
         .arg(count_arg(alloc))?
-        .arg(zone_arg(alloc))?;
+        .arg(zone_arg(alloc))?
+        .arg(explain_arg(alloc))?;
     Ok(command)
 }
 
@@ -94,7 +105,8 @@ fn check_command<'a>(alloc: Global) -> Result<Command<'a>, AllocError>
         .about("Check the manifest of a CronJob or a Job, and name every fault in it")
         .after_help(help::CHECK)
         .arg(file_arg(alloc))?
-        .arg(named_zone_arg(alloc))?;
+        .arg(named_zone_arg(alloc))?
+        .arg(explain_arg(alloc))?;
     Ok(command)
 }
 
@@ -127,7 +139,8 @@ fn plan_command<'a>(alloc: Global) -> Result<Command<'a>, AllocError>
         .about("Print what the next sync of a CronJob does")
         .after_help(help::PLAN)
         .arg(scenario_arg(alloc))?
-        .arg(now_arg(alloc))?;
+        .arg(now_arg(alloc))?
+        .arg(explain_arg(alloc))?;
     Ok(command)
 }
 
@@ -150,7 +163,8 @@ fn replay_command<'a>(alloc: Global) -> Result<Command<'a>, AllocError>
     let command = Command::new(alloc, "replay")
         .about("Make the steps of a script on an empty world, and print what each is answered")
         .after_help(help::REPLAY)
-        .arg(script_arg(alloc))?;
+        .arg(script_arg(alloc))?
+        .arg(explain_arg(alloc))?;
     Ok(command)
 }
 
@@ -186,7 +200,8 @@ fn run_command<'a>(alloc: Global) -> Result<Command<'a>, AllocError>
         .about("Run the whole controller under a simulated clock, and print what it leaves")
         .after_help(help::RUN)
         .arg(course_arg(alloc))?
-        .arg(workers_arg(alloc))?;
+        .arg(workers_arg(alloc))?
+        .arg(explain_arg(alloc))?;
     Ok(command)
 }
 

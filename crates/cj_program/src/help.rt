@@ -6,7 +6,7 @@ pub(crate) const NEXT: &str = "Example:
 
 Exit status:
   0  the times were printed
-  1  the schedule, the time or the zone is refused, as standard error says
+  1  the schedule, the time or the zone is refused, as standard error says; --explain says why
   2  the words are wrong
   3  writing failed, or memory was wanting";
 
@@ -16,7 +16,7 @@ pub(crate) const CHECK: &str = "Example:
 
 Exit status:
   0  the manifest has no fault
-  1  it has one, as standard output says; or the zone is refused, as standard error says
+  1  it has one, as standard output says; or the zone is refused, as standard error says; --explain says why
   2  the words are wrong
   3  reading or writing failed, or memory was wanting";
 
@@ -26,7 +26,7 @@ pub(crate) const PLAN: &str = "Example:
 
 Exit status:
   0  the plan was printed
-  1  the moment or the scenario is refused, as standard error says
+  1  the moment or the scenario is refused, as standard error says; --explain says why
   2  the words are wrong
   3  reading or writing failed, or memory was wanting";
 
@@ -36,7 +36,7 @@ pub(crate) const REPLAY: &str = "Example:
 
 Exit status:
   0  the lines of all steps and the report were printed
-  1  the script is refused, as standard error says
+  1  the script is refused, as standard error says; --explain says why
   2  the words are wrong
   3  a step found the history full, reading or writing failed, or memory was wanting";
 
@@ -46,6 +46,6 @@ pub(crate) const RUN: &str = "Example:
 
 Exit status:
   0  the report was printed
-  1  the scenario is refused, as standard error says
+  1  the scenario is refused, as standard error says; --explain says why
   2  the words are wrong
   3  a call found the history full, reading or writing failed, or memory or a thread was wanting";

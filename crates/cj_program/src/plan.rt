@@ -1,18 +1,19 @@
-ghost use Rattle.std.specs.Prelude.{◌≡◌, ◌≢◌, ℕ, List, Some, codes, option_copied, string_bytes, IfOk};
+ghost use Rattle.std.specs.Prelude.{◌≡◌, ◌≢◌, ℕ, Bool, List, Some, codes, option_copied, string_bytes, IfOk};
 ghost use Rattle.cj_zone.specs.Table.{local_zone, zones_of};
 ghost use Rattle.cj_zone.specs.Zones.{utc_zone};
 ghost use Rattle.cj_decide.specs.Decision.{IsPlan};
 ghost use Rattle.cj_scenario.specs.Made.{IsScene};
 ghost use Rattle.cj_scenario.specs.declared.fault.SceneFault.TheVariants.{Manifest, Memory};
-ghost use Rattle.cj_program.specs.Outcome.{done, outcome_of, refusal};
-ghost use Rattle.cj_program.specs.Plan.{IsPlanOutcome, IsPlannedFor, plan_lines, scene_line, zone_for};
+ghost use Rattle.cj_explain.specs.Faults.{fault_words};
+ghost use Rattle.cj_program.specs.Outcome.{done, explained, outcome_of, refusal};
+ghost use Rattle.cj_program.specs.Plan.{IsPlanOutcome, IsPlannedFor, now_words, plan_lines, scene_line, scene_words, zone_for};
 
 use crate::answer::{Answer, Verdict};
 use crate::lines::print_fault;
-use crate::next::refused;
 use crate::plan_text::plan_text;
 use crate::request::PlanRequest;
 use cj_decide::{Plan, Steps, decide};
+use cj_explain::explain_fault;
 use cj_output::{Failure, MOST_BYTES, MOST_READS, read_input};
 use cj_scenario::{Scene, SceneFault, read_scene};
 use cj_types::{CronJob, FieldFault, Seconds, Shared, Text, TryCopy};
@@ -73,7 +74,7 @@ fn printed(alloc: Global, steps: &Steps) -> Result<Answer, Failure>
 // The plan of a scenario.
 fn planned(alloc: Global, scene: Scene, now: Seconds) -> Result<Answer, Failure>
     requires { local_zone scene.zones ≡ Some (utc_zone (codes "UTC")) }
-    ensures { (bytes : List ℕ) → IsScene bytes scene → IfOk result (λ a. IsPlannedFor bytes now (outcome_of a)) }
+    ensures { (explain : Bool) (bytes : List ℕ) → IsScene bytes scene → IfOk result (λ a. IsPlannedFor explain bytes now (outcome_of a)) }
 {
     let plan = plan_of(alloc, scene, now)?;
     printed(alloc, plan.steps())
@@ -88,30 +89,64 @@ fn fault_text(alloc: Global, fault: FieldFault) -> Result<String, AllocError>
     Ok(text)
 }
 
-/// What a scenario or a script is answered that is refused.
-pub(crate) fn refused_scene(alloc: Global, fault: SceneFault) -> Result<Answer, Failure>
+fn manifest_fault(
+    alloc: Global,
+    explain: bool,
+    fault: FieldFault,
+) -> Result<Answer, AllocError>
+    ensures { IfOk result (λ a. outcome_of a ≡ explained explain (fault_words fault) (refusal (scene_line (Manifest fault)))) }
+{
+    let line = fault_text(alloc, fault)?;
+    let words = explain_fault(alloc, fault)?;
+    Answer::refused(alloc, line.as_str())?.explained(explain, words.as_str())
+}
+
+/// What a scenario or a script is answered that is refused, of which this form is wanted.
+pub(crate) fn refused_scene(
+    alloc: Global,
+    explain: bool,
+    form: &str,
+    fault: SceneFault,
+) -> Result<Answer, Failure>
     ensures told { IfOk result (λ _. fault ≢ Memory) }
-    ensures answer { IfOk result (λ a. outcome_of a ≡ refusal (scene_line fault)) }
+    ensures answer { IfOk result (λ a. outcome_of a ≡ explained explain (scene_words form.now fault) (refusal (scene_line fault))) }
 {
     match fault {
-        SceneFault::Syntax => Ok(refused(alloc, "cronsim: refused 1 Syntax\n")?),
-        SceneFault::Form => Ok(refused(alloc, "cronsim: scenario\n")?),
-        SceneFault::Manifest(fault) => {
-            let line = fault_text(alloc, fault)?;
-            Ok(refused(alloc, line.as_str())?)
+        SceneFault::Syntax => Ok(Answer::refused(alloc, "cronsim: refused 1 Syntax\n")?
+            .explained(explain, "FILE: want JSON\n")?),
+        SceneFault::Form => {
+            Ok(Answer::refused(alloc, "cronsim: scenario\n")?.explained(explain, form)?)
         }
+        SceneFault::Manifest(fault) => Ok(manifest_fault(alloc, explain, fault)?),
         SceneFault::Memory => Err(Failure::Memory),
     }
 }
 
+// The form of a scenario.
+const SCENARIO_FORM: &str = "FILE: want an object with manifest and created, and perhaps last, jobs and zones, as docs/examples/replace.json\n";
+
+// What a moment has to be.
+const NOW_WORDS: &str = "--now: want a UTC time like 2024-01-01T00:00:00Z\n";
+
 // What a scenario is answered at that moment.
-fn scene_answer(alloc: Global, bytes: &[u8], now: Seconds) -> Result<Answer, Failure>
-    ensures { IfOk result (λ a. IsPlannedFor bytes.now now (outcome_of a)) }
+fn scene_answer(
+    alloc: Global,
+    explain: bool,
+    bytes: &[u8],
+    now: Seconds,
+) -> Result<Answer, Failure>
+    ensures { IfOk result (λ a. IsPlannedFor explain bytes.now now (outcome_of a)) }
 {
     match read_scene(alloc, bytes) {
         Ok(scene) => planned(alloc, scene, now),
-        Err(fault) => refused_scene(alloc, fault),
+        Err(fault) => refused_scene(alloc, explain, SCENARIO_FORM, fault),
     }
+}
+
+fn refused_moment(alloc: Global, explain: bool) -> Result<Answer, AllocError>
+    ensures { IfOk result (λ a. outcome_of a ≡ explained explain now_words (refusal (codes "cronsim: time\n"))) }
+{
+    Answer::refused(alloc, "cronsim: time\n")?.explained(explain, NOW_WORDS)
 }
 
 /// What the command `plan` answers: the moment is looked at first, then all of the input is read.
@@ -123,8 +158,8 @@ pub fn plan_answer<R: Read>(
     ensures { IfOk result (λ a. IsPlanOutcome plan.now (R.remaining input.old) (outcome_of a)) }
 {
     let Some(now) = read_time(plan.moment) else {
-        return Ok(refused(alloc, "cronsim: time\n")?);
+        return Ok(refused_moment(alloc, plan.explain)?);
     };
     let bytes = read_input(alloc, input, MOST_BYTES, MOST_READS)?;
-    scene_answer(alloc, bytes.as_slice(), now)
+    scene_answer(alloc, plan.explain, bytes.as_slice(), now)
 }

@@ -38,35 +38,46 @@ fn run_script<W: Write, E: Write>(alloc: Global, script: &Script, out: &mut W, e
     }
 }
 
+// The form of a script.
+const SCRIPT_FORM: &str =
+    "FILE: want an object with callers and steps, and perhaps zones, history and window, as docs/examples/made-anew.json\n";
+
 // Runs the script that the bytes are.
-fn serve_bytes<W: Write, E: Write>(alloc: Global, bytes: &[u8], out: &mut W, err: &mut E) -> u8
-    ensures served { result < 3 → (input : Option (List ℕ)) → IsRead input bytes.now → (o : Outcome) × IsReplayOutcome input o × (result ≡ status_of o.verdict)
+fn serve_bytes<W: Write, E: Write>(
+    alloc: Global,
+    explain: bool,
+    bytes: &[u8],
+    out: &mut W,
+    err: &mut E,
+) -> u8
+    ensures served { result < 3 → (input : Option (List ℕ)) → IsRead input bytes.now → (o : Outcome) × IsReplayOutcome explain input o × (result ≡ status_of o.verdict)
         × Appends (W.contents out.old) (W.contents out.new) o.printed
         × Appends (E.contents err.old) (E.contents err.new) o.said }
-    ensures failed { result ≡ 3 → (input : Option (List ℕ)) → IsRead input bytes.now → FailsReplay input (W.contents out.old) (W.contents out.new) (E.contents err.old) (E.contents err.new) }
+    ensures failed { result ≡ 3 → (input : Option (List ℕ)) → IsRead input bytes.now → FailsReplay explain input (W.contents out.old) (W.contents out.new) (E.contents err.old) (E.contents err.new) }
     ensures most { result ≤ 3 }
 {
     match read_script(alloc, bytes) {
         Ok(script) => run_script(alloc, &script, out, err),
-        Err(fault) => give_answer(refused_scene(alloc, fault), out, err),
+        Err(fault) => give_answer(refused_scene(alloc, explain, SCRIPT_FORM, fault), out, err),
     }
 }
 
 /// Serves the command `replay`: all of the input is read first. Status 3 also tells that a step found the history full.
 pub(crate) fn serve_replay<R: Read, W: Write, E: Write>(
     alloc: Global,
+    explain: bool,
     input: &mut R,
     out: &mut W,
     err: &mut E,
 ) -> u8
-    ensures served { result < 3 → (o : Outcome) × IsReplayOutcome (R.remaining input.old) o × (result ≡ status_of o.verdict)
+    ensures served { result < 3 → (o : Outcome) × IsReplayOutcome explain (R.remaining input.old) o × (result ≡ status_of o.verdict)
         × Appends (W.contents out.old) (W.contents out.new) o.printed
         × Appends (E.contents err.old) (E.contents err.new) o.said }
-    ensures failed { result ≡ 3 → FailsReplay (R.remaining input.old) (W.contents out.old) (W.contents out.new) (E.contents err.old) (E.contents err.new) }
+    ensures failed { result ≡ 3 → FailsReplay explain (R.remaining input.old) (W.contents out.old) (W.contents out.new) (E.contents err.old) (E.contents err.new) }
     ensures most { result ≤ 3 }
 {
     match read_input(alloc, input, MOST_BYTES, MOST_READS) {
-        Ok(bytes) => serve_bytes(alloc, bytes.as_slice(), out, err),
+        Ok(bytes) => serve_bytes(alloc, explain, bytes.as_slice(), out, err),
         Err(failure) => tell_failure(failure, err),
     }
 }

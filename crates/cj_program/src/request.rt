@@ -16,7 +16,7 @@ pub enum Request<'a> {
 }
 
 impl<'a> Request<'a> {
-    ghost use Rattle.cj_program.specs.Command.{file_of};
+    ghost use Rattle.cj_program.specs.Command.{explains, file_of};
 
     /// The name of the file that is to be read, where the command reads one; `-` is standard input.
     pub fn file(&self) -> Option<&'a str>
@@ -30,6 +30,19 @@ impl<'a> Request<'a> {
             Request::Run(run) => Some(run.file),
         }
     }
+
+    /// Whether a refusal is to be explained.
+    pub fn explains(&self) -> bool
+        ensures { result ≡ explains self.now }
+    {
+        match self {
+            Request::Next(next) => next.explain,
+            Request::Check(check) => check.explain,
+            Request::Plan(plan) => plan.explain,
+            Request::Replay(replay) => replay.explain,
+            Request::Run(run) => run.explain,
+        }
+    }
 }
 
 /// The words of the command `next`, as they were given.
@@ -41,8 +54,10 @@ pub struct NextRequest<'a> {
     pub after: &'a str,
     /// How many times are asked for, 1 to 1,000.
     pub count: u16,
-    /// The POSIX rule of the zone; UTC where none is given.
+    /// `UTC`, or the POSIX rule of the zone; UTC where none is given.
     pub zone: Option<&'a str>,
+    /// Whether a refusal is explained.
+    pub explain: bool,
 }
 
 /// The words of the command `check`, as they were given.
@@ -52,6 +67,8 @@ pub struct CheckRequest<'a> {
     pub file: &'a str,
     /// A zone that the manifest may name, as NAME=RULE with a POSIX rule.
     pub zone: Option<&'a str>,
+    /// Whether a refusal is explained.
+    pub explain: bool,
 }
 
 /// The words of the command `plan`, as they were given.
@@ -61,6 +78,8 @@ pub struct PlanRequest<'a> {
     pub file: &'a str,
     /// The moment that the plan is for: a printed time.
     pub moment: &'a str,
+    /// Whether a refusal is explained.
+    pub explain: bool,
 }
 
 /// The words of the command `replay`, as they were given.
@@ -68,6 +87,8 @@ pub struct PlanRequest<'a> {
 pub struct ReplayRequest<'a> {
     /// The name of the file with the script; `-` is standard input.
     pub file: &'a str,
+    /// Whether a refusal is explained.
+    pub explain: bool,
 }
 
 /// The words of the command `run`, as they were given.
@@ -77,4 +98,6 @@ pub struct RunRequest<'a> {
     pub file: &'a str,
     /// How many workers, 1 to 32.
     pub workers: u8,
+    /// Whether a refusal is explained.
+    pub explain: bool,
 }

@@ -1,5 +1,5 @@
 // Running the whole controller.
-ghost use Rattle.std.specs.Prelude.{◌≡◌, IfOk, string_bytes};
+ghost use Rattle.std.specs.Prelude.{◌≡◌, Bool, IfOk, string_bytes};
 ghost use Rattle.cj_run.specs.Runs.{IsRun};
 ghost use Rattle.cj_course.specs.Courses.{IsCourse};
 ghost use Rattle.cj_program.specs.Outcome.{outcome_of};
@@ -20,7 +20,7 @@ use std::thread::Threads;
 fn reported(alloc: Global, bytes: &[u8], course: &Course, report: String) -> Answer
     requires said { IsCourse bytes.now course.now }
     requires run { IsRun course.now (string_bytes report) }
-    ensures { IsRanOf bytes.now (outcome_of result) }
+    ensures { (explain : Bool) → IsRanOf explain bytes.now (outcome_of result) }
 {
     Answer {
         verdict: Verdict::Done,
@@ -38,23 +38,26 @@ fn answered<T: Threads + Wait + Sync>(
     workers: u8,
 ) -> Result<Answer, Failure>
     requires { IsCourse bytes.now course.now }
-    ensures { IfOk result (λ a. IsRanOf bytes.now (outcome_of a)) }
+    ensures { (explain : Bool) → IfOk result (λ a. IsRanOf explain bytes.now (outcome_of a)) }
 {
     let report = run_course(rt, alloc, course, u64::from(workers))?;
     Ok(reported(alloc, bytes, course, report))
 }
 
+// The form of a scenario.
+const COURSE_FORM: &str = "FILE: want an object with start, end and cronJobs, and perhaps stepSeconds, runs, edits and zones, as docs/examples/forbid.json\n";
+
 fn bytes_answer<T: Threads + Wait + Sync>(
     rt: &T,
     alloc: Global,
+    run: &RunRequest<'_>,
     bytes: &[u8],
-    workers: u8,
 ) -> Result<Answer, Failure>
-    ensures { IfOk result (λ a. IsRanOf bytes.now (outcome_of a)) }
+    ensures { IfOk result (λ a. IsRanOf run.now.explain bytes.now (outcome_of a)) }
 {
     match read_course(alloc, bytes) {
-        Ok(course) => answered(rt, alloc, bytes, &course, workers),
-        Err(fault) => refused_scene(alloc, fault),
+        Ok(course) => answered(rt, alloc, bytes, &course, run.workers),
+        Err(fault) => refused_scene(alloc, run.explain, COURSE_FORM, fault),
     }
 }
 
@@ -66,8 +69,8 @@ pub(crate) fn run_answer<T: Threads + Wait + Sync, R: Read>(
     run: &RunRequest<'_>,
     input: &mut R,
 ) -> Result<Answer, Failure>
-    ensures { IfOk result (λ a. IsRunOutcome (R.remaining input.old) (outcome_of a)) }
+    ensures { IfOk result (λ a. IsRunOutcome run.now (R.remaining input.old) (outcome_of a)) }
 {
     let bytes = read_input(alloc, input, MOST_BYTES, MOST_READS)?;
-    bytes_answer(rt, alloc, bytes.as_slice(), run.workers)
+    bytes_answer(rt, alloc, run, bytes.as_slice())
 }

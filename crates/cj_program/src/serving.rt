@@ -72,7 +72,7 @@ pub fn serve<T: Threads + Wait + Sync, R: Read, W: Write, E: Write>(
         Request::Next(next) => give_answer(next_answer(alloc, next), out, err),
         Request::Check(check) => give_answer(check_answer(alloc, check, input), out, err),
         Request::Plan(plan) => give_answer(plan_answer(alloc, plan, input), out, err),
-        Request::Replay(_) => serve_replay(alloc, input, out, err),
+        Request::Replay(replay) => serve_replay(alloc, replay.explain, input, out, err),
         Request::Run(run) => give_answer(run_answer(rt, alloc, run, input), out, err),
     }
 }

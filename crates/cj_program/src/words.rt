@@ -1,6 +1,6 @@
 ghost use Rattle.std.specs.Prelude.{◌≡◌, ℕ, ◌≤◌, map, option_map, IfOk, IfErr, IfSome, None, Some};
 ghost use Rattle.clap.specs.Words.{first_of, found_of, rows_of, subcommand_rows_of};
-ghost use Rattle.cj_program.specs.Command.{IsCheck, IsDecimal, IsNext, IsOf, IsOfRows, IsPlan, IsReplay, IsRunOf, RefusesWords};
+ghost use Rattle.cj_program.specs.Command.{IsCheck, IsDecimal, IsNext, IsOf, IsOfRows, IsPlan, IsReplay, IsRunOf, RefusesWords, is_given};
 ghost use Rattle.cj_program.specs.declared.request.CheckRequest.{CheckRequest};
 ghost use Rattle.cj_program.specs.declared.request.NextRequest.{NextRequest};
 ghost use Rattle.cj_program.specs.declared.request.PlanRequest.{PlanRequest};
@@ -30,6 +30,16 @@ fn text<'a>(found: &ArgMatches<'a>, id: &str) -> Result<&'a str, WordFault>
     match optional_text(found, id) {
         Some(text) => Ok(text),
         None => Err(WordFault::Incomplete),
+    }
+}
+
+// Whether a flag stands among the words.
+fn is_given(found: &ArgMatches<'_>, id: &str) -> bool
+    ensures { result ≡ is_given id.now (rows_of (found_of found.now)) }
+{
+    match optional_text(found, id) {
+        Some(text) => text == "true",
+        None => false,
     }
 }
 
@@ -75,6 +85,7 @@ fn next_request<'a>(found: &ArgMatches<'a>) -> Result<NextRequest<'a>, WordFault
         after,
         count,
         zone,
+        explain: is_given(found, "explain"),
     })
 }
 
@@ -85,7 +96,11 @@ fn check_request<'a>(found: &ArgMatches<'a>) -> Result<CheckRequest<'a>, WordFau
 {
     let file = text(found, "file")?;
     let zone = optional_text(found, "zone");
-    Ok(CheckRequest { file, zone })
+    Ok(CheckRequest {
+        file,
+        zone,
+        explain: is_given(found, "explain"),
+    })
 }
 
 fn plan_request<'a>(found: &ArgMatches<'a>) -> Result<PlanRequest<'a>, WordFault>
@@ -97,6 +112,7 @@ fn plan_request<'a>(found: &ArgMatches<'a>) -> Result<PlanRequest<'a>, WordFault
     Ok(PlanRequest {
         file: text(found, "file")?,
         moment,
+        explain: is_given(found, "explain"),
     })
 }
 
@@ -107,6 +123,7 @@ fn replay_request<'a>(found: &ArgMatches<'a>) -> Result<ReplayRequest<'a>, WordF
 {
     Ok(ReplayRequest {
         file: text(found, "file")?,
+        explain: is_given(found, "explain"),
     })
 }
 
@@ -117,7 +134,11 @@ fn run_request<'a>(found: &ArgMatches<'a>) -> Result<RunRequest<'a>, WordFault>
 {
     let file = text(found, "file")?;
     let workers = workers(text(found, "workers")?)?;
-    Ok(RunRequest { file, workers })
+    Ok(RunRequest {
+        file,
+        workers,
+        explain: is_given(found, "explain"),
+    })
 }
 
 fn request_of<'a>(matches: &ArgMatches<'a>) -> Result<Request<'a>, WordFault>

@@ -93,6 +93,7 @@ fn a_failed_read_is_told(rt: HostRuntime) {
     let request = Request::Check(CheckRequest {
         file: "-",
         zone: None,
+        explain: false,
     });
     for fails_at in 1..5u32 {
         let mut input = FaultyReader { reads: 0, fails_at };

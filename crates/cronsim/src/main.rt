@@ -3,11 +3,19 @@
 
 mod source;
 
-use cj_program::{Failure, parse_words, serve, tell_failure, tell_fault};
+use cj_program::{Failure, Request, parse_words, serve, tell_failure, tell_fault};
 use source::Input;
+use std::io::Write;
 use std::process::ExitCode;
 use std::sync::Wait;
 use std::thread::Threads;
+
+// Says to people why the file of a request could not be opened, where they ask for that.
+fn tell_unopened<E: Write>(request: &Request<'_>, input: &Input, err: &mut E) {
+    if let (true, Some(file), Some(cause)) = (request.explains(), request.file(), input.cause()) {
+        let _ = writeln!(err, "{file}: {cause}");
+    }
+}
 
 // Reads the words of the command line and serves what they ask for.
 fn run<T: Threads + Wait + Sync>(threads: &T, rt: &HostRuntime) -> Result<u8, Failure> {
@@ -22,7 +30,9 @@ fn run<T: Threads + Wait + Sync>(threads: &T, rt: &HostRuntime) -> Result<u8, Fa
     Ok(match parse_words(alloc, words.as_slice()) {
         Ok(request) => {
             let mut input = Input::open(rt, request.file());
-            serve(threads, alloc, &request, &mut input, &mut out, &mut err)
+            let status = serve(threads, alloc, &request, &mut input, &mut out, &mut err);
+            tell_unopened(&request, &input, &mut err);
+            status
         }
         Err(fault) => tell_fault(alloc, &fault, &mut out, &mut err),
     })

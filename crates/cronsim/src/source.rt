@@ -7,8 +7,8 @@ use std::io::{ErrorKind, Read, Stdin};
 pub enum Input {
     Standard(Stdin),
     File(File),
-    /// A file that could not be opened: every read fails.
-    Unopened,
+    /// A file that could not be opened, for this cause: every read fails.
+    Unopened(ErrorKind),
 }
 
 impl Input {
@@ -18,8 +18,18 @@ impl Input {
             None | Some("-") => Input::Standard(rt.stdin()),
             Some(name) => match File::open(rt, name) {
                 Ok(file) => Input::File(file),
-                Err(_) => Input::Unopened,
+                Err(error) => Input::Unopened(error.kind()),
             },
+        }
+    }
+
+    /// Why the file could not be opened, for people.
+    pub fn cause(&self) -> Option<&'static str> {
+        match self {
+            Input::Unopened(ErrorKind::NotFound) => Some("no such file or directory"),
+            Input::Unopened(ErrorKind::PermissionDenied) => Some("permission denied"),
+            Input::Unopened(_) => Some("it can't be opened"),
+            Input::Standard(_) | Input::File(_) => None,
         }
     }
 }
@@ -29,7 +39,7 @@ impl Read for Input {
         match self {
             Input::Standard(input) => input.read(buf),
             Input::File(file) => file.read(buf),
-            Input::Unopened => Err(io::Error::from(ErrorKind::NotFound)),
+            Input::Unopened(kind) => Err(io::Error::from(*kind)),
         }
     }
 }

@@ -9,4 +9,5 @@ returns-clause-app c =
     let one = c.in_ok-arg.ensures.shape c.schedule_arg.ensures.local ∙ ap₂ with_rule bare c.schedule_arg.ensures.rule in
     let two = c.in_ok-arg-2.ensures.shape c.after_arg.ensures.local ∙ ap₂ with_rule one c.after_arg.ensures.rule in
     let three = c.in_ok-arg-3.ensures.shape c.count_arg.ensures.local ∙ ap₂ with_rule two c.count_arg.ensures.rule in
-    c.in_ok-command.ensures.shape c.zone_arg.ensures.local ∙ ap₂ with_rule three c.zone_arg.ensures.rule
+    let four = c.in_ok-arg-4.ensures.shape c.zone_arg.ensures.local ∙ ap₂ with_rule three c.zone_arg.ensures.rule in
+    c.in_ok-command.ensures.shape c.explain_arg.ensures.local ∙ ap₂ with_rule four c.explain_arg.ensures.rule

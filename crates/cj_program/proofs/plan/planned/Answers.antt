@@ -5,7 +5,7 @@ use Rattle.cj_program.specs.Plan.{plan_lines}
 use Rattle.cj_program.proofs.plan.planned.Goals as goal
 
 pub returns : goal.returns
-returns c = λ bytes said.
+returns c = λ explain bytes said.
     IfOk-weaker c.printed.result _ _
     (λ a e. inr (record {
       scene = c.args.scene;

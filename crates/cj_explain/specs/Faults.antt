@@ -1,0 +1,46 @@
+-- What is said of a field of a manifest that is refused.
+use Rattle.std.specs.Prelude.{ℕ, ◌==◌, List, [], ◌∷◌, ◌++◌, codes, if◌then◌else◌}
+use Rattle.cj_base.specs.Field.{path_of}
+use Rattle.cj_base.specs.declared.cause.Cause.{Cause}
+use Rattle.cj_base.specs.declared.cause.Cause.TheVariants as Why
+use Rattle.cj_base.specs.declared.field.Field.{Field}
+use Rattle.cj_base.specs.declared.faults.FieldFault.{FieldFault}
+use Rattle.cj_base.specs.declared.schedule_fault.ScheduleFault.{ScheduleFault}
+use Rattle.cj_explain.specs.Fields.{choices, form, most, need, numbers}
+use Rattle.cj_explain.specs.Schedules.{cause_words, placed}
+
+-- of a schedule, whose element isn't shown
+abbrev pub schedule_words : ScheduleFault → List ℕ
+schedule_words f =
+    if f.field == 0 then cause_words f.field f.cause
+    else placed f (cause_words f.field f.cause)
+
+abbrev pub wanted : List ℕ → List ℕ
+wanted what = codes "want " ++ what
+
+abbrev pub missing : List ℕ → List ℕ
+missing what = codes "missing, want " ++ what
+
+-- what is wrong, and what is wanted
+-- rule: explain-field
+abbrev pub cause_of : Field → Cause → List ℕ
+cause_of field Why.Required = missing (need field)
+cause_of field Why.WrongType = wanted (form field)
+cause_of field Why.NotSupported = wanted (choices field)
+cause_of field Why.Fraction = wanted (codes "numbers without a fraction, of 64 bits; any other as a text, like \"0.5\"")
+cause_of field Why.TooLong = wanted (most field)
+cause_of field Why.Format = wanted (codes "a to z, 0 to 9, - and in a name dots, with a letter or a digit at both ends")
+cause_of field Why.Range = wanted (numbers field)
+cause_of field Why.Zone = wanted (codes "a zone that is known: UTC, or one given by --zone")
+cause_of field Why.NotAllowed = codes "may not stand here"
+cause_of field (Why.Schedule f) = schedule_words f
+
+-- `PATH: WORDS`, on a line of its own
+-- rule: explain-field
+abbrev pub fault_words : FieldFault → List ℕ
+fault_words f = path_of f.field ++ (codes ": " ++ (cause_of f.field f.cause ++ codes "\n"))
+
+-- a line for each
+abbrev pub faults_words : List FieldFault → List ℕ
+faults_words [] = []
+faults_words (f ∷ fs) = fault_words f ++ faults_words fs

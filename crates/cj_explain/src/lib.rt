@@ -1,0 +1,10 @@
+//! What people are told of a refusal beside its fixed line: which field, where, what stands there and what is wanted.
+#![tactic(auto)]
+
+mod element;
+mod fault;
+mod field;
+mod schedule;
+
+pub use fault::{explain_fault, explain_faults};
+pub use schedule::explain_schedule;
