@@ -4,3 +4,4 @@ pub mod NextLemmas
 pub mod Given
 pub mod Runs
 pub mod Scenes
+pub mod Checked

@@ -1,5 +1,5 @@
 -- How the run of a script ends.
-use Rattle.std.proofs.Common.{◌≡◌, ◌≢◌, ◌⊎◌, inl, inr, ℕ, List, [], Bool, true, false, refl, subst, sym}
+use Rattle.std.proofs.Common.{◌≡◌, ◌≢◌, ◌⊎◌, inl, inr, ℕ, List, [], Bool, true, false, refl, subst}
 use Rattle.std.specs.Prelude.{Option, Result, Ok, Err, IfOk, codes}
 use Rattle.std.specs.Result.{IsOkAnd}
 use Rattle.std.specs.Io.KnownBytes.{Appends}
@@ -11,8 +11,8 @@ use Rattle.cj_script.specs.declared.script.Script.{Script}
 use Rattle.cj_script.specs.Scripts.{IsRefusedScript, IsScript}
 use Rattle.cj_replay.specs.Replays.{IsPartOf, IsReplayed}
 use Rattle.cj_program.specs.declared.answer.Answer.{Answer}
-use Rattle.cj_program.specs.Outcome.{Outcome, done, explained, outcome_of, refusal, status_of}
-use Rattle.cj_program.specs.Plan.{scene_line, scene_words}
+use Rattle.cj_program.specs.Outcome.{Outcome, done, outcome_of, status_of}
+use Rattle.cj_program.specs.Plan.{IsSceneRefusal}
 use Rattle.cj_program.specs.Replay.{EndsBadly, EndsWell, IsRead, IsReplayOutcome, script_form}
 use Rattle.cj_program.specs.Writing.{FailsReplay, IsCut, IsGiven, IsUnanswered}
 
@@ -38,18 +38,18 @@ module _ (explain : Bool) (bytes : List ℕ) (input : Option (List ℕ)) (read :
   run_failed s is b = inr (inr (record { script = s; reads = record { bytes = bytes; read = read; said = is }; ends = b }))
 
   module _ (fault : SceneFault) (why : IsRefusedScript bytes fault) where
-    refused : fault ≢ Why.Memory → IsReplayOutcome explain input (explained explain (scene_words script_form fault) (refusal (scene_line fault)))
-    refused told = inl (record { bytes = bytes; read = read; fault = fault; refused = why; told = told; answer = refl })
+    refused : (o : Outcome) → fault ≢ Why.Memory → IsSceneRefusal explain script_form fault o → IsReplayOutcome explain input o
+    refused o told is = inl (record { bytes = bytes; read = read; fault = fault; refused = why; told = told; says = is })
 
-    pub refusal_served : (status : ℕ) (r : Result Answer Failure) → IfOk r (λ _. fault ≢ Why.Memory) → IfOk r (λ a. outcome_of a ≡ explained explain (scene_words script_form fault) (refusal (scene_line fault)))
+    pub refusal_served : (status : ℕ) (r : Result Answer Failure) → IfOk r (λ _. fault ≢ Why.Memory) → IfOk r (λ a. IsSceneRefusal explain script_form fault (outcome_of a))
         → IsOkAnd r (λ a. IsGiven status (outcome_of a) out out' err err')
         → (o : Outcome) × IsReplayOutcome explain input o × (status ≡ status_of o.verdict) × Appends out out' o.printed × Appends err err' o.said
-    refusal_served status (Ok a) told is g = (outcome_of a, subst (λ (o : Outcome). IsReplayOutcome explain input o) (sym is) (refused told), g.status_is, g.printed, g.said)
+    refusal_served status (Ok a) told is g = (outcome_of a, refused (outcome_of a) told is, g.status_is, g.printed, g.said)
     refusal_served status (Err e) told is g = absurd g
 
-    pub refusal_failed : (r : Result Answer Failure) → IfOk r (λ _. fault ≢ Why.Memory) → IfOk r (λ a. outcome_of a ≡ explained explain (scene_words script_form fault) (refusal (scene_line fault)))
+    pub refusal_failed : (r : Result Answer Failure) → IfOk r (λ _. fault ≢ Why.Memory) → IfOk r (λ a. IsSceneRefusal explain script_form fault (outcome_of a))
         → IsUnanswered out out' err err' ⊎ IsOkAnd r (λ a. IsCut (outcome_of a).printed (outcome_of a).said out out' err err')
         → FailsReplay explain input out out' err err'
     refusal_failed r told is (inl u) = inl u
-    refusal_failed (Ok a) told is (inr c) = inr (inl (record { outcome = outcome_of a; answer = subst (λ (o : Outcome). IsReplayOutcome explain input o) (sym is) (refused told); cut = c }))
+    refusal_failed (Ok a) told is (inr c) = inr (inl (record { outcome = outcome_of a; answer = refused (outcome_of a) told is; cut = c }))
     refusal_failed (Err e) told is (inr c) = absurd c

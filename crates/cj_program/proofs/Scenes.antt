@@ -1,5 +1,5 @@
 -- A scenario that is refused.
-use Rattle.std.proofs.Common.{◌≡◌, ◌≢◌, inl, rules, ℕ, List, Bool}
+use Rattle.std.proofs.Common.{◌≢◌, inl, rules, ℕ, List, Bool}
 use Rattle.std.specs.Prelude.{Result, Ok, Err, IfOk}
 use Rattle.cj_output.specs.declared.failure.Failure.{Failure}
 use Rattle.cj_scenario.specs.declared.fault.SceneFault.{SceneFault}
@@ -7,21 +7,21 @@ use Rattle.cj_scenario.specs.declared.fault.SceneFault.TheVariants as Why
 use Rattle.cj_scenario.specs.Made.{IsRefusedScene}
 use Rattle.cj_course.specs.Courses.{IsRefusedCourse}
 use Rattle.cj_program.specs.declared.answer.Answer.{Answer}
-use Rattle.cj_program.specs.Outcome.{explained, outcome_of, refusal}
-use Rattle.cj_program.specs.Plan.{IsPlannedFor, scenario_form, scene_line, scene_words}
+use Rattle.cj_program.specs.Outcome.{outcome_of}
+use Rattle.cj_program.specs.Plan.{IsPlannedFor, IsSceneRefusal, scenario_form}
 use Rattle.cj_program.specs.Run.{IsRanOf, course_form}
 
 module _ (explain : Bool) (bytes : List ℕ) (fault : SceneFault) where
   -- of `plan`: closes what a scenario is answered
   pub scenario_refused : (now : ℕ) (r : Result Answer Failure) → IsRefusedScene bytes fault → IfOk r (λ _. fault ≢ Why.Memory)
-      → IfOk r (λ a. outcome_of a ≡ explained explain (scene_words scenario_form fault) (refusal (scene_line fault)))
+      → IfOk r (λ a. IsSceneRefusal explain scenario_form fault (outcome_of a))
       → IfOk r (λ a. IsPlannedFor explain bytes now (outcome_of a))
-  scenario_refused now (Ok a) why told is = inl (record { fault = fault; refused = why; told = told; answer = is })
+  scenario_refused now (Ok a) why told is = inl (record { fault = fault; refused = why; told = told; says = is })
   scenario_refused now (Err e) why told is = search rules
 
   -- of `run`: closes what the bytes are answered
   pub course_refused : (r : Result Answer Failure) → IsRefusedCourse bytes fault → IfOk r (λ _. fault ≢ Why.Memory)
-      → IfOk r (λ a. outcome_of a ≡ explained explain (scene_words course_form fault) (refusal (scene_line fault)))
+      → IfOk r (λ a. IsSceneRefusal explain course_form fault (outcome_of a))
       → IfOk r (λ a. IsRanOf explain bytes (outcome_of a))
-  course_refused (Ok a) why told is = inl (record { fault = fault; refused = why; told = told; answer = is })
+  course_refused (Ok a) why told is = inl (record { fault = fault; refused = why; told = told; says = is })
   course_refused (Err e) why told is = search rules

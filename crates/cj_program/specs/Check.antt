@@ -21,6 +21,8 @@ use Rattle.cj_manifest.specs.Reading.{IsReading, IsRefused}
 use Rattle.cj_program.specs.declared.answer.Verdict.TheVariants.{Refused}
 use Rattle.cj_program.specs.declared.request.CheckRequest.{CheckRequest}
 use Rattle.cj_explain.specs.Faults.{faults_words}
+use Rattle.cj_program.specs.Json.{IsJsonWords, yaml_words}
+use Rattle.cj_program.specs.Advice.{advice_of, dropped_words_all}
 use Rattle.cj_program.specs.Outcome.{Outcome, done, explained, refusal}
 
 -- ---- the zones that a manifest may name
@@ -107,20 +109,21 @@ ok_line kind key = codes "ok " ++ (kind ++ (codes " " ++ (key.namespace ++ (code
 abbrev pub faulty : List ℕ → Outcome
 faulty lines = record { verdict = Refused; printed = lines; said = [] }
 
--- what a manifest has to be
--- rule: explain
-abbrev pub json_words : List ℕ
-json_words = codes "manifest: want JSON; kubectl create --dry-run=client -o json -f FILE makes it of YAML\n"
-
 -- what a zone has to be
 -- rule: explain
 abbrev pub pair_words : List ℕ
 pair_words = codes "--zone: want NAME=RULE like Europe/Berlin=CET-1CEST,M3.5.0,M10.5.0/3\n"
 
+-- the line of bytes that are no JSON, and where they aren't
+pub record IsNoJson (explain : Bool) (o : Outcome) : Type 0 where
+  pub words : List ℕ
+  pub place : IsJsonWords words
+  pub answer : o ≡ explained explain (words ++ yaml_words) (faulty (codes "refused 1 Syntax\n"))
+
 -- the bytes are no JSON
 pub record IsNoManifest (explain : Bool) (zones : List Zone) (bytes : List ℕ) (o : Outcome) : Type 0 where
   pub refused : IsRefused (manifest_faults zones) bytes Syntax
-  pub answer : o ≡ explained explain json_words (faulty (codes "refused 1 Syntax\n"))
+  pub says : IsNoJson explain o
 
 -- every fault is named
 pub record IsFaulty (explain : Bool) (zones : List Zone) (bytes : List ℕ) (o : Outcome) : Type 0 where
@@ -128,16 +131,17 @@ pub record IsFaulty (explain : Bool) (zones : List Zone) (bytes : List ℕ) (o :
   pub refused : IsRefused (manifest_faults zones) bytes (Invalid faults)
   pub answer : o ≡ explained explain (faults_words faults) (faulty (fault_lines faults))
 
--- there is none, and every member that is dropped is named
-pub record IsFine (zones : List Zone) (bytes : List ℕ) (o : Outcome) : Type 0 where
+-- there is none, and every member that is dropped is named; people are told what is worth a look
+pub record IsFine (explain : Bool) (zones : List Zone) (bytes : List ℕ) (o : Outcome) : Type 0 where
   pub manifest : Manifest
   pub warnings : List (List ℕ)
   pub reading : IsReading Manifest (manifest_faults zones) manifest_draft manifest_warnings bytes manifest warnings
-  pub answer : o ≡ done (ok_line (kind_of manifest) (key_of manifest) ++ warning_lines warnings)
+  pub answer : o ≡ explained explain (dropped_words_all warnings ++ advice_of manifest)
+      (done (ok_line (kind_of manifest) (key_of manifest) ++ warning_lines warnings))
 
 -- what the bytes of a manifest are answered under these zones, its faults explained or not
 abbrev pub IsChecked : Bool → List Zone → List ℕ → Outcome → Type 0
-IsChecked explain zones bytes o = IsNoManifest explain zones bytes o ⊎ IsFaulty explain zones bytes o ⊎ IsFine zones bytes o
+IsChecked explain zones bytes o = IsNoManifest explain zones bytes o ⊎ IsFaulty explain zones bytes o ⊎ IsFine explain zones bytes o
 
 -- the zone is refused first, and nothing is read then
 pub record RefusesNamedZone (r : CheckRequest) (o : Outcome) : Type 0 where

@@ -1,6 +1,8 @@
 pub mod Command
 pub mod NextText
 pub mod Outcome
+pub mod Json
+pub mod Advice
 pub mod Check
 pub mod Plan
 pub mod Replay

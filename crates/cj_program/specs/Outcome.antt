@@ -39,7 +39,7 @@ outcome_of a = record { verdict = a.verdict; printed = string_bytes a.printed; s
 abbrev pub refusal : List ℕ → Outcome
 refusal line = record { verdict = Refused; printed = []; said = line }
 
--- a refusal with what is said of it to people, after its line and only where they asked for it
+-- an outcome with what is said of it to people, behind the fixed lines and only where they asked for it
 -- rule: explain
 abbrev pub explained : Bool → List ℕ → Outcome → Outcome
 explained true words o = record o { said = o.said ++ words }

@@ -17,6 +17,7 @@ use Rattle.cj_scenario.specs.Made.{IsRefusedScene, IsScene}
 use Rattle.cj_program.specs.declared.request.PlanRequest.{PlanRequest}
 use Rattle.cj_program.specs.Check.{fault_line}
 use Rattle.cj_explain.specs.Faults.{fault_words}
+use Rattle.cj_program.specs.Json.{IsJsonWords}
 use Rattle.cj_program.specs.Outcome.{IsNoTime, IsTime, Outcome, done, explained, refusal}
 
 -- ---- lines
@@ -64,11 +65,17 @@ scene_line Why.Memory = codes "cronsim: out of memory\n"
 
 -- what is wrong with a scenario, of which a form is wanted
 -- rule: explain
-abbrev pub scene_words : List ℕ → SceneFault → List ℕ
-scene_words form Why.Syntax = codes "FILE: want JSON\n"
-scene_words form Why.Form = form
-scene_words form (Why.Manifest fault) = fault_words fault
-scene_words form Why.Memory = []
+abbrev pub IsSceneWords : List ℕ → SceneFault → List ℕ → Type 0
+IsSceneWords form Why.Syntax words = IsJsonWords words
+IsSceneWords form Why.Form words = words ≡ form
+IsSceneWords form (Why.Manifest fault) words = words ≡ fault_words fault
+IsSceneWords form Why.Memory words = words ≡ []
+
+-- the line of a scenario's fault, and what is wrong with it
+pub record IsSceneRefusal (explain : Bool) (form : List ℕ) (fault : SceneFault) (o : Outcome) : Type 0 where
+  pub words : List ℕ
+  pub are : IsSceneWords form fault words
+  pub answer : o ≡ explained explain words (refusal (scene_line fault))
 
 -- the form of a scenario of `plan`
 -- rule: explain
@@ -92,7 +99,7 @@ pub record RefusesScene (explain : Bool) (bytes : List ℕ) (o : Outcome) : Type
   pub fault : SceneFault
   pub refused : IsRefusedScene bytes fault
   pub told : fault ≢ Why.Memory
-  pub answer : o ≡ explained explain (scene_words scenario_form fault) (refusal (scene_line fault))
+  pub says : IsSceneRefusal explain scenario_form fault o
 
 -- the lines of the one plan of the CronJob, its Jobs, those of them that run, the moment and its zone
 pub record PrintsPlan (bytes : List ℕ) (now : ℕ) (o : Outcome) : Type 0 where

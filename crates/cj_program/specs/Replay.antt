@@ -8,8 +8,8 @@ use Rattle.cj_scenario.specs.declared.fault.SceneFault.TheVariants as Why
 use Rattle.cj_script.specs.declared.script.Script.{Script}
 use Rattle.cj_script.specs.Scripts.{IsRefusedScript, IsScript}
 use Rattle.cj_replay.specs.Replays.{IsPartOf, IsReplayed}
-use Rattle.cj_program.specs.Outcome.{Outcome, done, explained, refusal}
-use Rattle.cj_program.specs.Plan.{scene_line, scene_words}
+use Rattle.cj_program.specs.Outcome.{Outcome, done}
+use Rattle.cj_program.specs.Plan.{IsSceneRefusal}
 
 -- what was read, all of the input
 pub record IsRead (input : Option (List ℕ)) (bytes : List ℕ) : Type 0 where
@@ -34,7 +34,7 @@ pub record RefusesScript (explain : Bool) (input : Option (List ℕ)) (o : Outco
   pub fault : SceneFault
   pub refused : IsRefusedScript bytes fault
   pub told : fault ≢ Why.Memory
-  pub answer : o ≡ explained explain (scene_words script_form fault) (refusal (scene_line fault))
+  pub says : IsSceneRefusal explain script_form fault o
 
 -- the lines of its steps and the report, where no step found the history full
 pub record PrintsRun (input : Option (List ℕ)) (o : Outcome) : Type 0 where

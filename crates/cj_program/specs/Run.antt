@@ -6,8 +6,8 @@ use Rattle.cj_course.specs.Courses.{IsCourse, IsRefusedCourse}
 use Rattle.cj_course.specs.declared.course.Course.{Course}
 use Rattle.cj_run.specs.Runs.{IsRun}
 use Rattle.cj_program.specs.declared.request.RunRequest.{RunRequest}
-use Rattle.cj_program.specs.Outcome.{Outcome, done, explained, refusal}
-use Rattle.cj_program.specs.Plan.{scene_line, scene_words}
+use Rattle.cj_program.specs.Outcome.{Outcome, done}
+use Rattle.cj_program.specs.Plan.{IsSceneRefusal}
 
 -- the form of a scenario of `run`
 -- rule: explain
@@ -19,7 +19,7 @@ pub record RefusesCourse (explain : Bool) (bytes : List ℕ) (o : Outcome) : Typ
   pub fault : SceneFault
   pub refused : IsRefusedCourse bytes fault
   pub told : fault ≢ Why.Memory
-  pub answer : o ≡ explained explain (scene_words course_form fault) (refusal (scene_line fault))
+  pub says : IsSceneRefusal explain course_form fault o
 
 -- the report of a run of the scenario that they are
 pub record PrintsReport (bytes : List ℕ) (o : Outcome) : Type 0 where

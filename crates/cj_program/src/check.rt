@@ -2,10 +2,14 @@ ghost use Rattle.std.specs.Prelude.{◌≡◌, ◌++◌, IfOk, MatchOption, code
 ghost use Rattle.cj_manifest.specs.Either.{key_of, kind_of};
 ghost use Rattle.cj_zone.specs.Table.{zones_of};
 ghost use Rattle.cj_explain.specs.Faults.{faults_words};
-ghost use Rattle.cj_program.specs.Check.{AddsPair, IsCheckOutcome, IsChecked, IsNoZone, IsZonesOf, RefusesPair, fault_lines, faulty, json_words, ok_line, pair_words, warning_lines};
+ghost use Rattle.cj_program.specs.Json.{yaml_words};
+ghost use Rattle.cj_program.specs.Advice.{advice_of, dropped_words_all};
+ghost use Rattle.cj_program.specs.Check.{AddsPair, IsCheckOutcome, IsChecked, IsNoJson, IsNoZone, IsZonesOf, RefusesPair, fault_lines, faulty, ok_line, pair_words, warning_lines};
 ghost use Rattle.cj_program.specs.Outcome.{done, explained, outcome_of, refusal};
 
+use crate::advice::advice;
 use crate::answer::{Answer, Verdict};
+use crate::json::json_words;
 use crate::lines::{print_faults, print_ok, print_warnings};
 use crate::request::CheckRequest;
 use cj_base::{FieldFault, Refusal};
@@ -42,17 +46,24 @@ fn zones(alloc: Global, pair: Option<&str>) -> Result<Option<ZoneTable>, Failure
 }
 
 // A manifest without a fault, and the members of it that are dropped.
-fn fine(alloc: Global, manifest: &Manifest, warnings: &[Warning]) -> Result<Answer, Failure>
-    ensures { IfOk result (λ a. outcome_of a ≡ done (ok_line (kind_of manifest.now) (key_of manifest.now) ++ warning_lines warnings.now)) }
+fn fine(
+    alloc: Global,
+    explain: bool,
+    manifest: &Manifest,
+    warnings: &[Warning],
+) -> Result<Answer, Failure>
+    ensures { IfOk result (λ a. outcome_of a ≡ explained explain (dropped_words_all warnings.now ++ advice_of manifest.now) (done (ok_line (kind_of manifest.now) (key_of manifest.now) ++ warning_lines warnings.now))) }
 {
     let mut printed = print_ok(alloc, manifest.kind(), manifest.key())?;
     let lines = print_warnings(alloc, warnings)?;
     printed.push_str(lines.as_str())?;
-    Ok(Answer {
+    let words = advice(alloc, manifest, warnings)?;
+    let answer = Answer {
         verdict: Verdict::Done,
         printed,
         said: String::new(alloc),
-    })
+    };
+    Ok(answer.explained(explain, words.as_str())?)
 }
 
 // A manifest that is refused, with what is printed of it.
@@ -66,19 +77,31 @@ fn faulty(alloc: Global, printed: String) -> Answer
     }
 }
 
-// What a manifest has to be.
-const JSON_WORDS: &str =
-    "manifest: want JSON; kubectl create --dry-run=client -o json -f FILE makes it of YAML\n";
 
 // What a zone has to be.
 const PAIR_WORDS: &str =
     "--zone: want NAME=RULE like Europe/Berlin=CET-1CEST,M3.5.0,M10.5.0/3\n";
 
-fn no_json(alloc: Global, explain: bool) -> Result<Answer, AllocError>
-    ensures { IfOk result (λ a. outcome_of a ≡ explained explain json_words (faulty (codes "refused 1 Syntax\n"))) }
+// The place, and how a manifest in YAML turns into JSON.
+fn yaml_words(alloc: Global, place: &str) -> Result<String, AllocError>
+    ensures { IfOk result (λ s. string_bytes s ≡ place.now ++ yaml_words) }
+{
+    format!(in alloc; "{place}FILE: of YAML, kubectl create --dry-run=client -o json -f FILE makes JSON\n")
+}
+
+fn with_place(alloc: Global, explain: bool, place: &str) -> Result<Answer, AllocError>
+    ensures { IfOk result (λ a. outcome_of a ≡ explained explain (place.now ++ yaml_words) (faulty (codes "refused 1 Syntax\n"))) }
 {
     let printed = String::from_str(alloc, "refused 1 Syntax\n")?;
-    faulty(alloc, printed).explained(explain, JSON_WORDS)
+    let words = yaml_words(alloc, place)?;
+    faulty(alloc, printed).explained(explain, words.as_str())
+}
+
+fn no_json(alloc: Global, explain: bool, bytes: &[u8]) -> Result<Answer, Failure>
+    ensures { IfOk result (λ a. IsNoJson explain (outcome_of a)) }
+{
+    let place = json_words(alloc, bytes)?;
+    Ok(with_place(alloc, explain, place.as_str())?)
 }
 
 fn with_faults(alloc: Global, explain: bool, faults: &[FieldFault]) -> Result<Answer, AllocError>
@@ -99,8 +122,8 @@ fn manifest_answer(
     ensures { IfOk result (λ a. IsChecked explain (zones_of zones.now) bytes.now (outcome_of a)) }
 {
     match read_manifest(alloc, bytes, zones) {
-        Ok((manifest, warnings)) => fine(alloc, &manifest, warnings.as_slice()),
-        Err(Refusal::Syntax) => Ok(no_json(alloc, explain)?),
+        Ok((manifest, warnings)) => fine(alloc, explain, &manifest, warnings.as_slice()),
+        Err(Refusal::Syntax) => no_json(alloc, explain, bytes),
         Err(Refusal::Invalid(faults)) => Ok(with_faults(alloc, explain, faults.as_slice())?),
         Err(_) => Err(Failure::Memory),
     }

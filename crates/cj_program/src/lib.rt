@@ -1,10 +1,12 @@
 //! The commands of the program: what the words of a command line ask for, and what they are answered.
 #![tactic(auto)]
 
+mod advice;
 mod answer;
 mod check;
 mod command;
 mod help;
+mod json;
 mod lines;
 mod next;
 mod next_text;

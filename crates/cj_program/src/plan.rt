@@ -3,12 +3,13 @@ ghost use Rattle.cj_zone.specs.Table.{local_zone, zones_of};
 ghost use Rattle.cj_zone.specs.Zones.{utc_zone};
 ghost use Rattle.cj_decide.specs.Decision.{IsPlan};
 ghost use Rattle.cj_scenario.specs.Made.{IsScene};
-ghost use Rattle.cj_scenario.specs.declared.fault.SceneFault.TheVariants.{Manifest, Memory};
+ghost use Rattle.cj_scenario.specs.declared.fault.SceneFault.TheVariants.{Form, Manifest, Memory, Syntax};
 ghost use Rattle.cj_explain.specs.Faults.{fault_words};
 ghost use Rattle.cj_program.specs.Outcome.{done, explained, outcome_of, refusal};
-ghost use Rattle.cj_program.specs.Plan.{IsPlanOutcome, IsPlannedFor, now_words, plan_lines, scene_line, scene_words, zone_for};
+ghost use Rattle.cj_program.specs.Plan.{IsPlanOutcome, IsPlannedFor, IsSceneRefusal, now_words, plan_lines, scene_line, zone_for};
 
 use crate::answer::{Answer, Verdict};
+use crate::json::json_words;
 use crate::lines::print_fault;
 use crate::plan_text::plan_text;
 use crate::request::PlanRequest;
@@ -101,23 +102,46 @@ fn manifest_fault(
     Answer::refused(alloc, line.as_str())?.explained(explain, words.as_str())
 }
 
+fn syntax_fault(alloc: Global, explain: bool, words: &str) -> Result<Answer, AllocError>
+    ensures { IfOk result (λ a. outcome_of a ≡ explained explain words.now (refusal (scene_line Syntax))) }
+{
+    Answer::refused(alloc, "cronsim: refused 1 Syntax\n")?.explained(explain, words)
+}
+
+fn no_json(alloc: Global, explain: bool, bytes: &[u8]) -> Result<Answer, Failure>
+    ensures { (form : List ℕ) → IfOk result (λ a. IsSceneRefusal explain form Syntax (outcome_of a)) }
+{
+    let words = json_words(alloc, bytes)?;
+    Ok(syntax_fault(alloc, explain, words.as_str())?)
+}
+
+fn no_form(alloc: Global, explain: bool, form: &str) -> Result<Answer, AllocError>
+    ensures { IfOk result (λ a. IsSceneRefusal explain form.now Form (outcome_of a)) }
+{
+    Answer::refused(alloc, "cronsim: scenario\n")?.explained(explain, form)
+}
+
+fn faulty_manifest(alloc: Global, explain: bool, fault: FieldFault) -> Result<Answer, AllocError>
+    ensures { (form : List ℕ) → IfOk result (λ a. IsSceneRefusal explain form (Manifest fault) (outcome_of a)) }
+{
+    manifest_fault(alloc, explain, fault)
+}
+
 /// What a scenario or a script is answered that is refused, of which this form is wanted.
 pub(crate) fn refused_scene(
     alloc: Global,
     explain: bool,
     form: &str,
+    bytes: &[u8],
     fault: SceneFault,
 ) -> Result<Answer, Failure>
     ensures told { IfOk result (λ _. fault ≢ Memory) }
-    ensures answer { IfOk result (λ a. outcome_of a ≡ explained explain (scene_words form.now fault) (refusal (scene_line fault))) }
+    ensures says { IfOk result (λ a. IsSceneRefusal explain form.now fault (outcome_of a)) }
 {
     match fault {
-        SceneFault::Syntax => Ok(Answer::refused(alloc, "cronsim: refused 1 Syntax\n")?
-            .explained(explain, "FILE: want JSON\n")?),
-        SceneFault::Form => {
-            Ok(Answer::refused(alloc, "cronsim: scenario\n")?.explained(explain, form)?)
-        }
-        SceneFault::Manifest(fault) => Ok(manifest_fault(alloc, explain, fault)?),
+        SceneFault::Syntax => no_json(alloc, explain, bytes),
+        SceneFault::Form => Ok(no_form(alloc, explain, form)?),
+        SceneFault::Manifest(fault) => Ok(faulty_manifest(alloc, explain, fault)?),
         SceneFault::Memory => Err(Failure::Memory),
     }
 }
@@ -139,7 +163,7 @@ fn scene_answer(
 {
     match read_scene(alloc, bytes) {
         Ok(scene) => planned(alloc, scene, now),
-        Err(fault) => refused_scene(alloc, explain, SCENARIO_FORM, fault),
+        Err(fault) => refused_scene(alloc, explain, SCENARIO_FORM, bytes, fault),
     }
 }
 

@@ -57,7 +57,7 @@ fn bytes_answer<T: Threads + Wait + Sync>(
 {
     match read_course(alloc, bytes) {
         Ok(course) => answered(rt, alloc, bytes, &course, run.workers),
-        Err(fault) => refused_scene(alloc, run.explain, COURSE_FORM, fault),
+        Err(fault) => refused_scene(alloc, run.explain, COURSE_FORM, bytes, fault),
     }
 }
 

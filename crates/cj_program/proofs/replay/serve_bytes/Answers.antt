@@ -9,8 +9,8 @@ returns-in-Ok-clause-failed g c = λ e input read. run_failed c.args.explain c.a
 
 pub returns-in-Err-clause-served : goal.returns-in-Err-clause-served
 returns-in-Err-clause-served g c = λ lt input read.
-    refusal_served c.args.explain c.args.bytes.now input read _ _ _ _ c.in-Err.fault c.in-Err.ensures.refused _ c.refused_scene.result c.refused_scene.ensures.told c.refused_scene.ensures.answer (c.give_answer.ensures.given lt)
+    refusal_served c.args.explain c.args.bytes.now input read _ _ _ _ c.in-Err.fault c.in-Err.ensures.refused _ c.refused_scene.result c.refused_scene.ensures.told c.refused_scene.ensures.says (c.give_answer.ensures.given lt)
 
 pub returns-in-Err-clause-failed : goal.returns-in-Err-clause-failed
 returns-in-Err-clause-failed g c = λ e input read.
-    refusal_failed c.args.explain c.args.bytes.now input read _ _ _ _ c.in-Err.fault c.in-Err.ensures.refused c.refused_scene.result c.refused_scene.ensures.told c.refused_scene.ensures.answer (c.give_answer.ensures.failed e)
+    refusal_failed c.args.explain c.args.bytes.now input read _ _ _ _ c.in-Err.fault c.in-Err.ensures.refused c.refused_scene.result c.refused_scene.ensures.told c.refused_scene.ensures.says (c.give_answer.ensures.failed e)
