@@ -52,10 +52,8 @@ pub(crate) fn need(field: Field) -> &'static str
     ensures { result.now ≡ need field }
 {
     match field {
-        Field::ApiVersion
-        | Field::Kind
-        | Field::JobTemplateRestartPolicy
-        | Field::RestartPolicy => choices(field),
+        Field::ApiVersion | Field::Kind | Field::JobTemplateRestartPolicy | Field::RestartPolicy =>
+            choices(field),
         Field::ScheduleText => "a schedule like */15 * * * *",
         _ => form(field),
     }

@@ -58,15 +58,13 @@ fn count_words(alloc: Global, text: &str) -> Result<String, AllocError>
     ensures { IfOk result (λ s. string_bytes s ≡ count_words text.now) }
 {
     let count = field_count(text);
-    format!(in alloc; "{count} fields, 5 are wanted: minute, hour, day of month, month, day of week")
+    format!(in alloc;
+        "{count} fields, 5 are wanted: minute, hour, day of month, month, day of week"
+    )
 }
 
 // What is wrong with an element, which is shown.
-fn element_words(
-    alloc: Global,
-    text: &str,
-    fault: ScheduleFault,
-) -> Result<String, AllocError>
+fn element_words(alloc: Global, text: &str, fault: ScheduleFault) -> Result<String, AllocError>
     ensures { IfOk result (λ s. IsElementWords text.now fault (string_bytes s)) }
 {
     let ScheduleFault { field, byte, cause } = fault;
@@ -81,10 +79,8 @@ fn words(alloc: Global, text: &str, fault: ScheduleFault) -> Result<String, Allo
 {
     match fault.cause {
         ScheduleCause::Fields => count_words(alloc, text),
-        ScheduleCause::Syntax
-        | ScheduleCause::Range
-        | ScheduleCause::Order
-        | ScheduleCause::Step => element_words(alloc, text, fault),
+        ScheduleCause::Syntax | ScheduleCause::Range | ScheduleCause::Order | ScheduleCause::Step =>
+            element_words(alloc, text, fault),
         _ => String::from_str(alloc, cause_words(fault.field, fault.cause)),
     }
 }

@@ -5,3 +5,4 @@ pub mod Given
 pub mod Runs
 pub mod Scenes
 pub mod Checked
+pub mod Comes

@@ -1,9 +1,11 @@
 -- What people are told of a manifest without a fault: Kubernetes CronJob documentation, "Schedule suspension", "Deadline for delayed Job
 -- start", "Jobs history limits" and "CronJob limitations" (a deadline below ten seconds).
-use Rattle.std.specs.Prelude.{ℕ, ◌==◌, nat_lt, Bool, true, false, List, [], ◌∷◌, ◌++◌, Option, None, Some, codes, bytes_eq, if◌then◌else◌}
+use Rattle.std.specs.Prelude.{◌≡◌, ℕ, ◌==◌, nat_lt, Bool, true, false, List, [], ◌∷◌, ◌++◌, Option, None, Some, codes, bytes_eq, if◌then◌else◌}
 use Rattle.cj_types.specs.declared.cron.CronSpec.{CronSpec}
+use Rattle.cj_zone.specs.declared.zone.Zone.{Zone}
 use Rattle.cj_manifest.specs.declared.manifest.Manifest.{Manifest}
 use Rattle.cj_manifest.specs.declared.manifest.Manifest.TheVariants as Of
+use Rattle.cj_program.specs.Coming.{IsScheduleAdvice}
 
 abbrev pub suspend_advice : Bool → List ℕ
 suspend_advice true = codes "spec.suspend: true starts no Job\n"
@@ -30,9 +32,15 @@ cron_advice s =
     suspend_advice s.suspend ++ (deadline_advice s.starting_deadline_seconds
     ++ (successful_advice s.successful_limit ++ failed_advice s.failed_limit))
 
-abbrev pub advice_of : Manifest → List ℕ
-advice_of (Of.CronJob draft) = cron_advice draft.spec
-advice_of (Of.Job draft) = []
+-- that, and whether the schedule comes at all
+pub record IsCronAdvice (spec : CronSpec) (zones : List Zone) (words : List ℕ) : Type 0 where
+  pub coming : List ℕ
+  pub comes : IsScheduleAdvice spec zones coming
+  pub are : words ≡ cron_advice spec ++ coming
+
+abbrev pub IsAdvice : Manifest → List Zone → List ℕ → Type 0
+IsAdvice (Of.CronJob draft) zones words = IsCronAdvice draft.spec zones words
+IsAdvice (Of.Job draft) zones words = words ≡ []
 
 -- a member that is dropped, by its path
 -- rule: explain-advice

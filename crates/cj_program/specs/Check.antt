@@ -22,7 +22,7 @@ use Rattle.cj_program.specs.declared.answer.Verdict.TheVariants.{Refused}
 use Rattle.cj_program.specs.declared.request.CheckRequest.{CheckRequest}
 use Rattle.cj_explain.specs.Faults.{faults_words}
 use Rattle.cj_program.specs.Json.{IsJsonWords, yaml_words}
-use Rattle.cj_program.specs.Advice.{advice_of, dropped_words_all}
+use Rattle.cj_program.specs.Advice.{IsAdvice, dropped_words_all}
 use Rattle.cj_program.specs.Outcome.{Outcome, done, explained, refusal}
 
 -- ---- the zones that a manifest may name
@@ -136,7 +136,9 @@ pub record IsFine (explain : Bool) (zones : List Zone) (bytes : List ℕ) (o : O
   pub manifest : Manifest
   pub warnings : List (List ℕ)
   pub reading : IsReading Manifest (manifest_faults zones) manifest_draft manifest_warnings bytes manifest warnings
-  pub answer : o ≡ explained explain (dropped_words_all warnings ++ advice_of manifest)
+  pub words : List ℕ
+  pub advice : IsAdvice manifest zones words
+  pub answer : o ≡ explained explain (dropped_words_all warnings ++ words)
       (done (ok_line (kind_of manifest) (key_of manifest) ++ warning_lines warnings))
 
 -- what the bytes of a manifest are answered under these zones, its faults explained or not

@@ -2,6 +2,7 @@ pub mod Command
 pub mod NextText
 pub mod Outcome
 pub mod Json
+pub mod Coming
 pub mod Advice
 pub mod Check
 pub mod Plan

@@ -1,9 +1,12 @@
 // What people are told of a manifest without a fault: the members that are dropped, and what is worth a look.
 ghost use Rattle.std.specs.Prelude.{◌≡◌, ◌++◌, IfOk, string_bytes};
-ghost use Rattle.cj_program.specs.Advice.{advice_of, cron_advice, deadline_advice, dropped_words, dropped_words_all, failed_advice, successful_advice, suspend_advice};
+ghost use Rattle.cj_zone.specs.Table.{zones_of};
+ghost use Rattle.cj_program.specs.Advice.{IsAdvice, IsCronAdvice, cron_advice, deadline_advice, dropped_words, dropped_words_all, failed_advice, successful_advice, suspend_advice};
 
+use crate::coming::schedule_advice;
 use cj_manifest::{Manifest, Warning};
 use cj_types::{CronSpec, Deadline};
+use cj_zone::ZoneTable;
 use std::alloc::{AllocError, Global};
 
 fn suspend_advice(suspend: bool) -> &'static str
@@ -66,12 +69,16 @@ fn dropped_words(alloc: Global, warning: &Warning) -> Result<String, AllocError>
 {
     let path = warning.path();
     if path == "apiVersion" {
-        return String::from_str(alloc, "apiVersion: read as batch/v1; Kubernetes 1.25 dropped batch/v1beta1\n");
+        return String::from_str(
+            alloc,
+            "apiVersion: read as batch/v1; Kubernetes 1.25 dropped batch/v1beta1\n",
+        );
     }
     format!(in alloc; "{path}: no member that is known here, so it is dropped\n")
 }
 
-fn all_dropped_words(alloc: Global, warnings: &[Warning]) -> Result<String, AllocError>
+/// A line for each member that is dropped.
+pub(crate) fn all_dropped_words(alloc: Global, warnings: &[Warning]) -> Result<String, AllocError>
     ensures { IfOk result (λ s. string_bytes s ≡ dropped_words_all warnings.now) }
 {
     let mut text = String::new(alloc);
@@ -82,25 +89,30 @@ fn all_dropped_words(alloc: Global, warnings: &[Warning]) -> Result<String, Allo
     Ok(text)
 }
 
-fn manifest_advice(alloc: Global, manifest: &Manifest) -> Result<String, AllocError>
-    ensures { IfOk result (λ s. string_bytes s ≡ advice_of manifest.now) }
+fn with_coming(alloc: Global, spec: &CronSpec, coming: &str) -> Result<String, AllocError>
+    ensures { IfOk result (λ s. string_bytes s ≡ cron_advice spec.now ++ coming.now) }
 {
-    match manifest {
-        Manifest::CronJob(draft) => cron_advice(alloc, draft.spec.get()),
-        Manifest::Job(_) => Ok(String::new(alloc)),
-    }
+    let mut text = cron_advice(alloc, spec)?;
+    text.push_str(coming)?;
+    Ok(text)
 }
 
-/// A line for each member that is dropped, and one for each that is worth a look.
+fn advice_on(alloc: Global, zones: &ZoneTable, spec: &CronSpec) -> Result<String, AllocError>
+    ensures { IfOk result (λ s. IsCronAdvice spec.now (zones_of zones.now) (string_bytes s)) }
+{
+    with_coming(alloc, spec, schedule_advice(zones, spec))
+}
+
+/// A line for each thing in a manifest without a fault that is worth a look.
 pub(crate) fn advice(
     alloc: Global,
+    zones: &ZoneTable,
     manifest: &Manifest,
-    warnings: &[Warning],
 ) -> Result<String, AllocError>
-    ensures { IfOk result (λ s. string_bytes s ≡ dropped_words_all warnings.now ++ advice_of manifest.now) }
+    ensures { IfOk result (λ s. IsAdvice manifest.now (zones_of zones.now) (string_bytes s)) }
 {
-    let mut text = all_dropped_words(alloc, warnings)?;
-    let advice = manifest_advice(alloc, manifest)?;
-    text.push_str(advice.as_str())?;
-    Ok(text)
+    match manifest {
+        Manifest::CronJob(draft) => advice_on(alloc, zones, draft.spec.get()),
+        Manifest::Job(_) => Ok(String::new(alloc)),
+    }
 }

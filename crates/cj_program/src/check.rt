@@ -3,11 +3,11 @@ ghost use Rattle.cj_manifest.specs.Either.{key_of, kind_of};
 ghost use Rattle.cj_zone.specs.Table.{zones_of};
 ghost use Rattle.cj_explain.specs.Faults.{faults_words};
 ghost use Rattle.cj_program.specs.Json.{yaml_words};
-ghost use Rattle.cj_program.specs.Advice.{advice_of, dropped_words_all};
+ghost use Rattle.cj_program.specs.Advice.{dropped_words_all};
 ghost use Rattle.cj_program.specs.Check.{AddsPair, IsCheckOutcome, IsChecked, IsNoJson, IsNoZone, IsZonesOf, RefusesPair, fault_lines, faulty, ok_line, pair_words, warning_lines};
 ghost use Rattle.cj_program.specs.Outcome.{done, explained, outcome_of, refusal};
 
-use crate::advice::advice;
+use crate::advice::{advice, all_dropped_words};
 use crate::answer::{Answer, Verdict};
 use crate::json::json_words;
 use crate::lines::{print_faults, print_ok, print_warnings};
@@ -51,19 +51,21 @@ fn fine(
     explain: bool,
     manifest: &Manifest,
     warnings: &[Warning],
+    words: &str,
 ) -> Result<Answer, Failure>
-    ensures { IfOk result (λ a. outcome_of a ≡ explained explain (dropped_words_all warnings.now ++ advice_of manifest.now) (done (ok_line (kind_of manifest.now) (key_of manifest.now) ++ warning_lines warnings.now))) }
+    ensures { IfOk result (λ a. outcome_of a ≡ explained explain (dropped_words_all warnings.now ++ words.now) (done (ok_line (kind_of manifest.now) (key_of manifest.now) ++ warning_lines warnings.now))) }
 {
     let mut printed = print_ok(alloc, manifest.kind(), manifest.key())?;
     let lines = print_warnings(alloc, warnings)?;
     printed.push_str(lines.as_str())?;
-    let words = advice(alloc, manifest, warnings)?;
+    let mut dropped = all_dropped_words(alloc, warnings)?;
+    dropped.push_str(words)?;
     let answer = Answer {
         verdict: Verdict::Done,
         printed,
         said: String::new(alloc),
     };
-    Ok(answer.explained(explain, words.as_str())?)
+    Ok(answer.explained(explain, dropped.as_str())?)
 }
 
 // A manifest that is refused, with what is printed of it.
@@ -77,16 +79,16 @@ fn faulty(alloc: Global, printed: String) -> Answer
     }
 }
 
-
 // What a zone has to be.
-const PAIR_WORDS: &str =
-    "--zone: want NAME=RULE like Europe/Berlin=CET-1CEST,M3.5.0,M10.5.0/3\n";
+const PAIR_WORDS: &str = "--zone: want NAME=RULE like Europe/Berlin=CET-1CEST,M3.5.0,M10.5.0/3\n";
 
 // The place, and how a manifest in YAML turns into JSON.
 fn yaml_words(alloc: Global, place: &str) -> Result<String, AllocError>
     ensures { IfOk result (λ s. string_bytes s ≡ place.now ++ yaml_words) }
 {
-    format!(in alloc; "{place}FILE: of YAML, kubectl create --dry-run=client -o json -f FILE makes JSON\n")
+    format!(in alloc;
+        "{place}FILE: of YAML, kubectl create --dry-run=client -o json -f FILE makes JSON\n"
+    )
 }
 
 fn with_place(alloc: Global, explain: bool, place: &str) -> Result<Answer, AllocError>
@@ -122,7 +124,16 @@ fn manifest_answer(
     ensures { IfOk result (λ a. IsChecked explain (zones_of zones.now) bytes.now (outcome_of a)) }
 {
     match read_manifest(alloc, bytes, zones) {
-        Ok((manifest, warnings)) => fine(alloc, explain, &manifest, warnings.as_slice()),
+        Ok((manifest, warnings)) => {
+            let words = advice(alloc, zones, &manifest)?;
+            fine(
+                alloc,
+                explain,
+                &manifest,
+                warnings.as_slice(),
+                words.as_str(),
+            )
+        }
         Err(Refusal::Syntax) => no_json(alloc, explain, bytes),
         Err(Refusal::Invalid(faults)) => Ok(with_faults(alloc, explain, faults.as_slice())?),
         Err(_) => Err(Failure::Memory),

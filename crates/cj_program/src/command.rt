@@ -57,7 +57,9 @@ fn explain_arg<'a>(alloc: Global) -> Arg<'a>
     Arg::new(alloc, "explain")
         .long("explain")
         .action(ArgAction::SetTrue)
-        .help("Say of a refusal, on standard error after its line, what is wrong and what is wanted")
+        .help(
+            "Say of a refusal, on standard error after its line, what is wrong and what is wanted",
+        )
 }
 
 fn next_command<'a>(alloc: Global) -> Result<Command<'a>, AllocError>

@@ -4,6 +4,7 @@
 mod advice;
 mod answer;
 mod check;
+mod coming;
 mod command;
 mod help;
 mod json;

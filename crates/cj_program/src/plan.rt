@@ -90,11 +90,7 @@ fn fault_text(alloc: Global, fault: FieldFault) -> Result<String, AllocError>
     Ok(text)
 }
 
-fn manifest_fault(
-    alloc: Global,
-    explain: bool,
-    fault: FieldFault,
-) -> Result<Answer, AllocError>
+fn manifest_fault(alloc: Global, explain: bool, fault: FieldFault) -> Result<Answer, AllocError>
     ensures { IfOk result (λ a. outcome_of a ≡ explained explain (fault_words fault) (refusal (scene_line (Manifest fault)))) }
 {
     let line = fault_text(alloc, fault)?;
@@ -147,18 +143,14 @@ pub(crate) fn refused_scene(
 }
 
 // The form of a scenario.
-const SCENARIO_FORM: &str = "FILE: want an object with manifest and created, and perhaps last, jobs and zones, as docs/examples/replace.json\n";
+const SCENARIO_FORM: &str =
+    "FILE: want an object with manifest and created, and perhaps last, jobs and zones, as docs/examples/replace.json\n";
 
 // What a moment has to be.
 const NOW_WORDS: &str = "--now: want a UTC time like 2024-01-01T00:00:00Z\n";
 
 // What a scenario is answered at that moment.
-fn scene_answer(
-    alloc: Global,
-    explain: bool,
-    bytes: &[u8],
-    now: Seconds,
-) -> Result<Answer, Failure>
+fn scene_answer(alloc: Global, explain: bool, bytes: &[u8], now: Seconds) -> Result<Answer, Failure>
     ensures { IfOk result (λ a. IsPlannedFor explain bytes.now now (outcome_of a)) }
 {
     match read_scene(alloc, bytes) {

@@ -58,7 +58,11 @@ fn serve_bytes<W: Write, E: Write>(
 {
     match read_script(alloc, bytes) {
         Ok(script) => run_script(alloc, &script, out, err),
-        Err(fault) => give_answer(refused_scene(alloc, explain, SCRIPT_FORM, bytes, fault), out, err),
+        Err(fault) => give_answer(
+            refused_scene(alloc, explain, SCRIPT_FORM, bytes, fault),
+            out,
+            err,
+        ),
     }
 }
 

@@ -45,7 +45,8 @@ fn answered<T: Threads + Wait + Sync>(
 }
 
 // The form of a scenario.
-const COURSE_FORM: &str = "FILE: want an object with start, end and cronJobs, and perhaps stepSeconds, runs, edits and zones, as docs/examples/forbid.json\n";
+const COURSE_FORM: &str =
+    "FILE: want an object with start, end and cronJobs, and perhaps stepSeconds, runs, edits and zones, as docs/examples/forbid.json\n";
 
 fn bytes_answer<T: Threads + Wait + Sync>(
     rt: &T,
