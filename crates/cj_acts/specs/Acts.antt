@@ -1,5 +1,5 @@
--- What a step does whose verb takes no manifest, by the members that it needs; none where one of these is missing or has the
--- wrong form. Members that are null are missing, and others aren't looked at.
+-- What a step does whose verb takes no manifest, by the members that it needs; none where one of these is
+-- missing or has the wrong form. Members that are null are missing, and others aren't looked at.
 use Rattle.std.specs.Prelude.{ℕ, ◌*◌, ◌==◌, ◌&&◌, nat_le, length, Bool, List, codes, bytes_eq, if◌then◌else◌, Option, Some, None, option_map, option_and_then}
 use Rattle.std.specs.List.{before_first, after_first, position_or_len}
 use Rattle.std.specs.Result.{result_ok}

@@ -107,8 +107,8 @@ fn claim(value: &Value) -> Option<Act>
     Some(Act::Claims(time_at(value, "at")?))
 }
 
-/// What a step with this verb does, or none where a member that it needs is missing or has the wrong form. Members that it
-/// doesn't need aren't looked at.
+/// What a step with this verb does, or none where a member that it needs is missing or has the wrong form.
+/// Members that it doesn't need aren't looked at.
 pub fn plain_act(alloc: Global, verb: Plain, value: &Value) -> Result<Option<Act>, Refusal>
     ensures ok { IfOk result (λ a. a ≡ plain_act verb (view value.now)) }
     ensures err { IfErr result (λ e. e ≡ OutOfMemory) }

@@ -51,8 +51,8 @@ pub fn shut(alloc: Global, state: &mut State) -> Result<Answered, Refusal>
     Ok(answer)
 }
 
-// The mirror learns what the watch tells, or all current Jobs where events are gone. The answer, of how many writes it knows then,
-// is made before.
+// The mirror learns what the watch tells, or all current Jobs where events are gone. The answer, of how many
+// writes it knows then, is made before.
 fn catch_up(
     alloc: Global,
     mirror: &mut Mirror,

@@ -1,5 +1,5 @@
--- Entries of the history, and the answers that a call can have: the statuses of Kubernetes API conventions, "HTTP Status codes", and
--- the replies of client-go's work queue.
+-- Entries of the history, and the answers that a call can have: the statuses of Kubernetes API conventions,
+-- "HTTP Status codes", and the replies of client-go's work queue.
 use Rattle.std.specs.Prelude.{Bool, true, false, Result, Ok, Err}
 use Rattle.cj_base.specs.declared.refusal.Refusal.{Refusal}
 use Rattle.cj_base.specs.declared.refusal.Refusal.TheVariants as No

@@ -22,7 +22,8 @@ use Rattle.cj_course.specs.Seeds.{crons_in}
 use Rattle.cj_course.specs.Spans.{SpanView}
 use Rattle.cj_course.specs.Times.{span_in}
 
--- one part beside another: a fault of the form in either outweighs a manifest's, and a manifest's in the first those in the second
+-- one part beside another: a fault of the form in either outweighs a manifest's, and a manifest's in the
+-- first those in the second
 -- rule: run-order
 abbrev pub beside : {A B : Type 0} → Result A SceneFault → Result B SceneFault → Result (A × B) SceneFault
 beside (Ok x) rest = then rest (λ y. Ok (x, y))

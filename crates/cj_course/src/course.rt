@@ -11,8 +11,8 @@ pub struct Edit {
     pub act: Act,
 }
 
-/// What a run's scenario says: the zones that its CronJobs may name, the instants of its clock, the CronJobs that are there
-/// from the start, how their Jobs go, and what is done beside in its order.
+/// What a run's scenario says: the zones that its CronJobs may name, the instants of its clock, the CronJobs
+/// that are there from the start, how their Jobs go, and what is done beside in its order.
 #[derive(Drop)]
 pub struct Course {
     pub zones: ZoneTable,

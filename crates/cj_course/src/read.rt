@@ -109,16 +109,17 @@ fn course_of(alloc: Global, value: &Value) -> Result<Course, SceneFault>
     })
 }
 
-/// Reads the scenario of a run: a JSON object with the times `start` and `end`, from which to which its clock goes;
-/// `stepSeconds`, from one instant of it to the next, 1 to 3,600, by default 60; `cronJobs`, the manifests of the CronJobs
-/// that are there from the start; and, where wanted, `runs`, an object from CronJobs' keys to lists of objects with
-/// `seconds` and `outcome`, `Complete` or `Failed`, which say how their Jobs go; `edits`, a list of objects that each say
-/// what is done, `do`, with what that needs, and when, `at`, which is an instant of the clock; and `zones`, an object from
-/// names to POSIX rules. Members of other names, or that are null, are ignored.
+/// Reads the scenario of a run: a JSON object with the times `start` and `end`, from which to which its clock
+/// goes; `stepSeconds`, from one instant of it to the next, 1 to 3,600, by default 60; `cronJobs`, the
+/// manifests of the CronJobs that are there from the start; and, where wanted, `runs`, an object from
+/// CronJobs' keys to lists of objects with `seconds` and `outcome`, `Complete` or `Failed`, which say how
+/// their Jobs go; `edits`, a list of objects that each say what is done, `do`, with what that needs, and
+/// when, `at`, which is an instant of the clock; and `zones`, an object from names to POSIX rules. Members of
+/// other names, or that are null, are ignored.
 ///
-/// Refused in this order: `Syntax` for bytes that aren't JSON, `Form` for a value of another form or with a zone that is
-/// refused, and `Manifest` with the first fault of the first manifest that has one, those of `cronJobs` before those of
-/// `edits`.
+/// Refused in this order: `Syntax` for bytes that aren't JSON, `Form` for a value of another form or with a
+/// zone that is refused, and `Manifest` with the first fault of the first manifest that has one, those of
+/// `cronJobs` before those of `edits`.
 pub fn read_course(alloc: Global, bytes: &[u8]) -> Result<Course, SceneFault>
     ensures read { IfOk result (IsCourse bytes.now) }
     ensures refused { IfErr result (IsRefusedCourse bytes.now) }

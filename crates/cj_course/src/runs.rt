@@ -10,8 +10,8 @@ use cj_types::{Key, Listing, Refusal};
 use std::alloc::Global;
 use std::marker::Model;
 
-/// The runs of CronJobs' Jobs by the CronJob's key, in the order in which Jobs take them. Contracts see the list of each
-/// key.
+/// The runs of CronJobs' Jobs by the CronJob's key, in the order in which Jobs take them. Contracts see the
+/// list of each key.
 #[derive(Drop)]
 pub struct Runs {
     rows: Table<Listing<Run>>,

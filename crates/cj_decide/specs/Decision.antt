@@ -81,8 +81,8 @@ pub record IsDecision (cron : CronJob) (jobs : List Job) (found : List (Option J
   pub judged : IsVerdict cron z (has_any (running_of cron found)) now verdict
   pub meant : AreSteps cron jobs found verdict steps
 
--- the plan of a CronJob or none, the listed Jobs, what a live read found for each of its active names, the moment and the
--- zone, if it is known
+-- the plan of a CronJob or none, the listed Jobs, what a live read found for each of its active names, the
+-- moment and the zone, if it is known
 -- rule: decision-cases
 abbrev pub IsPlan : Option CronJob → List Job → List (Option Job) → ℕ → Option Zone → Steps → Type 0
 IsPlan None jobs found now z steps = steps ≡ clearing jobs

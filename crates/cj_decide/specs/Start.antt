@@ -1,4 +1,5 @@
--- What is done for the time that is claimed: batch/v1, `CronJobStatus`, and Kubernetes CronJob documentation, "Job creation".
+-- What is done for the time that is claimed: batch/v1, `CronJobStatus`, and Kubernetes CronJob documentation,
+-- "Job creation".
 use Rattle.std.specs.Prelude.{ℕ, Some}
 use Rattle.cj_types.specs.declared.cron.CronJob.{CronJob}
 use Rattle.cj_types.specs.declared.cron.CronStatus.{CronStatus}

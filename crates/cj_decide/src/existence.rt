@@ -18,8 +18,8 @@ fn verdicts(cron: &CronJob, zone: Option<&Zone>, now: Seconds) -> (Verdict, Verd
     (busy, idle)
 }
 
-/// Every CronJob has a plan, whatever is listed and found, at every moment, and whether its zone is known or not: there are steps that
-/// are the plan. (Without a CronJob the plan is named by its definition.)
+/// Every CronJob has a plan, whatever is listed and found, at every moment, and whether its zone is known or
+/// not: there are steps that are the plan. (Without a CronJob the plan is named by its definition.)
 pub fn plan_exists(
     cron: &CronJob,
     jobs: &[Shared<Job>],

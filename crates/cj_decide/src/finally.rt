@@ -88,7 +88,8 @@ pub(crate) fn final_step(
     Ok(changed(old, new))
 }
 
-/// The listed Jobs that aren't the CronJob's, by name, then the finished ones that it no longer keeps. The uid is the CronJob's, as a text.
+/// The listed Jobs that aren't the CronJob's, by name, then the finished ones that it no longer keeps. The
+/// uid is the CronJob's, as a text.
 pub(crate) fn cleanup(
     alloc: Global,
     cron: &CronJob,

@@ -8,10 +8,11 @@ use cj_zone::Zone;
 use std::alloc::Global;
 use std::marker::Model;
 
-/// What a sync of a CronJob does, with what that rests on: the CronJob, the listed Jobs, what a live read found for each name of
-/// its `status.active`, the moment and the zone.
+/// What a sync of a CronJob does, with what that rests on: the CronJob, the listed Jobs, what a live read
+/// found for each name of its `status.active`, the moment and the zone.
 ///
-/// Its type keeps that its steps are the decision of what it rests on. Contracts see both. Copies share all of it.
+/// Its type keeps that its steps are the decision of what it rests on. Contracts see both. Copies share all
+/// of it.
 #[derive(Drop)]
 pub struct Plan {
     cron: Option<Shared<CronJob>>,
@@ -41,8 +42,8 @@ fn seen<T>(value: &Option<Shared<T>>) -> Option<&T>
     }
 }
 
-/// The one plan of a CronJob, or none, the Jobs listed for it, what a live read found for each name of its `status.active` in
-/// their order, the moment, and its zone, if that is known.
+/// The one plan of a CronJob, or none, the Jobs listed for it, what a live read found for each name of its
+/// `status.active` in their order, the moment, and its zone, if that is known.
 pub fn decide(
     alloc: Global,
     cron: Option<Shared<CronJob>>,

@@ -1,5 +1,6 @@
--- What a history of syncs needs of a plan: that no time of a CronJob is started twice, and none beside an unfinished Job where the
--- policy forbids it (Kubernetes CronJob documentation, "Concurrency policy"). Cleanup, reasons and the next time play no part.
+-- What a history of syncs needs of a plan: that no time of a CronJob is started twice, and none beside an
+-- unfinished Job where the policy forbids it (Kubernetes CronJob documentation, "Concurrency policy").
+-- Cleanup, reasons and the next time play no part.
 use Rattle.std.specs.Prelude.{◌≡◌, ◌⊎◌, ℕ, suc, ◌≤◌, Bool, true, false, List, [], ◌∷◌, Option, Some, None}
 use Rattle.cj_types.specs.Keys.{Place, place}
 use Rattle.cj_types.specs.Uids.{uid_text}
@@ -58,8 +59,8 @@ abbrev pub upto : Option ℕ → ℕ
 upto None = 0
 upto (Some t) = suc t
 
--- the Job that is made: its controller is the CronJob, in whose namespace it stands, and its name is in the claim's status and the
--- final one
+-- the Job that is made: its controller is the CronJob, in whose namespace it stands, and its name is in the
+-- claim's status and the final one
 pub record IsMade (p : Planned) (cron : CronJob) (claim : Claim) (d : JobDraft) : Type 0 where
   pub owner : OwnerRef
   pub controller : controller_of d.owners ≡ Some owner

@@ -1,12 +1,13 @@
-/// What syncs read that no scenario of the command says, and the plan of each, a line a row, parted by bars: what it is about; the schedule, or
-/// that there is no CronJob; the zone, a POSIX rule, or `?` where it isn't known; the policy; whether it is suspended; the starting
-/// deadline; how many Jobs are kept that ended with success, and that failed; when it was created; its last schedule time; its last
-/// successful time; its active names; now; the listed Jobs, each with name, creation time, state, and whether it is the CronJob's own or
-/// one of another uid; what the live read found for each active name, `-` for none; the plan, with the names in the claim's status and
-/// the final status, where it is a step.
+/// What syncs read that no scenario of the command says, and the plan of each, a line a row, parted by bars:
+/// what it is about; the schedule, or that there is no CronJob; the zone, a POSIX rule, or `?` where it isn't
+/// known; the policy; whether it is suspended; the starting deadline; how many Jobs are kept that ended with
+/// success, and that failed; when it was created; its last schedule time; its last successful time; its
+/// active names; now; the listed Jobs, each with name, creation time, state, and whether it is the CronJob's
+/// own or one of another uid; what the live read found for each active name, `-` for none; the plan, with the
+/// names in the claim's status and the final status, where it is a step.
 ///
-/// The plans were worked out apart from this code, by a model in Python that tests each minute by itself, with the cases of the decision
-/// from the documentation.
+/// The plans were worked out apart from this code, by a model in Python that tests each minute by itself,
+/// with the cases of the decision from the documentation.
 pub const ROWS: &str =
     r#"Forbid, listed as running, found finished|* * * * *|UTC|Forbid|||3 1|2024-01-01T00:00:00Z|2024-01-01T00:02:00Z||hello-28401121|2024-01-01T00:03:00Z|hello-28401121 2024-01-01T00:01:00Z Running own|hello-28401121 2024-01-01T00:01:00Z Complete own|claim 2024-01-01T00:03:00Z as hello-28401121 hello-28401123 make hello-28401123 next 2024-01-01T00:04:00Z status hello-28401123 last 2024-01-01T00:03:00Z success none
 Forbid, listed as finished, found running|* * * * *|UTC|Forbid|||3 1|2024-01-01T00:00:00Z|2024-01-01T00:02:00Z||hello-28401121|2024-01-01T00:03:00Z|hello-28401121 2024-01-01T00:01:00Z Complete own|hello-28401121 2024-01-01T00:01:00Z Running own|claim none make none reason JobAlreadyActive next 2024-01-01T00:04:00Z status hello-28401121 last 2024-01-01T00:02:00Z success 2024-01-01T00:01:00Z

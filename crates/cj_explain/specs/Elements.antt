@@ -1,4 +1,5 @@
--- What stands in a schedule's text: POSIX crontab, "fields .. separated by <blank> characters", "elements separated by commas".
+-- What stands in a schedule's text: POSIX crontab, "fields .. separated by <blank> characters", "elements
+-- separated by commas".
 use Rattle.std.specs.Prelude.{◌≡◌, ◌⊎◌, ℕ, suc, ◌==◌, ◌||◌, Bool, true, false, List, [], ◌∷◌, drop, if◌then◌else◌}
 use Rattle.std.specs.List.{before_first}
 use Rattle.std.specs.Str.{IsCharBoundary}

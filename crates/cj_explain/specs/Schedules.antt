@@ -1,5 +1,5 @@
--- What is said of a schedule that is refused: its fields, their numbers and the forms of their elements are POSIX crontab's and those of
--- Kubernetes CronJob, "Schedule syntax".
+-- What is said of a schedule that is refused: its fields, their numbers and the forms of their elements are
+-- POSIX crontab's and those of Kubernetes CronJob, "Schedule syntax".
 use Rattle.std.specs.Prelude.{◌≡◌, ℕ, ◌==◌, List, ◌++◌, codes, decimal, if◌then◌else◌}
 use Rattle.cj_base.specs.declared.schedule_fault.ScheduleCause.{ScheduleCause}
 use Rattle.cj_base.specs.declared.schedule_fault.ScheduleCause.TheVariants as Of

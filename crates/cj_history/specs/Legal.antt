@@ -1,5 +1,5 @@
--- Legal histories by looking back alone: no state of the store, the queue or the workers stands in these words. A history has its newest
--- entry first.
+-- Legal histories by looking back alone: no state of the store, the queue or the workers stands in these
+-- words. A history has its newest entry first.
 use Rattle.std.specs.Prelude.{◌≡◌, ◌↔◌, ℕ, true, List, [], ◌∷◌, Result}
 use Rattle.cj_base.specs.declared.refusal.Refusal.{Refusal}
 use Rattle.cj_calls.specs.Rows.{Told}

@@ -1,5 +1,5 @@
--- At most one Job for a scheduled time, and under Forbid and Replace none beside another, by looking back alone: Kubernetes CronJob
--- documentation, "Concurrency policy" and "CronJob limitations".
+-- At most one Job for a scheduled time, and under Forbid and Replace none beside another, by looking back
+-- alone: Kubernetes CronJob documentation, "Concurrency policy" and "CronJob limitations".
 use Rattle.std.specs.Prelude.{◌≡◌, ℕ, ◌≤◌, ◌==◌, true, false, if◌then◌else◌, List, [], ◌∷◌, length, Option, Some, None, Result, Ok, Err}
 use Rattle.cj_base.specs.declared.refusal.Refusal.{Refusal}
 use Rattle.cj_types.specs.Keys.{Place}

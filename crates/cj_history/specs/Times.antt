@@ -1,5 +1,5 @@
--- The time of each claim, by looking back alone: Kubernetes CronJob documentation, "CronJob limitations" (the schedules missed since the
--- last one, of which the latest is started) and "Deadline for delayed Job start".
+-- The time of each claim, by looking back alone: Kubernetes CronJob documentation, "CronJob limitations" (the
+-- schedules missed since the last one, of which the latest is started) and "Deadline for delayed Job start".
 use Rattle.std.specs.Prelude.{◌≡◌, ℕ, ◌≤◌, List, [], ◌∷◌, length, Some}
 use Rattle.cj_types.specs.Keys.{Place}
 use Rattle.cj_types.specs.Uids.{last_uid}
@@ -17,7 +17,8 @@ use Rattle.cj_store_history.specs.Written.{current_cron}
 use Rattle.cj_store_history.specs.Writes.{writes}
 use Rattle.cj_history.specs.Legal.{IsLawful}
 
--- the greatest of the times missed by the CronJob that is current at the key, in its window, at the plan's moment and in the plan's zone
+-- the greatest of the times missed by the CronJob that is current at the key, in its window, at the plan's
+-- moment and in the plan's zone
 pub record IsLatestMissed (ws : List Event) (k : Place) (p : Planned) (time : ℕ) : Type 0 where
   pub cron : CronJob
   pub stands : current_cron ws k ≡ Some cron

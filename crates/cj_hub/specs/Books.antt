@@ -17,8 +17,8 @@ use Rattle.cj_hub.specs.declared.receipt.Receipt.{Receipt}
 use Rattle.cj_hub.specs.declared.seat.Seat.{Seat}
 use Rattle.cj_hub.specs.Receipts.{PassView, caller_of, with_receipt, placed, Stands, last_of, IsExact}
 
--- a book: how much is kept, its history with the newest entry first, the role of each pass that it enrolled, and whether work
--- on it was given up
+-- a book: how much is kept, its history with the newest entry first, the role of each pass that it enrolled,
+-- and whether work on it was given up
 pub record BookView : Type 0 where
   pub limits : Kept
   pub history : List Told
@@ -36,7 +36,8 @@ IsCounted seats h = (n : ℕ) → (slice_index_or seats n no_seat).count ≡ len
 abbrev pub IsEnrolled : BookView → PassView → Type 0
 IsEnrolled b p = slice_get b.roles p.number ≡ Some p.role
 
--- the book enrolled the pass with this role, has as many entries of it as the pass has receipts, and has the last of them at its place
+-- the book enrolled the pass with this role, has as many entries of it as the pass has receipts, and has the
+-- last of them at its place
 -- rule: hub-call
 pub record Knows (b : BookView) (p : PassView) : Type 0 where
   pub enrolled : IsEnrolled b p
@@ -59,7 +60,8 @@ state_in b = state_of b.limits.window b.history
 abbrev pub answer_in : BookView → Caller → Call → Result Reply Refusal
 answer_in b caller call = answer_of b.limits.window b.history caller call
 
--- one call was entered: the receipt is of it, with the answer that the history gives, at the place after the last, and the entry was added
+-- one call was entered: the receipt is of it, with the answer that the history gives, at the place after the
+-- last, and the entry was added
 -- rule: hub-call
 pub record IsEntered (b : BookView) (caller : Caller) (call : Call) (r : Receipt) (b' : BookView) : Type 0 where
   pub room : length b.history < b.limits.history

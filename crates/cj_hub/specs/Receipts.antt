@@ -56,7 +56,8 @@ Follows rs place = IfSome (last_of rs) (λ r. r.place < place)
 abbrev pub IsExact : List Told → PassView → Type 0
 IsExact h p = p.receipts ≡ placed p.number h
 
--- what a call through a pass tells: the receipt names the pass's caller and the call, is later than the last one, and is added
+-- what a call through a pass tells: the receipt names the pass's caller and the call, is later than the last
+-- one, and is added
 -- rule: receipts
 pub record IsReceipt (before : PassView) (call : Call) (r : Receipt) (after : PassView) : Type 0 where
   pub caller : r.entry.caller ≡ caller_of before

@@ -62,7 +62,8 @@ pub record IsOne (call : Call) (P : Result Reply Refusal → Type 0) (es : List 
   pub says : P entry.answer
   pub row : IsTrue (is_in_row call entry.answer)
 
--- what one call adds, by what came of it: an entry with a reply, which the receipt has; an entry with a refusal; or nothing
+-- what one call adds, by what came of it: an entry with a reply, which the receipt has; an entry with a
+-- refusal; or nothing
 -- rule: desks
 abbrev pub IsAsked : Call → Result Receipt Halt → List Told → Type 0
 IsAsked call (Ok r) es = IsOne call (λ a. IsOk a × (a ≡ r.entry.answer)) es

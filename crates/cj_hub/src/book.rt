@@ -168,8 +168,9 @@ impl Book {
         passes.iter().all(|pass| self.fits(pass))
     }
 
-    /// Closes the book. It is refused exactly where a pass isn't one that the book enrolled with this role, or its receipts
-    /// aren't exactly its entries, in order, each at its place; then book and passes come back.
+    /// Closes the book. It is refused exactly where a pass isn't one that the book enrolled with this role,
+    /// or its receipts aren't exactly its entries, in order, each at its place; then book and passes come
+    /// back.
     pub fn close(self, passes: Vec<Pass>) -> Result<Closed, NotClosed>
         ensures ok { IsOk result ↔ All (Fits self) passes.items }
         ensures history { IfOk result (λ c. (c.limits ≡ self.limits) × (c.history ≡ self.history)) }

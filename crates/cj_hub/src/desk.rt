@@ -27,10 +27,10 @@ pub trait Desk {
     /// The history with its limits, where the desk tells it.
     ghost history: { Self → Ledger };
 
-    /// Makes one call of the pass. Its receipt names the caller and the call, stands after the pass's last one, and is the
-    /// pass's too; its answer is one that the call can have. A refusal leaves the pass as it was. A history that is told
-    /// gains just the receipt's entry, and nothing at a refusal; Empty is answered only where the line is empty and the
-    /// queue isn't shut.
+    /// Makes one call of the pass. Its receipt names the caller and the call, stands after the pass's last
+    /// one, and is the pass's too; its answer is one that the call can have. A refusal leaves the pass as it
+    /// was. A history that is told gains just the receipt's entry, and nothing at a refusal; Empty is
+    /// answered only where the line is empty and the queue isn't shut.
     fn call(&mut self, pass: &mut Pass, call: Call) -> Result<Receipt, Refusal>
         ensures ok { IfOk result (λ r. IsReceipt pass.old call r pass.new) }
         ensures row { IfOk result (λ r. IsTrue (is_in_row call r.entry.answer)) }

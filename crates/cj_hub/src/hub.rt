@@ -28,8 +28,8 @@ enum Wake {
     Everybody,
 }
 
-// Whom a call concerns that was entered: after an Add or a Finish a key more may be in the line for one of them; a moment, the
-// end of the queue and a history that is full by now concern them all.
+// Whom a call concerns that was entered: after an Add or a Finish a key more may be in the line for one of
+// them; a moment, the end of the queue and a history that is full by now concern them all.
 fn concerned(book: &Book, receipt: &Receipt) -> Wake {
     if book.is_full() {
         return Wake::Everybody;
@@ -86,8 +86,9 @@ impl Hub {
         }
     }
 
-    /// Makes one call of the pass. Its receipt names the caller and the call, stands after the pass's last one, and is the
-    /// pass's too; a refusal leaves the pass as it was: Empty, to a Take alone, HistoryFull, Estranged or OutOfMemory.
+    /// Makes one call of the pass. Its receipt names the caller and the call, stands after the pass's last
+    /// one, and is the pass's too; a refusal leaves the pass as it was: Empty, to a Take alone, HistoryFull,
+    /// Estranged or OutOfMemory.
     pub fn call(&self, rt: &impl Wait, pass: &mut Pass, call: Call) -> Result<Receipt, Refusal>
         ensures ok { IfOk result (λ r. IsReceipt pass.old call r pass.new) }
         ensures row { IfOk result (λ r. IsTrue (is_in_row call r.entry.answer)) }
@@ -105,7 +106,8 @@ impl Hub {
         result
     }
 
-    /// Makes a Take of the pass, and makes it again after each other call that may concern it while there is nothing to take.
+    /// Makes a Take of the pass, and makes it again after each other call that may concern it while there is
+    /// nothing to take.
     pub fn take_wait(&self, rt: &impl Wait, pass: &mut Pass) -> Result<Receipt, Refusal>
         ensures ok { IfOk result (λ r. IsReceipt pass.old Of.Take r pass.new) }
         ensures row { IfOk result (λ r. IsTrue (is_in_row Of.Take r.entry.answer)) }
@@ -137,9 +139,9 @@ impl Hub {
         laws::state(&self.book.lock(rt), seen)
     }
 
-    /// Closes the book, where the passes fit it: then its history is legal, no key was in two workers' hands, no scheduled
-    /// time got two Jobs, what was made under Forbid or Replace was made alone, and the entries of each pass are exactly its
-    /// receipts, in order, each at its place.
+    /// Closes the book, where the passes fit it: then its history is legal, no key was in two workers' hands,
+    /// no scheduled time got two Jobs, what was made under Forbid or Replace was made alone, and the entries
+    /// of each pass are exactly its receipts, in order, each at its place.
     pub fn close(self, passes: Vec<Pass>) -> Result<Closed, NotClosed>
         ensures exact { IfOk result (λ c. All (IsExact c.history) passes.items) }
         ensures legal { IfOk result (λ c. IsLegal c.limits.window c.history) }

@@ -37,10 +37,11 @@ fn step_by(book: &mut Book, pass: &mut Pass, call: &Call) -> Result<Receipt, Ref
     Ok(given)
 }
 
-/// Makes one call of the pass on the book. It is refused with Estranged exactly where the book doesn't know the pass, next
-/// with HistoryFull exactly at a full history; with Empty at most for a Take where the line is empty and the queue isn't
-/// shut; and else at most for want of memory. Each refusal leaves book and pass as they were. Else the call is the next
-/// entry, with the answer that the history gives, and the pass has the receipt too.
+/// Makes one call of the pass on the book. It is refused with Estranged exactly where the book doesn't know
+/// the pass, next with HistoryFull exactly at a full history; with Empty at most for a Take where the line is
+/// empty and the queue isn't shut; and else at most for want of memory. Each refusal leaves book and pass as
+/// they were. Else the call is the next entry, with the answer that the history gives, and the pass has the
+/// receipt too.
 pub fn step(book: &mut Book, pass: &mut Pass, call: Call) -> Result<Receipt, Refusal>
     ensures estranged { (result ≡ Err Estranged) ↔ (Knows book.old pass.old → ⊥) }
     ensures full { (result ≡ Err HistoryFull) ↔ (Knows book.old pass.old × IsFull book.old) }
@@ -60,8 +61,8 @@ pub fn give_up(book: &mut Book)
     book.give_up();
 }
 
-/// How far the work is, for one who has seen the writes up to the version: the first of Broken, Behind, Quiet and Busy that
-/// holds. Nothing is entered.
+/// How far the work is, for one who has seen the writes up to the version: the first of Broken, Behind, Quiet
+/// and Busy that holds. Nothing is entered.
 pub fn state(book: &Book, seen: Version) -> HubState
     ensures { IsState book.now seen result }
 {

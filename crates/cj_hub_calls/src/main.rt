@@ -1,6 +1,7 @@
-//! Makes eleven calls through one pass of a hub, and closes it. The exit status is the number of calls that were entered, 20 where
-//! there was no memory for a hub and a pass, 30 where the pass counts another number than was entered, and 31 where the hub isn't
-//! closed. So the tests can refuse each request for memory in turn, and see that a refused call leaves pass and hub as they were.
+//! Makes eleven calls through one pass of a hub, and closes it. The exit status is the number of calls that
+//! were entered, 20 where there was no memory for a hub and a pass, 30 where the pass counts another number
+//! than was entered, and 31 where the hub isn't closed. So the tests can refuse each request for memory in
+//! turn, and see that a refused call leaves pass and hub as they were.
 #![tactic(auto)]
 
 use cj_calls::{Call, Role};

@@ -39,8 +39,9 @@ const ANSWERS: [&str; 5] = [
     "HistoryFull",
 ];
 
-// A full history refuses a reading, and a Take, be it one that waits, before it is said that there is nothing to take. No pass
-// gains a receipt by a refusal and the history no entry: the hub closes with the one that was entered.
+// A full history refuses a reading, and a Take, be it one that waits, before it is said that there is nothing
+// to take. No pass gains a receipt by a refusal and the history no entry: the hub closes with the one that
+// was entered.
 // rule: hub-call
 #[test]
 fn a_full_history(rt: HostRuntime) {

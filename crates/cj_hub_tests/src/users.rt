@@ -34,7 +34,8 @@ fn create_and_read(
     is_read_back
 }
 
-// Creates a hundred CronJobs under names of its own, each of which is read back, and keeps the receipts with those of the others.
+// Creates a hundred CronJobs under names of its own, each of which is read back, and keeps the receipts with
+// those of the others.
 fn work(
     rt: &(impl Wait + Abort),
     alloc: Global,

@@ -1,4 +1,5 @@
--- One step of the informer, in the words of client-go: a Reflector lists and watches, and a handler adds keys to the work queue.
+-- One step of the informer, in the words of client-go: a Reflector lists and watches, and a handler adds keys
+-- to the work queue.
 use Rattle.std.specs.Prelude.{◌≡◌, ℕ, ◌-◌, Bool, ◌&&◌, nat_lt, List, [], ◌∷◌, ◌++◌, Option, Some, None, MatchBool, map, slice_get, length, if◌then◌else◌}
 use Rattle.std.specs.List.{filter_map}
 use Rattle.std.specs.Option.{option_map_or}
@@ -71,7 +72,8 @@ follow max events fed = feed max fed ∷ adds (filter_map key_of_event events)
 
 -- ---- listings
 
--- after this answer there is another Feed: it is below the version wanted, and above the answer before it, if there is one
+-- after this answer there is another Feed: it is below the version wanted, and above the answer before it, if
+-- there is one
 -- rule: informer-feeds
 abbrev pub wants_more : ℕ → Option ℕ → ℕ → Bool
 wants_more wanted None fed = nat_lt fed wanted
@@ -105,8 +107,8 @@ relist max l = accepted Of.ListCrons (Is.Crons l.crons l.version) ∷ accepted O
 
 -- ---- a step
 
--- how a step goes on after its Tick: from a version by events; by a listing at the start; or by a listing where events after the
--- version have expired (410 Gone)
+-- how a step goes on after its Tick: from a version by events; by a listing at the start; or by a listing
+-- where events after the version have expired (410 Gone)
 pub data Course : Type 0 where
   Follows : ℕ → List Event → ℕ → Course
   Starts : Lists → Course

@@ -10,7 +10,8 @@ use cj_types::{Max, Millis, Refusal, Version};
 use std::alloc::Global;
 use std::marker::Model;
 
-/// Follows what is written to the store, as client-go's reflectors do, and adds the keys that are concerned to the work queue.
+/// Follows what is written to the store, as client-go's reflectors do, and adds the keys that are concerned
+/// to the work queue.
 ///
 /// Contracts see how many events it asks for at once, and the version that it has seen.
 #[derive(Drop)]
@@ -50,11 +51,12 @@ impl Informer {
 
     /// One step at the moment: a Tick of the queue, and then what came since the last step.
     ///
-    /// That is a Watch of the events after the version seen, a Feed of the listings, and an Add for each event that concerns a CronJob:
-    /// for an event of a CronJob its key, for one of a Job the key that its controller reference names, if it names one. At the
-    /// start in place of the Watch, and where it answers `Expired`, both kinds are listed; the listings are fed until they know
-    /// of the writes up to the first of the two, or a Feed brings nothing more; and the key of each CronJob and of each Job's
-    /// owner is added. Then the version seen is that of the last event, or of the first listing.
+    /// That is a Watch of the events after the version seen, a Feed of the listings, and an Add for each
+    /// event that concerns a CronJob: for an event of a CronJob its key, for one of a Job the key that its
+    /// controller reference names, if it names one. At the start in place of the Watch, and where it answers
+    /// `Expired`, both kinds are listed; the listings are fed until they know of the writes up to the first
+    /// of the two, or a Feed brings nothing more; and the key of each CronJob and of each Job's owner is
+    /// added. Then the version seen is that of the last event, or of the first listing.
     ///
     /// The step ends at the first other refusal, and the informer is then as it was.
     pub fn step<D: Desk>(

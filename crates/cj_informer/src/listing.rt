@@ -69,8 +69,8 @@ fn list_jobs<D: Desk>(
     }
 }
 
-// Both listings, Feeds, and an Add for each key that is concerned. The version is that of the earlier listing, so that no event
-// between the two is missed.
+// Both listings, Feeds, and an Add for each key that is concerned. The version is that of the earlier
+// listing, so that no event between the two is missed.
 pub(crate) fn list<D: Desk>(
     desk: &mut D,
     alloc: Global,

@@ -1,4 +1,5 @@
--- The index from CronJobs to Jobs: a set of entries, in the order of the owner's namespace and name, then of the Job's key.
+-- The index from CronJobs to Jobs: a set of entries, in the order of the owner's namespace and name, then of
+-- the Job's key.
 use Rattle.std.specs.Prelude.{◌≡◌, Bool, false, cond, List, [], ◌∷◌, ◌++◌, Option, Some, None}
 use Rattle.std.specs.Option.{option_map}
 use Rattle.std.specs.Cmp.{IsTotalOrder, on_total, then_total}

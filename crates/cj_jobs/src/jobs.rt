@@ -98,8 +98,8 @@ impl Jobs {
         Ok(())
     }
 
-    /// Puts a Job in place of the one at its key, which has the same owner references. Where there is no memory the Jobs
-    /// are as they were.
+    /// Puts a Job in place of the one at its key, which has the same owner references. Where there is no
+    /// memory the Jobs are as they were.
     pub fn replace(&mut self, alloc: Global, job: Shared<Job>) -> Result<(), Refusal>
         requires { owners_of self.old job.key ≡ Some job.owners }
         ensures ok { OnOk result (self.new ≡ map.insert self.old job.key job) }

@@ -1,5 +1,5 @@
--- A row: one JSON object (RFC 8259) on a line, with the words and the input that the program is given, and the standard output, the
--- standard error and the status that are wanted of it.
+-- A row: one JSON object (RFC 8259) on a line, with the words and the input that the program is given, and
+-- the standard output, the standard error and the status that are wanted of it.
 use Rattle.std.specs.Prelude.{◌≡◌, ◌⊎◌, ℕ, ◌≤◌, ◌==◌, List, [], ◌∷◌, ◌++◌, map, codes, Bool, false, not, option_map, Option, Some, option_and_then}
 use Rattle.std.specs.List.{filter}
 use Rattle.serde_json.specs.Data.{Data, Items, no_items, item}

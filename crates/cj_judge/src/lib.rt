@@ -1,5 +1,5 @@
-//! Judges rows of data: the program on the words and input of each, beside the output, the error text and the status that the row
-//! wants.
+//! Judges rows of data: the program on the words and input of each, beside the output, the error text and the
+//! status that the row wants.
 #![tactic(auto)]
 
 mod fault;

@@ -15,8 +15,9 @@ use Rattle.cj_manifest.specs.Laws.{ReadsBack, identified}
 use Rattle.cj_manifest.specs.Reading.{IsReading}
 use Rattle.cj_manifest.specs.Warnings.{cron_warnings, job_warnings}
 
--- where some bytes are read as the manifest of a CronJob under the zones of a table, and a store's create answers a CronJob for its
--- draft, that CronJob reads back under the same zones as the draft, with the CronJob's uid and version
+-- where some bytes are read as the manifest of a CronJob under the zones of a table, and a store's create
+-- answers a CronJob for its draft, that CronJob reads back under the same zones as the draft, with the
+-- CronJob's uid and version
 -- rule: reads-back
 abbrev pub CreatedCronReadsBack : Type 0
 CreatedCronReadsBack = (zones : List Zone) (bytes : List ℕ) (draft : CronJobDraft) (warnings : List (List ℕ)) (s : Content) (now : ℕ) (o : CronJob) →

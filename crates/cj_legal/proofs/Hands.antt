@@ -1,4 +1,5 @@
--- A key that was taken stays in the taker's hands until the end of its sync, and a key that is in somebody's hands isn't taken.
+-- A key that was taken stays in the taker's hands until the end of its sync, and a key that is in somebody's
+-- hands isn't taken.
 use Rattle.std.proofs.Common.{◌≡◌, ◌≢◌, ◌⊎◌, inl, inr, ℕ, ◌==◌, Bool, true, false, List, [], ◌∷◌, ◌++◌, refl, sym, ap, subst, ◌∙◌, arith}
 use Rattle.std.specs.Prelude.{Option, Some, None, Result, Ok, Err, if◌then◌else◌}
 use Rattle.std.specs.FinMap as map

@@ -1,5 +1,5 @@
--- A key is in one worker's hands at a time: client-go, package workqueue ("a single item will not be processed multiple times
--- concurrently").
+-- A key is in one worker's hands at a time: client-go, package workqueue ("a single item will not be
+-- processed multiple times concurrently").
 use Rattle.std.specs.Prelude.{◌≡◌, ℕ, List, [], ◌∷◌, ◌++◌, Ok}
 use Rattle.cj_types.specs.Keys.{Place}
 use Rattle.cj_types.specs.declared.policy.Reason.{Reason}

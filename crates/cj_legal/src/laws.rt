@@ -10,7 +10,8 @@ ghost use Rattle.cj_legal.specs.Answers.{AnswersFit};
 ghost use Rattle.cj_legal.specs.Seats.{SeatLaw, HeldLaw};
 ghost use Rattle.cj_legal.specs.Exclusive.{AlwaysExclusive};
 
-/// The state that any history leaves is sound, has not more writes than the history entries, and the window it began with.
+/// The state that any history leaves is sound, has not more writes than the history entries, and the window
+/// it began with.
 pub fn sound_law()
     ensures sound { (window : ℕ) (h : List Told) → IsSound (state_of window h) }
     ensures few { (window : ℕ) (h : List Told) → (state_of window h).store.version ≤ length h }
@@ -28,8 +29,8 @@ pub fn answer_law()
     ensures { AnswersFit }
 {}
 
-/// What the world keeps of a worker is what the worker's own accepted calls since its last accepted Take say: the key, the
-/// phase, and the answers that it got. No two workers hold one key.
+/// What the world keeps of a worker is what the worker's own accepted calls since its last accepted Take say:
+/// the key, the phase, and the answers that it got. No two workers hold one key.
 pub fn seat_law()
     ensures seats { SeatLaw }
     ensures held { HeldLaw }

@@ -1,5 +1,5 @@
-//! Laws of histories: what every state keeps that calls lead to, which answers a call can have, and that a key is in one
-//! worker's hands at a time.
+//! Laws of histories: what every state keeps that calls lead to, which answers a call can have, and that a
+//! key is in one worker's hands at a time.
 #![tactic(auto)]
 
 mod laws;

@@ -1,4 +1,5 @@
--- The reasons of a history: each was told when a worker finished a key that it had taken. Histories are read from the newest entry on.
+-- The reasons of a history: each was told when a worker finished a key that it had taken. Histories are read
+-- from the newest entry on.
 use Rattle.std.specs.Prelude.{ℕ, ◌==◌, Bool, false, ◌&&◌, ◌||◌, List, [], ◌∷◌, ◌++◌, codes, bytes_eq, filter, if◌then◌else◌, Option, Some, None, Result, Ok, Err}
 use Rattle.std.specs.List.{list_any}
 use Rattle.cj_base.specs.declared.refusal.Refusal.{Refusal}

@@ -1,5 +1,5 @@
--- What is known of a history once it was read from its oldest entry on: the key that each worker took last, and the reasons that
--- were told of each key.
+-- What is known of a history once it was read from its oldest entry on: the key that each worker took last,
+-- and the reasons that were told of each key.
 use Rattle.std.specs.Prelude.{◌≡◌, ℕ, ◌==◌, Bool, false, ◌&&◌, ◌||◌, List, [], filter, if◌then◌else◌, Option, None, unwrap_or, Result, Ok, Err}
 use Rattle.std.specs.Ordering.{nat_cmp}
 use Rattle.std.specs.BTreeMap as tree
@@ -55,7 +55,8 @@ Tells key reasons before after = (other : Place) (reason : Reason)
 
 -- ---- the whole
 
--- what is known is what the history says: of each worker the key that it took last, and of each key whether a reason was told
+-- what is known is what the history says: of each worker the key that it took last, and of each key whether a
+-- reason was told
 pub record Knows (t : Tellings) (h : List Told) : Type 0 where
   pub keys : (number : ℕ) → key_of t.keys number ≡ said.held number h
   pub reasons : (key : Place) (reason : Reason) → has reason (told t.reasons key) ≡ said.has_reason key reason h

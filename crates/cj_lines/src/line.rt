@@ -20,8 +20,8 @@ fn place_text(alloc: Global, place: Option<usize>) -> Result<String, Refusal>
     }
 }
 
-/// `PLACE WHO DO ANSWER`: the place of the step's entry in the history, or `-` where it wasn't entered; who did what; and what
-/// that was answered.
+/// `PLACE WHO DO ANSWER`: the place of the step's entry in the history, or `-` where it wasn't entered; who
+/// did what; and what that was answered.
 pub fn step_line(
     alloc: Global,
     place: Option<usize>,

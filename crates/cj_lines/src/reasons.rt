@@ -77,8 +77,8 @@ fn key_lines(alloc: Global, key: &Key, tellings: &Tellings) -> Result<String, Re
     lines_or_none(alloc, key, told.as_slice())
 }
 
-/// A line for each reason that the history tells of each CronJob, by name, or one that says that there is none. A reason is told
-/// by an accepted Finish of a worker that had taken the CronJob's key.
+/// A line for each reason that the history tells of each CronJob, by name, or one that says that there is
+/// none. A reason is told by an accepted Finish of a worker that had taken the CronJob's key.
 pub fn reasons_text(
     alloc: Global,
     crons: &[Shared<CronJob>],

@@ -1,4 +1,5 @@
--- What follows where a manifest has no fault: each object is there, no number is a float, and the names are well formed.
+-- What follows where a manifest has no fault: each object is there, no number is a float, and the names are
+-- well formed.
 use Rattle.std.proofs.Common.{◌≡◌, ◌++◌, List, [], ◌∷◌, Bool, true, false, Option, Some, None, Result, Ok, Err, refl, sym, ap, subst, ◌∙◌}
 use Rattle.std.specs.Prelude.{not}
 use Rattle.std.specs.Result.{result_ok}

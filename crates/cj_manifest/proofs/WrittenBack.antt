@@ -1,4 +1,5 @@
--- What is written of an object reads as it was written: its numbers fit, its names rise, and it nests no deeper than JSON is read.
+-- What is written of an object reads as it was written: its numbers fit, its names rise, and it nests no
+-- deeper than JSON is read.
 use Rattle.std.proofs.Common.{ℕ, suc, ◌^◌, ◌<◌, ◌≤◌, List, [], ◌∷◌, map, Bool, codes, Option, Some, None, decimal, arith}
 use Rattle.std.specs.Ordering.{match_ordering}
 use Rattle.std.specs.declared.cmp.Ordering.{Ordering}

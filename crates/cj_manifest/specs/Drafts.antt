@@ -1,4 +1,5 @@
--- What a manifest without a fault says, with the defaults. Where a row has a fault, what stands for its value is of no account.
+-- What a manifest without a fault says, with the defaults. Where a row has a fault, what stands for its value
+-- is of no account.
 use Rattle.std.specs.Prelude.{ℕ, ◌==◌, List, [], length, codes, false, if◌then◌else◌, Option, Some, None, Result, Ok, Err}
 use Rattle.std.specs.Result.{result_ok}
 use Rattle.serde_json.specs.Data.{Data, Items, Members, no_members, member}

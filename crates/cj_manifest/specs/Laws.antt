@@ -25,8 +25,8 @@ pub record IsMetaOf (draft : DraftMeta) (meta : Meta) : Type 0 where
   pub annotations : meta.annotations ≡ draft.annotations
   pub generation : meta.generation < 2 ^ 64
 
--- a CronJob that has what the draft says, as the one that a create makes of it has; whatever its uid, its version, its times
--- and its status are
+-- a CronJob that has what the draft says, as the one that a create makes of it has; whatever its uid, its
+-- version, its times and its status are
 pub record IsCronOf (draft : CronJobDraft) (o : CronJob) : Type 0 where
   pub key : o.key ≡ draft.key
   pub meta : IsMetaOf draft.meta o.meta
@@ -50,8 +50,8 @@ pub record ReadsBack (X : Type 0) (faults : Data → List FieldFault) (draft : D
   pub reads : read (compact_text value) ≡ Some value
   pub says : Says X (faults value) (draft value) (warnings value) x []
 
--- where some bytes are read as the manifest of a CronJob under the zones of a table, each CronJob that has what the draft says
--- reads back under the same zones as that draft, with the CronJob's uid and version
+-- where some bytes are read as the manifest of a CronJob under the zones of a table, each CronJob that has
+-- what the draft says reads back under the same zones as that draft, with the CronJob's uid and version
 -- rule: reads-back
 abbrev pub CronReadsBack : Type 0
 CronReadsBack = (zones : List Zone) (bytes : List ℕ) (draft : CronJobDraft) (warnings : List (List ℕ)) (o : CronJob) →

@@ -33,7 +33,8 @@ name_limit Of.Job = longest
 abbrev pub whole : Data → Result Data Cause
 whole d = and_then (λ o. when (not (has_float o)) Why.Fraction o) (an_object d)
 
--- a CronJob's may be of the version before batch/v1, which Kubernetes served up to 1.24: "Deprecated API Migration Guide"
+-- a CronJob's may be of the version before batch/v1, which Kubernetes served up to 1.24: "Deprecated API
+-- Migration Guide"
 abbrev pub supported : ObjectKind → Data → Result (List ℕ) Cause
 supported Of.Cron d = either (codes "batch/v1") (codes "batch/v1beta1") d
 supported Of.Job d = choice (codes "batch/v1") d

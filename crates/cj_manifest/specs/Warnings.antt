@@ -1,5 +1,5 @@
--- What a manifest is warned of, by its path: the older version of the API, then the members that are dropped, level after
--- level, by name within a level.
+-- What a manifest is warned of, by its path: the older version of the API, then the members that are dropped,
+-- level after level, by name within a level.
 use Rattle.std.specs.Prelude.{ℕ, List, [], ◌∷◌, ◌++◌, codes, bytes_eq, Bool, false, ◌||◌, if◌then◌else◌, Option, Some, None, is_none, unwrap_or}
 use Rattle.std.specs.Result.{result_ok}
 use Rattle.serde_json.specs.Data.{Data, Members, no_members, member}

@@ -53,8 +53,9 @@ fn refuse(faults: FieldFaults) -> Result<(), Refusal>
     }
 }
 
-/// What a JSON value that is the manifest of a CronJob says under the zones of a table, as `read_cronjob` reads its bytes:
-/// `Invalid` with every fault, in the order of the table of fields; the value nests at most as deep as JSON is read.
+/// What a JSON value that is the manifest of a CronJob says under the zones of a table, as `read_cronjob`
+/// reads its bytes: `Invalid` with every fault, in the order of the table of fields; the value nests at most
+/// as deep as JSON is read.
 pub fn cron_of(
     alloc: Global,
     value: &Value,
@@ -73,8 +74,8 @@ pub fn cron_of(
     }
 }
 
-/// What a JSON value that is the manifest of a Job says, as `read_job` reads its bytes: `Invalid` with every fault, in the
-/// order of the table of fields; the value nests at most as deep as JSON is read.
+/// What a JSON value that is the manifest of a Job says, as `read_job` reads its bytes: `Invalid` with every
+/// fault, in the order of the table of fields; the value nests at most as deep as JSON is read.
 pub fn job_of(alloc: Global, value: &Value) -> Result<(JobDraft, Vec<Warning>), Refusal>
     requires flat { depth (view value.now) ≤ max_depth }
     ensures said { IfOk result (λ r. Says JobDraft (table.job_faults (view value.now)) (said.job_draft (view value.now)) (warned.job_warnings (view value.now)) r.0 r.1.items) }
@@ -109,13 +110,13 @@ fn manifest_of(
     }
 }
 
-/// Reads the manifest of a CronJob under the zones of a table: what it says, with the defaults, and a warning for each
-/// member that is dropped; before these one for `apiVersion` where that is `batch/v1beta1`, the version before `batch/v1`,
-/// as which the object is stored and written.
+/// Reads the manifest of a CronJob under the zones of a table: what it says, with the defaults, and a warning
+/// for each member that is dropped; before these one for `apiVersion` where that is `batch/v1beta1`, the
+/// version before `batch/v1`, as which the object is stored and written.
 ///
-/// `Syntax` where the bytes aren't UTF-8, or no JSON, or nest more than 127 deep, or have a number that no float comes
-/// near; `Invalid` with every fault, in the order of the table of fields, of which nothing below a faulty object is
-/// looked at. A member that is null counts as absent.
+/// `Syntax` where the bytes aren't UTF-8, or no JSON, or nest more than 127 deep, or have a number that no
+/// float comes near; `Invalid` with every fault, in the order of the table of fields, of which nothing below
+/// a faulty object is looked at. A member that is null counts as absent.
 pub fn read_cronjob(
     alloc: Global,
     bytes: &[u8],

@@ -6,8 +6,8 @@ use std::alloc::Global;
 use std::fmt;
 use std::marker::Model;
 
-/// A member of a manifest that was dropped, or that was read as another than it is, named by its dotted path. Contracts see
-/// the bytes of the path.
+/// A member of a manifest that was dropped, or that was read as another than it is, named by its dotted path.
+/// Contracts see the bytes of the path.
 #[derive(Debug, Drop)]
 pub struct Warning {
     path: Text,

@@ -1,5 +1,6 @@
--- Jobs that are known by events: Kubernetes API concepts, "Efficient detection of changes", by which a client lists what there
--- is and then applies what a watch tells of it, as the reflector of client-go's package cache does.
+-- Jobs that are known by events: Kubernetes API concepts, "Efficient detection of changes", by which a client
+-- lists what there is and then applies what a watch tells of it, as the reflector of client-go's package
+-- cache does.
 use Rattle.std.specs.Prelude.{ℕ, ◌+◌, List, [], ◌∷◌, length, fold, refl}
 use Rattle.std.specs.FinMap.{FinMap, empty, insert, remove, code}
 use Rattle.std.specs.Coded.{Coded, code_by, coded×, coded_ℕ}

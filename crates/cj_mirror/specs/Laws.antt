@@ -1,4 +1,5 @@
--- How a mirror follows a window of events: Kubernetes API concepts, "410 Gone responses", after which a client lists again.
+-- How a mirror follows a window of events: Kubernetes API concepts, "410 Gone responses", after which a
+-- client lists again.
 use Rattle.std.specs.Prelude.{◌≡◌, ℕ, ◌+◌, ◌≤◌, min, nat_lt, if◌then◌else◌, List, length, take, Result, Ok, Err}
 use Rattle.std.specs.FinMap.{empty, values}
 use Rattle.cj_base.specs.declared.refusal.Refusal.{Refusal}
@@ -24,7 +25,8 @@ caught_up m (Ok events) current version = fed_with m events
 caught_up m (Err (Expired oldest)) current version = reset_to current version
 caught_up m (Err other) current version = m
 
--- how many writes it is then the mirror of: all of them where events are gone, else as many more as were asked for and are there
+-- how many writes it is then the mirror of: all of them where events are gone, else as many more as were
+-- asked for and are there
 abbrev pub next_fed : ℕ → ℕ → ℕ → ℕ → ℕ
 next_fed window count fed max = if nat_lt (fed + window) count then count else min count (fed + max)
 

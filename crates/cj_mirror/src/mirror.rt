@@ -77,8 +77,8 @@ impl Mirror {
         last_version(self.fed, events)
     }
 
-    /// Feeds the events of the next writes, whose versions follow on the one so far. No object is copied. Where there is no
-    /// memory the mirror is as it was.
+    /// Feeds the events of the next writes, whose versions follow on the one so far. No object is copied.
+    /// Where there is no memory the mirror is as it was.
     pub fn feed(&mut self, events: &[Event]) -> Result<(), Refusal>
         requires next { IsNumbered self.old.fed events.now }
         ensures ok { OnOk result (self.new ≡ fed_with self.old events.now) }
@@ -105,8 +105,8 @@ impl Mirror {
         Ok(())
     }
 
-    /// Takes a list of the Jobs as they stand after so many writes, in place of those so far. No Job is copied. Where there is
-    /// no memory the mirror is as it was.
+    /// Takes a list of the Jobs as they stand after so many writes, in place of those so far. No Job is
+    /// copied. Where there is no memory the mirror is as it was.
     pub fn reset(&mut self, jobs: &[Shared<Job>], version: Version) -> Result<(), Refusal>
         ensures ok { OnOk result (self.new ≡ reset_to jobs.now version) }
         ensures err { OnErr result (self.new ≡ self.old) }
@@ -120,8 +120,8 @@ impl Mirror {
     }
 
     /// The Jobs of the key's namespace whose controller reference names a CronJob of `batch/v1` of the key's
-    /// name, whatever its uid, in order of name; none is copied. The mirror stays as it is: within, what was fed is put in its
-    /// place.
+    /// name, whatever its uid, in order of name; none is copied. The mirror stays as it is: within, what was
+    /// fed is put in its place.
     pub fn owned(&mut self, key: &Key) -> Result<Listing<Shared<Job>>, Refusal>
         ensures ok { IfOk result (λ l. l ≡ owned_by self.old.jobs key.now) }
         ensures same { self.new ≡ self.old }

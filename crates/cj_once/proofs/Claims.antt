@@ -1,5 +1,5 @@
--- The time of each accepted claim is the greatest one missed by the CronJob that is current then: the claim is conditional on the version
--- that its worker saw, so that what it saw is what stands.
+-- The time of each accepted claim is the greatest one missed by the CronJob that is current then: the claim
+-- is conditional on the version that its worker saw, so that what it saw is what stands.
 use Rattle.std.proofs.Common.{◌≡◌, ℕ, ◌≤◌, Bool, true, false, List, [], ◌∷◌, length, Option, None, Some, refl, ap, sym, subst, ◌∙◌, arith}
 use Rattle.std.specs.Prelude.{IfSome, Result, Ok, Err, if◌then◌else◌}
 use Rattle.std.specs.FinMap as map

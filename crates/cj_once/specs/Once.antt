@@ -1,5 +1,6 @@
--- At most one Job for a scheduled time, and under Forbid and Replace none beside another: Kubernetes CronJob documentation,
--- "Concurrency policy" and "CronJob limitations", where these are wishes ("approximately once per execution time").
+-- At most one Job for a scheduled time, and under Forbid and Replace none beside another: Kubernetes CronJob
+-- documentation, "Concurrency policy" and "CronJob limitations", where these are wishes ("approximately once
+-- per execution time").
 use Rattle.std.specs.Prelude.{◌≡◌, ℕ, ◌≤◌, ◌==◌, Bool, true, false, cond, List, [], ◌∷◌, length, Option, Some, None, Result, Ok, Err}
 use Rattle.std.specs.List.{AllByRecursion}
 use Rattle.std.specs.FinMap as map

@@ -1,5 +1,5 @@
--- The time of each claim: Kubernetes CronJob documentation, "CronJob limitations" (the schedules missed since the last one, of which the
--- latest is started) and "Deadline for delayed Job start".
+-- The time of each claim: Kubernetes CronJob documentation, "CronJob limitations" (the schedules missed since
+-- the last one, of which the latest is started) and "Deadline for delayed Job start".
 use Rattle.std.specs.Prelude.{◌≡◌, ℕ, ◌≤◌, List, [], ◌∷◌, length, Some, Ok}
 use Rattle.std.specs.FinMap as map
 use Rattle.cj_types.specs.Keys.{Place}
@@ -23,7 +23,8 @@ pub record IsClaim (e : Told) (p : Planned) (time : ℕ) : Type 0 where
   pub version : ℕ
   pub answer : e.answer ≡ Ok (Say.Claimed (Some (time, version)))
 
--- the greatest of the times missed by the CronJob that stands at the key, in its window, at the plan's moment and in the plan's zone
+-- the greatest of the times missed by the CronJob that stands at the key, in its window, at the plan's moment
+-- and in the plan's zone
 -- rule: claim-time
 pub record IsLatestMissed (s : Content) (k : Place) (p : Planned) (time : ℕ) : Type 0 where
   pub cron : CronJob

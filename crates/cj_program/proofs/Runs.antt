@@ -7,13 +7,14 @@ use Rattle.cj_output.specs.declared.failure.Failure.{Failure}
 use Rattle.cj_output.specs.Writing.{AppendsSome, failure_line}
 use Rattle.cj_scenario.specs.declared.fault.SceneFault.{SceneFault}
 use Rattle.cj_scenario.specs.declared.fault.SceneFault.TheVariants as Why
+use Rattle.cj_glance.specs.declared.form.Form.TheVariants as A
 use Rattle.cj_script.specs.declared.script.Script.{Script}
 use Rattle.cj_script.specs.Scripts.{IsRefusedScript, IsScript}
 use Rattle.cj_replay.specs.Replays.{IsPartOf, IsReplayed}
 use Rattle.cj_program.specs.declared.answer.Answer.{Answer}
 use Rattle.cj_program.specs.Outcome.{Outcome, done, outcome_of, status_of}
 use Rattle.cj_program.specs.Plan.{IsSceneRefusal}
-use Rattle.cj_program.specs.Replay.{EndsBadly, EndsWell, IsRead, IsReplayOutcome, script_form}
+use Rattle.cj_program.specs.Replay.{EndsBadly, EndsWell, IsRead, IsReplayOutcome}
 use Rattle.cj_program.specs.Writing.{FailsReplay, IsCut, IsGiven, IsUnanswered}
 
 module _ (s : Script) (out out' err err' : Option (List ℕ)) where
@@ -38,16 +39,16 @@ module _ (explain : Bool) (bytes : List ℕ) (input : Option (List ℕ)) (read :
   run_failed s is b = inr (inr (record { script = s; reads = record { bytes = bytes; read = read; said = is }; ends = b }))
 
   module _ (fault : SceneFault) (why : IsRefusedScript bytes fault) where
-    refused : (o : Outcome) → fault ≢ Why.Memory → IsSceneRefusal explain script_form fault o → IsReplayOutcome explain input o
+    refused : (o : Outcome) → fault ≢ Why.Memory → IsSceneRefusal explain A.Script bytes fault o → IsReplayOutcome explain input o
     refused o told is = inl (record { bytes = bytes; read = read; fault = fault; refused = why; told = told; says = is })
 
-    pub refusal_served : (status : ℕ) (r : Result Answer Failure) → IfOk r (λ _. fault ≢ Why.Memory) → IfOk r (λ a. IsSceneRefusal explain script_form fault (outcome_of a))
+    pub refusal_served : (status : ℕ) (r : Result Answer Failure) → IfOk r (λ _. fault ≢ Why.Memory) → IfOk r (λ a. IsSceneRefusal explain A.Script bytes fault (outcome_of a))
         → IsOkAnd r (λ a. IsGiven status (outcome_of a) out out' err err')
         → (o : Outcome) × IsReplayOutcome explain input o × (status ≡ status_of o.verdict) × Appends out out' o.printed × Appends err err' o.said
     refusal_served status (Ok a) told is g = (outcome_of a, refused (outcome_of a) told is, g.status_is, g.printed, g.said)
     refusal_served status (Err e) told is g = absurd g
 
-    pub refusal_failed : (r : Result Answer Failure) → IfOk r (λ _. fault ≢ Why.Memory) → IfOk r (λ a. IsSceneRefusal explain script_form fault (outcome_of a))
+    pub refusal_failed : (r : Result Answer Failure) → IfOk r (λ _. fault ≢ Why.Memory) → IfOk r (λ a. IsSceneRefusal explain A.Script bytes fault (outcome_of a))
         → IsUnanswered out out' err err' ⊎ IsOkAnd r (λ a. IsCut (outcome_of a).printed (outcome_of a).said out out' err err')
         → FailsReplay explain input out out' err err'
     refusal_failed r told is (inl u) = inl u

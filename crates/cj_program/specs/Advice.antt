@@ -1,5 +1,6 @@
--- What people are told of a manifest without a fault: Kubernetes CronJob documentation, "Schedule suspension", "Deadline for delayed Job
--- start", "Jobs history limits" and "CronJob limitations" (a deadline below ten seconds).
+-- What people are told of a manifest without a fault: Kubernetes CronJob documentation, "Schedule
+-- suspension", "Deadline for delayed Job start", "Jobs history limits" and "CronJob limitations" (a deadline
+-- below ten seconds).
 use Rattle.std.specs.Prelude.{◌≡◌, ℕ, ◌==◌, nat_lt, Bool, true, false, List, [], ◌∷◌, ◌++◌, Option, None, Some, codes, bytes_eq, if◌then◌else◌}
 use Rattle.cj_types.specs.declared.cron.CronSpec.{CronSpec}
 use Rattle.cj_zone.specs.declared.zone.Zone.{Zone}

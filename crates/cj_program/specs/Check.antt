@@ -20,6 +20,8 @@ use Rattle.cj_manifest.specs.Either.{key_of, kind_of, manifest_draft, manifest_f
 use Rattle.cj_manifest.specs.Reading.{IsReading, IsRefused}
 use Rattle.cj_program.specs.declared.answer.Verdict.TheVariants.{Refused}
 use Rattle.cj_program.specs.declared.request.CheckRequest.{CheckRequest}
+use Rattle.cj_glance.specs.declared.form.Form.TheVariants as A
+use Rattle.cj_glance.specs.Glances.{IsGlance}
 use Rattle.cj_explain.specs.Faults.{faults_words}
 use Rattle.cj_program.specs.Json.{IsJsonWords, yaml_words}
 use Rattle.cj_program.specs.Advice.{IsAdvice, dropped_words_all}
@@ -125,11 +127,13 @@ pub record IsNoManifest (explain : Bool) (zones : List Zone) (bytes : List ℕ) 
   pub refused : IsRefused (manifest_faults zones) bytes Syntax
   pub says : IsNoJson explain o
 
--- every fault is named
+-- every fault is named; people are told what the text is, where it is no manifest
 pub record IsFaulty (explain : Bool) (zones : List Zone) (bytes : List ℕ) (o : Outcome) : Type 0 where
   pub faults : List FieldFault
   pub refused : IsRefused (manifest_faults zones) bytes (Invalid faults)
-  pub answer : o ≡ explained explain (faults_words faults) (faulty (fault_lines faults))
+  pub seen : List ℕ
+  pub looked : IsGlance A.Manifest bytes seen
+  pub answer : o ≡ explained explain (faults_words faults ++ seen) (faulty (fault_lines faults))
 
 -- there is none, and every member that is dropped is named; people are told what is worth a look
 pub record IsFine (explain : Bool) (zones : List Zone) (bytes : List ℕ) (o : Outcome) : Type 0 where

@@ -1,5 +1,7 @@
 -- What `plan` answers of a scenario.
-use Rattle.std.specs.Prelude.{◌≡◌, ◌≢◌, ◌⊎◌, ℕ, ◌≤◌, List, [], ◌∷◌, ◌++◌, length, Option, None, Some, IfSome, option_map, codes, Bool}
+use Rattle.std.specs.Prelude.{◌≡◌, ◌≢◌, ◌⊎◌, ℕ, ◌≤◌, List, [], ◌∷◌, ◌++◌, length, Option, None, Some, IfSome, option_map, codes, Bool, true, false}
+use Rattle.cj_types.specs.declared.cron.CronJob.{CronJob}
+use Rattle.cj_types.specs.declared.job.Job.{Job}
 use Rattle.cj_types.specs.declared.job.JobDraft.{JobDraft}
 use Rattle.cj_types.specs.declared.policy.Reason.{Reason}
 use Rattle.cj_types.specs.Printed.{reason_name}
@@ -9,11 +11,16 @@ use Rattle.cj_zone.specs.TimeText.{time_text_of}
 use Rattle.cj_zone.specs.Zones.{utc_zone, zone_named}
 use Rattle.cj_status.specs.declared.refs.JobRef.{JobRef}
 use Rattle.cj_decide.specs.declared.steps.Steps.{Steps}
-use Rattle.cj_decide.specs.Decision.{IsPlan}
+use Rattle.cj_decide.specs.Decision.{IsPlan, running_of}
+use Rattle.cj_glance.specs.declared.form.Form.{Form}
+use Rattle.cj_glance.specs.declared.form.Form.TheVariants as A
+use Rattle.cj_glance.specs.Forms.{wanted_words}
+use Rattle.cj_glance.specs.Glances.{IsGlance}
 use Rattle.cj_scenario.specs.declared.fault.SceneFault.{SceneFault}
 use Rattle.cj_scenario.specs.declared.fault.SceneFault.TheVariants as Why
 use Rattle.cj_scenario.specs.declared.scene.Scene.{Scene}
 use Rattle.cj_scenario.specs.Made.{IsRefusedScene, IsScene}
+use Rattle.cj_why.specs.Why.{IsWhy}
 use Rattle.cj_program.specs.declared.request.PlanRequest.{PlanRequest}
 use Rattle.cj_program.specs.Check.{fault_line}
 use Rattle.cj_explain.specs.Faults.{fault_words}
@@ -63,24 +70,25 @@ scene_line Why.Form = codes "cronsim: scenario\n"
 scene_line (Why.Manifest fault) = codes "cronsim: " ++ fault_line fault
 scene_line Why.Memory = codes "cronsim: out of memory\n"
 
--- what is wrong with a scenario, of which a form is wanted
+-- of what form it has to be, and what it is
+pub record IsFormWords (wanted : Form) (bytes : List ℕ) (words : List ℕ) : Type 0 where
+  pub seen : List ℕ
+  pub looked : IsGlance wanted bytes seen
+  pub are : words ≡ wanted_words wanted ++ seen
+
+-- what is wrong with the bytes of a scenario
 -- rule: explain
-abbrev pub IsSceneWords : List ℕ → SceneFault → List ℕ → Type 0
-IsSceneWords form Why.Syntax words = IsJsonWords words
-IsSceneWords form Why.Form words = words ≡ form
-IsSceneWords form (Why.Manifest fault) words = words ≡ fault_words fault
-IsSceneWords form Why.Memory words = words ≡ []
+abbrev pub IsSceneWords : Form → List ℕ → SceneFault → List ℕ → Type 0
+IsSceneWords wanted bytes Why.Syntax words = IsJsonWords words
+IsSceneWords wanted bytes Why.Form words = IsFormWords wanted bytes words
+IsSceneWords wanted bytes (Why.Manifest fault) words = words ≡ fault_words fault
+IsSceneWords wanted bytes Why.Memory words = words ≡ []
 
 -- the line of a scenario's fault, and what is wrong with it
-pub record IsSceneRefusal (explain : Bool) (form : List ℕ) (fault : SceneFault) (o : Outcome) : Type 0 where
+pub record IsSceneRefusal (explain : Bool) (wanted : Form) (bytes : List ℕ) (fault : SceneFault) (o : Outcome) : Type 0 where
   pub words : List ℕ
-  pub are : IsSceneWords form fault words
+  pub are : IsSceneWords wanted bytes fault words
   pub answer : o ≡ explained explain words (refusal (scene_line fault))
-
--- the form of a scenario of `plan`
--- rule: explain
-abbrev pub scenario_form : List ℕ
-scenario_form = codes "FILE: want an object with manifest and created, and perhaps last, jobs and zones, as docs/examples/replace.json\n"
 
 -- what a moment has to be
 -- rule: explain
@@ -94,24 +102,40 @@ abbrev pub zone_for : Option (List ℕ) → List Zone → Option Zone
 zone_for None zones = Some (utc_zone (codes "UTC"))
 zone_for (Some name) zones = zone_named name zones
 
+-- why a Job is started or not, where people ask for it
+-- rule: explain-why
+abbrev pub IsAskedWhy : Bool → CronJob → Option Zone → List (Option Job) → ℕ → List ℕ → Type 0
+IsAskedWhy true cron z found now words = IsWhy cron z (running_of cron found) now words
+IsAskedWhy false cron z found now words = words ≡ []
+
+-- the members that nobody reads, where people ask for them
+-- rule: explain-ignored
+abbrev pub IsAskedGlance : Bool → Form → List ℕ → List ℕ → Type 0
+IsAskedGlance true wanted bytes words = IsGlance wanted bytes words
+IsAskedGlance false wanted bytes words = words ≡ []
+
 -- the scenario is refused, for another cause than memory
 pub record RefusesScene (explain : Bool) (bytes : List ℕ) (o : Outcome) : Type 0 where
   pub fault : SceneFault
   pub refused : IsRefusedScene bytes fault
   pub told : fault ≢ Why.Memory
-  pub says : IsSceneRefusal explain scenario_form fault o
+  pub says : IsSceneRefusal explain A.Scenario bytes fault o
 
 -- the lines of the one plan of the CronJob, its Jobs, those of them that run, the moment and its zone
-pub record PrintsPlan (bytes : List ℕ) (now : ℕ) (o : Outcome) : Type 0 where
+pub record PrintsPlan (explain : Bool) (bytes : List ℕ) (now : ℕ) (o : Outcome) : Type 0 where
   pub scene : Scene
   pub said : IsScene bytes scene
   pub steps : Steps
   pub decided : IsPlan (Some scene.cron) scene.jobs scene.active now (zone_for scene.cron.spec.time_zone (zones_of scene.zones)) steps
-  pub answer : o ≡ done (plan_lines steps)
+  pub why : List ℕ
+  pub reason : IsAskedWhy explain scene.cron (zone_for scene.cron.spec.time_zone (zones_of scene.zones)) scene.active now why
+  pub seen : List ℕ
+  pub looked : IsAskedGlance explain A.Scenario bytes seen
+  pub answer : o ≡ explained explain (why ++ seen) (done (plan_lines steps))
 
 -- what the bytes of a scenario are answered
 abbrev pub IsPlannedFor : Bool → List ℕ → ℕ → Outcome → Type 0
-IsPlannedFor explain bytes now o = RefusesScene explain bytes o ⊎ PrintsPlan bytes now o
+IsPlannedFor explain bytes now o = RefusesScene explain bytes o ⊎ PrintsPlan explain bytes now o
 
 -- the moment is refused first, and nothing is read then
 pub record RefusesMoment (r : PlanRequest) (o : Outcome) : Type 0 where

@@ -5,6 +5,7 @@ use Rattle.cj_output.specs.declared.failure.Failure.{Failure}
 use Rattle.cj_output.specs.Writing.{AppendsSome, failure_line}
 use Rattle.cj_scenario.specs.declared.fault.SceneFault.{SceneFault}
 use Rattle.cj_scenario.specs.declared.fault.SceneFault.TheVariants as Why
+use Rattle.cj_glance.specs.declared.form.Form.TheVariants as A
 use Rattle.cj_script.specs.declared.script.Script.{Script}
 use Rattle.cj_script.specs.Scripts.{IsRefusedScript, IsScript}
 use Rattle.cj_replay.specs.Replays.{IsPartOf, IsReplayed}
@@ -22,11 +23,6 @@ pub record ReadsScript (input : Option (List ℕ)) (script : Script) : Type 0 wh
   pub read : IsRead input bytes
   pub said : IsScript bytes script
 
--- the form of a script
--- rule: explain
-abbrev pub script_form : List ℕ
-script_form = codes "FILE: want an object with callers and steps, and perhaps zones, history and window, as docs/examples/made-anew.json\n"
-
 -- what is read is no script, for another cause than memory
 pub record RefusesScript (explain : Bool) (input : Option (List ℕ)) (o : Outcome) : Type 0 where
   pub bytes : List ℕ
@@ -34,7 +30,7 @@ pub record RefusesScript (explain : Bool) (input : Option (List ℕ)) (o : Outco
   pub fault : SceneFault
   pub refused : IsRefusedScript bytes fault
   pub told : fault ≢ Why.Memory
-  pub says : IsSceneRefusal explain script_form fault o
+  pub says : IsSceneRefusal explain A.Script bytes fault o
 
 -- the lines of its steps and the report, where no step found the history full
 pub record PrintsRun (input : Option (List ℕ)) (o : Outcome) : Type 0 where

@@ -1,37 +1,35 @@
 -- What `run` answers of a scenario.
-use Rattle.std.specs.Prelude.{◌≡◌, ◌≢◌, ◌⊎◌, ℕ, ◌≤◌, List, length, Option, IfSome, Bool, codes}
+use Rattle.std.specs.Prelude.{◌≡◌, ◌≢◌, ◌⊎◌, ℕ, ◌≤◌, List, length, Option, IfSome, Bool}
 use Rattle.cj_scenario.specs.declared.fault.SceneFault.{SceneFault}
 use Rattle.cj_scenario.specs.declared.fault.SceneFault.TheVariants as Why
+use Rattle.cj_glance.specs.declared.form.Form.TheVariants as A
 use Rattle.cj_course.specs.Courses.{IsCourse, IsRefusedCourse}
 use Rattle.cj_course.specs.declared.course.Course.{Course}
 use Rattle.cj_run.specs.Runs.{IsRun}
 use Rattle.cj_program.specs.declared.request.RunRequest.{RunRequest}
-use Rattle.cj_program.specs.Outcome.{Outcome, done}
-use Rattle.cj_program.specs.Plan.{IsSceneRefusal}
-
--- the form of a scenario of `run`
--- rule: explain
-abbrev pub course_form : List ℕ
-course_form = codes "FILE: want an object with start, end and cronJobs, and perhaps stepSeconds, runs, edits and zones, as docs/examples/forbid.json\n"
+use Rattle.cj_program.specs.Outcome.{Outcome, done, explained}
+use Rattle.cj_program.specs.Plan.{IsAskedGlance, IsSceneRefusal}
 
 -- the bytes are no scenario of a run, for another cause than memory
 pub record RefusesCourse (explain : Bool) (bytes : List ℕ) (o : Outcome) : Type 0 where
   pub fault : SceneFault
   pub refused : IsRefusedCourse bytes fault
   pub told : fault ≢ Why.Memory
-  pub says : IsSceneRefusal explain course_form fault o
+  pub says : IsSceneRefusal explain A.Course bytes fault o
 
 -- the report of a run of the scenario that they are
-pub record PrintsReport (bytes : List ℕ) (o : Outcome) : Type 0 where
+pub record PrintsReport (explain : Bool) (bytes : List ℕ) (o : Outcome) : Type 0 where
   pub course : Course
   pub said : IsCourse bytes course
   pub text : List ℕ
   pub run : IsRun course text
-  pub answer : o ≡ done text
+  pub seen : List ℕ
+  pub looked : IsAskedGlance explain A.Course bytes seen
+  pub answer : o ≡ explained explain seen (done text)
 
 -- what the bytes are answered
 abbrev pub IsRanOf : Bool → List ℕ → Outcome → Type 0
-IsRanOf explain bytes o = RefusesCourse explain bytes o ⊎ PrintsReport bytes o
+IsRanOf explain bytes o = RefusesCourse explain bytes o ⊎ PrintsReport explain bytes o
 
 -- what `run` answers, where the input is known: all of it is read
 -- rule: run

@@ -1,5 +1,7 @@
 ghost use Rattle.std.specs.Prelude.{◌≡◌, ◌++◌, IfOk, MatchOption, codes, string_bytes};
-ghost use Rattle.cj_manifest.specs.Either.{key_of, kind_of};
+ghost use Rattle.cj_base.specs.declared.refusal.Refusal.TheVariants.{Invalid};
+ghost use Rattle.cj_manifest.specs.Either.{key_of, kind_of, manifest_faults};
+ghost use Rattle.cj_manifest.specs.Reading.{IsRefused};
 ghost use Rattle.cj_zone.specs.Table.{zones_of};
 ghost use Rattle.cj_explain.specs.Faults.{faults_words};
 ghost use Rattle.cj_program.specs.Json.{yaml_words};
@@ -14,6 +16,7 @@ use crate::lines::{print_faults, print_ok, print_warnings};
 use crate::request::CheckRequest;
 use cj_base::{FieldFault, Refusal};
 use cj_explain::explain_faults;
+use cj_glance::{Form, glance};
 use cj_manifest::{Manifest, Warning, read_manifest};
 use cj_output::{Failure, MOST_BYTES, MOST_READS, read_input};
 use cj_zone::ZoneTable;
@@ -106,12 +109,33 @@ fn no_json(alloc: Global, explain: bool, bytes: &[u8]) -> Result<Answer, Failure
     Ok(with_place(alloc, explain, place.as_str())?)
 }
 
-fn with_faults(alloc: Global, explain: bool, faults: &[FieldFault]) -> Result<Answer, AllocError>
-    ensures { IfOk result (λ a. outcome_of a ≡ explained explain (faults_words faults.now) (faulty (fault_lines faults.now))) }
+// The faults, and what was seen of the text.
+fn with_faults(
+    alloc: Global,
+    explain: bool,
+    faults: &[FieldFault],
+    seen: &str,
+) -> Result<Answer, AllocError>
+    ensures { IfOk result (λ a. outcome_of a ≡ explained explain (faults_words faults.now ++ seen.now) (faulty (fault_lines faults.now))) }
 {
     let printed = print_faults(alloc, faults)?;
-    let words = explain_faults(alloc, faults)?;
+    let mut words = explain_faults(alloc, faults)?;
+    words.push_str(seen)?;
     faulty(alloc, printed).explained(explain, words.as_str())
+}
+
+fn refused_manifest(
+    alloc: Global,
+    explain: bool,
+    zones: &ZoneTable,
+    bytes: &[u8],
+    faults: &[FieldFault],
+) -> Result<Answer, Failure>
+    requires { IsRefused (manifest_faults (zones_of zones.now)) bytes.now (Invalid faults.now) }
+    ensures { IfOk result (λ a. IsChecked explain (zones_of zones.now) bytes.now (outcome_of a)) }
+{
+    let seen = glance(alloc, Form::Manifest, bytes)?;
+    Ok(with_faults(alloc, explain, faults, seen.as_str())?)
 }
 
 // What a manifest is answered under these zones.
@@ -135,7 +159,9 @@ fn manifest_answer(
             )
         }
         Err(Refusal::Syntax) => no_json(alloc, explain, bytes),
-        Err(Refusal::Invalid(faults)) => Ok(with_faults(alloc, explain, faults.as_slice())?),
+        Err(Refusal::Invalid(faults)) => {
+            refused_manifest(alloc, explain, zones, bytes, faults.as_slice())
+        }
         Err(_) => Err(Failure::Memory),
     }
 }

@@ -72,8 +72,8 @@ fn made(make: &Option<JobDraft>) -> &str
     }
 }
 
-/// The lines of a plan: the claimed time, the Jobs that go first, the Job that is made, those that go after it, the reasons, and when to
-/// look again.
+/// The lines of a plan: the claimed time, the Jobs that go first, the Job that is made, those that go after
+/// it, the reasons, and when to look again.
 pub fn plan_text(alloc: Global, steps: &Steps) -> Result<String, Failure>
     ensures { IfOk result (λ s. string_bytes s ≡ plan_lines steps.now) }
 {

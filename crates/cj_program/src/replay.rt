@@ -8,6 +8,7 @@ ghost use Rattle.cj_program.specs.Writing.{FailsReplay};
 
 use crate::plan::refused_scene;
 use crate::serving::give_answer;
+use cj_glance::Form;
 use cj_output::{Failure, MOST_BYTES, MOST_READS, read_input, tell_failure};
 use cj_replay::replay;
 use cj_script::{Script, read_script};
@@ -38,10 +39,6 @@ fn run_script<W: Write, E: Write>(alloc: Global, script: &Script, out: &mut W, e
     }
 }
 
-// The form of a script.
-const SCRIPT_FORM: &str =
-    "FILE: want an object with callers and steps, and perhaps zones, history and window, as docs/examples/made-anew.json\n";
-
 // Runs the script that the bytes are.
 fn serve_bytes<W: Write, E: Write>(
     alloc: Global,
@@ -59,7 +56,7 @@ fn serve_bytes<W: Write, E: Write>(
     match read_script(alloc, bytes) {
         Ok(script) => run_script(alloc, &script, out, err),
         Err(fault) => give_answer(
-            refused_scene(alloc, explain, SCRIPT_FORM, bytes, fault),
+            refused_scene(alloc, explain, Form::Script, bytes, fault),
             out,
             err,
         ),

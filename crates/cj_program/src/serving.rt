@@ -53,7 +53,8 @@ pub(crate) fn give_answer<W: Write, E: Write>(
 }
 
 /// Serves a request, and answers the status: 0 where it is done, 1 where what it asks about is refused, 3
-/// where reading, writing or memory failed, or where a call found the history full; one line on standard error says which.
+/// where reading, writing or memory failed, or where a call found the history full; one line on standard
+/// error says which.
 pub fn serve<T: Threads + Wait + Sync, R: Read, W: Write, E: Write>(
     rt: &T,
     alloc: Global,

@@ -54,8 +54,9 @@ fn told_of(alloc: Global, fault: &WordFault) -> Result<Told, Failure>
     }
 }
 
-/// Tells why words are no request, and answers the status: 0 where help or the version was asked for, which is printed; 2 for
-/// wrong words, with what `clap` has to say on standard error; 3 where writing or memory failed.
+/// Tells why words are no request, and answers the status: 0 where help or the version was asked for, which
+/// is printed; 2 for wrong words, with what `clap` has to say on standard error; 3 where writing or memory
+/// failed.
 pub fn tell_fault<W: Write, E: Write>(
     alloc: Global,
     fault: &WordFault,

@@ -1,4 +1,5 @@
--- The work queue, and what each call leaves of it: client-go, package workqueue, whose names of the calls stand in brackets.
+-- The work queue, and what each call leaves of it: client-go, package workqueue, whose names of the calls
+-- stand in brackets.
 use Rattle.std.specs.Prelude.{ℕ, ◌+◌, ◌*◌, ◌^◌, min, max, Bool, true, false, if◌then◌else◌, is_some, unwrap_or, nat_le, List, [], ◌∷◌, ◌++◌, Option, Some, None, refl}
 use Rattle.std.specs.FinMap.{FinMap, empty, get, insert, remove, code}
 use Rattle.std.specs.Coded.{Coded, code_by, coded×, coded_ℕ, coded_bool, coded_list}

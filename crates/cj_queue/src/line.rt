@@ -100,8 +100,8 @@ impl Line {
     }
 }
 
-// Whether the set has the key at the place `first` or behind. Where none stands there it isn't looked up, as the set may have
-// a large table.
+// Whether the set has the key at the place `first` or behind. Where none stands there it isn't looked up, as
+// the set may have a large table.
 fn holds_from(set: &IndexSet<Key>, first: usize, key: &Key) -> bool
     ensures { result ≡ stands_in (drop first set.now.keys) key.now }
 {

@@ -14,9 +14,10 @@ use std::marker::Model;
 
 /// Keys to work on, each by one caller at a time.
 ///
-/// A key that is added is dirty, and stands in the line until it is taken; one that is added while it is worked on comes
-/// back into the line when that work is done. Contracts see the line, the dirty keys and those that are being worked on,
-/// the times for which keys wait, the failures, the greatest tick, and whether the queue is shut.
+/// A key that is added is dirty, and stands in the line until it is taken; one that is added while it is
+/// worked on comes back into the line when that work is done. Contracts see the line, the dirty keys and
+/// those that are being worked on, the times for which keys wait, the failures, the greatest tick, and
+/// whether the queue is shut.
 #[derive(Drop)]
 pub struct Queue {
     alloc: Global,
@@ -52,7 +53,8 @@ impl Queue {
         }
     }
 
-    /// The key is dirty, and goes last in the line unless it was dirty or is being worked on. After `shut` nothing happens.
+    /// The key is dirty, and goes last in the line unless it was dirty or is being worked on. After `shut`
+    /// nothing happens.
     pub fn add(&mut self, key: &Key) -> Result<(), Refusal>
         ensures ok { OnOk result (self.new ≡ added self.old key.now) }
         ensures err { OnErr result (self.new ≡ self.old) }
@@ -100,8 +102,8 @@ impl Queue {
         Ok(())
     }
 
-    /// Adds the key at once where the time, in milliseconds, isn't above the greatest tick so far. Else it waits for that
-    /// time, or for an earlier one where it waits already. After `shut` nothing happens.
+    /// Adds the key at once where the time, in milliseconds, isn't above the greatest tick so far. Else it
+    /// waits for that time, or for an earlier one where it waits already. After `shut` nothing happens.
     pub fn add_after(&mut self, key: &Key, at_ms: u64) -> Result<(), Refusal>
         ensures ok { OnOk result (self.new ≡ added_after self.old key.now at_ms) }
         ensures err { OnErr result (self.new ≡ self.old) }

@@ -1,4 +1,5 @@
--- What a call on the queue is answered, by the acts before it and, for a worker, by its seat, which its own entries say.
+-- What a call on the queue is answered, by the acts before it and, for a worker, by its seat, which its own
+-- entries say.
 use Rattle.std.specs.Prelude.{◌≡◌, ℕ, true, false, if◌then◌else◌, List, Option, Some, None, Result, Ok, Err}
 use Rattle.cj_base.specs.declared.refusal.Refusal.{Refusal}
 use Rattle.cj_base.specs.declared.refusal.Refusal.TheVariants as No

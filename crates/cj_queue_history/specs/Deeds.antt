@@ -1,5 +1,6 @@
--- What each entry of a history did to the work queue, by its call and its answer: client-go, package workqueue, whose names of the calls
--- stand in brackets. A refused call did nothing. A history has its newest entry first.
+-- What each entry of a history did to the work queue, by its call and its answer: client-go, package
+-- workqueue, whose names of the calls stand in brackets. A refused call did nothing. A history has its newest
+-- entry first.
 use Rattle.std.specs.Prelude.{ℕ, List, [], ◌∷◌, Option, Some, None, Result, Ok, Err}
 use Rattle.cj_base.specs.declared.refusal.Refusal.{Refusal}
 use Rattle.cj_types.specs.Keys.{Place}
@@ -15,8 +16,9 @@ use Rattle.cj_seats.specs.declared.seat.Phase.TheVariants.{Works}
 use Rattle.cj_seats.specs.declared.seat.Seat.{Seat}
 use Rattle.cj_legal.specs.Seats.{seat}
 
--- a key is added (Add), the moment is told, a key is taken (Get), a sync ends well, with the next time of its CronJob in seconds, or is
--- to be tried again, from a moment in milliseconds on (Done, Forget, AddAfter, AddRateLimited), the queue is shut (ShutDown)
+-- a key is added (Add), the moment is told, a key is taken (Get), a sync ends well, with the next time of its
+-- CronJob in seconds, or is to be tried again, from a moment in milliseconds on (Done, Forget, AddAfter,
+-- AddRateLimited), the queue is shut (ShutDown)
 pub data Deed : Type 0 where
   adds : Place → Deed
   ticks : ℕ → Deed

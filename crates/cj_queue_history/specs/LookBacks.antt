@@ -1,5 +1,5 @@
--- What a history says of the work queue, by looking back over its acts, the newest first: client-go, package workqueue ("Stingy", delayed
--- adds, and the exponential delay of failures).
+-- What a history says of the work queue, by looking back over its acts, the newest first: client-go, package
+-- workqueue ("Stingy", delayed adds, and the exponential delay of failures).
 use Rattle.std.specs.Prelude.{◌≡◌, ℕ, ◌+◌, ◌*◌, ◌<◌, ◌⊎◌, max, nat_le, Bool, true, false, ◌&&◌, ◌||◌, not, ◌==◌, if◌then◌else◌, List, [], ◌∷◌, length, Option, Some, None, is_some}
 use Rattle.std.specs.declared.cmp.Ordering.TheVariants.{Less}
 use Rattle.cj_types.specs.Keys.{Place, place_cmp}
@@ -71,7 +71,8 @@ failures (a ∷ h) k = counts a.deed (is_holder h a k) (failures h k)
 
 -- ---- delayed adds
 
--- the time in milliseconds for which an end adds the key again, where it is the end of its sync; `f` counts its failures before
+-- the time in milliseconds for which an end adds the key again, where it is the end of its sync; `f` counts
+-- its failures before
 abbrev pub later_in : Deed → Bool → ℕ → Option ℕ
 later_in (ends (Some t)) true f = Some (1000 * t)
 later_in (fails now) true f = Some (now + delay f)
@@ -108,7 +109,8 @@ adds_in (adds j) k m at was = key_eq k j
 adds_in (ticks now) k m at was = is_within was now
 adds_in d k m at was = is_within at m
 
--- the act after these is an add of the key: by its name, by a moment at which it is ready, or by a delayed add that is due at once
+-- the act after these is an add of the key: by its name, by a moment at which it is ready, or by a delayed
+-- add that is due at once
 abbrev pub is_add : List Act → Act → Place → Bool
 is_add h a k = not (shut h) && adds_in a.deed k (mark h) (later h a k) (ready_at h k)
 

@@ -26,8 +26,9 @@ report_in s h = report_lines (map.values s.store.crons) (map.values s.store.jobs
 unfoldable pub report_of : ℕ → List Told → List ℕ
 report_of window h = report_in (state_of window h) h
 
--- what holds of every world's history: each answer is the one that the entries before it give, no key is in two workers' hands, no scheduled
--- time of a CronJob got two Jobs, what was made under Forbid or Replace was made alone, and each claim is of the greatest time missed
+-- what holds of every world's history: each answer is the one that the entries before it give, no key is in
+-- two workers' hands, no scheduled time of a CronJob got two Jobs, what was made under Forbid or Replace was
+-- made alone, and each claim is of the greatest time missed
 pub record KeepsPromise (window : ℕ) (h : List Told) : Type 0 where
   pub legal : IsLegal window h
   pub planned : ArePlanned h

@@ -1,4 +1,5 @@
--- What steps that are made one after the other print, and the history that they leave. Histories have the newest entry first.
+-- What steps that are made one after the other print, and the history that they leave. Histories have the
+-- newest entry first.
 use Rattle.std.specs.Prelude.{◌≡◌, ℕ, ◌+◌, nat_le, Bool, true, false, ◌||◌, List, [], ◌∷◌, ◌++◌, length, if◌then◌else◌, Option, Some, None, Result, Ok, Err}
 use Rattle.std.specs.FinMap as map
 use Rattle.cj_base.specs.declared.refusal.Refusal.{Refusal}
@@ -50,8 +51,8 @@ abbrev pub wants_memory : Result Reply Refusal → Bool
 wants_memory (Err OutOfMemory) = true
 wants_memory other = false
 
--- the step's line is that of the answer that the history so far gives to its call, and its entry is added; and whether the history
--- was found full
+-- the step's line is that of the answer that the history so far gives to its call, and its entry is added;
+-- and whether the history was found full
 -- rule: replay-lines
 pub record Plays (zones : ZoneTable) (limits : Kept) (h : List Told) (step : Step) (line : List ℕ) (full : Bool) (h' : List Told) : Type 0 where
   pub call : Call
@@ -76,7 +77,8 @@ pub record PlaysFirst (zones : ZoneTable) (limits : Kept) (h : List Told) (step 
   pub printed : text ≡ line ++ rest
   pub found : full ≡ (now || later)
 
--- the lines of all steps, each as the history so far answers it, whether one of them found the history full, and the history in the end
+-- the lines of all steps, each as the history so far answers it, whether one of them found the history full,
+-- and the history in the end
 -- rules: replay-lines, replay-full
 abbrev pub AllPlay : ZoneTable → Kept → List Told → List Step → List ℕ → Bool → List Told → Type 0
 AllPlay zones limits h [] text full h' = (text ≡ []) × (full ≡ false) × (h' ≡ h)

@@ -1,4 +1,5 @@
-//! The run of a script over a world: what each step is answered, one after the other from an empty world, and then the report.
+//! The run of a script over a world: what each step is answered, one after the other from an empty world, and
+//! then the report.
 #![tactic(auto)]
 
 mod answer;

@@ -113,11 +113,12 @@ fn replay_on<W: Write>(
     Ok(is_full)
 }
 
-/// Makes the steps of a script one after the other on an empty world, and prints the line of each as the world answers it, and
-/// then the report: the objects and the reasons of the end. Answers whether a step found the history full, which stops nothing.
+/// Makes the steps of a script one after the other on an empty world, and prints the line of each as the
+/// world answers it, and then the report: the objects and the reasons of the end. Answers whether a step
+/// found the history full, which stops nothing.
 ///
-/// Lines are written as the steps go, through a buffer of 64 KiB. Where memory or the writer fails the run ends, and a
-/// beginning of what it prints was printed.
+/// Lines are written as the steps go, through a buffer of 64 KiB. Where memory or the writer fails the run
+/// ends, and a beginning of what it prints was printed.
 #[tactic(auto, using(crate::proofs::Printed::nothing_done))]
 pub fn replay<W: Write>(alloc: Global, script: &Script, out: &mut W) -> Result<bool, Failure>
     ensures whole { IfOk result (λ full. (text : List ℕ) × IsReplayed script.now text full × Appends (W.contents out.old) (W.contents out.new) text) }

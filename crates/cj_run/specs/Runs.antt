@@ -12,7 +12,8 @@ use Rattle.cj_run.specs.Deeds.{AreOf}
 abbrev pub IsClosed : List PassView → ℕ → List Told → Type 0
 IsClosed passes window h = All (IsExact h) passes
 
--- the text is the report of a history, which keeps what is promised of every history, and of which each pass's entries are its receipts
+-- the text is the report of a history, which keeps what is promised of every history, and of which each
+-- pass's entries are its receipts
 -- rule: run-report
 pub record IsReport (passes : List PassView) (text : List ℕ) : Type 0 where
   pub window : ℕ
@@ -21,8 +22,9 @@ pub record IsReport (passes : List PassView) (text : List ℕ) : Type 0 where
   pub exact : All (IsExact history) passes
   pub printed : text ≡ report_of window history
 
--- the text is the report of a history, which keeps what is promised of every history, and in which the user did just what the scenario says:
--- the CronJobs were created, and then each edit was made, in the order of its instants
+-- the text is the report of a history, which keeps what is promised of every history, and in which the user
+-- did just what the scenario says: the CronJobs were created, and then each edit was made, in the order of
+-- its instants
 -- rules: run-edits, run-report
 pub record IsRun (c : Course) (text : List ℕ) : Type 0 where
   pub window : ℕ

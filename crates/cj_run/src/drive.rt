@@ -67,7 +67,8 @@ fn end<R: Threads + Wait + Sync>(
     result
 }
 
-// All of an instant: the ends that are due, the edits, and then the work of informer and workers until the hub is at rest.
+// All of an instant: the ends that are due, the edits, and then the work of informer and workers until the
+// hub is at rest.
 fn live<R: Threads + Wait + Sync>(
     rt: &R,
     alloc: Global,

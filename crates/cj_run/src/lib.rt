@@ -1,4 +1,5 @@
-//! The whole controller: workers, runners and an informer at one hub, under a clock that moves on only where all is at rest.
+//! The whole controller: workers, runners and an informer at one hub, under a clock that moves on only where
+//! all is at rest.
 #![tactic(auto)]
 
 mod clock;

@@ -8,8 +8,8 @@ use cj_types::{Millis, Refusal};
 use std::sync::Wait;
 use std::thread;
 
-/// Shows that the hub was quiet when it was asked: nobody had given up, the informer and the listings had seen every write, no
-/// key was in the line, and none was held.
+/// Shows that the hub was quiet when it was asked: nobody had given up, the informer and the listings had
+/// seen every write, no key was in the line, and none was held.
 #[derive(Drop)]
 pub(crate) struct AtRest {
     state: HubState,

@@ -190,12 +190,13 @@ fn played<R: Threads + Wait + Sync>(
     passes_of(alloc, cast, ends)
 }
 
-/// Runs a scenario on an empty world with so many workers, and gives the report of the end: a line for each object and for each
-/// reason that the history tells.
+/// Runs a scenario on an empty world with so many workers, and gives the report of the end: a line for each
+/// object and for each reason that the history tells.
 ///
-/// At each instant the Jobs end whose time has come, then the user's edits are made, and then the informer and the workers go
-/// on until the hub is at rest; only then does the clock move. Each thread has ended when this returns. There is no report
-/// where a call found the history full, or where memory was wanting or a thread couldn't be started.
+/// At each instant the Jobs end whose time has come, then the user's edits are made, and then the informer
+/// and the workers go on until the hub is at rest; only then does the clock move. Each thread has ended when
+/// this returns. There is no report where a call found the history full, or where memory was wanting or a
+/// thread couldn't be started.
 #[tactic(auto, using(crate::proofs::Ran::done_report))]
 pub fn run_course<R: Threads + Wait + Sync>(
     rt: &R,

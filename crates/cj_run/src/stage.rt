@@ -15,8 +15,8 @@ use std::sync::Wait;
 use std::thread;
 use std::thread::Threads;
 
-/// What comes of the threads of a run: who called beside the workers, whether all instants were lived through, and the workers'
-/// ends.
+/// What comes of the threads of a run: who called beside the workers, whether all instants were lived
+/// through, and the workers' ends.
 #[derive(Drop)]
 pub(crate) struct Staged {
     pub cast: Cast,
@@ -24,7 +24,8 @@ pub(crate) struct Staged {
     pub ends: Result<Vec<WorkerEnd>, Refusal>,
 }
 
-// Shuts the queue, again after each want of memory, of which it tells then. At a full history the workers end by themselves.
+// Shuts the queue, again after each want of memory, of which it tells then. At a full history the workers end
+// by themselves.
 fn shut<R: Wait>(rt: &R, hub: &Hub, follower: &mut Follower) -> Result<(), Refusal> {
     let mut result = Ok(());
     for _ in rt.forever() {

@@ -37,8 +37,8 @@ IsPart [] ys = Unit {0}
 IsPart (x ∷ xs) [] = ⊥
 IsPart (x ∷ xs) (y ∷ ys) = ((x ≡ y) × IsPart xs ys) ⊎ IsPart (x ∷ xs) ys
 
--- the passes come back in order, without those that were lost; their new receipts are of ends that are due, in the list's order,
--- each at most once
+-- the passes come back in order, without those that were lost; their new receipts are of ends that are due,
+-- in the list's order, each at most once
 -- rule: runner-ends
 pub record CameBack (now : ℕ) (running : List Running) (passes back : List PassView) : Type 0 where
   pub kept : List PassView

@@ -22,7 +22,8 @@ pub record AreShares (passes : List PassView) (running : List Running) (shares :
   pub owners : map (λ s. s.pass) shares ≡ passes
   pub parts : flat_map (λ s. s.running.items) shares ++ left ≡ running
 
--- one call was entered: its receipt is the pass's, and comes after the others; a history that is told gained just its entry
+-- one call was entered: its receipt is the pass's, and comes after the others; a history that is told gained
+-- just its entry
 pub record Makes (tells : Bool) (w w' : Ledger) (p p' : PassView) (call : Call) (rs rs' : List Receipt) : Type 0 where
   pub receipt : Receipt
   pub call_is : receipt.entry.call ≡ call

@@ -34,7 +34,8 @@ fresh_meta count created draft = record {
   annotations = draft.annotations;
 }
 
--- the CronJob that the first create of all makes of a draft, whose uid and version are dropped, with its last schedule time
+-- the CronJob that the first create of all makes of a draft, whose uid and version are dropped, with its last
+-- schedule time
 abbrev pub scene_cron : CronJobDraft → ℕ → Option ℕ → CronJob
 scene_cron draft created last = record {
   key = draft.key;

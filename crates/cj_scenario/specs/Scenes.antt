@@ -1,5 +1,6 @@
--- The form of a scenario for a plan: a JSON object (RFC 8259) with a CronJob's manifest, the moment of its creation, the last time
--- that was scheduled, its Jobs, and zones by name. Members that aren't named here, or are null, are of no account.
+-- The form of a scenario for a plan: a JSON object (RFC 8259) with a CronJob's manifest, the moment of its
+-- creation, the last time that was scheduled, its Jobs, and zones by name. Members that aren't named here, or
+-- are null, are of no account.
 use Rattle.std.specs.Prelude.{◌≡◌, ◌⊎◌, map, ℕ, ◌==◌, ◌/◌, ◌≤◌, List, [], ◌∷◌, ◌++◌, codes, bytes_eq, Bool, false, if◌then◌else◌, Option, Some, None, option_and_then}
 use Rattle.std.specs.List.{list_any}
 use Rattle.serde_json.specs.Data.{Data, Items, no_items, item, Members, no_members, member}

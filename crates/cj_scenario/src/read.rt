@@ -107,12 +107,14 @@ fn scene_of(alloc: Global, value: &Value) -> Result<Scene, SceneFault>
     Ok(scene)
 }
 
-/// Reads a scenario for a plan: a JSON object with `manifest`, a CronJob's; `created`, the time of its creation; `last`, its last
-/// schedule time; `jobs`, a list of objects with a `time` and an `outcome`, `Running`, `Complete` or `Failed`; and `zones`, an object
-/// from names to POSIX rules. The last three may be absent; members of other names, or that are null, are ignored.
+/// Reads a scenario for a plan: a JSON object with `manifest`, a CronJob's; `created`, the time of its
+/// creation; `last`, its last schedule time; `jobs`, a list of objects with a `time` and an `outcome`,
+/// `Running`, `Complete` or `Failed`; and `zones`, an object from names to POSIX rules. The last three may be
+/// absent; members of other names, or that are null, are ignored.
 ///
-/// Refused in this order: `Syntax` for bytes that aren't JSON, `Form` for a value of another form, with a zone that is refused or two
-/// Jobs of one minute, and `Manifest` with the manifest's first fault under UTC and the zones.
+/// Refused in this order: `Syntax` for bytes that aren't JSON, `Form` for a value of another form, with a
+/// zone that is refused or two Jobs of one minute, and `Manifest` with the manifest's first fault under UTC
+/// and the zones.
 pub fn read_scene(alloc: Global, bytes: &[u8]) -> Result<Scene, SceneFault>
     ensures read { IfOk result (IsScene bytes.now) }
     ensures refused { IfErr result (IsRefusedScene bytes.now) }

@@ -51,8 +51,8 @@ fn members_of(alloc: Global, members: &Map<String, Value>) -> Result<ZoneTable, 
     Ok(table)
 }
 
-/// UTC, and the zones of an object from names to POSIX rules, where there is one: `Form` where that has another form or a zone
-/// is refused. UTC is the local zone.
+/// UTC, and the zones of an object from names to POSIX rules, where there is one: `Form` where that has
+/// another form or a zone is refused. UTC is the local zone.
 pub fn table_of(alloc: Global, object: Option<&Value>) -> Result<ZoneTable, SceneFault>
     ensures ok { IfOk result (λ t. form.AreZones (option_map (λ v. view v.now) object.entry) (zones_of t)) }
     ensures local { IfOk result (λ t. local_zone t ≡ Some (utc_zone (codes "UTC"))) }

@@ -1,5 +1,5 @@
--- The front of an element, case by case. `cj_schedule` keeps the types of an element to itself: they are named here as what its
--- definitions take, and their values as what its definitions give.
+-- The front of an element, case by case. `cj_schedule` keeps the types of an element to itself: they are
+-- named here as what its definitions take, and their values as what its definitions give.
 use Rattle.std.proofs.Common.{◌≡◌, ◌⊎◌, ℕ, true, List, [], ◌∷◌, ◌++◌, Option, Some, None, sym, arith, subst, codes}
 use Rattle.cj_schedule.specs.Causes.{IsBaseForm, IsValueForm}
 use Rattle.cj_schedule.specs.Grammar.{IsBase, IsValue, IsIn}

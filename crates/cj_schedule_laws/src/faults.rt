@@ -7,7 +7,8 @@ ghost use Rattle.cj_schedule_laws.specs.OneFault.{IsFaultOf, NoTwoFaults, Faulty
 use cj_base::ScheduleFault;
 use cj_schedule::Schedule;
 
-/// No text has two faults, a text that has one is no schedule, and the fault by which a text is refused is the one that it has.
+/// No text has two faults, a text that has one is no schedule, and the fault by which a text is refused is
+/// the one that it has.
 pub fn fault_laws()
     ensures one { NoTwoFaults }
     ensures faulty { FaultyIsNoSchedule }

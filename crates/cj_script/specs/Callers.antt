@@ -1,4 +1,5 @@
--- The callers of a script: an object from their names to their roles, in the order of the names. One whose role is null is none.
+-- The callers of a script: an object from their names to their roles, in the order of the names. One whose
+-- role is null is none.
 use Rattle.std.specs.Prelude.{ℕ, List, [], ◌∷◌, ◌++◌, length, codes, bytes_eq, if◌then◌else◌, Option, Some, None, option_map, option_and_then}
 use Rattle.std.specs.List.{find}
 use Rattle.serde_json.specs.Data.{Data, Members, no_members, member}

@@ -79,7 +79,8 @@ fn callers_of(alloc: Global, members: &Map<String, Value>) -> Result<Option<Vec<
     Ok(Some(callers))
 }
 
-/// The callers of a script by name, or none where they are missing or have the wrong form. One whose role is null is none.
+/// The callers of a script by name, or none where they are missing or have the wrong form. One whose role is
+/// null is none.
 pub(crate) fn callers_at(alloc: Global, value: &Value) -> Result<Option<Vec<Named>>, Refusal>
     ensures ok { IfOk result (λ cs. option_map (λ v. v.items) cs ≡ said.callers_in (view value.now)) }
     ensures err { IfErr result (λ e. e ≡ OutOfMemory) }

@@ -62,13 +62,13 @@ fn script_of(alloc: Global, value: &Value) -> Result<Script, SceneFault>
     })
 }
 
-/// Reads a script: a JSON object with `callers`, an object from names to roles, `User`, `Runner`, `Informer` or `Worker`;
-/// `steps`, a list of objects that each say `who` does what, `do`, with what that needs; and, where wanted, `zones`, an
-/// object from names to POSIX rules, and the limits `history` and `window`, by default 1,048,576 and 1,000. Members of other
-/// names, or that are null, are ignored.
+/// Reads a script: a JSON object with `callers`, an object from names to roles, `User`, `Runner`, `Informer`
+/// or `Worker`; `steps`, a list of objects that each say `who` does what, `do`, with what that needs; and,
+/// where wanted, `zones`, an object from names to POSIX rules, and the limits `history` and `window`, by
+/// default 1,048,576 and 1,000. Members of other names, or that are null, are ignored.
 ///
-/// Refused in this order: `Syntax` for bytes that aren't JSON, `Form` for a value of another form or with a zone that is
-/// refused, and `Manifest` with the first fault of the first manifest that has one.
+/// Refused in this order: `Syntax` for bytes that aren't JSON, `Form` for a value of another form or with a
+/// zone that is refused, and `Manifest` with the first fault of the first manifest that has one.
 pub fn read_script(alloc: Global, bytes: &[u8]) -> Result<Script, SceneFault>
     ensures read { IfOk result (IsScript bytes.now) }
     ensures refused { IfErr result (IsRefusedScript bytes.now) }

@@ -59,7 +59,8 @@ fn act_of(alloc: Global, zones: &ZoneTable, verb: Verb, value: &Value) -> Result
     }
 }
 
-/// What a value says that is done, under these zones: `Form` where it has another form, else its manifest's first fault.
+/// What a value says that is done, under these zones: `Form` where it has another form, else its manifest's
+/// first fault.
 #[tactic(auto, unfolding(crate::specs::Steps::deed_in))]
 pub fn deed_of(alloc: Global, zones: &ZoneTable, value: &Value) -> Result<Deed, SceneFault>
     requires flat { depth (view value.now) ≤ max_depth }
@@ -73,8 +74,8 @@ pub fn deed_of(alloc: Global, zones: &ZoneTable, value: &Value) -> Result<Deed, 
     Ok(Deed { verb, act })
 }
 
-/// The step that a value says, by these callers and under these zones: `Form` where it has another form, else its manifest's
-/// first fault.
+/// The step that a value says, by these callers and under these zones: `Form` where it has another form, else
+/// its manifest's first fault.
 #[tactic(auto, unfolding(crate::specs::Steps::step_of))]
 pub(crate) fn step_of(
     alloc: Global,

@@ -69,8 +69,8 @@ fn update_job(alloc: Global, value: &Value) -> Result<Act, SceneFault>
     Ok(Act::Calls(Call::UpdateJob(draft)))
 }
 
-/// What a step with this verb does under the zones: `Form` where its time or its manifest is missing, else the manifest's
-/// first fault.
+/// What a step with this verb does under the zones: `Form` where its time or its manifest is missing, else
+/// the manifest's first fault.
 pub(crate) fn write_act(
     alloc: Global,
     zones: &ZoneTable,

@@ -1,5 +1,6 @@
--- What a worker has seen in its sync so far, by looking back over a history: its own accepted answers since it took the key. Histories
--- have the newest entry first. (A controller's sync reads before it writes: Kubernetes, "Controllers".)
+-- What a worker has seen in its sync so far, by looking back over a history: its own accepted answers since
+-- it took the key. Histories have the newest entry first. (A controller's sync reads before it writes:
+-- Kubernetes, "Controllers".)
 use Rattle.std.specs.Prelude.{ℕ, ◌==◌, List, [], ◌∷◌, if◌then◌else◌, Option, Some, None, Result, Ok, Err}
 use Rattle.cj_base.specs.declared.refusal.Refusal.{Refusal}
 use Rattle.cj_decide.specs.Decision.{Planned}

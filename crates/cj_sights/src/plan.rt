@@ -75,8 +75,8 @@ fn empty_plan(alloc: Global, zones: &ZoneTable, at: Seconds) -> Result<Plan, Ref
     plan_of(alloc, zones, &None, &jobs, &active, at)
 }
 
-/// The plan of what a worker has seen, at the moment and in the CronJob's zone; of nothing where it lacks one of the three
-/// readings.
+/// The plan of what a worker has seen, at the moment and in the CronJob's zone; of nothing where it lacks one
+/// of the three readings.
 pub fn plan_for(
     alloc: Global,
     zones: &ZoneTable,

@@ -1,6 +1,6 @@
--- What each call of a worker answers, and what it leaves: one sync of a CronJob, split into the calls that a controller makes of the API
--- server (Kubernetes API concepts, "Efficient detection of changes"; conventions, "Concurrency Control and Consistency") and of its work
--- queue (client-go, package workqueue).
+-- What each call of a worker answers, and what it leaves: one sync of a CronJob, split into the calls that a
+-- controller makes of the API server (Kubernetes API concepts, "Efficient detection of changes"; conventions,
+-- "Concurrency Control and Consistency") and of its work queue (client-go, package workqueue).
 use Rattle.std.specs.Prelude.{◌≡◌, ℕ, ◌+◌, ◌*◌, Bool, true, false, List, [], ◌∷◌, Option, Some, None, option_map, Result, Ok, Err, if◌then◌else◌}
 use Rattle.std.specs.Ordering.{nat_cmp}
 use Rattle.std.specs.FinMap as map

@@ -1,5 +1,6 @@
--- What a worker reads of Jobs: those that a list has, which lags behind the store by as many writes as weren't fed to it (Kubernetes API
--- concepts, "Resource versions": a list may be older than what was written), and what a CronJob's active names are by now.
+-- What a worker reads of Jobs: those that a list has, which lags behind the store by as many writes as
+-- weren't fed to it (Kubernetes API concepts, "Resource versions": a list may be older than what was
+-- written), and what a CronJob's active names are by now.
 use Rattle.std.specs.Prelude.{ℕ, List, [], map as map_list, Option, Some, None, if◌then◌else◌}
 use Rattle.std.specs.FinMap as map
 use Rattle.cj_types.specs.Keys.{Place, place}

@@ -8,8 +8,8 @@ use Rattle.cj_seats.specs.declared.seat.Seat.{Seat}
 use Rattle.cj_state.specs.declared.state.State.{State}
 use Rattle.cj_state.specs.Moves.{seat_of}
 
--- the watch was told of each write, what it tells of those that the lists don't know yet follows on what they know, and who holds a key
--- works on it
+-- the watch was told of each write, what it tells of those that the lists don't know yet follows on what they
+-- know, and who holds a key works on it
 pub record IsSound (s : State) : Type 0 where
   pub counted : s.watch.count ≡ s.store.version
   pub follows : (max : ℕ) (events : List Event) → since s.watch s.mirror.fed max ≡ Ok events → IsNumbered s.mirror.fed events

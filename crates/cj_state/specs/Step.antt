@@ -1,5 +1,5 @@
--- What one call of one caller answers and leaves. Who may make which call stands here: a call that the role may not make is refused
--- before anything else is looked at.
+-- What one call of one caller answers and leaves. Who may make which call stands here: a call that the role
+-- may not make is refused before anything else is looked at.
 use Rattle.std.specs.Prelude.{ℕ, List, Option, Some, None, Result, Ok, Err}
 use Rattle.std.specs.FinMap as map
 use Rattle.cj_base.specs.declared.refusal.Refusal.{Refusal}

@@ -13,8 +13,8 @@ use cj_types::{Heap, Refusal, TryCopy};
 use cj_watch::WatchLog;
 use std::alloc::Global;
 
-/// What a world holds beside its history: the objects, the events of the latest writes, the Jobs as lists have them, the
-/// queue of keys, and how far each worker's sync has come.
+/// What a world holds beside its history: the objects, the events of the latest writes, the Jobs as lists
+/// have them, the queue of keys, and how far each worker's sync has come.
 #[derive(Drop)]
 pub struct State {
     pub store: Store,
@@ -42,7 +42,8 @@ impl State {
         Ok(())
     }
 
-    /// Makes a write that was planned, tells its event, and gives the answer. Where there is no memory all is as it was.
+    /// Makes a write that was planned, tells its event, and gives the answer. Where there is no memory all is
+    /// as it was.
     pub fn write_answered(
         &mut self,
         alloc: Global,

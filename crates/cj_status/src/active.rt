@@ -87,8 +87,8 @@ fn push_kept(alloc: Global, all: &mut Names, name: &ObjectName, keeps: bool) -> 
     Ok(())
 }
 
-/// Of names with what a live read found for each, in their order, those whose Job it found unfinished. The CronJob's uid is given as a
-/// text.
+/// Of names with what a live read found for each, in their order, those whose Job it found unfinished. The
+/// CronJob's uid is given as a text.
 pub fn still_active(
     alloc: Global,
     uid: &str,

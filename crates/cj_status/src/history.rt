@@ -56,9 +56,9 @@ fn surplus_by(
     Ok(JobRefs::from_vec(items))
 }
 
-/// The finished Jobs of the CronJob that are no longer kept: a finished Job is kept where fewer Jobs of its outcome than that outcome's
-/// limit are newer, by creation time, then name. First all that ended with success, then all that failed, each group the oldest
-/// first. The uid is given as a text.
+/// The finished Jobs of the CronJob that are no longer kept: a finished Job is kept where fewer Jobs of its
+/// outcome than that outcome's limit are newer, by creation time, then name. First all that ended with
+/// success, then all that failed, each group the oldest first. The uid is given as a text.
 pub fn surplus(
     alloc: Global,
     successful: HistoryLimit,

@@ -125,7 +125,8 @@ fn gather_found(
     Ok(items)
 }
 
-/// Of the Jobs that a live read found, the unfinished ones of the CronJob, by creation time, then name. The uid is given as a text.
+/// Of the Jobs that a live read found, the unfinished ones of the CronJob, by creation time, then name. The
+/// uid is given as a text.
 pub fn running_found(
     alloc: Global,
     uid: &str,

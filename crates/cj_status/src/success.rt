@@ -24,7 +24,8 @@ fn later(a: Option<Seconds>, b: Option<Seconds>) -> Option<Seconds>
     }
 }
 
-/// The greatest of a time, if there is one, and the times at which Jobs of the CronJob ended with success. Its uid is given as a text.
+/// The greatest of a time, if there is one, and the times at which Jobs of the CronJob ended with success.
+/// Its uid is given as a text.
 pub fn last_success(standing: Option<Seconds>, jobs: &[Shared<Job>], uid: &str) -> Option<Seconds>
     ensures { result ≡ success_of standing jobs.now uid.now }
 {

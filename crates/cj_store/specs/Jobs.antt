@@ -1,5 +1,5 @@
--- The answers of calls on Jobs, with the first refusal that holds. The object that a write leaves is its answer; a deletion's is the
--- last object with the deletion's version.
+-- The answers of calls on Jobs, with the first refusal that holds. The object that a write leaves is its
+-- answer; a deletion's is the last object with the deletion's version.
 use Rattle.std.specs.Prelude.{ℕ, Bool, true, ◌==◌, List, Option, Some, None, Result, Ok, Err, is_some, if◌then◌else◌}
 use Rattle.std.specs.List.{filter}
 use Rattle.std.specs.FinMap as map

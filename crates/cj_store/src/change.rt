@@ -7,8 +7,8 @@ use std::marker::Model;
 
 /// A write that was planned and isn't made yet. Only the plans of a store make one.
 ///
-/// Contracts see the event that a watch gives of the write: the object as the write leaves it, or the last object with the
-/// deletion's version.
+/// Contracts see the event that a watch gives of the write: the object as the write leaves it, or the last
+/// object with the deletion's version.
 #[derive(Drop)]
 pub struct Change {
     event: Heap<Event>,

@@ -35,8 +35,8 @@ impl Store {
         Ok(answer)
     }
 
-    /// Replaces labels, annotations and spec of a CronJob, and answers it. Refused: `NotFound`, `Conflict` where the draft
-    /// gives a version or uid that isn't the current one.
+    /// Replaces labels, annotations and spec of a CronJob, and answers it. Refused: `NotFound`, `Conflict`
+    /// where the draft gives a version or uid that isn't the current one.
     pub fn update_cron(
         &mut self,
         alloc: Global,

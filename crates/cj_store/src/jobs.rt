@@ -55,8 +55,9 @@ impl Store {
         Ok(answer)
     }
 
-    /// Replaces labels, annotations and spec of a Job, and answers it. Refused: `NotFound`, `Conflict` where the draft gives
-    /// a version or uid that isn't the current one, `NotPermitted` where its owner references differ.
+    /// Replaces labels, annotations and spec of a Job, and answers it. Refused: `NotFound`, `Conflict` where
+    /// the draft gives a version or uid that isn't the current one, `NotPermitted` where its owner references
+    /// differ.
     pub fn update_job(&mut self, alloc: Global, draft: JobDraft) -> Result<Shared<Job>, Refusal>
         requires { self.old.version < 2 ^ 40 }
         ensures ok { IfOk result (λ j. job_updated self.old draft ≡ Ok j) }
@@ -70,8 +71,8 @@ impl Store {
         Ok(answer)
     }
 
-    /// Deletes a Job, and answers the deletion's version. Refused: `NotFound`, also where a uid is given and another one
-    /// stands there.
+    /// Deletes a Job, and answers the deletion's version. Refused: `NotFound`, also where a uid is given and
+    /// another one stands there.
     pub fn delete_job(
         &mut self,
         alloc: Global,

@@ -1,4 +1,5 @@
--- What a call on the store is answered, by the writes before it and, for a worker, by its seat, which its own entries say.
+-- What a call on the store is answered, by the writes before it and, for a worker, by its seat, which its own
+-- entries say.
 use Rattle.std.specs.Prelude.{◌≡◌, ℕ, List, [], map as map_list, Option, Some, None, Result, Ok, Err, if◌then◌else◌, reverse}
 use Rattle.cj_base.specs.declared.refusal.Refusal.{Refusal}
 use Rattle.cj_base.specs.declared.refusal.Refusal.TheVariants.{NotFound, NotPermitted, OutOfPhase, Stale}
@@ -104,7 +105,8 @@ abbrev pub on_make : List Event → Place → Phase → Answer
 on_make ws k (Works work) = on_make_step ws work.plan (step_at work.plan.steps work.place)
 on_make ws k p = Err OutOfPhase
 
--- the status at the end is set where nothing was written since the claim, or since what was seen where nothing was claimed
+-- the status at the end is set where nothing was written since the claim, or since what was seen where
+-- nothing was claimed
 abbrev pub on_setting : List Event → Place → Work → Option Step → Option CronJob → Answer
 on_setting ws k work (Some (sets status)) (Some cron) = map_ok version_reply (set_status ws k cron.meta.uid work.version status)
 on_setting ws k work o cron = Err OutOfPhase
@@ -128,7 +130,8 @@ OnSeeJobs n ws (Some s) a = SeesJobs n ws s.key s.phase a
 
 -- ---- whoever calls
 
--- the answer after these writes, of which the listing knows `n`, to a caller with this seat; the queue's calls are told elsewhere
+-- the answer after these writes, of which the listing knows `n`, to a caller with this seat; the queue's
+-- calls are told elsewhere
 -- rule: looking-back
 abbrev pub Says : ℕ → ℕ → List Event → Option Seat → Role → Call → Answer → Type 0
 Says window n ws o User (Of.CreateCron d now) a = a ≡ map_ok event_reply (create_cron ws d now)

@@ -1,5 +1,5 @@
--- The numbers that writes and objects get: Kubernetes API concepts, "Resource versions", and "Object Names and IDs", "UIDs" ("every
--- object created over the whole lifetime of a cluster has a distinct UID").
+-- The numbers that writes and objects get: Kubernetes API concepts, "Resource versions", and "Object Names
+-- and IDs", "UIDs" ("every object created over the whole lifetime of a cluster has a distinct UID").
 use Rattle.std.specs.Prelude.{◌≡◌, ℕ, ◌<◌, List, ◌∷◌, ◌++◌, reverse}
 use Rattle.cj_types.specs.declared.event.Object.{Object}
 use Rattle.cj_types.specs.declared.event.Object.TheVariants as Kind

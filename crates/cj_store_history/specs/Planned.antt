@@ -1,5 +1,5 @@
--- Which write a call makes, with the first refusal that holds, by the writes before it: API conventions, "HTTP Status codes" and
--- "Concurrency Control and Consistency".
+-- Which write a call makes, with the first refusal that holds, by the writes before it: API conventions,
+-- "HTTP Status codes" and "Concurrency Control and Consistency".
 use Rattle.std.specs.Prelude.{ℕ, ◌==◌, List, Option, Some, None, Result, Ok, Err, is_some, if◌then◌else◌}
 use Rattle.cj_base.specs.declared.refusal.Refusal.{Refusal}
 use Rattle.cj_base.specs.declared.refusal.Refusal.TheVariants.{NotPermitted, NotFound, AlreadyExists, Conflict, AlreadyFinished}

@@ -1,5 +1,6 @@
--- What a write leaves, by the writes before it: Kubernetes API concepts, "Resource versions", and API conventions, "Metadata". A write is
--- told as the event that a watch gives of it. A list of writes has the newest first.
+-- What a write leaves, by the writes before it: Kubernetes API concepts, "Resource versions", and API
+-- conventions, "Metadata". A write is told as the event that a watch gives of it. A list of writes has the
+-- newest first.
 use Rattle.std.specs.Prelude.{ℕ, ◌+◌, Bool, List, [], ◌∷◌, length, Option, Some, None, if◌then◌else◌}
 use Rattle.cj_types.specs.Keys.{Place}
 use Rattle.cj_types.specs.declared.meta.Meta.{Meta}

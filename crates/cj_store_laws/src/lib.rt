@@ -1,5 +1,5 @@
-//! Laws of the store that the layers above it cite: what its content keeps, what each accepted call answers, and what the
-//! event of a write does.
+//! Laws of the store that the layers above it cite: what its content keeps, what each accepted call answers,
+//! and what the event of a write does.
 #![tactic(auto)]
 
 mod answers;

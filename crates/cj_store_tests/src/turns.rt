@@ -27,8 +27,8 @@ fn update(store: &mut Store, alloc: Global, draft: Heap<JobDraft>) -> Result<(),
     store.commit(alloc, change)
 }
 
-/// Makes two Jobs, each by a plan. The second is planned once the first is made: a plan is for the content that it was made
-/// on, and no other.
+/// Makes two Jobs, each by a plan. The second is planned once the first is made: a plan is for the content
+/// that it was made on, and no other.
 pub fn make_both(
     store: &mut Store,
     alloc: Global,

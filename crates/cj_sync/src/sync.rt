@@ -41,9 +41,10 @@ fn sync_one<D: Desk, G: Gate, C: Clock>(
 
 /// One sync of the first key of the line, if there is one, through a pass of a worker.
 ///
-/// Its calls are Take, SeeCron, SeeJobs, SeeActive, the Claim of the one plan of these three answers at a reading of the clock
-/// after them, the plan's steps in order, and Finish, up to the first refusal; then it asks for another try. The gate is
-/// passed after Take, SeeCron, SeeJobs, Claim and the making; where it stops, no further call is made.
+/// Its calls are Take, SeeCron, SeeJobs, SeeActive, the Claim of the one plan of these three answers at a
+/// reading of the clock after them, the plan's steps in order, and Finish, up to the first refusal; then it
+/// asks for another try. The gate is passed after Take, SeeCron, SeeJobs, Claim and the making; where it
+/// stops, no further call is made.
 pub fn sync_once<D: Desk, G: Gate, C: Clock>(
     alloc: Global,
     desk: &mut D,

@@ -18,7 +18,8 @@ pub fn table_laws<X>()
     ensures undone { (m : map.FinMap place_cmp X) (k : Place) (v : X) → map.get m k ≡ None → map.remove (map.insert m k v) k ≡ m }
 {}
 
-/// What stands where after an insert and after a removal, with the other keys apart: of maps by key, and of maps by number.
+/// What stands where after an insert and after a removal, with the other keys apart: of maps by key, and of
+/// maps by number.
 pub fn apart_laws<X>()
     ensures places { PlacesApart X }
     ensures numbers { NumbersApart X }

@@ -1,4 +1,5 @@
-//! Tests of the values below the stored types, of schedules, zones and due times: each public call, and what no command shows.
+//! Tests of the values below the stored types, of schedules, zones and due times: each public call, and what
+//! no command shows.
 #![tactic(auto)]
 
 #[cfg(test)]

@@ -26,8 +26,8 @@ impl Model for ObjectName {
 }
 
 impl ObjectName {
-    /// The name of this text, or `Invalid` with the fault of `metadata.name`: `TooLong` for more than 63 characters, else
-    /// `Format`.
+    /// The name of this text, or `Invalid` with the fault of `metadata.name`: `TooLong` for more than 63
+    /// characters, else `Format`.
     pub fn new(alloc: Global, text: &str) -> Result<ObjectName, Refusal>
         ensures ok { IfOk result (λ n. new_name text.now ≡ Ok n) }
         ensures err { IfErr result (λ e. e ≢ OutOfMemory → new_name text.now ≡ Err e) }

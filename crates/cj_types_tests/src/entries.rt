@@ -3,7 +3,8 @@ use crate::samples::read_labels;
 use cj_types::{Labels, Refusal};
 use std::alloc::Global;
 
-// Entries in the order in which they are put, and as they then stand: each name once, by its bytes, with its last value.
+// Entries in the order in which they are put, and as they then stand: each name once, by its bytes, with its
+// last value.
 const PUT: &str = "\
 |
 k=v|k=v

@@ -1,5 +1,5 @@
-//! Tests of the stored types: the texts of uids, versions and Jobs' names, the Job that a CronJob makes, that copies and
-//! comparisons see each field, the order of keys, and the table by key.
+//! Tests of the stored types: the texts of uids, versions and Jobs' names, the Job that a CronJob makes, that
+//! copies and comparisons see each field, the order of keys, and the table by key.
 #![tactic(auto)]
 
 #[cfg(test)]

@@ -4,7 +4,8 @@ use cj_table::Table;
 use cj_types::{Key, Refusal, Text};
 use std::alloc::Global;
 
-// What is done to an empty table, `KEY=VALUE` for an insert and `-KEY` for a removal, and the values that it then lists.
+// What is done to an empty table, `KEY=VALUE` for an insert and `-KEY` for a removal, and the values that it
+// then lists.
 const DONE: &str = "\
 |
 a/b=1|1

@@ -22,7 +22,8 @@ last_end (Broken r) = Some (Broken r)
 last_end (Stopped point) = Some (Stopped point)
 last_end _ = None
 
--- what such an end says: the last receipt is a new one, of a Take from a shut queue, or of the call after which the gate stopped the sync
+-- what such an end says: the last receipt is a new one, of a Take from a shut queue, or of the call after
+-- which the gate stopped the sync
 -- rule: worker-ends
 abbrev pub HasEnd : SyncEnd → PassView → PassView → Type 0
 HasEnd ShutDown p q = EndsBy p q IsShut

@@ -70,10 +70,11 @@ fn run_scoped<R: Threads + Wait + Sync, G: Gate + Sync, C: Clock + Sync>(
 
 /// Workers, each with a pass of its own in a thread of its own, until the queue is shut and has no key.
 ///
-/// A worker goes on after a sync that is done or to be tried again, and ends after one that broke or was stopped. The passes
-/// come back in order, each with the end of its worker's last sync. One whose thread can't be started is lost. Work on the
-/// hub is given up where not every worker can be started, where a sync broke, and where one lacked memory. Refused
-/// `OutOfMemory` where the threads can't be listed; no thread is started then, and all passes are lost.
+/// A worker goes on after a sync that is done or to be tried again, and ends after one that broke or was
+/// stopped. The passes come back in order, each with the end of its worker's last sync. One whose thread
+/// can't be started is lost. Work on the hub is given up where not every worker can be started, where a sync
+/// broke, and where one lacked memory. Refused `OutOfMemory` where the threads can't be listed; no thread is
+/// started then, and all passes are lost.
 pub fn run_workers<R: Threads + Wait + Sync, G: Gate + Sync, C: Clock + Sync>(
     rt: &R,
     alloc: Global,

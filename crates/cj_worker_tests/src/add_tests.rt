@@ -20,8 +20,8 @@ fn three_adds(rt: &impl Abort, alloc: Global) -> [Call; 5] {
     [first, tick_one, second, tick_two, third]
 }
 
-// How a worker's syncs ended, and how often the history tells that the key was added, that it was taken, that a sync ended well,
-// and that the Job was made.
+// How a worker's syncs ended, and how often the history tells that the key was added, that it was taken, that
+// a sync ended well, and that the Job was made.
 type Told = ([&'static str; 3], [usize; 4]);
 
 fn told(rt: &(impl Wait + Abort), alloc: Global) -> Told {
@@ -57,8 +57,8 @@ fn told(rt: &(impl Wait + Abort), alloc: Global) -> Told {
     (ends, counts(rt, hub, passes, sought))
 }
 
-// A key is added three times, and the queue's clock moves on, while a worker holds it: the worker takes it once more after its
-// Finish, and then finds nothing.
+// A key is added three times, and the queue's clock moves on, while a worker holds it: the worker takes it
+// once more after its Finish, and then finds nothing.
 // rules: queue-done, queue-line
 #[test]
 fn added_while_it_is_held(rt: HostRuntime) {

@@ -33,8 +33,8 @@ fn told(rt: &impl Abort, alloc: Global) -> Told {
     ([first, second], [calls, all_calls])
 }
 
-// At a book of one's own that has nothing to take a sync is Idle and enters nothing; once the queue is shut it is ShutDown, as its
-// one receipt says.
+// At a book of one's own that has nothing to take a sync is Idle and enters nothing; once the queue is shut
+// it is ShutDown, as its one receipt says.
 // rule: sync-ends
 #[test]
 fn nothing_to_take(rt: HostRuntime) {

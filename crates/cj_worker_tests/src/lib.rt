@@ -1,8 +1,9 @@
-//! Tests of syncs and workers: a whole sync, syncs that are stopped or disturbed at each point, a Job's name that is taken, and
-//! two workers on threads.
+//! Tests of syncs and workers: a whole sync, syncs that are stopped or disturbed at each point, a Job's name
+//! that is taken, and two workers on threads.
 //!
-//! A test's process ends with it, so what is slow to drop (a hub, a closed history, passes) is let go of by `mem::forget`, and
-//! where memory is refused a test fails by `expect`: each drop at each exit of a function would be proved.
+//! A test's process ends with it, so what is slow to drop (a hub, a closed history, passes) is let go of by
+//! `mem::forget`, and where memory is refused a test fails by `expect`: each drop at each exit of a function
+//! would be proved.
 #![tactic(auto)]
 
 #[cfg(test)]

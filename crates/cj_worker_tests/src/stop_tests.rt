@@ -10,7 +10,8 @@ use std::alloc::Global;
 use std::process::Abort;
 use std::sync::Wait;
 
-// The ends of another worker's syncs: one in the first minute, two in the second, before which both keys are added again.
+// The ends of another worker's syncs: one in the first minute, two in the second, before which both keys are
+// added again.
 fn other_ends(
     rt: &(impl Wait + Abort),
     alloc: Global,
@@ -27,8 +28,9 @@ fn other_ends(
     [first, second, third]
 }
 
-// How the sync of `a` ended that is stopped at the point, and then those of another worker; and how often the history tells that
-// the stopped worker claimed a time, that the Job of `a` was made, and each of the two of `b`.
+// How the sync of `a` ended that is stopped at the point, and then those of another worker; and how often the
+// history tells that the stopped worker claimed a time, that the Job of `a` was made, and each of the two of
+// `b`.
 type Row = (&'static str, [&'static str; 3], [usize; 4]);
 
 fn stopped_at(rt: &(impl Wait + Abort), alloc: Global, point: Point) -> Row {
@@ -62,9 +64,9 @@ const ROWS: [Row; 5] = [
     ("Made", ENDS, [1, 1, 1, 1]),
 ];
 
-// A sync of `a` that is stopped at one of the five points makes no further call: of `a` there is no Job and no claim up to
-// Listed, a claim without a Job at Claimed, one Job at Made. The key stays held: another worker never gets it, though it is added
-// again, and makes both Jobs of `b`.
+// A sync of `a` that is stopped at one of the five points makes no further call: of `a` there is no Job and
+// no claim up to Listed, a claim without a Job at Claimed, one Job at Made. The key stays held: another
+// worker never gets it, though it is added again, and makes both Jobs of `b`.
 // rule: stopped-sync
 #[test]
 fn stopped_at_each_point(rt: HostRuntime) {

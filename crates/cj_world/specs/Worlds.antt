@@ -39,8 +39,9 @@ pub record Stands (limits : Kept) (h : List Told) (s : State) : Type 0 where
   pub small : limits.history ≤ last_history
   pub state_is : s ≡ state_of limits.window h
 
--- what one call answers and adds. It is refused with HistoryFull exactly at a full history, before anything else; there, where nothing can
--- be taken, and for want of memory nothing is added. Else the answer is the one that the history gives, and the entry is added.
+-- what one call answers and adds. It is refused with HistoryFull exactly at a full history, before anything
+-- else; there, where nothing can be taken, and for want of memory nothing is added. Else the answer is the
+-- one that the history gives, and the entry is added.
 -- rule: entered
 pub record Applied (limits : Kept) (h : List Told) (caller : Caller) (call : Call) (r : Result Reply Refusal) (h' : List Told) : Type 0 where
   pub entered : is_entered r ≡ true → (r ≡ answer_of limits.window h caller call) × (h' ≡ told caller call r ∷ h)

@@ -25,8 +25,8 @@ use std::marker::Model;
 
 /// What is stored, told, listed and queued, who works on what, and the history that led to it.
 ///
-/// Contracts see the limits and the history, the newest entry first. Its type keeps that the history is within its limit
-/// and legal, and that all that it holds is what the history leaves.
+/// Contracts see the limits and the history, the newest entry first. Its type keeps that the history is
+/// within its limit and legal, and that all that it holds is what the history leaves.
 #[derive(Drop)]
 pub struct World {
     alloc: Global,
@@ -83,10 +83,11 @@ impl World {
         })
     }
 
-    /// All entries, the oldest first, with what holds of every history: it is within its limit; each answer is the one that
-    /// the entries before it give, and each plan that came in is a decision; no key is in two workers' hands; no scheduled
-    /// time of a CronJob got two Jobs; a Job that was made under Forbid or Replace was made alone; and the time of each accepted
-    /// claim is the greatest one missed by the CronJob that stood then.
+    /// All entries, the oldest first, with what holds of every history: it is within its limit; each answer
+    /// is the one that the entries before it give, and each plan that came in is a decision; no key is in two
+    /// workers' hands; no scheduled time of a CronJob got two Jobs; a Job that was made under Forbid or
+    /// Replace was made alone; and the time of each accepted claim is the greatest one missed by the CronJob
+    /// that stood then.
     pub fn history(&self) -> &[Entry]
         ensures entries { reverse result.now ≡ self.now.history }
         ensures short { (length self.now.history ≤ self.now.limits.history) × (self.now.limits.history ≤ last_history) }
@@ -127,8 +128,9 @@ impl World {
         advance(self.alloc, &mut self.state, &mut self.entries, caller, call)
     }
 
-    /// Makes one call. Its answer is the one that the history gives, and its entry is added; or it is refused for want of
-    /// memory, because the history is full, or because there is nothing to take, and all is as it was.
+    /// Makes one call. Its answer is the one that the history gives, and its entry is added; or it is refused
+    /// for want of memory, because the history is full, or because there is nothing to take, and all is as it
+    /// was.
     pub fn apply(&mut self, caller: &Caller, call: &Call) -> Answer
         ensures limits { self.new.limits ≡ self.old.limits }
         ensures applied { Applied self.old.limits self.old.history caller.now call.now result self.new.history }

@@ -1,4 +1,5 @@
-//! Tests of the world: each way in which it refuses a call, by `apply` and by `enter`, and what it tells after each call.
+//! Tests of the world: each way in which it refuses a call, by `apply` and by `enter`, and what it tells
+//! after each call.
 #![tactic(auto)]
 
 #[cfg(test)]

@@ -105,8 +105,8 @@ fn from_rules(rules: &Rules, at: Seconds) -> Stretch
     }
 }
 
-/// The stretch that begins at the instant and in which the clock stays as far ahead as it is then: up to the next change
-/// or the end of the instant's month, whichever comes first.
+/// The stretch that begins at the instant and in which the clock stays as far ahead as it is then: up to the
+/// next change or the end of the instant's month, whichever comes first.
 pub fn steady_from(zone: &Zone, at: Seconds) -> Stretch
     ensures offsets { IsStretch (zone_offset zone.now) result.one result.other at result.last }
     ensures last { at ≤ result.last }

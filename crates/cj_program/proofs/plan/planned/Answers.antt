@@ -1,17 +1,23 @@
-use Rattle.std.proofs.Common.{◌∙◌, ap, inr}
+use Rattle.std.proofs.Common.{◌++◌, ◌∙◌, ap, inr, ℕ, List, string_bytes}
 use Rattle.std.proofs.lemmas.Result.{IfOk-weaker}
-use Rattle.cj_program.specs.Outcome.{done}
+use Rattle.cj_program.specs.Outcome.{done, explained}
 use Rattle.cj_program.specs.Plan.{plan_lines}
 use Rattle.cj_program.proofs.plan.planned.Goals as goal
 
 pub returns : goal.returns
-returns c = λ explain bytes said.
+returns c = λ bytes said looked.
     IfOk-weaker c.printed.result _ _
     (λ a e. inr (record {
       scene = c.args.scene;
       said = said;
       steps = c.in_ok-plan.plan.steps;
       decided = c.in_ok-plan.ensures;
-      answer = e ∙ ap (λ s. done (plan_lines s)) c.steps.ensures.steps;
+      why = string_bytes c.in_ok-why.why;
+      reason = c.in_ok-why.ensures;
+      seen = c.args.seen.now;
+      looked = looked;
+      answer = e
+          ∙ ap (λ (w : List ℕ). explained c.args.explain (w ++ c.args.seen.now) (done (plan_lines c.steps.result.now))) c.as_str.ensures.value
+          ∙ ap (λ s. explained c.args.explain (string_bytes c.in_ok-why.why ++ c.args.seen.now) (done (plan_lines s))) c.steps.ensures.steps;
     }))
     c.printed.ensures

@@ -1,0 +1,9 @@
+use Rattle.std.proofs.Common.{◌≡◌, ◌++◌, string_bytes}
+use Rattle.serde_json.specs.View.{members_view}
+use Rattle.cj_glance.specs.Glances.{ignored_in}
+use Rattle.cj_glance.proofs.ignored.push_ignored.Given as goal
+
+abbrev pub invariant-loop-key : goal.invariant-loop-key
+invariant-loop-key l =
+    string_bytes l.text ++ ignored_in l.form (members_view l.key-iterator)
+    ≡ string_bytes l.initial.text ++ ignored_in l.form (members_view l.initial.key-iterator)

@@ -1,0 +1,57 @@
+// What is said of a text of JSON where one of a certain form is wanted.
+ghost use Rattle.std.specs.Prelude.{◌≡◌, IfOk, IfErr, string_bytes};
+ghost use Rattle.cj_base.specs.declared.refusal.Refusal.TheVariants.{OutOfMemory};
+ghost use Rattle.serde_json.specs.View.{view};
+ghost use Rattle.cj_glance.specs.Glances.{IsGlance, form_line, glance_words, rest_words};
+
+use crate::form::Form;
+use crate::fraction::fraction_words;
+use crate::ignored::ignored_words;
+use cj_scenario::{SceneFault, value_of};
+use cj_types::Refusal;
+use serde_json::Value;
+use std::alloc::Global;
+
+// What the text is, where it isn't what is wanted.
+fn form_line(wanted: Form, found: Form) -> &'static str
+    ensures { result.now ≡ form_line wanted found }
+{
+    if found == wanted { "" } else { found.words() }
+}
+
+// Of a manifest where its first number with a fraction stands, else the members that nobody reads.
+fn rest_words(alloc: Global, wanted: Form, value: &Value) -> Result<String, Refusal>
+    ensures ok { IfOk result (λ s. string_bytes s ≡ rest_words wanted (view value.now)) }
+    ensures err { IfErr result (λ e. e ≡ OutOfMemory) }
+{
+    match wanted {
+        Form::Manifest => fraction_words(alloc, value),
+        _ => ignored_words(alloc, wanted, value),
+    }
+}
+
+/// Lines on a value where one of a certain form is wanted: what it is, where it is of another; else of a manifest where
+/// its first number with a fraction stands, of the others the members that nobody reads.
+pub fn glance_at(alloc: Global, wanted: Form, value: &Value) -> Result<String, Refusal>
+    ensures ok { IfOk result (λ s. string_bytes s ≡ glance_words wanted (view value.now)) }
+    ensures err { IfErr result (λ e. e ≡ OutOfMemory) }
+{
+    let line = form_line(wanted, Form::of(value));
+    if line.is_empty() {
+        rest_words(alloc, wanted, value)
+    } else {
+        Ok(String::from_str(alloc, line)?)
+    }
+}
+
+/// The same of bytes; of those that are no JSON nothing is said. The only error is want of memory.
+pub fn glance(alloc: Global, wanted: Form, bytes: &[u8]) -> Result<String, Refusal>
+    ensures ok { IfOk result (λ s. IsGlance wanted bytes.now (string_bytes s)) }
+    ensures err { IfErr result (λ e. e ≡ OutOfMemory) }
+{
+    match value_of(alloc, bytes) {
+        Ok(value) => glance_at(alloc, wanted, &value),
+        Err(SceneFault::Memory) => Err(Refusal::OutOfMemory),
+        Err(_) => Ok(String::new(alloc)),
+    }
+}

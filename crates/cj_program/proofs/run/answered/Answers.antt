@@ -1,0 +1,15 @@
+use Rattle.std.proofs.Common.{◌∙◌, ap, inr, ℕ, List, string_bytes}
+use Rattle.cj_program.specs.Outcome.{done, explained}
+use Rattle.cj_program.proofs.run.answered.Goals as goal
+
+pub returns : goal.returns
+returns g c = inr (record {
+  course = c.args.course.now;
+  said = c.requires;
+  text = string_bytes c.in_ok-report.report;
+  run = c.in_ok-report.ensures;
+  seen = string_bytes c.in_ok-seen.seen;
+  looked = c.in_ok-seen.ensures;
+  answer = c.in_ok-reported.ensures
+      ∙ ap (λ (w : List ℕ). explained c.args.run.now.explain w (done (string_bytes c.in_ok-report.report))) c.as_str.ensures.value;
+})

@@ -1,0 +1,4 @@
+pub mod Since
+pub mod Missed
+pub mod Running
+pub mod Why
