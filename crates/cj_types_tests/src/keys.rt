@@ -29,8 +29,8 @@ pub fn write_key(key: &Key, text: &mut String) -> Result<(), Refusal> {
     Ok(())
 }
 
-/// The key that is written `NAMESPACE/NAME`.
-pub fn read_key(alloc: Global, text: &str) -> Result<Key, Refusal> {
+// The key that is written `NAMESPACE/NAME`.
+fn read_key(alloc: Global, text: &str) -> Result<Key, Refusal> {
     let (namespace, name) = halves(text, '/')?;
     Key::new(alloc, namespace, name)
 }

@@ -1,5 +1,5 @@
 //! Tests of the stored types: the texts of uids, versions and Jobs' names, the Job that a CronJob makes, that
-//! copies and comparisons see each field, the order of keys, and the table by key.
+//! copies and comparisons see each field, and the order of keys.
 #![tactic(auto)]
 
 #[cfg(test)]
@@ -18,7 +18,3 @@ mod numbers;
 mod rows;
 #[cfg(test)]
 mod samples;
-#[cfg(test)]
-mod tables;
-#[cfg(test)]
-mod words;
