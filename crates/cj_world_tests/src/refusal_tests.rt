@@ -2,6 +2,7 @@ use crate::boxed::boxed;
 use crate::calls::call_of;
 use crate::script::{SCRIPT, WANTED};
 use cj_calls::{Answer, Call, Entry, same_answer};
+use cj_decide_laws::{fits_law, plan_laws};
 use cj_lines::step_line;
 use cj_script::{Script, Step, read_script};
 use cj_types::{Limits, Refusal, Same};
@@ -152,4 +153,10 @@ fn wrong(alloc: Global) -> Result<Option<usize>, Refusal> {
 fn refuses_in_each_way(rt: HostRuntime) {
     let wrong = wrong(rt.alloc()).unwrap_or(Some(0));
     assert_eq!(rt; wrong, None);
+}
+
+#[test]
+fn laws_cost_nothing() {
+    plan_laws();
+    fits_law();
 }
