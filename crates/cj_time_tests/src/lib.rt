@@ -1,11 +1,8 @@
-//! Tests of the values below the stored types, of schedules, zones and due times: each public call, and what
-//! no command shows.
+//! Tests of the values below the stored types, of zones and due times: what no command shows.
 #![tactic(auto)]
 
 #[cfg(test)]
-mod due_times;
-#[cfg(test)]
-mod schedules;
+mod lower_ends;
 #[cfg(test)]
 mod values;
 #[cfg(test)]

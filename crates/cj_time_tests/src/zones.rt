@@ -1,5 +1,5 @@
-use cj_base::{Cause, Civil, Field, FieldFault, Refusal, Same, Seconds, TryCopy};
-use cj_zone::{ZoneTable, date_of_day, local, read_time, time_text};
+use cj_base::{Cause, Civil, Field, FieldFault, Refusal, Same, TryCopy};
+use cj_zone::{ZoneTable, date_of_day, local, read_time};
 use std::test::Fail;
 
 const MIDDLE_EUROPE: &str = "CET-1CEST,M3.5.0,M10.5.0/3";
@@ -34,25 +34,6 @@ fn civil(year: i16, month: u8, day: u8, weekday: u8, hour: u8, minute: u8) -> Ci
     }
 }
 
-#[test]
-fn prints_and_reads(rt: HostRuntime) -> Result<(), Fail> {
-    for (seconds, text) in [
-        (0, "1970-01-01T00:00:00Z"),
-        (951_868_799, "2000-02-29T23:59:59Z"),
-        (1_000_000_000, "2001-09-09T01:46:40Z"),
-        (1_704_067_500, "2024-01-01T00:05:00Z"),
-        (4_107_542_400, "2100-03-01T00:00:00Z"),
-        (253_370_764_799, "9998-12-31T23:59:59Z"),
-    ] {
-        let at = Seconds::new(seconds).ok_or("out of range")?;
-        let printed = time_text(rt.alloc(), at)?;
-        assert_eq!(rt; printed.as_str(), text);
-        assert_eq!(rt; read_time(text), Some(at), "{text}");
-    }
-    assert_eq!(rt; read_time("2024-01-01T00:05:00"), None);
-    Ok(())
-}
-
 // rule: zone-table
 #[test]
 fn rules_and_names(rt: HostRuntime) -> Result<(), Fail> {
@@ -71,22 +52,6 @@ fn rules_and_names(rt: HostRuntime) -> Result<(), Fail> {
     assert!(rt; copy.same(table.default_zone()));
     let utc = table.get("UTC").ok_or("not there")?;
     assert!(rt; !utc.same(berlin));
-    Ok(())
-}
-
-#[test]
-fn gap_and_fold_of_a_rule(rt: HostRuntime) -> Result<(), Fail> {
-    let mut table = ZoneTable::new(rt.alloc())?;
-    table.add_rule("Europe/Berlin", MIDDLE_EUROPE)?;
-    let zone = table.get("Europe/Berlin").ok_or("not there")?;
-    for (at, want) in [
-        ("2024-03-31T00:59:59Z", civil(2024, 3, 31, 0, 1, 59)),
-        ("2024-03-31T01:00:00Z", civil(2024, 3, 31, 0, 3, 0)),
-        ("2024-10-27T01:30:00Z", civil(2024, 10, 27, 0, 2, 30)),
-    ] {
-        let instant = read_time(at).ok_or("no time")?;
-        assert_eq!(rt; local(zone, instant), want, "{at}");
-    }
     Ok(())
 }
 
