@@ -21,7 +21,8 @@ pub fn create_cron(
 ) -> Result<Answered, Refusal>
     requires room { state.old.store.version < 2 ^ 40 }
     requires sound { IsSound state.old }
-    ensures ok { IfOk result (λ t. writes state.old event_reply (map_ok cron_added (cron_created state.old.store draft.now now)) ≡ moved t state.new) }
+    ensures ok { IfOk result (λ t. writes state.old event_reply
+        (map_ok cron_added (cron_created state.old.store draft.now now)) ≡ moved t state.new) }
     ensures err { OnErr result (state.new ≡ state.old) }
     ensures memory { IfErr result (λ e. e ≡ OutOfMemory) }
 {
@@ -46,7 +47,8 @@ pub fn update_cron(
 ) -> Result<Answered, Refusal>
     requires room { state.old.store.version < 2 ^ 40 }
     requires sound { IsSound state.old }
-    ensures ok { IfOk result (λ t. writes state.old event_reply (map_ok cron_modified (cron_updated state.old.store draft.now)) ≡ moved t state.new) }
+    ensures ok { IfOk result (λ t. writes state.old event_reply
+        (map_ok cron_modified (cron_updated state.old.store draft.now)) ≡ moved t state.new) }
     ensures err { OnErr result (state.new ≡ state.old) }
     ensures memory { IfErr result (λ e. e ≡ OutOfMemory) }
 {
@@ -64,7 +66,8 @@ pub fn update_cron(
 pub fn delete_cron(alloc: Global, state: &mut State, key: &Key) -> Result<Answered, Refusal>
     requires room { state.old.store.version < 2 ^ 40 }
     requires sound { IsSound state.old }
-    ensures ok { IfOk result (λ t. writes state.old version_reply (map_ok cron_gone (cron_deleted state.old.store key.now)) ≡ moved t state.new) }
+    ensures ok { IfOk result (λ t. writes state.old version_reply
+        (map_ok cron_gone (cron_deleted state.old.store key.now)) ≡ moved t state.new) }
     ensures err { OnErr result (state.new ≡ state.old) }
     ensures memory { IfErr result (λ e. e ≡ OutOfMemory) }
 {

@@ -21,7 +21,8 @@ pub fn create_job(
 ) -> Result<Answered, Refusal>
     requires room { state.old.store.version < 2 ^ 40 }
     requires sound { IsSound state.old }
-    ensures ok { IfOk result (λ t. writes state.old event_reply (map_ok job_added (job_created state.old.store draft.now now)) ≡ moved t state.new) }
+    ensures ok { IfOk result (λ t. writes state.old event_reply
+        (map_ok job_added (job_created state.old.store draft.now now)) ≡ moved t state.new) }
     ensures err { OnErr result (state.new ≡ state.old) }
     ensures memory { IfErr result (λ e. e ≡ OutOfMemory) }
 {
@@ -42,7 +43,8 @@ pub fn create_job(
 pub fn update_job(alloc: Global, state: &mut State, draft: &JobDraft) -> Result<Answered, Refusal>
     requires room { state.old.store.version < 2 ^ 40 }
     requires sound { IsSound state.old }
-    ensures ok { IfOk result (λ t. writes state.old event_reply (map_ok job_modified (job_updated state.old.store draft.now)) ≡ moved t state.new) }
+    ensures ok { IfOk result (λ t. writes state.old event_reply
+        (map_ok job_modified (job_updated state.old.store draft.now)) ≡ moved t state.new) }
     ensures err { OnErr result (state.new ≡ state.old) }
     ensures memory { IfErr result (λ e. e ≡ OutOfMemory) }
 {
@@ -60,7 +62,8 @@ pub fn update_job(alloc: Global, state: &mut State, draft: &JobDraft) -> Result<
 pub fn delete_job(alloc: Global, state: &mut State, key: &Key) -> Result<Answered, Refusal>
     requires room { state.old.store.version < 2 ^ 40 }
     requires sound { IsSound state.old }
-    ensures ok { IfOk result (λ t. writes state.old version_reply (map_ok job_gone (job_deleted state.old.store key.now None)) ≡ moved t state.new) }
+    ensures ok { IfOk result (λ t. writes state.old version_reply
+        (map_ok job_gone (job_deleted state.old.store key.now None)) ≡ moved t state.new) }
     ensures err { OnErr result (state.new ≡ state.old) }
     ensures memory { IfErr result (λ e. e ≡ OutOfMemory) }
 {
@@ -86,7 +89,9 @@ pub fn end_job(
 ) -> Result<Answered, Refusal>
     requires room { state.old.store.version < 2 ^ 40 }
     requires sound { IsSound state.old }
-    ensures ok { IfOk result (λ t. writes state.old event_reply (map_ok job_modified (job_ended state.old.store key.now uid outcome now)) ≡ moved t state.new) }
+    ensures ok { IfOk result (λ t. writes state.old event_reply
+        (map_ok job_modified (job_ended state.old.store key.now uid outcome now))
+        ≡ moved t state.new) }
     ensures err { OnErr result (state.new ≡ state.old) }
     ensures memory { IfErr result (λ e. e ≡ OutOfMemory) }
 {

@@ -60,8 +60,10 @@ fn catch_up(
     store: &Store,
     max: Max,
 ) -> Result<Answered, Refusal>
-    requires follows { (es : List Event) → since watch.now mirror.old.fed max ≡ Ok es → IsNumbered mirror.old.fed es }
-    ensures ok { OnOk result (mirror.new ≡ caught_up mirror.old (since watch.now mirror.old.fed max) (map.values store.now.jobs) store.now.version) }
+    requires follows { (es : List Event) → since watch.now mirror.old.fed max ≡ Ok es →
+        IsNumbered mirror.old.fed es }
+    ensures ok { OnOk result (mirror.new ≡ caught_up mirror.old (since watch.now mirror.old.fed max)
+        (map.values store.now.jobs) store.now.version) }
     ensures answer { IfOk result (λ t. t ≡ Ok (Version mirror.new.fed)) }
     ensures err { OnErr result (mirror.new ≡ mirror.old) }
     ensures memory { IfErr result (λ e. e ≡ OutOfMemory) }

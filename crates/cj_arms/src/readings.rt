@@ -12,7 +12,8 @@ use cj_types::{Key, Max, Refusal, TryCopy, Version};
 use std::alloc::Global;
 
 fn get_cron(alloc: Global, state: &State, key: &Key) -> Result<Answered, Refusal>
-    ensures ok { IfOk result (λ t. found_cron state.now (map.get state.now.store.crons key.now) ≡ moved t state.now) }
+    ensures ok { IfOk result (λ t. found_cron state.now (map.get state.now.store.crons key.now)
+        ≡ moved t state.now) }
     ensures err { IfErr result (λ e. e ≡ OutOfMemory) }
 {
     match state.store.get_cron(key) {
@@ -22,7 +23,8 @@ fn get_cron(alloc: Global, state: &State, key: &Key) -> Result<Answered, Refusal
 }
 
 fn get_job(alloc: Global, state: &State, key: &Key) -> Result<Answered, Refusal>
-    ensures ok { IfOk result (λ t. found_job state.now (map.get state.now.store.jobs key.now) ≡ moved t state.now) }
+    ensures ok { IfOk result (λ t. found_job state.now (map.get state.now.store.jobs key.now)
+        ≡ moved t state.now) }
     ensures err { IfErr result (λ e. e ≡ OutOfMemory) }
 {
     match state.store.get_job(key) {
@@ -48,7 +50,8 @@ fn list_jobs(alloc: Global, state: &State) -> Result<Answered, Refusal>
 }
 
 fn watch(alloc: Global, state: &State, version: Version, max: Max) -> Result<Answered, Refusal>
-    ensures ok { IfOk result (λ t. told_events state.now (since state.now.watch version max) ≡ moved t state.now) }
+    ensures ok { IfOk result (λ t. told_events state.now (since state.now.watch version max)
+        ≡ moved t state.now) }
     ensures err { IfErr result (λ e. e ≡ OutOfMemory) }
 {
     match state.watch.since(alloc, version, max) {

@@ -34,7 +34,8 @@ impl Model for Answered {
 
     ghost view = { λ a. a.parts.answer };
 
-    ghost invariant = { λ a. (a.parts.entered ≡ a.parts.answer) × (a.parts.first ≡ a.parts.answer) × (a.parts.second ≡ a.parts.answer) };
+    ghost invariant = { λ a. (a.parts.entered ≡ a.parts.answer) × (a.parts.first ≡ a.parts.answer)
+        × (a.parts.second ≡ a.parts.answer) };
 }
 
 impl Answered {

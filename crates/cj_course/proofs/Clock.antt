@@ -5,9 +5,11 @@ use Rattle.std.proofs.lemmas.Bool.Decides.{nat_tests}
 use Rattle.cj_base.specs.Instant.{last_second}
 use Rattle.cj_course.specs.Spans.{IsInstant, SpanView, instant}
 
+-- A rest that tests as 0 is 0.
 is_zero : (r : ℕ) → IsTrue (nat_eq r 0) → r ≡ 0
 is_zero r h = grind (arith, nat_tests)
 
+-- And a rest that is 0 tests as 0.
 zero_is : (r : ℕ) → r ≡ 0 → IsTrue (nat_eq r 0)
 zero_is r h = grind (arith, nat_tests)
 
@@ -25,7 +27,8 @@ no_rest start at step n is =
     ap (λ d. d % step) whole ∙ mul-mod_left n step
 
 -- between start and end the instants are those that whole steps lead to
-pub has_exact : (s : SpanView) (at start moment step : ℕ) → start ≡ s.start → moment ≡ at → step ≡ s.step → start ≤ moment → moment ≤ s.end
+pub has_exact : (s : SpanView) (at start moment step : ℕ) → start ≡ s.start → moment ≡ at → step ≡ s.step
+    → start ≤ moment → moment ≤ s.end
     → (IsTrue (nat_eq ((moment - start) % step) 0)) ↔ ((n : ℕ) × IsInstant s n × (instant s n ≡ at))
 has_exact s at start moment step starts is steps low high =
     let same : (moment - start) % step ≡ (at - s.start) % s.step = cc in
@@ -43,7 +46,8 @@ pub steps_fit : (length step : ℕ) → length ≤ last_second → Fits w64 (len
 steps_fit length step h = let fewer : length / step ≤ length = div-le_self length step in omega (arith, fewer, h)
 
 -- an instant is no further than a number of 64 bits can say
-pub no_instant : (s : SpanView) (n step : ℕ) → step ≡ s.step → s.end ≤ last_second → (n * step < 18446744073709551616 → ⊥) → IsInstant s n → ⊥
+pub no_instant : (s : SpanView) (n step : ℕ) → step ≡ s.step → s.end ≤ last_second
+    → (n * step < 18446744073709551616 → ⊥) → IsInstant s n → ⊥
 no_instant s n step is last far within =
     let same : n * step ≡ n * s.step = cc in
     far (omega (arith, same, last, within))

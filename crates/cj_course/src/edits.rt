@@ -30,7 +30,8 @@ fn instant_at(span: &Span, value: &Value) -> Option<Seconds>
 fn edit_of(alloc: Global, zones: &ZoneTable, span: &Span, value: &Value) -> Result<Edit, SceneFault>
     requires flat { depth (view value.now) ≤ max_depth }
     ensures ok { IfOk result (λ e. edit_of (zones_of zones.now) span.now (view value.now) ≡ Ok e) }
-    ensures err { IfErr result (λ e. e ≢ Memory → edit_of (zones_of zones.now) span.now (view value.now) ≡ Err e) }
+    ensures err { IfErr result (λ e. e ≢ Memory →
+        edit_of (zones_of zones.now) span.now (view value.now) ≡ Err e) }
 {
     let Some(at) = instant_at(span, value) else {
         return Err(SceneFault::Form);
@@ -65,8 +66,10 @@ pub(crate) fn edits_at(
     value: &Value,
 ) -> Result<Vec<Edit>, SceneFault>
     requires flat { depth (view value.now) ≤ max_depth }
-    ensures ok { IfOk result (λ es. edits_in (zones_of zones.now) span (view value.now) ≡ Ok es.items) }
-    ensures err { IfErr result (λ e. e ≢ Memory → edits_in (zones_of zones.now) span (view value.now) ≡ Err e) }
+    ensures ok { IfOk result (λ es. edits_in (zones_of zones.now) span (view value.now)
+        ≡ Ok es.items) }
+    ensures err { IfErr result (λ e. e ≢ Memory →
+        edits_in (zones_of zones.now) span (view value.now) ≡ Err e) }
 {
     let Some(list) = present(value, "edits") else {
         return Ok(Vec::new(alloc));

@@ -47,7 +47,8 @@ fn fault_of(
     fault: FieldFault,
 ) -> SceneFault
     requires flat { depth (view value.now) ≤ max_depth }
-    ensures { result ≢ Memory → fault_after fault (edits_in (zones_of zones.now) span (view value.now)) ≡ result }
+    ensures { result ≢ Memory → fault_after fault
+        (edits_in (zones_of zones.now) span (view value.now)) ≡ result }
 {
     match edits_at(alloc, zones, span, value) {
         Ok(_) => SceneFault::Manifest(fault),
@@ -63,8 +64,10 @@ fn lists_of(
     value: &Value,
 ) -> Result<Lists, SceneFault>
     requires flat { depth (view value.now) ≤ max_depth }
-    ensures ok { IfOk result (λ l. lists_in (zones_of zones.now) span (view value.now) ≡ Ok (l.crons.items, l.edits.items)) }
-    ensures err { IfErr result (λ e. e ≢ Memory → lists_in (zones_of zones.now) span (view value.now) ≡ Err e) }
+    ensures ok { IfOk result (λ l. lists_in (zones_of zones.now) span (view value.now)
+        ≡ Ok (l.crons.items, l.edits.items)) }
+    ensures err { IfErr result (λ e. e ≢ Memory →
+        lists_in (zones_of zones.now) span (view value.now) ≡ Err e) }
 {
     match crons_at(alloc, zones, value) {
         Ok(crons) => {
@@ -78,8 +81,10 @@ fn lists_of(
 
 fn content_of(alloc: Global, zones: &ZoneTable, value: &Value) -> Result<Content, SceneFault>
     requires flat { depth (view value.now) ≤ max_depth }
-    ensures ok { IfOk result (λ c. told_in (zones_of zones.now) (view value.now) ≡ Ok (told c.span c.runs (c.lists.crons.items, c.lists.edits.items))) }
-    ensures err { IfErr result (λ e. e ≢ Memory → told_in (zones_of zones.now) (view value.now) ≡ Err e) }
+    ensures ok { IfOk result (λ c. told_in (zones_of zones.now) (view value.now)
+        ≡ Ok (told c.span c.runs (c.lists.crons.items, c.lists.edits.items))) }
+    ensures err { IfErr result (λ e. e ≢ Memory →
+        told_in (zones_of zones.now) (view value.now) ≡ Err e) }
 {
     let Some(span) = span_at(value) else {
         return Err(SceneFault::Form);

@@ -42,7 +42,8 @@ fn run_in(value: &Value) -> Option<Run>
 
 // The runs of a list, or none where one has another form.
 fn runs_of(alloc: Global, items: &Vec<Value>) -> Result<Option<Vec<Run>>, Refusal>
-    ensures ok { IfOk result (λ rs. option_map (λ v. v.items) rs ≡ said.with_runs [] (items_view items.now.items)) }
+    ensures ok { IfOk result (λ rs. option_map (λ v. v.items) rs
+        ≡ said.with_runs [] (items_view items.now.items)) }
     ensures err { IfErr result (λ e. e ≡ OutOfMemory) }
 {
     let mut runs = Vec::new(alloc);
@@ -74,7 +75,8 @@ fn row_of(alloc: Global, name: &str, value: &Value) -> Result<Option<(Key, Listi
 
 // The runs with those of a member, or no answer where it has another form; one that is null has none.
 fn add_row(alloc: Global, runs: &mut Runs, name: &str, value: &Value) -> Result<Option<()>, Refusal>
-    ensures ok { IfOk result (λ done. option_map (λ _. runs.new) done ≡ said.with_row runs.old name.now (unless_null (view value.now))) }
+    ensures ok { IfOk result (λ done. option_map (λ _. runs.new) done
+        ≡ said.with_row runs.old name.now (unless_null (view value.now))) }
     ensures err { IfErr result (λ e. e ≡ OutOfMemory) }
 {
     match value {
@@ -90,7 +92,8 @@ fn add_row(alloc: Global, runs: &mut Runs, name: &str, value: &Value) -> Result<
 }
 
 fn rows_of(alloc: Global, members: &Map<String, Value>) -> Result<Option<Runs>, Refusal>
-    ensures ok { IfOk result (λ rs. rs ≡ said.with_rows map.empty (members_view members.now.entries)) }
+    ensures ok { IfOk result (λ rs. rs ≡ said.with_rows map.empty
+        (members_view members.now.entries)) }
     ensures err { IfErr result (λ e. e ≡ OutOfMemory) }
 {
     let mut runs = Runs::new(alloc);

@@ -43,7 +43,8 @@ pub(crate) fn crons_at(
 ) -> Result<Vec<Shared<CronJobDraft>>, SceneFault>
     requires flat { depth (view value.now) ≤ max_depth }
     ensures ok { IfOk result (λ ds. crons_in (zones_of zones.now) (view value.now) ≡ Ok ds.items) }
-    ensures err { IfErr result (λ e. e ≢ Memory → crons_in (zones_of zones.now) (view value.now) ≡ Err e) }
+    ensures err { IfErr result (λ e. e ≢ Memory →
+        crons_in (zones_of zones.now) (view value.now) ≡ Err e) }
 {
     let Some(list) = present(value, "cronJobs") else {
         return Err(SceneFault::Form);

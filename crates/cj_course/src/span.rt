@@ -86,7 +86,8 @@ impl Span {
     /// Whether that is an instant.
     pub fn has(&self, at: Seconds) -> bool
         ensures value { result ≡ clock.is_instant self.now at }
-        ensures exact { IsTrue result ↔ ((n : ℕ) × IsInstant self.now n × (clock.instant self.now n ≡ at)) }
+        ensures exact { IsTrue result ↔ ((n : ℕ) × IsInstant self.now n
+            × (clock.instant self.now n ≡ at)) }
     {
         let (start, end, moment) = (self.start.get(), self.end.get(), at.get());
         start <= moment && moment <= end && (moment - start) % self.step == 0

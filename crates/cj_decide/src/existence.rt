@@ -27,7 +27,8 @@ pub fn plan_exists(
     now: Seconds,
     zone: Option<&Zone>,
 )
-    ensures { (steps : Steps) × IsPlan (Some cron.now) jobs.now found.now now (option_copied zone.entry) steps }
+    ensures { (steps : Steps) × IsPlan (Some cron.now) jobs.now found.now now
+        (option_copied zone.entry) steps }
 {
     let _verdicts = verdicts(cron, zone, now);
 }

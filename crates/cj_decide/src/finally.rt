@@ -76,7 +76,8 @@ pub(crate) fn final_step(
     claim: &Option<Claim>,
 ) -> Result<Option<CronStatus>, Refusal>
     requires uid { uid.now ≡ uid_text cron.now.meta.uid }
-    ensures ok { IfOk result (λ s. IsStatusStep (standing cron.now claim.now) (final cron.now jobs.now found.now verdict claim.now) s) }
+    ensures ok { IfOk result (λ s. IsStatusStep (standing cron.now claim.now)
+        (final cron.now jobs.now found.now verdict claim.now) s) }
     ensures err { IfErr result (λ e. e ≡ OutOfMemory) }
 {
     let old = standing(cron, claim);

@@ -28,9 +28,23 @@ impl Model for Plan {
 
     ghost Value = { Planned };
 
-    ghost view = { λ p. record { cron = p.cron; jobs = p.jobs; active = p.active; at = p.at; zone = p.zone; steps = p.steps } };
+    ghost view = { λ p. record {
+      cron = p.cron;
+      jobs = p.jobs;
+      active = p.active;
+      at = p.at;
+      zone = p.zone;
+      steps = p.steps;
+    } };
 
-    ghost invariant = { λ p. IsDecided (record { cron = p.cron; jobs = p.jobs; active = p.active; at = p.at; zone = p.zone; steps = p.steps }) };
+    ghost invariant = { λ p. IsDecided (record {
+      cron = p.cron;
+      jobs = p.jobs;
+      active = p.active;
+      at = p.at;
+      zone = p.zone;
+      steps = p.steps;
+    }) };
 }
 
 fn seen<T>(value: &Option<Shared<T>>) -> Option<&T>
@@ -130,7 +144,8 @@ impl Plan {
         jobs: &[Shared<Job>],
         active: &[Option<Shared<Job>>],
     ) -> bool
-        ensures { MatchBool result (RestsOn self.now cron.now jobs.now active.now) (RestsOn self.now cron.now jobs.now active.now → ⊥) }
+        ensures { MatchBool result (RestsOn self.now cron.now jobs.now active.now)
+            (RestsOn self.now cron.now jobs.now active.now → ⊥) }
     {
         let same_cron = self.cron.same(cron);
         let same_jobs = same_all(self.jobs.as_slice(), jobs);

@@ -118,7 +118,8 @@ fn decision(
     now: Seconds,
     zone: Option<&Zone>,
 ) -> Result<Steps, Refusal>
-    ensures ok { IfOk result (λ s. IsDecision cron.now jobs.now found.now now (option_copied zone.entry) s) }
+    ensures ok { IfOk result (λ s. IsDecision cron.now jobs.now found.now now
+        (option_copied zone.entry) s) }
     ensures err { IfErr result (λ e. e ≡ OutOfMemory) }
 {
     let uid = cron.meta.uid.text(alloc)?;
@@ -152,7 +153,8 @@ pub(crate) fn plan_steps(
     now: Seconds,
     zone: Option<&Zone>,
 ) -> Result<Steps, Refusal>
-    ensures ok { IfOk result (λ s. IsPlan (option_copied cron.entry) jobs.now found.now now (option_copied zone.entry) s) }
+    ensures ok { IfOk result (λ s. IsPlan (option_copied cron.entry) jobs.now found.now now
+        (option_copied zone.entry) s) }
     ensures err { IfErr result (λ e. e ≡ OutOfMemory) }
 {
     match cron {

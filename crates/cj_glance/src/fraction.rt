@@ -18,7 +18,8 @@ fn push_step(text: &mut String, key: &str) -> Result<(), AllocError>
 
 #[cycle(fractions)]
 fn push_path(text: &mut String, value: &Value) -> Result<(), AllocError>
-    ensures { OnOk result (string_bytes text.new ≡ string_bytes text.old ++ fraction_path (view value.now)) }
+    ensures { OnOk result (string_bytes text.new
+        ≡ string_bytes text.old ++ fraction_path (view value.now)) }
 {
     match value {
         Value::Null => Ok(()),
@@ -32,7 +33,8 @@ fn push_path(text: &mut String, value: &Value) -> Result<(), AllocError>
 
 #[cycle(fractions)]
 fn push_in_items(text: &mut String, items: &Vec<Value>) -> Result<(), AllocError>
-    ensures { OnOk result (string_bytes text.new ≡ string_bytes text.old ++ items_path (items_view items.now.items)) }
+    ensures { OnOk result (string_bytes text.new
+        ≡ string_bytes text.old ++ items_path (items_view items.now.items)) }
 {
     for item in items {
         if has_float(item) {
@@ -45,7 +47,8 @@ fn push_in_items(text: &mut String, items: &Vec<Value>) -> Result<(), AllocError
 
 #[cycle(fractions)]
 fn push_in_members(text: &mut String, members: &Map<String, Value>) -> Result<(), AllocError>
-    ensures { OnOk result (string_bytes text.new ≡ string_bytes text.old ++ members_path (members_view members.now.entries)) }
+    ensures { OnOk result (string_bytes text.new
+        ≡ string_bytes text.old ++ members_path (members_view members.now.entries)) }
 {
     for (key, member) in members.iter() {
         if has_float(member) {

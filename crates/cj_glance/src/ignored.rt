@@ -22,7 +22,8 @@ fn push_ignored(
     form: Form,
     members: &Map<String, Value>,
 ) -> Result<(), AllocError>
-    ensures { OnOk result (string_bytes text.new ≡ string_bytes text.old ++ ignored_in form (members_view members.now.entries)) }
+    ensures { OnOk result (string_bytes text.new
+        ≡ string_bytes text.old ++ ignored_in form (members_view members.now.entries)) }
 {
     for (key, _) in members.iter() {
         if !form.knows(key.as_str()) {

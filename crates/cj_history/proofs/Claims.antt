@@ -15,9 +15,19 @@ use Rattle.cj_store_history.proofs.Stores.{store_agrees}
 use Rattle.cj_history.specs.Times.{IsLatestMissed, Timely, AlwaysTimely}
 use Rattle.cj_history.proofs.One.{legal}
 
-latest_same : (ws : List Event) (s : Content) (k : Place) (p : Planned) (time : ℕ) → IsStore ws s → state.IsLatestMissed s k p time → IsLatestMissed ws k p time
-latest_same ws s k p time is m = record { cron = m.cron; stands = sym (is.crons k) ∙ m.stands; zone = m.zone; known = m.known; latest = m.latest }
+-- A time that is the greatest missed at a key by the store is so by the writes that left it.
+latest_same : (ws : List Event) (s : Content) (k : Place) (p : Planned) (time : ℕ) → IsStore ws s
+    → state.IsLatestMissed s k p time → IsLatestMissed ws k p time
+latest_same ws s k p time is m = record {
+  cron = m.cron;
+  stands = sym (is.crons k)
+      ∙ m.stands;
+  zone = m.zone;
+  known = m.known;
+  latest = m.latest;
+}
 
+-- In a legal history, claims that are timely by the state are timely by looking back.
 timely_same : (window : ℕ) (h : List Told) → IsLegal window h → state.Timely window h → Timely h
 timely_same window [] l t = tt
 timely_same window (e ∷ h) l t = (
@@ -25,6 +35,7 @@ timely_same window (e ∷ h) l t = (
   timely_same window h l.2 t.1,
 )
 
+-- For time_law: in a lawful history each claim is of the greatest time missed by its CronJob.
 pub timely : AlwaysTimely
 timely window h short l planned =
     let r : IsLegal window h = legal window h l in

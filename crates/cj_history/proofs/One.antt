@@ -41,77 +41,114 @@ Answer = Result Reply Refusal
 abbrev Lists : {X : Type 0} → (X → Place) → (Place → Option X) → (List X → Answer) → Answer → Type 0
 Lists {X} key now say a = (xs : List X) × (a ≡ say xs) × IsListing key now xs
 
-one_listed : {X : Type 0} (key : X → Place) (now : Place → Option X) (say : List X → Answer) (a b : Answer) → Lists key now say a → Lists key now say b → a ≡ b
+-- Two answers that are made, in one way, of listings of the same objects are the same.
+one_listed : {X : Type 0} (key : X → Place) (now : Place → Option X) (say : List X → Answer) (a b : Answer)
+    → Lists key now say a → Lists key now say b → a ≡ b
 one_listed key now say a b p q = p.1 ∙ ap say (one_listing key now p.0 q.0 p.2 q.2) ∙ sym q.1
 
+-- a and b are answers by the writes ws, of which the listing knows n, the acts h and the seat o.
 module _ (window n : ℕ) (ws : List Event) (h : List Act) (o : Option Seat) (a b : Answer) where
+  -- if looking back gives both answers to the call, they are the same
   abbrev Two : Role → Call → Type 0
-  Two role call = store.Says window n ws o role call a → store.Says window n ws o role call b → queue.Says h o role call a → queue.Says h o role call b → a ≡ b
+  Two role call = store.Says window n ws o role call a → store.Says window n ws o role call b
+      → queue.Says h o role call a → queue.Says h o role call b → a ≡ b
 
+  -- Looking back gives a user's call one answer, be it a list or not.
   one_user : (call : Call) → Two User call
-  one_user Of.ListCrons p q r s = one_listed (λ (c : CronJob). c.key) (current_cron ws) (λ cs. Ok (Say.Crons cs (version ws))) a b p q
-  one_user Of.ListJobs p q r s = one_listed (λ (j : Job). j.key) (current_job ws) (λ js. Ok (Say.Jobs js (version ws))) a b p q
+  one_user Of.ListCrons p q r s = one_listed (λ (c : CronJob). c.key) (current_cron ws)
+      (λ cs. Ok (Say.Crons cs (version ws))) a b p q
+  one_user Of.ListJobs p q r s = one_listed (λ (j : Job). j.key) (current_job ws)
+      (λ js. Ok (Say.Jobs js (version ws))) a b p q
   one_user call p q r s = p ∙ sym q
 
+  -- Looking back gives a runner's call one answer, be it a list or not.
   one_runner : (call : Call) → Two Runner call
-  one_runner Of.ListCrons p q r s = one_listed (λ (c : CronJob). c.key) (current_cron ws) (λ cs. Ok (Say.Crons cs (version ws))) a b p q
-  one_runner Of.ListJobs p q r s = one_listed (λ (j : Job). j.key) (current_job ws) (λ js. Ok (Say.Jobs js (version ws))) a b p q
+  one_runner Of.ListCrons p q r s = one_listed (λ (c : CronJob). c.key) (current_cron ws)
+      (λ cs. Ok (Say.Crons cs (version ws))) a b p q
+  one_runner Of.ListJobs p q r s = one_listed (λ (j : Job). j.key) (current_job ws)
+      (λ js. Ok (Say.Jobs js (version ws))) a b p q
   one_runner call p q r s = p ∙ sym q
 
+  -- Looking back gives an informer's call one answer, be it of the store or of the queue.
   one_informer : (call : Call) → Two Informer call
   one_informer (Of.Add k) p q r s = r ∙ sym s
   one_informer (Of.Tick now) p q r s = r ∙ sym s
   one_informer Of.Shut p q r s = r ∙ sym s
-  one_informer Of.ListCrons p q r s = one_listed (λ (c : CronJob). c.key) (current_cron ws) (λ cs. Ok (Say.Crons cs (version ws))) a b p q
-  one_informer Of.ListJobs p q r s = one_listed (λ (j : Job). j.key) (current_job ws) (λ js. Ok (Say.Jobs js (version ws))) a b p q
+  one_informer Of.ListCrons p q r s = one_listed (λ (c : CronJob). c.key) (current_cron ws)
+      (λ cs. Ok (Say.Crons cs (version ws))) a b p q
+  one_informer Of.ListJobs p q r s = one_listed (λ (j : Job). j.key) (current_job ws)
+      (λ js. Ok (Say.Jobs js (version ws))) a b p q
   one_informer call p q r s = p ∙ sym q
 
+  -- Looking back gives a SeeJobs one answer in each phase.
   one_phase : (k : Place) (x : Phase) → store.SeesJobs n ws k x a → store.SeesJobs n ws k x b → a ≡ b
-  one_phase k (Seen c) p q = one_listed (λ (j : Job). j.key) (λ i. passing (is_job_of k) (current_job (earliest n ws) i)) (λ js. Ok (Say.SeenJobs js)) a b p q
+  one_phase k (Seen c) p q = one_listed (λ (j : Job). j.key)
+      (λ i. passing (is_job_of k) (current_job (earliest n ws) i)) (λ js. Ok (Say.SeenJobs js)) a b p q
   one_phase k Held p q = p ∙ sym q
   one_phase k (Listed c js) p q = p ∙ sym q
   one_phase k (Checked c js ks) p q = p ∙ sym q
   one_phase k (Works work) p q = p ∙ sym q
 
+  -- Looking back gives a SeeJobs one answer, has the caller a seat or none.
   one_seen : (x : Option Seat) → store.OnSeeJobs n ws x a → store.OnSeeJobs n ws x b → a ≡ b
   one_seen None p q = p ∙ sym q
   one_seen (Some y) p q = one_phase y.key y.phase p q
 
+  -- Looking back gives a worker's call one answer, be it of the store or of the queue.
   one_worker : (call : Call) → Two Worker call
   one_worker Of.SeeJobs p q r s = one_seen o p q
   one_worker Of.Take p q r s = one_taken h o a b r s
   one_worker (Of.Finish end reasons) p q r s = r ∙ sym s
   one_worker call p q r s = p ∙ sym q
 
+  -- Looking back gives a call of any role one answer.
   one_answer : (role : Role) (call : Call) → Two role call
   one_answer User call = one_user call
   one_answer Runner call = one_runner call
   one_answer Informer call = one_informer call
   one_answer Worker call = one_worker call
 
-same_answer : (window : ℕ) (h : List Told) (caller : Caller) (call : Call) (a b : Answer) → IsAnswered window h caller call a → IsAnswered window h caller call b → a ≡ b
+-- Two answers that looking back gives to one call are the same.
+same_answer : (window : ℕ) (h : List Told) (caller : Caller) (call : Call) (a b : Answer)
+    → IsAnswered window h caller call a → IsAnswered window h caller call b → a ≡ b
 same_answer window h caller call a b p q =
-    one_answer window (fed window h) (writes h) (acts h) (seat h caller.number) a b caller.role call p.of_store q.of_store p.of_queue q.of_queue
+    one_answer window (fed window h) (writes h) (acts h) (seat h caller.number) a b caller.role call p.of_store
+    q.of_store p.of_queue q.of_queue
 
-answered : (window : ℕ) (h : List Told) (caller : Caller) (call : Call) → IsLegal window h → IsAnswered window h caller call (answer_of window h caller call)
+-- The answer of the state after a legal history is one that looking back gives.
+answered : (window : ℕ) (h : List Told) (caller : Caller) (call : Call) → IsLegal window h
+    → IsAnswered window h caller call (answer_of window h caller call)
 answered window h caller call l = record {
   of_store = stores.answers_agree window h caller call l;
   of_queue = queues.answers_agree window h caller call l;
 }
 
+-- A history that is legal by the state is lawful by looking back.
 pub lawful : (window : ℕ) (h : List Told) → IsLegal window h → IsLawful window h
 lawful window [] l = tt
-lawful window (e ∷ h) l = (subst (λ (a : Answer). IsAnswered window h e.caller e.call a) (sym l.0) (answered window h e.caller e.call l.2), l.1, lawful window h l.2)
+lawful window (e ∷ h) l = (
+  subst (λ (a : Answer). IsAnswered window h e.caller e.call a) (sym l.0)
+      (answered window h e.caller e.call l.2),
+  l.1,
+  lawful window h l.2,
+)
 
+-- A history that is lawful by looking back is legal by the state.
 pub legal : (window : ℕ) (h : List Told) → IsLawful window h → IsLegal window h
 legal window [] l = tt
 legal window (e ∷ h) l =
-    let r : IsLegal window h = legal window h l.2 in
-    (same_answer window h e.caller e.call e.answer (answer_of window h e.caller e.call) l.0 (answered window h e.caller e.call r), l.1, r)
+    let r : IsLegal window h = legal window h l.2 in (
+      same_answer window h e.caller e.call e.answer (answer_of window h e.caller e.call) l.0
+          (answered window h e.caller e.call r),
+      l.1,
+      r,
+    )
 
+-- For legal_law: a history is legal by the state just where it is lawful by looking back.
 pub legal_law : LegalLaw
 legal_law window h = (lawful window h, legal window h)
 
+-- For answer_law: looking back gives a call just one answer, that of the state.
 pub one_law : OneAnswer
 one_law window h caller call a l =
     let r : IsLegal window h = legal window h l in (
@@ -119,5 +156,6 @@ one_law window h caller call a l =
       (λ e. subst (λ (x : Answer). IsAnswered window h caller call x) (sym e) (answered window h caller call r)),
     )
 
+-- For exclusive_law: in a lawful history a key's taker ends its sync before the next Take of it.
 pub exclusive : AlwaysExclusive
 exclusive window h l = always_exclusive window h (legal window h l)

@@ -21,8 +21,10 @@ pub enum Halt {
 
 /// Makes one call. Where it is accepted its receipt has the reply.
 pub fn ask<D: Desk>(desk: &mut D, pass: &mut Pass, call: Call) -> Result<Receipt, Halt>
-    ensures adds { Adds D.tells (D.history desk.old) (D.history desk.new) pass.old pass.new (IsAsked call result) }
-    ensures empty { IsTrue D.tells → result ≡ Err (Halt.Unentered Refusal.Empty) → FindsNothing (state_in (D.history desk.old)) call }
+    ensures adds { Adds D.tells (D.history desk.old) (D.history desk.new) pass.old pass.new
+        (IsAsked call result) }
+    ensures empty { IsTrue D.tells → result ≡ Err (Halt.Unentered Refusal.Empty) →
+        FindsNothing (state_in (D.history desk.old)) call }
 {
     match desk.call(pass, call) {
         Ok(receipt) => {
@@ -38,7 +40,8 @@ pub fn ask<D: Desk>(desk: &mut D, pass: &mut Pass, call: Call) -> Result<Receipt
 
 /// Makes one call of whose reply nothing is kept.
 pub fn enter<D: Desk>(desk: &mut D, pass: &mut Pass, call: Call) -> Result<(), Halt>
-    ensures { Adds D.tells (D.history desk.old) (D.history desk.new) pass.old pass.new (IsDone call result) }
+    ensures { Adds D.tells (D.history desk.old) (D.history desk.new) pass.old pass.new
+        (IsDone call result) }
 {
     let _receipt = ask(desk, pass, call)?;
     Ok(())

@@ -41,9 +41,15 @@ impl Model for Book {
 
     ghost Value = { BookView };
 
-    ghost view = { λ b. record { limits = b.world.limits; history = b.world.history; roles = map (λ s. s.role) b.seats.items; given_up = b.given_up } };
+    ghost view = { λ b. record {
+      limits = b.world.limits;
+      history = b.world.history;
+      roles = map (λ s. s.role) b.seats.items;
+      given_up = b.given_up;
+    } };
 
-    ghost invariant = { λ b. (b.limits ≡ b.world.limits) × IsCounted b.seats.items b.world.history };
+    ghost invariant = { λ b. (b.limits ≡ b.world.limits)
+        × IsCounted b.seats.items b.world.history };
 }
 
 // The pass with the number has one entry more.
@@ -51,7 +57,8 @@ fn count_one(seats: &mut Vec<Seat>, number: usize)
     requires seated { number < vec_len seats.old }
     requires fits { (slice_index_or seats.old.items number no_seat).count + 1 < 2 ^ 64 }
     ensures roles { map (λ s. s.role) seats.new.items ≡ map (λ s. s.role) seats.old.items }
-    ensures counts { (k : ℕ) → (slice_index_or seats.new.items k no_seat).count ≡ (slice_index_or seats.old.items k no_seat).count + (if number == k then 1 else 0) }
+    ensures counts { (k : ℕ) → (slice_index_or seats.new.items k no_seat).count
+        ≡ (slice_index_or seats.old.items k no_seat).count + (if number == k then 1 else 0) }
 {
     seats[number].count += 1;
 }
@@ -59,7 +66,12 @@ fn count_one(seats: &mut Vec<Seat>, number: usize)
 impl Book {
     /// A book with an empty history, in which nobody is enrolled. It takes its memory from `alloc`.
     pub fn new(alloc: Global, limits: Limits) -> Result<Book, Refusal>
-        ensures ok { IfOk result (λ b. b ≡ record { limits = limits; history = []; roles = []; given_up = false }) }
+        ensures ok { IfOk result (λ b. b ≡ record {
+          limits = limits;
+          history = [];
+          roles = [];
+          given_up = false;
+        }) }
         ensures err { IfErr result (λ e. e ≡ OutOfMemory) }
     {
         Ok(Book {
@@ -74,7 +86,9 @@ impl Book {
     /// A pass of the next number, with no receipts.
     pub fn enroll(&mut self, role: Role) -> Result<Pass, Refusal>
         ensures pass { IfOk result (λ p. p ≡ fresh (length self.old.roles) role) }
-        ensures book { OnOk result (self.new ≡ record self.old { roles = self.old.roles ++ role ∷ [] }) }
+        ensures book { OnOk result (self.new ≡ record self.old {
+          roles = self.old.roles ++ role ∷ [];
+        }) }
         ensures which { IfErr result (λ e. e ≡ OutOfMemory) }
         ensures err { OnErr result (self.new ≡ self.old) }
     {

@@ -36,9 +36,13 @@ pub trait Desk {
         ensures row { IfOk result (λ r. IsTrue (is_in_row call r.entry.answer)) }
         ensures which { IfErr result (IsDeskRefusal call) }
         ensures err { OnErr result (pass.new ≡ pass.old) }
-        ensures told { IsTrue tells → IfOk result (λ r. history self.new ≡ record (history self.old) { history = r.entry ∷ (history self.old).history }) }
+        ensures told { IsTrue tells → IfOk result
+            (λ r. history self.new ≡ record (history self.old) {
+              history = r.entry ∷ (history self.old).history;
+            }) }
         ensures kept { IsTrue tells → OnErr result (history self.new ≡ history self.old) }
-        ensures empty { IsTrue tells → result ≡ Err Refusal.Empty → FindsNothing (state_in (history self.old)) call };
+        ensures empty { IsTrue tells → result ≡ Err Refusal.Empty →
+            FindsNothing (state_in (history self.old)) call };
 }
 
 /// A hub that threads share, with the handle for waiting. A Take waits for a key.
@@ -84,7 +88,12 @@ impl Model for PlainDesk {
 impl PlainDesk {
     /// A desk with an empty history, at which nobody is enrolled.
     pub fn new(alloc: Global, limits: Limits) -> Result<PlainDesk, Refusal>
-        ensures ok { IfOk result (λ d. d ≡ record { limits = limits; history = []; roles = []; given_up = false }) }
+        ensures ok { IfOk result (λ d. d ≡ record {
+          limits = limits;
+          history = [];
+          roles = [];
+          given_up = false;
+        }) }
         ensures err { IfErr result (λ e. e ≡ OutOfMemory) }
     {
         Ok(PlainDesk {
@@ -95,7 +104,9 @@ impl PlainDesk {
     /// A pass of the next number, with no receipts.
     pub fn enroll(&mut self, role: Role) -> Result<Pass, Refusal>
         ensures pass { IfOk result (λ p. p ≡ fresh (length self.old.roles) role) }
-        ensures book { OnOk result (self.new ≡ record self.old { roles = self.old.roles ++ role ∷ [] }) }
+        ensures book { OnOk result (self.new ≡ record self.old {
+          roles = self.old.roles ++ role ∷ [];
+        }) }
         ensures which { IfErr result (λ e. e ≡ OutOfMemory) }
         ensures err { OnErr result (self.new ≡ self.old) }
     {

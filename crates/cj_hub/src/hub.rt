@@ -149,7 +149,8 @@ impl Hub {
         ensures once { IfOk result (λ c. Once c.limits.window c.history) }
         ensures alone { IfOk result (λ c. Alone c.limits.window c.history) }
         ensures same { IfErr result (λ e. e.passes.items ≡ passes.items) }
-        ensures refused { IfErr result (λ e. (All (Fits e.book) e.passes.items → ⊥) × (e.refusal ≡ Estranged)) }
+        ensures refused { IfErr result (λ e. (All (Fits e.book) e.passes.items → ⊥)
+            × (e.refusal ≡ Estranged)) }
     {
         let Hub { book, changed: _ } = self;
         book.into_inner().close(passes)

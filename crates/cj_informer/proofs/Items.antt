@@ -15,15 +15,21 @@ use Rattle.cj_informer.specs.Exchanges.{Exchange, exchanges, accepted, BreaksOff
 use Rattle.cj_informer.specs.Informs.{adds}
 use Rattle.cj_informer.proofs.Goes.{goes-then, breaks-longer, refused-first}
 
-added_here : (key : Place) (r : Result (Unit {0}) Refusal) (es : List Told) → Says (Of.Add key) (λ u. Is.Done) r es → Goes (adds (key ∷ [])) r es
+-- The Add of a key goes as the Adds of this one key: accepted, or broken off.
+added_here : (key : Place) (r : Result (Unit {0}) Refusal) (es : List Told) → Says (Of.Add key) (λ u. Is.Done) r es
+    → Goes (adds (key ∷ [])) r es
 added_here key (Ok u) es h = h
 added_here key (Err e) es h = refused-first (accepted (Of.Add key) Is.Done) [] e es h
 
-pub added_one : (key : Place) (o : Option Place) (r : Result (Unit {0}) Refusal) (es : List Told) → Some key ≡ o → Says (Of.Add key) (λ u. Is.Done) r es → Goes (adds (cons_option o [])) r es
-added_one key o r es is h = let P : Option Place → Type 0 = λ x. Goes (adds (cons_option x [])) r es in subst P is (added_here key r es h)
+-- For add_one: the Add of the key that an item concerns goes as the Adds of this item.
+pub added_one : (key : Place) (o : Option Place) (r : Result (Unit {0}) Refusal) (es : List Told) → Some key ≡ o
+    → Says (Of.Add key) (λ u. Is.Done) r es → Goes (adds (cons_option o [])) r es
+added_one key o r es is h =
+    let P : Option Place → Type 0 = λ x. Goes (adds (cons_option x [])) r es in subst P is (added_here key r es h)
 
 -- no memory for the key
-pub added_none : (o : Option Place) (e : Refusal) → e ≡ OutOfMemory → IsSome o → BreaksOff (adds (cons_option o [])) e []
+pub added_none : (o : Option Place) (e : Refusal) → e ≡ OutOfMemory → IsSome o
+    → BreaksOff (adds (cons_option o [])) e []
 added_none None e is there = absurd (cc there)
 added_none (Some key) e is there = record {
   made = [];
@@ -35,23 +41,39 @@ added_none (Some key) e is there = record {
   stops = inr (refl, (let P : Refusal → Type 0 = λ x. IsDeskRefusal (Of.Add key) x in subst P (sym is) tt));
 }
 
-adds-append : {T : Type 0} (f : T → Option Place) (xs ys : List T) → adds (filter_map f (xs ++ ys)) ≡ adds (filter_map f xs) ++ adds (filter_map f ys)
-adds-append f xs ys = ap adds (filter_map-append f xs ys) ∙ map-append (λ key. accepted (Of.Add key) Is.Done) (filter_map f xs) (filter_map f ys)
+-- The Adds for two lists of items, joined, are the Adds for the one and then those for the other.
+adds-append : {T : Type 0} (f : T → Option Place) (xs ys : List T) → adds (filter_map f (xs ++ ys))
+    ≡ adds (filter_map f xs) ++ adds (filter_map f ys)
+adds-append f xs ys = ap adds (filter_map-append f xs ys) ∙ map-append (λ key. accepted (Of.Add key) Is.Done)
+    (filter_map f xs) (filter_map f ys)
 
-adds-take : {T : Type 0} (f : T → Option Place) (items : List T) (i : ℕ) (item : T) → i < length items → item ≡ get_or items i item
+-- The Adds for the first i + 1 items are those for the first i and then those for the next.
+adds-take : {T : Type 0} (f : T → Option Place) (items : List T) (i : ℕ) (item : T) → i < length items
+    → item ≡ get_or items i item
     → adds (filter_map f (take (i + 1) items)) ≡ adds (filter_map f (take i items)) ++ adds (filter_map f (item ∷ []))
 adds-take f items i item lt is = rw (add-one, take-suc items i item lt, ← is) (adds-append f (take i items) (item ∷ []))
 
-pub added_more : {T : Type 0} (f : T → Option Place) (items : List T) (i : ℕ) (item : T) (r : Result (Unit {0}) Refusal) (es fs : List Told) → i < length items → item ≡ get_or items i item
-    → exchanges es ≡ adds (filter_map f (take i items)) → Goes (adds (filter_map f (item ∷ []))) r fs → Goes (adds (filter_map f (take (i + 1) items))) r (es ++ fs)
+-- For add_all: the Adds for the first i items, and then the next one's, go as those for i + 1
+-- items.
+pub added_more : {T : Type 0} (f : T → Option Place) (items : List T) (i : ℕ) (item : T) (r : Result (Unit {0}) Refusal)
+    (es fs : List Told) → i < length items → item ≡ get_or items i item
+    → exchanges es ≡ adds (filter_map f (take i items)) → Goes (adds (filter_map f (item ∷ []))) r fs
+    → Goes (adds (filter_map f (take (i + 1) items))) r (es ++ fs)
 added_more f items i item r es fs lt is before one =
     let P : List Exchange → Type 0 = λ xs. Goes xs r (es ++ fs) in
-    subst P (sym (adds-take f items i item lt is)) (goes-then (adds (filter_map f (take i items))) (adds (filter_map f (item ∷ []))) r es fs before one)
+    subst P (sym (adds-take f items i item lt is))
+    (goes-then (adds (filter_map f (take i items))) (adds (filter_map f (item ∷ []))) r es fs before one)
 
-pub added_break : {T : Type 0} (f : T → Option Place) (items : List T) (i : ℕ) (item : T) (e : Refusal) (es fs : List Told) → i < length items → item ≡ get_or items i item
-    → exchanges es ≡ adds (filter_map f (take i items)) → BreaksOff (adds (filter_map f (item ∷ []))) e fs → BreaksOff (adds (filter_map f items)) e (es ++ fs)
+-- For add_all: where the Adds for one item break off, the Adds for all items break off there.
+pub added_break : {T : Type 0} (f : T → Option Place) (items : List T) (i : ℕ) (item : T) (e : Refusal)
+    (es fs : List Told) → i < length items → item ≡ get_or items i item
+    → exchanges es ≡ adds (filter_map f (take i items)) → BreaksOff (adds (filter_map f (item ∷ []))) e fs
+    → BreaksOff (adds (filter_map f items)) e (es ++ fs)
 added_break f items i item e es fs lt is before one =
     let P : List Exchange → Type 0 = λ xs. BreaksOff xs e (es ++ fs) in
-    let begun : BreaksOff (adds (filter_map f (take (i + 1) items))) e (es ++ fs) = added_more f items i item (Err e) es fs lt is before one in
-    subst P (sym (adds-append f (take (i + 1) items) (drop (i + 1) items)) ∙ ap (λ xs. adds (filter_map f xs)) (take-append-drop (i + 1) items))
-    (breaks-longer (adds (filter_map f (take (i + 1) items))) (adds (filter_map f (drop (i + 1) items))) e (es ++ fs) begun)
+    let begun : BreaksOff (adds (filter_map f (take (i + 1) items))) e (es ++ fs) =
+    added_more f items i item (Err e) es fs lt is before one in
+    subst P (sym (adds-append f (take (i + 1) items) (drop (i + 1) items))
+    ∙ ap (λ xs. adds (filter_map f xs)) (take-append-drop (i + 1) items))
+    (breaks-longer (adds (filter_map f (take (i + 1) items))) (adds (filter_map f (drop (i + 1) items))) e
+    (es ++ fs) begun)

@@ -19,7 +19,8 @@ fn add_one<D: Desk, T: Concerns>(
     pass: &mut Pass,
     item: &T,
 ) -> Result<(), Refusal>
-    ensures adds { Adds D.tells (D.history desk.old) (D.history desk.new) pass.old pass.new (Goes (adds (filter_map T.concerned (item.now ∷ []))) result) }
+    ensures adds { Adds D.tells (D.history desk.old) (D.history desk.new) pass.old pass.new
+        (Goes (adds (filter_map T.concerned (item.now ∷ []))) result) }
     ensures which { IfErr result IsStepRefusal }
 {
     match item.key(alloc) {
@@ -36,7 +37,8 @@ pub(crate) fn add_all<D: Desk, T: Concerns>(
     pass: &mut Pass,
     items: &[T],
 ) -> Result<(), Refusal>
-    ensures adds { Adds D.tells (D.history desk.old) (D.history desk.new) pass.old pass.new (Goes (adds (filter_map T.concerned items.now)) result) }
+    ensures adds { Adds D.tells (D.history desk.old) (D.history desk.new) pass.old pass.new
+        (Goes (adds (filter_map T.concerned items.now)) result) }
     ensures which { IfErr result IsStepRefusal }
 {
     for item in items {
@@ -53,7 +55,8 @@ pub(crate) fn add_listed<D: Desk>(
     crons: &[Shared<CronJob>],
     jobs: &[Shared<Job>],
 ) -> Result<(), Refusal>
-    ensures adds { Adds D.tells (D.history desk.old) (D.history desk.new) pass.old pass.new (Goes (add_both crons.now jobs.now) result) }
+    ensures adds { Adds D.tells (D.history desk.old) (D.history desk.new) pass.old pass.new
+        (Goes (add_both crons.now jobs.now) result) }
     ensures which { IfErr result IsStepRefusal }
 {
     add_all(desk, alloc, pass, crons)?;

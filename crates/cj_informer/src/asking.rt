@@ -14,7 +14,8 @@ use cj_types::{Key, Max, Millis, Refusal, Version};
 // A call that is refused for the caller's role alone.
 pub(crate) fn say<D: Desk>(desk: &mut D, pass: &mut Pass, call: Call) -> Result<Receipt, Refusal>
     requires { is_plain call ≡ true }
-    ensures adds { Adds D.tells (D.history desk.old) (D.history desk.new) pass.old pass.new (HasSaid call result) }
+    ensures adds { Adds D.tells (D.history desk.old) (D.history desk.new) pass.old pass.new
+        (HasSaid call result) }
     ensures which { IfErr result IsStepRefusal }
 {
     match ask(desk, pass, call) {
@@ -25,7 +26,8 @@ pub(crate) fn say<D: Desk>(desk: &mut D, pass: &mut Pass, call: Call) -> Result<
 }
 
 pub(crate) fn tick<D: Desk>(desk: &mut D, pass: &mut Pass, now: Millis) -> Result<(), Refusal>
-    ensures adds { Adds D.tells (D.history desk.old) (D.history desk.new) pass.old pass.new (Says (Of.Tick now) (λ _. Is.Done) result) }
+    ensures adds { Adds D.tells (D.history desk.old) (D.history desk.new) pass.old pass.new
+        (Says (Of.Tick now) (λ _. Is.Done) result) }
     ensures which { IfErr result IsStepRefusal }
 {
     let receipt = say(desk, pass, Call::Tick(now))?;
@@ -36,7 +38,8 @@ pub(crate) fn tick<D: Desk>(desk: &mut D, pass: &mut Pass, now: Millis) -> Resul
 }
 
 pub(crate) fn add<D: Desk>(desk: &mut D, pass: &mut Pass, key: Key) -> Result<(), Refusal>
-    ensures adds { Adds D.tells (D.history desk.old) (D.history desk.new) pass.old pass.new (Says (Of.Add key) (λ _. Is.Done) result) }
+    ensures adds { Adds D.tells (D.history desk.old) (D.history desk.new) pass.old pass.new
+        (Says (Of.Add key) (λ _. Is.Done) result) }
     ensures which { IfErr result IsStepRefusal }
 {
     let receipt = say(desk, pass, Call::Add(key))?;
@@ -48,7 +51,8 @@ pub(crate) fn add<D: Desk>(desk: &mut D, pass: &mut Pass, key: Key) -> Result<()
 
 // How many writes the listings know then.
 pub(crate) fn feed<D: Desk>(desk: &mut D, pass: &mut Pass, max: Max) -> Result<Version, Refusal>
-    ensures adds { Adds D.tells (D.history desk.old) (D.history desk.new) pass.old pass.new (Says (Of.Feed max) (λ v. Is.Version v) result) }
+    ensures adds { Adds D.tells (D.history desk.old) (D.history desk.new) pass.old pass.new
+        (Says (Of.Feed max) (λ v. Is.Version v) result) }
     ensures which { IfErr result IsStepRefusal }
 {
     let receipt = say(desk, pass, Call::Feed(max))?;
@@ -65,7 +69,8 @@ pub(crate) fn ask_events<D: Desk>(
     from: Version,
     max: Max,
 ) -> Result<Receipt, Refusal>
-    ensures adds { Adds D.tells (D.history desk.old) (D.history desk.new) pass.old pass.new (HasSaid (Of.Watch from max) result) }
+    ensures adds { Adds D.tells (D.history desk.old) (D.history desk.new) pass.old pass.new
+        (HasSaid (Of.Watch from max) result) }
     ensures which { IfErr result IsWatchRefusal }
 {
     match ask(desk, pass, Call::Watch(from, max)) {

@@ -65,7 +65,8 @@ impl Informer {
         pass: &mut Pass,
         now: Millis,
     ) -> Result<(), Refusal>
-        ensures adds { Adds D.tells (D.history desk.old) (D.history desk.new) pass.old pass.new (HasStepped self.old now self.new result) }
+        ensures adds { Adds D.tells (D.history desk.old) (D.history desk.new) pass.old pass.new
+            (HasStepped self.old now self.new result) }
         ensures which { IfErr result IsStepRefusal }
     {
         let seen = look(self, desk, pass, now)?;
@@ -81,7 +82,8 @@ fn look<D: Desk>(
     pass: &mut Pass,
     now: Millis,
 ) -> Result<Version, Refusal>
-    ensures adds { Adds D.tells (D.history desk.old) (D.history desk.new) pass.old pass.new (HasLooked informer.now now result) }
+    ensures adds { Adds D.tells (D.history desk.old) (D.history desk.new) pass.old pass.new
+        (HasLooked informer.now now result) }
     ensures which { IfErr result IsStepRefusal }
 {
     tick(desk, pass, now)?;

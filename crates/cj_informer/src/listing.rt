@@ -17,7 +17,8 @@ fn feed_up_to<D: Desk>(
     max: Max,
     wanted: Version,
 ) -> Result<(), Refusal>
-    ensures adds { Adds D.tells (D.history desk.old) (D.history desk.new) pass.old pass.new (HasFed max wanted result) }
+    ensures adds { Adds D.tells (D.history desk.old) (D.history desk.new) pass.old pass.new
+        (HasFed max wanted result) }
     ensures which { IfErr result IsStepRefusal }
 {
     let mut fed = feed(desk, pass, max)?;
@@ -41,7 +42,8 @@ fn catch_up<D: Desk>(
     crons: &[Shared<CronJob>],
     jobs: &[Shared<Job>],
 ) -> Result<Version, Refusal>
-    ensures adds { Adds D.tells (D.history desk.old) (D.history desk.new) pass.old pass.new (HasCaughtUp max seen crons.now jobs.now result) }
+    ensures adds { Adds D.tells (D.history desk.old) (D.history desk.new) pass.old pass.new
+        (HasCaughtUp max seen crons.now jobs.now result) }
     ensures which { IfErr result IsStepRefusal }
 {
     feed_up_to(desk, pass, max, seen)?;
@@ -57,7 +59,8 @@ fn list_jobs<D: Desk>(
     seen: Version,
     crons: &[Shared<CronJob>],
 ) -> Result<Version, Refusal>
-    ensures adds { Adds D.tells (D.history desk.old) (D.history desk.new) pass.old pass.new (HasListedJobs max seen crons.now result) }
+    ensures adds { Adds D.tells (D.history desk.old) (D.history desk.new) pass.old pass.new
+        (HasListedJobs max seen crons.now result) }
     ensures which { IfErr result IsStepRefusal }
 {
     let receipt = say(desk, pass, Call::ListJobs)?;
@@ -77,7 +80,8 @@ pub(crate) fn list<D: Desk>(
     pass: &mut Pass,
     max: Max,
 ) -> Result<Version, Refusal>
-    ensures adds { Adds D.tells (D.history desk.old) (D.history desk.new) pass.old pass.new (HasListed max result) }
+    ensures adds { Adds D.tells (D.history desk.old) (D.history desk.new) pass.old pass.new
+        (HasListed max result) }
     ensures which { IfErr result IsStepRefusal }
 {
     let receipt = say(desk, pass, Call::ListCrons)?;

@@ -30,7 +30,8 @@ fn follow<D: Desk>(
     from: Version,
     events: &[Event],
 ) -> Result<Version, Refusal>
-    ensures adds { Adds D.tells (D.history desk.old) (D.history desk.new) pass.old pass.new (HasFollowed max from events.now result) }
+    ensures adds { Adds D.tells (D.history desk.old) (D.history desk.new) pass.old pass.new
+        (HasFollowed max from events.now result) }
     ensures which { IfErr result IsStepRefusal }
 {
     let _fed = feed(desk, pass, max)?;
@@ -46,7 +47,8 @@ pub(crate) fn watch<D: Desk>(
     max: Max,
     from: Version,
 ) -> Result<Version, Refusal>
-    ensures adds { Adds D.tells (D.history desk.old) (D.history desk.new) pass.old pass.new (HasGoneOn (record { max = max; seen = Some from }) result) }
+    ensures adds { Adds D.tells (D.history desk.old) (D.history desk.new) pass.old pass.new
+        (HasGoneOn (record { max = max; seen = Some from }) result) }
     ensures which { IfErr result IsStepRefusal }
 {
     match ask_events(desk, pass, from, max) {

@@ -31,71 +31,109 @@ Keyed key job = job.key ≡ key
 
 -- ---- one place
 
+-- An order that ties is Equal.
 tie : (o : Ordering) → is_eq o ≡ true → o ≡ Equal
 tie Less e = absurd (cc e)
 tie Equal e = refl
 tie Greater e = absurd (cc e)
 
+-- What stands at a key stands at any key that ties with it.
 at_key : (m : Table) (k q : Place) (o : Option Job) → map.get m k ≡ o → is_at (place_cmp k) q ≡ true → map.get m q ≡ o
 at_key m k q o e t = ap (map.get m) (sym (places_exact k q (tie (place_cmp k q) t))) ∙ e
 
-get_put : (m : Table) (k : Place) (v : Job) (q : Place) → map.get (map.insert m k v) q ≡ cond (is_at (place_cmp k) q) (Some v) (map.get m q)
-get_put m k v q = map.get-insert places_total m k v q ∙ ap (λ b. cond b (Some v) (map.get m q)) ((eq_by_cmp_equiv places_total).symm q k)
+-- After a Job is put at a key it stands there, and at each other key what stood there before.
+get_put : (m : Table) (k : Place) (v : Job) (q : Place) → map.get (map.insert m k v) q
+    ≡ cond (is_at (place_cmp k) q) (Some v) (map.get m q)
+get_put m k v q = map.get-insert places_total m k v q ∙ ap (λ b. cond b (Some v) (map.get m q))
+    ((eq_by_cmp_equiv places_total).symm q k)
 
+-- After a key is taken out nothing stands at it, and at each other key what stood there before.
 get_cut : (m : Table) (k q : Place) → map.get (map.remove m k) q ≡ cond (is_at (place_cmp k) q) None (map.get m q)
-get_cut m k q = map.get-remove places_total m k q ∙ ap (λ b. cond b None (map.get m q)) ((eq_by_cmp_equiv places_total).symm q k)
+get_cut m k q = map.get-remove places_total m k q ∙ ap (λ b. cond b None (map.get m q))
+    ((eq_by_cmp_equiv places_total).symm q k)
 
+-- For put_step: at the key of the Job an entry stands where it is of the Job's owner.
 there : (a : Bool) → cond (a && true) true false ≡ a
 there true = refl
 there false = refl
 
+-- For cut_step: at the key of the Job no entry of its owner stands any more.
 gone : (a : Bool) → cond (a && true) false a ≡ false
 gone true = refl
 gone false = refl
 
+-- For put_step and cut_step: at another key an entry stands or doesn't as before.
 other : (a b x : Bool) → cond (a && false) b x ≡ x
 other true b x = refl
 other false b x = refl
 
-put_step : (q : Owned) (job : Job) (t : Bool) (old : Option Job) → (t ≡ true → old ≡ None) → cond (is_owned q (Some job) && t) true (is_owned q old) ≡ is_owned q (cond t (Some job) old)
-put_step q job true old none = ap (λ o. cond (is_owned q (Some job) && true) true (is_owned q o)) (none refl) ∙ there (is_owned q (Some job))
+-- For put_at: at each key the entries after a Job came to a free key are the old ones and the
+-- Job's.
+put_step : (q : Owned) (job : Job) (t : Bool) (old : Option Job) → (t ≡ true → old ≡ None)
+    → cond (is_owned q (Some job) && t) true (is_owned q old) ≡ is_owned q (cond t (Some job) old)
+put_step q job true old none = ap (λ o. cond (is_owned q (Some job) && true) true (is_owned q o)) (none refl)
+    ∙ there (is_owned q (Some job))
 put_step q job false old none = other (is_owned q (Some job)) true (is_owned q old)
 
-cut_step : (q : Owned) (job : Job) (t : Bool) (old : Option Job) → (t ≡ true → old ≡ Some job) → cond (is_owned q (Some job) && t) false (is_owned q old) ≡ is_owned q (cond t None old)
-cut_step q job true old some = ap (λ o. cond (is_owned q (Some job) && true) false (is_owned q o)) (some refl) ∙ gone (is_owned q (Some job))
+-- For cut_at: at each key the entries after a Job left are the old ones without the Job's.
+cut_step : (q : Owned) (job : Job) (t : Bool) (old : Option Job) → (t ≡ true → old ≡ Some job)
+    → cond (is_owned q (Some job) && t) false (is_owned q old) ≡ is_owned q (cond t None old)
+cut_step q job true old some = ap (λ o. cond (is_owned q (Some job) && true) false (is_owned q o)) (some refl)
+    ∙ gone (is_owned q (Some job))
 cut_step q job false old some = other (is_owned q (Some job)) false (is_owned q old)
 
-none_step : (q : Owned) (t : Bool) (old : Option Job) → (t ≡ true → old ≡ None) → is_owned q old ≡ is_owned q (cond t None old)
+-- For none_at: at each key the entries after a removal where nothing stood are the old ones.
+none_step : (q : Owned) (t : Bool) (old : Option Job) → (t ≡ true → old ≡ None)
+    → is_owned q old ≡ is_owned q (cond t None old)
 none_step q true old none = ap (is_owned q) (none refl)
 none_step q false old none = refl
 
-same_step : (q : Owned) (was job : Job) (t : Bool) (old : Option Job) → (t ≡ true → old ≡ Some was) → is_owned q (Some was) ≡ is_owned q (Some job) → is_owned q old ≡ is_owned q (cond t (Some job) old)
+-- For same_at: at each key the entries after a Job came in place of one of the same owner are the
+-- old ones.
+same_step : (q : Owned) (was job : Job) (t : Bool) (old : Option Job) → (t ≡ true → old ≡ Some was)
+    → is_owned q (Some was) ≡ is_owned q (Some job) → is_owned q old ≡ is_owned q (cond t (Some job) old)
 same_step q was job true old some same = ap (is_owned q) (some refl) ∙ same
 same_step q was job false old some same = refl
 
-put_at : (m : Table) (job : Job) (q : Owned) (a : At) → map.get m job.key ≡ None → cond (here_by job q (cron_of job) a) true (stands_at m q a) ≡ stands_at (map.insert m job.key job) q a
+-- After a Job is put at a free key, the entries that stand are those that stood and the Job's.
+put_at : (m : Table) (job : Job) (q : Owned) (a : At) → map.get m job.key ≡ None
+    → cond (here_by job q (cron_of job) a) true (stands_at m q a) ≡ stands_at (map.insert m job.key job) q a
 put_at m job q Before none = refl
-put_at m job q (Here k) none = put_step q job (is_at (place_cmp job.key) k) (map.get m k) (at_key m job.key k None none) ∙ ap (is_owned q) (sym (get_put m job.key job k))
+put_at m job q (Here k) none = put_step q job (is_at (place_cmp job.key) k) (map.get m k) (at_key m job.key k None none)
+    ∙ ap (is_owned q) (sym (get_put m job.key job k))
 put_at m job q After none = refl
 
-cut_at : (m : Table) (job : Job) (q : Owned) (a : At) → map.get m job.key ≡ Some job → cond (here_by job q (cron_of job) a) false (stands_at m q a) ≡ stands_at (map.remove m job.key) q a
+-- After a Job is taken out, the entries that stand are those that stood but the Job's.
+cut_at : (m : Table) (job : Job) (q : Owned) (a : At) → map.get m job.key ≡ Some job
+    → cond (here_by job q (cron_of job) a) false (stands_at m q a) ≡ stands_at (map.remove m job.key) q a
 cut_at m job q Before some = refl
-cut_at m job q (Here k) some = cut_step q job (is_at (place_cmp job.key) k) (map.get m k) (at_key m job.key k (Some job) some) ∙ ap (is_owned q) (sym (get_cut m job.key k))
+cut_at m job q (Here k) some = cut_step q job (is_at (place_cmp job.key) k) (map.get m k)
+    (at_key m job.key k (Some job) some) ∙ ap (is_owned q) (sym (get_cut m job.key k))
 cut_at m job q After some = refl
 
-none_at : (m : Table) (key : Place) (q : Owned) (a : At) → map.get m key ≡ None → stands_at m q a ≡ stands_at (map.remove m key) q a
+-- After a removal at a key where nothing stands, the entries that stand are those that stood.
+none_at : (m : Table) (key : Place) (q : Owned) (a : At) → map.get m key ≡ None
+    → stands_at m q a ≡ stands_at (map.remove m key) q a
 none_at m key q Before none = refl
-none_at m key q (Here k) none = none_step q (is_at (place_cmp key) k) (map.get m k) (at_key m key k None none) ∙ ap (is_owned q) (sym (get_cut m key k))
+none_at m key q (Here k) none = none_step q (is_at (place_cmp key) k) (map.get m k) (at_key m key k None none)
+    ∙ ap (is_owned q) (sym (get_cut m key k))
 none_at m key q After none = refl
 
-same_at : (m : Table) (was job : Job) (q : Owned) (a : At) → map.get m job.key ≡ Some was → is_owned q (Some was) ≡ is_owned q (Some job) → stands_at m q a ≡ stands_at (map.insert m job.key job) q a
+-- After a Job is put in place of one of the same owner, the entries that stand are those that
+-- stood.
+same_at : (m : Table) (was job : Job) (q : Owned) (a : At) → map.get m job.key ≡ Some was
+    → is_owned q (Some was) ≡ is_owned q (Some job) → stands_at m q a ≡ stands_at (map.insert m job.key job) q a
 same_at m was job q Before some same = refl
-same_at m was job q (Here k) some same = same_step q was job (is_at (place_cmp job.key) k) (map.get m k) (at_key m job.key k (Some was) some) same ∙ ap (is_owned q) (sym (get_put m job.key job k))
+same_at m was job q (Here k) some same = same_step q was job (is_at (place_cmp job.key) k) (map.get m k)
+    (at_key m job.key k (Some was) some) same ∙ ap (is_owned q) (sym (get_put m job.key job k))
 same_at m was job q After some same = refl
 
 -- ---- the whole index
 
-pub index_put : (m n : Table) (s t : BTreeSet Owned) (job : Job) → IsIndex m s → map.get m job.key ≡ None → n ≡ map.insert m job.key job → Sets true s t (owned_of job) → IsIndex n t
+-- For Jobs::add: the index with the Job's entry agrees with the Jobs after the Job is put at a free
+-- key.
+pub index_put : (m n : Table) (s t : BTreeSet Owned) (job : Job) → IsIndex m s → map.get m job.key ≡ None
+    → n ≡ map.insert m job.key job → Sets true s t (owned_of job) → IsIndex n t
 index_put m n s t job index none e sets = record {
   keyed = put_holds Keyed m n job.key job e refl index.keyed;
   exact = λ q.
@@ -106,7 +144,9 @@ index_put m n s t job index none e sets = record {
       ∙ ap (λ (x : Table). stands x q) (sym e);
 }
 
-cut_there : (m n : Table) (s t : BTreeSet Owned) (job : Job) → IsIndex m s → map.get m job.key ≡ Some job → n ≡ map.remove m job.key → Sets false s t (owned_of job) → IsIndex n t
+-- For cut_from: the index without the Job's entry agrees with the Jobs after the Job is taken out.
+cut_there : (m n : Table) (s t : BTreeSet Owned) (job : Job) → IsIndex m s → map.get m job.key ≡ Some job
+    → n ≡ map.remove m job.key → Sets false s t (owned_of job) → IsIndex n t
 cut_there m n s t job index some e sets = record {
   keyed = cut_holds Keyed m n job.key e index.keyed;
   exact = λ q.
@@ -117,42 +157,65 @@ cut_there m n s t job index some e sets = record {
       ∙ ap (λ (x : Table). stands x q) (sym e);
 }
 
-cut_absent : (m n : Table) (s t : BTreeSet Owned) (key : Place) → IsIndex m s → map.get m key ≡ None → n ≡ map.remove m key → Sets false s t None → IsIndex n t
+-- For cut_from: the index as it was agrees with the Jobs after a removal at a key where nothing
+-- stands.
+cut_absent : (m n : Table) (s t : BTreeSet Owned) (key : Place) → IsIndex m s → map.get m key ≡ None
+    → n ≡ map.remove m key → Sets false s t None → IsIndex n t
 cut_absent m n s t key index none e sets = record {
   keyed = cut_holds Keyed m n key e index.keyed;
   exact = λ q. sets q ∙ index.exact q ∙ none_at m key q q.at none ∙ ap (λ (x : Table). stands x q) (sym e);
 }
 
-cut_from : (m n : Table) (s t : BTreeSet Owned) (key : Place) (o : Option Job) → IsIndex m s → map.get m key ≡ o → n ≡ map.remove m key → Sets false s t (owned_at o) → IsIndex n t
+-- For index_cut: cut_there or cut_absent, by the Job that may stand at the key.
+cut_from : (m n : Table) (s t : BTreeSet Owned) (key : Place) (o : Option Job) → IsIndex m s → map.get m key ≡ o
+    → n ≡ map.remove m key → Sets false s t (owned_at o) → IsIndex n t
 cut_from m n s t key None index is e sets = cut_absent m n s t key index is e sets
 cut_from m n s t key (Some job) index is e sets =
     let own : job.key ≡ key = index.keyed key job is in
     cut_there m n s t job index (ap (map.get m) own ∙ is) (e ∙ ap (map.remove m) (sym own)) sets
 
-pub index_cut : (m n : Table) (s t : BTreeSet Owned) (key : Place) → IsIndex m s → n ≡ map.remove m key → Sets false s t (owned_at (map.get m key)) → IsIndex n t
+-- For Jobs::remove: the index without the entry of the key's Job agrees with the Jobs without the
+-- key.
+pub index_cut : (m n : Table) (s t : BTreeSet Owned) (key : Place) → IsIndex m s → n ≡ map.remove m key
+    → Sets false s t (owned_at (map.get m key)) → IsIndex n t
 index_cut m n s t key index e sets = cut_from m n s t key (map.get m key) index refl e sets
 
-same_owned : (q : Owned) (was job : Job) → was.key ≡ job.key → was.owners ≡ job.owners → is_owned q (Some was) ≡ is_owned q (Some job)
+-- Two Jobs of the same key and the same owner references belong to the same entries.
+same_owned : (q : Owned) (was job : Job) → was.key ≡ job.key → was.owners ≡ job.owners
+    → is_owned q (Some was) ≡ is_owned q (Some job)
 same_owned q was job e f = cc (e, f)
 
-same_there : (m n : Table) (s : BTreeSet Owned) (was job : Job) → IsIndex m s → map.get m job.key ≡ Some was → was.owners ≡ job.owners → n ≡ map.insert m job.key job → IsIndex n s
+-- For same_from: the index agrees as it is after a Job is put in place of one with the same owner
+-- references.
+same_there : (m n : Table) (s : BTreeSet Owned) (was job : Job) → IsIndex m s → map.get m job.key ≡ Some was
+    → was.owners ≡ job.owners → n ≡ map.insert m job.key job → IsIndex n s
 same_there m n s was job index some same e = record {
   keyed = put_holds Keyed m n job.key job e refl index.keyed;
-  exact = λ q. index.exact q ∙ same_at m was job q q.at some (same_owned q was job (index.keyed job.key was some) same) ∙ ap (λ (x : Table). stands x q) (sym e);
+  exact = λ q. index.exact q ∙ same_at m was job q q.at some (same_owned q was job (index.keyed job.key was some) same)
+      ∙ ap (λ (x : Table). stands x q) (sym e);
 }
 
-same_from : (m n : Table) (s : BTreeSet Owned) (job : Job) (o : Option Job) → IsIndex m s → map.get m job.key ≡ o → option_map (λ (j : Job). j.owners) o ≡ Some job.owners → n ≡ map.insert m job.key job → IsIndex n s
+-- For index_same: the same of what may stand at the key, which is told to have the new Job's owner
+-- references.
+same_from : (m n : Table) (s : BTreeSet Owned) (job : Job) (o : Option Job) → IsIndex m s → map.get m job.key ≡ o
+    → option_map (λ (j : Job). j.owners) o ≡ Some job.owners → n ≡ map.insert m job.key job → IsIndex n s
 same_from m n s job None index is same e = absurd (cc same)
-same_from m n s job (Some was) index is same e = let f : was.owners ≡ job.owners = cc same in same_there m n s was job index is f e
+same_from m n s job (Some was) index is same e =
+    let f : was.owners ≡ job.owners = cc same in same_there m n s was job index is f e
 
-pub index_same : (m n : Table) (s : BTreeSet Owned) (job : Job) → IsIndex m s → owners_of m job.key ≡ Some job.owners → n ≡ map.insert m job.key job → IsIndex n s
+-- For Jobs::replace: the index agrees as it is where the Job at the key had the owner references of
+-- the new one.
+pub index_same : (m n : Table) (s : BTreeSet Owned) (job : Job) → IsIndex m s → owners_of m job.key ≡ Some job.owners
+    → n ≡ map.insert m job.key job → IsIndex n s
 index_same m n s job index same e = same_from m n s job (map.get m job.key) index refl same e
 
+-- Where no key has a Job, no entry stands.
 empty_at : (m : Table) (q : Owned) (a : At) → ((k : Place) → map.get m k ≡ None) → false ≡ stands_at m q a
 empty_at m q Before none = refl
 empty_at m q (Here k) none = ap (is_owned q) (sym (none k))
 empty_at m q After none = refl
 
+-- For Jobs::new: an index without entries agrees with a table without Jobs.
 pub index_empty : (m : Table) (s : BTreeSet Owned) → m ≡ map.empty → s.keys ≡ [] → IsIndex m s
 index_empty m s e f = record {
   keyed = empty_holds Keyed m e;
@@ -161,6 +224,7 @@ index_empty m s e f = record {
       ∙ empty_at m q q.at (λ k. ap (λ (x : Table). map.get x k) e ∙ map.get-empty place_cmp k);
 }
 
+-- For Jobs::add without memory: where the Jobs and the entries are as they were, they still agree.
 pub index_kept : (m n : Table) (s t : BTreeSet Owned) → IsIndex m s → n ≡ m → t.keys ≡ s.keys → IsIndex n t
 index_kept m n s t index e f = record {
   keyed = λ k j is. index.keyed k j (ap (λ (x : Table). map.get x k) (sym e) ∙ is);
@@ -168,7 +232,8 @@ index_kept m n s t index e f = record {
 }
 
 -- a Job that was put in is taken out again
-pub taken_back : (m n l : Table) (job : Job) (k j : Place) → map.get m job.key ≡ None → n ≡ map.insert m k job → k ≡ job.key → l ≡ map.remove n j → j ≡ job.key → l ≡ m
+pub taken_back : (m n l : Table) (job : Job) (k j : Place) → map.get m job.key ≡ None → n ≡ map.insert m k job
+    → k ≡ job.key → l ≡ map.remove n j → j ≡ job.key → l ≡ m
 taken_back m n l job k j none put own cut again =
     cut
     ∙ ap (λ (q : Place). map.remove n q) again

@@ -62,7 +62,8 @@ pub(crate) fn found_jobs(
     last: Owned,
 ) -> Result<Listing<Shared<Job>>, Refusal>
     requires { IsLeBy owned_cmp first last }
-    ensures ok { IfOk result (λ l. l ≡ found table.now (keys_between owned_cmp (Included first) (Excluded last) index.now)) }
+    ensures ok { IfOk result (λ l. l ≡ found table.now
+        (keys_between owned_cmp (Included first) (Excluded last) index.now)) }
     ensures ordered { IsOrdered owned_cmp index.now }
     ensures memory { IfErr result (λ e. e ≡ OutOfMemory) }
 {

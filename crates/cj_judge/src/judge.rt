@@ -35,7 +35,8 @@ fn judge_row<T: Threads + Wait + Sync>(
     line: usize,
     text: &str,
 ) -> Result<(), Fault>
-    ensures { OnOk result (AddsRow file.now line text.now (count_of tally.old) (count_of tally.new)) }
+    ensures { OnOk result (AddsRow file.now line text.now (count_of tally.old)
+        (count_of tally.new)) }
 {
     let value = value_of(alloc, text)?;
     let row = row_of(alloc, &value)?;
@@ -52,7 +53,8 @@ fn judge_line<T: Threads + Wait + Sync>(
     line: usize,
     text: &str,
 ) -> Result<(), Fault>
-    ensures { OnOk result (AddsLine file.now line text.now (count_of tally.old) (count_of tally.new)) }
+    ensures { OnOk result (AddsLine file.now line text.now (count_of tally.old)
+        (count_of tally.new)) }
 {
     if is_comment_line(text) {
         Ok(())
@@ -75,8 +77,10 @@ fn judge_lines<T: Threads + Wait + Sync>(
     file: &str,
     lines: &[&str],
 ) -> Result<(), Misread>
-    ensures judged { OnOk result (AddsLines file.now 1 (map (λ s. s.now) lines.now) (count_of tally.old) (count_of tally.new)) }
-    ensures all { OnOk result (tally.new.ran ≡ tally.old.ran + length (rows_in (map (λ s. s.now) lines.now))) }
+    ensures judged { OnOk result (AddsLines file.now 1 (map (λ s. s.now) lines.now)
+        (count_of tally.old) (count_of tally.new)) }
+    ensures all { OnOk result (tally.new.ran ≡ tally.old.ran
+        + length (rows_in (map (λ s. s.now) lines.now))) }
 {
     for index in 0..lines.len() {
         let line = index + 1;
@@ -101,8 +105,10 @@ pub fn judge_text<T: Threads + Wait + Sync>(
     file: &str,
     text: &str,
 ) -> Result<(), Misread>
-    ensures judged { OnOk result (AddsLines file.now 1 (lines_in text.now) (count_of tally.old) (count_of tally.new)) }
-    ensures all { OnOk result (tally.new.ran ≡ tally.old.ran + length (rows_in (lines_in text.now))) }
+    ensures judged { OnOk result (AddsLines file.now 1 (lines_in text.now) (count_of tally.old)
+        (count_of tally.new)) }
+    ensures all { OnOk result (tally.new.ran ≡ tally.old.ran
+        + length (rows_in (lines_in text.now))) }
 {
     match lines_of(alloc, text) {
         Ok(lines) => judge_lines(rt, alloc, tally, file, lines.as_slice()),

@@ -31,7 +31,8 @@ fn text<'v>(value: &'v Value, name: &str) -> Result<&'v str, Fault>
 
 // One word more, at the end.
 fn push_word<'v>(words: &mut Vec<&'v str>, item: &'v Value) -> Result<(), Fault>
-    ensures ok { OnOk result (AddsWord (map (λ w. w.now) words.old.items) (view item.now) (map (λ w. w.now) words.new.items)) }
+    ensures ok { OnOk result (AddsWord (map (λ w. w.now) words.old.items) (view item.now)
+        (map (λ w. w.now) words.new.items)) }
     ensures missing { IfErr result (λ e. Refuses e (as_str (view item.now) ≡ None)) }
 {
     let Some(word) = item.as_str() else {
@@ -42,7 +43,8 @@ fn push_word<'v>(words: &mut Vec<&'v str>, item: &'v Value) -> Result<(), Fault>
 }
 
 fn words_of<'v>(alloc: Global, items: &'v Vec<Value>) -> Result<Vec<&'v str>, Fault>
-    ensures found { IfOk result (λ v. texts_in (items_view items.now.items) ≡ Some (map (λ w. w.now) v.items)) }
+    ensures found { IfOk result (λ v. texts_in (items_view items.now.items)
+        ≡ Some (map (λ w. w.now) v.items)) }
     ensures missing { IfErr result (λ e. Refuses e (texts_in (items_view items.now.items) ≡ None)) }
 {
     let mut words = Vec::new(alloc);
@@ -53,7 +55,8 @@ fn words_of<'v>(alloc: Global, items: &'v Vec<Value>) -> Result<Vec<&'v str>, Fa
 }
 
 fn words<'v>(alloc: Global, value: &'v Value, name: &str) -> Result<Vec<&'v str>, Fault>
-    ensures found { IfOk result (λ v. texts_at name.now (view value.now) ≡ Some (map (λ w. w.now) v.items)) }
+    ensures found { IfOk result (λ v. texts_at name.now (view value.now)
+        ≡ Some (map (λ w. w.now) v.items)) }
     ensures missing { IfErr result (λ e. Refuses e (texts_at name.now (view value.now) ≡ None)) }
 {
     match value.get(name) {
@@ -66,7 +69,8 @@ fn status(value: &Value, name: &str) -> Result<u8, Fault>
     ensures found { IfOk result (λ n. number_at name.now (view value.now) ≡ Some n) }
     ensures small { IfOk result (λ n. n ≤ 255) }
     ensures refused { IfErr result (λ e. e ≡ NoRow) }
-    ensures only { IfErr result (λ _. (n : ℕ) → number_at name.now (view value.now) ≡ Some n → n ≤ 255 → ⊥) }
+    ensures only { IfErr result (λ _. (n : ℕ) → number_at name.now (view value.now) ≡ Some n →
+        n ≤ 255 → ⊥) }
 {
     match value.get(name).and_then(Value::as_u64) {
         Some(number) if number <= 255 => Ok(number as u8),

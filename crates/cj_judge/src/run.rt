@@ -21,7 +21,8 @@ pub struct Seen {
 
 // That a request reads what it is given, and no file by its name.
 fn reads_input(request: &Request<'_>) -> Result<(), Fault>
-    ensures { OnOk result ((file_of request.now ≡ None) ⊎ (file_of request.now ≡ Some (codes "-"))) }
+    ensures { OnOk result ((file_of request.now ≡ None) ⊎
+        (file_of request.now ≡ Some (codes "-"))) }
 {
     match request.file() {
         None => Ok(()),
@@ -91,7 +92,8 @@ pub fn run_row<T: Threads + Wait + Sync>(
     alloc: Global,
     row: &Row<'_>,
 ) -> Result<Seen, Fault>
-    ensures { IfOk result (λ s. IsRun (stated_of row.now).words (stated_of row.now).input (given_of s)) }
+    ensures { IfOk result (λ s. IsRun (stated_of row.now).words (stated_of row.now).input
+        (given_of s)) }
 {
     let mut words = Vec::new(alloc);
     words.push("cronsim")?;

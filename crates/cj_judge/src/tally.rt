@@ -41,7 +41,8 @@ fn push_side(
     printed: &[u8],
     said: &[u8],
 ) -> Result<(), AllocError>
-    ensures { OnOk result (report.new.items ≡ report.old.items ++ side word.now status printed.now said.now) }
+    ensures { OnOk result (report.new.items ≡ report.old.items
+        ++ side word.now status printed.now said.now) }
 {
     let head = format!(in alloc; "{word}: status {status}, standard output:\n")?;
     report.extend_from_slice(head.as_bytes())?;
@@ -65,7 +66,8 @@ fn push_difference(
     row: &Row<'_>,
     seen: &Seen,
 ) -> Result<(), AllocError>
-    ensures { OnOk result (report.new.items ≡ reported report.old.items file.now line (stated_of row.now) (given_of seen.now)) }
+    ensures { OnOk result (report.new.items ≡ reported report.old.items file.now line
+        (stated_of row.now) (given_of seen.now)) }
 {
     let place = place_line(alloc, file, line)?;
     let (stdout, stderr) = (row.stdout.as_bytes(), row.stderr.as_bytes());
@@ -94,7 +96,8 @@ pub fn add_run(
     row: &Row<'_>,
     seen: &Seen,
 ) -> Result<(), Fault>
-    ensures { OnOk result (AddsRun file.now line (stated_of row.now) (given_of seen.now) (count_of tally.old) (count_of tally.new)) }
+    ensures { OnOk result (AddsRun file.now line (stated_of row.now) (given_of seen.now)
+        (count_of tally.old) (count_of tally.new)) }
 {
     tally.ran = one_more(tally.ran)?;
     if !is_wanted(row, seen) {

@@ -19,39 +19,58 @@ use Rattle.cj_legal.proofs.Sound.{whole_of}
 use Rattle.cj_legal.specs.Seats.{seat, seat_after}
 use Rattle.cj_legal.proofs.Seatings.{Seating, kept, sat_at, left_at, seating}
 
+-- Two numbers are equal by the order's test just where they are by the test of numbers.
 same_number : (q k : ℕ) → eq_by_cmp nat_cmp q k ≡ (q == k)
 same_number q k = grind (arith, nat_tests)
 
+-- Numbers that the test takes for equal are equal.
 number_is : (q k : ℕ) → (q == k) ≡ true → q ≡ k
 number_is q k e = grind (arith, nat_tests)
 
 -- at the caller's number what the answer says, elsewhere what was there
 module _ (s : State) (n : ℕ) (call : Call) (m : Moved) where
-  kept_case : (w : ℕ) (b : Bool) → (b ≡ true → w ≡ n) → m.state.seats ≡ s.seats → seat_after (seat_of s n) call m.answer ≡ seat_of s n
+  -- For seat_step: where the move leaves the seats, and the answer says so, each seat is as said.
+  kept_case : (w : ℕ) (b : Bool) → (b ≡ true → w ≡ n) → m.state.seats ≡ s.seats
+      → seat_after (seat_of s n) call m.answer ≡ seat_of s n
       → map.get m.state.seats w ≡ (if b then seat_after (seat_of s w) call m.answer else seat_of s w)
   kept_case w true i e f = let j = i refl in ap (λ t. map.get t w) e ∙ ap (map.get s.seats) j ∙ sym f ∙ ap (λ x. seat_after (seat_of s x) call m.answer) (sym j)
   kept_case w false i e f = ap (λ t. map.get t w) e
 
-  new_case : (w : ℕ) (b : Bool) (o : Option Seat) → (b ≡ true → w ≡ n) → map.get m.state.seats w ≡ cond b o (seat_of s w) → seat_after (seat_of s n) call m.answer ≡ o
+  -- For seat_step: where only the caller's seat changes, to what the answer says, each is as said.
+  new_case : (w : ℕ) (b : Bool) (o : Option Seat) → (b ≡ true → w ≡ n) → map.get m.state.seats w
+      ≡ cond b o (seat_of s w) → seat_after (seat_of s n) call m.answer ≡ o
       → map.get m.state.seats w ≡ (if b then seat_after (seat_of s w) call m.answer else seat_of s w)
   new_case w true o i e f = e ∙ sym f ∙ ap (λ x. seat_after (seat_of s x) call m.answer) (sym (i refl))
   new_case w false o i e f = e
 
-  pub seat_step : (w : ℕ) → Seating s n call m → map.get m.state.seats w ≡ (if w == n then seat_after (seat_of s w) call m.answer else seat_of s w)
+  -- After a move the caller's number has the seat that the answer says, others their old one.
+  pub seat_step : (w : ℕ) → Seating s n call m → map.get m.state.seats w
+      ≡ (if w == n then seat_after (seat_of s w) call m.answer else seat_of s w)
   seat_step w (kept e f) = kept_case w (w == n) (number_is w n) e f
   seat_step w (sat_at x e f) =
-      new_case w (w == n) (Some x) (number_is w n) (ap (λ t. map.get t w) e ∙ map.get-insert nat_cmp_total s.seats n x w ∙ ap (λ b. cond b (Some x) (seat_of s w)) (same_number w n)) f
+      new_case w (w == n) (Some x) (number_is w n) (ap (λ t. map.get t w) e ∙ map.get-insert nat_cmp_total s.seats n x w
+      ∙ ap (λ b. cond b (Some x) (seat_of s w)) (same_number w n)) f
   seat_step w (left_at e f) =
-      new_case w (w == n) None (number_is w n) (ap (λ t. map.get t w) e ∙ map.get-remove nat_cmp_total s.seats n w ∙ ap (λ b. cond b None (seat_of s w)) (same_number w n)) f
+      new_case w (w == n) None (number_is w n) (ap (λ t. map.get t w) e ∙ map.get-remove nat_cmp_total s.seats n w
+      ∙ ap (λ b. cond b None (seat_of s w)) (same_number w n)) f
 
-seat_eq : (b : Bool) (call : Call) (a c : Result Reply Refusal) (o p : Option Seat) → c ≡ a → o ≡ p → (if b then seat_after o call a else o) ≡ (if b then seat_after p call c else p)
-seat_eq b call a c o p e f = ap (λ x. if b then seat_after o call x else o) (sym e) ∙ ap (λ x. if b then seat_after x call c else x) f
+-- Equal answers after equal seats leave equal seats, whether or not the seat's worker called.
+seat_eq : (b : Bool) (call : Call) (a c : Result Reply Refusal) (o p : Option Seat) → c ≡ a → o ≡ p
+    → (if b then seat_after o call a else o) ≡ (if b then seat_after p call c else p)
+seat_eq b call a c o p e f = ap (λ x. if b then seat_after o call x else o) (sym e)
+    ∙ ap (λ x. if b then seat_after x call c else x) f
 
-pub seats_agree : (window : ℕ) (h : List Told) → IsLegal window h → (w : ℕ) → map.get (state_of window h).seats w ≡ seat h w
+-- For seat_law: after a legal history the state's seats are those that its entries give.
+pub seats_agree : (window : ℕ) (h : List Told) → IsLegal window h → (w : ℕ)
+    → map.get (state_of window h).seats w ≡ seat h w
 seats_agree window [] l w = map.get-empty nat_cmp w
 seats_agree window (e ∷ h) l w =
-    seat_step (state_of window h) e.caller.number e.call (step_of (state_of window h) e.caller e.call) w (seating (state_of window h) e.caller e.call)
+    seat_step (state_of window h) e.caller.number e.call (step_of (state_of window h) e.caller e.call) w
+    (seating (state_of window h) e.caller e.call)
     ∙ seat_eq (w == e.caller.number) e.call _ e.answer _ _ l.0 (seats_agree window h l.2 w)
 
-pub one_holder : (window : ℕ) (h : List Told) → IsLegal window h → (v w : ℕ) (a b : Seat) → seat h v ≡ Some a → seat h w ≡ Some b → a.key ≡ b.key → v ≡ w
-one_holder window h l v w a b e f i = (whole_of window h).sat.single v w a b (seats_agree window h l v ∙ e) (seats_agree window h l w ∙ f) i
+-- For seat_law: after a legal history no two workers hold one key.
+pub one_holder : (window : ℕ) (h : List Told) → IsLegal window h → (v w : ℕ) (a b : Seat) → seat h v ≡ Some a
+    → seat h w ≡ Some b → a.key ≡ b.key → v ≡ w
+one_holder window h l v w a b e f i = (whole_of window h).sat.single v w a b (seats_agree window h l v ∙ e)
+    (seats_agree window h l w ∙ f) i

@@ -49,56 +49,75 @@ Ends q k p = (p.row ≡ row_end q.row k) ⊎ (p.row ≡ row_add (row_end q.row k
 pub data Shape (s : State) (w : ℕ) (s' : State) : Type 0 where
   same : s' ≡ s → Shape s w s'
   sat : (seat : Seat) (p : Phase) → seat_of s w ≡ Some seat → s' ≡ seated s w seat.key p → Shape s w s'
-  wrote_it : (seat : Seat) (p : Phase) (e : Event) → seat_of s w ≡ Some seat → version_of e ≡ s.store.version + 1 → s' ≡ seated (written s e) w seat.key p → Shape s w s'
-  took : (k : Place) → seat_of s w ≡ None → first s.queue.row.line ≡ Some k → s' ≡ seated (record s { queue = taken s.queue }) w k Held → Shape s w s'
-  left_it : (seat : Seat) (q : Queue) → seat_of s w ≡ Some seat → Ends s.queue seat.key q → s' ≡ record s { queue = q; seats = map.remove s.seats w } → Shape s w s'
+  wrote_it : (seat : Seat) (p : Phase) (e : Event) → seat_of s w ≡ Some seat → version_of e ≡ s.store.version + 1
+      → s' ≡ seated (written s e) w seat.key p → Shape s w s'
+  took : (k : Place) → seat_of s w ≡ None → first s.queue.row.line ≡ Some k
+      → s' ≡ seated (record s { queue = taken s.queue }) w k Held → Shape s w s'
+  left_it : (seat : Seat) (q : Queue) → seat_of s w ≡ Some seat → Ends s.queue seat.key q
+      → s' ≡ record s { queue = q; seats = map.remove s.seats w } → Shape s w s'
   stored : (e : Event) → version_of e ≡ s.store.version + 1 → s' ≡ written s e → Shape s w s'
   listed : (max : ℕ) → s' ≡ record s { mirror = fed_up s max } → Shape s w s'
   queued : (q : Queue) (ks : List Place) → q.row ≡ row_adds s.queue.row ks → s' ≡ record s { queue = q } → Shape s w s'
 
 -- ---- queues
 
-after_ends : (q : Queue) (k : Place) (at : ℕ) (b c : Bool) → q.shut ≡ b → nat_le at q.tick ≡ c → ((added_after q k at).row ≡ q.row) ⊎ ((added_after q k at).row ≡ row_add q.row k)
+-- A delayed add leaves the row, or adds the key to it, by the shutdown and the time.
+after_ends : (q : Queue) (k : Place) (at : ℕ) (b c : Bool) → q.shut ≡ b → nat_le at q.tick ≡ c
+    → ((added_after q k at).row ≡ q.row) ⊎ ((added_after q k at).row ≡ row_add q.row k)
 after_ends q k at true c e f = inl (rw e refl)
 after_ends q k at false true e f = inr (rw (e, f) refl)
 after_ends q k at false false e f = inl (rw (e, f) refl)
 
-pub where_ends : (q : Queue) (k : Place) (at : Option ℕ) → ((added_where q k at).row ≡ q.row) ⊎ ((added_where q k at).row ≡ row_add q.row k)
+-- A delayed add, if there is a next time, leaves the row or adds the key to it.
+pub where_ends : (q : Queue) (k : Place) (at : Option ℕ) → ((added_where q k at).row ≡ q.row)
+    ⊎ ((added_where q k at).row ≡ row_add q.row k)
 where_ends q k None = inl refl
 where_ends q k (Some at) = after_ends q k at q.shut (nat_le at q.tick) refl refl
 
+-- The end of a sync that went well ends the work on the key, with an add of it or none.
 pub ok_ends : (q : Queue) (k : Place) (at : Option ℕ) → Ends q k (finished_ok q k at)
 ok_ends q k at = where_ends (forgotten (ended q k) k) k at
 
+-- The end of a sync that went wrong ends the work on the key, with an add of it or none.
 pub retry_ends : (q : Queue) (k : Place) (now : ℕ) → Ends q k (finished_retry q k now)
-retry_ends q k now = after_ends (ended q k) k (now + delay (failures_of q k)) q.shut (nat_le (now + delay (failures_of q k)) q.tick) refl refl
+retry_ends q k now = after_ends (ended q k) k (now + delay (failures_of q k)) q.shut
+    (nat_le (now + delay (failures_of q k)) q.tick) refl refl
 
-add_shape : (s : State) (w : ℕ) (k : Place) (b : Bool) → s.queue.shut ≡ b → Shape s w (record s { queue = added s.queue k })
+-- An Add has the shape of adds to the queue: of the key, or of nothing after the shutdown.
+add_shape : (s : State) (w : ℕ) (k : Place) (b : Bool) → s.queue.shut ≡ b
+    → Shape s w (record s { queue = added s.queue k })
 add_shape s w k true e = queued (added s.queue k) [] (rw e refl) refl
 add_shape s w k false e = queued (added s.queue k) (k ∷ []) (rw e refl) refl
 
+-- A Tick has the shape of adds to the queue: of what is ready, or of nothing after the shutdown.
 tick_shape : (s : State) (w now : ℕ) (b : Bool) → s.queue.shut ≡ b → Shape s w (record s { queue = ticked s.queue now })
 tick_shape s w now true e = queued (ticked s.queue now) [] (rw e refl) refl
 tick_shape s w now false e = queued (ticked s.queue now) (ready s.queue.waiting now) (rw e refl) refl
 
 -- ---- a worker that holds no key
 
-first_shape : (s : State) (w : ℕ) (o : Option Place) → seat_of s w ≡ None → first s.queue.row.line ≡ o → Shape s w (take_first s w o).state
+-- A Take by a worker without a seat has the shape of a take, or of no change.
+first_shape : (s : State) (w : ℕ) (o : Option Place) → seat_of s w ≡ None → first s.queue.row.line ≡ o
+    → Shape s w (take_first s w o).state
 first_shape s w (Some k) n e = took k n e refl
 first_shape s w None n e = same refl
 
+-- A Take has one of the shapes, whether or not the worker has a seat.
 take_shape : (s : State) (w : ℕ) (o : Option Seat) → seat_of s w ≡ o → Shape s w (take_by s w o).state
 take_shape s w None e = first_shape s w (first s.queue.row.line) e refl
 take_shape s w (Some seat) e = same refl
 
 -- ---- one that holds one
 
+-- A call that needs a seat changes nothing without one, and has a shape if it has one with one.
 seat_shape : (s : State) (w : ℕ) (f : Place → Phase → Moved) (o : Option Seat) → seat_of s w ≡ o
-    → ((seat : Seat) → seat_of s w ≡ Some seat → Shape s w (f seat.key seat.phase).state) → Shape s w (by_seat s f o).state
+    → ((seat : Seat) → seat_of s w ≡ Some seat → Shape s w (f seat.key seat.phase).state)
+    → Shape s w (by_seat s f o).state
 seat_shape s w f None e h = same refl
 seat_shape s w f (Some seat) e h = h seat e
 
 module _ (s : State) (w : ℕ) (seat : Seat) (at : seat_of s w ≡ Some seat) where
+  -- A SeeCron brings the seat from Held to its next phase, and else changes nothing.
   cron_shape : (p : Phase) → Shape s w (see_cron_in s w seat.key p).state
   cron_shape Held = sat seat _ at refl
   cron_shape (Seen c) = same refl
@@ -106,6 +125,7 @@ module _ (s : State) (w : ℕ) (seat : Seat) (at : seat_of s w ≡ Some seat) wh
   cron_shape (Checked c js ks) = same refl
   cron_shape (Works work) = same refl
 
+  -- A SeeJobs brings the seat from Seen to its next phase, and else changes nothing.
   jobs_shape : (p : Phase) → Shape s w (see_jobs_in s w seat.key p).state
   jobs_shape Held = same refl
   jobs_shape (Seen c) = sat seat _ at refl
@@ -113,6 +133,7 @@ module _ (s : State) (w : ℕ) (seat : Seat) (at : seat_of s w ≡ Some seat) wh
   jobs_shape (Checked c js ks) = same refl
   jobs_shape (Works work) = same refl
 
+  -- A SeeActive brings the seat from Listed to its next phase, and else changes nothing.
   active_shape : (p : Phase) → Shape s w (see_active_in s w seat.key p).state
   active_shape Held = same refl
   active_shape (Seen c) = same refl
@@ -120,22 +141,30 @@ module _ (s : State) (w : ℕ) (seat : Seat) (at : seat_of s w ≡ Some seat) wh
   active_shape (Checked c js ks) = same refl
   active_shape (Works work) = same refl
 
-  wrote_shape : (say : Event → Reply) (p : Event → Phase) (r : Result Event Refusal) → ((e : Event) → r ≡ Ok e → version_of e ≡ s.store.version + 1) → Shape s w (wrote s w seat.key say p r).state
+  -- For claims_shape: a write stores one event and moves the seat on, or nothing changes.
+  wrote_shape : (say : Event → Reply) (p : Event → Phase) (r : Result Event Refusal)
+      → ((e : Event) → r ≡ Ok e → version_of e ≡ s.store.version + 1) → Shape s w (wrote s w seat.key say p r).state
   wrote_shape say p (Ok e) n = wrote_it seat (p e) e at (n e refl) refl
   wrote_shape say p (Err e) n = same refl
 
+  -- For claim_where_shape: a Claim of a time has a shape, whether or not the plan has a CronJob.
   claims_shape : (p : Planned) (c : Claim) (o : Option CronJob) → Shape s w (claims s w seat.key p c o).state
   claims_shape p c None = same refl
-  claims_shape p c (Some cron) = wrote_shape _ _ _ (status_version s.store seat.key cron.meta.uid cron.meta.version c.status)
+  claims_shape p c (Some cron) = wrote_shape _ _ _
+      (status_version s.store seat.key cron.meta.uid cron.meta.version c.status)
 
+  -- For rests_shape: a Claim has one of the shapes, whether of a time or of none.
   claim_where_shape : (p : Planned) (o : Option Claim) → Shape s w (claim_where s w seat.key p o).state
   claim_where_shape p None = sat seat _ at refl
   claim_where_shape p (Some c) = claims_shape p c p.cron
 
-  rests_shape : (p : Planned) (b : Bool) → Shape s w (if b then claim_where s w seat.key p p.steps.claim else refused s Stale).state
+  -- For claim_shape: a Claim has a shape, whether or not its plan rests on what the worker saw.
+  rests_shape : (p : Planned) (b : Bool) → Shape s w (if b then claim_where s w seat.key p p.steps.claim
+      else refused s Stale).state
   rests_shape p true = claim_where_shape p p.steps.claim
   rests_shape p false = same refl
 
+  -- A Claim has one of the shapes, in each phase; it changes nothing in all but Checked.
   claim_shape : (p : Planned) (q : Phase) → Shape s w (claim_in s w p seat.key q).state
   claim_shape p Held = same refl
   claim_shape p (Seen c) = same refl
@@ -143,18 +172,26 @@ module _ (s : State) (w : ℕ) (seat : Seat) (at : seat_of s w ≡ Some seat) wh
   claim_shape p (Checked c js ks) = rests_shape p (rests_on p c js ks)
   claim_shape p (Works work) = same refl
 
-  on_shape : (p : Work) (say : Event → Reply) (r : Result Event Refusal) → ((e : Event) → r ≡ Ok e → version_of e ≡ s.store.version + 1) → Shape s w (steps_on s w (next_seat seat.key p) say r).state
+  -- A step's write stores one event and brings the seat one step further, or changes nothing.
+  on_shape : (p : Work) (say : Event → Reply) (r : Result Event Refusal)
+      → ((e : Event) → r ≡ Ok e → version_of e ≡ s.store.version + 1)
+      → Shape s w (steps_on s w (next_seat seat.key p) say r).state
   on_shape p say (Ok e) n = wrote_it seat _ e at (n e refl) refl
   on_shape p say (Err e) n = same refl
 
-  drops_shape : (p : Work) (name : Place) (r : Result Event Refusal) → ((e : Event) → r ≡ Ok e → version_of e ≡ s.store.version + 1) → Shape s w (drops_it s w (next_seat seat.key p) name r).state
+  -- A drop brings the seat one step further, with an event stored if the Job was there.
+  drops_shape : (p : Work) (name : Place) (r : Result Event Refusal)
+      → ((e : Event) → r ≡ Ok e → version_of e ≡ s.store.version + 1)
+      → Shape s w (drops_it s w (next_seat seat.key p) name r).state
   drops_shape p name (Ok e) n = wrote_it seat _ e at (n e refl) refl
   drops_shape p name (Err e) n = sat seat _ at refl
 
+  -- For drop_shape: a DropNext has a shape, whether or not the next step is a drop.
   drop_where_shape : (work : Work) (o : Option JobRef) → Shape s w (drop_where s w seat.key work o).state
   drop_where_shape work None = same refl
   drop_where_shape work (Some r) = drops_shape work r.key _ (gone_version s.store r.key (Some r.uid))
 
+  -- A DropNext has one of the shapes, in each phase; it changes nothing in all but Works.
   drop_shape : (p : Phase) → Shape s w (drop_in s w seat.key p).state
   drop_shape Held = same refl
   drop_shape (Seen c) = same refl
@@ -162,10 +199,12 @@ module _ (s : State) (w : ℕ) (seat : Seat) (at : seat_of s w ≡ Some seat) wh
   drop_shape (Checked c js ks) = same refl
   drop_shape (Works work) = drop_where_shape work (as_drop (step_at work.plan.steps work.place))
 
+  -- For make_shape: a MakeNext has a shape, whether or not the next step is a making.
   make_where_shape : (work : Work) (o : Option JobDraft) → Shape s w (make_where s w seat.key work o).state
   make_where_shape work None = same refl
   make_where_shape work (Some d) = on_shape work _ _ (made_version s.store d work.plan.at)
 
+  -- A MakeNext has one of the shapes, in each phase; it changes nothing in all but Works.
   make_shape : (p : Phase) → Shape s w (make_in s w seat.key p).state
   make_shape Held = same refl
   make_shape (Seen c) = same refl
@@ -173,14 +212,19 @@ module _ (s : State) (w : ℕ) (seat : Seat) (at : seat_of s w ≡ Some seat) wh
   make_shape (Checked c js ks) = same refl
   make_shape (Works work) = make_where_shape work (as_make (step_at work.plan.steps work.place))
 
-  sets_shape : (work : Work) (status : CronStatus) (o : Option CronJob) → Shape s w (sets_it s w seat.key work status o).state
+  -- For status_where_shape: a status is set by a shape, whether or not the plan has a CronJob.
+  sets_shape : (work : Work) (status : CronStatus) (o : Option CronJob) →
+      Shape s w (sets_it s w seat.key work status o).state
   sets_shape work status None = same refl
-  sets_shape work status (Some cron) = on_shape work _ _ (status_version s.store seat.key cron.meta.uid work.version status)
+  sets_shape work status (Some cron) = on_shape work _ _
+      (status_version s.store seat.key cron.meta.uid work.version status)
 
+  -- For status_shape: a SetStatus has a shape, whether or not the next step sets a status.
   status_where_shape : (work : Work) (o : Option CronStatus) → Shape s w (status_where s w seat.key work o).state
   status_where_shape work None = same refl
   status_where_shape work (Some status) = sets_shape work status work.plan.cron
 
+  -- A SetStatus has one of the shapes, in each phase; it changes nothing in all but Works.
   status_shape : (p : Phase) → Shape s w (status_in s w seat.key p).state
   status_shape Held = same refl
   status_shape (Seen c) = same refl
@@ -188,10 +232,12 @@ module _ (s : State) (w : ℕ) (seat : Seat) (at : seat_of s w ≡ Some seat) wh
   status_shape (Checked c js ks) = same refl
   status_shape (Works work) = status_where_shape work (as_status (step_at work.plan.steps work.place))
 
+  -- For finish_shape: a Finish in the phase Works ends the seat if no step is left, or is refused.
   work_shape : (work : Work) (b : Bool) → Shape s w (finish_work s w seat.key work b).state
   work_shape work true = left_it seat _ at (ok_ends s.queue seat.key (next_ms work.plan.steps.next)) refl
   work_shape work false = same refl
 
+  -- A Finish has one of the shapes, in each phase: it ends the seat or changes nothing.
   finish_shape : (end : End) (p : Phase) → Shape s w (finish_in s w end seat.key p).state
   finish_shape (Again now) p = left_it seat _ at (retry_ends s.queue seat.key now) refl
   finish_shape Well Held = same refl
@@ -200,6 +246,7 @@ module _ (s : State) (w : ℕ) (seat : Seat) (at : seat_of s w ≡ Some seat) wh
   finish_shape Well (Checked c js ks) = same refl
   finish_shape Well (Works work) = work_shape work (is_over (step_at work.plan.steps work.place))
 
+-- Whatever call a worker makes, the move has one of the shapes.
 worker_shape : (s : State) (w : ℕ) (call : Call) → Shape s w (by_worker s w call).state
 unfolding take see_cron see_jobs see_active claim drop_next make_next set_status finish
 worker_shape s w Of.Take = take_shape s w (seat_of s w) refl
@@ -210,44 +257,61 @@ worker_shape s w (Of.Claim p) = seat_shape s w _ (seat_of s w) refl (λ seat at.
 worker_shape s w Of.DropNext = seat_shape s w _ (seat_of s w) refl (λ seat at. drop_shape s w seat at seat.phase)
 worker_shape s w Of.MakeNext = seat_shape s w _ (seat_of s w) refl (λ seat at. make_shape s w seat at seat.phase)
 worker_shape s w Of.SetStatus = seat_shape s w _ (seat_of s w) refl (λ seat at. status_shape s w seat at seat.phase)
-worker_shape s w (Of.Finish end rs) = seat_shape s w _ (seat_of s w) refl (λ seat at. finish_shape s w seat at end seat.phase)
+worker_shape s w (Of.Finish end rs) = seat_shape s w _ (seat_of s w) refl
+    (λ seat at. finish_shape s w seat at end seat.phase)
 worker_shape s w call = same refl
 
-writes_shape : (s : State) (w : ℕ) (say : Event → Reply) (r : Result Event Refusal) → ((e : Event) → r ≡ Ok e → version_of e ≡ s.store.version + 1) → Shape s w (writes s say r).state
+-- A write by one who holds no key stores its event, which has the next version, or changes nothing.
+writes_shape : (s : State) (w : ℕ) (say : Event → Reply) (r : Result Event Refusal)
+    → ((e : Event) → r ≡ Ok e → version_of e ≡ s.store.version + 1) → Shape s w (writes s say r).state
 writes_shape s w say (Ok e) n = stored e (n e refl) refl
 writes_shape s w say (Err e) n = same refl
 
+-- A GetCron changes nothing, whether the CronJob is there or not.
 found_cron_same : (s : State) (o : Option CronJob) → (found_cron s o).state ≡ s
 found_cron_same s None = refl
 found_cron_same s (Some c) = refl
 
+-- A GetJob changes nothing, whether the Job is there or not.
 found_job_same : (s : State) (o : Option Job) → (found_job s o).state ≡ s
 found_job_same s None = refl
 found_job_same s (Some j) = refl
 
+-- A Watch changes nothing, whether it tells events or is refused.
 told_same : (s : State) (r : Result (List Event) Refusal) → (told_events s r).state ≡ s
 told_same s (Ok es) = refl
 told_same s (Err e) = refl
 
+-- A reading changes nothing, nor does the refusal of a call that is none.
 pub reader_same : (s : State) (call : Call) → (by_reader s call).state ≡ s
 reader_same s (Of.GetCron k) = found_cron_same s (map.get s.store.crons k)
 reader_same s (Of.GetJob k) = found_job_same s (map.get s.store.jobs k)
 reader_same s (Of.Watch v max) = told_same s (since s.watch v max)
 reader_same s call = refl
 
+-- Whatever call a user makes has one of the shapes: an event stored, or no change.
 user_shape : (s : State) (w : ℕ) (call : Call) → Shape s w (by_user s call).state
-user_shape s w (Of.CreateCron d n) = writes_shape s w _ (map_ok cron_added (cron_created s.store d n)) (created_version s.store d n)
-user_shape s w (Of.UpdateCron d) = writes_shape s w _ (map_ok cron_modified (cron_updated s.store d)) (updated_version s.store d)
-user_shape s w (Of.DeleteCron k) = writes_shape s w _ (map_ok cron_gone (cron_deleted s.store k)) (deleted_version s.store k)
-user_shape s w (Of.CreateJob d n) = writes_shape s w _ (map_ok job_added (job_created s.store d n)) (job_version s.store d n)
-user_shape s w (Of.UpdateJob d) = writes_shape s w _ (map_ok job_modified (job_updated s.store d)) (changed_version s.store d)
-user_shape s w (Of.DeleteJob k) = writes_shape s w _ (map_ok job_gone (job_deleted s.store k None)) (gone_version s.store k None)
+user_shape s w (Of.CreateCron d n) = writes_shape s w _ (map_ok cron_added (cron_created s.store d n))
+    (created_version s.store d n)
+user_shape s w (Of.UpdateCron d) = writes_shape s w _ (map_ok cron_modified (cron_updated s.store d))
+    (updated_version s.store d)
+user_shape s w (Of.DeleteCron k) = writes_shape s w _ (map_ok cron_gone (cron_deleted s.store k))
+    (deleted_version s.store k)
+user_shape s w (Of.CreateJob d n) = writes_shape s w _ (map_ok job_added (job_created s.store d n))
+    (job_version s.store d n)
+user_shape s w (Of.UpdateJob d) = writes_shape s w _ (map_ok job_modified (job_updated s.store d))
+    (changed_version s.store d)
+user_shape s w (Of.DeleteJob k) = writes_shape s w _ (map_ok job_gone (job_deleted s.store k None))
+    (gone_version s.store k None)
 user_shape s w call = same (reader_same s call)
 
+-- Whatever call a runner makes has one of the shapes: a Job's end stored, or no change.
 runner_shape : (s : State) (w : ℕ) (call : Call) → Shape s w (by_runner s call).state
-runner_shape s w (Of.EndJob k u o n) = writes_shape s w _ (map_ok job_modified (job_ended s.store k u o n)) (ended_version s.store k u o n)
+runner_shape s w (Of.EndJob k u o n) = writes_shape s w _ (map_ok job_modified (job_ended s.store k u o n))
+    (ended_version s.store k u o n)
 runner_shape s w call = same (reader_same s call)
 
+-- Whatever call an informer makes has one of the shapes: adds, a Feed, or no change.
 informer_shape : (s : State) (w : ℕ) (call : Call) → Shape s w (by_informer s call).state
 informer_shape s w (Of.Add k) = add_shape s w k s.queue.shut refl
 informer_shape s w (Of.Tick now) = tick_shape s w now s.queue.shut refl
@@ -255,12 +319,14 @@ informer_shape s w Of.Shut = queued (closed s.queue) [] refl refl
 informer_shape s w (Of.Feed max) = listed max refl
 informer_shape s w call = same (reader_same s call)
 
+-- Whatever call a caller of whatever role makes, the move has one of the shapes.
 role_shape : (s : State) (r : Role) (w : ℕ) (call : Call) → Shape s w (by_role s r w call).state
 role_shape s Worker w call = worker_shape s w call
 role_shape s Informer w call = informer_shape s w call
 role_shape s User w call = user_shape s w call
 role_shape s Runner w call = runner_shape s w call
 
+-- In any state, whoever calls whatever, the move has one of the shapes.
 pub shape : (s : State) (caller : Caller) (call : Call) → Shape s caller.number (step_of s caller call).state
 unfolding step_of
 shape s caller call = role_shape s caller.role caller.number call

@@ -21,10 +21,12 @@ use Rattle.cj_lines.specs.declared.tellings.Tellings.{Tellings}
 
 -- ---- keys
 
+-- Where both of two are true, each of them is.
 both_true : (a b : Bool) → (a && b) ≡ true → (a ≡ true) × (b ≡ true)
 both_true true b e = (refl, e)
 both_true false b e = absurd (cc e)
 
+-- A key that tests as the same as another is that one.
 one_key : (key other : Place) → said.is_key key (Some other) ≡ true → other ≡ key
 one_key key other e =
     let parts = both_true (bytes_eq other.namespace key.namespace) (bytes_eq other.name key.name) e in
@@ -32,32 +34,39 @@ one_key key other e =
     let b : other.name ≡ key.name = (bytes_eq-Decides other.name key.name).0 parts.1 in
     λ i. record { namespace = a i; name = b i }
 
+-- A key tests as the same as itself.
 own_key : (key : Place) → said.is_key key (Some key) ≡ true
 own_key key =
     ap (λ (a : Bool). a && bytes_eq key.name key.name) ((bytes_eq-Decides key.namespace key.namespace).1 refl)
     ∙ (bytes_eq-Decides key.name key.name).1 refl
 
+-- A key that doesn't test as the same as another isn't that one.
 other_key : (key other : Place) → said.is_key key (Some other) ≡ false → key ≢ other
 other_key key other e same =
-    let own : said.is_key key (Some other) ≡ true = ap (λ (k : Place). said.is_key key (Some k)) (sym same) ∙ own_key key in
+    let own : said.is_key key (Some other) ≡ true = ap (λ (k : Place). said.is_key key (Some k)) (sym same)
+    ∙ own_key key in
     absurd (cc (sym own ∙ e))
 
 -- ---- reasons are told of a key
 
+-- For there: of the key itself a reason is told that was told before or is new.
 at_key : (before new : Bool) → (before || new) ≡ ((new && true) || before)
 at_key true true = refl
 at_key true false = refl
 at_key false true = refl
 at_key false false = refl
 
+-- For apart: of another key no reason is told but what was told before.
 elsewhere : (before new : Bool) → before ≡ ((new && false) || before)
 elsewhere before true = refl
 elsewhere before false = refl
 
 module _ (m : map.FinMap place_cmp ReasonSet) (key : Place) (reasons : List Reason) (set : ReasonSet) (adds : Adds reasons (told m key) set) (other : Place) (reason : Reason) where
   abbrev Is : Bool → Type 0
-  Is b = has reason (told (map.insert m key set) other) ≡ ((said.is_told reason reasons && b) || has reason (told m other))
+  Is b = has reason (told (map.insert m key set) other)
+      ≡ ((said.is_told reason reasons && b) || has reason (told m other))
 
+  -- Of the key itself, a reason is told that is one of the list or was told before.
   there : key ≡ other → Is true
   there same =
       ap (λ (k : Place). has reason (told (map.insert m key set) k)) (sym same)
@@ -66,26 +75,35 @@ module _ (m : map.FinMap place_cmp ReasonSet) (key : Place) (reasons : List Reas
       ∙ ap (λ (k : Place). has reason (told m k) || said.is_told reason reasons) same
       ∙ at_key (has reason (told m other)) (said.is_told reason reasons)
 
+  -- Of a key that isn't this one, a reason is told just where it was told before.
   apart : other ≢ key → Is false
   apart differ =
-      ap (λ (o : Option ReasonSet). has reason (unwrap_or o no_reason)) ((places_apart ReasonSet).put_other m key other set differ)
+      ap (λ (o : Option ReasonSet). has reason (unwrap_or o no_reason))
+      ((places_apart ReasonSet).put_other m key other set differ)
       ∙ elsewhere (has reason (told m other)) (said.is_told reason reasons)
 
+  -- For tells_put: the list's reasons are added for a key just where it tests as this one.
   either : (b : Bool) → said.is_key other (Some key) ≡ b → Is b
   either true e = there (one_key other key e)
   either false e = apart (other_key other key e)
 
 -- where a set stands at the key that has the reasons of the list too
-pub tells_put : (before after : map.FinMap place_cmp ReasonSet) (held : Option Place) (key copy : Place) (reasons : List Reason) (old new : ReasonSet)
-    → Some key ≡ held → copy ≡ key → old ≡ told before key → Adds reasons old new → after ≡ map.insert before copy new → Tells held reasons before after
+pub tells_put : (before after : map.FinMap place_cmp ReasonSet) (held : Option Place)
+    (key copy : Place) (reasons : List Reason) (old new : ReasonSet)
+    → Some key ≡ held → copy ≡ key → old ≡ told before key → Adds reasons old new → after ≡ map.insert before copy new
+    → Tells held reasons before after
 tells_put before after held key copy reasons old new is_held same at adds put other reason =
-    let adds_at : Adds reasons (told before key) new = λ r. adds r ∙ ap (λ (s : ReasonSet). has r s || said.is_told r reasons) at in
-    ap (λ (m : map.FinMap place_cmp ReasonSet). has reason (told m other)) (put ∙ ap (λ (k : Place). map.insert before k new) same)
+    let adds_at : Adds reasons (told before key) new =
+    λ r. adds r ∙ ap (λ (s : ReasonSet). has r s || said.is_told r reasons) at in
+    ap (λ (m : map.FinMap place_cmp ReasonSet). has reason (told m other))
+    (put ∙ ap (λ (k : Place). map.insert before k new) same)
     ∙ either before key reasons new adds_at other reason (said.is_key other (Some key)) refl
-    ∙ ap (λ (o : Option Place). (said.is_told reason reasons && said.is_key other o) || has reason (told before other)) is_held
+    ∙ ap (λ (o : Option Place). (said.is_told reason reasons && said.is_key other o) || has reason (told before other))
+    is_held
 
 -- ---- a history
 
+-- No reason is one of the set that has none.
 none_of : (reason : Reason) → has reason no_reason ≡ false
 none_of FailedCreate = refl
 none_of JobAlreadyActive = refl
@@ -102,7 +120,9 @@ knows_nothing t keys reasons = record {
       ∙ none_of reason;
 }
 
-accepted : (reason : Reason) (call : Call) (answer : Result Reply Refusal) → said.is_told reason (reasons_told call answer) ≡ said.tells reason call answer
+-- A reason is among those that a call tells with its answer just where their entry tells it.
+accepted : (reason : Reason) (call : Call) (answer : Result Reply Refusal)
+    → said.is_told reason (reasons_told call answer) ≡ said.tells reason call answer
 accepted reason call (Ok reply) = refl
 accepted reason call (Err refusal) = refl
 
@@ -115,16 +135,23 @@ pub knows_more : (t : Told) (before between after : Tellings) (number : ℕ) (re
 knows_more t before between after number reasons key n r k tells keys_stay takes reasons_stay h knows = record {
   keys = λ other.
       takes other
-      ∙ ap (λ (m : tree.BTreeMap ℕ Place). said.or_before (if number == other then key else None) (key_of m other)) keys_stay
+      ∙ ap (λ (m : tree.BTreeMap ℕ Place). said.or_before (if number == other then key else None) (key_of m other))
+      keys_stay
       ∙ ap (λ (x : ℕ). said.or_before (if x == other then key else None) (key_of before.keys other)) n
-      ∙ ap (λ (o : Option Place). said.or_before (if t.caller.number == other then o else None) (key_of before.keys other)) k
+      ∙ ap (λ (o : Option Place). said.or_before (if t.caller.number == other then o else None)
+      (key_of before.keys other)) k
       ∙ ap (λ (o : Option Place). said.or_before (said.taken other t) o) (knows.keys other);
   reasons = λ other reason.
       ap (λ (m : map.FinMap place_cmp ReasonSet). has reason (told m other)) reasons_stay
       ∙ tells other reason
-      ∙ ap (λ (rs : List Reason). (said.is_told reason rs && said.is_key other (key_of before.keys number)) || has reason (told before.reasons other)) r
-      ∙ ap (λ (b : Bool). (b && said.is_key other (key_of before.keys number)) || has reason (told before.reasons other)) (accepted reason t.call t.answer)
-      ∙ ap (λ (x : ℕ). (said.tells reason t.call t.answer && said.is_key other (key_of before.keys x)) || has reason (told before.reasons other)) n
-      ∙ ap (λ (o : Option Place). (said.tells reason t.call t.answer && said.is_key other o) || has reason (told before.reasons other)) (knows.keys t.caller.number)
-      ∙ ap (λ (b : Bool). (said.tells reason t.call t.answer && said.is_key other (said.held t.caller.number h)) || b) (knows.reasons other reason);
+      ∙ ap (λ (rs : List Reason). (said.is_told reason rs && said.is_key other (key_of before.keys number))
+      || has reason (told before.reasons other)) r
+      ∙ ap (λ (b : Bool). (b && said.is_key other (key_of before.keys number))
+      || has reason (told before.reasons other)) (accepted reason t.call t.answer)
+      ∙ ap (λ (x : ℕ). (said.tells reason t.call t.answer && said.is_key other (key_of before.keys x))
+      || has reason (told before.reasons other)) n
+      ∙ ap (λ (o : Option Place). (said.tells reason t.call t.answer && said.is_key other o)
+      || has reason (told before.reasons other)) (knows.keys t.caller.number)
+      ∙ ap (λ (b : Bool). (said.tells reason t.call t.answer && said.is_key other (said.held t.caller.number h)) || b)
+      (knows.reasons other reason);
 }

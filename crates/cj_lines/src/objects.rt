@@ -64,7 +64,8 @@ fn job_line(alloc: Global, job: &Job) -> Result<String, Refusal>
 }
 
 fn push_crons(text: &mut String, alloc: Global, crons: &[Shared<CronJob>]) -> Result<(), Refusal>
-    ensures ok { OnOk result (string_bytes text.new ≡ string_bytes text.old ++ said.cron_lines crons.now) }
+    ensures ok { OnOk result (string_bytes text.new
+        ≡ string_bytes text.old ++ said.cron_lines crons.now) }
     ensures err { IfErr result (λ e. e ≡ OutOfMemory) }
 {
     for cron in crons {
@@ -75,7 +76,8 @@ fn push_crons(text: &mut String, alloc: Global, crons: &[Shared<CronJob>]) -> Re
 }
 
 fn push_jobs(text: &mut String, alloc: Global, jobs: &[Shared<Job>]) -> Result<(), Refusal>
-    ensures ok { OnOk result (string_bytes text.new ≡ string_bytes text.old ++ said.job_lines jobs.now) }
+    ensures ok { OnOk result (string_bytes text.new
+        ≡ string_bytes text.old ++ said.job_lines jobs.now) }
     ensures err { IfErr result (λ e. e ≡ OutOfMemory) }
 {
     for job in jobs {
@@ -92,7 +94,8 @@ pub fn objects_text(
     crons: &[Shared<CronJob>],
     jobs: &[Shared<Job>],
 ) -> Result<String, Refusal>
-    ensures ok { IfOk result (λ s. string_bytes s ≡ said.cron_lines crons.now ++ said.job_lines jobs.now) }
+    ensures ok { IfOk result (λ s. string_bytes s
+        ≡ said.cron_lines crons.now ++ said.job_lines jobs.now) }
     ensures err { IfErr result (λ e. e ≡ OutOfMemory) }
 {
     let mut text = String::new(alloc);

@@ -64,7 +64,8 @@ fn lines_or_none(alloc: Global, key: &Key, reasons: &[Reason]) -> Result<String,
 
 #[tactic(auto, unfolding(crate::specs::Reasons::key_lines))]
 fn key_lines(alloc: Global, key: &Key, tellings: &Tellings) -> Result<String, Refusal>
-    ensures ok { IfOk result (λ s. (h : List Told) → Knows tellings.now h → string_bytes s ≡ said.key_lines key.now h) }
+    ensures ok { IfOk result (λ s. (h : List Told) → Knows tellings.now h →
+        string_bytes s ≡ said.key_lines key.now h) }
     ensures err { IfErr result (λ e. e ≡ OutOfMemory) }
 {
     let by_name = [
@@ -84,7 +85,8 @@ pub fn reasons_text(
     crons: &[Shared<CronJob>],
     entries: &[Entry],
 ) -> Result<String, Refusal>
-    ensures ok { IfOk result (λ s. string_bytes s ≡ said.reason_lines (reverse entries.now) crons.now) }
+    ensures ok { IfOk result (λ s. string_bytes s
+        ≡ said.reason_lines (reverse entries.now) crons.now) }
     ensures err { IfErr result (λ e. e ≡ OutOfMemory) }
 {
     let tellings = Tellings::read(alloc, entries)?;

@@ -136,7 +136,8 @@ impl Tellings {
 
     // The worker takes the key, if there is one.
     fn take(&mut self, alloc: Global, number: u64, key: Option<&Key>) -> Result<(), Refusal>
-        ensures keys { OnOk result (known.Takes number (option_copied key.entry) self.old.keys self.new.keys) }
+        ensures keys { OnOk result (known.Takes number (option_copied key.entry) self.old.keys
+            self.new.keys) }
         ensures reasons { self.new.reasons ≡ self.old.reasons }
         ensures err { IfErr result (λ e. e ≡ OutOfMemory) }
     {
@@ -151,7 +152,8 @@ impl Tellings {
 
     // The reasons are told of the key that the worker took last.
     fn tell(&mut self, alloc: Global, number: u64, reasons: &[Reason]) -> Result<(), Refusal>
-        ensures reasons { OnOk result (known.Tells (known.key_of self.old.keys number) reasons.now self.old.reasons self.new.reasons) }
+        ensures reasons { OnOk result (known.Tells (known.key_of self.old.keys number) reasons.now
+            self.old.reasons self.new.reasons) }
         ensures keys { self.new.keys ≡ self.old.keys }
         ensures err { IfErr result (λ e. e ≡ OutOfMemory) }
     {
@@ -168,7 +170,8 @@ impl Tellings {
 
     // An entry more, which follows those that were read.
     fn note(&mut self, alloc: Global, entry: &Entry) -> Result<(), Refusal>
-        ensures ok { OnOk result ((h : List Told) → known.Knows self.old h → known.Knows self.new (entry.now ∷ h)) }
+        ensures ok { OnOk result ((h : List Told) → known.Knows self.old h →
+            known.Knows self.new (entry.now ∷ h)) }
         ensures err { IfErr result (λ e. e ≡ OutOfMemory) }
     {
         let number = entry.caller().number;

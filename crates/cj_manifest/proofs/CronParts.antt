@@ -34,16 +34,59 @@ spec_members spec zone seconds template =
     put (codes "successfulJobsHistoryLimit") (number_data spec.successful_limit) (
     spec_head spec template))))
 
-pub spec_is : (spec : CronSpec) (zone : Option (List ℕ)) (seconds : Option ℕ) (t : Data) → SpecIs spec zone seconds t (object (spec_members spec zone seconds t))
-spec_is spec None None t = record { schedule = refl; time_zone = refl; policy = refl; suspend = refl; deadline = refl; successful = refl; failed = refl; template = refl; known = refl }
-spec_is spec None (Some n) t = record { schedule = refl; time_zone = refl; policy = refl; suspend = refl; deadline = refl; successful = refl; failed = refl; template = refl; known = refl }
-spec_is spec (Some z) None t = record { schedule = refl; time_zone = refl; policy = refl; suspend = refl; deadline = refl; successful = refl; failed = refl; template = refl; known = refl }
-spec_is spec (Some z) (Some n) t = record { schedule = refl; time_zone = refl; policy = refl; suspend = refl; deadline = refl; successful = refl; failed = refl; template = refl; known = refl }
+-- Each field of a written CronJob's spec stands at its name, and no name there is unknown.
+pub spec_is : (spec : CronSpec) (zone : Option (List ℕ)) (seconds : Option ℕ) (t : Data)
+    → SpecIs spec zone seconds t (object (spec_members spec zone seconds t))
+spec_is spec None None t = record {
+  schedule = refl;
+  time_zone = refl;
+  policy = refl;
+  suspend = refl;
+  deadline = refl;
+  successful = refl;
+  failed = refl;
+  template = refl;
+  known = refl;
+}
+spec_is spec None (Some n) t = record {
+  schedule = refl;
+  time_zone = refl;
+  policy = refl;
+  suspend = refl;
+  deadline = refl;
+  successful = refl;
+  failed = refl;
+  template = refl;
+  known = refl;
+}
+spec_is spec (Some z) None t = record {
+  schedule = refl;
+  time_zone = refl;
+  policy = refl;
+  suspend = refl;
+  deadline = refl;
+  successful = refl;
+  failed = refl;
+  template = refl;
+  known = refl;
+}
+spec_is spec (Some z) (Some n) t = record {
+  schedule = refl;
+  time_zone = refl;
+  policy = refl;
+  suspend = refl;
+  deadline = refl;
+  successful = refl;
+  failed = refl;
+  template = refl;
+  known = refl;
+}
 
 -- ---- the template
 
 abbrev pub inner_members : Entries → Entries → Members
-inner_members labels annotations = put_labels (codes "labels") labels (put_labels (codes "annotations") annotations no_members)
+inner_members labels annotations = put_labels (codes "labels") labels
+    (put_labels (codes "annotations") annotations no_members)
 
 -- the template's metadata, where it has labels or annotations
 abbrev pub inner_data : Entries → Entries → Option Data
@@ -57,8 +100,10 @@ pub record TemplateIs (ls more : Entries) (job t : Data) : Type 0 where
   pub known : dropped In.Template (Some t) ≡ []
 
 abbrev pub template_members : Entries → Entries → Data → Members
-template_members labels annotations job = put_some_object (codes "metadata") (inner_members labels annotations) (put (codes "spec") job no_members)
+template_members labels annotations job = put_some_object (codes "metadata") (inner_members labels annotations)
+    (put (codes "spec") job no_members)
 
+-- A written template has the Job's spec, and its metadata where there are labels or annotations.
 pub template_is : (ls more : Entries) (job : Data) → TemplateIs ls more job (object (template_members ls more job))
 template_is [] [] job = record { metadata = refl; spec = refl; known = refl }
 template_is [] (a ∷ others) job = record { metadata = refl; spec = refl; known = refl }
@@ -70,6 +115,7 @@ pub record InnerIs (ls more : Entries) (m : Data) : Type 0 where
   pub annotations : present (codes "annotations") m ≡ labels_data more
   pub known : dropped In.TemplateMetadata (Some m) ≡ []
 
+-- The written metadata of a template has its labels and its annotations, where there are any.
 pub inner_is : (ls more : Entries) → InnerIs ls more (object (inner_members ls more))
 inner_is [] [] = record { labels = refl; annotations = refl; known = refl }
 inner_is [] (a ∷ others) = record { labels = refl; annotations = refl; known = refl }

@@ -56,10 +56,13 @@ record IsWellFormed (zones : List Zone) (o : CronJob) (ms : Members) : Type 0 wh
 abbrev some_draft : Place → DraftMeta → CronSpec → Option CronJobDraft
 some_draft key meta spec = Some (record { key = key; meta = meta; spec = spec })
 
+-- Drafts of CronJobs with the same key, metadata and spec are the same.
 made : (k l : Place) (m n : DraftMeta) (s t : CronSpec) → k ≡ l → m ≡ n → s ≡ t → some_draft k m s ≡ some_draft l n t
 made k l m n s t hk hm hs = λ i. some_draft (hk i) (hm i) (hs i)
 
-reads_back : (zones : List Zone) (o : CronJob) (ms : Members) → IsWellFormed zones o ms → ReadsBack CronJobDraft (cron_faults zones) cron_draft cron_warnings (cron_written o) (draft_of o)
+-- A well formed CronJob can be written, and what is written reads back as the draft that it is.
+reads_back : (zones : List Zone) (o : CronJob) (ms : Members) → IsWellFormed zones o ms
+    → ReadsBack CronJobDraft (cron_faults zones) cron_draft cron_warnings (cron_written o) (draft_of o)
 reads_back zones o ms h =
     let w = cron_data o (object ms) in
     let members = metadata_members o.key o.meta [] in
@@ -68,14 +71,18 @@ reads_back zones o ms h =
     let status = cron_status_members o.key.namespace o.status in
     let written : cron_written o ≡ Some w = ap (option_map (cron_data o)) h.kept in
     let parts = whole_is (codes "CronJob") members s status in
-    let whole = whole_says Of.Cron members (spec_members o.spec o.spec.time_zone o.spec.starting_deadline_seconds t) status (cron_written_plain o w written) parts in
+    let whole = whole_says Of.Cron members (spec_members o.spec o.spec.time_zone o.spec.starting_deadline_seconds t)
+    status (cron_written_plain o w written) parts in
     let meta = meta_is o.key o.meta [] o.meta.labels o.meta.annotations in
     let back : IsFlat max_depth w =
-    whole_flat 125 (codes "CronJob") (metadata 123 o.key o.meta [] h.generation) s (cron_status 123 o.key.namespace o.status) (cron_spec_flat zones 122 o.spec (object ms) h.spec h.flat) in
+    whole_flat 125 (codes "CronJob") (metadata 123 o.key o.meta [] h.generation) s
+    (cron_status 123 o.key.namespace o.status) (cron_spec_flat zones 122 o.spec (object ms) h.spec h.flat) in
     let says = meta_says Of.Cron o.key o.meta [] (object members) h.named h.labels h.annotations meta in
     let spec = spec_says zones o.spec ms h.spec h.text h.sound in
-    let template : template_in w ≡ Some t = ap (λ r. then_do (result_ok r) (λ x. result_ok (row.job_template x))) whole.spec ∙ ap result_ok spec.template in
-    let inner : template_metadata_in w ≡ given (row.template_metadata t) = ap (λ x. then_do x (λ y. given (row.template_metadata y))) template in
+    let template : template_in w ≡ Some t = ap (λ r. then_do (result_ok r) (λ x. result_ok (row.job_template x)))
+    whole.spec ∙ ap result_ok spec.template in
+    let inner : template_metadata_in w ≡ given (row.template_metadata t) =
+    ap (λ x. then_do x (λ y. given (row.template_metadata y))) template in
     record {
       value = w;
       written = written;
@@ -88,7 +95,8 @@ reads_back zones o ms h =
             ∙ made _ _ _ _ _ _ says.key_is says.meta_is spec.said;
         warned = sym (
             no_faults _ _ (no_faults _ _ (no_faults _ _ (no_faults _ _ (no_faults _ _ parts.current parts.known)
-            (ap (λ r. dropped In.CronMetadata (result_ok r)) whole.metadata ∙ cron_meta_known o.key o.meta o.meta.labels o.meta.annotations))
+            (ap (λ r. dropped In.CronMetadata (result_ok r)) whole.metadata
+            ∙ cron_meta_known o.key o.meta o.meta.labels o.meta.annotations))
             (ap (λ r. dropped In.CronSpec (result_ok r)) whole.spec ∙ spec.known))
             (ap (dropped In.Template) template ∙ spec.template_known))
             (ap (dropped In.TemplateMetadata) inner ∙ spec.inner_known));
@@ -97,9 +105,11 @@ reads_back zones o ms h =
 
 -- ---- from the manifest on
 
+-- A Job's spec that nests as deep as a CronJob's manifest lets it is not too deep to be read.
 below : 124 ≤ max_depth
 below = omega arith
 
+-- For manifest_laws: a CronJob that has what a manifest says reads back as that manifest's draft.
 pub cron_reads_back : CronReadsBack
 cron_reads_back zones bytes draft warnings o reading is =
     let d = reading.value in
@@ -107,12 +117,15 @@ cron_reads_back zones bytes draft warnings o reading is =
     let m = metadata_clear Of.Cron d (nil_left _ _ rows.1) in
     let s = clear_rows At.Spec (cron_spec_faults zones) (row.spec d) (nil_right _ _ rows.1) in
     let t = clear_rows At.JobTemplate template_faults (row.job_template s.object) (nil_right _ _ s.clear) in
-    let j = clear_rows At.JobTemplateSpec (job_spec_faults template_fields) (row.job_spec t.object) (nil_right _ _ t.clear) in
+    let j = clear_rows At.JobTemplateSpec (job_spec_faults template_fields) (row.job_spec t.object)
+    (nil_right _ _ t.clear) in
     let spec_found = sym (ap result_ok s.there) in
     let template_found = sym (ap result_ok t.there) in
     let job_found = sym (ap result_ok j.there) in
     let body = object_is _ j.object j.there in
-    let source = same_some draft _ (sym reading.drafted ∙ step (row.metadata d) m.object _ m.there ∙ step (row.spec d) s.object _ s.there ∙ step (row.job_template s.object) t.object _ t.there ∙ step (row.job_spec t.object) j.object _ j.there) in
+    let source = same_some draft _ (sym reading.drafted ∙ step (row.metadata d) m.object _ m.there
+    ∙ step (row.spec d) s.object _ s.there ∙ step (row.job_template s.object) t.object _ t.there
+    ∙ step (row.job_spec t.object) j.object _ j.there) in
     let key = is.key ∙ ap (λ r. r.key) source in
     let spec = is.spec ∙ ap (λ r. r.spec) source in
     let text = ap (λ r. r.template.spec) spec in
@@ -127,11 +140,21 @@ cron_reads_back zones bytes draft warnings o reading is =
     let back_job = object_back (codes "spec") t.object j.object back_template job_found in
     let kept = kept_as_read j.object back_job plain_job (depth-most j.object 124 max_depth flat_job below) in
     let same : draft_of o ≡ record draft { meta = identified draft.meta o.meta } =
-    λ i. record { key = is.key i; meta = record (meta_draft o.meta) { labels = is.meta.labels i; annotations = is.meta.annotations i }; spec = is.spec i } in
-    subst (ReadsBack CronJobDraft (cron_faults zones) cron_draft cron_warnings (cron_written o)) same (reads_back zones o body.0 (record {
+    λ i. record {
+      key = is.key i;
+      meta = record (meta_draft o.meta) {
+        labels = is.meta.labels i;
+        annotations = is.meta.annotations i;
+      };
+      spec = is.spec i;
+    } in
+    subst (ReadsBack CronJobDraft (cron_faults zones) cron_draft cron_warnings (cron_written o)) same
+    (reads_back zones o body.0 (record {
       named = subst (IsNamedWell Of.Cron) (sym key) (named_well Of.Cron m.object (named Of.Cron m.object m.clear));
-      labels = subst (λ l. rises l) (sym (is.meta.labels ∙ ap (λ r. r.meta.labels) source)) (in_order (given (row.labels m.object)));
-      annotations = subst (λ l. rises l) (sym (is.meta.annotations ∙ ap (λ r. r.meta.annotations) source)) (in_order (given (row.annotations m.object)));
+      labels = subst (λ l. rises l) (sym (is.meta.labels ∙ ap (λ r. r.meta.labels) source))
+          (in_order (given (row.labels m.object)));
+      annotations = subst (λ l. rises l) (sym (is.meta.annotations ∙ ap (λ r. r.meta.annotations) source))
+          (in_order (given (row.annotations m.object)));
       spec = subst (IsFineSpec zones) (sym spec) (fine_spec zones s.object t.object j.object s.clear);
       kept = ap kept_value text ∙ kept ∙ ap Some body.1;
       text = ap compact_text (sym body.1) ∙ sym text;

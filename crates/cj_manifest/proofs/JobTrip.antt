@@ -50,10 +50,14 @@ record IsWellFormed (o : Job) (ms : Members) : Type 0 where
 abbrev some_draft : Place → DraftMeta → List OwnerRef → List ℕ → Option JobDraft
 some_draft key meta owners spec = Some (record { key = key; meta = meta; owners = owners; spec = spec })
 
-made : (k l : Place) (m n : DraftMeta) (os ps : List OwnerRef) (s t : List ℕ) → k ≡ l → m ≡ n → os ≡ ps → s ≡ t → some_draft k m os s ≡ some_draft l n ps t
+-- Drafts of Jobs with the same key, metadata, owners and spec are the same.
+made : (k l : Place) (m n : DraftMeta) (os ps : List OwnerRef) (s t : List ℕ) → k ≡ l → m ≡ n → os ≡ ps → s ≡ t
+    → some_draft k m os s ≡ some_draft l n ps t
 made k l m n os ps s t hk hm ho hs = λ i. some_draft (hk i) (hm i) (ho i) (hs i)
 
-reads_back : (o : Job) (ms : Members) → IsWellFormed o ms → ReadsBack JobDraft job_faults job_draft job_warnings (job_written o) (draft_of o)
+-- A well formed Job can be written, and what is written reads back as the draft that it is.
+reads_back : (o : Job) (ms : Members) → IsWellFormed o ms
+    → ReadsBack JobDraft job_faults job_draft job_warnings (job_written o) (draft_of o)
 reads_back o ms h =
     let w = job_data o (object ms) in
     let members = metadata_members o.key o.meta o.owners in
@@ -61,7 +65,8 @@ reads_back o ms h =
     let parts = whole_is (codes "Job") members (object ms) (job_status_members o.outcome) in
     let whole = whole_says Of.Job members ms (job_status_members o.outcome) (job_written_plain o w written) parts in
     let meta = meta_is o.key o.meta (map owner_data o.owners) o.meta.labels o.meta.annotations in
-    let back : IsFlat max_depth w = whole_flat 125 (codes "Job") (metadata 123 o.key o.meta o.owners h.generation) (object ms) (job_status 123 o.outcome) h.flat in
+    let back : IsFlat max_depth w = whole_flat 125 (codes "Job") (metadata 123 o.key o.meta o.owners h.generation)
+    (object ms) (job_status 123 o.outcome) h.flat in
     let says = meta_says Of.Job o.key o.meta o.owners (object members) h.named h.labels h.annotations meta in
     record {
       value = w;
@@ -72,15 +77,18 @@ reads_back o ms h =
         drafted =
             step (row.metadata w) (object members) _ whole.metadata ∙ step (row.spec w) (object ms) _ whole.spec
             ∙ made _ _ _ _ _ _ _ _ says.key_is says.meta_is says.owners_are h.text;
-        warned = sym (no_faults _ _ parts.known (ap (λ r. dropped In.JobMetadata (result_ok r)) whole.metadata ∙ meta.known));
+        warned = sym (no_faults _ _ parts.known (ap (λ r. dropped In.JobMetadata (result_ok r)) whole.metadata
+            ∙ meta.known));
       };
     }
 
 -- ---- from the manifest on
 
+-- A Job's spec that nests as deep as a Job's manifest lets it is not too deep to be read.
 below : 126 ≤ max_depth
 below = omega arith
 
+-- For manifest_laws: a Job that has what a manifest says reads back as that manifest's draft.
 pub job_reads_back : JobReadsBack
 job_reads_back bytes draft warnings o reading is =
     let d = reading.value in
@@ -90,7 +98,8 @@ job_reads_back bytes draft warnings o reading is =
     let s = clear_rows At.Spec (job_spec_faults job_fields) (row.spec d) (nil_right _ _ rows.1) in
     let found = sym (ap result_ok s.there) in
     let body = object_is _ s.object s.there in
-    let source = same_some draft _ (sym reading.drafted ∙ step (row.metadata d) m.object _ m.there ∙ step (row.spec d) s.object _ s.there) in
+    let source = same_some draft _ (sym reading.drafted ∙ step (row.metadata d) m.object _ m.there
+    ∙ step (row.spec d) s.object _ s.there) in
     let key = is.key ∙ ap (λ r. r.key) source in
     let text = is.spec ∙ ap (λ r. r.spec) source in
     let plain_spec = no_float-object (codes "spec") d s.object rows.0 found in
@@ -98,11 +107,21 @@ job_reads_back bytes draft warnings o reading is =
     let back = object_back (codes "spec") d s.object (was_read bytes d reading.reads.1) found in
     let kept = kept_as_read s.object back plain_spec (depth-most s.object 126 max_depth flat below) in
     let same : draft_of o ≡ record draft { meta = identified draft.meta o.meta } =
-    λ i. record { key = is.key i; meta = record (meta_draft o.meta) { labels = is.meta.labels i; annotations = is.meta.annotations i }; owners = is.owners i; spec = is.spec i } in
+    λ i. record {
+      key = is.key i;
+      meta = record (meta_draft o.meta) {
+        labels = is.meta.labels i;
+        annotations = is.meta.annotations i;
+      };
+      owners = is.owners i;
+      spec = is.spec i;
+    } in
     subst (ReadsBack JobDraft job_faults job_draft job_warnings (job_written o)) same (reads_back o body.0 (record {
       named = subst (IsNamedWell Of.Job) (sym key) (named_well Of.Job m.object (named Of.Job m.object m.clear));
-      labels = subst (λ l. rises l) (sym (is.meta.labels ∙ ap (λ r. r.meta.labels) source)) (in_order (given (row.labels m.object)));
-      annotations = subst (λ l. rises l) (sym (is.meta.annotations ∙ ap (λ r. r.meta.annotations) source)) (in_order (given (row.annotations m.object)));
+      labels = subst (λ l. rises l) (sym (is.meta.labels ∙ ap (λ r. r.meta.labels) source))
+          (in_order (given (row.labels m.object)));
+      annotations = subst (λ l. rises l) (sym (is.meta.annotations ∙ ap (λ r. r.meta.annotations) source))
+          (in_order (given (row.annotations m.object)));
       kept = ap kept_value text ∙ kept ∙ ap Some body.1;
       text = ap compact_text (sym body.1) ∙ sym text;
       sound = subst (λ x. job_spec_faults job_fields x ≡ []) body.1 s.clear;

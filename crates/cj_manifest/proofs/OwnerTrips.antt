@@ -9,13 +9,16 @@ use Rattle.cj_manifest.specs.Owners.{owner, owners, all_owners, owner_list}
 use Rattle.cj_manifest.specs.RowKinds.{optional}
 use Rattle.cj_manifest.specs.Drafts.{given, owners_in}
 
+-- An owner reference that is written reads back as it is.
 owner_back : (o : OwnerRef) → owner (owner_data o) ≡ Some o
 owner_back o = refl
 
+-- Each item that is written of owner references is an owner reference.
 owners_alone : (os : List OwnerRef) → all_owners (items_of (map owner_data os)) ≡ true
 owners_alone [] = refl
 owners_alone (o ∷ os) = owners_alone os
 
+-- The items that are written of owner references read back as these, in their order.
 owners_back : (os : List OwnerRef) → owner_list (items_of (map owner_data os)) ≡ os
 owners_back [] = refl
 owners_back (o ∷ os) = ap (λ rest. o ∷ rest) (owners_back os)

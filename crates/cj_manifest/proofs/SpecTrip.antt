@@ -34,7 +34,9 @@ pub record IsFineSpec (zones : List Zone) (spec : CronSpec) : Type 0 where
   pub labels : rises spec.template.labels
   pub annotations : rises spec.template.annotations
 
-pub fine_spec : (zones : List Zone) (s t j : Data) → cron_spec_faults zones s ≡ [] → IsFineSpec zones (cron_spec_of s (template_of t j))
+-- A CronJob's spec from a manifest without a fault is fine: each field is in range and in order.
+pub fine_spec : (zones : List Zone) (s t j : Data) → cron_spec_faults zones s ≡ []
+    → IsFineSpec zones (cron_spec_of s (template_of t j))
 fine_spec zones s t j h =
     let timing = nil_left (timing_faults zones s) _ (nil_left _ _ h) in
     let first = nil_left _ _ (nil_left _ _ timing) in
@@ -59,14 +61,18 @@ pub record SpecSays (zones : List Zone) (spec : CronSpec) (t j s : Data) : Type 
   pub template_known : dropped In.Template (Some t) ≡ []
   pub inner_known : dropped In.TemplateMetadata (given (row.template_metadata t)) ≡ []
 
-pub spec_says : (zones : List Zone) (spec : CronSpec) (ms : Members) → IsFineSpec zones spec → compact_text (object ms) ≡ spec.template.spec → job_spec_faults template_fields (object ms) ≡ []
+-- What is written of a fine spec has no fault and no unknown name, and says that spec.
+pub spec_says : (zones : List Zone) (spec : CronSpec) (ms : Members) → IsFineSpec zones spec
+    → compact_text (object ms) ≡ spec.template.spec → job_spec_faults template_fields (object ms) ≡ []
     → SpecSays zones spec (template_data spec.template (object ms)) (object ms) (cron_spec_data spec (object ms))
 spec_says zones spec ms fine text sound =
     let t = template_data spec.template (object ms) in
     let s = cron_spec_data spec (object ms) in
-    let is : SpecIs spec spec.time_zone spec.starting_deadline_seconds t s = spec_is spec spec.time_zone spec.starting_deadline_seconds t in
+    let is : SpecIs spec spec.time_zone spec.starting_deadline_seconds t s =
+    spec_is spec spec.time_zone spec.starting_deadline_seconds t in
     let inner : TemplateSays spec.template.labels spec.template.annotations (object ms) t =
-    template_says spec.template.labels spec.template.annotations ms t (template_is spec.template.labels spec.template.annotations (object ms)) fine.labels fine.annotations sound in
+    template_says spec.template.labels spec.template.annotations ms t
+    (template_is spec.template.labels spec.template.annotations (object ms)) fine.labels fine.annotations sound in
     let schedule = schedule_row spec.schedule _ is.schedule fine.schedule in
     let policy = policy_row spec.policy _ is.policy in
     let suspend : row.suspend s ≡ Ok spec.suspend = ap (or_default false truth) is.suspend in

@@ -23,20 +23,25 @@ record InnerSays (ls more : Entries) (r : Result (Option Data) Cause) : Type 0 w
   pub annotations : template_annotations (given r) ≡ more
   pub known : dropped In.TemplateMetadata (given r) ≡ []
 
-some_inner : (ls more : Entries) → rises ls → rises more → InnerSays ls more (Ok (Some (object (inner_members ls more))))
+-- For inner_says: a template's written metadata has no fault, and says its labels and annotations.
+some_inner : (ls more : Entries) → rises ls → rises more
+    → InnerSays ls more (Ok (Some (object (inner_members ls more))))
 some_inner ls more h k =
     let m = object (inner_members ls more) in
     let is = inner_is ls more in
     record {
       sound =
           no_faults _ _
-          (no_fault At.JobTemplateLabels (row.labels m) (ap (λ o. result_err (optional texts o)) is.labels ∙ labels_sound ls h))
-          (no_fault At.JobTemplateAnnotations (row.annotations m) (ap (λ o. result_err (optional texts o)) is.annotations ∙ labels_sound more k));
+          (no_fault At.JobTemplateLabels (row.labels m) (ap (λ o. result_err (optional texts o)) is.labels
+          ∙ labels_sound ls h))
+          (no_fault At.JobTemplateAnnotations (row.annotations m)
+          (ap (λ o. result_err (optional texts o)) is.annotations ∙ labels_sound more k));
       labels = ap (λ o. label_map (given (optional texts o))) is.labels ∙ labels_said ls h;
       annotations = ap (λ o. label_map (given (optional texts o))) is.annotations ∙ labels_said more k;
       known = is.known;
     }
 
+-- A template's metadata, written or left out as empty, has no fault and says what the template has.
 inner_says : (ls more : Entries) → rises ls → rises more → InnerSays ls more (optional an_object (inner_data ls more))
 inner_says [] [] h k = record { sound = refl; labels = refl; annotations = refl; known = refl }
 inner_says [] (a ∷ others) h k = some_inner [] (a ∷ others) h k
@@ -52,11 +57,14 @@ pub record TemplateSays (ls more : Entries) (j t : Data) : Type 0 where
   pub known : dropped In.Template (Some t) ≡ []
   pub inner : dropped In.TemplateMetadata (given (row.template_metadata t)) ≡ []
 
-pub template_says : (ls more : Entries) (ms : Members) (t : Data) → TemplateIs ls more (object ms) t → rises ls → rises more → job_spec_faults template_fields (object ms) ≡ []
+-- A written template has no fault, and says its labels, its annotations and the Job's spec.
+pub template_says : (ls more : Entries) (ms : Members) (t : Data) → TemplateIs ls more (object ms) t → rises ls
+    → rises more → job_spec_faults template_fields (object ms) ≡ []
     → TemplateSays ls more (object ms) t
 template_says ls more ms t is h k sound =
     let inner = inner_says ls more h k in
-    let same : row.template_metadata t ≡ optional an_object (inner_data ls more) = ap (optional an_object) is.metadata in
+    let same : row.template_metadata t ≡ optional an_object (inner_data ls more) =
+    ap (optional an_object) is.metadata in
     let job : row.job_spec t ≡ Ok (object ms) = ap (required an_object) is.spec in
     record {
       sound =
@@ -72,10 +80,12 @@ template_says ls more ms t is h k sound =
 
 -- ---- of a manifest
 
+-- The labels that a manifest gives the template are in order.
 pub labels_rise : (m : Option Data) → rises (template_labels m)
 labels_rise None = tt
 labels_rise (Some m) = in_order (given (row.labels m))
 
+-- The annotations that a manifest gives the template are in order.
 pub annotations_rise : (m : Option Data) → rises (template_annotations m)
 annotations_rise None = tt
 annotations_rise (Some m) = in_order (given (row.annotations m))

@@ -16,6 +16,7 @@ use Rattle.cj_manifest.specs.Table as row
 use Rattle.cj_manifest.proofs.MetaTrip.{no_faults, no_fault}
 use Rattle.cj_manifest.proofs.WrittenParts.{WholeIs}
 
+-- Two things that are the same once found are the same.
 pub same_some : {A : Type 0} (x y : A) → Some x ≡ Some y → x ≡ y
 same_some x y h = cc h
 
@@ -37,15 +38,21 @@ pub record WholeSays (k : ObjectKind) (m s : Data) (w : Data) : Type 0 where
   pub metadata : row.metadata w ≡ Ok m
   pub spec : row.spec w ≡ Ok s
 
-version_row : (k : ObjectKind) (o : Option Data) → o ≡ Some (string (codes "batch/v1")) → result_err (required (row.supported k) o) ≡ None
+-- The row of the API version has no cause where batch/v1 is written, for either kind.
+version_row : (k : ObjectKind) (o : Option Data) → o ≡ Some (string (codes "batch/v1"))
+    → result_err (required (row.supported k) o) ≡ None
 version_row Of.Cron o h = ap (λ x. result_err (required (row.supported Of.Cron) x)) h
 version_row Of.Job o h = ap (λ x. result_err (required (row.supported Of.Job) x)) h
 
-kind_row : (k : ObjectKind) (o : Option Data) → o ≡ Some (string (row.kind_name k)) → result_err (required (choice (row.kind_name k)) o) ≡ None
+-- The row of the kind has no cause where the name of the kind is written.
+kind_row : (k : ObjectKind) (o : Option Data) → o ≡ Some (string (row.kind_name k))
+    → result_err (required (choice (row.kind_name k)) o) ≡ None
 kind_row Of.Cron o h = ap (λ x. result_err (required (choice (codes "CronJob")) x)) h
 kind_row Of.Job o h = ap (λ x. result_err (required (choice (codes "Job")) x)) h
 
-pub whole_says : (k : ObjectKind) (metadata ms status : Members) → has_float (object_data (row.kind_name k) metadata (object ms) status) ≡ false
+-- A written object without a float has the rows of its top: version, kind, metadata and spec.
+pub whole_says : (k : ObjectKind) (metadata ms status : Members)
+    → has_float (object_data (row.kind_name k) metadata (object ms) status) ≡ false
     → WholeIs (row.kind_name k) metadata (object ms) (object_data (row.kind_name k) metadata (object ms) status)
     → WholeSays k (object metadata) (object ms) (object_data (row.kind_name k) metadata (object ms) status)
 whole_says k metadata ms status plain is =
@@ -59,11 +66,13 @@ whole_says k metadata ms status plain is =
     }
 
 -- no fault stands in it where none stands in its metadata and its spec
-pub whole_sound : (k : ObjectKind) (metadata spec w : Data) (spec_faults : Data → List FieldFault) → WholeSays k metadata spec w → metadata_faults k metadata ≡ [] → spec_faults spec ≡ []
+pub whole_sound : (k : ObjectKind) (metadata spec w : Data) (spec_faults : Data → List FieldFault)
+    → WholeSays k metadata spec w → metadata_faults k metadata ≡ [] → spec_faults spec ≡ []
     → with_rows At.Whole (object_faults k spec_faults) (row.whole w) ≡ []
 whole_sound k metadata spec w spec_faults says in_metadata in_spec =
     ap (with_rows At.Whole (object_faults k spec_faults)) says.whole
     ∙ no_faults _ _
-    (no_faults _ _ (no_faults _ _ (no_fault At.ApiVersion (row.api_version k w) says.api_version) (no_fault At.Kind (row.kind k w) says.kind))
+    (no_faults _ _ (no_faults _ _ (no_fault At.ApiVersion (row.api_version k w) says.api_version)
+    (no_fault At.Kind (row.kind k w) says.kind))
     (ap (with_rows At.Metadata (metadata_faults k)) says.metadata ∙ in_metadata))
     (ap (with_rows At.Spec spec_faults) says.spec ∙ in_spec)

@@ -23,14 +23,31 @@ pub record WholeIs (k : List ℕ) (m : Members) (s : Data) (w : Data) : Type 0 w
   pub current : version_warnings w ≡ []
   pub known : dropped In.Top (Some w) ≡ []
 
-pub whole_is : (kind : List ℕ) (metadata : Members) (spec : Data) (status : Members) → WholeIs kind metadata spec (object_data kind metadata spec status)
-whole_is kind metadata spec no_members = record { api_version = refl; kind = refl; metadata = refl; spec = refl; current = refl; known = refl }
-whole_is kind metadata spec (member k d ms) = record { api_version = refl; kind = refl; metadata = refl; spec = refl; current = refl; known = refl }
+-- A written object has version, kind, metadata and spec at their names, and nothing to warn of.
+pub whole_is : (kind : List ℕ) (metadata : Members) (spec : Data) (status : Members)
+    → WholeIs kind metadata spec (object_data kind metadata spec status)
+whole_is kind metadata spec no_members = record {
+  api_version = refl;
+  kind = refl;
+  metadata = refl;
+  spec = refl;
+  current = refl;
+  known = refl;
+}
+whole_is kind metadata spec (member k d ms) = record {
+  api_version = refl;
+  kind = refl;
+  metadata = refl;
+  spec = refl;
+  current = refl;
+  known = refl;
+}
 
 -- ---- metadata
 
 abbrev pub with_lists : List Data → Entries → Entries → Members → Members
-with_lists owners labels annotations ms = put_some_list (codes "ownerReferences") owners (put_labels (codes "labels") labels (put_labels (codes "annotations") annotations ms))
+with_lists owners labels annotations ms = put_some_list (codes "ownerReferences") owners
+    (put_labels (codes "labels") labels (put_labels (codes "annotations") annotations ms))
 
 pub record MetaIs (key : Place) (meta : Meta) (os : List Data) (ls more : Entries) (m : Data) : Type 0 where
   pub name : present (codes "name") m ≡ Some (string key.name)
@@ -42,18 +59,93 @@ pub record MetaIs (key : Place) (meta : Meta) (os : List Data) (ls more : Entrie
   pub owners : present (codes "ownerReferences") m ≡ list_data os
   pub known : dropped In.JobMetadata (Some m) ≡ []
 
-pub meta_is : (key : Place) (meta : Meta) (owners : List Data) (labels annotations : Entries) → MetaIs key meta owners labels annotations (object (with_lists owners labels annotations (identity key meta)))
-meta_is key meta [] [] [] = record { name = refl; namespace = refl; uid = refl; version = refl; labels = refl; annotations = refl; owners = refl; known = refl }
-meta_is key meta [] [] (a ∷ more) = record { name = refl; namespace = refl; uid = refl; version = refl; labels = refl; annotations = refl; owners = refl; known = refl }
-meta_is key meta [] (l ∷ ls) [] = record { name = refl; namespace = refl; uid = refl; version = refl; labels = refl; annotations = refl; owners = refl; known = refl }
-meta_is key meta [] (l ∷ ls) (a ∷ more) = record { name = refl; namespace = refl; uid = refl; version = refl; labels = refl; annotations = refl; owners = refl; known = refl }
-meta_is key meta (o ∷ os) [] [] = record { name = refl; namespace = refl; uid = refl; version = refl; labels = refl; annotations = refl; owners = refl; known = refl }
-meta_is key meta (o ∷ os) [] (a ∷ more) = record { name = refl; namespace = refl; uid = refl; version = refl; labels = refl; annotations = refl; owners = refl; known = refl }
-meta_is key meta (o ∷ os) (l ∷ ls) [] = record { name = refl; namespace = refl; uid = refl; version = refl; labels = refl; annotations = refl; owners = refl; known = refl }
-meta_is key meta (o ∷ os) (l ∷ ls) (a ∷ more) = record { name = refl; namespace = refl; uid = refl; version = refl; labels = refl; annotations = refl; owners = refl; known = refl }
+-- Written metadata has each part at its name, owners, labels and annotations where there are any.
+pub meta_is : (key : Place) (meta : Meta) (owners : List Data) (labels annotations : Entries)
+    → MetaIs key meta owners labels annotations (object (with_lists owners labels annotations (identity key meta)))
+meta_is key meta [] [] [] = record {
+  name = refl;
+  namespace = refl;
+  uid = refl;
+  version = refl;
+  labels = refl;
+  annotations = refl;
+  owners = refl;
+  known = refl;
+}
+meta_is key meta [] [] (a ∷ more) = record {
+  name = refl;
+  namespace = refl;
+  uid = refl;
+  version = refl;
+  labels = refl;
+  annotations = refl;
+  owners = refl;
+  known = refl;
+}
+meta_is key meta [] (l ∷ ls) [] = record {
+  name = refl;
+  namespace = refl;
+  uid = refl;
+  version = refl;
+  labels = refl;
+  annotations = refl;
+  owners = refl;
+  known = refl;
+}
+meta_is key meta [] (l ∷ ls) (a ∷ more) = record {
+  name = refl;
+  namespace = refl;
+  uid = refl;
+  version = refl;
+  labels = refl;
+  annotations = refl;
+  owners = refl;
+  known = refl;
+}
+meta_is key meta (o ∷ os) [] [] = record {
+  name = refl;
+  namespace = refl;
+  uid = refl;
+  version = refl;
+  labels = refl;
+  annotations = refl;
+  owners = refl;
+  known = refl;
+}
+meta_is key meta (o ∷ os) [] (a ∷ more) = record {
+  name = refl;
+  namespace = refl;
+  uid = refl;
+  version = refl;
+  labels = refl;
+  annotations = refl;
+  owners = refl;
+  known = refl;
+}
+meta_is key meta (o ∷ os) (l ∷ ls) [] = record {
+  name = refl;
+  namespace = refl;
+  uid = refl;
+  version = refl;
+  labels = refl;
+  annotations = refl;
+  owners = refl;
+  known = refl;
+}
+meta_is key meta (o ∷ os) (l ∷ ls) (a ∷ more) = record {
+  name = refl;
+  namespace = refl;
+  uid = refl;
+  version = refl;
+  labels = refl;
+  annotations = refl;
+  owners = refl;
+  known = refl;
+}
 
 -- a CronJob's has no owners
-pub cron_meta_known : (key : Place) (meta : Meta) (labels annotations : Entries) → dropped In.CronMetadata (Some (object (with_lists [] labels annotations (identity key meta)))) ≡ []
+pub cron_meta_known : (key : Place) (meta : Meta) (labels annotations : Entries)
+    → dropped In.CronMetadata (Some (object (with_lists [] labels annotations (identity key meta)))) ≡ []
 cron_meta_known key meta [] [] = refl
 cron_meta_known key meta [] (a ∷ more) = refl
 cron_meta_known key meta (l ∷ ls) [] = refl

@@ -111,7 +111,8 @@ fn kept(alloc: Global, value: &Value) -> Result<SpecText, Refusal>
 }
 
 fn template_labels(alloc: Global, metadata: Option<&Value>) -> Result<Labels, Refusal>
-    ensures ok { IfOk result (λ l. l ≡ said.template_labels (option_map (λ v. view v.now) metadata.entry)) }
+    ensures ok { IfOk result (λ l. l ≡ said.template_labels
+        (option_map (λ v. view v.now) metadata.entry)) }
     ensures err { IfErr result (λ e. e ≡ OutOfMemory) }
 {
     match metadata {
@@ -121,7 +122,8 @@ fn template_labels(alloc: Global, metadata: Option<&Value>) -> Result<Labels, Re
 }
 
 fn template_annotations(alloc: Global, metadata: Option<&Value>) -> Result<Labels, Refusal>
-    ensures ok { IfOk result (λ l. l ≡ said.template_annotations (option_map (λ v. view v.now) metadata.entry)) }
+    ensures ok { IfOk result (λ l. l ≡ said.template_annotations
+        (option_map (λ v. view v.now) metadata.entry)) }
     ensures err { IfErr result (λ e. e ≡ OutOfMemory) }
 {
     match metadata {
@@ -174,7 +176,8 @@ fn cron_spec(
     requires plain { has_float (view job_spec.now) ≡ false }
     requires flat { depth (view job_spec.now) ≤ max_depth }
     ensures kept { IfOk result (λ s. IsKept s.template.spec) }
-    ensures ok { IfOk result (λ s. s ≡ said.cron_spec_of (view spec.now) (said.template_of (view job_template.now) (view job_spec.now))) }
+    ensures ok { IfOk result (λ s. s ≡ said.cron_spec_of (view spec.now)
+        (said.template_of (view job_template.now) (view job_spec.now))) }
     ensures err { IfErr result (λ e. e ≡ OutOfMemory) }
 {
     Ok(CronSpec {

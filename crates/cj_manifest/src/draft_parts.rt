@@ -27,7 +27,8 @@ pub(crate) fn given_text(alloc: Global, text: Option<&str>) -> Result<Option<Tex
 }
 
 fn put_member(labels: &mut Labels, alloc: Global, key: &str, member: &Value) -> Result<(), Refusal>
-    ensures ok { OnOk result (labels.new ≡ said.with_label key.now (as_str (view member.now)) labels.old) }
+    ensures ok { OnOk result (labels.new ≡ said.with_label key.now (as_str (view member.now))
+        labels.old) }
     ensures err { IfErr result (λ e. e ≡ OutOfMemory) }
 {
     match member.as_str() {
@@ -52,7 +53,8 @@ pub(crate) fn label_map(
     alloc: Global,
     members: Option<&Map<String, Value>>,
 ) -> Result<Labels, Refusal>
-    ensures ok { IfOk result (λ l. l ≡ said.label_map (option_map (λ m. members_view m.now.entries) members.entry)) }
+    ensures ok { IfOk result (λ l. l ≡ said.label_map
+        (option_map (λ m. members_view m.now.entries) members.entry)) }
     ensures err { IfErr result (λ e. e ≡ OutOfMemory) }
 {
     match members {
@@ -98,7 +100,8 @@ fn owners_of(alloc: Global, items: &Vec<Value>) -> Result<OwnerRefs, Refusal>
 
 /// The owner references, where there are any.
 pub(crate) fn owner_list(alloc: Global, items: Option<&Vec<Value>>) -> Result<OwnerRefs, Refusal>
-    ensures ok { IfOk result (λ o. o ≡ said.owners_in (option_map (λ v. items_view v.now.items) items.entry)) }
+    ensures ok { IfOk result (λ o. o ≡ said.owners_in
+        (option_map (λ v. items_view v.now.items) items.entry)) }
     ensures err { IfErr result (λ e. e ≡ OutOfMemory) }
 {
     match items {

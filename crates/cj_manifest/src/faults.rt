@@ -52,7 +52,8 @@ fn metadata_faults(
     kind: ObjectKind,
     metadata: &Value,
 ) -> Result<(), AllocError>
-    ensures { OnOk result (faults.new ≡ faults.old ++ table.metadata_faults kind (view metadata.now)) }
+    ensures { OnOk result (faults.new ≡ faults.old
+        ++ table.metadata_faults kind (view metadata.now)) }
 {
     note(faults, Field::Name, name(kind, metadata).err())?;
     note(faults, Field::Namespace, namespace(metadata).err())?;
@@ -73,7 +74,8 @@ fn metadata_rows(
     value: &Value,
 ) -> Result<(), AllocError>
     ensures { OnOk result (faults.new ≡ faults.old
-        ++ table.with_rows At.Metadata (table.metadata_faults kind) (row.metadata (view value.now))) }
+        ++ table.with_rows At.Metadata (table.metadata_faults kind)
+        (row.metadata (view value.now))) }
 {
     match metadata(value) {
         Ok(found) => metadata_faults(faults, kind, found),
@@ -97,7 +99,8 @@ fn job_spec_faults(
     at: PodFields,
     job_spec: &Value,
 ) -> Result<(), AllocError>
-    ensures { OnOk result (faults.new ≡ faults.old ++ table.job_spec_faults at (view job_spec.now)) }
+    ensures { OnOk result (faults.new ≡ faults.old
+        ++ table.job_spec_faults at (view job_spec.now)) }
 {
     match pods(job_spec) {
         Ok(found) => pods_faults(faults, at, found),
@@ -107,7 +110,8 @@ fn job_spec_faults(
 
 fn job_spec_rows(faults: &mut FieldFaults, value: &Value) -> Result<(), AllocError>
     ensures { OnOk result (faults.new ≡ faults.old
-        ++ table.with_rows At.Spec (table.job_spec_faults table.job_fields) (row.spec (view value.now))) }
+        ++ table.with_rows At.Spec (table.job_spec_faults table.job_fields)
+        (row.spec (view value.now))) }
 {
     match spec(value) {
         Ok(found) => job_spec_faults(faults, JOB_FIELDS, found),
@@ -118,7 +122,8 @@ fn job_spec_rows(faults: &mut FieldFaults, value: &Value) -> Result<(), AllocErr
 // ---- the spec of a CronJob
 
 fn template_metadata_faults(faults: &mut FieldFaults, metadata: &Value) -> Result<(), AllocError>
-    ensures { OnOk result (faults.new ≡ faults.old ++ table.template_metadata_faults (view metadata.now)) }
+    ensures { OnOk result (faults.new ≡ faults.old
+        ++ table.template_metadata_faults (view metadata.now)) }
 {
     note(faults, Field::JobTemplateLabels, labels(metadata).err())?;
     note(
@@ -130,7 +135,8 @@ fn template_metadata_faults(faults: &mut FieldFaults, metadata: &Value) -> Resul
 
 fn template_metadata_rows(faults: &mut FieldFaults, template: &Value) -> Result<(), AllocError>
     ensures { OnOk result (faults.new ≡ faults.old
-        ++ table.with_optional_rows At.JobTemplateMetadata table.template_metadata_faults (row.template_metadata (view template.now))) }
+        ++ table.with_optional_rows At.JobTemplateMetadata table.template_metadata_faults
+        (row.template_metadata (view template.now))) }
 {
     match template_metadata(template) {
         Ok(None) => Ok(()),
@@ -141,7 +147,8 @@ fn template_metadata_rows(faults: &mut FieldFaults, template: &Value) -> Result<
 
 fn template_spec_rows(faults: &mut FieldFaults, template: &Value) -> Result<(), AllocError>
     ensures { OnOk result (faults.new ≡ faults.old
-        ++ table.with_rows At.JobTemplateSpec (table.job_spec_faults table.template_fields) (row.job_spec (view template.now))) }
+        ++ table.with_rows At.JobTemplateSpec (table.job_spec_faults table.template_fields)
+        (row.job_spec (view template.now))) }
 {
     match job_spec(template) {
         Ok(found) => job_spec_faults(faults, TEMPLATE_FIELDS, found),
@@ -158,7 +165,8 @@ fn template_faults(faults: &mut FieldFaults, template: &Value) -> Result<(), All
 
 fn template_rows(faults: &mut FieldFaults, spec: &Value) -> Result<(), AllocError>
     ensures { OnOk result (faults.new ≡ faults.old
-        ++ table.with_rows At.JobTemplate table.template_faults (row.job_template (view spec.now))) }
+        ++ table.with_rows At.JobTemplate table.template_faults
+        (row.job_template (view spec.now))) }
 {
     match job_template(spec) {
         Ok(found) => template_faults(faults, found),
@@ -171,7 +179,8 @@ fn timing_faults(
     zones: &ZoneTable,
     spec: &Value,
 ) -> Result<(), AllocError>
-    ensures { OnOk result (faults.new ≡ faults.old ++ table.timing_faults (zones_of zones.now) (view spec.now)) }
+    ensures { OnOk result (faults.new ≡ faults.old
+        ++ table.timing_faults (zones_of zones.now) (view spec.now)) }
 {
     note(faults, Field::ScheduleText, schedule(spec).err())?;
     note(faults, Field::TimeZone, time_zone(spec, zones).err())?;
@@ -200,7 +209,8 @@ fn cron_spec_faults(
     zones: &ZoneTable,
     spec: &Value,
 ) -> Result<(), AllocError>
-    ensures { OnOk result (faults.new ≡ faults.old ++ table.cron_spec_faults (zones_of zones.now) (view spec.now)) }
+    ensures { OnOk result (faults.new ≡ faults.old
+        ++ table.cron_spec_faults (zones_of zones.now) (view spec.now)) }
 {
     timing_faults(faults, zones, spec)?;
     limit_faults(faults, spec)?;
@@ -213,7 +223,8 @@ fn cron_spec_rows(
     value: &Value,
 ) -> Result<(), AllocError>
     ensures { OnOk result (faults.new ≡ faults.old
-        ++ table.with_rows At.Spec (table.cron_spec_faults (zones_of zones.now)) (row.spec (view value.now))) }
+        ++ table.with_rows At.Spec (table.cron_spec_faults (zones_of zones.now))
+        (row.spec (view value.now))) }
 {
     match spec(value) {
         Ok(found) => cron_spec_faults(faults, zones, found),
@@ -233,7 +244,8 @@ fn top_faults(faults: &mut FieldFaults, kind: ObjectKind, value: &Value) -> Resu
 
 fn cron_rows(faults: &mut FieldFaults, zones: &ZoneTable, value: &Value) -> Result<(), AllocError>
     ensures { OnOk result (faults.new ≡ faults.old
-        ++ table.object_faults Of.Cron (table.cron_spec_faults (zones_of zones.now)) (view value.now)) }
+        ++ table.object_faults Of.Cron (table.cron_spec_faults (zones_of zones.now))
+        (view value.now)) }
 {
     top_faults(faults, ObjectKind::Cron, value)?;
     cron_spec_rows(faults, zones, value)

@@ -24,7 +24,8 @@ pub(crate) fn present<'v>(value: &'v Value, name: &str) -> Option<&'v Value>
 
 pub(crate) fn text(value: &Value) -> Result<&str, Cause>
     ensures fault { result_err result ≡ result_err (row.text (view value.now)) }
-    ensures value { option_map (λ s. s.now) (result_ok result) ≡ result_ok (row.text (view value.now)) }
+    ensures value { option_map (λ s. s.now) (result_ok result)
+        ≡ result_ok (row.text (view value.now)) }
 {
     match value.as_str() {
         Some(found) => Ok(found),
@@ -43,7 +44,8 @@ pub(crate) fn truth(value: &Value) -> Result<bool, Cause>
 
 pub(crate) fn object(value: &Value) -> Result<&Value, Cause>
     ensures fault { result_err result ≡ result_err (row.an_object (view value.now)) }
-    ensures value { option_map (λ v. view v.now) (result_ok result) ≡ result_ok (row.an_object (view value.now)) }
+    ensures value { option_map (λ v. view v.now) (result_ok result)
+        ≡ result_ok (row.an_object (view value.now)) }
 {
     if value.is_object() {
         Ok(value)
@@ -55,7 +57,8 @@ pub(crate) fn object(value: &Value) -> Result<&Value, Cause>
 /// The one text that is supported.
 pub(crate) fn choice<'v>(value: &'v Value, only: &str) -> Result<&'v str, Cause>
     ensures fault { result_err result ≡ result_err (row.choice only.now (view value.now)) }
-    ensures value { option_map (λ s. s.now) (result_ok result) ≡ result_ok (row.choice only.now (view value.now)) }
+    ensures value { option_map (λ s. s.now) (result_ok result)
+        ≡ result_ok (row.choice only.now (view value.now)) }
 {
     let found = text(value)?;
     if found == only {
@@ -68,7 +71,8 @@ pub(crate) fn choice<'v>(value: &'v Value, only: &str) -> Result<&'v str, Cause>
 /// One of two texts.
 pub(crate) fn either<'v>(value: &'v Value, one: &str, other: &str) -> Result<&'v str, Cause>
     ensures fault { result_err result ≡ result_err (row.either one.now other.now (view value.now)) }
-    ensures value { option_map (λ s. s.now) (result_ok result) ≡ result_ok (row.either one.now other.now (view value.now)) }
+    ensures value { option_map (λ s. s.now) (result_ok result)
+        ≡ result_ok (row.either one.now other.now (view value.now)) }
 {
     let found = text(value)?;
     if found == one || found == other {
@@ -118,7 +122,8 @@ pub(crate) fn range(value: &Value, most: u64) -> Result<u64, Cause>
 /// The name of an object, of at most so many characters.
 pub(crate) fn name(value: &Value, limit: usize) -> Result<&str, Cause>
     ensures fault { result_err result ≡ result_err (row.name limit (view value.now)) }
-    ensures value { option_map (λ s. s.now) (result_ok result) ≡ result_ok (row.name limit (view value.now)) }
+    ensures value { option_map (λ s. s.now) (result_ok result)
+        ≡ result_ok (row.name limit (view value.now)) }
 {
     let found = text(value)?;
     match name_cause(limit, found) {
@@ -129,7 +134,8 @@ pub(crate) fn name(value: &Value, limit: usize) -> Result<&str, Cause>
 
 pub(crate) fn namespace(value: &Value) -> Result<&str, Cause>
     ensures fault { result_err result ≡ result_err (row.namespace (view value.now)) }
-    ensures value { option_map (λ s. s.now) (result_ok result) ≡ result_ok (row.namespace (view value.now)) }
+    ensures value { option_map (λ s. s.now) (result_ok result)
+        ≡ result_ok (row.namespace (view value.now)) }
 {
     let found = text(value)?;
     match namespace_cause(found) {
@@ -141,7 +147,8 @@ pub(crate) fn namespace(value: &Value) -> Result<&str, Cause>
 /// The text of a schedule.
 pub(crate) fn schedule(value: &Value) -> Result<&str, Cause>
     ensures fault { result_err result ≡ result_err (row.schedule (view value.now)) }
-    ensures value { option_map (λ s. s.now) (result_ok result) ≡ result_ok (row.schedule (view value.now)) }
+    ensures value { option_map (λ s. s.now) (result_ok result)
+        ≡ result_ok (row.schedule (view value.now)) }
 {
     let found = text(value)?;
     match Schedule::parse(found) {
@@ -152,8 +159,10 @@ pub(crate) fn schedule(value: &Value) -> Result<&str, Cause>
 
 /// The name of a zone of the table.
 pub(crate) fn zone<'v>(value: &'v Value, zones: &ZoneTable) -> Result<&'v str, Cause>
-    ensures fault { result_err result ≡ result_err (row.zone (zones_of zones.now) (view value.now)) }
-    ensures value { option_map (λ s. s.now) (result_ok result) ≡ result_ok (row.zone (zones_of zones.now) (view value.now)) }
+    ensures fault { result_err result ≡ result_err
+        (row.zone (zones_of zones.now) (view value.now)) }
+    ensures value { option_map (λ s. s.now) (result_ok result)
+        ≡ result_ok (row.zone (zones_of zones.now) (view value.now)) }
 {
     let found = text(value)?;
     if zones.get(found).is_some() {
@@ -177,7 +186,8 @@ fn all_texts(members: &Map<String, Value>) -> bool
 /// An object of texts.
 pub(crate) fn texts(value: &Value) -> Result<&Map<String, Value>, Cause>
     ensures fault { result_err result ≡ result_err (row.texts (view value.now)) }
-    ensures value { option_map (λ m. members_view m.now.entries) (result_ok result) ≡ result_ok (row.texts (view value.now)) }
+    ensures value { option_map (λ m. members_view m.now.entries) (result_ok result)
+        ≡ result_ok (row.texts (view value.now)) }
 {
     let Some(members) = value.as_object() else {
         return Err(Cause::WrongType);

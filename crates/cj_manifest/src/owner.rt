@@ -63,7 +63,8 @@ fn all_owners(items: &Vec<Value>) -> bool
 /// A list of owner references.
 pub(crate) fn owners(value: &Value) -> Result<&Vec<Value>, Cause>
     ensures fault { result_err result ≡ result_err (row.owners (view value.now)) }
-    ensures value { option_map (λ v. items_view v.now.items) (result_ok result) ≡ result_ok (row.owners (view value.now)) }
+    ensures value { option_map (λ v. items_view v.now.items) (result_ok result)
+        ≡ result_ok (row.owners (view value.now)) }
 {
     let Some(items) = value.as_array() else {
         return Err(Cause::WrongType);

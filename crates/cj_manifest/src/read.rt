@@ -62,9 +62,12 @@ pub fn cron_of(
     zones: &ZoneTable,
 ) -> Result<(CronJobDraft, Vec<Warning>), Refusal>
     requires flat { depth (view value.now) ≤ max_depth }
-    ensures said { IfOk result (λ r. Says CronJobDraft (table.cron_faults (zones_of zones.now) (view value.now)) (said.cron_draft (view value.now)) (warned.cron_warnings (view value.now)) r.0 r.1.items) }
+    ensures said { IfOk result (λ r. Says CronJobDraft
+        (table.cron_faults (zones_of zones.now) (view value.now)) (said.cron_draft (view value.now))
+        (warned.cron_warnings (view value.now)) r.0 r.1.items) }
     ensures kept { IfOk result (λ r. IsKept r.0.spec.template.spec) }
-    ensures refused { IfErr result (HasFaults (table.cron_faults (zones_of zones.now) (view value.now))) }
+    ensures refused { IfErr result (HasFaults
+        (table.cron_faults (zones_of zones.now) (view value.now))) }
 {
     refuse(cron_faults(alloc, zones, value)?)?;
     let warnings = cron_warnings(alloc, value)?;
@@ -78,7 +81,8 @@ pub fn cron_of(
 /// fault, in the order of the table of fields; the value nests at most as deep as JSON is read.
 pub fn job_of(alloc: Global, value: &Value) -> Result<(JobDraft, Vec<Warning>), Refusal>
     requires flat { depth (view value.now) ≤ max_depth }
-    ensures said { IfOk result (λ r. Says JobDraft (table.job_faults (view value.now)) (said.job_draft (view value.now)) (warned.job_warnings (view value.now)) r.0 r.1.items) }
+    ensures said { IfOk result (λ r. Says JobDraft (table.job_faults (view value.now))
+        (said.job_draft (view value.now)) (warned.job_warnings (view value.now)) r.0 r.1.items) }
     ensures kept { IfOk result (λ r. IsKept r.0.spec) }
     ensures refused { IfErr result (HasFaults (table.job_faults (view value.now))) }
 {
@@ -97,9 +101,13 @@ fn manifest_of(
     zones: &ZoneTable,
 ) -> Result<(Manifest, Vec<Warning>), Refusal>
     requires flat { depth (view value.now) ≤ max_depth }
-    ensures said { IfOk result (λ r. Says Manifest (either.manifest_faults (zones_of zones.now) (view value.now)) (either.manifest_draft (view value.now)) (either.manifest_warnings (view value.now)) r.0 r.1.items) }
+    ensures said { IfOk result (λ r. Says Manifest
+        (either.manifest_faults (zones_of zones.now) (view value.now))
+        (either.manifest_draft (view value.now)) (either.manifest_warnings (view value.now)) r.0
+        r.1.items) }
     ensures kept { IfOk result (λ r. IsKept (either.spec_of r.0)) }
-    ensures refused { IfErr result (HasFaults (either.manifest_faults (zones_of zones.now) (view value.now))) }
+    ensures refused { IfErr result (HasFaults
+        (either.manifest_faults (zones_of zones.now) (view value.now))) }
 {
     if kind_row(ObjectKind::Job, value).is_ok() {
         let (draft, warnings) = job_of(alloc, value)?;
@@ -122,7 +130,8 @@ pub fn read_cronjob(
     bytes: &[u8],
     zones: &ZoneTable,
 ) -> Result<(CronJobDraft, Vec<Warning>), Refusal>
-    ensures read { IfOk result (λ r. IsReading CronJobDraft (table.cron_faults (zones_of zones.now)) said.cron_draft warned.cron_warnings bytes.now r.0 r.1.items) }
+    ensures read { IfOk result (λ r. IsReading CronJobDraft (table.cron_faults (zones_of zones.now))
+        said.cron_draft warned.cron_warnings bytes.now r.0 r.1.items) }
     ensures kept { IfOk result (λ r. IsKept r.0.spec.template.spec) }
     ensures refused { IfErr result (IsRefused (table.cron_faults (zones_of zones.now)) bytes.now) }
 {
@@ -132,7 +141,8 @@ pub fn read_cronjob(
 
 /// Reads the manifest of a Job, as `read_cronjob` reads a CronJob's; its `apiVersion` is `batch/v1` alone.
 pub fn read_job(alloc: Global, bytes: &[u8]) -> Result<(JobDraft, Vec<Warning>), Refusal>
-    ensures read { IfOk result (λ r. IsReading JobDraft table.job_faults said.job_draft warned.job_warnings bytes.now r.0 r.1.items) }
+    ensures read { IfOk result (λ r. IsReading JobDraft table.job_faults said.job_draft
+        warned.job_warnings bytes.now r.0 r.1.items) }
     ensures kept { IfOk result (λ r. IsKept r.0.spec) }
     ensures refused { IfErr result (IsRefused table.job_faults bytes.now) }
 {
@@ -146,9 +156,12 @@ pub fn read_manifest(
     bytes: &[u8],
     zones: &ZoneTable,
 ) -> Result<(Manifest, Vec<Warning>), Refusal>
-    ensures read { IfOk result (λ r. IsReading Manifest (either.manifest_faults (zones_of zones.now)) either.manifest_draft either.manifest_warnings bytes.now r.0 r.1.items) }
+    ensures read { IfOk result (λ r. IsReading Manifest
+        (either.manifest_faults (zones_of zones.now)) either.manifest_draft either.manifest_warnings
+        bytes.now r.0 r.1.items) }
     ensures kept { IfOk result (λ r. IsKept (either.spec_of r.0)) }
-    ensures refused { IfErr result (IsRefused (either.manifest_faults (zones_of zones.now)) bytes.now) }
+    ensures refused { IfErr result (IsRefused (either.manifest_faults (zones_of zones.now))
+        bytes.now) }
 {
     let value = value_of(alloc, bytes)?;
     manifest_of(alloc, &value, zones)

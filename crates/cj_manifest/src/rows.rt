@@ -14,7 +14,8 @@ use serde_json::{Map, Value};
 /// The whole manifest.
 pub(crate) fn whole(value: &Value) -> Result<&Value, Cause>
     ensures fault { result_err result ≡ result_err (row.whole (view value.now)) }
-    ensures value { option_map (λ v. view v.now) (result_ok result) ≡ result_ok (row.whole (view value.now)) }
+    ensures value { option_map (λ v. view v.now) (result_ok result)
+        ≡ result_ok (row.whole (view value.now)) }
 {
     let found = object(value)?;
     if has_float(found) {
@@ -27,7 +28,8 @@ pub(crate) fn whole(value: &Value) -> Result<&Value, Cause>
 // `batch/v1`, and for a CronJob also the version before it.
 fn supported(kind: ObjectKind, value: &Value) -> Result<&str, Cause>
     ensures fault { result_err result ≡ result_err (row.supported kind (view value.now)) }
-    ensures value { option_map (λ s. s.now) (result_ok result) ≡ result_ok (row.supported kind (view value.now)) }
+    ensures value { option_map (λ s. s.now) (result_ok result)
+        ≡ result_ok (row.supported kind (view value.now)) }
 {
     match kind {
         ObjectKind::Cron => either(value, "batch/v1", "batch/v1beta1"),
@@ -37,7 +39,8 @@ fn supported(kind: ObjectKind, value: &Value) -> Result<&str, Cause>
 
 pub(crate) fn api_version(kind: ObjectKind, value: &Value) -> Result<&str, Cause>
     ensures fault { result_err result ≡ result_err (row.api_version kind (view value.now)) }
-    ensures value { option_map (λ s. s.now) (result_ok result) ≡ result_ok (row.api_version kind (view value.now)) }
+    ensures value { option_map (λ s. s.now) (result_ok result)
+        ≡ result_ok (row.api_version kind (view value.now)) }
 {
     match present(value, "apiVersion") {
         Some(found) => supported(kind, found),
@@ -56,7 +59,8 @@ pub(crate) fn kind_row(kind: ObjectKind, value: &Value) -> Result<&str, Cause>
 
 pub(crate) fn metadata(value: &Value) -> Result<&Value, Cause>
     ensures fault { result_err result ≡ result_err (row.metadata (view value.now)) }
-    ensures value { option_map (λ v. view v.now) (result_ok result) ≡ result_ok (row.metadata (view value.now)) }
+    ensures value { option_map (λ v. view v.now) (result_ok result)
+        ≡ result_ok (row.metadata (view value.now)) }
 {
     match present(value, "metadata") {
         Some(found) => object(found),
@@ -66,7 +70,8 @@ pub(crate) fn metadata(value: &Value) -> Result<&Value, Cause>
 
 pub(crate) fn spec(value: &Value) -> Result<&Value, Cause>
     ensures fault { result_err result ≡ result_err (row.spec (view value.now)) }
-    ensures value { option_map (λ v. view v.now) (result_ok result) ≡ result_ok (row.spec (view value.now)) }
+    ensures value { option_map (λ v. view v.now) (result_ok result)
+        ≡ result_ok (row.spec (view value.now)) }
 {
     match present(value, "spec") {
         Some(found) => object(found),
@@ -76,7 +81,8 @@ pub(crate) fn spec(value: &Value) -> Result<&Value, Cause>
 
 pub(crate) fn name(kind: ObjectKind, metadata: &Value) -> Result<&str, Cause>
     ensures fault { result_err result ≡ result_err (row.name kind (view metadata.now)) }
-    ensures value { option_map (λ s. s.now) (result_ok result) ≡ result_ok (row.name kind (view metadata.now)) }
+    ensures value { option_map (λ s. s.now) (result_ok result)
+        ≡ result_ok (row.name kind (view metadata.now)) }
 {
     match present(metadata, "name") {
         Some(found) => kinds::name(found, kind.name_limit()),
@@ -86,7 +92,8 @@ pub(crate) fn name(kind: ObjectKind, metadata: &Value) -> Result<&str, Cause>
 
 pub(crate) fn namespace(metadata: &Value) -> Result<&str, Cause>
     ensures fault { result_err result ≡ result_err (row.namespace (view metadata.now)) }
-    ensures value { option_map (λ s. s.now) (result_ok result) ≡ result_ok (row.namespace (view metadata.now)) }
+    ensures value { option_map (λ s. s.now) (result_ok result)
+        ≡ result_ok (row.namespace (view metadata.now)) }
 {
     match present(metadata, "namespace") {
         Some(found) => kinds::namespace(found),
@@ -96,7 +103,8 @@ pub(crate) fn namespace(metadata: &Value) -> Result<&str, Cause>
 
 pub(crate) fn labels(metadata: &Value) -> Result<Option<&Map<String, Value>>, Cause>
     ensures fault { result_err result ≡ result_err (row.labels (view metadata.now)) }
-    ensures value { option_map (option_map (λ m. members_view m.now.entries)) (result_ok result) ≡ result_ok (row.labels (view metadata.now)) }
+    ensures value { option_map (option_map (λ m. members_view m.now.entries)) (result_ok result)
+        ≡ result_ok (row.labels (view metadata.now)) }
 {
     match present(metadata, "labels") {
         Some(found) => Ok(Some(texts(found)?)),
@@ -106,7 +114,8 @@ pub(crate) fn labels(metadata: &Value) -> Result<Option<&Map<String, Value>>, Ca
 
 pub(crate) fn annotations(metadata: &Value) -> Result<Option<&Map<String, Value>>, Cause>
     ensures fault { result_err result ≡ result_err (row.annotations (view metadata.now)) }
-    ensures value { option_map (option_map (λ m. members_view m.now.entries)) (result_ok result) ≡ result_ok (row.annotations (view metadata.now)) }
+    ensures value { option_map (option_map (λ m. members_view m.now.entries)) (result_ok result)
+        ≡ result_ok (row.annotations (view metadata.now)) }
 {
     match present(metadata, "annotations") {
         Some(found) => Ok(Some(texts(found)?)),
@@ -116,7 +125,8 @@ pub(crate) fn annotations(metadata: &Value) -> Result<Option<&Map<String, Value>
 
 pub(crate) fn uid(metadata: &Value) -> Result<Option<&str>, Cause>
     ensures fault { result_err result ≡ result_err (row.uid (view metadata.now)) }
-    ensures value { option_map (option_map (λ s. s.now)) (result_ok result) ≡ result_ok (row.uid (view metadata.now)) }
+    ensures value { option_map (option_map (λ s. s.now)) (result_ok result)
+        ≡ result_ok (row.uid (view metadata.now)) }
 {
     match present(metadata, "uid") {
         Some(found) => Ok(Some(text(found)?)),
@@ -126,7 +136,8 @@ pub(crate) fn uid(metadata: &Value) -> Result<Option<&str>, Cause>
 
 pub(crate) fn resource_version(metadata: &Value) -> Result<Option<&str>, Cause>
     ensures fault { result_err result ≡ result_err (row.resource_version (view metadata.now)) }
-    ensures value { option_map (option_map (λ s. s.now)) (result_ok result) ≡ result_ok (row.resource_version (view metadata.now)) }
+    ensures value { option_map (option_map (λ s. s.now)) (result_ok result)
+        ≡ result_ok (row.resource_version (view metadata.now)) }
 {
     match present(metadata, "resourceVersion") {
         Some(found) => Ok(Some(text(found)?)),
@@ -136,7 +147,8 @@ pub(crate) fn resource_version(metadata: &Value) -> Result<Option<&str>, Cause>
 
 pub(crate) fn owners(metadata: &Value) -> Result<Option<&Vec<Value>>, Cause>
     ensures fault { result_err result ≡ result_err (row.owners (view metadata.now)) }
-    ensures value { option_map (option_map (λ v. items_view v.now.items)) (result_ok result) ≡ result_ok (row.owners (view metadata.now)) }
+    ensures value { option_map (option_map (λ v. items_view v.now.items)) (result_ok result)
+        ≡ result_ok (row.owners (view metadata.now)) }
 {
     match present(metadata, "ownerReferences") {
         Some(found) => Ok(Some(owner::owners(found)?)),

@@ -13,7 +13,8 @@ use serde_json::Value;
 
 pub(crate) fn schedule(spec: &Value) -> Result<&str, Cause>
     ensures fault { result_err result ≡ result_err (row.schedule (view spec.now)) }
-    ensures value { option_map (λ s. s.now) (result_ok result) ≡ result_ok (row.schedule (view spec.now)) }
+    ensures value { option_map (λ s. s.now) (result_ok result)
+        ≡ result_ok (row.schedule (view spec.now)) }
 {
     match present(spec, "schedule") {
         Some(found) => kinds::schedule(found),
@@ -22,8 +23,10 @@ pub(crate) fn schedule(spec: &Value) -> Result<&str, Cause>
 }
 
 pub(crate) fn time_zone<'v>(spec: &'v Value, zones: &ZoneTable) -> Result<Option<&'v str>, Cause>
-    ensures fault { result_err result ≡ result_err (row.time_zone (zones_of zones.now) (view spec.now)) }
-    ensures value { option_map (option_map (λ s. s.now)) (result_ok result) ≡ result_ok (row.time_zone (zones_of zones.now) (view spec.now)) }
+    ensures fault { result_err result ≡ result_err
+        (row.time_zone (zones_of zones.now) (view spec.now)) }
+    ensures value { option_map (option_map (λ s. s.now)) (result_ok result)
+        ≡ result_ok (row.time_zone (zones_of zones.now) (view spec.now)) }
 {
     match present(spec, "timeZone") {
         Some(found) => Ok(Some(kinds::zone(found, zones)?)),
@@ -92,7 +95,8 @@ pub(crate) fn failed_limit(spec: &Value) -> Result<HistoryLimit, Cause>
 
 pub(crate) fn job_template(spec: &Value) -> Result<&Value, Cause>
     ensures fault { result_err result ≡ result_err (row.job_template (view spec.now)) }
-    ensures value { option_map (λ v. view v.now) (result_ok result) ≡ result_ok (row.job_template (view spec.now)) }
+    ensures value { option_map (λ v. view v.now) (result_ok result)
+        ≡ result_ok (row.job_template (view spec.now)) }
 {
     match present(spec, "jobTemplate") {
         Some(found) => object(found),
@@ -102,7 +106,8 @@ pub(crate) fn job_template(spec: &Value) -> Result<&Value, Cause>
 
 pub(crate) fn template_metadata(template: &Value) -> Result<Option<&Value>, Cause>
     ensures fault { result_err result ≡ result_err (row.template_metadata (view template.now)) }
-    ensures value { option_map (option_map (λ v. view v.now)) (result_ok result) ≡ result_ok (row.template_metadata (view template.now)) }
+    ensures value { option_map (option_map (λ v. view v.now)) (result_ok result)
+        ≡ result_ok (row.template_metadata (view template.now)) }
 {
     match present(template, "metadata") {
         Some(found) => Ok(Some(object(found)?)),
@@ -112,7 +117,8 @@ pub(crate) fn template_metadata(template: &Value) -> Result<Option<&Value>, Caus
 
 pub(crate) fn job_spec(template: &Value) -> Result<&Value, Cause>
     ensures fault { result_err result ≡ result_err (row.job_spec (view template.now)) }
-    ensures value { option_map (λ v. view v.now) (result_ok result) ≡ result_ok (row.job_spec (view template.now)) }
+    ensures value { option_map (λ v. view v.now) (result_ok result)
+        ≡ result_ok (row.job_spec (view template.now)) }
 {
     match present(template, "spec") {
         Some(found) => object(found),
@@ -122,7 +128,8 @@ pub(crate) fn job_spec(template: &Value) -> Result<&Value, Cause>
 
 pub(crate) fn pods(job_spec: &Value) -> Result<&Value, Cause>
     ensures fault { result_err result ≡ result_err (row.pods (view job_spec.now)) }
-    ensures value { option_map (λ v. view v.now) (result_ok result) ≡ result_ok (row.pods (view job_spec.now)) }
+    ensures value { option_map (λ v. view v.now) (result_ok result)
+        ≡ result_ok (row.pods (view job_spec.now)) }
 {
     match present(job_spec, "template") {
         Some(found) => object(found),
@@ -132,7 +139,8 @@ pub(crate) fn pods(job_spec: &Value) -> Result<&Value, Cause>
 
 pub(crate) fn pod_spec(pods: &Value) -> Result<&Value, Cause>
     ensures fault { result_err result ≡ result_err (row.pod_spec (view pods.now)) }
-    ensures value { option_map (λ v. view v.now) (result_ok result) ≡ result_ok (row.pod_spec (view pods.now)) }
+    ensures value { option_map (λ v. view v.now) (result_ok result)
+        ≡ result_ok (row.pod_spec (view pods.now)) }
 {
     match present(pods, "spec") {
         Some(found) => object(found),

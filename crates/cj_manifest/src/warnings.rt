@@ -19,7 +19,8 @@ fn note_unknown(
     at: Level,
     members: &Map<String, Value>,
 ) -> Result<(), Refusal>
-    ensures ok { OnOk result (warnings.new.items ≡ warnings.old.items ++ table.unknown at (members_view members.now.entries)) }
+    ensures ok { OnOk result (warnings.new.items
+        ≡ warnings.old.items ++ table.unknown at (members_view members.now.entries)) }
     ensures err { IfErr result (λ e. e ≡ OutOfMemory) }
 {
     for (key, member) in members.iter() {
@@ -75,7 +76,8 @@ fn is_beta(version: Option<&str>) -> bool
 
 // The older version of the API is read, and what is stored and written is `batch/v1`.
 fn note_version(warnings: &mut Vec<Warning>, alloc: Global, value: &Value) -> Result<(), Refusal>
-    ensures ok { OnOk result (warnings.new.items ≡ warnings.old.items ++ table.version_warnings (view value.now)) }
+    ensures ok { OnOk result (warnings.new.items
+        ≡ warnings.old.items ++ table.version_warnings (view value.now)) }
     ensures err { IfErr result (λ e. e ≡ OutOfMemory) }
 {
     if is_beta(api_version(ObjectKind::Cron, value).ok()) {

@@ -12,7 +12,8 @@ use std::alloc::Global;
 #[tactic(auto, using(crate::proofs::Puts::put_cut, crate::proofs::Puts::gone_at))]
 fn put(jobs: &mut Jobs, alloc: Global, job: &Shared<Job>) -> Result<(), Refusal>
     ensures ok { OnOk result (jobs.new ≡ jobs_are.with_job jobs.old job.now) }
-    ensures err { OnErr result (jobs_are.with_job jobs.new job.now ≡ jobs_are.with_job jobs.old job.now) }
+    ensures err { OnErr result (jobs_are.with_job jobs.new job.now
+        ≡ jobs_are.with_job jobs.old job.now) }
     ensures memory { IfErr result (λ e. e ≡ OutOfMemory) }
 {
     jobs.remove(alloc, &job.key)?;
@@ -22,7 +23,8 @@ fn put(jobs: &mut Jobs, alloc: Global, job: &Shared<Job>) -> Result<(), Refusal>
 // The object stands after a write.
 fn stand(jobs: &mut Jobs, alloc: Global, object: &Object) -> Result<(), Refusal>
     ensures ok { OnOk result (jobs.new ≡ jobs_are.standing jobs.old object.now) }
-    ensures err { OnErr result (jobs_are.standing jobs.new object.now ≡ jobs_are.standing jobs.old object.now) }
+    ensures err { OnErr result (jobs_are.standing jobs.new object.now
+        ≡ jobs_are.standing jobs.old object.now) }
     ensures memory { IfErr result (λ e. e ≡ OutOfMemory) }
 {
     match object {
@@ -34,7 +36,8 @@ fn stand(jobs: &mut Jobs, alloc: Global, object: &Object) -> Result<(), Refusal>
 // The object stands no more after a write.
 fn go(jobs: &mut Jobs, alloc: Global, object: &Object) -> Result<(), Refusal>
     ensures ok { OnOk result (jobs.new ≡ jobs_are.gone jobs.old object.now) }
-    ensures err { OnErr result (jobs_are.gone jobs.new object.now ≡ jobs_are.gone jobs.old object.now) }
+    ensures err { OnErr result (jobs_are.gone jobs.new object.now
+        ≡ jobs_are.gone jobs.old object.now) }
     ensures memory { IfErr result (λ e. e ≡ OutOfMemory) }
 {
     match object {
@@ -46,7 +49,8 @@ fn go(jobs: &mut Jobs, alloc: Global, object: &Object) -> Result<(), Refusal>
 // Tells the Jobs of an event. Where there is no memory this can be done once more, as if it hadn't been tried.
 fn tell(jobs: &mut Jobs, alloc: Global, event: &Event) -> Result<(), Refusal>
     ensures ok { OnOk result (jobs.new ≡ jobs_are.told jobs.old event.now) }
-    ensures err { OnErr result (jobs_are.told jobs.new event.now ≡ jobs_are.told jobs.old event.now) }
+    ensures err { OnErr result (jobs_are.told jobs.new event.now
+        ≡ jobs_are.told jobs.old event.now) }
     ensures memory { IfErr result (λ e. e ≡ OutOfMemory) }
 {
     match event {
@@ -65,7 +69,8 @@ pub(crate) fn tell_all(
     done: &mut usize,
 ) -> Result<(), Refusal>
     requires { done.old ≤ length events.now }
-    ensures same { jobs_are.told_all jobs.new (drop done.new events.now) ≡ jobs_are.told_all jobs.old (drop done.old events.now) }
+    ensures same { jobs_are.told_all jobs.new (drop done.new events.now)
+        ≡ jobs_are.told_all jobs.old (drop done.old events.now) }
     ensures within { done.new ≤ length events.now }
     ensures ok { OnOk result (done.new ≡ length events.now) }
     ensures memory { IfErr result (λ e. e ≡ OutOfMemory) }

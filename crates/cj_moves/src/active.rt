@@ -53,7 +53,8 @@ fn active_jobs(
     cron: &Key,
     names: &[ObjectName],
 ) -> Result<Vec<Option<Shared<Job>>>, Refusal>
-    ensures ok { IfOk result (λ js. js.items ≡ map (active_job store.now uid.now cron.now.namespace) names.now) }
+    ensures ok { IfOk result (λ js. js.items ≡ map (active_job store.now uid.now cron.now.namespace)
+        names.now) }
     ensures err { IfErr result (λ e. e ≡ OutOfMemory) }
 {
     let mut jobs = Vec::new(alloc);

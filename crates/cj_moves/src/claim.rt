@@ -27,7 +27,10 @@ fn at_work(
     plan: &Shared<Plan>,
     version: Version,
 ) -> Result<Heap<Seat>, Refusal>
-    ensures ok { IfOk result (λ s. s ≡ record { key = key.now; phase = Works (record { plan = plan.now; version = version; place = 0 }) }) }
+    ensures ok { IfOk result (λ s. s ≡ record {
+      key = key.now;
+      phase = Works (record { plan = plan.now; version = version; place = 0 });
+    }) }
     ensures err { IfErr result (λ e. e ≡ OutOfMemory) }
 {
     let work = Work {
@@ -52,7 +55,8 @@ fn claim_time(
     requires room { state.old.store.version < 2 ^ 40 }
     requires sound { IsSound state.old }
     requires there { IsSome (map.get state.old.seats worker) }
-    ensures ok { IfOk result (λ t. claims state.old worker key.now plan.now claim.now (Some cron.now) ≡ moved t state.new) }
+    ensures ok { IfOk result (λ t. claims state.old worker key.now plan.now claim.now
+        (Some cron.now) ≡ moved t state.new) }
     ensures err { OnErr result (state.new ≡ state.old) }
     ensures memory { IfErr result (λ e. e ≡ OutOfMemory) }
 {
@@ -84,7 +88,8 @@ fn claim_where(
     requires room { state.old.store.version < 2 ^ 40 }
     requires sound { IsSound state.old }
     requires there { IsSome (map.get state.old.seats worker) }
-    ensures ok { IfOk result (λ t. claim_where state.old worker key.now plan.now plan.now.steps.claim ≡ moved t state.new) }
+    ensures ok { IfOk result (λ t. claim_where state.old worker key.now plan.now
+        plan.now.steps.claim ≡ moved t state.new) }
     ensures err { OnErr result (state.new ≡ state.old) }
     ensures memory { IfErr result (λ e. e ≡ OutOfMemory) }
 {

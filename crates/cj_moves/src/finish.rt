@@ -28,7 +28,8 @@ fn leave_well(
     at: Option<u64>,
 ) -> Result<Answered, Refusal>
     requires held { IsTrue (has state.old.queue.row.processing key.now) }
-    ensures ok { IfOk result (λ t. leaves state.old worker (finished_ok state.old.queue key.now at) ≡ moved t state.new) }
+    ensures ok { IfOk result (λ t. leaves state.old worker (finished_ok state.old.queue key.now at)
+        ≡ moved t state.new) }
     ensures err { OnErr result (state.new ≡ state.old) }
     ensures memory { IfErr result (λ e. e ≡ OutOfMemory) }
 {
@@ -46,7 +47,8 @@ fn leave_badly(
     now: Millis,
 ) -> Result<Answered, Refusal>
     requires held { IsTrue (has state.old.queue.row.processing key.now) }
-    ensures ok { IfOk result (λ t. leaves state.old worker (finished_retry state.old.queue key.now now) ≡ moved t state.new) }
+    ensures ok { IfOk result (λ t. leaves state.old worker
+        (finished_retry state.old.queue key.now now) ≡ moved t state.new) }
     ensures err { OnErr result (state.new ≡ state.old) }
     ensures memory { IfErr result (λ e. e ≡ OutOfMemory) }
 {

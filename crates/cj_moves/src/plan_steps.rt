@@ -39,7 +39,8 @@ fn drop_job(
     requires room { state.old.store.version < 2 ^ 40 }
     requires sound { IsSound state.old }
     requires there { IsSome (map.get state.old.seats worker) }
-    ensures ok { IfOk result (λ t. drops_it state.old worker seat name (map_ok job_gone (job_deleted state.old.store name (Some uid))) ≡ moved t state.new) }
+    ensures ok { IfOk result (λ t. drops_it state.old worker seat name
+        (map_ok job_gone (job_deleted state.old.store name (Some uid))) ≡ moved t state.new) }
     ensures err { OnErr result (state.new ≡ state.old) }
     ensures memory { IfErr result (λ e. e ≡ OutOfMemory) }
 {
@@ -70,7 +71,8 @@ fn make_job(
     requires room { state.old.store.version < 2 ^ 40 }
     requires sound { IsSound state.old }
     requires there { IsSome (map.get state.old.seats worker) }
-    ensures ok { IfOk result (λ t. steps_on state.old worker seat event_reply (map_ok job_added (job_made state.old.store draft now)) ≡ moved t state.new) }
+    ensures ok { IfOk result (λ t. steps_on state.old worker seat event_reply
+        (map_ok job_added (job_made state.old.store draft now)) ≡ moved t state.new) }
     ensures err { OnErr result (state.new ≡ state.old) }
     ensures memory { IfErr result (λ e. e ≡ OutOfMemory) }
 {
@@ -96,7 +98,9 @@ fn put_status(
     requires room { state.old.store.version < 2 ^ 40 }
     requires sound { IsSound state.old }
     requires there { IsSome (map.get state.old.seats worker) }
-    ensures ok { IfOk result (λ t. steps_on state.old worker seat version_reply (map_ok cron_modified (status_set state.old.store seat.key uid version status)) ≡ moved t state.new) }
+    ensures ok { IfOk result (λ t. steps_on state.old worker seat version_reply
+        (map_ok cron_modified (status_set state.old.store seat.key uid version status))
+        ≡ moved t state.new) }
     ensures err { OnErr result (state.new ≡ state.old) }
     ensures memory { IfErr result (λ e. e ≡ OutOfMemory) }
 {

@@ -42,8 +42,12 @@ fn shown(
 }
 
 fn shown_cron(alloc: Global, store: &Store, key: &Key) -> Result<(Heap<Seat>, Answered), Refusal>
-    ensures seat { IfOk result (λ p. p.0 ≡ record { key = key.now; phase = Seen (map.get store.now.crons key.now) }) }
-    ensures answer { IfOk result (λ p. p.1 ≡ Ok (Reply.SeenCron (map.get store.now.crons key.now))) }
+    ensures seat { IfOk result (λ p. p.0 ≡ record {
+      key = key.now;
+      phase = Seen (map.get store.now.crons key.now);
+    }) }
+    ensures answer { IfOk result (λ p. p.1 ≡ Ok
+        (Reply.SeenCron (map.get store.now.crons key.now))) }
     ensures err { IfErr result (λ e. e ≡ OutOfMemory) }
 {
     let cron = cron_at(alloc, store, key)?;
@@ -57,8 +61,12 @@ fn shown_jobs(
     key: &Key,
     cron: &Option<Shared<CronJob>>,
 ) -> Result<(Heap<Seat>, Answered), Refusal>
-    ensures seat { IfOk result (λ p. p.0 ≡ record { key = key.now; phase = Listed cron.now (owned_by mirror.old.jobs key.now) }) }
-    ensures answer { IfOk result (λ p. p.1 ≡ Ok (Reply.SeenJobs (owned_by mirror.old.jobs key.now))) }
+    ensures seat { IfOk result (λ p. p.0 ≡ record {
+      key = key.now;
+      phase = Listed cron.now (owned_by mirror.old.jobs key.now);
+    }) }
+    ensures answer { IfOk result (λ p. p.1 ≡ Ok
+        (Reply.SeenJobs (owned_by mirror.old.jobs key.now))) }
     ensures same { mirror.new ≡ mirror.old }
     ensures err { IfErr result (λ e. e ≡ OutOfMemory) }
 {
@@ -74,7 +82,10 @@ fn shown_active(
     cron: &Option<Shared<CronJob>>,
     jobs: &Listing<Shared<Job>>,
 ) -> Result<(Heap<Seat>, Answered), Refusal>
-    ensures seat { IfOk result (λ p. p.0 ≡ record { key = key.now; phase = Checked cron.now jobs.now (active_of store.now cron.now) }) }
+    ensures seat { IfOk result (λ p. p.0 ≡ record {
+      key = key.now;
+      phase = Checked cron.now jobs.now (active_of store.now cron.now);
+    }) }
     ensures answer { IfOk result (λ p. p.1 ≡ Ok (Reply.SeenActive (active_of store.now cron.now))) }
     ensures err { IfErr result (λ e. e ≡ OutOfMemory) }
 {

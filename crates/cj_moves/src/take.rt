@@ -26,7 +26,9 @@ fn why_empty(shut: bool) -> Refusal
 fn take_key(alloc: Global, state: &mut State, worker: u64, key: Key) -> Result<Answered, Refusal>
     requires free { map.get state.old.seats worker ≡ None }
     ensures answer { IfOk result (λ t. t ≡ Ok (Reply.Key key)) }
-    ensures ok { OnOk result (state.new ≡ seated (record state.old { queue = taken state.old.queue }) worker key Held) }
+    ensures ok { OnOk result (state.new ≡ seated (record state.old {
+      queue = taken state.old.queue;
+    }) worker key Held) }
     ensures err { OnErr result (state.new ≡ state.old) }
     ensures memory { IfErr result (λ e. e ≡ OutOfMemory) }
 {

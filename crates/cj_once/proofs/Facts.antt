@@ -52,7 +52,8 @@ pub record IsOwned (s : Content) (o : OwnerRef) : Type 0 where
 pub record StoreFact (home : Homes) (s : Content) (ms : List Claimed) : Type 0 where
   pub crons : (k : Place) (c : CronJob) → map.get s.crons k ≡ Some c → CronFact home s ms k c
   pub keys : (q : Place) (j : Job) → map.get s.jobs q ≡ Some j → j.key ≡ q
-  pub owned : (q : Place) (j : Job) (o : OwnerRef) → map.get s.jobs q ≡ Some j → controller_of j.owners ≡ Some o → IsOwned s o
+  pub owned : (q : Place) (j : Job) (o : OwnerRef) → map.get s.jobs q ≡ Some j → controller_of j.owners ≡ Some o
+      → IsOwned s o
   pub made : AllByRecursion (λ x. x.owner ≤ s.uids) ms
 
 -- of a CronJob that a seat saw
@@ -70,13 +71,15 @@ pub record CheckedFact (home : Homes) (s : Content) (k : Place) (fs : List (Opti
   pub found : Rest c.meta.uid (IsFound c fs) s.jobs
 
 -- of a claimed time for which no Job was made yet
-pub record MakeFact (home : Homes) (s : Content) (ms : List Claimed) (claim : Option Claimed) (k : Place) (rs : List Step) (d : JobDraft) : Type 0 where
+pub record MakeFact (home : Homes) (s : Content) (ms : List Claimed) (claim : Option Claimed) (k : Place) (rs : List
+    Step) (d : JobDraft) : Type 0 where
   pub m : Claimed
   pub claimed : claim ≡ Some m
   pub home_is : home m.owner ≡ k
   pub uid : m.owner ≤ s.uids
   pub above : EachTime m.owner (λ t. t < m.time) ms
-  pub last : (c : CronJob) → map.get s.crons k ≡ Some c → c.meta.uid ≡ m.owner → m.time < upto c.status.last_schedule_time
+  pub last : (c : CronJob) → map.get s.crons k ≡ Some c → c.meta.uid ≡ m.owner
+      → m.time < upto c.status.last_schedule_time
   pub named : (c : CronJob) → map.get s.crons k ≡ Some c → c.meta.uid ≡ m.owner → IsAt k.namespace c.status.active d.key
   pub alone : is_strict m.policy ≡ true → Rest m.owner (Before rs) s.jobs
   pub owner : OwnerRef
@@ -84,15 +87,18 @@ pub record MakeFact (home : Homes) (s : Content) (ms : List Claimed) (claim : Op
   pub text : owner.uid ≡ uid_text m.owner
 
 -- of a status that is still to be written
-pub record StatusFact (home : Homes) (s : Content) (k : Place) (rs : List Step) (u v : ℕ) (f : CronStatus) : Type 0 where
+pub record StatusFact (home : Homes) (s : Content) (k : Place) (rs : List Step)
+    (u v : ℕ) (f : CronStatus) : Type 0 where
   pub home_is : home u ≡ k
   pub uid : u ≤ s.uids
   pub version : v ≤ s.version
-  pub last : (c : CronJob) → map.get s.crons k ≡ Some c → c.meta.version ≡ v → upto c.status.last_schedule_time ≤ upto f.last_schedule_time
+  pub last : (c : CronJob) → map.get s.crons k ≡ Some c → c.meta.version ≡ v
+      → upto c.status.last_schedule_time ≤ upto f.last_schedule_time
   pub spoken : Rest u (λ q i. IsAt k.namespace f.active q ⊎ Before rs q i) s.jobs
 
 -- of the steps that are left of a plan
-pub record PlanFact (home : Homes) (s : Content) (ms : List Claimed) (claim : Option Claimed) (k : Place) (cron : Option CronJob) (v : ℕ) (rs : List Step) : Type 0 where
+pub record PlanFact (home : Homes) (s : Content) (ms : List Claimed) (claim : Option Claimed) (k : Place) (cron : Option
+    CronJob) (v : ℕ) (rs : List Step) : Type 0 where
   pub ordered : Ordered rs
   pub make : (d : JobDraft) → IsIn (makes d) rs → MakeFact home s ms claim k rs d
   pub status : (c : CronJob) (f : CronStatus) → cron ≡ Some c → IsIn (sets f) rs → StatusFact home s k rs c.meta.uid v f
@@ -103,14 +109,16 @@ SeatFact home s ms claim k Held = Unit {0}
 SeatFact home s ms claim k (Seen c) = IfSome c (SeenFact home s k)
 SeatFact home s ms claim k (Listed c js) = IfSome c (SeenFact home s k)
 SeatFact home s ms claim k (Checked c js fs) = IfSome c (CheckedFact home s k fs)
-SeatFact home s ms claim k (Works work) = PlanFact home s ms claim k work.plan.cron work.version (left work.plan.steps work.place)
+SeatFact home s ms claim k (Works work) = PlanFact home s ms claim k work.plan.cron work.version
+    (left work.plan.steps work.place)
 
 -- a key of the line is dirty, isn't worked on, and stands there once
 abbrev pub IsLine : Row → List Place → Type 0
 IsLine r [] = Unit {0}
 IsLine r (k ∷ ks) = (has r.dirty k ≡ true) × (has r.processing k ≡ false) × (IsIn k ks → ⊥) × IsLine r ks
 
-pub record Inv (home : Homes) (s : Content) (row : Row) (seats : map.FinMap nat_cmp Seat) (ms : List Claimed) (claims : ℕ → Option Claimed) : Type 0 where
+pub record Inv (home : Homes) (s : Content) (row : Row) (seats : map.FinMap nat_cmp Seat) (ms : List
+    Claimed) (claims : ℕ → Option Claimed) : Type 0 where
   pub store : StoreFact home s ms
   pub line : IsLine row row.line
   pub held : (w : ℕ) (seat : Seat) → map.get seats w ≡ Some seat → has row.processing seat.key ≡ true

@@ -58,8 +58,10 @@ impl Pending {
     /// Adds the text, and writes all that waits where that is much. Where that fails, a beginning of it was written.
     #[tactic(auto, using(crate::proofs::Written::prints_waiting, crate::proofs::Written::prints_all, crate::proofs::Written::appends_nothing))]
     pub fn print<W: Write>(&mut self, out: &mut W, text: &str) -> Result<(), Failure>
-        ensures ok { OnOk result (Prints (W.contents out.old) self.old text.now (W.contents out.new) self.new) }
-        ensures err { OnErr result (AppendsSome (W.contents out.old) (W.contents out.new) (self.old ++ text.now)) }
+        ensures ok { OnOk result (Prints (W.contents out.old) self.old text.now (W.contents out.new)
+            self.new) }
+        ensures err { OnErr result (AppendsSome (W.contents out.old) (W.contents out.new)
+            (self.old ++ text.now)) }
     {
         self.push(text)?;
         if self.text.len() < MUCH {

@@ -13,7 +13,8 @@ const MOST_WRITES: u64 = u64::MAX;
 // One write: how many of the bytes the writer took, which is none where it was interrupted.
 fn write_once<W: Write>(writer: &mut W, bytes: &[u8]) -> io::Result<usize>
     ensures within { IfOk result (λ count. count ≤ length bytes.now) }
-    ensures taken { IfOk result (λ count. Appends (W.contents writer.old) (W.contents writer.new) (take count bytes.now)) }
+    ensures taken { IfOk result (λ count. Appends (W.contents writer.old) (W.contents writer.new)
+        (take count bytes.now)) }
     ensures kept { OnErr result (Keeps (W.contents writer.old) (W.contents writer.new)) }
 {
     match writer.write(bytes) {
@@ -26,7 +27,8 @@ fn write_once<W: Write>(writer: &mut W, bytes: &[u8]) -> io::Result<usize>
 
 /// Writes all the bytes, or where the writer fails a beginning of them.
 pub fn write_whole<W: Write>(writer: &mut W, bytes: &[u8]) -> io::Result<()>
-    ensures whole { OnOk result (Appends (W.contents writer.old) (W.contents writer.new) bytes.now) }
+    ensures whole { OnOk result (Appends (W.contents writer.old) (W.contents writer.new)
+        bytes.now) }
     ensures begun { AppendsSome (W.contents writer.old) (W.contents writer.new) bytes.now }
 {
     let mut at = 0;
@@ -61,7 +63,8 @@ pub fn tell_failure<E: Write>(failure: Failure, err: &mut E) -> u8
 
 /// The same, and sees to it that the writer keeps nothing back.
 pub fn write_and_flush<W: Write>(writer: &mut W, bytes: &[u8]) -> Result<(), Failure>
-    ensures whole { OnOk result (Appends (W.contents writer.old) (W.contents writer.new) bytes.now) }
+    ensures whole { OnOk result (Appends (W.contents writer.old) (W.contents writer.new)
+        bytes.now) }
     ensures begun { AppendsSome (W.contents writer.old) (W.contents writer.new) bytes.now }
 {
     write_whole(writer, bytes)?;

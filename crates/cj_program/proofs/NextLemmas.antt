@@ -9,6 +9,7 @@ use Rattle.cj_program.specs.NextText.{reach, line_of, IsNextText}
 pub record Continues (s : Sets) (z : Zone) (after count at left : ℕ) (text : List ℕ) : Type 0 where
   pub whole : (rest : List ℕ) → IsNextText s z at left rest → IsNextText s z after count (text ++ rest)
 
+-- Before the first line the text is empty, and all of its lines are still to come.
 pub continues_start : (s : Sets) (z : Zone) (after count : ℕ) → Continues s z after count after count []
 continues_start s z after count = record { whole = λ rest h. h }
 

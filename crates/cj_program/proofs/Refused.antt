@@ -16,7 +16,9 @@ abbrev pub IsFaultOf : Error → WordFault → Type 0
 IsFaultOf error e = ((kind_of error ≡ Kind.OutOfMemory) × (e ≡ Fault.OutOfMemory))
     ⊎ ((kind_of error ≢ Kind.OutOfMemory) × (e ≡ Fault.Refused error))
 
-fault_by_clap : (words : List Text) (error : Error) (e : WordFault) → (takes cronsim_app words ≡ true → kind_of error ≡ Kind.OutOfMemory)
+-- For by_clap: the fault that an error of clap becomes is why the words are refused.
+fault_by_clap : (words : List Text) (error : Error) (e : WordFault)
+    → (takes cronsim_app words ≡ true → kind_of error ≡ Kind.OutOfMemory)
     → IsFaultOf error e → RefusesWords words e
 fault_by_clap words error e passes (inl (at, is)) = rw is (search rules)
 fault_by_clap words error e passes (inr (at, is)) = rw is (λ taken. at (passes taken))
@@ -28,8 +30,10 @@ pub by_clap : {T : Type 0} (words : List Text) (error : Error) (result : Result 
 by_clap words error (Ok x) a is app passes = search rules
 by_clap words error (Err e) a is app passes = fault_by_clap words error e (λ taken. passes (rw app taken)) is
 
+-- For by_values: Incomplete is why words are refused whose values no request has.
 value_fault : (words : List Text) (rows : Option (Text × List Row)) (e : WordFault)
-    → e ≡ Fault.Incomplete → ((r : Request) → ¬ (IsOfRows rows r)) → rows ≡ subcommand_of cronsim_app words → RefusesWords words e
+    → e ≡ Fault.Incomplete → ((r : Request) → ¬ (IsOfRows rows r)) → rows ≡ subcommand_of cronsim_app words
+    → RefusesWords words e
 value_fault words rows e is none at = rw (is, ← at) none
 
 -- words that `clap` takes are refused where no request has their values

@@ -12,9 +12,11 @@ use Rattle.cj_program.specs.Outcome.{outcome_of}
 use Rattle.cj_program.specs.Plan.{IsPlannedFor, IsSceneRefusal}
 use Rattle.cj_program.specs.Run.{IsRanOf}
 
+-- fault is why the bytes are refused; explain says whether words for people are asked for.
 module _ (explain : Bool) (bytes : List ℕ) (fault : SceneFault) where
   -- of `plan`: closes what a scenario is answered
-  pub scenario_refused : (now : ℕ) (r : Result Answer Failure) → IsRefusedScene bytes fault → IfOk r (λ _. fault ≢ Why.Memory)
+  pub scenario_refused : (now : ℕ) (r : Result Answer Failure) → IsRefusedScene bytes fault
+      → IfOk r (λ _. fault ≢ Why.Memory)
       → IfOk r (λ a. IsSceneRefusal explain A.Scenario bytes fault (outcome_of a))
       → IfOk r (λ a. IsPlannedFor explain bytes now (outcome_of a))
   scenario_refused now (Ok a) why told is = inl (record { fault = fault; refused = why; told = told; says = is })

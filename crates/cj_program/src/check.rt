@@ -25,7 +25,8 @@ use std::io::Read;
 
 // UTC and the zone NAME=RULE, cut at the first `=`; none where that is refused.
 fn zones_of_pair(alloc: Global, pair: &str) -> Result<Option<ZoneTable>, Failure>
-    ensures { IfOk result (λ table. MatchOption table (IsNoZone pair.now) (λ t. AddsPair pair.now (zones_of t))) }
+    ensures { IfOk result (λ table. MatchOption table (IsNoZone pair.now)
+        (λ t. AddsPair pair.now (zones_of t))) }
 {
     let Some((name, rule)) = pair.split_once('=') else {
         return Ok(None);
@@ -40,7 +41,8 @@ fn zones_of_pair(alloc: Global, pair: &str) -> Result<Option<ZoneTable>, Failure
 
 // The same, or UTC alone where no zone is given.
 fn zones(alloc: Global, pair: Option<&str>) -> Result<Option<ZoneTable>, Failure>
-    ensures { IfOk result (λ table. MatchOption table (RefusesPair pair.entry) (λ t. IsZonesOf pair.entry (zones_of t))) }
+    ensures { IfOk result (λ table. MatchOption table (RefusesPair pair.entry)
+        (λ t. IsZonesOf pair.entry (zones_of t))) }
 {
     match pair {
         Some(pair) => zones_of_pair(alloc, pair),
@@ -56,7 +58,10 @@ fn fine(
     warnings: &[Warning],
     words: &str,
 ) -> Result<Answer, Failure>
-    ensures { IfOk result (λ a. outcome_of a ≡ explained explain (dropped_words_all warnings.now ++ words.now) (done (ok_line (kind_of manifest.now) (key_of manifest.now) ++ warning_lines warnings.now))) }
+    ensures { IfOk result (λ a. outcome_of a ≡ explained explain
+        (dropped_words_all warnings.now ++ words.now)
+        (done (ok_line (kind_of manifest.now) (key_of manifest.now)
+        ++ warning_lines warnings.now))) }
 {
     let mut printed = print_ok(alloc, manifest.kind(), manifest.key())?;
     let lines = print_warnings(alloc, warnings)?;
@@ -95,7 +100,8 @@ fn yaml_words(alloc: Global, place: &str) -> Result<String, AllocError>
 }
 
 fn with_place(alloc: Global, explain: bool, place: &str) -> Result<Answer, AllocError>
-    ensures { IfOk result (λ a. outcome_of a ≡ explained explain (place.now ++ yaml_words) (faulty (codes "refused 1 Syntax\n"))) }
+    ensures { IfOk result (λ a. outcome_of a ≡ explained explain (place.now ++ yaml_words)
+        (faulty (codes "refused 1 Syntax\n"))) }
 {
     let printed = String::from_str(alloc, "refused 1 Syntax\n")?;
     let words = yaml_words(alloc, place)?;
@@ -116,7 +122,8 @@ fn with_faults(
     faults: &[FieldFault],
     seen: &str,
 ) -> Result<Answer, AllocError>
-    ensures { IfOk result (λ a. outcome_of a ≡ explained explain (faults_words faults.now ++ seen.now) (faulty (fault_lines faults.now))) }
+    ensures { IfOk result (λ a. outcome_of a ≡ explained explain
+        (faults_words faults.now ++ seen.now) (faulty (fault_lines faults.now))) }
 {
     let printed = print_faults(alloc, faults)?;
     let mut words = explain_faults(alloc, faults)?;
@@ -167,7 +174,8 @@ fn manifest_answer(
 }
 
 fn refused_pair(alloc: Global, explain: bool) -> Result<Answer, AllocError>
-    ensures { IfOk result (λ a. outcome_of a ≡ explained explain pair_words (refusal (codes "cronsim: zone\n"))) }
+    ensures { IfOk result (λ a. outcome_of a ≡ explained explain pair_words
+        (refusal (codes "cronsim: zone\n"))) }
 {
     Answer::refused(alloc, "cronsim: zone\n")?.explained(explain, PAIR_WORDS)
 }

@@ -46,13 +46,15 @@ const AFTER_WORDS: &str = "--after: want a UTC time like 2024-01-01T00:00:00Z\n"
 const RULE_WORDS: &str = "--zone: want UTC or a POSIX rule like CET-1CEST,M3.5.0,M10.5.0/3\n";
 
 fn refused_time(alloc: Global, explain: bool) -> Result<Answer, AllocError>
-    ensures { IfOk result (λ a. outcome_of a ≡ explained explain after_words (refusal (codes "cronsim: time\n"))) }
+    ensures { IfOk result (λ a. outcome_of a ≡ explained explain after_words
+        (refusal (codes "cronsim: time\n"))) }
 {
     Answer::refused(alloc, "cronsim: time\n")?.explained(explain, AFTER_WORDS)
 }
 
 fn refused_rule(alloc: Global, explain: bool) -> Result<Answer, AllocError>
-    ensures { IfOk result (λ a. outcome_of a ≡ explained explain rule_words (refusal (codes "cronsim: zone\n"))) }
+    ensures { IfOk result (λ a. outcome_of a ≡ explained explain rule_words
+        (refusal (codes "cronsim: zone\n"))) }
 {
     Answer::refused(alloc, "cronsim: zone\n")?.explained(explain, RULE_WORDS)
 }
@@ -61,7 +63,8 @@ const RULE_NAME: &str = "rule";
 
 // A table whose local zone is the one of the rule.
 fn zones_of_rule(alloc: Global, rule: &str) -> Result<ZoneTable, Refusal>
-    ensures ok { IfOk result (λ table. (zone : Zone) → local_zone table ≡ Some zone → (zone.source ≡ Rule rule.now) × IsMade (Rule rule.now)) }
+    ensures ok { IfOk result (λ table. (zone : Zone) → local_zone table ≡ Some zone →
+        (zone.source ≡ Rule rule.now) × IsMade (Rule rule.now)) }
     ensures err { IfErr result (λ e. (e ≡ OutOfMemory) ⊎ IsNone (read_whole rule.now)) }
 {
     let mut table = ZoneTable::new(alloc)?;
@@ -72,7 +75,8 @@ fn zones_of_rule(alloc: Global, rule: &str) -> Result<ZoneTable, Refusal>
 
 // One whose local zone is UTC.
 fn utc(alloc: Global) -> Result<ZoneTable, Refusal>
-    ensures ok { IfOk result (λ table. (zone : Zone) → local_zone table ≡ Some zone → zone ≡ utc_zone (codes "UTC")) }
+    ensures ok { IfOk result (λ table. (zone : Zone) → local_zone table ≡ Some zone →
+        zone ≡ utc_zone (codes "UTC")) }
     ensures err { IfErr result (λ e. e ≡ OutOfMemory) }
 {
     ZoneTable::new(alloc)
@@ -80,7 +84,8 @@ fn utc(alloc: Global) -> Result<ZoneTable, Refusal>
 
 // A table whose local zone is that of the rule, or UTC where no rule is given.
 fn zones(alloc: Global, rule: Option<&str>) -> Result<ZoneTable, Refusal>
-    ensures ok { IfOk result (λ table. (zone : Zone) → local_zone table ≡ Some zone → IsZoneOf rule.entry zone) }
+    ensures ok { IfOk result (λ table. (zone : Zone) → local_zone table ≡ Some zone →
+        IsZoneOf rule.entry zone) }
     ensures err { IfErr result (λ e. (e ≡ OutOfMemory) ⊎ IsNoRule rule.entry) }
 {
     match rule {

@@ -54,7 +54,8 @@ fn zone_copy(
 
 fn plan_of(alloc: Global, scene: Scene, now: Seconds) -> Result<Plan, Failure>
     requires { local_zone scene.zones ≡ Some (utc_zone (codes "UTC")) }
-    ensures { IfOk result (λ p. IsPlan (Some scene.cron) scene.jobs scene.active now (zone_for scene.cron.spec.time_zone (zones_of scene.zones)) p.steps) }
+    ensures { IfOk result (λ p. IsPlan (Some scene.cron) scene.jobs scene.active now
+        (zone_for scene.cron.spec.time_zone (zones_of scene.zones)) p.steps) }
 {
     let Scene {
         zones,
@@ -75,7 +76,8 @@ fn asked_why(
     active: &[Option<Shared<Job>>],
     now: Seconds,
 ) -> Result<String, Failure>
-    ensures { IfOk result (λ s. IsAskedWhy explain cron.now (option_copied zone.entry) active.now now (string_bytes s)) }
+    ensures { IfOk result (λ s. IsAskedWhy explain cron.now (option_copied zone.entry) active.now
+        now (string_bytes s)) }
 {
     if explain {
         Ok(why(alloc, cron, zone, active, now)?)
@@ -87,7 +89,9 @@ fn asked_why(
 // The same of a scenario.
 fn scene_why(alloc: Global, explain: bool, scene: &Scene, now: Seconds) -> Result<String, Failure>
     requires { local_zone scene.now.zones ≡ Some (utc_zone (codes "UTC")) }
-    ensures { IfOk result (λ s. IsAskedWhy explain scene.now.cron (zone_for scene.now.cron.spec.time_zone (zones_of scene.now.zones)) scene.now.active now (string_bytes s)) }
+    ensures { IfOk result (λ s. IsAskedWhy explain scene.now.cron
+        (zone_for scene.now.cron.spec.time_zone (zones_of scene.now.zones)) scene.now.active now
+        (string_bytes s)) }
 {
     let cron = scene.cron.get();
     let zone = zone_of(&scene.zones, &cron.spec.time_zone);
@@ -109,7 +113,8 @@ fn printed(
     why: &str,
     seen: &str,
 ) -> Result<Answer, Failure>
-    ensures { IfOk result (λ a. outcome_of a ≡ explained explain (why.now ++ seen.now) (done (plan_lines steps.now))) }
+    ensures { IfOk result (λ a. outcome_of a ≡ explained explain (why.now ++ seen.now)
+        (done (plan_lines steps.now))) }
 {
     let answer = Answer {
         verdict: Verdict::Done,
@@ -129,7 +134,9 @@ fn planned(
     seen: &str,
 ) -> Result<Answer, Failure>
     requires { local_zone scene.zones ≡ Some (utc_zone (codes "UTC")) }
-    ensures { (bytes : List ℕ) → IsScene bytes scene → IsAskedGlance explain Scenario bytes seen.now → IfOk result (λ a. IsPlannedFor explain bytes now (outcome_of a)) }
+    ensures { (bytes : List ℕ) → IsScene bytes scene →
+        IsAskedGlance explain Scenario bytes seen.now →
+        IfOk result (λ a. IsPlannedFor explain bytes now (outcome_of a)) }
 {
     let why = scene_why(alloc, explain, &scene, now)?;
     let plan = plan_of(alloc, scene, now)?;
@@ -146,7 +153,8 @@ fn fault_text(alloc: Global, fault: FieldFault) -> Result<String, AllocError>
 }
 
 fn manifest_fault(alloc: Global, explain: bool, fault: FieldFault) -> Result<Answer, AllocError>
-    ensures { IfOk result (λ a. outcome_of a ≡ explained explain (fault_words fault) (refusal (scene_line (Manifest fault)))) }
+    ensures { IfOk result (λ a. outcome_of a ≡ explained explain (fault_words fault)
+        (refusal (scene_line (Manifest fault)))) }
 {
     let line = fault_text(alloc, fault)?;
     let words = explain_fault(alloc, fault)?;
@@ -154,13 +162,15 @@ fn manifest_fault(alloc: Global, explain: bool, fault: FieldFault) -> Result<Ans
 }
 
 fn syntax_fault(alloc: Global, explain: bool, words: &str) -> Result<Answer, AllocError>
-    ensures { IfOk result (λ a. outcome_of a ≡ explained explain words.now (refusal (scene_line Syntax))) }
+    ensures { IfOk result (λ a. outcome_of a ≡ explained explain words.now
+        (refusal (scene_line Syntax))) }
 {
     Answer::refused(alloc, "cronsim: refused 1 Syntax\n")?.explained(explain, words)
 }
 
 fn no_json(alloc: Global, explain: bool, bytes: &[u8]) -> Result<Answer, Failure>
-    ensures { (wanted : Wanted) → IfOk result (λ a. IsSceneRefusal explain wanted bytes.now Syntax (outcome_of a)) }
+    ensures { (wanted : Wanted) → IfOk result
+        (λ a. IsSceneRefusal explain wanted bytes.now Syntax (outcome_of a)) }
 {
     let words = json_words(alloc, bytes)?;
     Ok(syntax_fault(alloc, explain, words.as_str())?)
@@ -175,7 +185,8 @@ fn form_words(alloc: Global, wanted: Form, bytes: &[u8]) -> Result<String, Failu
 }
 
 fn form_fault(alloc: Global, explain: bool, words: &str) -> Result<Answer, AllocError>
-    ensures { IfOk result (λ a. outcome_of a ≡ explained explain words.now (refusal (scene_line FormFault))) }
+    ensures { IfOk result (λ a. outcome_of a ≡ explained explain words.now
+        (refusal (scene_line FormFault))) }
 {
     Answer::refused(alloc, "cronsim: scenario\n")?.explained(explain, words)
 }
@@ -188,7 +199,8 @@ fn no_form(alloc: Global, explain: bool, wanted: Form, bytes: &[u8]) -> Result<A
 }
 
 fn faulty_manifest(alloc: Global, explain: bool, fault: FieldFault) -> Result<Answer, AllocError>
-    ensures { (wanted : Wanted) (bytes : List ℕ) → IfOk result (λ a. IsSceneRefusal explain wanted bytes (Manifest fault) (outcome_of a)) }
+    ensures { (wanted : Wanted) (bytes : List ℕ) →
+        IfOk result (λ a. IsSceneRefusal explain wanted bytes (Manifest fault) (outcome_of a)) }
 {
     manifest_fault(alloc, explain, fault)
 }
@@ -257,7 +269,8 @@ fn scene_answer(alloc: Global, explain: bool, bytes: &[u8], now: Seconds) -> Res
 }
 
 fn refused_moment(alloc: Global, explain: bool) -> Result<Answer, AllocError>
-    ensures { IfOk result (λ a. outcome_of a ≡ explained explain now_words (refusal (codes "cronsim: time\n"))) }
+    ensures { IfOk result (λ a. outcome_of a ≡ explained explain now_words
+        (refusal (codes "cronsim: time\n"))) }
 {
     Answer::refused(alloc, "cronsim: time\n")?.explained(explain, NOW_WORDS)
 }

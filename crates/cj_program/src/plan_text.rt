@@ -10,7 +10,8 @@ use std::alloc::{AllocError, Global};
 
 // A line of a word and a value, at the end of the text.
 fn push_line(text: &mut String, word: &str, value: &str) -> Result<(), AllocError>
-    ensures { OnOk result (string_bytes text.new ≡ string_bytes text.old ++ word_line word.now value.now) }
+    ensures { OnOk result (string_bytes text.new
+        ≡ string_bytes text.old ++ word_line word.now value.now) }
 {
     text.push_str(word)?;
     text.push_str(" ")?;
@@ -24,7 +25,8 @@ fn push_time(
     word: &str,
     time: Option<Seconds>,
 ) -> Result<(), Failure>
-    ensures { OnOk result (string_bytes text.new ≡ string_bytes text.old ++ word_line word.now (time_value time)) }
+    ensures { OnOk result (string_bytes text.new
+        ≡ string_bytes text.old ++ word_line word.now (time_value time)) }
 {
     match time {
         Some(time) => {
@@ -37,7 +39,8 @@ fn push_time(
 }
 
 fn push_jobs(text: &mut String, word: &str, jobs: &[JobRef]) -> Result<(), AllocError>
-    ensures { OnOk result (string_bytes text.new ≡ string_bytes text.old ++ job_lines word.now jobs.now) }
+    ensures { OnOk result (string_bytes text.new
+        ≡ string_bytes text.old ++ job_lines word.now jobs.now) }
 {
     for job in jobs {
         push_line(text, word, job.key.name())?;
@@ -46,7 +49,8 @@ fn push_jobs(text: &mut String, word: &str, jobs: &[JobRef]) -> Result<(), Alloc
 }
 
 fn push_reasons(text: &mut String, reasons: &[Reason]) -> Result<(), AllocError>
-    ensures { OnOk result (string_bytes text.new ≡ string_bytes text.old ++ reason_lines reasons.now) }
+    ensures { OnOk result (string_bytes text.new
+        ≡ string_bytes text.old ++ reason_lines reasons.now) }
 {
     for reason in reasons {
         push_line(text, "reason", reason.name())?;

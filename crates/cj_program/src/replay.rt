@@ -17,8 +17,10 @@ use std::io::{Read, Write};
 
 // Ends a run that was printed, by whether a step found the history full.
 fn end_of<E: Write>(is_full: bool, err: &mut E) -> u8
-    ensures well { result < 3 → (result ≡ 0) × (is_full ≡ false) × Appends (E.contents err.old) (E.contents err.new) [] }
-    ensures full { result ≡ 3 → (is_full ≡ true) × AppendsSome (E.contents err.old) (E.contents err.new) (codes "cronsim: history full\n") }
+    ensures well { result < 3 → (result ≡ 0) × (is_full ≡ false)
+        × Appends (E.contents err.old) (E.contents err.new) [] }
+    ensures full { result ≡ 3 → (is_full ≡ true)
+        × AppendsSome (E.contents err.old) (E.contents err.new) (codes "cronsim: history full\n") }
     ensures most { result ≤ 3 }
 {
     if is_full {
@@ -29,8 +31,10 @@ fn end_of<E: Write>(is_full: bool, err: &mut E) -> u8
 }
 
 fn run_script<W: Write, E: Write>(alloc: Global, script: &Script, out: &mut W, err: &mut E) -> u8
-    ensures well { result < 3 → (result ≡ 0) × EndsWell script.now (W.contents out.old) (W.contents out.new) (E.contents err.old) (E.contents err.new) }
-    ensures badly { result ≡ 3 → EndsBadly script.now (W.contents out.old) (W.contents out.new) (E.contents err.old) (E.contents err.new) }
+    ensures well { result < 3 → (result ≡ 0) × EndsWell script.now (W.contents out.old)
+        (W.contents out.new) (E.contents err.old) (E.contents err.new) }
+    ensures badly { result ≡ 3 → EndsBadly script.now (W.contents out.old) (W.contents out.new)
+        (E.contents err.old) (E.contents err.new) }
     ensures most { result ≤ 3 }
 {
     match replay(alloc, script, out) {
@@ -47,10 +51,13 @@ fn serve_bytes<W: Write, E: Write>(
     out: &mut W,
     err: &mut E,
 ) -> u8
-    ensures served { result < 3 → (input : Option (List ℕ)) → IsRead input bytes.now → (o : Outcome) × IsReplayOutcome explain input o × (result ≡ status_of o.verdict)
+    ensures served { result < 3 → (input : Option (List ℕ)) → IsRead input bytes.now →
+        (o : Outcome) × IsReplayOutcome explain input o × (result ≡ status_of o.verdict)
         × Appends (W.contents out.old) (W.contents out.new) o.printed
         × Appends (E.contents err.old) (E.contents err.new) o.said }
-    ensures failed { result ≡ 3 → (input : Option (List ℕ)) → IsRead input bytes.now → FailsReplay explain input (W.contents out.old) (W.contents out.new) (E.contents err.old) (E.contents err.new) }
+    ensures failed { result ≡ 3 → (input : Option (List ℕ)) → IsRead input bytes.now →
+        FailsReplay explain input (W.contents out.old) (W.contents out.new) (E.contents err.old)
+        (E.contents err.new) }
     ensures most { result ≤ 3 }
 {
     match read_script(alloc, bytes) {
@@ -71,10 +78,12 @@ pub(crate) fn serve_replay<R: Read, W: Write, E: Write>(
     out: &mut W,
     err: &mut E,
 ) -> u8
-    ensures served { result < 3 → (o : Outcome) × IsReplayOutcome explain (R.remaining input.old) o × (result ≡ status_of o.verdict)
+    ensures served { result < 3 → (o : Outcome) × IsReplayOutcome explain (R.remaining input.old) o
+        × (result ≡ status_of o.verdict)
         × Appends (W.contents out.old) (W.contents out.new) o.printed
         × Appends (E.contents err.old) (E.contents err.new) o.said }
-    ensures failed { result ≡ 3 → FailsReplay explain (R.remaining input.old) (W.contents out.old) (W.contents out.new) (E.contents err.old) (E.contents err.new) }
+    ensures failed { result ≡ 3 → FailsReplay explain (R.remaining input.old) (W.contents out.old)
+        (W.contents out.new) (E.contents err.old) (E.contents err.new) }
     ensures most { result ≤ 3 }
 {
     match read_input(alloc, input, MOST_BYTES, MOST_READS) {

@@ -18,7 +18,8 @@ use std::thread::Threads;
 
 // The answer with a report, and with what was seen of the scenario.
 fn reported(alloc: Global, explain: bool, report: String, seen: &str) -> Result<Answer, AllocError>
-    ensures { IfOk result (λ a. outcome_of a ≡ explained explain seen.now (done (string_bytes report))) }
+    ensures { IfOk result (λ a. outcome_of a ≡ explained explain seen.now
+        (done (string_bytes report))) }
 {
     let answer = Answer {
         verdict: Verdict::Done,

@@ -35,9 +35,13 @@ pub(crate) fn give_answer<W: Write, E: Write>(
     out: &mut W,
     err: &mut E,
 ) -> u8
-    ensures given { result < 3 → IsOkAnd answer (λ a. IsGiven result (outcome_of a) (W.contents out.old) (W.contents out.new) (E.contents err.old) (E.contents err.new)) }
-    ensures failed { result ≡ 3 → IsUnanswered (W.contents out.old) (W.contents out.new) (E.contents err.old) (E.contents err.new)
-        ⊎ IsOkAnd answer (λ a. IsCut (outcome_of a).printed (outcome_of a).said (W.contents out.old) (W.contents out.new) (E.contents err.old) (E.contents err.new)) }
+    ensures given { result < 3 → IsOkAnd answer
+        (λ a. IsGiven result (outcome_of a) (W.contents out.old) (W.contents out.new)
+        (E.contents err.old) (E.contents err.new)) }
+    ensures failed { result ≡ 3 → IsUnanswered (W.contents out.old) (W.contents out.new)
+        (E.contents err.old) (E.contents err.new)
+        ⊎ IsOkAnd answer (λ a. IsCut (outcome_of a).printed (outcome_of a).said (W.contents out.old)
+        (W.contents out.new) (E.contents err.old) (E.contents err.new)) }
     ensures most { result ≤ 3 }
 {
     match answer {
@@ -63,10 +67,12 @@ pub fn serve<T: Threads + Wait + Sync, R: Read, W: Write, E: Write>(
     out: &mut W,
     err: &mut E,
 ) -> u8
-    ensures served { result < 3 → (o : Outcome) × IsOutcome request.now (R.remaining input.old) o × (result ≡ status_of o.verdict)
+    ensures served { result < 3 → (o : Outcome) × IsOutcome request.now (R.remaining input.old) o
+        × (result ≡ status_of o.verdict)
         × Appends (W.contents out.old) (W.contents out.new) o.printed
         × Appends (E.contents err.old) (E.contents err.new) o.said }
-    ensures failed { result ≡ 3 → IsFailed request.now (R.remaining input.old) (W.contents out.old) (W.contents out.new) (E.contents err.old) (E.contents err.new) }
+    ensures failed { result ≡ 3 → IsFailed request.now (R.remaining input.old) (W.contents out.old)
+        (W.contents out.new) (E.contents err.old) (E.contents err.new) }
     ensures most { result ≤ 3 }
 {
     match request {

@@ -25,7 +25,8 @@ fn optional_text<'a>(found: &ArgMatches<'a>, id: &str) -> Option<&'a str>
 // The value of an argument that has one.
 fn text<'a>(found: &ArgMatches<'a>, id: &str) -> Result<&'a str, WordFault>
     ensures found { IfOk result (λ s. first_of id.now (rows_of (found_of found.now)) ≡ Some s.now) }
-    ensures missing { IfErr result (λ e. (e ≡ Incomplete) × (first_of id.now (rows_of (found_of found.now)) ≡ None)) }
+    ensures missing { IfErr result (λ e. (e ≡ Incomplete)
+        × (first_of id.now (rows_of (found_of found.now)) ≡ None)) }
 {
     match optional_text(found, id) {
         Some(text) => Ok(text),
@@ -74,7 +75,8 @@ fn workers(text: &str) -> Result<u8, WordFault>
 fn next_request<'a>(found: &ArgMatches<'a>) -> Result<NextRequest<'a>, WordFault>
     ensures stated { IfOk result (IsNext (rows_of (found_of found.now))) }
     ensures refused { IfErr result (λ e. e ≡ Incomplete) }
-    ensures only { IfErr result (λ _. (r : NextRequest) → ¬ (IsNext (rows_of (found_of found.now)) r)) }
+    ensures only { IfErr result (λ _. (r : NextRequest) →
+        ¬ (IsNext (rows_of (found_of found.now)) r)) }
 {
     let schedule = text(found, "schedule")?;
     let after = text(found, "after")?;
@@ -92,7 +94,8 @@ fn next_request<'a>(found: &ArgMatches<'a>) -> Result<NextRequest<'a>, WordFault
 fn check_request<'a>(found: &ArgMatches<'a>) -> Result<CheckRequest<'a>, WordFault>
     ensures stated { IfOk result (IsCheck (rows_of (found_of found.now))) }
     ensures refused { IfErr result (λ e. e ≡ Incomplete) }
-    ensures only { IfErr result (λ _. (r : CheckRequest) → ¬ (IsCheck (rows_of (found_of found.now)) r)) }
+    ensures only { IfErr result (λ _. (r : CheckRequest) →
+        ¬ (IsCheck (rows_of (found_of found.now)) r)) }
 {
     let file = text(found, "file")?;
     let zone = optional_text(found, "zone");
@@ -106,7 +109,8 @@ fn check_request<'a>(found: &ArgMatches<'a>) -> Result<CheckRequest<'a>, WordFau
 fn plan_request<'a>(found: &ArgMatches<'a>) -> Result<PlanRequest<'a>, WordFault>
     ensures stated { IfOk result (IsPlan (rows_of (found_of found.now))) }
     ensures refused { IfErr result (λ e. e ≡ Incomplete) }
-    ensures only { IfErr result (λ _. (r : PlanRequest) → ¬ (IsPlan (rows_of (found_of found.now)) r)) }
+    ensures only { IfErr result (λ _. (r : PlanRequest) →
+        ¬ (IsPlan (rows_of (found_of found.now)) r)) }
 {
     let moment = text(found, "now")?;
     Ok(PlanRequest {
@@ -119,7 +123,8 @@ fn plan_request<'a>(found: &ArgMatches<'a>) -> Result<PlanRequest<'a>, WordFault
 fn replay_request<'a>(found: &ArgMatches<'a>) -> Result<ReplayRequest<'a>, WordFault>
     ensures stated { IfOk result (IsReplay (rows_of (found_of found.now))) }
     ensures refused { IfErr result (λ e. e ≡ Incomplete) }
-    ensures only { IfErr result (λ _. (r : ReplayRequest) → ¬ (IsReplay (rows_of (found_of found.now)) r)) }
+    ensures only { IfErr result (λ _. (r : ReplayRequest) →
+        ¬ (IsReplay (rows_of (found_of found.now)) r)) }
 {
     Ok(ReplayRequest {
         file: text(found, "file")?,
@@ -130,7 +135,8 @@ fn replay_request<'a>(found: &ArgMatches<'a>) -> Result<ReplayRequest<'a>, WordF
 fn run_request<'a>(found: &ArgMatches<'a>) -> Result<RunRequest<'a>, WordFault>
     ensures stated { IfOk result (IsRunOf (rows_of (found_of found.now))) }
     ensures refused { IfErr result (λ e. e ≡ Incomplete) }
-    ensures only { IfErr result (λ _. (r : RunRequest) → ¬ (IsRunOf (rows_of (found_of found.now)) r)) }
+    ensures only { IfErr result (λ _. (r : RunRequest) →
+        ¬ (IsRunOf (rows_of (found_of found.now)) r)) }
 {
     let file = text(found, "file")?;
     let workers = workers(text(found, "workers")?)?;
@@ -144,7 +150,8 @@ fn run_request<'a>(found: &ArgMatches<'a>) -> Result<RunRequest<'a>, WordFault>
 fn request_of<'a>(matches: &ArgMatches<'a>) -> Result<Request<'a>, WordFault>
     ensures stated { IfOk result (IsOfRows (subcommand_rows_of matches.now)) }
     ensures refused { IfErr result (λ e. e ≡ Incomplete) }
-    ensures only { IfErr result (λ _. (r : Request) → ¬ (IsOfRows (subcommand_rows_of matches.now) r)) }
+    ensures only { IfErr result (λ _. (r : Request) →
+        ¬ (IsOfRows (subcommand_rows_of matches.now) r)) }
 {
     match matches.subcommand() {
         Some(("next", found)) => Ok(Request::Next(next_request(found)?)),

@@ -18,7 +18,8 @@ pub fn give<W: Write, E: Write>(
     ensures status { result < 3 → result ≡ status }
     ensures printed { result < 3 → Appends (W.contents out.old) (W.contents out.new) printed.now }
     ensures said { result < 3 → Appends (E.contents err.old) (E.contents err.new) said.now }
-    ensures cut { result ≡ 3 → IsCut printed.now said.now (W.contents out.old) (W.contents out.new) (E.contents err.old) (E.contents err.new) }
+    ensures cut { result ≡ 3 → IsCut printed.now said.now (W.contents out.old) (W.contents out.new)
+        (E.contents err.old) (E.contents err.new) }
     ensures most { result ≤ 3 }
 {
     if let Err(failure) = write_and_flush(out, printed.as_bytes()) {

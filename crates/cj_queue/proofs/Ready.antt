@@ -19,14 +19,17 @@ use Rattle.std.proofs.lemmas.Map.Keys.{sorted_head, sorted_tail}
 use Rattle.cj_table.proofs.Puts.{alike}
 use Rattle.cj_table.proofs.Gets.{get_rows, rows_entries, inserted, same_rows}
 
+-- Times with keys are in a total order, by time, then key.
 pub timed_total : IsTotalOrder timed_cmp
 timed_total = then_total (on_total (λ p. p.0) nat_cmp_total) (on_total (λ p. p.1) places_total)
 
+-- Where two orders, one asked after the other, give Equal, each of them is Equal.
 both_equal : (o p : Ordering) → ordering_then o p ≡ Equal → (o ≡ Equal) × (p ≡ Equal)
 both_equal Less p h = cc
 both_equal Equal p h = (refl, h)
 both_equal Greater p h = cc
 
+-- Two times with keys that tie in their order are the same.
 pub timed_exact : map.IsAntisymmetric timed_cmp
 timed_exact x y h =
     let parts = both_equal (nat_cmp x.0 y.0) (place_cmp x.1 y.1) h in
@@ -36,48 +39,60 @@ timed_exact x y h =
 
 -- ---- look-ups by time
 
+-- Two orders, of which the second is asked where the first ties, tie just where both do.
 both_ties : (o r : Ordering) → is_eq (ordering_then o r) ≡ (is_eq o && is_eq r)
 both_ties Less r = refl
 both_ties Equal r = refl
 both_ties Greater r = refl
 
+-- Two numbers tie in their order just where the second is equal to the first.
 ties_nat : (x y : ℕ) → is_eq (nat_cmp x y) ≡ (y == x)
 ties_nat x y = grind (arith, nat_tests)
 
+-- An order that ties is Equal.
 equal : (r : Ordering) → T (is_eq r) → r ≡ Equal
 equal Less p = absurd p
 equal Equal p = refl
 equal Greater p = absurd p
 
+-- A test that is true holds.
 true_T : (b : Bool) → b ≡ true → T b
 true_T true e = tt
 true_T false e = cc (e)
 
+-- Of two tests that hold together, the first holds.
 first : (a b : Bool) → T (a && b) → T a
 first true b p = tt
 first false b p = p
 
+-- Of two tests that hold together, the second holds.
 second : (a b : Bool) → T (a && b) → T b
 second true b p = p
 second false b p = absurd p
 
+-- What is less is no tie.
 less_apart : (o : Ordering) → T (is_lt o) → is_eq o ≡ false
 less_apart Less p = refl
 less_apart Equal p = absurd p
 less_apart Greater p = absurd p
 
+-- A choice by a test that fails is its second part.
 skip : {A : Type 0} (b : Bool) (x y : A) → b ≡ false → cond b x y ≡ y
 skip true x y e = cc (e)
 skip false x y e = refl
 
+-- A key that is below the keys of some entries isn't found among them.
 below_absent : (k : Place) (es : List (Place × ℕ)) → T (below_all place_cmp k es) → find place_cmp k es ≡ None
 below_absent k [] h = refl
-below_absent k (e ∷ es) h = skip (eq_by_cmp place_cmp k e.0) (Some e.1) (find place_cmp k es) (less_apart (place_cmp k e.0) (first _ _ h)) ∙ below_absent k es (second _ _ h)
+below_absent k (e ∷ es) h = skip (eq_by_cmp place_cmp k e.0) (Some e.1) (find place_cmp k es)
+    (less_apart (place_cmp k e.0) (first _ _ h)) ∙ below_absent k es (second _ _ h)
 
+-- For swapped: where the key is that of the first entry, the time alone decides.
 head_time : (a : Bool) → cond (a && true) (Some (tt {0})) None ≡ cond a (Some tt) None
 head_time true = refl
 head_time false = refl
 
+-- For swapped: where the key isn't that of the first entry, this one is passed over.
 off_head : {A : Type 0} (a : Bool) (x y : A) → cond (a && false) x y ≡ y
 off_head true x y = refl
 off_head false x y = refl
@@ -92,32 +107,45 @@ swapped (e ∷ es) t k s =
     ∙ ap (cond ((e.1 == t) && eq_by_cmp place_cmp k e.0) (Some tt)) (swapped es t k (second _ _ s))
     ∙ at_head (eq_by_cmp place_cmp k e.0) refl
   where
-    at_head : (b : Bool) → eq_by_cmp place_cmp k e.0 ≡ b → cond ((e.1 == t) && eq_by_cmp place_cmp k e.0) (Some (tt {0})) (at_time (find place_cmp k es) t) ≡ at_time (cond (eq_by_cmp place_cmp k e.0) (Some e.1) (find place_cmp k es)) t
+    at_head : (b : Bool) → eq_by_cmp place_cmp k e.0 ≡ b
+        → cond ((e.1 == t) && eq_by_cmp place_cmp k e.0) (Some (tt {0})) (at_time (find place_cmp k es) t)
+        ≡ at_time (cond (eq_by_cmp place_cmp k e.0) (Some e.1) (find place_cmp k es)) t
     at_head true h =
         let same : k ≡ e.0 = places_exact k e.0 (equal _ (true_T _ h)) in
-        let none : find place_cmp k es ≡ None = below_absent k es (subst (λ j. T (below_all place_cmp j es)) (sym same) (first _ _ s)) in
-        (λ i. cond ((e.1 == t) && h i) (Some (tt {0})) (at_time (none i) t)) ∙ head_time (e.1 == t) ∙ (λ i. at_time (cond (sym h i) (Some e.1) (find place_cmp k es)) t)
+        let none : find place_cmp k es ≡ None = below_absent k es
+        (subst (λ j. T (below_all place_cmp j es)) (sym same) (first _ _ s)) in
+        (λ i. cond ((e.1 == t) && h i) (Some (tt {0})) (at_time (none i) t)) ∙ head_time (e.1 == t)
+        ∙ (λ i. at_time (cond (sym h i) (Some e.1) (find place_cmp k es)) t)
     at_head false h =
-        (λ i. cond ((e.1 == t) && h i) (Some (tt {0})) (at_time (find place_cmp k es) t)) ∙ off_head (e.1 == t) (Some tt) (at_time (find place_cmp k es) t)
+        (λ i. cond ((e.1 == t) && h i) (Some (tt {0})) (at_time (find place_cmp k es) t))
+        ∙ off_head (e.1 == t) (Some tt) (at_time (find place_cmp k es) t)
         ∙ (λ i. at_time (cond (sym h i) (Some e.1) (find place_cmp k es)) t)
 
+-- The map by time has a time and key just where the key waits for that time.
 pub by_time_at : (m : Waiting) (t : ℕ) (k : Place) → map.get (by_time m) (t, k) ≡ at_time (map.get m k) t
 by_time_at m t k =
     map.get-from_entries timed_total (map_list (λ e. ((e.1, e.0), tt)) (map.entries m)) (t, k)
     ∙ swapped (map.entries m) t k (map.entries_sorted m)
     ∙ ap (λ o. at_time o t) (sym (map.get-entries m k))
 
-pub order_keys : (times : BTreeMap Place ℕ) (order : BTreeMap (ℕ × Place) (Unit {0})) → Agrees times order → IsStrictlySortedBy timed_cmp (map_list (λ e. e.0) order.entries)
+-- For Waits::ready: where both maps agree, the order's keys are those of by_time of the times.
+pub order_keys : (times : BTreeMap Place ℕ) (order : BTreeMap (ℕ × Place) (Unit {0})) → Agrees times order
+    → IsStrictlySortedBy timed_cmp (map_list (λ e. e.0) order.entries)
     → map_list (λ e. e.0) order.entries ≡ map.keys (by_time (map.from_entries times.entries))
 order_keys times order agree sorted =
     let m : Waiting = map.from_entries times.entries in
-    let same : map.from_entries {R = timed_cmp} order.entries ≡ by_time m = map.same_map timed_total timed_exact _ _ (λ p.
+    let same : map.from_entries {R = timed_cmp} order.entries ≡ by_time m =
+    map.same_map timed_total timed_exact _ _ (λ p.
     get_rows timed_total timed_exact order.entries p ∙ agree.same p.1 p.0
-    ∙ ap (λ o. at_time o p.0) (sym (get_rows places_total places_exact times.entries p.1)) ∙ sym (by_time_at m p.0 p.1)) in
-    ap (map_list (λ (e : (ℕ × Place) × Unit {0}). e.0)) (sym (rows_entries timed_total timed_exact order.entries sorted)) ∙ ap (λ (n : map.FinMap timed_cmp (Unit {0})). map.keys n) same
+    ∙ ap (λ o. at_time o p.0) (sym (get_rows places_total places_exact times.entries p.1)) ∙ sym (by_time_at m p.0 p.1))
+    in
+    ap (map_list (λ (e : (ℕ × Place) × Unit {0}). e.0))
+    (sym (rows_entries timed_total timed_exact order.entries sorted)) ∙ ap
+    (λ (n : map.FinMap timed_cmp (Unit {0})). map.keys n) same
 
 -- ---- the list of those that are ready
 
+-- What comes behind a time that is above now, in the order by time, then key, isn't ready.
 not_later : (s t now : ℕ) (o : Ordering) → now < s → ordering_then (nat_cmp s t) o ≡ Less → nat_le t now ≡ false
 not_later s t now o lt h = by (nat_cmp s t) refl h
   where
@@ -126,60 +154,88 @@ not_later s t now o lt h = by (nat_cmp s t) refl h
     by Equal e g = grind (arith, nat_tests, e, lt)
     by Greater e g = cc (g)
 
-pub late : (ps : List (ℕ × Place)) (p : ℕ × Place) (now : ℕ) → AllByRecursion (λ y. timed_cmp p y ≡ Less) ps → now < p.0 → ready_in ps now ≡ []
+-- Where each entry comes behind one whose time is above now, none is ready.
+pub late : (ps : List (ℕ × Place)) (p : ℕ × Place) (now : ℕ) → AllByRecursion (λ y. timed_cmp p y ≡ Less) ps → now < p.0
+    → ready_in ps now ≡ []
 late [] p now h lt = refl
-late (y ∷ ps) p now h lt = skip (nat_le y.0 now) (y.1 ∷ ready_in ps now) (ready_in ps now) (not_later p.0 y.0 now (place_cmp p.1 y.1) lt h.0) ∙ late ps p now h.1 lt
+late (y ∷ ps) p now h lt = skip (nat_le y.0 now) (y.1 ∷ ready_in ps now) (ready_in ps now)
+    (not_later p.0 y.0 now (place_cmp p.1 y.1) lt h.0) ∙ late ps p now h.1 lt
 
-pub all_late : (ps : List (ℕ × Place)) (p : ℕ × Place) (now : ℕ) → IsStrictlySortedBy timed_cmp (p ∷ ps) → now < p.0 → ready_in (p ∷ ps) now ≡ []
+-- Where the first of sorted entries has a time above now, none is ready.
+pub all_late : (ps : List (ℕ × Place)) (p : ℕ × Place) (now : ℕ) → IsStrictlySortedBy timed_cmp (p ∷ ps) → now < p.0
+    → ready_in (p ∷ ps) now ≡ []
 all_late ps p now h lt =
-    skip (nat_le p.0 now) (p.1 ∷ ready_in ps now) (ready_in ps now) (grind (arith, nat_tests, lt)) ∙ late ps p now (sorted_head timed_cmp p ps h) lt
+    skip (nat_le p.0 now) (p.1 ∷ ready_in ps now) (ready_in ps now) (grind (arith, nat_tests, lt))
+    ∙ late ps p now (sorted_head timed_cmp p ps h) lt
 
+-- A choice by a test that holds is its first part.
 taken : {A : Type 0} (b : Bool) (x y : A) → b ≡ true → cond b x y ≡ x
 taken true x y e = refl
 taken false x y e = cc (e)
 
-pub ready_step : (found : List Place) (rest next : List (ℕ × Place)) (p : ℕ × Place) (now : ℕ) (all : List Place) → found ++ ready_in rest now ≡ all → rest ≡ p ∷ next → p.0 ≤ now → (found ++ p.1 ∷ []) ++ ready_in next now ≡ all
+-- For first_ready: with a ready key more, those found and the ready ones to come are still all.
+pub ready_step : (found : List Place) (rest next : List (ℕ × Place)) (p : ℕ × Place) (now : ℕ) (all : List Place)
+    → found ++ ready_in rest now ≡ all → rest ≡ p ∷ next → p.0 ≤ now → (found ++ p.1 ∷ []) ++ ready_in next now ≡ all
 ready_step found rest next p now all inv e le =
     append_assoc found (p.1 ∷ []) (ready_in next now)
-    ∙ ap (λ l. found ++ l) (sym (taken (nat_le p.0 now) (p.1 ∷ ready_in next now) (ready_in next now) (grind (arith, nat_tests, le))) ∙ sym (ap (λ ps. ready_in ps now) e))
+    ∙ ap (λ l. found ++ l) (sym (taken (nat_le p.0 now) (p.1 ∷ ready_in next now) (ready_in next now)
+    (grind (arith, nat_tests, le))) ∙ sym (ap (λ ps. ready_in ps now) e))
     ∙ inv
 
-pub ready_stop : (found : List Place) (rest next : List (ℕ × Place)) (p : ℕ × Place) (now : ℕ) (all : List Place) → found ++ ready_in rest now ≡ all → rest ≡ p ∷ next → IsStrictlySortedBy timed_cmp rest → now < p.0 → found ≡ all
+-- For first_ready: where the next entry's time is above now, those found are all that are ready.
+pub ready_stop : (found : List Place) (rest next : List (ℕ × Place)) (p : ℕ × Place) (now : ℕ) (all : List Place)
+    → found ++ ready_in rest now ≡ all → rest ≡ p ∷ next → IsStrictlySortedBy timed_cmp rest → now < p.0 → found ≡ all
 ready_stop found rest next p now all inv e sorted lt =
     sym (append-nil found)
-    ∙ ap (λ l. found ++ l) (sym (all_late next p now (subst (IsStrictlySortedBy timed_cmp) e sorted) lt) ∙ sym (ap (λ ps. ready_in ps now) e))
+    ∙ ap (λ l. found ++ l) (sym (all_late next p now (subst (IsStrictlySortedBy timed_cmp) e sorted) lt)
+    ∙ sym (ap (λ ps. ready_in ps now) e))
     ∙ inv
 
-pub rest_sorted : (rest next : List (ℕ × Place)) (p : ℕ × Place) → rest ≡ p ∷ next → IsStrictlySortedBy timed_cmp rest → IsStrictlySortedBy timed_cmp next
+-- For first_ready: sorted entries stay sorted without the first of them.
+pub rest_sorted : (rest next : List (ℕ × Place)) (p : ℕ × Place) → rest ≡ p ∷ next → IsStrictlySortedBy timed_cmp rest
+    → IsStrictlySortedBy timed_cmp next
 rest_sorted rest next p e sorted = sorted_tail timed_cmp p next (subst (IsStrictlySortedBy timed_cmp) e sorted)
 
 -- ---- a key that waits
 
+-- Where a result promises P if it is Ok, and Q follows from P, it promises Q if it is Ok.
 pub on_ok : {A E : Type 0} (r : Result A E) (P Q : Type 0) → (P → Q) → OnOk r P → OnOk r Q
 on_ok (Ok x) P Q f h = f h
 on_ok (Err x) P Q f h = h
 
+-- Where a result promises P if it is an error, and Q follows from P, it promises Q if it is one.
 pub on_err : {A E : Type 0} (r : Result A E) (P Q : Type 0) → (P → Q) → OnErr r P → OnErr r Q
 on_err (Ok x) P Q f h = h
 on_err (Err x) P Q f h = f h
 
-pub set_is : (old new : BTreeMap Place ℕ) (k : Place) (at : ℕ) → SetsTime old new k at → map.from_entries {R = place_cmp} new.entries ≡ map.insert (map.from_entries old.entries) k at
+-- Where the times have a new one at a key and are else the same, the map has it inserted there.
+pub set_is : (old new : BTreeMap Place ℕ) (k : Place) (at : ℕ) → SetsTime old new k at
+    → map.from_entries {R = place_cmp} new.entries ≡ map.insert (map.from_entries old.entries) k at
 set_is old new k at sets = inserted places_total places_exact old.entries new.entries k at sets
 
-pub same_is : (old new : BTreeMap Place ℕ) → SameTimes old new → map.from_entries {R = place_cmp} new.entries ≡ map.from_entries old.entries
+-- Where the times are the same at each key, they are the same map.
+pub same_is : (old new : BTreeMap Place ℕ) → SameTimes old new → map.from_entries {R = place_cmp} new.entries
+    ≡ map.from_entries old.entries
 same_is old new same = same_rows places_total places_exact old.entries new.entries same
 
-pub get_time : (times : BTreeMap Place ℕ) (k : Place) (o : Option ℕ) → time_of times k ≡ o → map.get (map.from_entries {R = place_cmp} times.entries) k ≡ o
+-- The map of the times has at a key what a look-up in them finds.
+pub get_time : (times : BTreeMap Place ℕ) (k : Place) (o : Option ℕ) → time_of times k ≡ o
+    → map.get (map.from_entries {R = place_cmp} times.entries) k ≡ o
 get_time times k o e = get_rows places_total places_exact times.entries k ∙ e
 
 -- the key is put in with the earlier time
-pub waits_at_time : (times : BTreeMap Place ℕ) (k : Place) (at time : ℕ) (o : Option ℕ) → time_of times k ≡ o → time ≡ earlier o at → waits_for (map.from_entries times.entries) k at ≡ map.insert (map.from_entries times.entries) k time
-waits_at_time times k at time o e kept = ap (λ t. map.insert (map.from_entries {R = place_cmp} times.entries) k t) (ap (λ p. earlier p at) (get_time times k o e) ∙ sym kept)
+pub waits_at_time : (times : BTreeMap Place ℕ) (k : Place) (at time : ℕ) (o : Option ℕ) → time_of times k ≡ o
+    → time ≡ earlier o at → waits_for (map.from_entries times.entries) k at
+    ≡ map.insert (map.from_entries times.entries) k time
+waits_at_time times k at time o e kept = ap (λ t. map.insert (map.from_entries {R = place_cmp} times.entries) k t)
+    (ap (λ p. earlier p at) (get_time times k o e) ∙ sym kept)
 
+-- For put_again: to choose v at its key, where v stands there already, changes nothing.
 same_pick : (b : Bool) (v : ℕ) (old : Option ℕ) → (b ≡ true → old ≡ Some v) → cond b (Some v) old ≡ old
 same_pick true v old f = sym (f refl)
 same_pick false v old f = refl
 
+-- Of the three orders only Equal is a tie.
 tie_true : (o : Ordering) → is_eq o ≡ true → o ≡ Equal
 tie_true Less e = absurd (cc e)
 tie_true Equal e = refl
@@ -189,10 +245,13 @@ tie_true Greater e = absurd (cc e)
 pub put_again : (m : Waiting) (k : Place) (v : ℕ) → map.get m k ≡ Some v → map.insert m k v ≡ m
 put_again m k v e = alike _ _ (λ q.
     map.get-insert places_total m k v q
-    ∙ same_pick (eq_by_cmp place_cmp q k) v (map.get m q) (λ t. ap (map.get m) (places_exact q k (tie_true (place_cmp q k) t)) ∙ e))
+    ∙ same_pick (eq_by_cmp place_cmp q k) v (map.get m q)
+    (λ t. ap (map.get m) (places_exact q k (tie_true (place_cmp q k) t)) ∙ e))
 
 -- a key that waits for no later time stays
-pub waits_on : (times : BTreeMap Place ℕ) (k : Place) (at time before : ℕ) → time_of times k ≡ Some before → time ≡ earlier (Some before) at → before ≤ time → waits_for (map.from_entries times.entries) k at ≡ map.from_entries times.entries
+pub waits_on : (times : BTreeMap Place ℕ) (k : Place) (at time before : ℕ) → time_of times k ≡ Some before
+    → time ≡ earlier (Some before) at → before ≤ time → waits_for (map.from_entries times.entries) k at
+    ≡ map.from_entries times.entries
 waits_on times k at time before e kept le =
     let same : time ≡ before = omega (arith, kept, le) in
     waits_at_time times k at time (Some before) e kept

@@ -25,7 +25,10 @@ impl Model for Failures {
 
     ghost coded = { failures_code };
 
-    ghost view = { λ f. record { counts = map.from_entries {R = place_cmp} f.counts.entries; room = spare f.counts } };
+    ghost view = { λ f. record {
+      counts = map.from_entries {R = place_cmp} f.counts.entries;
+      room = spare f.counts;
+    } };
 }
 
 // Writes into a map that has room.

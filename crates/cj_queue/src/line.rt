@@ -32,7 +32,10 @@ impl Model for Line {
 
     ghost coded = { line_code };
 
-    ghost view = { λ l. record { keys = drop l.gone l.front.keys ++ l.back.keys; room = spare l.back } };
+    ghost view = { λ l. record {
+      keys = drop l.gone l.front.keys ++ l.back.keys;
+      room = spare l.back;
+    } };
 }
 
 impl Line {
@@ -116,7 +119,8 @@ fn holds_from(set: &IndexSet<Key>, first: usize, key: &Key) -> bool
 
 // Where the whole front is gone, the back takes its place. The line stays the same.
 fn turn(front: &mut IndexSet<Key>, gone: &mut usize, back: &mut IndexSet<Key>)
-    ensures line { drop gone.new front.new.keys ++ back.new.keys ≡ drop gone.old front.old.keys ++ back.old.keys }
+    ensures line { drop gone.new front.new.keys ++ back.new.keys
+        ≡ drop gone.old front.old.keys ++ back.old.keys }
     ensures used_up { length front.new.keys ≤ gone.new → back.new.keys ≡ [] }
 {
     if *gone >= front.len() {

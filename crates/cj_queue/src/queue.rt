@@ -35,7 +35,13 @@ impl Model for Queue {
 
     ghost coded = { queue_code };
 
-    ghost view = { λ q. record { row = q.rows.row; waiting = q.waits; failures = q.failures.counts; tick = q.tick; shut = q.shut } };
+    ghost view = { λ q. record {
+      row = q.rows.row;
+      waiting = q.waits;
+      failures = q.failures.counts;
+      tick = q.tick;
+      shut = q.shut;
+    } };
 }
 
 impl Queue {

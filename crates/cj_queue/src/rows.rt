@@ -32,7 +32,14 @@ impl Model for Rows {
 
     ghost coded = { rows_code };
 
-    ghost view = { λ r. record { row = record { line = r.line.keys; dirty = keys_of (r.line.keys ++ r.again.keys); processing = keys_of r.processing.keys }; room = min r.line.room (spare r.again) } };
+    ghost view = { λ r. record {
+      row = record {
+        line = r.line.keys;
+        dirty = keys_of (r.line.keys ++ r.again.keys);
+        processing = keys_of r.processing.keys;
+      };
+      room = min r.line.room (spare r.again);
+    } };
 
     ghost invariant = { λ r. IsLined r.line.keys r.again.keys r.processing.keys };
 }

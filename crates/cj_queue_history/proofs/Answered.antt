@@ -30,6 +30,7 @@ use Rattle.cj_queue_history.specs.Answers.{IsFirst, NoneQueued, OnTake, TakeSays
 use Rattle.cj_queue_history.proofs.Rows.{itself}
 use Rattle.cj_queue_history.proofs.Agreed.{queue_agrees}
 
+-- The queue of the state s is what the acts h say.
 module _ (h : List Act) (s : State) (is : IsQueue h s.queue) where
   -- a key that stands in the list, and isn't its first, stands behind it
   behind : (k j : Place) (ks : List Place) → stands_in (k ∷ ks) j ≡ true → key_eq j k ≡ false → stands_in ks j ≡ true
@@ -39,34 +40,44 @@ module _ (h : List Act) (s : State) (is : IsQueue h s.queue) where
       by true e f = absurd (cc e)
       by false e f = f
 
+  -- The first key of the line is queued, and became so before each other queued key.
   is_first : (k : Place) (ks : List Place) → s.queue.row.line ≡ k ∷ ks → IsFirst h k
   is_first k ks e =
-      let members : (j : Place) → stands_in (k ∷ ks) j ≡ queued h j = λ j. sym (ap (λ l. stands_in l j) e) ∙ is.line.members j in
+      let members : (j : Place) → stands_in (k ∷ ks) j ≡ queued h j = λ j. sym (ap (λ l. stands_in l j) e)
+      ∙ is.line.members j in
       let rises : RisesBy (since h) (k ∷ ks) = subst (RisesBy (since h)) e is.line.order in
       record {
         there = sym (members k) ∙ itself k ks;
         before = λ j q apart. rises.0 j (behind k j ks (members j ∙ q) apart);
       }
 
+  -- Where the line is empty, no key is queued.
   none_queued : s.queue.row.line ≡ [] → NoneQueued h
   none_queued e k = sym (is.line.members k) ∙ ap (λ l. stands_in l k) e
 
-  nothing_says : (b : Bool) → s.queue.shut ≡ b → s.queue.row.line ≡ [] → OnTake h (Err (if b then No.ShutDown else No.Empty))
+  -- Where the line is empty, ShutDown or Empty is what the acts say a Take is answered.
+  nothing_says : (b : Bool) → s.queue.shut ≡ b → s.queue.row.line ≡ [] →
+      OnTake h (Err (if b then No.ShutDown else No.Empty))
   nothing_says true e f = (none_queued f, sym is.shut ∙ e)
   nothing_says false e f = (none_queued f, sym is.shut ∙ e)
 
+  -- A Take without a seat is answered as the acts say, has the line a first key or none.
   first_says : (w : ℕ) (l : List Place) → s.queue.row.line ≡ l → OnTake h (take_first s w (first l)).answer
   first_says w [] e = nothing_says s.queue.shut refl e
   first_says w (k ∷ ks) e = is_first k ks e
 
+  -- A Take is answered as the acts say, has the caller a seat or none.
   take_says : (w : ℕ) (o : Option Seat) → TakeSays h o (take_by s w o).answer
   take_says w None = first_says w s.queue.row.line refl
   take_says w (Some y) = refl
 
-work_says : (s : State) (w : ℕ) (k : Place) (work : Work) (b : Bool) → (finish_work s w k work b).answer ≡ (if b then Ok Say.Done else Err No.OutOfPhase)
+-- A worker at its plan may end well where no step is left (Done), and else is OutOfPhase.
+work_says : (s : State) (w : ℕ) (k : Place) (work : Work) (b : Bool) → (finish_work s w k work b).answer
+    ≡ (if b then Ok Say.Done else Err No.OutOfPhase)
 work_says s w k work true = refl
 work_says s w k work false = refl
 
+-- The end of a sync by one who holds a key is answered as the phase of its seat says.
 end_says : (s : State) (w : ℕ) (end : End) (k : Place) (p : Phase) → (finish_in s w end k p).answer ≡ on_end end p
 end_says s w (Again now) k p = refl
 end_says s w Well k Held = refl
@@ -75,33 +86,45 @@ end_says s w Well k (Listed c js) = refl
 end_says s w Well k (Checked c js ks) = refl
 end_says s w Well k (Works work) = work_says s w k work (is_over (step_at work.plan.steps work.place))
 
-finish_says : (s : State) (w : ℕ) (end : End) (o : Option Seat) → (by_seat s (finish_in s w end) o).answer ≡ on_finish end o
+-- A Finish is answered as the caller's seat says; without a seat it is OutOfPhase.
+finish_says : (s : State) (w : ℕ) (end : End) (o : Option Seat) → (by_seat s (finish_in s w end) o).answer
+    ≡ on_finish end o
 finish_says s w end None = refl
 finish_says s w end (Some y) = end_says s w end y.key y.phase
 
-worker_says : (h : List Act) (s : State) (w : ℕ) (call : Call) → IsQueue h s.queue → Says h (seat_of s w) Worker call (by_worker s w call).answer
+-- A worker's Take or Finish is answered as the acts and its seat say.
+worker_says : (h : List Act) (s : State) (w : ℕ) (call : Call) → IsQueue h s.queue
+    → Says h (seat_of s w) Worker call (by_worker s w call).answer
 unfolding take finish
 worker_says h s w Of.Take is = take_says h s is w (seat_of s w)
 worker_says h s w (Of.Finish end rs) is = finish_says s w end (seat_of s w)
 worker_says h s w call is = tt
 
-informer_says : (h : List Act) (s : State) (o : Option Seat) (call : Call) → Says h o Informer call (by_informer s call).answer
+-- An informer's add, tick and shutdown are each answered Done.
+informer_says : (h : List Act) (s : State) (o : Option Seat) (call : Call)
+    → Says h o Informer call (by_informer s call).answer
 informer_says h s o (Of.Add k) = refl
 informer_says h s o (Of.Tick now) = refl
 informer_says h s o Of.Shut = refl
 informer_says h s o call = tt
 
-role_says : (h : List Act) (s : State) (role : Role) (w : ℕ) (call : Call) → IsQueue h s.queue → Says h (seat_of s w) role call (by_role s role w call).answer
+-- Whatever the caller's role, its call of the queue is answered as the acts and its seat say.
+role_says : (h : List Act) (s : State) (role : Role) (w : ℕ) (call : Call) → IsQueue h s.queue
+    → Says h (seat_of s w) role call (by_role s role w call).answer
 role_says h s Worker w call is = worker_says h s w call is
 role_says h s Informer w call is = informer_says h s (seat_of s w) call
 role_says h s User w call is = tt
 role_says h s Runner w call is = tt
 
-step_says : (h : List Act) (s : State) (caller : Caller) (call : Call) → IsQueue h s.queue → Says h (seat_of s caller.number) caller.role call (step_of s caller call).answer
+-- A step at a queue that is what the acts say answers as the acts and the caller's seat say.
+step_says : (h : List Act) (s : State) (caller : Caller) (call : Call) → IsQueue h s.queue
+    → Says h (seat_of s caller.number) caller.role call (step_of s caller call).answer
 unfolding step_of
 step_says h s caller call is = role_says h s caller.role caller.number call is
 
+-- For answer_law: after a legal history a call is answered as its acts and the caller's seat say.
 pub answers_agree : AnswerLaw
 answers_agree window h caller call l =
-    subst (λ (o : Option Seat). Says (acts h) o caller.role call (step_of (state_of window h) caller call).answer) (seats_agree window h l caller.number)
+    subst (λ (o : Option Seat). Says (acts h) o caller.role call (step_of (state_of window h) caller call).answer)
+    (seats_agree window h l caller.number)
     (step_says (acts h) (state_of window h) caller call (queue_agrees window h l))

@@ -6,9 +6,11 @@ use Rattle.cj_table.proofs.Order.{places_total}
 use Rattle.cj_queue_history.specs.LookBacks.{Before}
 use Rattle.cj_queue_history.proofs.Rows.{before_itself}
 
+-- Of two keys it can't be that each is less than the other.
 not_both : (j k : Place) → place_cmp j k ≡ Less → place_cmp k j ≡ Less → ⊥
 not_both j k x y = before_itself (0, 0) j (inr (refl, inr (refl, places_total.trans j k j x y)))
 
+-- Of two keys it can't be that each stands before the other, by place, then time, then key.
 pub both_ways : (p q : ℕ × ℕ) (j k : Place) → Before p j q k → Before q k p j → ⊥
 both_ways p q j k (inl a) (inl b) = omega (arith, a, b)
 both_ways p q j k (inl a) (inr b) = let c = b.0 in omega (arith, a, c)

@@ -32,6 +32,7 @@ abbrev pub MayTake : Deed → Option Place → (Place → Option ℕ) → Type 0
 MayTake (takes j) s o = (s ≡ None) × (o j ≡ None)
 MayTake _ s o = Unit {0}
 
+-- For tie_step, a take of a key that nobody holds by a caller without a key: the two still agree.
 tie_took : (a b : Bool) (v w : ℕ) (j k : Place) (o : Option ℕ) (s : Option Place) → key_eq k j ≡ a → (v == w) ≡ b
     → is_by o w ≡ holds s k → (a ≡ true → o ≡ None) → (b ≡ true → s ≡ None)
     → is_by (cond a (Some v) o) w ≡ holds (cond b (Some j) s) k
@@ -40,6 +41,7 @@ tie_took true false v w j k o s p q t free idle = q ∙ ap (λ (x : Option ℕ).
 tie_took false true v w j k o s p q t free idle = t ∙ ap (λ (x : Option Place). holds x k) (idle refl) ∙ sym p
 tie_took false false v w j k o s p q t free idle = t
 
+-- For tie_step, an end, after which its caller's key is free and the caller without: the two agree.
 tie_finished : (a b : Bool) (v w : ℕ) (k : Place) (o : Option ℕ) (s : Option Place) → is_by o v ≡ a → (v == w) ≡ b
     → is_by o w ≡ holds s k → is_by (cond a None o) w ≡ holds (cond b None s) k
 tie_finished true true v w k o s p q t = refl
@@ -49,10 +51,12 @@ tie_finished false true v w k None s p q t = refl
 tie_finished false true v w k (Some u) s p q t = ap (λ x. u == x) (sym (eqb-true v w q)) ∙ p
 tie_finished false false v w k o s p q t = t
 
+-- For tie_step: a caller whose key stays as it is holds just what it held.
 tie_other : (b : Bool) (s : Option Place) (k : Place) → holds (cond b s s) k ≡ holds s k
 tie_other true s k = refl
 tie_other false s k = refl
 
+-- After any deed a caller is the holder of a key just where it is the key that the caller holds.
 pub tie_step : (d : Deed) (v w : ℕ) (k : Place) (o : Place → Option ℕ) (s : ℕ → Option Place)
     → ((j : Place) (u : ℕ) → is_by (o j) u ≡ holds (s u) j) → MayTake d (s v) o
     → is_by (holder_after d v k (o k)) w ≡ holds (cond (v == w) (sits d (s w)) (s w)) k
@@ -67,6 +71,7 @@ tie_step (ticks n) v w k o s t may = t k w ∙ sym (tie_other (v == w) (s w) k)
 tie_step shuts v w k o s t may = t k w ∙ sym (tie_other (v == w) (s w) k)
 tie_step nothing v w k o s t may = t k w ∙ sym (tie_other (v == w) (s w) k)
 
+-- A key that is dirty but not held, as those in the line are, has no holder.
 pub free : (d : Bool) (o : Option ℕ) → (d && not (is_some o)) ≡ true → o ≡ None
 free true None e = refl
 free true (Some v) e = cc (e)
@@ -74,15 +79,19 @@ free false o e = cc (e)
 
 -- ---- seats and the keys that they have
 
+-- A seat that is put at a given phase keeps its key.
 phase_key : (o : Option Seat) (p : Phase) → key_of (at_phase o p) ≡ key_of o
 phase_key None p = refl
 phase_key (Some s) p = refl
 
+-- A seat whose phase is made from the one before keeps its key.
 on_key : (f : Phase → Phase) (o : Option Seat) → key_of (on f o) ≡ key_of o
 on_key f None = refl
 on_key f (Some s) = refl
 
-claimed_key : (o : Option Seat) (call : Call) (r : Reply) → key_of (accepted o call r) ≡ sits (deed o call (Ok r)) (key_of o)
+-- An accepted call leaves its caller's seat the key that its deed says.
+claimed_key : (o : Option Seat) (call : Call) (r : Reply) → key_of (accepted o call r)
+    ≡ sits (deed o call (Ok r)) (key_of o)
 claimed_key o (Of.Add k) Is.Done = refl
 claimed_key o (Of.Tick now) Is.Done = refl
 claimed_key o Of.Shut Is.Done = refl
@@ -99,21 +108,28 @@ claimed_key o (Of.Finish Well rs) Is.Done = refl
 claimed_key o (Of.Finish (Again now) rs) Is.Done = refl
 claimed_key o call r = refl
 
-after_key : (o : Option Seat) (call : Call) (a : Result Reply Refusal) → key_of (seat_after o call a) ≡ sits (deed o call a) (key_of o)
+-- Any call, accepted or refused, leaves its caller's seat the key that its deed says.
+after_key : (o : Option Seat) (call : Call) (a : Result Reply Refusal) → key_of (seat_after o call a)
+    ≡ sits (deed o call a) (key_of o)
 after_key o call (Ok r) = claimed_key o call r
 after_key o call (Err e) = refl
 
 -- the key that a worker holds after an entry
 key_case : (b : Bool) (v w : ℕ) (h : List Told) (call : Call) (a : Result Reply Refusal) → (b ≡ true → v ≡ w)
-    → key_of (if b then seat_after (seat h w) call a else seat h w) ≡ cond b (sits (deed (seat h v) call a) (key_of (seat h w))) (key_of (seat h w))
-key_case true v w h call a e = after_key (seat h w) call a ∙ ap (λ u. sits (deed (seat h u) call a) (key_of (seat h w))) (sym (e refl))
+    → key_of (if b then seat_after (seat h w) call a else seat h w) ≡ cond b
+    (sits (deed (seat h v) call a) (key_of (seat h w))) (key_of (seat h w))
+key_case true v w h call a e = after_key (seat h w) call a ∙ ap (λ u. sits (deed (seat h u) call a) (key_of (seat h w)))
+    (sym (e refl))
 key_case false v w h call a e = refl
 
+-- It makes no difference which of two numbers is compared with the other.
 same_number : (v w : ℕ) → (w == v) ≡ (v == w)
 same_number v w = grind (arith, nat_tests)
 
+-- One entry more leaves the caller's seat the key that its deed says, and each other seat its own.
 pub next_key : (e : Told) (h : List Told) (w : ℕ)
-    → key_of (seat (e ∷ h) w) ≡ cond (e.caller.number == w) (sits (deed (seat h e.caller.number) e.call e.answer) (key_of (seat h w))) (key_of (seat h w))
+    → key_of (seat (e ∷ h) w) ≡ cond (e.caller.number == w)
+    (sits (deed (seat h e.caller.number) e.call e.answer) (key_of (seat h w))) (key_of (seat h w))
 next_key e h w =
     ap (λ b. key_of (if b then seat_after (seat h w) e.call e.answer else seat h w)) (same_number e.caller.number w)
     ∙ key_case (e.caller.number == w) e.caller.number w h e.call e.answer (eqb-true e.caller.number w)

@@ -51,46 +51,65 @@ due = told 0 Informer (Of.Tick 1005) (Ok Say.Done) ∷ early
 abbrev taken_again : List Told
 taken_again = told 2 Worker Of.Take (Ok (Say.Key a)) ∷ due
 
+-- The history of one add is legal.
 pub legal_add : IsLegal 3 added
 unfolding step_of
 legal_add = (refl, refl, tt)
 
+-- A take by a worker that holds no key is answered the key a, where a is the first of the line.
 takes_it : (s : State) → seat_of s 1 ≡ None → first s.queue.row.line ≡ Some a → (take s 1).answer ≡ Ok (Say.Key a)
 unfolding take
-takes_it s e f = ap (λ (o : Option Seat). (take_by s 1 o).answer) e ∙ ap (λ (o : Option Place). (take_first s 1 o).answer) f
+takes_it s e f = ap (λ (o : Option Seat). (take_by s 1 o).answer) e ∙ ap
+    (λ (o : Option Place). (take_first s 1 o).answer) f
 
+-- After an add to an empty row the key is the first of the line.
 in_line : first (row_add new_row a).line ≡ Some a
 in_line =
     let none : has map.empty a ≡ false = ap is_some (map.get-empty {X = Unit {0}} place_cmp a) in
-    ap (λ b. first (if b then new_row else record { line = if b then [] else a ∷ []; dirty = map.insert map.empty a tt; processing = map.empty }).line) none
+    ap (λ b. first (if b then new_row else record {
+      line = if b then [] else a
+          ∷ [];
+      dirty = map.insert map.empty a tt;
+      processing = map.empty;
+    }).line) none
 
+-- The history of an add and a take of the key is legal.
 pub legal_take : IsLegal 3 taken
 unfolding step_of
 legal_take = (sym (takes_it (state_of 3 added) (map.get-empty nat_cmp 1) in_line), refl, legal_add)
 
+-- The key that is added again while it is held is not queued.
 pub not_twice : queued (acts added_again) a ≡ false
 not_twice = refl
 
+-- The key is still held after that second add.
 pub is_held : held (acts added_again) a ≡ true
 is_held = refl
 
+-- After a failed sync the key waits for the millisecond 1,005.
 pub waits_first : ready_at (acts early) a ≡ Some 1005
 waits_first = refl
 
+-- At the tick of the millisecond before, the key is not queued.
 pub not_yet : queued (acts early) a ≡ false
 not_yet = refl
 
+-- By then the key has failed once.
 pub failed_once : failures (acts early) a ≡ 1
 failed_once = refl
 
+-- At the tick of the millisecond 1,005 the key is queued.
 pub then_queued : queued (acts due) a ≡ true
 then_queued = refl
 
+-- It became queued by the fifth act, that tick, with its time 1,005.
 pub since_then : since (acts due) a ≡ (5, 1005)
 since_then = refl
 
+-- From that tick on the key waits for nothing.
 pub waits_no_more : ready_at (acts due) a ≡ None
 waits_no_more = refl
 
+-- After the take of another worker the key is held again.
 pub held_again : held (acts taken_again) a ≡ true
 held_again = refl

@@ -8,10 +8,12 @@ use Rattle.cj_queue.specs.Queue.{Keys, has}
 use Rattle.cj_queue.proofs.Sets.{eq_true, eq_self}
 use Rattle.cj_queue_laws.specs.Rows.{IsIn, AreOnce}
 
+-- A test that is both true and false: from this, anything follows.
 pub clash : {A : Type 0} (b : Bool) → b ≡ true → b ≡ false → A
 clash true p q = absurd (cc q)
 clash false p q = absurd (cc p)
 
+-- Two keys are the same, or they are not.
 pub same_or_other : (q k : Place) → (q ≡ k) ⊎ (q ≢ k)
 same_or_other q k = by (key_eq q k) refl
   where
@@ -21,6 +23,7 @@ same_or_other q k = by (key_eq q k) refl
 
 -- ---- lists
 
+-- A key of a list with k put last is one of the list, or k.
 pub in_pushed : (q k : Place) (ks : List Place) → IsIn q (ks ++ k ∷ []) → IsIn q ks ⊎ (k ≡ q)
 in_pushed q k [] (inl e) = inr e
 in_pushed q k [] (inr h) = absurd h
@@ -31,15 +34,18 @@ in_pushed q k (x ∷ ks) (inr h) = by (in_pushed q k ks h)
     by (inl i) = inl (inr i)
     by (inr e) = inr e
 
+-- A key of a list still stands in it with k put last.
 pub in_before : (q k : Place) (ks : List Place) → IsIn q ks → IsIn q (ks ++ k ∷ [])
 in_before q k [] h = absurd h
 in_before q k (x ∷ ks) (inl e) = inl e
 in_before q k (x ∷ ks) (inr h) = inr (in_before q k ks h)
 
+-- The key k stands in a list with k put last.
 pub in_last : (q k : Place) (ks : List Place) → k ≡ q → IsIn q (ks ++ k ∷ [])
 in_last q k [] e = inl e
 in_last q k (x ∷ ks) e = inr (in_last q k ks e)
 
+-- Where no key stands twice and k isn't in the list, no key stands twice with k put last.
 pub once_pushed : (k : Place) (ks : List Place) → AreOnce ks → (IsIn k ks → ⊥) → AreOnce (ks ++ k ∷ [])
 once_pushed k [] once n = (λ h. h, tt)
 once_pushed k (x ∷ ks) once n = (λ h. by (in_pushed x k ks h), once_pushed k ks once.1 (λ i. n (inr i)))
@@ -50,18 +56,23 @@ once_pushed k (x ∷ ks) once n = (λ h. by (in_pushed x k ks h), once_pushed k 
 
 -- ---- sets
 
+-- A key that is inserted into a set is in it.
 pub has_new : (m : Keys) (k : Place) → has (map.insert m k tt) k ≡ true
 has_new m k = ap is_some ((places_apart (Unit {0})).put_here m k tt)
 
+-- An insert of k into a set changes nothing at any other key.
 pub has_apart : (m : Keys) (k q : Place) → q ≢ k → has (map.insert m k tt) q ≡ has m q
 has_apart m k q n = ap is_some ((places_apart (Unit {0})).put_other m k q tt n)
 
+-- A key that is removed from a set isn't in it.
 pub has_gone : (m : Keys) (k : Place) → has (map.remove m k) k ≡ false
 has_gone m k = ap is_some ((places_apart (Unit {0})).cut_here m k)
 
+-- A removal of k from a set changes nothing at any other key.
 pub has_other : (m : Keys) (k q : Place) → q ≢ k → has (map.remove m k) q ≡ has m q
 has_other m k q n = ap is_some ((places_apart (Unit {0})).cut_other m k q n)
 
+-- A key that is in a set still is after an insert.
 pub has_still : (m : Keys) (k q : Place) → has m q ≡ true → has (map.insert m k tt) q ≡ true
 has_still m k q h = by (same_or_other q k)
   where
@@ -69,6 +80,7 @@ has_still m k q h = by (same_or_other q k)
     by (inl e) = ap (has (map.insert m k tt)) e ∙ has_new m k
     by (inr n) = has_apart m k q n ∙ h
 
+-- A key that isn't in a set still isn't after a removal.
 pub has_no_more : (m : Keys) (k q : Place) → has m q ≡ false → has (map.remove m k) q ≡ false
 has_no_more m k q h = by (same_or_other q k)
   where

@@ -15,11 +15,15 @@ use Rattle.cj_sights.specs.Sights.{seen_of}
 use Rattle.cj_replay.specs.Calls.{IsCallOf}
 use Rattle.cj_replay.specs.Runs.{Plays, after, answered, is_full, job_at, place_after}
 
-place_by : (t : Told) (h : List Told) (b : Bool) → (if b then Some (length (if b then t ∷ h else h)) else None) ≡ (if b then Some (length h + 1) else None)
+-- For plays: an entry that was added stands at the place after those before it.
+place_by : (t : Told) (h : List Told) (b : Bool) → (if b then Some (length (if b then t ∷ h else h)) else None)
+    ≡ (if b then Some (length h + 1) else None)
 place_by t h true = let e : length (t ∷ h) ≡ length h + 1 = omega arith in ap (λ (n : ℕ). Some n) e
 place_by t h false = refl
 
-pub plays : (zones : ZoneTable) (limits : Kept) (h : List Told) (step : Step) (call : Call) (answer : Result Reply Refusal) (h' : List Told) (line : List ℕ) (full : Bool)
+-- For play: a step's call, its answer, its line and the history left are what Plays says.
+pub plays : (zones : ZoneTable) (limits : Kept) (h : List Told) (step : Step) (call : Call) (answer : Result Reply
+    Refusal) (h' : List Told) (line : List ℕ) (full : Bool)
     → IsCallOf zones (seen_of step.caller.number h) (job_at limits.window h) step.act call
     → answer ≡ answered limits h step.caller call → h' ≡ after h step.caller call answer
     → line ≡ step_line (if is_entered answer then Some (length h') else None) step.who step.verb answer
@@ -31,8 +35,10 @@ plays zones limits h step call answer h' line full means given leaves printed fo
   given = given;
   printed =
       printed
-      ∙ ap (λ (l : List Told). step_line (if is_entered answer then Some (length l) else None) step.who step.verb answer) leaves
-      ∙ ap (λ (o : Option ℕ). step_line o step.who step.verb answer) (place_by (told step.caller call answer) h (is_entered answer));
+      ∙ ap (λ (l : List Told). step_line (if is_entered answer then Some (length l) else None) step.who step.verb
+      answer) leaves
+      ∙ ap (λ (o : Option ℕ). step_line o step.who step.verb answer)
+      (place_by (told step.caller call answer) h (is_entered answer));
   found = found;
   leaves = leaves;
 }

@@ -7,16 +7,20 @@ use Rattle.cj_calls.specs.Rows.{Told}
 use Rattle.cj_script.specs.declared.step.Step.{Step}
 use Rattle.cj_replay.specs.Runs.{AllPlay, Plays, PlaysFirst}
 
+-- A test or what is false is the test.
 or_nothing : (a : Bool) → (a || false) ≡ a
 or_nothing true = refl
 or_nothing false = refl
 
+-- Whether one of three tests holds doesn't depend on which two are joined first.
 or_both : (a b c : Bool) → ((a || b) || c) ≡ (a || (b || c))
 or_both true b c = refl
 or_both false b c = refl
 
 module _ (zones : ZoneTable) (limits : Kept) (step : Step) (line : List ℕ) (now : Bool) (h2 : List Told) where
-  alone : (h h1 : List Told) (text : List ℕ) (full : Bool) → text ≡ [] → full ≡ false → h1 ≡ h → Plays zones limits h1 step line now h2
+  -- For plays_more: one step after none is all that was played.
+  alone : (h h1 : List Told) (text : List ℕ) (full : Bool) → text ≡ [] → full ≡ false → h1 ≡ h
+      → Plays zones limits h1 step line now h2
       → AllPlay zones limits h (step ∷ []) (text ++ line) (full || now) h2
   alone h h1 text full t f e p = record {
     line = line;
@@ -31,8 +35,10 @@ module _ (zones : ZoneTable) (limits : Kept) (step : Step) (line : List ℕ) (no
   }
 
   -- a step more
-  pub plays_more : (done : List Step) (h h1 : List Told) (text : List ℕ) (full : Bool) → AllPlay zones limits h done text full h1
-      → Plays zones limits h1 step line now h2 → AllPlay zones limits h (done ++ step ∷ []) (text ++ line) (full || now) h2
+  pub plays_more : (done : List Step) (h h1 : List Told) (text : List ℕ) (full : Bool)
+      → AllPlay zones limits h done text full h1
+      → Plays zones limits h1 step line now h2 → AllPlay zones limits h (done ++ step ∷ []) (text ++ line)
+      (full || now) h2
   plays_more [] h h1 text full a p = alone h h1 text full a.0 a.1 a.2 p
   plays_more (first ∷ done) h h1 text full a p = record {
     line = a.line;

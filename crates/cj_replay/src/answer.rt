@@ -47,8 +47,10 @@ pub(crate) fn answer_to(
     caller: &Caller,
     call: &Call,
 ) -> Result<Heap<Answer>, Refusal>
-    ensures given { IfOk result (λ a. a ≡ said.answered world.old.limits world.old.history caller.now call.now) }
-    ensures left { IfOk result (λ a. world.new.history ≡ said.after world.old.history caller.now call.now a) }
+    ensures given { IfOk result (λ a. a ≡ said.answered world.old.limits world.old.history
+        caller.now call.now) }
+    ensures left { IfOk result (λ a. world.new.history
+        ≡ said.after world.old.history caller.now call.now a) }
     ensures limits { world.new.limits ≡ world.old.limits }
     ensures err { IfErr result (λ e. e ≡ OutOfMemory) }
 {
@@ -69,7 +71,8 @@ fn count(world: &World) -> usize
 
 // The place of the last entry, if the answer was entered.
 fn place_of(world: &World, answer: &Answer) -> Option<usize>
-    ensures { result ≡ (if legal.is_entered answer.now then Some (length world.now.history) else None) }
+    ensures { result ≡ (if legal.is_entered answer.now then Some
+        (length world.now.history) else None) }
 {
     if is_entered(answer) {
         Some(count(world))
@@ -85,7 +88,9 @@ pub(crate) fn line_of(
     step: &Step,
     answer: &Answer,
 ) -> Result<String, Refusal>
-    ensures ok { IfOk result (λ s. string_bytes s ≡ lines.step_line (if legal.is_entered answer.now then Some (length world.now.history) else None) step.now.who step.now.verb answer.now) }
+    ensures ok { IfOk result (λ s. string_bytes s
+        ≡ lines.step_line (if legal.is_entered answer.now then Some
+        (length world.now.history) else None) step.now.who step.now.verb answer.now) }
     ensures err { IfErr result (λ e. e ≡ OutOfMemory) }
 {
     let place = place_of(world, answer);
@@ -100,7 +105,8 @@ pub(crate) fn note(
     call: &Call,
     answer: &Answer,
 ) -> Result<(), Refusal>
-    ensures ok { OnOk result ((h : List Told) → Remembers sights.old h → Remembers sights.new (said.after h caller call.now answer.now)) }
+    ensures ok { OnOk result ((h : List Told) → Remembers sights.old h →
+        Remembers sights.new (said.after h caller call.now answer.now)) }
     ensures err { IfErr result (λ e. e ≡ OutOfMemory) }
 {
     if is_entered(answer) {

@@ -44,7 +44,8 @@ fn end_call(
     outcome: Outcome,
     at: Seconds,
 ) -> Result<Call, Refusal>
-    ensures ok { IfOk result (IsEnd (jobs_in (option_copied world.entry) key.now) key.now outcome at) }
+    ensures ok { IfOk result (IsEnd (jobs_in (option_copied world.entry) key.now) key.now outcome
+        at) }
     ensures err { IfErr result (λ e. e ≡ OutOfMemory) }
 {
     let uid = uid_of(job_in(world, key));
@@ -74,7 +75,8 @@ fn call_of(
     sight: &Sight,
     act: &Act,
 ) -> Result<Call, Refusal>
-    ensures ok { IfOk result (IsCallOf zones.now sight.now (jobs_in (option_copied world.entry)) act.now) }
+    ensures ok { IfOk result (IsCallOf zones.now sight.now (jobs_in (option_copied world.entry))
+        act.now) }
     ensures err { IfErr result (λ e. e ≡ OutOfMemory) }
 {
     match act {
@@ -100,7 +102,8 @@ fn call_by(
     sight: Option<&Sight>,
     act: &Act,
 ) -> Result<Call, Refusal>
-    ensures ok { IfOk result (IsCallOf zones.now (sight_or_none (option_copied sight.entry)) (job_at world.now.limits.window world.now.history) act.now) }
+    ensures ok { IfOk result (IsCallOf zones.now (sight_or_none (option_copied sight.entry))
+        (job_at world.now.limits.window world.now.history) act.now) }
     ensures err { IfErr result (λ e. e ≡ OutOfMemory) }
 {
     match sight {
@@ -118,7 +121,8 @@ pub(crate) fn step_call(
     step: &Step,
 ) -> Result<Heap<Call>, Refusal>
     requires { Remembers sights.now world.now.history }
-    ensures ok { IfOk result (IsCallOf zones.now (seen_of step.now.caller.number world.now.history) (job_at world.now.limits.window world.now.history) step.now.act) }
+    ensures ok { IfOk result (IsCallOf zones.now (seen_of step.now.caller.number world.now.history)
+        (job_at world.now.limits.window world.now.history) step.now.act) }
     ensures err { IfErr result (λ e. e ≡ OutOfMemory) }
 {
     let sight = sights.get(step.caller.number);

@@ -30,7 +30,8 @@ pub(crate) fn play(
     step: &Step,
 ) -> Result<Played, Refusal>
     requires { Remembers sights.old world.old.history }
-    ensures plays { IfOk result (λ p. Plays zones.now world.old.limits world.old.history step.now (string_bytes p.line) p.is_full world.new.history) }
+    ensures plays { IfOk result (λ p. Plays zones.now world.old.limits world.old.history step.now
+        (string_bytes p.line) p.is_full world.new.history) }
     ensures remembered { OnOk result (Remembers sights.new world.new.history) }
     ensures limits { world.new.limits ≡ world.old.limits }
     ensures err { IfErr result (λ e. e ≡ OutOfMemory) }

@@ -17,7 +17,8 @@ pub fn report_text(
     jobs: &[Shared<Job>],
     entries: &[Entry],
 ) -> Result<String, Refusal>
-    ensures ok { IfOk result (λ s. string_bytes s ≡ report_lines crons.now jobs.now (reverse entries.now)) }
+    ensures ok { IfOk result (λ s. string_bytes s
+        ≡ report_lines crons.now jobs.now (reverse entries.now)) }
     ensures err { IfErr result (λ e. e ≡ OutOfMemory) }
 {
     let mut text = objects_text(alloc, crons, jobs)?;
@@ -29,7 +30,8 @@ pub fn report_text(
 /// The report of the world.
 #[tactic(auto, unfolding(crate::specs::Replays::report_of))]
 pub(crate) fn world_report(alloc: Global, world: &World) -> Result<String, Refusal>
-    ensures ok { IfOk result (λ s. string_bytes s ≡ report_of world.now.limits.window world.now.history) }
+    ensures ok { IfOk result (λ s. string_bytes s
+        ≡ report_of world.now.limits.window world.now.history) }
     ensures err { IfErr result (λ e. e ≡ OutOfMemory) }
 {
     let (crons, jobs) = world.objects()?;

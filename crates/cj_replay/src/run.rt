@@ -28,10 +28,13 @@ fn print_step<W: Write>(
     step: &Step,
 ) -> Result<bool, Failure>
     requires { Remembers sights.old world.old.history }
-    ensures ok { IfOk result (λ full. PrintsStep zones.now world.old.limits world.old.history step.now full world.new.history (W.contents out.old) pending.old (W.contents out.new) pending.new) }
+    ensures ok { IfOk result (λ full. PrintsStep zones.now world.old.limits world.old.history
+        step.now full world.new.history (W.contents out.old) pending.old (W.contents out.new)
+        pending.new) }
     ensures remembered { OnOk result (Remembers sights.new world.new.history) }
     ensures limits { world.new.limits ≡ world.old.limits }
-    ensures err { OnErr result (PrintsPart zones.now world.old.limits world.old.history step.now (W.contents out.old) pending.old (W.contents out.new)) }
+    ensures err { OnErr result (PrintsPart zones.now world.old.limits world.old.history step.now
+        (W.contents out.old) pending.old (W.contents out.new)) }
 {
     let played = play(alloc, zones, world, sights, step)?;
     pending.print(out, played.line.as_str())?;
@@ -50,9 +53,11 @@ fn print_all<W: Write>(
 ) -> Result<bool, Failure>
     requires remembered { Remembers sights.old world.old.history }
     requires empty { pending.old ≡ [] }
-    ensures ok { IfOk result (λ full. HasPlayed zones.now world.old.limits world.old.history steps.now full world.new.history (W.contents out.old) (W.contents out.new) pending.new) }
+    ensures ok { IfOk result (λ full. HasPlayed zones.now world.old.limits world.old.history
+        steps.now full world.new.history (W.contents out.old) (W.contents out.new) pending.new) }
     ensures limits { world.new.limits ≡ world.old.limits }
-    ensures err { OnErr result (BreaksOff zones.now world.old.limits world.old.history steps.now (W.contents out.old) (W.contents out.new)) }
+    ensures err { OnErr result (BreaksOff zones.now world.old.limits world.old.history steps.now
+        (W.contents out.old) (W.contents out.new)) }
 {
     let mut is_full = false;
     for step in steps {
@@ -77,8 +82,10 @@ fn print_report<W: Write>(
     mut pending: Pending,
     out: &mut W,
 ) -> Result<(), Failure>
-    ensures ok { OnOk result (PrintsReport world.now.limits.window world.now.history (W.contents out.old) pending (W.contents out.new)) }
-    ensures err { OnErr result (CutsReport world.now.limits.window world.now.history (W.contents out.old) pending (W.contents out.new)) }
+    ensures ok { OnOk result (PrintsReport world.now.limits.window world.now.history
+        (W.contents out.old) pending (W.contents out.new)) }
+    ensures err { OnErr result (CutsReport world.now.limits.window world.now.history
+        (W.contents out.old) pending (W.contents out.new)) }
 {
     let report = world_report(alloc, world)?;
     pending.print(out, report.as_str())?;
@@ -94,8 +101,10 @@ fn replay_on<W: Write>(
     out: &mut W,
 ) -> Result<bool, Failure>
     requires { world.old ≡ record { limits = script.now.limits; history = [] } }
-    ensures whole { IfOk result (λ full. (text : List ℕ) × IsReplayed script.now text full × Appends (W.contents out.old) (W.contents out.new) text) }
-    ensures begun { OnErr result ((text : List ℕ) × IsPartOf script.now text × AppendsSome (W.contents out.old) (W.contents out.new) text) }
+    ensures whole { IfOk result (λ full. (text : List ℕ) × IsReplayed script.now text full
+        × Appends (W.contents out.old) (W.contents out.new) text) }
+    ensures begun { OnErr result ((text : List ℕ) × IsPartOf script.now text
+        × AppendsSome (W.contents out.old) (W.contents out.new) text) }
 {
     let mut sights = Sights::new(alloc);
     let mut pending = Pending::new(alloc);
@@ -121,8 +130,10 @@ fn replay_on<W: Write>(
 /// ends, and a beginning of what it prints was printed.
 #[tactic(auto, using(crate::proofs::Printed::nothing_done))]
 pub fn replay<W: Write>(alloc: Global, script: &Script, out: &mut W) -> Result<bool, Failure>
-    ensures whole { IfOk result (λ full. (text : List ℕ) × IsReplayed script.now text full × Appends (W.contents out.old) (W.contents out.new) text) }
-    ensures begun { OnErr result ((text : List ℕ) × IsPartOf script.now text × AppendsSome (W.contents out.old) (W.contents out.new) text) }
+    ensures whole { IfOk result (λ full. (text : List ℕ) × IsReplayed script.now text full
+        × Appends (W.contents out.old) (W.contents out.new) text) }
+    ensures begun { OnErr result ((text : List ℕ) × IsPartOf script.now text
+        × AppendsSome (W.contents out.old) (W.contents out.new) text) }
 {
     let mut world = World::new(alloc, script.limits)?;
     replay_on(alloc, script, &mut world, out)

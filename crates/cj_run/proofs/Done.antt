@@ -16,24 +16,43 @@ use Rattle.cj_replay.specs.Calls.{IsUnseenCall}
 use Rattle.cj_run.specs.Courses.{acts_below, creation, creations, edits_at}
 use Rattle.cj_run.specs.Deeds.{Called, Does}
 
+-- A pass that stays as it was did no act.
 pub does_nothing : (zones : ZoneTable) (p : PassView) → Does zones [] p p
-does_nothing zones p = record { news = []; kept = ap (λ (rs : List Receipt). record p { receipts = rs }) (sym (append-nil p.receipts)); are = tt }
+does_nothing zones p = record {
+  news = [];
+  kept = ap (λ (rs : List Receipt). record p { receipts = rs })
+      (sym (append-nil p.receipts));
+  are = tt;
+}
 
-pub does_call : (zones : ZoneTable) (act : Act) (call : Call) (p p' : PassView) → IsUnseenCall zones act call → Called call p p' → Does zones (act ∷ []) p p'
-does_call zones act call p p' is m = record { news = m.receipt ∷ []; kept = m.is.kept; are = (subst (λ (c : Call). IsUnseenCall zones act c) (sym m.is.call_given) is, tt) }
+-- A pass that got the receipt of an act's call did that act.
+pub does_call : (zones : ZoneTable) (act : Act) (call : Call) (p p' : PassView) → IsUnseenCall zones act call
+    → Called call p p' → Does zones (act ∷ []) p p'
+does_call zones act call p p' is m = record {
+  news = m.receipt ∷ [];
+  kept = m.is.kept;
+  are = (subst (λ (c : Call). IsUnseenCall zones act c) (sym m.is.call_given) is, tt);
+}
 
-zip_append : {X Y : Type 0} (R : X → Y → Type 0) (xs xs' : List X) (ys ys' : List Y) → AllZip R xs ys → AllZip R xs' ys' → AllZip R (xs ++ xs') (ys ++ ys')
+-- Two lists that match one by one still do with two such lists put behind them.
+zip_append : {X Y : Type 0} (R : X → Y → Type 0) (xs xs' : List X) (ys ys' : List Y) → AllZip R xs ys → AllZip R xs' ys'
+    → AllZip R (xs ++ xs') (ys ++ ys')
 zip_append R [] xs' [] ys' h h' = h'
 zip_append R [] xs' (y ∷ ys) ys' h h' = absurd h
 zip_append R (x ∷ xs) xs' [] ys' h h' = absurd h
 zip_append R (x ∷ xs) xs' (y ∷ ys) ys' h h' = (h.0, zip_append R xs xs' ys ys' h.1 h')
 
-kept_then : (p q r : PassView) (news news' : List Receipt) → q ≡ record p { receipts = p.receipts ++ news } → r ≡ record q { receipts = q.receipts ++ news' }
+-- For does_then: receipts put behind a pass's, and then more behind those, are put behind in order.
+kept_then : (p q r : PassView) (news news' : List Receipt) → q ≡ record p { receipts = p.receipts ++ news }
+    → r ≡ record q { receipts = q.receipts ++ news' }
     → r ≡ record p { receipts = p.receipts ++ (news ++ news') }
 kept_then p q r news news' one two =
-    two ∙ ap (λ (x : PassView). record x { receipts = x.receipts ++ news' }) one ∙ ap (λ (rs : List Receipt). record p { receipts = rs }) (append_assoc p.receipts news news')
+    two ∙ ap (λ (x : PassView). record x { receipts = x.receipts ++ news' }) one
+    ∙ ap (λ (rs : List Receipt). record p { receipts = rs }) (append_assoc p.receipts news news')
 
-pub does_then : (zones : ZoneTable) (acts acts' : List Act) (p q r : PassView) → Does zones acts p q → Does zones acts' q r → Does zones (acts ++ acts') p r
+-- A pass that did some acts and then some more did the ones and the others, in their order.
+pub does_then : (zones : ZoneTable) (acts acts' : List Act) (p q r : PassView) → Does zones acts p q
+    → Does zones acts' q r → Does zones (acts ++ acts') p r
 does_then zones acts acts' p q r a b = record {
   news = a.news ++ b.news;
   kept = kept_then p q r a.news b.news a.kept b.kept;
@@ -43,31 +62,47 @@ does_then zones acts acts' p q r a b = record {
 -- ---- one more of a list
 
 module _ (zones : ZoneTable) (p q r : PassView) (i : ℕ) where
-  pub create_more : (at : ℕ) (drafts : List CronJobDraft) (draft : CronJobDraft) → i < length drafts → draft ≡ get_or drafts i draft
-      → Does zones (creations at (take i drafts)) p q → Does zones (creation at draft ∷ []) q r → Does zones (creations at (take (i + 1) drafts)) p r
+  -- For create_all: with the CronJobs of the first i drafts created, then the next draft's, those
+  -- of the first i + 1 are.
+  pub create_more : (at : ℕ) (drafts : List CronJobDraft) (draft : CronJobDraft) → i < length drafts
+      → draft ≡ get_or drafts i draft
+      → Does zones (creations at (take i drafts)) p q → Does zones (creation at draft ∷ []) q r
+      → Does zones (creations at (take (i + 1) drafts)) p r
   create_more at drafts draft lt is a b =
       subst (λ (acts : List Act). Does zones acts p r)
-      (sym (ap (creations at) (take_more drafts i draft lt ∙ ap (λ (x : CronJobDraft). take i drafts ++ x ∷ []) (sym is)) ∙ map-append (creation at) (take i drafts) (draft ∷ [])))
+      (sym (ap (creations at) (take_more drafts i draft lt ∙ ap (λ (x : CronJobDraft). take i drafts ++ x ∷ [])
+      (sym is)) ∙ map-append (creation at) (take i drafts) (draft ∷ [])))
       (does_then zones (creations at (take i drafts)) (creation at draft ∷ []) p q r a b)
 
+  -- For edit_more: at an instant, two joined lists have the acts of the one, then of the other.
   edits_append : (es es' : List Edit) (at : ℕ) → edits_at (es ++ es') at ≡ edits_at es at ++ edits_at es' at
   unfolding edits_at
-  edits_append es es' at = ap (map (λ (e : Edit). e.act)) (filter-append (λ (e : Edit). e.at == at) es es') ∙ map-append (λ (e : Edit). e.act) (filter (λ (e : Edit). e.at == at) es) (filter (λ (e : Edit). e.at == at) es')
+  edits_append es es' at = ap (map (λ (e : Edit). e.act)) (filter-append (λ (e : Edit). e.at == at) es es')
+      ∙ map-append (λ (e : Edit). e.act) (filter (λ (e : Edit). e.at == at) es) (filter (λ (e : Edit). e.at == at) es')
 
+  -- For edit_all: with the acts at an instant of the first i edits done and then the next edit's,
+  -- those of the first i + 1 are.
   pub edit_more : (at : ℕ) (edits : List Edit) (edit : Edit) → i < length edits → edit ≡ get_or edits i edit
-      → Does zones (edits_at (take i edits) at) p q → Does zones (edits_at (edit ∷ []) at) q r → Does zones (edits_at (take (i + 1) edits) at) p r
+      → Does zones (edits_at (take i edits) at) p q → Does zones (edits_at (edit ∷ []) at) q r
+      → Does zones (edits_at (take (i + 1) edits) at) p r
   edit_more at edits edit lt is a b =
       subst (λ (acts : List Act). Does zones acts p r)
-      (sym (ap (λ (es : List Edit). edits_at es at) (take_more edits i edit lt ∙ ap (λ (x : Edit). take i edits ++ x ∷ []) (sym is)) ∙ edits_append (take i edits) (edit ∷ []) at))
+      (sym (ap (λ (es : List Edit). edits_at es at) (take_more edits i edit lt
+      ∙ ap (λ (x : Edit). take i edits ++ x ∷ []) (sym is)) ∙ edits_append (take i edits) (edit ∷ []) at))
       (does_then zones (edits_at (take i edits) at) (edits_at (edit ∷ []) at) p q r a b)
 
+-- For edit_all: where no edit was gone through, nothing was to be done.
 pub no_edits : (zones : ZoneTable) (at : ℕ) (p : PassView) → Does zones (edits_at [] at) p p
 unfolding edits_at
 no_edits zones at p = does_nothing zones p
 
 -- ---- one more instant
 
+-- For drive: what is done in the first n instants, and then the edits of the next, is all of n + 1.
 pub live_more : (course : Course) (p q r : PassView) (n : ℕ)
-    → Does course.zones (acts_below course n) p q → Does course.zones (edits_at course.edits.items (instant course.span n)) q r → Does course.zones (acts_below course (n + 1)) p r
+    → Does course.zones (acts_below course n) p q
+    → Does course.zones (edits_at course.edits.items (instant course.span n)) q r
+    → Does course.zones (acts_below course (n + 1)) p r
 live_more course p q r n a b =
-    rw (add-one) (does_then course.zones (acts_below course n) (edits_at course.edits.items (instant course.span n)) p q r a b)
+    rw (add-one) (does_then course.zones (acts_below course n) (edits_at course.edits.items (instant course.span n)) p q
+    r a b)

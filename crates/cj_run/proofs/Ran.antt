@@ -10,21 +10,27 @@ use Rattle.cj_run.specs.Courses.{acts_below}
 use Rattle.cj_run.specs.Deeds.{AreDone, AreOf, Does, HasPlayed}
 use Rattle.cj_run.specs.Runs.{IsReport, IsRun}
 
+-- In a list with one put behind, that one stands at the place after all others.
 last_at : {X : Type 0} (xs : List X) (x d : X) → slice_index_or (xs ++ x ∷ []) (length xs) d ≡ x
 last_at [] x d = refl
 last_at (y ∷ xs) x d = last_at xs x d
 
+-- What holds of each in a list holds of the last one.
 last_of_all : {X : Type 0} (P : X → Type 0) (xs : List X) (x : X) → All P (xs ++ x ∷ []) → P x
 last_of_all P xs x all = subst P (last_at xs x x) (all (length xs) x (omega (arith, length-append xs (x ∷ []))))
 
 -- the receipts of a pass that had none are the new ones
-news_alone : (c : Course) (h : List Told) (p p' : PassView) (n : ℕ) → p.receipts ≡ [] → (d : Does c.zones (acts_below c n) p p') → IsExact h p' → AreOf c.zones (acts_below c n) (placed p'.number h)
+news_alone : (c : Course) (h : List Told) (p p' : PassView) (n : ℕ) → p.receipts ≡ []
+    → (d : Does c.zones (acts_below c n) p p') → IsExact h p' → AreOf c.zones (acts_below c n) (placed p'.number h)
 news_alone c h p p' n none d exact =
     subst (λ (rs : List Receipt). AreOf c.zones (acts_below c n) rs)
     (ap (λ (rs : List Receipt). rs ++ d.news) (sym none) ∙ ap (λ (q : PassView). q.receipts) (sym d.kept) ∙ exact)
     d.are
 
-pub played_report : (c : Course) (p p' : PassView) (others : List PassView) (text : List ℕ) → p.receipts ≡ [] → HasPlayed c p p' → IsReport (others ++ p' ∷ []) text → IsRun c text
+-- The report of the passes of a run is a run's, where the last is that of a user who did
+-- all that the scenario says.
+pub played_report : (c : Course) (p p' : PassView) (others : List PassView) (text : List ℕ) → p.receipts ≡ []
+    → HasPlayed c p p' → IsReport (others ++ p' ∷ []) text → IsRun c text
 played_report c p p' others text none h r = record {
   window = r.window;
   history = r.history;
@@ -36,6 +42,8 @@ played_report c p p' others text none h r = record {
   printed = r.printed;
 }
 
+-- For run_course: the report of passes of which the last is such a user's is that of the run.
 pub done_report : (c : Course) (ps : List PassView) (text : List ℕ) → AreDone c ps → IsReport ps text → IsRun c text
 done_report c ps text done r =
-    played_report c done.3.0 done.1 done.0 text done.3.1 done.3.2 (subst (λ (qs : List PassView). IsReport qs text) done.2 r)
+    played_report c done.3.0 done.1 done.0 text done.3.1 done.3.2
+    (subst (λ (qs : List PassView). IsReport qs text) done.2 r)

@@ -78,7 +78,8 @@ fn live<R: Threads + Wait + Sync>(
     cast: &mut Cast,
     now: Seconds,
 ) -> Result<(), Halt>
-    ensures { OnOk result (Does course.now.zones (edits_at course.now.edits.items now) cast.old.user cast.new.user) }
+    ensures { OnOk result (Does course.now.zones (edits_at course.now.edits.items now) cast.old.user
+        cast.new.user) }
 {
     end(rt, alloc, hub, cast, now)?;
     edit_all(
@@ -107,7 +108,8 @@ fn live_at<R: Threads + Wait + Sync>(
     n: u64,
 ) -> Result<(), Halt>
     requires { IsInstant course.now.span n }
-    ensures { OnOk result (Does course.now.zones (edits_at course.now.edits.items (instant course.now.span n)) cast.old.user cast.new.user) }
+    ensures { OnOk result (Does course.now.zones
+        (edits_at course.now.edits.items (instant course.now.span n)) cast.old.user cast.new.user) }
 {
     let now = course.span.instant(n).unwrap();
     live(rt, alloc, hub, clock, course, cast, now)

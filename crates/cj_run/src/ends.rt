@@ -23,8 +23,10 @@ struct Sorted {
 impl Sorted {
     // One more of them, where it belongs.
     fn put(&mut self, job: Running, now: Seconds) -> Result<(), AllocError>
-        ensures due { OnOk result (self.new.due.items ≡ self.old.due.items ++ filter (is_due now) (job ∷ [])) }
-        ensures others { OnOk result (self.new.others.items ≡ self.old.others.items ++ filter (λ r. not (is_due now r)) (job ∷ [])) }
+        ensures due { OnOk result (self.new.due.items
+            ≡ self.old.due.items ++ filter (is_due now) (job ∷ [])) }
+        ensures others { OnOk result (self.new.others.items
+            ≡ self.old.others.items ++ filter (λ r. not (is_due now r)) (job ∷ [])) }
     {
         if job.is_due(now) {
             self.due.push(job)?;
@@ -37,7 +39,8 @@ impl Sorted {
 
 fn sort_out(alloc: Global, running: Vec<Running>, now: Seconds) -> Result<Sorted, AllocError>
     ensures due { IfOk result (λ s. s.due.items ≡ filter (is_due now) running.items) }
-    ensures others { IfOk result (λ s. s.others.items ≡ filter (λ r. not (is_due now r)) running.items) }
+    ensures others { IfOk result (λ s. s.others.items
+        ≡ filter (λ r. not (is_due now r)) running.items) }
 {
     let mut sorted = Sorted {
         due: Vec::new(alloc),
@@ -58,8 +61,11 @@ pub(crate) fn end_jobs<R: Threads + Wait + Sync>(
     made: &mut Made,
     now: Seconds,
 ) -> (Vec<Pass>, Result<(), Refusal>)
-    ensures ended { OnOk result.1 ((receipts : List Receipt) × AreEnded now (filter (is_due now) made.old.running.items) runners.items result.0.items receipts) }
-    ensures others { OnOk result.1 (made.new.running.items ≡ filter (λ r. not (is_due now r)) made.old.running.items) }
+    ensures ended { OnOk result.1 ((receipts : List Receipt)
+        × AreEnded now (filter (is_due now) made.old.running.items) runners.items result.0.items
+        receipts) }
+    ensures others { OnOk result.1 (made.new.running.items
+        ≡ filter (λ r. not (is_due now r)) made.old.running.items) }
 {
     let running = mem::replace(&mut made.running, Vec::new(alloc));
     let Ok(Sorted { due, others }) = sort_out(alloc, running, now) else {

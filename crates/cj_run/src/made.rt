@@ -52,7 +52,8 @@ impl Made {
     // Counts a Job of the CronJob with this key and uid, and answers how many it made before.
     fn count(&mut self, alloc: Global, key: Key, uid: &Text) -> Result<u64, Refusal>
         ensures before { IfOk result (λ n. n ≡ made_before (map.get self.old.counts key) uid.now) }
-        ensures counts { IfOk result (λ n. self.new.counts ≡ map.insert self.old.counts key (counted uid.now n)) }
+        ensures counts { IfOk result (λ n. self.new.counts
+            ≡ map.insert self.old.counts key (counted uid.now n)) }
         ensures running { self.new.running ≡ self.old.running }
         ensures err { IfErr result (λ e. e ≡ OutOfMemory) }
     {
@@ -73,7 +74,8 @@ impl Made {
         job: &Job,
         run: Option<Run>,
     ) -> Result<(), Refusal>
-        ensures running { OnOk result (self.new.running.items ≡ with_run self.old.running.items now job.now run) }
+        ensures running { OnOk result (self.new.running.items
+            ≡ with_run self.old.running.items now job.now run) }
         ensures counts { self.new.counts ≡ self.old.counts }
         ensures err { IfErr result (λ e. e ≡ OutOfMemory) }
     {
@@ -92,7 +94,8 @@ impl Made {
 
     // Notes a Job that was made at the moment.
     fn note(&mut self, alloc: Global, runs: &Runs, now: Seconds, job: &Job) -> Result<(), Refusal>
-        ensures ok { OnOk result (notes self.new.counts self.new.running.items ≡ noted runs.now now job.now (notes self.old.counts self.old.running.items)) }
+        ensures ok { OnOk result (notes self.new.counts self.new.running.items
+            ≡ noted runs.now now job.now (notes self.old.counts self.old.running.items)) }
         ensures err { IfErr result (λ e. e ≡ OutOfMemory) }
     {
         let Some(key) = owner_key(alloc, job)? else {
@@ -116,7 +119,9 @@ impl Made {
         job: &Job,
     ) -> Result<(), Refusal>
         ensures ok { OnOk result (notes self.new.counts self.new.running.items
-            ≡ (if nat_lt noted_before job.now.meta.uid then noted runs.now now job.now (notes self.old.counts self.old.running.items) else notes self.old.counts self.old.running.items)) }
+            ≡ (if nat_lt noted_before job.now.meta.uid then noted runs.now now job.now
+            (notes self.old.counts self.old.running.items) else notes self.old.counts
+            self.old.running.items)) }
         ensures err { IfErr result (λ e. e ≡ OutOfMemory) }
     {
         let uid = job.meta.uid.get();
@@ -137,7 +142,8 @@ impl Made {
         jobs: &[Shared<Job>],
     ) -> Result<(), Refusal>
         ensures ok { OnOk result (notes self.new.counts self.new.running.items
-            ≡ noted_all runs.now now self.old.last jobs.now (notes self.old.counts self.old.running.items)) }
+            ≡ noted_all runs.now now self.old.last jobs.now
+            (notes self.old.counts self.old.running.items)) }
         ensures err { IfErr result (λ e. e ≡ OutOfMemory) }
     {
         let noted_before = self.last;

@@ -125,7 +125,8 @@ fn passes_of(
 
 #[tactic(auto, unfolding(cj_replay::specs::Replays::report_of))]
 fn closed_report(alloc: Global, closed: &Closed) -> Result<String, Refusal>
-    ensures { IfOk result (λ s. string_bytes s ≡ report_of closed.now.limits.window closed.now.history) }
+    ensures { IfOk result (λ s. string_bytes s
+        ≡ report_of closed.now.limits.window closed.now.history) }
 {
     let (crons, jobs) = closed.objects()?;
     report_text(alloc, crons.as_slice(), jobs.as_slice(), closed.history())

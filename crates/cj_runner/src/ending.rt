@@ -34,8 +34,10 @@ fn end_one<D: Desk>(
     now: Seconds,
     receipts: &mut Vec<Receipt>,
 ) -> Result<(), Stop>
-    ensures ok { OnOk result (Makes D.tells (D.history desk.old) (D.history desk.new) pass.old pass.new (end_call now one) receipts.old.items receipts.new.items) }
-    ensures same { OnErr result ((pass.new ≡ pass.old) × (receipts.new.items ≡ receipts.old.items)) }
+    ensures ok { OnOk result (Makes D.tells (D.history desk.old) (D.history desk.new) pass.old
+        pass.new (end_call now one) receipts.old.items receipts.new.items) }
+    ensures same { OnErr result ((pass.new ≡ pass.old)
+        × (receipts.new.items ≡ receipts.old.items)) }
     ensures kept { IsTrue D.tells → OnErr result (D.history desk.new ≡ D.history desk.old) }
 {
     if receipts.reserve(1).is_err() {
@@ -62,7 +64,8 @@ pub(crate) fn end_share<D: Desk>(
     now: Seconds,
 ) -> Ends
     ensures keeps { Keeps pass.old pass.new result.receipts.items }
-    ensures told { IsTrue D.tells → D.history desk.new ≡ extended (D.history desk.old) (entries_of result.receipts.items) }
+    ensures told { IsTrue D.tells → D.history desk.new
+        ≡ extended (D.history desk.old) (entries_of result.receipts.items) }
     ensures ended { HasEnded now running.items result }
 {
     let mut receipts = Vec::new(alloc);

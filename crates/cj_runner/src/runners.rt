@@ -55,7 +55,8 @@ fn run<R: Threads + Wait + Sync>(
     now: Seconds,
 ) -> Result<Gathered, AllocError>
     ensures back { IfOk result (λ g. CameBack now running.items passes.items g.passes.items) }
-    ensures ok { IfOk result (λ g. g.stop ≡ None → AreEnded now running.items passes.items g.passes.items g.receipts.items) }
+    ensures ok { IfOk result (λ g. g.stop ≡ None →
+        AreEnded now running.items passes.items g.passes.items g.receipts.items) }
 {
     let room = Gathered::new(alloc, passes.len(), running.len())?;
     let (shares, left) = shares_of(alloc, passes, running)?;
@@ -84,7 +85,8 @@ pub fn end_due<R: Threads + Wait + Sync>(
     running: Vec<Running>,
     now: Seconds,
 ) -> (Vec<Pass>, Result<Vec<Receipt>, Refusal>)
-    ensures ok { IfOk result.1 (λ receipts. AreEnded now running.items passes.items result.0.items receipts.items) }
+    ensures ok { IfOk result.1 (λ receipts. AreEnded now running.items passes.items result.0.items
+        receipts.items) }
     ensures back { CameBack now running.items passes.items result.0.items }
     ensures none { due_ends now running.items ≡ [] → IsOk result.1 }
     ensures err { IfErr result.1 IsRunnerRefusal }

@@ -55,10 +55,13 @@ fn given(value: &Value) -> Option<GivenJob>
 // A Job of a minute that none of the Jobs has, whose minutes these are.
 fn new_job(minutes: &mut BTreeSet<u64>, value: &Value) -> Result<GivenJob, SceneFault>
     ensures ok { IfOk result (form.IsGiven (view value.now)) }
-    ensures only { IfOk result (λ job. (other : GivenJob) → form.IsGiven (view value.now) other → other ≡ job) }
+    ensures only { IfOk result (λ job. (other : GivenJob) → form.IsGiven (view value.now) other →
+        other ≡ job) }
     ensures free { IfOk result (λ job. contains nat_cmp minutes.old (job.time / 60) ≡ false) }
     ensures added { IfOk result (λ job. AddsMinute minutes.old (job.time / 60) minutes.new) }
-    ensures refused { IfErr result (λ e. form.Refuses e ((job : GivenJob) → form.IsGiven (view value.now) job → contains nat_cmp minutes.old (job.time / 60) ≡ false → ⊥)) }
+    ensures refused { IfErr result (λ e. form.Refuses e ((job : GivenJob) →
+        form.IsGiven (view value.now) job → contains nat_cmp minutes.old (job.time / 60) ≡ false →
+        ⊥)) }
 {
     let Some(job) = given(value) else {
         return Err(SceneFault::Form);
@@ -72,7 +75,8 @@ fn new_job(minutes: &mut BTreeSet<u64>, value: &Value) -> Result<GivenJob, Scene
 
 fn items_of(alloc: Global, items: &Vec<Value>) -> Result<Vec<GivenJob>, SceneFault>
     ensures ok { IfOk result (λ jobs. form.AddsItems [] (items_view items.now.items) jobs.items) }
-    ensures refused { IfErr result (λ e. form.Refuses e ((all : List GivenJob) → form.AddsItems [] (items_view items.now.items) all → ⊥)) }
+    ensures refused { IfErr result (λ e. form.Refuses e ((all : List GivenJob) →
+        form.AddsItems [] (items_view items.now.items) all → ⊥)) }
 {
     let mut jobs = Vec::new(alloc);
     let mut minutes = BTreeSet::new(alloc);
@@ -86,8 +90,10 @@ fn items_of(alloc: Global, items: &Vec<Value>) -> Result<Vec<GivenJob>, SceneFau
 
 /// The Jobs of a list, where there is one.
 pub(crate) fn jobs_of(alloc: Global, list: Option<&Value>) -> Result<Vec<GivenJob>, SceneFault>
-    ensures ok { IfOk result (λ jobs. form.AreJobs (option_map (λ v. view v.now) list.entry) jobs.items) }
-    ensures refused { IfErr result (λ e. form.Refuses e ((all : List GivenJob) → form.AreJobs (option_map (λ v. view v.now) list.entry) all → ⊥)) }
+    ensures ok { IfOk result (λ jobs. form.AreJobs (option_map (λ v. view v.now) list.entry)
+        jobs.items) }
+    ensures refused { IfErr result (λ e. form.Refuses e ((all : List GivenJob) →
+        form.AreJobs (option_map (λ v. view v.now) list.entry) all → ⊥)) }
 {
     match list {
         None => Ok(Vec::new(alloc)),

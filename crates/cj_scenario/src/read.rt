@@ -56,9 +56,11 @@ pub fn draft_of(
     zones: &ZoneTable,
 ) -> Result<CronJobDraft, SceneFault>
     requires flat { depth (view manifest.now) ≤ max_depth }
-    ensures sound { IfOk result (λ _. table.cron_faults (zones_of zones.now) (view manifest.now) ≡ []) }
+    ensures sound { IfOk result (λ _. table.cron_faults (zones_of zones.now) (view manifest.now)
+        ≡ []) }
     ensures said { IfOk result (λ d. said.cron_draft (view manifest.now) ≡ Some d) }
-    ensures refused { IfErr result (IsFirst (table.cron_faults (zones_of zones.now) (view manifest.now))) }
+    ensures refused { IfErr result (IsFirst (table.cron_faults (zones_of zones.now)
+        (view manifest.now))) }
 {
     match cron_of(alloc, manifest, zones) {
         Ok((draft, _warnings)) => Ok(draft),

@@ -37,7 +37,8 @@ pub(crate) fn time_at(value: &Value, name: &str) -> Option<Seconds>
 /// A time, where there is one.
 pub(crate) fn maybe_time_at(value: &Value, name: &str) -> Option<Option<Seconds>>
     ensures found { IfSome result (IsMaybeTime (member_at name.now (view value.now))) }
-    ensures only { (last : Option ℕ) → IsMaybeTime (member_at name.now (view value.now)) last → result ≡ Some last }
+    ensures only { (last : Option ℕ) → IsMaybeTime (member_at name.now (view value.now)) last →
+        result ≡ Some last }
 {
     match present(value, name) {
         None => Some(None),

@@ -29,34 +29,48 @@ failed fault = Err fault
 
 -- ---- a list
 
+-- A byte that an element may have is no comma.
 inner_no_comma : (b : ℕ) → is_inner b ≡ true → not (is_comma b) ≡ true
 inner_no_comma b h = grind (arith, nat_tests)
 
+-- The text of an element has no comma.
 no_comma : (kind : Kind) (text : List ℕ) (e : Element) → IsElement kind text e → lacks is_comma text ≡ true
-no_comma kind text e h = list_all-weaker is_inner (λ b. not (is_comma b)) text inner_no_comma (element_inner kind text e h).1
+no_comma kind text e h = list_all-weaker is_inner (λ b. not (is_comma b)) text inner_no_comma
+    (element_inner kind text e h).1
 
-faulty_here : (kind : Kind) (place : ℕ) (element rest : List ℕ) (cause : ScheduleCause) → lacks is_comma element ≡ true → EndsElement rest → IsCause kind element cause
+-- Where the first element of a list is refused for a cause, the list is, at its first byte.
+faulty_here : (kind : Kind) (place : ℕ) (element rest : List ℕ) (cause : ScheduleCause) → lacks is_comma element ≡ true
+    → EndsElement rest → IsCause kind element cause
     → elements_of kind (pieces_at is_comma place (element ++ rest)) ≡ bad (fault_at kind place cause)
 faulty_here kind place element [] cause plain ends is =
     rw (append-nil element, pieces_cut is_comma place element, cut_none is_comma element plain)
     (elements_step kind (record { place = place; text = element }) [] ∙ rw (cause_read kind element cause is) refl)
 faulty_here kind place element (b ∷ bs) cause plain ends is =
-    let here : cut is_comma (element ++ b ∷ bs) ≡ (element, Some bs) = rw ends (cut_some is_comma element comma bs plain refl) in
+    let here : cut is_comma (element ++ b ∷ bs) ≡ (element, Some bs) = rw ends
+    (cut_some is_comma element comma bs plain refl) in
     rw (pieces_cut is_comma place (element ++ b ∷ bs), here)
-    (elements_step kind (record { place = place; text = element }) (pieces_at is_comma (place + (length element + 1)) bs) ∙ rw (cause_read kind element cause is) refl)
+    (elements_step kind (record { place = place; text = element })
+    (pieces_at is_comma (place + (length element + 1)) bs) ∙ rw (cause_read kind element cause is) refl)
 
-list_faulty : (kind : Kind) (es : List Element) (place : ℕ) (word : List ℕ) (byte : ℕ) (cause : ScheduleCause) → IsListFault kind place word es byte cause
+-- A list with right elements up to one that is refused for a cause is refused so, at its byte.
+list_faulty : (kind : Kind) (es : List Element) (place : ℕ) (word : List ℕ) (byte : ℕ) (cause : ScheduleCause)
+    → IsListFault kind place word es byte cause
     → elements_of kind (pieces_at is_comma place word) ≡ bad (fault_at kind byte cause)
 list_faulty kind [] place word byte cause (element, rest, is, plain, ends, refused, at) =
-    ap (λ text. elements_of kind (pieces_at is_comma place text)) is ∙ faulty_here kind place element rest cause plain ends refused
+    ap (λ text. elements_of kind (pieces_at is_comma place text)) is
+    ∙ faulty_here kind place element rest cause plain ends refused
     ∙ ap (λ n. bad (fault_at kind n cause)) (sym at)
 list_faulty kind (e ∷ es) place word byte cause (front, back, is, first, more) =
-    let here : cut is_comma word ≡ (front, Some back) = ap (cut is_comma) is ∙ cut_some is_comma front comma back (no_comma kind front e first) refl in
+    let here : cut is_comma word ≡ (front, Some back) = ap (cut is_comma) is
+    ∙ cut_some is_comma front comma back (no_comma kind front e first) refl in
     let next = list_faulty kind es (place + (length front + 1)) back byte cause more in
     rw (pieces_cut is_comma place word, here)
-    (elements_step kind (record { place = place; text = front }) (pieces_at is_comma (place + (length front + 1)) back) ∙ rw (element_complete kind front e first, next) refl)
+    (elements_step kind (record { place = place; text = front }) (pieces_at is_comma (place + (length front + 1)) back)
+    ∙ rw (element_complete kind front e first, next) refl)
 
-field_faulty : (kind : Kind) (word : Piece) (fault : ScheduleFault) → IsFieldFault kind word fault → list_of kind word ≡ bad fault
+-- A field that has a fault is refused with it.
+field_faulty : (kind : Kind) (word : Piece) (fault : ScheduleFault) → IsFieldFault kind word fault
+    → list_of kind word ≡ bad fault
 unfolding list_of
 field_faulty kind word fault (es, h, field) =
     list_faulty kind es word.place word.text fault.byte fault.cause h
@@ -64,7 +78,10 @@ field_faulty kind word fault (es, h, field) =
 
 -- ---- the five of them
 
-pub first_faulty : (fields : Five) (fault : ScheduleFault) → IsFirstFault fields.minute fields.hour fields.day fields.month fields.weekday fault → lists_of fields ≡ failed fault
+-- Five fields are refused with the fault of the first faulty one.
+pub first_faulty : (fields : Five) (fault : ScheduleFault)
+    → IsFirstFault fields.minute fields.hour fields.day fields.month fields.weekday fault
+    → lists_of fields ≡ failed fault
 unfolding lists_of
 first_faulty fields fault (inl h) = rw (field_faulty _ fields.minute fault h) refl
 first_faulty fields fault (inr ((a, one), inl h)) =
@@ -91,9 +108,11 @@ first_faulty fields fault (inr ((a, one), inr ((b, two), inr ((c, three), inr ((
 abbrev IsNumbered : ScheduleFault → Type 0
 IsNumbered fault = (kind : Kind) × (fault.field ≡ field_number kind)
 
+-- The fault of one field has the number of a field.
 numbered : (kind : Kind) (word : Piece) (fault : ScheduleFault) → IsFieldFault kind word fault → IsNumbered fault
 numbered kind word fault (es, h, field) = (kind, field)
 
+-- The fault of the first faulty one of five fields has the number of a field.
 first_numbered : (a b c d e : Piece) (fault : ScheduleFault) → IsFirstFault a b c d e fault → IsNumbered fault
 first_numbered a b c d e fault (inl h) = numbered _ a fault h
 first_numbered a b c d e fault (inr (one, inl h)) = numbered _ b fault h
@@ -101,9 +120,11 @@ first_numbered a b c d e fault (inr (one, inr (two, inl h))) = numbered _ c faul
 first_numbered a b c d e fault (inr (one, inr (two, inr (three, inl h)))) = numbered _ d fault h
 first_numbered a b c d e fault (inr (one, inr (two, inr (three, inr (four, h))))) = numbered _ e fault h
 
+-- No field has the number 0.
 not_zero : (kind : Kind) (n : ℕ) → n ≡ 0 → n ≡ field_number kind → ⊥
 not_zero kind n z h = grind arith
 
 -- a fault of a field isn't at field 0
 pub first_not_zero : (a b c d e : Piece) (fault : ScheduleFault) → IsFirstFault a b c d e fault → fault.field ≡ 0 → ⊥
-first_not_zero a b c d e fault h zero = let (kind, field) = first_numbered a b c d e fault h in not_zero kind fault.field zero field
+first_not_zero a b c d e fault h zero =
+    let (kind, field) = first_numbered a b c d e fault h in not_zero kind fault.field zero field

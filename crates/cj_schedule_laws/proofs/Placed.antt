@@ -9,11 +9,13 @@ use Rattle.cj_schedule.proofs.Cuts.{cut_none, cut_some}
 use Rattle.cj_schedule.proofs.Pieces.{pieces_none, pieces_cut}
 use Rattle.cj_schedule.proofs.Words.{texts, words_at, blanks_skipped}
 
+-- An empty text has no words.
 nothing : (place : ℕ) → words_at place [] ≡ []
 nothing place = rw (pieces_none is_blank place) refl
 
 -- the words of a word and what follows it
-word_then : (place : ℕ) (word rest : List ℕ) → 1 ≤ length word → list_all (λ b. not (is_blank b)) word ≡ true → IsApart rest
+word_then : (place : ℕ) (word rest : List ℕ) → 1 ≤ length word → list_all (λ b. not (is_blank b)) word ≡ true
+    → IsApart rest
     → words_at place (word ++ rest) ≡ record { place = place; text = word } ∷ words_at (place + length word) rest
 word_then place word [] some plain apart =
     let has : not (length word == 0) ≡ true = grind (arith, nat_tests) in
@@ -29,6 +31,7 @@ word_then place word (b ∷ bs) some plain apart =
     rw (pieces_cut is_blank place (word ++ b ∷ bs), here)
     (rw has (ap (λ ps. record { place = place; text = word } ∷ ps) (sym after)))
 
+-- Words that stand in a text at their places are those that the reading finds.
 pub placed_read : (ps : List Piece) (place : ℕ) (text : List ℕ) → ArePlaced place text ps → words_at place text ≡ ps
 placed_read [] place text h =
     ap (words_at place) (sym (append-nil text)) ∙ blanks_skipped text [] place h ∙ nothing (place + length text)
@@ -39,6 +42,7 @@ placed_read (w ∷ ws) place text (blanks, rest, is, all, at, some, plain, apart
     ∙ word_then w.place w.text rest some plain apart
     ∙ ap (λ ps. w ∷ ps) (placed_read ws (w.place + length w.text) rest more)
 
+-- Words that stand in a text at their places are its words by the grammar.
 pub placed_words : (ps : List Piece) (place : ℕ) (text : List ℕ) → ArePlaced place text ps → AreWords text (texts ps)
 placed_words [] place text h = h
 placed_words (w ∷ ws) place text (blanks, rest, is, all, at, some, plain, apart, more) =

@@ -14,32 +14,43 @@ use Rattle.cj_scenario.specs.declared.fault.SceneFault.TheVariants.{Form, Manife
 use Rattle.cj_scenario.specs.Made.{IsFirst}
 use Rattle.cj_script.specs.Drafts.{cron_said, drafted, job_said, needed}
 
-drafted_fine : {A : Type 0} (faults : List FieldFault) (draft : Option A) (x : A) → faults ≡ [] → draft ≡ Some x → drafted faults draft ≡ Ok x
+-- A manifest that has no fault and has a draft says this draft.
+drafted_fine : {A : Type 0} (faults : List FieldFault) (draft : Option A) (x : A) → faults ≡ [] → draft ≡ Some x
+    → drafted faults draft ≡ Ok x
 drafted_fine faults draft x sound is = ap (λ fs. drafted fs draft) sound ∙ ap (λ o. needed o) is
 
-drafted_faulty : {A : Type 0} (faults : List FieldFault) (draft : Option A) (e : SceneFault) → IsFirst faults e → e ≢ Memory → drafted faults draft ≡ Err e
+-- A manifest that has faults is refused by the first of them.
+drafted_faulty : {A : Type 0} (faults : List FieldFault) (draft : Option A) (e : SceneFault) → IsFirst faults e
+    → e ≢ Memory → drafted faults draft ≡ Err e
 drafted_faulty faults draft Syntax h ne = absurd h
 drafted_faulty faults draft Form h ne = absurd h
 drafted_faulty faults draft (Manifest fault) (others, is) ne = ap (λ fs. drafted fs draft) is
 drafted_faulty faults draft Memory h ne = absurd (ne refl)
 
-pub cron_fine : (zones : List Zone) (m : Data) (x : CronJobDraft) → cron_faults zones m ≡ [] → cron_draft m ≡ Some x → cron_said zones m ≡ Ok x
+-- For cron_said: a CronJob's manifest that has no fault and has a draft says this draft.
+pub cron_fine : (zones : List Zone) (m : Data) (x : CronJobDraft) → cron_faults zones m ≡ [] → cron_draft m ≡ Some x
+    → cron_said zones m ≡ Ok x
 unfolding cron_said
 cron_fine zones m x sound is = drafted_fine (cron_faults zones m) (cron_draft m) x sound is
 
-pub cron_faulty : (zones : List Zone) (m : Data) (e : SceneFault) → IsFirst (cron_faults zones m) e → e ≢ Memory → cron_said zones m ≡ Err e
+-- For cron_said: a CronJob's manifest that has faults is refused by the first of them.
+pub cron_faulty : (zones : List Zone) (m : Data) (e : SceneFault) → IsFirst (cron_faults zones m) e → e ≢ Memory
+    → cron_said zones m ≡ Err e
 unfolding cron_said
 cron_faulty zones m e h ne = drafted_faulty (cron_faults zones m) (cron_draft m) e h ne
 
+-- For job_draft: a Job's manifest that has no fault and has a draft says this draft.
 pub job_fine : (m : Data) (x : JobDraft) → job_faults m ≡ [] → job_draft m ≡ Some x → job_said m ≡ Ok x
 unfolding job_said
 job_fine m x sound is = drafted_fine (job_faults m) (job_draft m) x sound is
 
+-- For job_draft: a Job's manifest that has faults is refused by the first of them.
 pub job_faulty : (m : Data) (e : SceneFault) → IsFirst (job_faults m) e → e ≢ Memory → job_said m ≡ Err e
 unfolding job_said
 job_faulty m e h ne = drafted_faulty (job_faults m) (job_draft m) e h ne
 
 -- a refusal that is handed on
-pub moved : {T : Type 0} (r : Result T SceneFault) (e : SceneFault) (P : SceneFault → Type 0) → IsErrAnd r (λ x. x ≡ e) → P e → IfErr r P
+pub moved : {T : Type 0} (r : Result T SceneFault) (e : SceneFault) (P : SceneFault → Type 0) → IsErrAnd r (λ x. x ≡ e)
+    → P e → IfErr r P
 moved (Ok x) e P is h = search rules
 moved (Err x) e P is h = subst P (sym is) h

@@ -9,13 +9,17 @@ use Rattle.cj_manifest.specs.Members.{unless_null}
 use Rattle.cj_script.specs.declared.callers.Named.{Named}
 use Rattle.cj_script.specs.Callers.{role_in, with_callers, with_role}
 
+-- The callers with one more of that name, if its role is one, and then those of the members after
+-- it.
 after : List Named → List ℕ → Members → Option (Option Role) → Option (List Named)
 after callers name ms o = option_and_then (λ role. with_callers (with_role callers name role) ms) o
 
 -- one caller more
-pub callers-more : (callers : List Named) (entries rest : List (String Global × Value)) (name : String Global) (value : Value) (text : List ℕ) (o : Option (Option Role))
+pub callers-more : (callers : List Named) (entries rest : List (String Global × Value)) (name : String
+    Global) (value : Value) (text : List ℕ) (o : Option (Option Role))
     → entries ≡ (name, value) ∷ rest → text ≡ string_bytes name → role_in (unless_null (view value)) ≡ o
-    → with_callers callers (members_view entries) ≡ option_and_then (λ role. with_callers (with_role callers text role) (members_view rest)) o
+    → with_callers callers (members_view entries)
+    ≡ option_and_then (λ role. with_callers (with_role callers text role) (members_view rest)) o
 unfolding after
 callers-more callers entries rest name value text o e t is =
     ap (λ es. with_callers callers (members_view es)) e

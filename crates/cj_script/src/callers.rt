@@ -66,7 +66,8 @@ fn add_caller(
 }
 
 fn callers_of(alloc: Global, members: &Map<String, Value>) -> Result<Option<Vec<Named>>, Refusal>
-    ensures ok { IfOk result (λ cs. option_map (λ v. v.items) cs ≡ said.with_callers [] (members_view members.now.entries)) }
+    ensures ok { IfOk result (λ cs. option_map (λ v. v.items) cs
+        ≡ said.with_callers [] (members_view members.now.entries)) }
     ensures err { IfErr result (λ e. e ≡ OutOfMemory) }
 {
     let mut callers = Vec::new(alloc);
@@ -82,7 +83,8 @@ fn callers_of(alloc: Global, members: &Map<String, Value>) -> Result<Option<Vec<
 /// The callers of a script by name, or none where they are missing or have the wrong form. One whose role is
 /// null is none.
 pub(crate) fn callers_at(alloc: Global, value: &Value) -> Result<Option<Vec<Named>>, Refusal>
-    ensures ok { IfOk result (λ cs. option_map (λ v. v.items) cs ≡ said.callers_in (view value.now)) }
+    ensures ok { IfOk result (λ cs. option_map (λ v. v.items) cs
+        ≡ said.callers_in (view value.now)) }
     ensures err { IfErr result (λ e. e ≡ OutOfMemory) }
 {
     let Some(found) = present(value, "callers") else {

@@ -22,7 +22,8 @@ pub fn cron_said(
 ) -> Result<Shared<CronJobDraft>, SceneFault>
     requires flat { depth (view manifest.now) ≤ max_depth }
     ensures ok { IfOk result (λ d. said.cron_said (zones_of zones.now) (view manifest.now) ≡ Ok d) }
-    ensures err { IfErr result (λ e. e ≢ Memory → said.cron_said (zones_of zones.now) (view manifest.now) ≡ Err e) }
+    ensures err { IfErr result (λ e. e ≢ Memory →
+        said.cron_said (zones_of zones.now) (view manifest.now) ≡ Err e) }
 {
     let draft = draft_of(alloc, manifest, zones)?;
     Ok(Shared::new(alloc, draft)?)

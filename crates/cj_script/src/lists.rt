@@ -41,8 +41,10 @@ fn gather<R: Reads>(
     value: &Value,
 ) -> Result<(), SceneFault>
     requires flat { depth (view value.now) ≤ max_depth }
-    ensures ok { OnOk result (Gathers gathered.old.items.items gathered.old.fault (R.said reader.now (view value.now)) gathered.new.items.items gathered.new.fault) }
-    ensures err { IfErr result (λ e. e ≢ Memory → Stops gathered.old.items.items gathered.old.fault (R.said reader.now (view value.now)) e) }
+    ensures ok { OnOk result (Gathers gathered.old.items.items gathered.old.fault
+        (R.said reader.now (view value.now)) gathered.new.items.items gathered.new.fault) }
+    ensures err { IfErr result (λ e. e ≢ Memory →
+        Stops gathered.old.items.items gathered.old.fault (R.said reader.now (view value.now)) e) }
 {
     match reader.read(alloc, value) {
         Ok(item) => gathered.items.push(item).map_err(|_| SceneFault::Memory),
@@ -62,8 +64,10 @@ fn gathered_of<R: Reads>(
     values: &Vec<Value>,
 ) -> Result<Gathered<R::Item>, SceneFault>
     requires flat { items_depth (items_view values.now.items) ≤ max_depth }
-    ensures ok { IfOk result (λ g. joined g.items.items g.fault (Ok []) ≡ all_of (R.said reader.now) (items_view values.now.items)) }
-    ensures err { IfErr result (λ e. e ≢ Memory → all_of (R.said reader.now) (items_view values.now.items) ≡ Err e) }
+    ensures ok { IfOk result (λ g. joined g.items.items g.fault (Ok [])
+        ≡ all_of (R.said reader.now) (items_view values.now.items)) }
+    ensures err { IfErr result (λ e. e ≢ Memory →
+        all_of (R.said reader.now) (items_view values.now.items) ≡ Err e) }
 {
     let mut gathered = Gathered {
         items: Vec::new(alloc),
@@ -82,8 +86,10 @@ pub fn list_of<R: Reads>(
     values: &Vec<Value>,
 ) -> Result<Vec<R::Item>, SceneFault>
     requires flat { items_depth (items_view values.now.items) ≤ max_depth }
-    ensures ok { IfOk result (λ xs. all_of (R.said reader.now) (items_view values.now.items) ≡ Ok xs.items) }
-    ensures err { IfErr result (λ e. e ≢ Memory → all_of (R.said reader.now) (items_view values.now.items) ≡ Err e) }
+    ensures ok { IfOk result (λ xs. all_of (R.said reader.now) (items_view values.now.items)
+        ≡ Ok xs.items) }
+    ensures err { IfErr result (λ e. e ≢ Memory →
+        all_of (R.said reader.now) (items_view values.now.items) ≡ Err e) }
 {
     let Gathered { items, fault } = gathered_of(alloc, reader, values)?;
     match fault {

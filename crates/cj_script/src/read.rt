@@ -28,8 +28,10 @@ struct Told {
 
 fn told_of(alloc: Global, zones: &ZoneTable, value: &Value) -> Result<Told, SceneFault>
     requires flat { depth (view value.now) ≤ max_depth }
-    ensures ok { IfOk result (λ t. told_in (zones_of zones.now) (view value.now) ≡ Ok (t.limits, t.steps.items)) }
-    ensures err { IfErr result (λ e. e ≢ Memory → told_in (zones_of zones.now) (view value.now) ≡ Err e) }
+    ensures ok { IfOk result (λ t. told_in (zones_of zones.now) (view value.now)
+        ≡ Ok (t.limits, t.steps.items)) }
+    ensures err { IfErr result (λ e. e ≢ Memory →
+        told_in (zones_of zones.now) (view value.now) ≡ Err e) }
 {
     let Some(limits) = limits_at(value) else {
         return Err(SceneFault::Form);

@@ -48,7 +48,8 @@ fn verb_at(value: &Value) -> Option<Verb>
 fn act_of(alloc: Global, zones: &ZoneTable, verb: Verb, value: &Value) -> Result<Act, SceneFault>
     requires flat { depth (view value.now) ≤ max_depth }
     ensures ok { IfOk result (λ a. said.act_of (zones_of zones.now) verb (view value.now) ≡ Ok a) }
-    ensures err { IfErr result (λ e. e ≢ Memory → said.act_of (zones_of zones.now) verb (view value.now) ≡ Err e) }
+    ensures err { IfErr result (λ e. e ≢ Memory →
+        said.act_of (zones_of zones.now) verb (view value.now) ≡ Err e) }
 {
     match verb {
         Verb::Writes(write) => write_act(alloc, zones, write, value),
@@ -65,7 +66,8 @@ fn act_of(alloc: Global, zones: &ZoneTable, verb: Verb, value: &Value) -> Result
 pub fn deed_of(alloc: Global, zones: &ZoneTable, value: &Value) -> Result<Deed, SceneFault>
     requires flat { depth (view value.now) ≤ max_depth }
     ensures ok { IfOk result (λ s. said.deed_in (zones_of zones.now) (view value.now) ≡ Ok s) }
-    ensures err { IfErr result (λ e. e ≢ Memory → said.deed_in (zones_of zones.now) (view value.now) ≡ Err e) }
+    ensures err { IfErr result (λ e. e ≢ Memory →
+        said.deed_in (zones_of zones.now) (view value.now) ≡ Err e) }
 {
     let Some(verb) = verb_at(value) else {
         return Err(SceneFault::Form);
@@ -84,8 +86,10 @@ pub(crate) fn step_of(
     value: &Value,
 ) -> Result<Step, SceneFault>
     requires flat { depth (view value.now) ≤ max_depth }
-    ensures ok { IfOk result (λ s. said.step_of (zones_of zones.now) callers.now (view value.now) ≡ Ok s) }
-    ensures err { IfErr result (λ e. e ≢ Memory → said.step_of (zones_of zones.now) callers.now (view value.now) ≡ Err e) }
+    ensures ok { IfOk result (λ s. said.step_of (zones_of zones.now) callers.now (view value.now)
+        ≡ Ok s) }
+    ensures err { IfErr result (λ e. e ≢ Memory →
+        said.step_of (zones_of zones.now) callers.now (view value.now) ≡ Err e) }
 {
     let Some(named) = who_at(callers, value) else {
         return Err(SceneFault::Form);

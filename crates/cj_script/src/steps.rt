@@ -40,8 +40,10 @@ pub(crate) fn steps_of(
     items: &Vec<Value>,
 ) -> Result<Vec<Step>, SceneFault>
     requires flat { items_depth (items_view items.now.items) ≤ max_depth }
-    ensures ok { IfOk result (λ ss. steps_of (zones_of zones.now) callers.now (items_view items.now.items) ≡ Ok ss.items) }
-    ensures err { IfErr result (λ e. e ≢ Memory → steps_of (zones_of zones.now) callers.now (items_view items.now.items) ≡ Err e) }
+    ensures ok { IfOk result (λ ss. steps_of (zones_of zones.now) callers.now
+        (items_view items.now.items) ≡ Ok ss.items) }
+    ensures err { IfErr result (λ e. e ≢ Memory →
+        steps_of (zones_of zones.now) callers.now (items_view items.now.items) ≡ Err e) }
 {
     list_of(alloc, &Steps { zones, callers }, items)
 }

@@ -18,7 +18,8 @@ use std::alloc::Global;
 fn create_cron(alloc: Global, zones: &ZoneTable, value: &Value) -> Result<Act, SceneFault>
     requires flat { depth (view value.now) ≤ max_depth }
     ensures ok { IfOk result (λ a. said.create_cron (zones_of zones.now) (view value.now) ≡ Ok a) }
-    ensures err { IfErr result (λ e. e ≢ Memory → said.create_cron (zones_of zones.now) (view value.now) ≡ Err e) }
+    ensures err { IfErr result (λ e. e ≢ Memory →
+        said.create_cron (zones_of zones.now) (view value.now) ≡ Err e) }
 {
     let Some(at) = time_at(value, "at") else {
         return Err(SceneFault::Form);
@@ -33,7 +34,8 @@ fn create_cron(alloc: Global, zones: &ZoneTable, value: &Value) -> Result<Act, S
 fn update_cron(alloc: Global, zones: &ZoneTable, value: &Value) -> Result<Act, SceneFault>
     requires flat { depth (view value.now) ≤ max_depth }
     ensures ok { IfOk result (λ a. said.update_cron (zones_of zones.now) (view value.now) ≡ Ok a) }
-    ensures err { IfErr result (λ e. e ≢ Memory → said.update_cron (zones_of zones.now) (view value.now) ≡ Err e) }
+    ensures err { IfErr result (λ e. e ≢ Memory →
+        said.update_cron (zones_of zones.now) (view value.now) ≡ Err e) }
 {
     let Some(manifest) = present(value, "object") else {
         return Err(SceneFault::Form);
@@ -78,8 +80,10 @@ pub(crate) fn write_act(
     value: &Value,
 ) -> Result<Act, SceneFault>
     requires flat { depth (view value.now) ≤ max_depth }
-    ensures ok { IfOk result (λ a. said.write_act (zones_of zones.now) verb (view value.now) ≡ Ok a) }
-    ensures err { IfErr result (λ e. e ≢ Memory → said.write_act (zones_of zones.now) verb (view value.now) ≡ Err e) }
+    ensures ok { IfOk result (λ a. said.write_act (zones_of zones.now) verb (view value.now)
+        ≡ Ok a) }
+    ensures err { IfErr result (λ e. e ≢ Memory →
+        said.write_act (zones_of zones.now) verb (view value.now) ≡ Err e) }
 {
     match verb {
         Write::CreateCron => create_cron(alloc, zones, value),

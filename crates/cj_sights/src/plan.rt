@@ -55,7 +55,11 @@ fn plan_of(
     active: &Listing<Option<Shared<Job>>>,
     at: Seconds,
 ) -> Result<Plan, Refusal>
-    ensures ok { IfOk result (IsPlanFor zones.now (record { cron = cron.now; jobs = jobs.now; active = active.now }) at) }
+    ensures ok { IfOk result (IsPlanFor zones.now (record {
+      cron = cron.now;
+      jobs = jobs.now;
+      active = active.now;
+    }) at) }
     ensures err { IfErr result (λ e. e ≡ OutOfMemory) }
 {
     let zone = zone_of_cron(alloc, zones, cron)?;

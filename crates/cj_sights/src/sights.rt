@@ -39,7 +39,8 @@ fn next_sight(
     call: &Call,
     reply: &Reply,
 ) -> Result<Sight, Refusal>
-    ensures ok { IfOk result (λ s. s ≡ told.with_reply (sight_or_none (option_copied sight.entry)) call.now reply.now) }
+    ensures ok { IfOk result (λ s. s ≡ told.with_reply (sight_or_none (option_copied sight.entry))
+        call.now reply.now) }
     ensures err { IfErr result (λ e. e ≡ OutOfMemory) }
 {
     match sight {
@@ -89,7 +90,12 @@ impl Sights {
         call: &Call,
         answer: &Answer,
     ) -> Result<(), Refusal>
-        ensures ok { OnOk result ((h : List Told) → Remembers self.old h → Remembers self.new (record { caller = caller; call = call.now; answer = answer.now } ∷ h)) }
+        ensures ok { OnOk result ((h : List Told) → Remembers self.old h →
+            Remembers self.new (record {
+              caller = caller;
+              call = call.now;
+              answer = answer.now;
+            } ∷ h)) }
         ensures err { OnErr result (self.new ≡ self.old) }
         ensures memory { IfErr result (λ e. e ≡ OutOfMemory) }
     {

@@ -76,7 +76,9 @@ impl State {
         requires numbered { version_of change ≡ self.old.watch.count + 1 }
         requires there { IsSome (map.get self.old.seats worker) }
         ensures same { IfOk result (λ t. t ≡ answer) }
-        ensures ok { OnOk result (self.new ≡ record (written self.old change) { seats = map.insert self.old.seats worker seat }) }
+        ensures ok { OnOk result (self.new ≡ record (written self.old change) {
+          seats = map.insert self.old.seats worker seat;
+        }) }
         ensures err { OnErr result (self.new ≡ self.old) }
         ensures memory { IfErr result (λ e. e ≡ OutOfMemory) }
     {

@@ -20,7 +20,8 @@ fn first_other(items: &[JobRef], pivot: &JobRef) -> Option<usize>
 
 // How many stand before the first that isn't older than a Job.
 fn older_count(items: &[JobRef], pivot: &JobRef) -> usize
-    ensures place { result ≡ unwrap_or (position (λ r. not (is_older r pivot.now)) items.now) (length items.now) }
+    ensures place { result ≡ unwrap_or (position (λ r. not (is_older r pivot.now)) items.now)
+        (length items.now) }
     ensures bound { result ≤ length items.now }
 {
     first_other(items, pivot).unwrap_or(items.len())

@@ -95,7 +95,8 @@ fn push_running(
     found: &Option<Shared<Job>>,
     items: &mut Vec<JobRef>,
 ) -> Result<(), Refusal>
-    ensures ok { OnOk result (items.new.items ≡ items.old.items ++ gathered (is_running uid.now) (present (found.now ∷ []))) }
+    ensures ok { OnOk result (items.new.items
+        ≡ items.old.items ++ gathered (is_running uid.now) (present (found.now ∷ []))) }
     ensures err { IfErr result (λ e. e ≡ OutOfMemory) }
 {
     let Some(job) = found else {

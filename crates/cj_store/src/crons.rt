@@ -25,7 +25,8 @@ impl Store {
     ) -> Result<Shared<CronJob>, Refusal>
         requires { self.old.version < 2 ^ 40 }
         ensures ok { IfOk result (λ c. cron_created self.old draft now ≡ Ok c) }
-        ensures err { IfErr result (λ e. e ≢ OutOfMemory → cron_created self.old draft now ≡ Err e) }
+        ensures err { IfErr result (λ e. e ≢ OutOfMemory →
+            cron_created self.old draft now ≡ Err e) }
         ensures after { IfOk result (λ c. self.new ≡ after self.old (cron_added c)) }
         ensures unchanged { OnErr result (self.new ≡ self.old) }
     {
@@ -66,7 +67,8 @@ impl Store {
     ) -> Result<Shared<CronJob>, Refusal>
         requires { self.old.version < 2 ^ 40 }
         ensures ok { IfOk result (λ c. status_set self.old key.now uid version status ≡ Ok c) }
-        ensures err { IfErr result (λ e. e ≢ OutOfMemory → status_set self.old key.now uid version status ≡ Err e) }
+        ensures err { IfErr result (λ e. e ≢ OutOfMemory →
+            status_set self.old key.now uid version status ≡ Err e) }
         ensures after { IfOk result (λ c. self.new ≡ after self.old (cron_modified c)) }
         ensures unchanged { OnErr result (self.new ≡ self.old) }
     {
@@ -79,9 +81,11 @@ impl Store {
     /// Deletes a CronJob, and answers the deletion's version. Refused: `NotFound`.
     pub fn delete_cron(&mut self, alloc: Global, key: &Key) -> Result<Version, Refusal>
         requires { self.old.version < 2 ^ 40 }
-        ensures ok { IfOk result (λ v. map_ok (λ c. c.meta.version) (cron_deleted self.old key.now) ≡ Ok v) }
+        ensures ok { IfOk result (λ v. map_ok (λ c. c.meta.version) (cron_deleted self.old key.now)
+            ≡ Ok v) }
         ensures err { IfErr result (λ e. e ≢ OutOfMemory → cron_deleted self.old key.now ≡ Err e) }
-        ensures after { OnOk result (map_ok (λ c. after self.old (cron_gone c)) (cron_deleted self.old key.now) ≡ Ok self.new) }
+        ensures after { OnOk result (map_ok (λ c. after self.old (cron_gone c))
+            (cron_deleted self.old key.now) ≡ Ok self.new) }
         ensures unchanged { OnErr result (self.new ≡ self.old) }
     {
         let cron = Shared::new(alloc, self.cron_deleted(alloc, key)?)?;

@@ -80,9 +80,12 @@ impl Store {
         uid: Option<Uid>,
     ) -> Result<Version, Refusal>
         requires { self.old.version < 2 ^ 40 }
-        ensures ok { IfOk result (λ v. map_ok (λ j. j.meta.version) (job_deleted self.old key.now uid) ≡ Ok v) }
-        ensures err { IfErr result (λ e. e ≢ OutOfMemory → job_deleted self.old key.now uid ≡ Err e) }
-        ensures after { OnOk result (map_ok (λ j. after self.old (job_gone j)) (job_deleted self.old key.now uid) ≡ Ok self.new) }
+        ensures ok { IfOk result (λ v. map_ok
+            (λ j. j.meta.version) (job_deleted self.old key.now uid) ≡ Ok v) }
+        ensures err { IfErr result (λ e. e ≢ OutOfMemory →
+            job_deleted self.old key.now uid ≡ Err e) }
+        ensures after { OnOk result (map_ok (λ j. after self.old (job_gone j))
+            (job_deleted self.old key.now uid) ≡ Ok self.new) }
         ensures unchanged { OnErr result (self.new ≡ self.old) }
     {
         let job = Shared::new(alloc, self.job_deleted(alloc, key, uid)?)?;
@@ -103,7 +106,8 @@ impl Store {
     ) -> Result<Shared<Job>, Refusal>
         requires { self.old.version < 2 ^ 40 }
         ensures ok { IfOk result (λ j. job_ended self.old key.now uid outcome now ≡ Ok j) }
-        ensures err { IfErr result (λ e. e ≢ OutOfMemory → job_ended self.old key.now uid outcome now ≡ Err e) }
+        ensures err { IfErr result (λ e. e ≢ OutOfMemory →
+            job_ended self.old key.now uid outcome now ≡ Err e) }
         ensures after { IfOk result (λ j. self.new ≡ after self.old (job_modified j)) }
         ensures unchanged { OnErr result (self.new ≡ self.old) }
     {

@@ -38,7 +38,8 @@ impl Store {
     ) -> Result<CronJob, Refusal>
         requires { self.now.version < 2 ^ 40 }
         ensures ok { IfOk result (λ c. cron_created self.now draft now ≡ Ok c) }
-        ensures err { IfErr result (λ e. e ≢ OutOfMemory → cron_created self.now draft now ≡ Err e) }
+        ensures err { IfErr result (λ e. e ≢ OutOfMemory →
+            cron_created self.now draft now ≡ Err e) }
         ensures planned { IfOk result (λ c. IsFor self.now (cron_added c)) }
     {
         if draft.meta.version.is_some() {
@@ -122,7 +123,8 @@ impl Store {
     ) -> Result<CronJob, Refusal>
         requires { self.now.version < 2 ^ 40 }
         ensures ok { IfOk result (λ c. status_set self.now key.now uid version status ≡ Ok c) }
-        ensures err { IfErr result (λ e. e ≢ OutOfMemory → status_set self.now key.now uid version status ≡ Err e) }
+        ensures err { IfErr result (λ e. e ≢ OutOfMemory →
+            status_set self.now key.now uid version status ≡ Err e) }
         ensures planned { IfOk result (λ c. IsFor self.now (cron_modified c)) }
     {
         let Some(found) = self.get_cron(key) else {

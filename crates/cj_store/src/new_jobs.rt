@@ -130,7 +130,9 @@ impl Store {
         found: &Job,
     ) -> Result<Job, Refusal>
         requires { self.now.version < 2 ^ 40 }
-        ensures ok { IfOk result (λ j. j ≡ record (last_job self.now found.now) { outcome = outcome }) }
+        ensures ok { IfOk result (λ j. j ≡ record (last_job self.now found.now) {
+          outcome = outcome;
+        }) }
         ensures err { IfErr result (λ e. e ≡ OutOfMemory) }
     {
         Ok(Job {
@@ -151,7 +153,8 @@ impl Store {
     ) -> Result<Job, Refusal>
         requires { self.now.version < 2 ^ 40 }
         ensures ok { IfOk result (λ j. job_deleted self.now key.now uid ≡ Ok j) }
-        ensures err { IfErr result (λ e. e ≢ OutOfMemory → job_deleted self.now key.now uid ≡ Err e) }
+        ensures err { IfErr result (λ e. e ≢ OutOfMemory →
+            job_deleted self.now key.now uid ≡ Err e) }
         ensures planned { IfOk result (λ j. IsFor self.now (job_gone j)) }
     {
         let Some(found) = self.get_job(key) else {
@@ -174,7 +177,8 @@ impl Store {
     ) -> Result<Job, Refusal>
         requires { self.now.version < 2 ^ 40 }
         ensures ok { IfOk result (λ j. job_ended self.now key.now uid outcome now ≡ Ok j) }
-        ensures err { IfErr result (λ e. e ≢ OutOfMemory → job_ended self.now key.now uid outcome now ≡ Err e) }
+        ensures err { IfErr result (λ e. e ≢ OutOfMemory →
+            job_ended self.now key.now uid outcome now ≡ Err e) }
         ensures planned { IfOk result (λ j. IsFor self.now (job_modified j)) }
     {
         let Some(found) = self.get_job(key) else {

@@ -19,8 +19,10 @@ impl Store {
         now: Seconds,
     ) -> Result<Change, Refusal>
         requires { self.now.version < 2 ^ 40 }
-        ensures ok { IfOk result (λ change. map_ok cron_added (cron_created self.now draft now) ≡ Ok change) }
-        ensures err { IfErr result (λ e. e ≢ OutOfMemory → cron_created self.now draft now ≡ Err e) }
+        ensures ok { IfOk result (λ change. map_ok cron_added (cron_created self.now draft now)
+            ≡ Ok change) }
+        ensures err { IfErr result (λ e. e ≢ OutOfMemory →
+            cron_created self.now draft now ≡ Err e) }
         ensures planned { IfOk result (λ change. IsFor self.now change) }
     {
         let cron = self.cron_created(alloc, draft, now)?;
@@ -30,7 +32,8 @@ impl Store {
     /// What `update_cron` would make.
     pub fn plan_update_cron(&self, alloc: Global, draft: CronJobDraft) -> Result<Change, Refusal>
         requires { self.now.version < 2 ^ 40 }
-        ensures ok { IfOk result (λ change. map_ok cron_modified (cron_updated self.now draft) ≡ Ok change) }
+        ensures ok { IfOk result (λ change. map_ok cron_modified (cron_updated self.now draft)
+            ≡ Ok change) }
         ensures err { IfErr result (λ e. e ≢ OutOfMemory → cron_updated self.now draft ≡ Err e) }
         ensures planned { IfOk result (λ change. IsFor self.now change) }
     {
@@ -48,8 +51,10 @@ impl Store {
         status: CronStatus,
     ) -> Result<Change, Refusal>
         requires { self.now.version < 2 ^ 40 }
-        ensures ok { IfOk result (λ change. map_ok cron_modified (status_set self.now key.now uid version status) ≡ Ok change) }
-        ensures err { IfErr result (λ e. e ≢ OutOfMemory → status_set self.now key.now uid version status ≡ Err e) }
+        ensures ok { IfOk result (λ change. map_ok cron_modified
+            (status_set self.now key.now uid version status) ≡ Ok change) }
+        ensures err { IfErr result (λ e. e ≢ OutOfMemory →
+            status_set self.now key.now uid version status ≡ Err e) }
         ensures planned { IfOk result (λ change. IsFor self.now change) }
     {
         let cron = self.status_set(alloc, key, uid, version, status)?;
@@ -59,7 +64,8 @@ impl Store {
     /// What `delete_cron` would make.
     pub fn plan_delete_cron(&self, alloc: Global, key: &Key) -> Result<Change, Refusal>
         requires { self.now.version < 2 ^ 40 }
-        ensures ok { IfOk result (λ change. map_ok cron_gone (cron_deleted self.now key.now) ≡ Ok change) }
+        ensures ok { IfOk result (λ change. map_ok cron_gone (cron_deleted self.now key.now)
+            ≡ Ok change) }
         ensures err { IfErr result (λ e. e ≢ OutOfMemory → cron_deleted self.now key.now ≡ Err e) }
         ensures planned { IfOk result (λ change. IsFor self.now change) }
     {
@@ -75,7 +81,8 @@ impl Store {
         now: Seconds,
     ) -> Result<Change, Refusal>
         requires { self.now.version < 2 ^ 40 }
-        ensures ok { IfOk result (λ change. map_ok job_added (job_created self.now draft now) ≡ Ok change) }
+        ensures ok { IfOk result (λ change. map_ok job_added (job_created self.now draft now)
+            ≡ Ok change) }
         ensures err { IfErr result (λ e. e ≢ OutOfMemory → job_created self.now draft now ≡ Err e) }
         ensures planned { IfOk result (λ change. IsFor self.now change) }
     {
@@ -91,7 +98,8 @@ impl Store {
         now: Seconds,
     ) -> Result<Change, Refusal>
         requires { self.now.version < 2 ^ 40 }
-        ensures ok { IfOk result (λ change. map_ok job_added (job_made self.now draft now) ≡ Ok change) }
+        ensures ok { IfOk result (λ change. map_ok job_added (job_made self.now draft now)
+            ≡ Ok change) }
         ensures err { IfErr result (λ e. e ≢ OutOfMemory → job_made self.now draft now ≡ Err e) }
         ensures planned { IfOk result (λ change. IsFor self.now change) }
     {
@@ -102,7 +110,8 @@ impl Store {
     /// What `update_job` would make.
     pub fn plan_update_job(&self, alloc: Global, draft: JobDraft) -> Result<Change, Refusal>
         requires { self.now.version < 2 ^ 40 }
-        ensures ok { IfOk result (λ change. map_ok job_modified (job_updated self.now draft) ≡ Ok change) }
+        ensures ok { IfOk result (λ change. map_ok job_modified (job_updated self.now draft)
+            ≡ Ok change) }
         ensures err { IfErr result (λ e. e ≢ OutOfMemory → job_updated self.now draft ≡ Err e) }
         ensures planned { IfOk result (λ change. IsFor self.now change) }
     {
@@ -118,8 +127,10 @@ impl Store {
         uid: Option<Uid>,
     ) -> Result<Change, Refusal>
         requires { self.now.version < 2 ^ 40 }
-        ensures ok { IfOk result (λ change. map_ok job_gone (job_deleted self.now key.now uid) ≡ Ok change) }
-        ensures err { IfErr result (λ e. e ≢ OutOfMemory → job_deleted self.now key.now uid ≡ Err e) }
+        ensures ok { IfOk result (λ change. map_ok job_gone (job_deleted self.now key.now uid)
+            ≡ Ok change) }
+        ensures err { IfErr result (λ e. e ≢ OutOfMemory →
+            job_deleted self.now key.now uid ≡ Err e) }
         ensures planned { IfOk result (λ change. IsFor self.now change) }
     {
         let job = self.job_deleted(alloc, key, uid)?;
@@ -136,8 +147,10 @@ impl Store {
         now: Seconds,
     ) -> Result<Change, Refusal>
         requires { self.now.version < 2 ^ 40 }
-        ensures ok { IfOk result (λ change. map_ok job_modified (job_ended self.now key.now uid outcome now) ≡ Ok change) }
-        ensures err { IfErr result (λ e. e ≢ OutOfMemory → job_ended self.now key.now uid outcome now ≡ Err e) }
+        ensures ok { IfOk result (λ change. map_ok job_modified
+            (job_ended self.now key.now uid outcome now) ≡ Ok change) }
+        ensures err { IfErr result (λ e. e ≢ OutOfMemory →
+            job_ended self.now key.now uid outcome now ≡ Err e) }
         ensures planned { IfOk result (λ change. IsFor self.now change) }
     {
         let job = self.job_ended(alloc, key, uid, outcome, now)?;

@@ -25,9 +25,19 @@ impl Model for Store {
 
     ghost coded = { coded_content };
 
-    ghost view = { λ s. record { crons = s.crons; jobs = s.jobs; version = s.writes; uids = s.creations } };
+    ghost view = { λ s. record {
+      crons = s.crons;
+      jobs = s.jobs;
+      version = s.writes;
+      uids = s.creations;
+    } };
 
-    ghost invariant = { λ s. IsSound (record { crons = s.crons; jobs = s.jobs; version = s.writes; uids = s.creations }) };
+    ghost invariant = { λ s. IsSound (record {
+      crons = s.crons;
+      jobs = s.jobs;
+      version = s.writes;
+      uids = s.creations;
+    }) };
 }
 
 impl Store {

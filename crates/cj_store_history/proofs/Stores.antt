@@ -17,6 +17,7 @@ use Rattle.cj_store_history.specs.Store.{IsStore, StoreLaw}
 use Rattle.cj_store_history.proofs.Alike.{begins, one_more}
 use Rattle.cj_store_history.proofs.Keeps.{Keeps, stored, keeps}
 
+-- A content that has what the writes left still has it, with one write more or none.
 with_one : (ws : List Event) (s : Content) (o : Option Event) → IsStore ws s → IsStore (with_write o ws) (stored o s)
 with_one ws s None is = is
 with_one ws s (Some w) is = one_more ws s w is
@@ -27,16 +28,21 @@ entry_writes window e h = entry_written (writes h) (seat h e.caller.number) e.ca
 
 -- is what its step writes
 pub written_is : (window : ℕ) (e : Told) (h : List Told) → IsLegal window (e ∷ h)
-    → entry_written (writes h) (seat_of (state_of window h) e.caller.number) e.call (step_of (state_of window h) e.caller e.call).answer ≡ entry_writes window e h
+    → entry_written (writes h) (seat_of (state_of window h) e.caller.number) e.call
+    (step_of (state_of window h) e.caller e.call).answer ≡ entry_writes window e h
 written_is window e h l =
-    ap (λ (o : Option Seat). entry_written (writes h) o e.call (step_of (state_of window h) e.caller e.call).answer) (seats_agree window h l.2 e.caller.number)
+    ap (λ (o : Option Seat). entry_written (writes h) o e.call (step_of (state_of window h) e.caller e.call).answer)
+    (seats_agree window h l.2 e.caller.number)
     ∙ ap (λ (a : Result Reply Refusal). entry_written (writes h) (seat h e.caller.number) e.call a) (sym l.0)
 
+-- For store_law: after a legal history the store has what the writes left.
 pub store_agrees : StoreLaw
 store_agrees window [] l = begins
 store_agrees window (e ∷ h) l =
     let is : IsStore (writes h) (state_of window h).store = store_agrees window h l.2 in
-    let k : Keeps (writes h) (seat_of (state_of window h) e.caller.number) e.call (state_of window h) (step_of (state_of window h) e.caller e.call) =
+    let k : Keeps (writes h) (seat_of (state_of window h) e.caller.number) e.call (state_of window h)
+    (step_of (state_of window h) e.caller e.call) =
     keeps (writes h) (state_of window h) e.caller e.call is in
-    subst (λ (s : Content). IsStore (writes (e ∷ h)) s) (sym (k.store ∙ ap (λ o. stored o (state_of window h).store) (written_is window e h l)))
+    subst (λ (s : Content). IsStore (writes (e ∷ h)) s)
+    (sym (k.store ∙ ap (λ o. stored o (state_of window h).store) (written_is window e h l)))
     (with_one (writes h) (state_of window h).store (entry_writes window e h) is)

@@ -14,21 +14,30 @@ use Rattle.cj_store.specs.Content.{Content, Home, CronAt, JobAt}
 use Rattle.cj_store.specs.Change.{after}
 use Rattle.cj_store_laws.specs.Events.{object_at, home_of, left_by, Writes, EventsWrite}
 
+-- f makes an object of what a map has, and home gives the place of a key of that map.
 module _ {X : Type 0} (f : X → Object) (home : Place → Home) where
-  put_by : (m : map.FinMap place_cmp X) (k q : Place) (v : X) → home q ≢ home k → ((q ≡ k) × (map.get (map.insert m k v) q ≡ Some v)) ⊎ (map.get (map.insert m k v) q ≡ map.get m q)
+  -- For put_other: whichever of two a look-up gives after a put, another place has what it had.
+  put_by : (m : map.FinMap place_cmp X) (k q : Place) (v : X) → home q ≢ home k
+      → ((q ≡ k) × (map.get (map.insert m k v) q ≡ Some v)) ⊎ (map.get (map.insert m k v) q ≡ map.get m q)
       → option_map f (map.get (map.insert m k v) q) ≡ option_map f (map.get m q)
   put_by m k q v apart (inl e) = absurd (apart (ap home e.0))
   put_by m k q v apart (inr e) = ap (option_map f) e
 
-  put_other : (m : map.FinMap place_cmp X) (k q : Place) (v : X) → home q ≢ home k → option_map f (map.get (map.insert m k v) q) ≡ option_map f (map.get m q)
+  -- An object that is put at a key leaves what stands at any other place of the map.
+  put_other : (m : map.FinMap place_cmp X) (k q : Place) (v : X) → home q ≢ home k
+      → option_map f (map.get (map.insert m k v) q) ≡ option_map f (map.get m q)
   put_other m k q v apart = put_by m k q v apart (put_split m k v q)
 
-  cut_by : (m : map.FinMap place_cmp X) (k q : Place) → home q ≢ home k → ((q ≡ k) × (map.get (map.remove m k) q ≡ None)) ⊎ (map.get (map.remove m k) q ≡ map.get m q)
+  -- For cut_other: whichever of two a look-up gives after a cut, another place has what it had.
+  cut_by : (m : map.FinMap place_cmp X) (k q : Place) → home q ≢ home k →
+      ((q ≡ k) × (map.get (map.remove m k) q ≡ None)) ⊎ (map.get (map.remove m k) q ≡ map.get m q)
       → option_map f (map.get (map.remove m k) q) ≡ option_map f (map.get m q)
   cut_by m k q apart (inl e) = absurd (apart (ap home e.0))
   cut_by m k q apart (inr e) = ap (option_map f) e
 
-  cut_other : (m : map.FinMap place_cmp X) (k q : Place) → home q ≢ home k → option_map f (map.get (map.remove m k) q) ≡ option_map f (map.get m q)
+  -- An object that is cut at a key leaves what stands at any other place of the map.
+  cut_other : (m : map.FinMap place_cmp X) (k q : Place) → home q ≢ home k
+      → option_map f (map.get (map.remove m k) q) ≡ option_map f (map.get m q)
   cut_other m k q apart = cut_by m k q apart (cut_split m k q)
 
 -- what stands at the place of the write
@@ -55,13 +64,45 @@ others s (Deleted (Of.Cron c)) (JobAt q) apart = refl
 others s (Deleted (Of.Job j)) (CronAt q) apart = refl
 others s (Deleted (Of.Job j)) (JobAt q) apart = cut_other (λ (x : Job). Of.Job x) JobAt s.jobs j.key q apart
 
+-- A write changes the place that its event tells of and no other, and counts one version more.
 writes : (s : Content) (e : Event) → Writes s (after s e) e
-writes s (Added (Of.Cron c)) = record { here = here s (Added (Of.Cron c)); others = others s (Added (Of.Cron c)); version = refl; uids = omega arith }
-writes s (Added (Of.Job j)) = record { here = here s (Added (Of.Job j)); others = others s (Added (Of.Job j)); version = refl; uids = omega arith }
-writes s (Modified (Of.Cron c)) = record { here = here s (Modified (Of.Cron c)); others = others s (Modified (Of.Cron c)); version = refl; uids = omega arith }
-writes s (Modified (Of.Job j)) = record { here = here s (Modified (Of.Job j)); others = others s (Modified (Of.Job j)); version = refl; uids = omega arith }
-writes s (Deleted (Of.Cron c)) = record { here = here s (Deleted (Of.Cron c)); others = others s (Deleted (Of.Cron c)); version = refl; uids = omega arith }
-writes s (Deleted (Of.Job j)) = record { here = here s (Deleted (Of.Job j)); others = others s (Deleted (Of.Job j)); version = refl; uids = omega arith }
+writes s (Added (Of.Cron c)) = record {
+  here = here s (Added (Of.Cron c));
+  others = others s (Added (Of.Cron c));
+  version = refl;
+  uids = omega arith;
+}
+writes s (Added (Of.Job j)) = record {
+  here = here s (Added (Of.Job j));
+  others = others s (Added (Of.Job j));
+  version = refl;
+  uids = omega arith;
+}
+writes s (Modified (Of.Cron c)) = record {
+  here = here s (Modified (Of.Cron c));
+  others = others s (Modified (Of.Cron c));
+  version = refl;
+  uids = omega arith;
+}
+writes s (Modified (Of.Job j)) = record {
+  here = here s (Modified (Of.Job j));
+  others = others s (Modified (Of.Job j));
+  version = refl;
+  uids = omega arith;
+}
+writes s (Deleted (Of.Cron c)) = record {
+  here = here s (Deleted (Of.Cron c));
+  others = others s (Deleted (Of.Cron c));
+  version = refl;
+  uids = omega arith;
+}
+writes s (Deleted (Of.Job j)) = record {
+  here = here s (Deleted (Of.Job j));
+  others = others s (Deleted (Of.Job j));
+  version = refl;
+  uids = omega arith;
+}
 
+-- For event_laws: what the event of any write does to any content.
 pub events_write : EventsWrite
 events_write = writes

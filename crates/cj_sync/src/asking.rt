@@ -13,7 +13,8 @@ use std::alloc::Global;
 /// Makes one call; where it is accepted, the receipt has the reply.
 pub(crate) fn call_on<D: Desk>(desk: &mut D, pass: &mut Pass, call: Call) -> Result<Receipt, Hitch>
     requires { IsTrue (is_inner call) }
-    ensures { Adds D.tells (D.history desk.old) (D.history desk.new) pass.old pass.new (HasAsked call result) }
+    ensures { Adds D.tells (D.history desk.old) (D.history desk.new) pass.old pass.new
+        (HasAsked call result) }
 {
     match ask(desk, pass, call) {
         Ok(receipt) => Ok(receipt),
@@ -25,7 +26,8 @@ pub(crate) fn call_on<D: Desk>(desk: &mut D, pass: &mut Pass, call: Call) -> Res
 /// Makes one call of whose reply nothing is kept.
 pub(crate) fn make<D: Desk>(desk: &mut D, pass: &mut Pass, call: Call) -> Result<(), Hitch>
     requires { IsTrue (is_inner call) }
-    ensures { Adds D.tells (D.history desk.old) (D.history desk.new) pass.old pass.new (HasDone call result) }
+    ensures { Adds D.tells (D.history desk.old) (D.history desk.new) pass.old pass.new
+        (HasDone call result) }
 {
     match call_on(desk, pass, call) {
         Ok(_receipt) => Ok(()),
@@ -84,7 +86,8 @@ pub(crate) fn see_cron<D: Desk>(
     desk: &mut D,
     pass: &mut Pass,
 ) -> Result<Option<Shared<CronJob>>, Hitch>
-    ensures { Adds D.tells (D.history desk.old) (D.history desk.new) pass.old pass.new (HasCron result) }
+    ensures { Adds D.tells (D.history desk.old) (D.history desk.new) pass.old pass.new
+        (HasCron result) }
 {
     match call_on(desk, pass, Call::SeeCron) {
         Ok(receipt) => cron_in(alloc, receipt.answer()),
@@ -98,7 +101,8 @@ pub(crate) fn see_jobs<D: Desk>(
     desk: &mut D,
     pass: &mut Pass,
 ) -> Result<Listing<Shared<Job>>, Hitch>
-    ensures { Adds D.tells (D.history desk.old) (D.history desk.new) pass.old pass.new (HasJobs result) }
+    ensures { Adds D.tells (D.history desk.old) (D.history desk.new) pass.old pass.new
+        (HasJobs result) }
 {
     match call_on(desk, pass, Call::SeeJobs) {
         Ok(receipt) => jobs_in(alloc, receipt.answer()),
@@ -112,7 +116,8 @@ pub(crate) fn see_active<D: Desk>(
     desk: &mut D,
     pass: &mut Pass,
 ) -> Result<Listing<Option<Shared<Job>>>, Hitch>
-    ensures { Adds D.tells (D.history desk.old) (D.history desk.new) pass.old pass.new (HasActive result) }
+    ensures { Adds D.tells (D.history desk.old) (D.history desk.new) pass.old pass.new
+        (HasActive result) }
 {
     match call_on(desk, pass, Call::SeeActive) {
         Ok(receipt) => active_in(alloc, receipt.answer()),

@@ -101,7 +101,8 @@ impl Held {
         why: Refusal,
         reasons: Reasons,
     ) -> SyncEnd
-        ensures { Adds D.tells (D.history desk.old) (D.history desk.new) pass.old pass.new (λ es. IsEarly (C.gives clock.now) reasons why es result) }
+        ensures { Adds D.tells (D.history desk.old) (D.history desk.new) pass.old pass.new
+            (λ es. IsEarly (C.gives clock.now) reasons why es result) }
     {
         let Held { took: _ } = self;
         let reading = clock.now();
@@ -124,7 +125,8 @@ impl Held {
         hitch: Hitch,
         reasons: Reasons,
     ) -> SyncEnd
-        ensures { Adds D.tells (D.history desk.old) (D.history desk.new) pass.old pass.new (λ es. HasFailed (C.gives clock.now) reasons hitch es result) }
+        ensures { Adds D.tells (D.history desk.old) (D.history desk.new) pass.old pass.new
+            (λ es. HasFailed (C.gives clock.now) reasons hitch es result) }
     {
         match hitch {
             Hitch::Refused(why) => self.retry(desk, pass, clock, why, reasons),
@@ -146,7 +148,8 @@ impl Held {
         clock: &C,
         zones: &ZoneTable,
     ) -> SyncEnd
-        ensures { Adds D.tells (D.history desk.old) (D.history desk.new) pass.old pass.new (λ es. FromHeld (C.gives clock.now) (G.may_stop gate.now) zones.now self es result) }
+        ensures { Adds D.tells (D.history desk.old) (D.history desk.new) pass.old pass.new
+            (λ es. FromHeld (C.gives clock.now) (G.may_stop gate.now) zones.now self es result) }
     {
         match see_cron(alloc, desk, pass) {
             Ok(cron) => match gate.at(Point::Seen, self.key()) {
@@ -169,7 +172,9 @@ impl Seen {
         clock: &C,
         zones: &ZoneTable,
     ) -> SyncEnd
-        ensures { Adds D.tells (D.history desk.old) (D.history desk.new) pass.old pass.new (λ es. FromSeen (C.gives clock.now) (G.may_stop gate.now) zones.now self.held self.cron es result) }
+        ensures { Adds D.tells (D.history desk.old) (D.history desk.new) pass.old pass.new
+            (λ es. FromSeen (C.gives clock.now) (G.may_stop gate.now) zones.now self.held self.cron
+            es result) }
     {
         let Seen { held, cron } = self;
         match see_jobs(alloc, desk, pass) {
@@ -196,7 +201,9 @@ impl Listed {
         clock: &C,
         zones: &ZoneTable,
     ) -> SyncEnd
-        ensures { Adds D.tells (D.history desk.old) (D.history desk.new) pass.old pass.new (λ es. FromListed (C.gives clock.now) (G.may_stop gate.now) zones.now self.held self.cron self.jobs es result) }
+        ensures { Adds D.tells (D.history desk.old) (D.history desk.new) pass.old pass.new
+            (λ es. FromListed (C.gives clock.now) (G.may_stop gate.now) zones.now self.held
+            self.cron self.jobs es result) }
     {
         let Listed { held, cron, jobs } = self;
         match see_active(alloc, desk, pass) {
@@ -225,7 +232,9 @@ impl Checked {
         clock: &C,
         zones: &ZoneTable,
     ) -> SyncEnd
-        ensures { Adds D.tells (D.history desk.old) (D.history desk.new) pass.old pass.new (λ es. FromChecked (C.gives clock.now) (G.may_stop gate.now) zones.now self.held self.cron self.jobs self.active es result) }
+        ensures { Adds D.tells (D.history desk.old) (D.history desk.new) pass.old pass.new
+            (λ es. FromChecked (C.gives clock.now) (G.may_stop gate.now) zones.now self.held
+            self.cron self.jobs self.active es result) }
     {
         let Checked {
             held,
@@ -249,7 +258,9 @@ fn claim<D: Desk, G: Gate, C: Clock>(
     decided: Decided,
 ) -> SyncEnd
     requires { IsOutline decided.plan decided.outline }
-    ensures { Adds D.tells (D.history desk.old) (D.history desk.new) pass.old pass.new (λ es. IsRest (C.gives clock.now) (λ point. G.may_stop gate.now point held) (reasons_with decided.plan) (calls_of decided.plan) es result) }
+    ensures { Adds D.tells (D.history desk.old) (D.history desk.new) pass.old pass.new
+        (λ es. IsRest (C.gives clock.now) (λ point. G.may_stop gate.now point held)
+        (reasons_with decided.plan) (calls_of decided.plan) es result) }
 {
     let Decided { plan, outline } = decided;
     match make(desk, pass, Call::Claim(plan)) {
@@ -270,7 +281,12 @@ impl Claimed {
         gate: &G,
         clock: &C,
     ) -> SyncEnd
-        ensures { Adds D.tells (D.history desk.old) (D.history desk.new) pass.old pass.new (λ es. IsRest (C.gives clock.now) (λ point. G.may_stop gate.now point self.held) (reasons_by self.outline.retry self.outline.failed) (map call_by self.outline.steps.items ++ Of.Finish Well self.outline.done ∷ []) es result) }
+        ensures { Adds D.tells (D.history desk.old) (D.history desk.new) pass.old pass.new
+            (λ es. IsRest (C.gives clock.now)
+            (λ point. G.may_stop gate.now point self.held)
+            (reasons_by self.outline.retry self.outline.failed)
+            (map call_by self.outline.steps.items ++ Of.Finish Well self.outline.done ∷ []) es
+            result) }
     {
         let Claimed { held, outline } = self;
         match take_steps(desk, pass, gate, held.key(), outline.steps.as_slice()) {
@@ -289,7 +305,9 @@ fn finish<D: Desk, G: Gate, C: Clock>(
     held: Held,
     outline: Outline,
 ) -> SyncEnd
-    ensures { Adds D.tells (D.history desk.old) (D.history desk.new) pass.old pass.new (λ es. IsRest (C.gives clock.now) (λ point. G.may_stop _gate.now point held) (reasons_by outline.retry outline.failed) (Of.Finish Well outline.done ∷ []) es result) }
+    ensures { Adds D.tells (D.history desk.old) (D.history desk.new) pass.old pass.new
+        (λ es. IsRest (C.gives clock.now) (λ point. G.may_stop _gate.now point held)
+        (reasons_by outline.retry outline.failed) (Of.Finish Well outline.done ∷ []) es result) }
 {
     let Outline {
         steps: _,
@@ -318,7 +336,9 @@ fn fail_with<D: Desk, C: Clock>(
     hitch: Hitch,
     outline: Outline,
 ) -> SyncEnd
-    ensures { Adds D.tells (D.history desk.old) (D.history desk.new) pass.old pass.new (λ es. HasFailed (C.gives clock.now) (reasons_at outline.retry outline.failed hitch) hitch es result) }
+    ensures { Adds D.tells (D.history desk.old) (D.history desk.new) pass.old pass.new
+        (λ es. HasFailed (C.gives clock.now) (reasons_at outline.retry outline.failed hitch) hitch
+        es result) }
 {
     let Outline {
         steps: _,

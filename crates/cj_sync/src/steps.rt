@@ -19,7 +19,8 @@ fn take_step<D: Desk, G: Gate>(
     key: &Key,
     step: Next,
 ) -> Result<Turn, Hitch>
-    ensures { Adds D.tells (D.history desk.old) (D.history desk.new) pass.old pass.new (HasStepped (G.may_stop gate.now Point.Made key.now) (call_by step ∷ []) result) }
+    ensures { Adds D.tells (D.history desk.old) (D.history desk.new) pass.old pass.new
+        (HasStepped (G.may_stop gate.now Point.Made key.now) (call_by step ∷ []) result) }
 {
     match step {
         Next::Drop => {
@@ -45,7 +46,8 @@ pub(crate) fn take_steps<D: Desk, G: Gate>(
     key: &Key,
     steps: &[Next],
 ) -> Result<Turn, Hitch>
-    ensures { Adds D.tells (D.history desk.old) (D.history desk.new) pass.old pass.new (HasStepped (G.may_stop gate.now Point.Made key.now) (map call_by steps.now) result) }
+    ensures { Adds D.tells (D.history desk.old) (D.history desk.new) pass.old pass.new
+        (HasStepped (G.may_stop gate.now Point.Made key.now) (map call_by steps.now) result) }
 {
     for step in steps {
         match take_step(desk, pass, gate, key, *step) {

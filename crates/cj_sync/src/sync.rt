@@ -24,8 +24,10 @@ fn sync_one<D: Desk, G: Gate, C: Clock>(
     clock: &C,
     zones: &ZoneTable,
 ) -> SyncEnd
-    ensures entries { Adds D.tells (D.history desk.old) (D.history desk.new) pass.old pass.new (λ es. IsSync (C.gives clock.now) (G.may_stop gate.now) zones.now es result) }
-    ensures idle { IsTrue D.tells → result ≡ SyncEnd.Idle → FindsNothing (state_in (D.history desk.old)) Of.Take }
+    ensures entries { Adds D.tells (D.history desk.old) (D.history desk.new) pass.old pass.new
+        (λ es. IsSync (C.gives clock.now) (G.may_stop gate.now) zones.now es result) }
+    ensures idle { IsTrue D.tells → result ≡ SyncEnd.Idle →
+        FindsNothing (state_in (D.history desk.old)) Of.Take }
 {
     match ask(desk, pass, Call::Take) {
         Ok(receipt) => {
@@ -54,8 +56,10 @@ pub fn sync_once<D: Desk, G: Gate, C: Clock>(
     zones: &ZoneTable,
 ) -> SyncEnd
     ensures shown { IsShown pass.old pass.new result }
-    ensures entries { Adds D.tells (D.history desk.old) (D.history desk.new) pass.old pass.new (λ es. IsSync (C.gives clock.now) (G.may_stop gate.now) zones.now es result) }
-    ensures idle { IsTrue D.tells → result ≡ SyncEnd.Idle → FindsNothing (state_in (D.history desk.old)) Of.Take }
+    ensures entries { Adds D.tells (D.history desk.old) (D.history desk.new) pass.old pass.new
+        (λ es. IsSync (C.gives clock.now) (G.may_stop gate.now) zones.now es result) }
+    ensures idle { IsTrue D.tells → result ≡ SyncEnd.Idle →
+        FindsNothing (state_in (D.history desk.old)) Of.Take }
 {
     sync_one(alloc, desk, pass, gate, clock, zones)
 }

@@ -10,12 +10,16 @@ pub fn table_laws<X>()
     ensures total { IsTotalOrder place_cmp }
     ensures exact { map.IsAntisymmetric place_cmp }
     ensures at_put { (m : map.FinMap place_cmp X) (k : Place) (v : X) (q : Place) →
-        ((q ≡ k) × (map.get (map.insert m k v) q ≡ Some v)) ⊎ (map.get (map.insert m k v) q ≡ map.get m q) }
-    ensures put { (m : map.FinMap place_cmp X) (k : Place) (v : X) → map.get (map.insert m k v) k ≡ Some v }
+        ((q ≡ k) × (map.get (map.insert m k v) q ≡ Some v)) ⊎
+        (map.get (map.insert m k v) q ≡ map.get m q) }
+    ensures put { (m : map.FinMap place_cmp X) (k : Place) (v : X) →
+        map.get (map.insert m k v) k ≡ Some v }
     ensures at_cut { (m : map.FinMap place_cmp X) (k q : Place) →
-        ((q ≡ k) × (map.get (map.remove m k) q ≡ None)) ⊎ (map.get (map.remove m k) q ≡ map.get m q) }
+        ((q ≡ k) × (map.get (map.remove m k) q ≡ None)) ⊎
+        (map.get (map.remove m k) q ≡ map.get m q) }
     ensures cut { (m : map.FinMap place_cmp X) (k : Place) → map.get (map.remove m k) k ≡ None }
-    ensures undone { (m : map.FinMap place_cmp X) (k : Place) (v : X) → map.get m k ≡ None → map.remove (map.insert m k v) k ≡ m }
+    ensures undone { (m : map.FinMap place_cmp X) (k : Place) (v : X) → map.get m k ≡ None →
+        map.remove (map.insert m k v) k ≡ m }
 {}
 
 /// What stands where after an insert and after a removal, with the other keys apart: of maps by key, and of

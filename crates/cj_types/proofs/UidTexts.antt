@@ -6,9 +6,11 @@ use Rattle.std.proofs.lemmas.List.{append_cancel_left}
 use Rattle.cj_types.specs.Apart.{AreApart}
 use Rattle.cj_types.specs.Uids.{hex_digit, hex_digits}
 
+-- Numbers below 16 with the same hexadecimal digit are the same.
 digit_by : (a b : ℕ) → a < 16 → b < 16 → hex_digit a ≡ hex_digit b → a ≡ b
 digit_by a b x y e = grind (arith, nat_tests)
 
+-- Lists that are the same have the same last item, and the same items before it.
 last_same : (xs ys : List ℕ) (a b : ℕ) → xs ++ a ∷ [] ≡ ys ++ b ∷ [] → (xs ≡ ys) × (a ≡ b)
 last_same [] [] a b e = (refl, cc e)
 last_same [] (y ∷ []) a b e = absurd (cc e)
@@ -21,6 +23,7 @@ last_same (x ∷ xs) (y ∷ ys) a b e =
     let r = last_same xs ys a b t in
     (λ i. h i ∷ r.0 i, r.1)
 
+-- Numbers of at most k hexadecimal digits that have the same k digits are the same.
 digits_same : (k m n : ℕ) → m < 16 ^ k → n < 16 ^ k → hex_digits k m ≡ hex_digits k n → m ≡ n
 unfolding hex_digits
 digits_same zero m n a b e = omega arith
@@ -30,5 +33,7 @@ digits_same (suc k) m n a b e =
     let q : m / 16 ≡ n / 16 = digits_same k (m / 16) (n / 16) (omega arith) (omega arith) r.0 in
     omega arith
 
+-- For uid_laws: no two uids have the same text.
 pub uids_apart : AreApart
-uids_apart m n a b e = digits_same 12 m n (omega arith) (omega arith) (append_cancel_left (codes "00000000-0000-0000-0000-") _ _ e)
+uids_apart m n a b e = digits_same 12 m n (omega arith) (omega arith)
+    (append_cancel_left (codes "00000000-0000-0000-0000-") _ _ e)

@@ -36,7 +36,8 @@ impl CronKey {
     /// `TooLong` for a name of more than 52 or a namespace of more than 63 characters, else `Format`.
     pub fn new(alloc: Global, namespace: &str, name: &str) -> Result<CronKey, Refusal>
         ensures ok { IfOk result (λ k. new_key longest_cron namespace.now name.now ≡ Ok k) }
-        ensures err { IfErr result (λ e. e ≢ OutOfMemory → new_key longest_cron namespace.now name.now ≡ Err e) }
+        ensures err { IfErr result (λ e. e ≢ OutOfMemory →
+            new_key longest_cron namespace.now name.now ≡ Err e) }
     {
         let faults = key_faults(alloc, 52, namespace, name)?;
         if !faults.as_slice().is_empty() {

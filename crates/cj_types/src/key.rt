@@ -67,7 +67,8 @@ impl Key {
     /// `TooLong` for more than 63 characters, else `Format`.
     pub fn new(alloc: Global, namespace: &str, name: &str) -> Result<Key, Refusal>
         ensures ok { IfOk result (λ k. new_key longest namespace.now name.now ≡ Ok k) }
-        ensures err { IfErr result (λ e. e ≢ OutOfMemory → new_key longest namespace.now name.now ≡ Err e) }
+        ensures err { IfErr result (λ e. e ≢ OutOfMemory →
+            new_key longest namespace.now name.now ≡ Err e) }
     {
         let faults = key_faults(alloc, 63, namespace, name)?;
         if !faults.as_slice().is_empty() {

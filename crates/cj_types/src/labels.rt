@@ -29,7 +29,8 @@ impl Model for Labels {
 // Whether the name comes after every name: so names that rise, as JSON's members do, are put without a search.
 fn comes_last(items: &[(Text, Text)], name: &str) -> bool
     requires sorted { IsTrue (is_label_map items.now) }
-    ensures { IsTrue result → (v : List ℕ) → put_label name.now v items.now ≡ insert items.now (length items.now) (name.now, v) }
+    ensures { IsTrue result → (v : List ℕ) → put_label name.now v items.now
+        ≡ insert items.now (length items.now) (name.now, v) }
 {
     match items.last() {
         Some(entry) => name.cmp(entry.0.as_str()).is_gt(),
@@ -41,9 +42,11 @@ fn comes_last(items: &[(Text, Text)], name: &str) -> bool
 fn find_place(items: &[(Text, Text)], name: &str) -> Result<usize, usize>
     requires sorted { IsTrue (is_label_map items.now) }
     ensures found { IfOk result (λ i. i < length items.now) }
-    ensures found_put { IfOk result (λ i. (v : List ℕ) → put_label name.now v items.now ≡ slice_set items.now i (name.now, v)) }
+    ensures found_put { IfOk result (λ i. (v : List ℕ) →
+        put_label name.now v items.now ≡ slice_set items.now i (name.now, v)) }
     ensures absent { IfErr result (λ i. i ≤ length items.now) }
-    ensures absent_put { IfErr result (λ i. (v : List ℕ) → put_label name.now v items.now ≡ insert items.now i (name.now, v)) }
+    ensures absent_put { IfErr result (λ i. (v : List ℕ) →
+        put_label name.now v items.now ≡ insert items.now i (name.now, v)) }
 {
     if comes_last(items, name) {
         return Err(items.len());

@@ -31,7 +31,8 @@ impl CronKey {
 
 // The annotations with the scheduled time.
 fn annotations_with(alloc: Global, annotations: &Labels, time_text: &str) -> Result<Labels, Refusal>
-    ensures ok { IfOk result (λ l. l ≡ put_label scheduled_annotation time_text.now annotations.now) }
+    ensures ok { IfOk result (λ l. l ≡ put_label scheduled_annotation time_text.now
+        annotations.now) }
     ensures err { IfErr result (λ e. e ≡ OutOfMemory) }
 {
     let mut labels = annotations.try_copy(alloc)?;

@@ -73,7 +73,8 @@ fn hex_digit(digit: u64) -> u8
 // Appends the last `count` hexadecimal digits of the number.
 #[tactic(auto, unfolding(crate::specs::Uids::hex_digits))]
 fn push_digits(text: &mut String, count: u8, number: u64) -> Result<(), AllocError>
-    ensures { OnOk result (string_bytes text.new ≡ string_bytes text.old ++ hex_digits count number) }
+    ensures { OnOk result (string_bytes text.new
+        ≡ string_bytes text.old ++ hex_digits count number) }
 {
     if count == 0 {
         return Ok(());

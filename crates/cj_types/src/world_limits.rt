@@ -18,7 +18,8 @@ impl Model for Limits {
 
     ghost view = { λ l. kept l.history l.window };
 
-    ghost invariant = { λ l. (1 ≤ l.history) × (l.history ≤ last_history) × (1 ≤ l.window) × (l.window ≤ last_window) };
+    ghost invariant = { λ l. (1 ≤ l.history) × (l.history ≤ last_history) × (1 ≤ l.window)
+        × (l.window ≤ last_window) };
 
     ghost inverse = { λ k. record { history = k.history; window = k.window } };
 }
@@ -32,7 +33,8 @@ impl Limits {
 
     /// So many entries and so many events, where these are 1 to 16,777,216 and 1 to 100,000.
     pub fn new(history: u32, window: u32) -> Option<Limits>
-        ensures in_range { IsSome result ↔ ((1 ≤ history) × (history ≤ last_history) × (1 ≤ window) × (window ≤ last_window)) }
+        ensures in_range { IsSome result ↔ ((1 ≤ history) × (history ≤ last_history) × (1 ≤ window)
+            × (window ≤ last_window)) }
         ensures value { IfSome result (λ l. l ≡ kept history window) }
     {
         let history_fits = history >= 1 && history <= Self::LAST_HISTORY;

@@ -23,9 +23,17 @@ impl Model for WatchLog {
 
     ghost Value = { Log };
 
-    ghost view = { λ l. record { kept = l.events.items; count = l.count; window = l.events.capacity } };
+    ghost view = { λ l. record {
+      kept = l.events.items;
+      count = l.count;
+      window = l.events.capacity;
+    } };
 
-    ghost invariant = { λ l. IsWindow (record { kept = l.events.items; count = l.count; window = l.events.capacity }) };
+    ghost invariant = { λ l. IsWindow (record {
+      kept = l.events.items;
+      count = l.count;
+      window = l.events.capacity;
+    }) };
 }
 
 impl WatchLog {
@@ -82,7 +90,8 @@ impl WatchLog {
 
     // The place of the first event that is kept and comes after the version, or the end.
     fn place_after(&self, version: Version) -> usize
-        ensures { result ≡ min (version - (self.now.count - length self.now.kept)) (length self.now.kept) }
+        ensures { result ≡ min (version - (self.now.count - length self.now.kept))
+            (length self.now.kept) }
     {
         let len = self.events.len() as u64;
         let before = self.count - len;

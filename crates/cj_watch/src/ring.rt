@@ -8,7 +8,8 @@ use std::alloc::Global;
 
 /// Puts an item at the end of a ring, whose first item goes where it is full.
 pub fn put_last<T: Drop>(ring: &mut HeapCircularBuffer<T>, item: T)
-    ensures { ring.new ≡ buffer (keep_last ring.old.capacity (ring.old.items ++ item ∷ [])) ring.old.capacity }
+    ensures { ring.new ≡ buffer (keep_last ring.old.capacity (ring.old.items ++ item ∷ []))
+        ring.old.capacity }
 {
     let _ = ring.push_back(item);
 }

@@ -42,7 +42,8 @@ pub(crate) fn missed_words(
     since: Seconds,
     what: &str,
 ) -> Result<String, Refusal>
-    ensures ok { IfOk result (λ s. string_bytes s ≡ missed_words missed.now (time_text_of since) what.now) }
+    ensures ok { IfOk result (λ s. string_bytes s
+        ≡ missed_words missed.now (time_text_of since) what.now) }
     ensures err { IfErr result (λ e. e ≡ OutOfMemory) }
 {
     let since = time_text(alloc, since)?;

@@ -64,7 +64,8 @@ fn times_why(
     running: &JobRefs,
     now: Seconds,
 ) -> Result<String, Refusal>
-    ensures ok { IfOk result (λ s. IsTimesWhy cron.now schedule.now zone.now running.now now (string_bytes s)) }
+    ensures ok { IfOk result (λ s. IsTimesWhy cron.now schedule.now zone.now running.now now
+        (string_bytes s)) }
     ensures err { IfErr result (λ e. e ≡ OutOfMemory) }
 {
     match window(cron, now) {
@@ -109,7 +110,8 @@ fn zone_why(
     running: &JobRefs,
     now: Seconds,
 ) -> Result<String, Refusal>
-    ensures ok { IfOk result (λ s. IsZoneWhy cron.now (option_copied zone.entry) running.now now (string_bytes s)) }
+    ensures ok { IfOk result (λ s. IsZoneWhy cron.now (option_copied zone.entry) running.now now
+        (string_bytes s)) }
     ensures err { IfErr result (λ e. e ≡ OutOfMemory) }
 {
     match zone {
@@ -142,7 +144,8 @@ fn awake_why(
     found: &[Option<Shared<Job>>],
     now: Seconds,
 ) -> Result<String, Refusal>
-    ensures ok { IfOk result (λ s. IsZoneWhy cron.now (option_copied zone.entry) (running_of cron.now found.now) now (string_bytes s)) }
+    ensures ok { IfOk result (λ s. IsZoneWhy cron.now (option_copied zone.entry)
+        (running_of cron.now found.now) now (string_bytes s)) }
     ensures err { IfErr result (λ e. e ≡ OutOfMemory) }
 {
     let running = running_jobs(alloc, cron, found)?;
@@ -159,7 +162,8 @@ pub fn why(
     found: &[Option<Shared<Job>>],
     now: Seconds,
 ) -> Result<String, Refusal>
-    ensures ok { IfOk result (λ s. IsWhy cron.now (option_copied zone.entry) (running_of cron.now found.now) now (string_bytes s)) }
+    ensures ok { IfOk result (λ s. IsWhy cron.now (option_copied zone.entry)
+        (running_of cron.now found.now) now (string_bytes s)) }
     ensures err { IfErr result (λ e. e ≡ OutOfMemory) }
 {
     if cron.spec.suspend {

@@ -21,44 +21,60 @@ use Rattle.cj_world.specs.Worlds.{Ledger, told, Stands, Applied, Advanced, recei
 
 -- ---- an answer
 
-fine_of : (s : State) (caller : Caller) (call : Call) (t : Result Reply Refusal) (s' : State) → step_of s caller call ≡ moved t s' → Fine s call (moved t s')
+-- What a call answers and leaves is Fine: Empty and no change, or an entered answer of its row.
+fine_of : (s : State) (caller : Caller) (call : Call) (t : Result Reply Refusal) (s' : State)
+    → step_of s caller call ≡ moved t s' → Fine s call (moved t s')
 fine_of s caller call t s' e = subst (Fine s call) e (fine s caller call)
 
 module _ (s : State) (call : Call) (m : Moved) where
+  -- An answer that isn't Empty is one that the call can have.
   row_in : Fine s call m → is_empty m.answer ≡ false → IsTrue (is_in_row call m.answer)
   row_in (inl f) e = absurd (cc (f.0, e))
   row_in (inr f) e = f.2
 
+  -- An answer that isn't Empty is one that is entered.
   entered_in : Fine s call m → is_empty m.answer ≡ false → is_entered m.answer ≡ true
   entered_in (inl f) e = absurd (cc (f.0, e))
   entered_in (inr f) e = f.1
 
+  -- Where the answer is Empty, the state is as it was.
   kept_in : Fine s call m → is_empty m.answer ≡ true → m.state ≡ s
   kept_in (inl f) e = f.1
   kept_in (inr f) e = absurd (cc (f.0, e))
 
+-- An answer that is_empty holds of is the refusal Empty.
 empty_is : (t : Result Reply Refusal) → is_empty t ≡ true → t ≡ Err Empty
 empty_is (Ok r) e = absurd (cc e)
 empty_is (Err Empty) e = refl
 empty_is (Err x) e = absurd (cc e)
 
+-- The refusal HistoryFull is not entered.
 full_is_unentered : (t : Result Reply Refusal) → t ≡ Err HistoryFull → is_entered t ≡ false
 full_is_unentered t e = ap is_entered e
 
+-- A test that is both true and false: from this, anything follows.
 no_truth : {A : Type 0} (b : Bool) → b ≡ true → b ≡ false → A
 no_truth b e f = absurd (cc (e, f))
 
 -- the answer stands in its call's row
-pub row_given : (s : State) (caller : Caller) (call copy : Call) (t one got : Result Reply Refusal) (s' : State) (b : Bool)
-    → step_of s caller call ≡ moved t s' → copy ≡ call → one ≡ t → got ≡ t → b ≡ is_empty got → b ≡ false → IsTrue (is_in_row copy one)
+pub row_given : (s : State) (caller : Caller) (call copy : Call)
+    (t one got : Result Reply Refusal) (s' : State) (b : Bool)
+    → step_of s caller call ≡ moved t s' → copy ≡ call → one ≡ t → got ≡ t → b ≡ is_empty got → b ≡ false
+    → IsTrue (is_in_row copy one)
 row_given s caller call copy t one got s' b step c o g e f =
     let empty : is_empty t ≡ false = ap is_empty (sym g) ∙ sym e ∙ f in
-    subst (λ x. IsTrue (is_in_row x one)) (sym c) (subst (λ x. IsTrue (is_in_row call x)) (sym o) (row_in s call (moved t s') (fine_of s caller call t s' step) empty))
+    subst (λ x. IsTrue (is_in_row x one)) (sym c)
+    (subst (λ x. IsTrue (is_in_row call x)) (sym o)
+    (row_in s call (moved t s') (fine_of s caller call t s' step) empty))
 
-pub advanced_entered : (s : State) (h h' : List Told) (caller : Caller) (call : Call) (t got : Result Reply Refusal) (s' : State) (b : Bool)
-    → step_of s caller call ≡ moved t s' → got ≡ t → b ≡ is_empty got → b ≡ false → h' ≡ told caller call got ∷ h → Advanced s h caller call got s' h'
+-- For advance: a call whose answer isn't Empty, and whose entry is added, did what Advanced says.
+pub advanced_entered : (s : State) (h h' : List Told) (caller : Caller) (call : Call)
+    (t got : Result Reply Refusal) (s' : State) (b : Bool)
+    → step_of s caller call ≡ moved t s' → got ≡ t → b ≡ is_empty got → b ≡ false → h' ≡ told caller call got ∷ h
+    → Advanced s h caller call got s' h'
 advanced_entered s h h' caller call t got s' b step g e f add =
-    let entered : is_entered t ≡ true = entered_in s call (moved t s') (fine_of s caller call t s' step) (ap is_empty (sym g) ∙ sym e ∙ f) in
+    let entered : is_entered t ≡ true = entered_in s call (moved t s') (fine_of s caller call t s' step)
+    (ap is_empty (sym g) ∙ sym e ∙ f) in
     record {
       entered = λ x. (step ∙ ap (λ (r : Result Reply Refusal). moved r s') (sym g), add);
       unentered = λ x. no_truth (is_entered t) entered (ap is_entered (sym g) ∙ x);
@@ -67,7 +83,9 @@ advanced_entered s h h' caller call t got s' b step g e f add =
       other = λ x. no_truth (is_entered t) entered (ap is_entered (sym g) ∙ x);
     }
 
-pub advanced_empty : (s : State) (h : List Told) (caller : Caller) (call : Call) (t got : Result Reply Refusal) (s' : State) (b : Bool)
+-- For advance: a call whose answer is Empty, and that adds no entry, did what Advanced says.
+pub advanced_empty : (s : State) (h : List Told) (caller : Caller) (call : Call)
+    (t got : Result Reply Refusal) (s' : State) (b : Bool)
     → step_of s caller call ≡ moved t s' → got ≡ t → b ≡ is_empty got → b ≡ true → Advanced s h caller call got s' h
 advanced_empty s h caller call t got s' b step g e f =
     let empty : is_empty t ≡ true = ap is_empty (sym g) ∙ sym e ∙ f in
@@ -83,6 +101,7 @@ advanced_empty s h caller call t got s' b step g e f =
 -- ---- one call more
 
 module _ (limits : Kept) (h : List Told) (s : State) (st : Stands limits h s) (room : length h < limits.history) where
+  -- For World::make: where the history has room, the store's version is below 2 ^ 40.
   pub room_for : s.store.version < 2 ^ 40
   room_for =
       let i = version_of_history limits.window h in
@@ -90,13 +109,17 @@ module _ (limits : Kept) (h : List Told) (s : State) (st : Stands limits h s) (r
       let k = st.small in
       omega arith
 
+  -- For World::make: the state that the world holds is sound.
   pub sound_now : IsSound s
   sound_now = subst IsSound (sym st.state_is) (sound_of limits.window h)
 
   module _ (caller : Caller) (call : Call) (r : Result Reply Refusal) (s' : State) (h' : List Told) (p : IsPlanned call) (a : Advanced s h caller call r s' h') where
+    -- An answer that is entered is the one that the history gives.
     answered : is_entered r ≡ true → r ≡ answer_of limits.window h caller call
-    answered e = sym (ap (λ (m : Moved). m.answer) (a.entered e).0) ∙ ap (λ (x : State). (step_of x caller call).answer) st.state_is
+    answered e = sym (ap (λ (m : Moved). m.answer) (a.entered e).0) ∙ ap
+        (λ (x : State). (step_of x caller call).answer) st.state_is
 
+    -- For stands_next: Stands holds after one call more, by whether its answer is entered.
     stands_by : (b : Bool) → is_entered r ≡ b → Stands limits h' s'
     stands_by true e =
         let x = a.entered e in
@@ -105,15 +128,18 @@ module _ (limits : Kept) (h : List Told) (s : State) (st : Stands limits h s) (r
           planned = (p, st.planned);
           short = omega arith;
           small = st.small;
-          state_is = sym (ap (λ (m : Moved). m.state) x.0) ∙ ap (λ (y : State). (step_of y caller call).state) st.state_is;
+          state_is = sym (ap (λ (m : Moved). m.state) x.0)
+              ∙ ap (λ (y : State). (step_of y caller call).state) st.state_is;
         })
     stands_by false e =
         let x = a.unentered e in
         subst (λ (l : List Told). Stands limits l s') (sym x.1) (subst (Stands limits h) (sym x.0) st)
 
+    -- After one call more, Stands holds: the history is short and legal, and leaves the state.
     pub stands_next : Stands limits h' s'
     stands_next = stands_by (is_entered r) refl
 
+    -- One call more did what Applied says.
     pub applied_next : Applied limits h caller call r h'
     applied_next = record {
       entered = λ e. (answered e, (a.entered e).1);
@@ -124,6 +150,7 @@ module _ (limits : Kept) (h : List Told) (s : State) (st : Stands limits h s) (r
 
 -- ---- room
 
+-- For room_left: where a test holds from l on and fails at a, a is below l.
 below : (a l : ℕ) (b : Bool) → (l ≤ a → b ≡ true) → b ≡ false → a < l
 below a l b e f = by (nat_lt a l) refl
   where
@@ -131,12 +158,17 @@ below a l b e f = by (nat_lt a l) refl
     by true t = grind (arith, nat_tests)
     by false t = let le : l ≤ a = grind (arith, nat_tests) in absurd (cc (e le, f))
 
-pub room_left : (limits : Kept) (h : List Told) (w : Ledger) (b : Bool) → record { limits = limits; history = h } ≡ w → (IsTrue b ↔ (w.limits.history ≤ length w.history)) → b ≡ false → length h < limits.history
-room_left limits h w b v e f = subst (λ (x : Ledger). length x.history < x.limits.history) (sym v) (below (length w.history) w.limits.history b e.1 f)
+-- For World::make: a history that isn't full has room.
+pub room_left : (limits : Kept) (h : List Told) (w : Ledger) (b : Bool) → record { limits = limits; history = h } ≡ w
+    → (IsTrue b ↔ (w.limits.history ≤ length w.history)) → b ≡ false → length h < limits.history
+room_left limits h w b v e f = subst (λ (x : Ledger). length x.history < x.limits.history) (sym v)
+    (below (length w.history) w.limits.history b e.1 f)
 
 -- ---- no call
 
-pub full_applied : (limits : Kept) (h : List Told) (caller : Caller) (call : Call) → limits.history ≤ length h → Applied limits h caller call (Err HistoryFull) h
+-- At a full history, to refuse with HistoryFull and add nothing is what Applied says.
+pub full_applied : (limits : Kept) (h : List Told) (caller : Caller) (call : Call) → limits.history ≤ length h
+    → Applied limits h caller call (Err HistoryFull) h
 full_applied limits h caller call f = record {
   entered = λ e. absurd (cc e);
   unentered = λ e. refl;
@@ -144,7 +176,9 @@ full_applied limits h caller call f = record {
   full = (λ e. f, λ e. refl);
 }
 
-pub memory_applied : (limits : Kept) (h : List Told) (caller : Caller) (call : Call) → length h < limits.history → Applied limits h caller call (Err OutOfMemory) h
+-- Where the history has room, to refuse with OutOfMemory and add nothing is what Applied says.
+pub memory_applied : (limits : Kept) (h : List Told) (caller : Caller) (call : Call) → length h < limits.history
+    → Applied limits h caller call (Err OutOfMemory) h
 memory_applied limits h caller call f = record {
   entered = λ e. absurd (cc e);
   unentered = λ e. refl;
@@ -154,34 +188,60 @@ memory_applied limits h caller call f = record {
 
 -- ---- receipts
 
+-- The two receipts of an entry with this answer.
 abbrev pair : Caller → Call → Result Reply Refusal → Told × Told
 pair caller call r = (told caller call r, told caller call r)
 
-pub receipts_entered : (s : State) (caller : Caller) (call : Call) (t got : Result Reply Refusal) (s' : State) (b : Bool) (p : Told × Told)
-    → step_of s caller call ≡ moved t s' → got ≡ t → b ≡ is_empty got → b ≡ false → p ≡ (told caller call got, told caller call got) → Some p ≡ receipts_of caller call got
+-- For advance: where the answer isn't Empty, its entry's two receipts are what receipts_of gives.
+pub receipts_entered : (s : State) (caller : Caller) (call : Call)
+    (t got : Result Reply Refusal) (s' : State) (b : Bool) (p : Told × Told)
+    → step_of s caller call ≡ moved t s' → got ≡ t → b ≡ is_empty got → b ≡ false
+    → p ≡ (told caller call got, told caller call got) → Some p ≡ receipts_of caller call got
 receipts_entered s caller call t got s' b p step g e f i =
-    let entered : is_entered got ≡ true = ap is_entered g ∙ entered_in s call (moved t s') (fine_of s caller call t s' step) (ap is_empty (sym g) ∙ sym e ∙ f) in
-    ap (λ (x : Told × Told). Some x) i ∙ sym (ap (λ (x : Bool). if x then Some (told caller call got, told caller call got) else None) entered)
+    let entered : is_entered got ≡ true = ap is_entered g ∙ entered_in s call (moved t s')
+    (fine_of s caller call t s' step) (ap is_empty (sym g) ∙ sym e ∙ f) in
+    ap (λ (x : Told × Told). Some x) i ∙ sym (ap
+    (λ (x : Bool). if x then Some (told caller call got, told caller call got) else None) entered)
 
-pub receipts_empty : (caller : Caller) (call : Call) (got : Result Reply Refusal) (b : Bool) → b ≡ is_empty got → b ≡ true → None ≡ receipts_of caller call got
+-- For advance: where the answer is Empty, receipts_of gives none.
+pub receipts_empty : (caller : Caller) (call : Call) (got : Result Reply Refusal) (b : Bool) → b ≡ is_empty got
+    → b ≡ true → None ≡ receipts_of caller call got
 receipts_empty caller call got b e f =
-    sym (ap (λ (x : Result Reply Refusal). if is_entered x then Some (told caller call x, told caller call x) else None) (empty_is got (sym e ∙ f)))
+    sym (ap (λ (x : Result Reply Refusal). if is_entered x then Some (told caller call x, told caller call x) else None)
+    (empty_is got (sym e ∙ f)))
 
-by_entered : (caller : Caller) (call : Call) (r : Result Reply Refusal) (p : Told × Told) (b : Bool) → is_entered r ≡ b → (if b then Some (told caller call r, told caller call r) else None) ≡ Some p → (is_entered r ≡ true) × (p ≡ (told caller call r, told caller call r))
+-- For entered_by: where receipts_of gives two, the answer is entered, and they are its entry's.
+by_entered : (caller : Caller) (call : Call) (r : Result Reply Refusal) (p : Told × Told) (b : Bool) → is_entered r ≡ b
+    → (if b then Some (told caller call r, told caller call r) else None) ≡ Some p
+    → (is_entered r ≡ true) × (p ≡ (told caller call r, told caller call r))
 by_entered caller call r p true e f = (e, cc (sym f))
 by_entered caller call r p false e f = absurd (cc f)
 
-pub entered_by : (limits : Kept) (h : List Told) (caller : Caller) (call : Call) (r : Result Reply Refusal) (p : Told × Told) (h' : List Told)
+-- For World::enter: a call that has receipts was entered with them.
+pub entered_by : (limits : Kept) (h : List Told) (caller : Caller) (call : Call) (r : Result Reply Refusal) (p : Told
+    × Told) (h' : List Told)
     → Applied limits h caller call r h' → receipts_of caller call r ≡ Some p → Entered limits h caller call p h'
 entered_by limits h caller call r p h' a e =
     let b = by_entered caller call r p (is_entered r) refl e in
-    record { answer = r; is_entered = b.0; first = ap (λ (x : Told × Told). x.0) b.1; second = ap (λ (x : Told × Told). x.1) b.1; applied = a }
+    record {
+      answer = r;
+      is_entered = b.0;
+      first = ap (λ (x : Told × Told). x.0) b.1;
+      second = ap (λ (x : Told × Told). x.1) b.1;
+      applied = a;
+    }
 
-by_none : (caller : Caller) (call : Call) (r : Result Reply Refusal) (b : Bool) → is_entered r ≡ b → (if b then Some (pair caller call r) else None) ≡ None → is_entered r ≡ false
+-- For nothing_by: where receipts_of gives none, the answer isn't entered.
+by_none : (caller : Caller) (call : Call) (r : Result Reply Refusal) (b : Bool) → is_entered r ≡ b
+    → (if b then Some (pair caller call r) else None) ≡ None → is_entered r ≡ false
 by_none caller call r true e f = absurd (cc f)
 by_none caller call r false e f = e
 
-pub nothing_by : (limits : Kept) (h : List Told) (caller : Caller) (call : Call) (r : Result Reply Refusal) (h' : List Told)
-    → Applied limits h caller call r h' → (is_entered r ≡ false → r ≡ Err Empty) → receipts_of caller call r ≡ None → Applied limits h caller call (Err Empty) h'
+-- A call without receipts, whose answer is Empty if unentered, did what Applied says of Empty.
+pub nothing_by : (limits : Kept) (h : List Told) (caller : Caller) (call : Call) (r : Result Reply Refusal) (h' : List
+    Told)
+    → Applied limits h caller call r h' → (is_entered r ≡ false → r ≡ Err Empty) → receipts_of caller call r ≡ None
+    → Applied limits h caller call (Err Empty) h'
 nothing_by limits h caller call r h' a f e =
-    subst (λ (x : Result Reply Refusal). Applied limits h caller call x h') (f (by_none caller call r (is_entered r) refl e)) a
+    subst (λ (x : Result Reply Refusal). Applied limits h caller call x h')
+    (f (by_none caller call r (is_entered r) refl e)) a

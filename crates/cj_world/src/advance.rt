@@ -27,7 +27,8 @@ struct Calls {
 }
 
 fn thrice(alloc: Global, call: &Call) -> Result<Calls, Refusal>
-    ensures ok { IfOk result (λ c. (c.entered ≡ call.now) × (c.first ≡ call.now) × (c.second ≡ call.now)) }
+    ensures ok { IfOk result (λ c. (c.entered ≡ call.now) × (c.first ≡ call.now)
+        × (c.second ≡ call.now)) }
     ensures err { IfErr result (λ e. e ≡ OutOfMemory) }
 {
     let entered = Shared::new(alloc, call.try_copy(alloc)?)?;
@@ -67,7 +68,8 @@ pub(crate) fn advance(
     requires room { state.old.store.version < 2 ^ 40 }
     requires sound { IsSound state.old }
     requires place { vec_len entries.old < vec_capacity entries.old }
-    ensures made { IfOk result (λ m. Advanced state.old (reverse entries.old.items) caller.now call.now m.answer state.new (reverse entries.new.items)) }
+    ensures made { IfOk result (λ m. Advanced state.old (reverse entries.old.items) caller.now
+        call.now m.answer state.new (reverse entries.new.items)) }
     ensures receipts { IfOk result (λ m. m.receipts ≡ receipts_of caller.now call.now m.answer) }
     ensures err { OnErr result ((state.new ≡ state.old) × (entries.new ≡ entries.old)) }
     ensures memory { IfErr result (λ e. e ≡ OutOfMemory) }

@@ -90,7 +90,8 @@ impl World {
     /// that stood then.
     pub fn history(&self) -> &[Entry]
         ensures entries { reverse result.now ≡ self.now.history }
-        ensures short { (length self.now.history ≤ self.now.limits.history) × (self.now.limits.history ≤ last_history) }
+        ensures short { (length self.now.history ≤ self.now.limits.history)
+            × (self.now.limits.history ≤ last_history) }
         ensures legal { IsLegal self.now.limits.window self.now.history }
         ensures planned { ArePlanned self.now.history }
         ensures exclusive { Exclusive self.now.history }
@@ -113,10 +114,13 @@ impl World {
     // Makes one call, unless the history is full.
     fn make(&mut self, caller: &Caller, call: &Call) -> Result<Made, Refusal>
         ensures limits { self.new.limits ≡ self.old.limits }
-        ensures made { IfOk result (λ m. Applied self.old.limits self.old.history caller.now call.now m.answer self.new.history) }
-        ensures receipts { IfOk result (λ m. m.receipts ≡ receipts_of caller.now call.now m.answer) }
+        ensures made { IfOk result (λ m. Applied self.old.limits self.old.history caller.now
+            call.now m.answer self.new.history) }
+        ensures receipts { IfOk result (λ m. m.receipts
+            ≡ receipts_of caller.now call.now m.answer) }
         ensures nothing { IfOk result (λ m. is_entered m.answer ≡ false → m.answer ≡ Err Empty) }
-        ensures refused { IfErr result (λ e. Applied self.old.limits self.old.history caller.now call.now (Err e) self.new.history × (is_entered (Err e) ≡ false)) }
+        ensures refused { IfErr result (λ e. Applied self.old.limits self.old.history caller.now
+            call.now (Err e) self.new.history × (is_entered (Err e) ≡ false)) }
     {
         if self.is_full() {
             return Err(Refusal::HistoryFull);
@@ -133,7 +137,8 @@ impl World {
     /// was.
     pub fn apply(&mut self, caller: &Caller, call: &Call) -> Answer
         ensures limits { self.new.limits ≡ self.old.limits }
-        ensures applied { Applied self.old.limits self.old.history caller.now call.now result self.new.history }
+        ensures applied { Applied self.old.limits self.old.history caller.now call.now result
+            self.new.history }
     {
         match self.make(caller, call) {
             Ok(made) => made.answer,
@@ -144,8 +149,10 @@ impl World {
     /// Makes one call, as `apply` does, and gives its entry twice where it was entered.
     pub fn enter(&mut self, caller: &Caller, call: &Call) -> Result<(Entry, Entry), Refusal>
         ensures limits { self.new.limits ≡ self.old.limits }
-        ensures entered { IfOk result (λ p. Entered self.old.limits self.old.history caller.now call.now p self.new.history) }
-        ensures refused { IfErr result (λ e. Applied self.old.limits self.old.history caller.now call.now (Err e) self.new.history × (is_entered (Err e) ≡ false)) }
+        ensures entered { IfOk result (λ p. Entered self.old.limits self.old.history caller.now
+            call.now p self.new.history) }
+        ensures refused { IfErr result (λ e. Applied self.old.limits self.old.history caller.now
+            call.now (Err e) self.new.history × (is_entered (Err e) ≡ false)) }
     {
         let Made { receipts, .. } = self.make(caller, call)?;
         match receipts {

@@ -36,7 +36,8 @@ fn template_value(alloc: Global, template: &JobTemplate, job: Value) -> Result<V
 }
 
 fn spec_head(alloc: Global, spec: &CronSpec, template: Value) -> Result<Map<String, Value>, Refusal>
-    ensures ok { IfOk result (λ m. members_view m.entries ≡ object.spec_head spec.now (view template)) }
+    ensures ok { IfOk result (λ m. members_view m.entries
+        ≡ object.spec_head spec.now (view template)) }
     ensures err { IfErr result (λ e. e ≡ OutOfMemory) }
 {
     let mut members = Map::new(alloc);
@@ -91,7 +92,8 @@ fn active_values(
     namespace: &str,
     names: &[ObjectName],
 ) -> Result<Vec<Value>, Refusal>
-    ensures ok { IfOk result (λ v. map view v.items ≡ map (object.active_data namespace.now) names.now) }
+    ensures ok { IfOk result (λ v. map view v.items
+        ≡ map (object.active_data namespace.now) names.now) }
     ensures err { IfErr result (λ e. e ≡ OutOfMemory) }
 {
     let mut values = Vec::new(alloc);
@@ -108,7 +110,8 @@ fn status_members(
     namespace: &str,
     status: &CronStatus,
 ) -> Result<Map<String, Value>, Refusal>
-    ensures ok { IfOk result (λ m. members_view m.entries ≡ object.cron_status_members namespace.now status.now) }
+    ensures ok { IfOk result (λ m. members_view m.entries
+        ≡ object.cron_status_members namespace.now status.now) }
     ensures err { IfErr result (λ e. e ≡ OutOfMemory) }
 {
     let active = active_values(alloc, namespace, status.active.as_slice())?;

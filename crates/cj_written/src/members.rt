@@ -133,7 +133,8 @@ pub(crate) fn put_some_object(
     inner: Map<String, Value>,
 ) -> Result<(), Refusal>
     ensures ok { OnOk result (members_view members.new.entries
-        ≡ part.put_some_object name.now (members_view inner.entries) (members_view members.old.entries)) }
+        ≡ part.put_some_object name.now (members_view inner.entries)
+        (members_view members.old.entries)) }
     ensures err { IfErr result (λ e. e ≡ OutOfMemory) }
 {
     if inner.is_empty() {
@@ -159,7 +160,8 @@ pub(crate) fn put_some_list(
 }
 
 fn label_members(alloc: Global, labels: &[(Text, Text)]) -> Result<Map<String, Value>, Refusal>
-    ensures ok { IfOk result (λ m. members_view m.entries ≡ part.label_members no_members labels.now) }
+    ensures ok { IfOk result (λ m. members_view m.entries
+        ≡ part.label_members no_members labels.now) }
     ensures err { IfErr result (λ e. e ≡ OutOfMemory) }
 {
     let mut members = Map::new(alloc);

@@ -81,7 +81,8 @@ pub(crate) fn metadata(
     meta: &Meta,
     owners: &[OwnerRef],
 ) -> Result<Map<String, Value>, Refusal>
-    ensures ok { IfOk result (λ m. members_view m.entries ≡ object.metadata_members key.now meta.now owners.now) }
+    ensures ok { IfOk result (λ m. members_view m.entries
+        ≡ object.metadata_members key.now meta.now owners.now) }
     ensures err { IfErr result (λ e. e ≡ OutOfMemory) }
 {
     let mut members = identity(alloc, key, meta)?;

@@ -14,7 +14,8 @@ use std::alloc::Global;
 /// The value of a kept text.
 pub(crate) fn kept_value(alloc: Global, text: &str) -> Result<Value, Refusal>
     ensures ok { IfOk result (λ v. part.kept_value text.now ≡ Some (view v)) }
-    ensures err { IfErr result (λ e. e ≢ OutOfMemory → (e ≡ Syntax) × (part.kept_value text.now ≡ None)) }
+    ensures err { IfErr result (λ e. e ≢ OutOfMemory →
+        (e ≡ Syntax) × (part.kept_value text.now ≡ None)) }
 {
     let value = match Value::from_str(alloc, text) {
         Ok(value) => value,
@@ -36,7 +37,8 @@ pub(crate) fn object_value(
     status: Map<String, Value>,
 ) -> Result<Value, Refusal>
     ensures ok { IfOk result (λ v. view v
-        ≡ object_data kind.now (members_view metadata.entries) (view spec) (members_view status.entries)) }
+        ≡ object_data kind.now (members_view metadata.entries) (view spec)
+        (members_view status.entries)) }
     ensures err { IfErr result (λ e. e ≡ OutOfMemory) }
 {
     let mut members = Map::new(alloc);

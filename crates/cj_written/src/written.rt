@@ -20,12 +20,15 @@ pub trait Written {
     /// i64 and u64 alone. No manifest that is read leaves one.
     fn to_value(&self, alloc: Global) -> Result<Value, Refusal>
         ensures ok { IfOk result (λ v. written self.now ≡ Some (view v)) }
-        ensures err { IfErr result (λ e. e ≢ OutOfMemory → (e ≡ Syntax) × (written self.now ≡ None)) };
+        ensures err { IfErr result (λ e. e ≢ OutOfMemory →
+            (e ≡ Syntax) × (written self.now ≡ None)) };
 
     /// Its compact text, with the same refusal.
     fn write(&self, alloc: Global) -> Result<String, Refusal>
-        ensures ok { IfOk result (λ s. option_map compact_text (written self.now) ≡ Some (string_bytes s)) }
-        ensures err { IfErr result (λ e. e ≢ OutOfMemory → (e ≡ Syntax) × (written self.now ≡ None)) };
+        ensures ok { IfOk result (λ s. option_map compact_text (written self.now)
+            ≡ Some (string_bytes s)) }
+        ensures err { IfErr result (λ e. e ≢ OutOfMemory →
+            (e ≡ Syntax) × (written self.now ≡ None)) };
 }
 
 impl Written for CronJob {

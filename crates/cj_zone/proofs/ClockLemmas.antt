@@ -31,63 +31,97 @@ use Rattle.cj_zone.specs.NamedSource.{NamedSource}
 use Rattle.cj_zone.specs.Offset.{change_in, daylight_window, daylight_offset, rule_offset, rows_until, offset_after, file_offset, read_rule_offset, source_offset, zone_offset}
 use Rattle.cj_zone.proofs.ZoneLemmas.{offset_at-range}
 
+-- What a clock goes by gives an offset in range at each instant.
 pub rules_offset-range : (rules : Rules) (t : ℕ) → IsOffsetSeconds (rules_offset rules t)
 rules_offset-range (Own.Fixed zone) t = offset_at-range (plain_zone zone) _
 rules_offset-range (Own.Table table) t = (Table.offset_at table (pos t *ℤ pos 1_000_000_000)).in_range
 
 -- a rule by its text
+-- A change, by its text, falls where jiff says it does.
 change_in-view : (year : ℤ) (d : DayTime) (ahead : ℤ) → change_in year (day_time_view d) ahead ≡ rule_nanos year d ahead
 unfolding change_in rule_nanos
 change_in-view year d ahead = refl
 
-daylight_window-view : (std : Offset) (d : Dst) (year : ℤ) → daylight_window std.seconds (dst_view d) year ≡ utc_window d year std
+-- Daylight saving time, by the text, begins and ends where jiff says it does.
+daylight_window-view : (std : Offset) (d : Dst) (year : ℤ) → daylight_window std.seconds (dst_view d) year
+    ≡ utc_window d year std
 unfolding daylight_window utc_window
-daylight_window-view std d year = rw (change_in-view year d.rule.start std.seconds, change_in-view year d.rule.end d.offset.seconds) refl
+daylight_window-view std d year = rw (
+  change_in-view year d.rule.start std.seconds,
+  change_in-view year d.rule.end d.offset.seconds,
+) refl
 
-in_daylight : (std : Offset) (d : Dst) (b : Bool) → (if b then d.offset.seconds else std.seconds) ≡ (match_some (if b then Some d else None) std (λ d. d.offset)).seconds
+-- For daylight_offset-view: to choose the offset or to choose its seconds is the same.
+in_daylight : (std : Offset) (d : Dst) (b : Bool) → (if b then d.offset.seconds else std.seconds)
+    ≡ (match_some (if b then Some d else None) std (λ d. d.offset)).seconds
 in_daylight std d true = refl
 in_daylight std d false = refl
 
-daylight_offset-view : (std : Offset) (dst : Option Dst) (n : ℤ) → daylight_offset std.seconds (option_map dst_view dst) n ≡ (match_some (dst_at_by std dst n) std (λ d. d.offset)).seconds
+-- The offset by the text is what jiff says, with daylight saving time or without.
+daylight_offset-view : (std : Offset) (dst : Option Dst) (n : ℤ)
+    → daylight_offset std.seconds (option_map dst_view dst) n
+    ≡ (match_some (dst_at_by std dst n) std (λ d. d.offset)).seconds
 daylight_offset-view std None n = refl
 daylight_offset-view std (Some d) n =
     ap (λ w. if in_window w n then d.offset.seconds else std.seconds) (daylight_window-view std d (year_of_nanos n))
     ∙ in_daylight std d (in_window (utc_window d (year_of_nanos n) std) n)
 
+-- The offset of a rule, by its text, is what jiff says.
 pub rule_offset-view : (rule : PosixRule) (n : ℤ) → rule_offset (tz_view rule) n ≡ (Posix.offset_at rule n).seconds
 rule_offset-view rule n = daylight_offset-view rule.std_offset rule.dst n
 
 -- a file by its text
-rows_until-view : (rows : List Transition) (second : ℤ) → rows_until (map transition_text rows) second ≡ prefix_len (λ (row : Transition). int_le row.second second) rows
+-- As many rows of the text lie at or before a second as of the table.
+rows_until-view : (rows : List Transition) (second : ℤ) → rows_until (map transition_text rows) second
+    ≡ prefix_len (λ (row : Transition). int_le row.second second) rows
 rows_until-view [] second = refl
-rows_until-view (row ∷ rows) second = ap (λ n. if int_le row.second second then 1 + n else 0) (rows_until-view rows second)
+rows_until-view (row ∷ rows) second = ap (λ n. if int_le row.second second then 1 + n else 0)
+    (rows_until-view rows second)
 
-seconds_after-view : (z : Tzif) (count : ℕ) → count ≤ vec_len z.transitions → (if count == 0 then z.first.offset.seconds else (get_or (map transition_text z.transitions.items) (count - 1) no_row).after.seconds) ≡ (type_after z count).offset.seconds
+-- The offset after so many rows of the text is that of the table.
+seconds_after-view : (z : Tzif) (count : ℕ) → count ≤ vec_len z.transitions
+    → (if count == 0 then z.first.offset.seconds
+    else (get_or (map transition_text z.transitions.items) (count - 1) no_row).after.seconds)
+    ≡ (type_after z count).offset.seconds
 seconds_after-view z zero h = refl
 seconds_after-view z (suc k) h =
     let some : (suc k == 0) ≡ false = grind (arith, nat_tests) in
     let back : suc k - 1 ≡ k = omega arith in
-    rw (some, back) (ap (λ row. row.after.seconds) (get_or-map transition_text z.transitions.items k (no_transition z) no_row (omega arith)))
+    rw (some, back) (ap (λ row. row.after.seconds)
+    (get_or-map transition_text z.transitions.items k (no_transition z) no_row (omega arith)))
 
-by_rule : (b : Bool) (o : Option PosixRule) (type : Offset) (n : ℤ) → match_some (if b then option_map tz_view o else None) type.seconds (λ rule. rule_offset rule n) ≡ (match_some (if b then o else None) type (λ tz. Posix.offset_at tz n)).seconds
+-- For offset_after-view: after the last row, the rule of the text holds as that of the table.
+by_rule : (b : Bool) (o : Option PosixRule) (type : Offset) (n : ℤ)
+    → match_some (if b then option_map tz_view o else None) type.seconds (λ rule. rule_offset rule n)
+    ≡ (match_some (if b then o else None) type (λ tz. Posix.offset_at tz n)).seconds
 by_rule false o type n = refl
 by_rule true None type n = refl
 by_rule true (Some rule) type n = rule_offset-view rule n
 
-offset_after-view : (z : Tzif) (count : ℕ) (n : ℤ) → count ≤ vec_len z.transitions → offset_after (tzif_view z) count n ≡ (match_some (if count == vec_len z.transitions then z.posix_tz else None) (type_after z count).offset (λ tz. Posix.offset_at tz n)).seconds
+-- The offset after so many rows, with the rule after the last, is what jiff says.
+offset_after-view : (z : Tzif) (count : ℕ) (n : ℤ) → count ≤ vec_len z.transitions
+    → offset_after (tzif_view z) count n ≡ (match_some (if count == vec_len z.transitions then z.posix_tz else None)
+    (type_after z count).offset (λ tz. Posix.offset_at tz n)).seconds
 offset_after-view z count n h =
     let same : length z.transitions.items ≡ vec_len z.transitions = omega arith in
-    ap (λ size. match_some (if count == size then option_map tz_view z.posix_tz else None) (if count == 0 then z.first.offset.seconds else (get_or (map transition_text z.transitions.items) (count - 1) no_row).after.seconds) (λ rule. rule_offset rule n)) (length-map z.transitions.items transition_text ∙ same)
-    ∙ ap (λ seconds. match_some (if count == vec_len z.transitions then option_map tz_view z.posix_tz else None) seconds (λ rule. rule_offset rule n)) (seconds_after-view z count h)
+    ap (λ size. match_some (if count == size then option_map tz_view z.posix_tz else None)
+    (if count == 0 then z.first.offset.seconds
+    else (get_or (map transition_text z.transitions.items) (count - 1) no_row).after.seconds)
+    (λ rule. rule_offset rule n)) (length-map z.transitions.items transition_text ∙ same)
+    ∙ ap (λ seconds. match_some (if count == vec_len z.transitions then option_map tz_view z.posix_tz else None) seconds
+    (λ rule. rule_offset rule n)) (seconds_after-view z count h)
     ∙ by_rule (count == vec_len z.transitions) z.posix_tz (type_after z count).offset n
 
+-- The offset of a file, by its text, is what jiff says.
 pub file_offset-view : (z : Tzif) (n : ℤ) → file_offset (tzif_view z) n ≡ (Table.offset_at z n).seconds
 file_offset-view z n =
     let most = prefix_len-le-length (λ (row : Transition). int_le row.second (floor_second n)) z.transitions.items in
     ap (λ count. offset_after (tzif_view z) count n) (rows_until-view z.transitions.items (floor_second n))
     ∙ offset_after-view z (count_at z (floor_second n)) n (omega arith)
 
-by_posix : (text : List ℕ) (tz : TimeZone) (n : ℤ) → IsPosixZone text tz → read_rule_offset (read_whole text) n ≡ offset_at tz n
+-- For source_offset-clock: the text of a rule states what its clock does.
+by_posix : (text : List ℕ) (tz : TimeZone) (n : ℤ) → IsPosixZone text tz
+    → read_rule_offset (read_whole text) n ≡ offset_at tz n
 unfolding offset_at
 by_posix text Kind.UTC n h = absurd h
 by_posix text Kind.Unknown n h = absurd h
@@ -95,12 +129,14 @@ by_posix text (Kind.Fixed offset) n h = absurd h
 by_posix text (Kind.Tzif z) n h = absurd h
 by_posix text (Kind.Posix rule) n h = rw h (rule_offset-view rule n)
 
+-- For source_offset-clock: the clock of UTC is 0 ahead.
 by_utc : (tz : TimeZone) (n : ℤ) → tz ≡ Kind.UTC → pos 0 ≡ offset_at tz n
 unfolding offset_at
 by_utc tz n e = rw e refl
 
 -- so the source states what the clock does
-pub source_offset-clock : (source : Source) (rules : Rules) (t : ℕ) → IsClockOf source rules → source_offset source (pos t *ℤ pos 1_000_000_000) ≡ rules_offset rules t
+pub source_offset-clock : (source : Source) (rules : Rules) (t : ℕ) → IsClockOf source rules
+    → source_offset source (pos t *ℤ pos 1_000_000_000) ≡ rules_offset rules t
 unfolding source_offset
 source_offset-clock Utc (Own.Fixed zone) t h = by_utc (plain_zone zone) (pos t *ℤ pos 1_000_000_000) h
 source_offset-clock Utc (Own.Table table) t h = absurd h
@@ -109,8 +145,15 @@ source_offset-clock (Rule text) (Own.Table table) t h = absurd h
 source_offset-clock (File bytes) (Own.Fixed zone) t h = absurd h
 source_offset-clock (File bytes) (Own.Table table) t h = rw h.0 (file_offset-view table (pos t *ℤ pos 1_000_000_000))
 
-pub zone_offset-clock : (zone : NamedSource) (name : List ℕ) (source : Source) (rules : Rules) (t : ℕ) → record { name = name; source = source } ≡ zone → IsClockOf source rules → zone_offset zone t ≡ rules_offset rules t
-zone_offset-clock zone name source rules t e h = ap (λ z. zone_offset z t) (sym e) ∙ source_offset-clock source rules t h
+-- The offset of a zone, by what it was made of, is that of its clock.
+pub zone_offset-clock : (zone : NamedSource) (name : List ℕ) (source : Source) (rules : Rules) (t : ℕ)
+    → record { name = name; source = source } ≡ zone → IsClockOf source rules
+    → zone_offset zone t ≡ rules_offset rules t
+zone_offset-clock zone name source rules t e h = ap (λ z. zone_offset z t) (sym e)
+    ∙ source_offset-clock source rules t h
 
-pub zone_offset-range : (zone : NamedSource) (name : List ℕ) (source : Source) (rules : Rules) (t : ℕ) → record { name = name; source = source } ≡ zone → IsClockOf source rules → IsOffsetSeconds (zone_offset zone t)
-zone_offset-range zone name source rules t e h = rw (zone_offset-clock zone name source rules t e h) (rules_offset-range rules t)
+-- The offset of a zone is in range at each instant.
+pub zone_offset-range : (zone : NamedSource) (name : List ℕ) (source : Source) (rules : Rules) (t : ℕ)
+    → record { name = name; source = source } ≡ zone → IsClockOf source rules → IsOffsetSeconds (zone_offset zone t)
+zone_offset-range zone name source rules t e h = rw (zone_offset-clock zone name source rules t e h)
+    (rules_offset-range rules t)

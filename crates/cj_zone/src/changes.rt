@@ -8,8 +8,10 @@ use jiff_tz::Tzif;
 
 /// Whether the instant lies at or after the last transition.
 pub(crate) fn is_past(tables: &Tzif, from: Seconds) -> bool
-    ensures past { result ≡ true → Table.count_at tables.now (pos from) ≡ vec_len tables.now.transitions }
-    ensures not_past { result ≡ false → Table.count_at tables.now (pos from) < vec_len tables.now.transitions }
+    ensures past { result ≡ true → Table.count_at tables.now (pos from)
+        ≡ vec_len tables.now.transitions }
+    ensures not_past { result ≡ false → Table.count_at tables.now (pos from) < vec_len
+        tables.now.transitions }
 {
     match tables.transitions().last() {
         Some(row) => row.second <= from.get() as i64,
@@ -67,7 +69,8 @@ pub(crate) fn offset_of(tables: &Tzif, at: Seconds) -> i64
 /// The last second before the next transition.
 pub(crate) fn last_before_next(tables: &Tzif, from: Seconds) -> u64
     requires { Table.count_at tables.now (pos from) < vec_len tables.now.transitions }
-    ensures before { pos result <ℤ (Table.transition_at tables.now (Table.count_at tables.now (pos from))).second }
+    ensures before { pos result <ℤ (Table.transition_at tables.now
+        (Table.count_at tables.now (pos from))).second }
     ensures low { from ≤ result }
 {
     match tables.next_transition(plain_timestamp(from)) {
@@ -81,7 +84,8 @@ pub(crate) fn last_before_next(tables: &Tzif, from: Seconds) -> u64
 pub(crate) fn first_since_change(tables: &Tzif, at: Seconds) -> Seconds
     requires { Table.count_at tables.now (pos at) < vec_len tables.now.transitions }
     ensures first { result ≤ at }
-    ensures same { (t : ℕ) → result ≤ t → t ≤ at → Table.count_at tables.now (pos t) ≡ Table.count_at tables.now (pos at) }
+    ensures same { (t : ℕ) → result ≤ t → t ≤ at →
+        Table.count_at tables.now (pos t) ≡ Table.count_at tables.now (pos at) }
 {
     match tables.previous_transition(second_after(at)) {
         Some(change) => since(change.timestamp.floor_second(), at),

@@ -35,7 +35,8 @@ fn end_of_month(at: Seconds) -> u64
 // A second before a rule's clock changes, and in the instant's month.
 fn of_rule(rule: posix::TimeZone, at: Seconds) -> u64
     ensures low { at ≤ result }
-    ensures steady { IsSteady (λ t. (Posix.offset_at rule (pos t *ℤ pos 1_000_000_000)).seconds) at result }
+    ensures steady { IsSteady (λ t. (Posix.offset_at rule (pos t *ℤ pos 1_000_000_000)).seconds) at
+        result }
 {
     let Some(change) = rule.next_transition(plain_timestamp(at)) else {
         return at.get();
@@ -49,7 +50,8 @@ fn of_rule(rule: posix::TimeZone, at: Seconds) -> u64
 
 fn of_tables(tables: &Tzif, at: Seconds) -> u64
     ensures low { at ≤ result }
-    ensures steady { IsSteady (λ t. (Table.offset_at tables.now (pos t *ℤ pos 1_000_000_000)).seconds) at result }
+    ensures steady { IsSteady (λ t. (Table.offset_at tables.now
+        (pos t *ℤ pos 1_000_000_000)).seconds) at result }
 {
     if !is_past(tables, at) {
         return last_before_next(tables, at);
@@ -62,7 +64,8 @@ fn of_tables(tables: &Tzif, at: Seconds) -> u64
 
 fn of_fixed(zone: &TimeZone<'static>, at: Seconds) -> u64
     ensures low { at ≤ result }
-    ensures steady { IsSteady (λ t. offset_at (plain_zone zone.now) (pos t *ℤ pos 1_000_000_000)) at result }
+    ensures steady { IsSteady (λ t. offset_at (plain_zone zone.now) (pos t *ℤ pos 1_000_000_000)) at
+        result }
 {
     match zone.to_plain() {
         jiff_tz::TimeZone::Posix(rule) => of_rule(rule, at),

@@ -1,3 +1,4 @@
+-- time_law: its ensures, that the time of each accepted claim is the greatest one missed.
 use Rattle.cj_once.proofs.time_law.Goals as goal
 use Rattle.cj_once.proofs.Claims.{timely}
 

@@ -1,3 +1,4 @@
+-- reasons_of: its clause ok where an item is no reason, since the list then says none.
 use Rattle.std.proofs.Common.{◌∙◌, [], sym, ap}
 use Rattle.serde_json.specs.View.{items_view}
 use Rattle.cj_acts.specs.Finishes.{with_reasons}

@@ -1,3 +1,4 @@
+-- copy_all, its loop: copies has the values that were gone through, in their order.
 use Rattle.std.proofs.Common.{◌≡◌, take}
 use Rattle.cj_base.proofs.copies.copy_all.Given as goal
 

@@ -1,3 +1,4 @@
+-- same_all, its loop over i: the first i values of both lists are the same.
 use Rattle.std.proofs.Common.{◌≡◌, take}
 use Rattle.cj_base.proofs.same.same_all.Given as goal
 

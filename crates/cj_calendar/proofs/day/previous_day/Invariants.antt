@@ -1,3 +1,4 @@
+-- previous_day: at each turn no day after the day in hand, up to the last asked, is allowed.
 use Rattle.std.proofs.Common.{◌≤◌, ◌+◌}
 use Rattle.jiff_core.specs.Calendar.{days_in_month}
 use Rattle.cj_calendar.specs.Shown.{day_at}

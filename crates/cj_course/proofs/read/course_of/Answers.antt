@@ -1,3 +1,4 @@
+-- course_of: its clause refused where the zones are read and the rest is refused.
 use Rattle.std.proofs.Common.{subst}
 use Rattle.serde_json.specs.View.{view}
 use Rattle.cj_zone.specs.Table.{zones_of}

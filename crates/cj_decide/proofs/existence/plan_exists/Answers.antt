@@ -1,8 +1,10 @@
+-- plan_exists: its one clause, from the two verdicts, by whether a Job of the CronJob runs.
 use Rattle.std.specs.Option.{option_copied}
 use Rattle.cj_decide.proofs.Decided.{some_plan}
 use Rattle.cj_decide.proofs.existence.plan_exists.Goals as goal
 
 pub returns : goal.returns
 returns c =
-    some_plan c.args.cron.now c.args.jobs.now c.args.found.now c.args.now (option_copied c.args.zone) c.verdicts-verdicts.result.0 c.verdicts-verdicts.result.1
+    some_plan c.args.cron.now c.args.jobs.now c.args.found.now c.args.now
+    (option_copied c.args.zone) c.verdicts-verdicts.result.0 c.verdicts-verdicts.result.1
     c.verdicts-verdicts.ensures.busy c.verdicts-verdicts.ensures.idle

@@ -1,3 +1,4 @@
+-- missed_of: its one clause where there is no window, in which no time is missed.
 use Rattle.std.proofs.Common.{ap, length, arith}
 use Rattle.cj_due.specs.Window.{window_of}
 use Rattle.cj_due.proofs.MissedLemmas.{missed_times-none}

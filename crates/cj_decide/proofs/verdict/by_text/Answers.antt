@@ -1,3 +1,4 @@
+-- by_text: its one clause where the text is no schedule.
 use Rattle.std.proofs.Common.{inr, subst, sym, ap, ◌∙◌, List, ℕ}
 use Rattle.cj_types.specs.declared.cron.CronSpec.{CronSpec}
 use Rattle.cj_schedule.specs.Grammar.{IsSchedule}

@@ -1,3 +1,4 @@
+-- fits_law: its one clause, that every plan is what a history of syncs needs.
 use Rattle.cj_decide_laws.proofs.Fitting.{decided_fits}
 use Rattle.cj_decide_laws.proofs.laws.fits_law.Goals as goal
 

@@ -1,3 +1,4 @@
+-- plan_laws: its eight clauses, one_plan to names_at_end, each by the lemma of that name.
 use Rattle.cj_decide_laws.proofs.One.{one_plan}
 use Rattle.cj_decide_laws.proofs.Claims.{claims_latest, claims_in_time, no_claim}
 use Rattle.cj_decide_laws.proofs.Orders.{oldest_first, all_running}

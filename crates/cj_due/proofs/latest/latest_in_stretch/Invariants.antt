@@ -1,3 +1,4 @@
+-- latest_in_stretch: at each turn nothing is due after the minute in hand, up to hi.
 use Rattle.std.proofs.Common.{◌≤◌, ◌+◌, ◌*◌}
 use Rattle.cj_due.proofs.DueLemmas.{IsQuietFrom}
 use Rattle.cj_due.proofs.latest.latest_in_stretch.Given as goal

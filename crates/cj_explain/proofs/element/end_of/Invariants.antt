@@ -1,3 +1,4 @@
+-- end_of, its loop over i: the end is i bytes further than that of what is left from i on.
 use Rattle.std.proofs.Common.{◌≡◌, ◌+◌, drop}
 use Rattle.std.specs.List.{position_or_len}
 use Rattle.cj_explain.specs.Elements.{is_end}

@@ -1,3 +1,4 @@
+-- explain_faults, its loop: text and the lines of the faults left are those of all faults.
 use Rattle.std.proofs.Common.{◌≡◌, ◌++◌, drop, string_bytes}
 use Rattle.cj_explain.specs.Faults.{faults_words}
 use Rattle.cj_explain.proofs.fault.explain_faults.Given as goal

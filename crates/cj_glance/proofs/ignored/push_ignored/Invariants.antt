@@ -1,3 +1,5 @@
+-- push_ignored: at each turn the text so far, with the lines of the members left,
+-- is the text at the start with the lines of all.
 use Rattle.std.proofs.Common.{◌≡◌, ◌++◌, string_bytes}
 use Rattle.serde_json.specs.View.{members_view}
 use Rattle.cj_glance.specs.Glances.{ignored_in}

@@ -1,3 +1,4 @@
+-- look: its clause adds, where the Tick is refused, and where a Watch or a listing comes after it.
 use Rattle.std.proofs.Common.{◌++◌, subst}
 use Rattle.cj_hub.proofs.Runs.{adds-then, adds-weaker}
 use Rattle.cj_informer.specs.Informs.{Follower}
@@ -17,10 +18,12 @@ pub returns-in-Some-clause-adds : goal.returns-in-Some-clause-adds
 returns-in-Some-clause-adds g c =
     adds-then c.in_ok-tick.ensures.adds c.watch.ensures.adds (λ es fs h k.
     let P : Follower → Type 0 = λ i. HasLooked i c.args.now c.watch.result (es ++ fs) in
-    subst P c.informer.view_is (ticked_watch c.informer.inside.max c.args.now c.in-Some.from c.informer.inside.seen c.watch.result es fs c.in-Some.is h k))
+    subst P c.informer.view_is (ticked_watch c.informer.inside.max c.args.now c.in-Some.from c.informer.inside.seen
+    c.watch.result es fs c.in-Some.is h k))
 
 pub returns-in-None-clause-adds : goal.returns-in-None-clause-adds
 returns-in-None-clause-adds g c =
     adds-then c.in_ok-tick.ensures.adds c.list.ensures.adds (λ es fs h k.
     let P : Follower → Type 0 = λ i. HasLooked i c.args.now c.list.result (es ++ fs) in
-    subst P c.informer.view_is (ticked_list c.informer.inside.max c.args.now c.informer.inside.seen c.list.result es fs c.in-None.is h k))
+    subst P c.informer.view_is (ticked_list c.informer.inside.max c.args.now c.informer.inside.seen c.list.result es fs
+    c.in-None.is h k))

@@ -1,3 +1,4 @@
+-- watch: its clause adds, where the Watch tells events, is refused as expired, or is refused else.
 use Rattle.std.proofs.Common.{arith}
 use Rattle.cj_calls.specs.declared.call.Call.TheVariants as Of
 use Rattle.cj_calls.specs.declared.reply.Reply.TheVariants as Is
@@ -17,7 +18,8 @@ returns-in-Ok-Events-clause-adds g c =
 pub returns-in-Err-Expired-clause-adds : goal.returns-in-Err-Expired-clause-adds
 returns-in-Err-Expired-clause-adds g c =
     adds-then c.in-Err-Expired.ensures.adds c.list.ensures.adds (λ es fs h k.
-    expired c.args.max c.args.from c.in-Err-Expired.field-0-0 c.list.result es fs (rw c.in-Err-Expired.field-0-is at h) k)
+    expired c.args.max c.args.from c.in-Err-Expired.field-0-0 c.list.result es fs
+    (rw c.in-Err-Expired.field-0-is at h) k)
 
 pub returns-in-Err-clause-adds : goal.returns-in-Err-clause-adds
 returns-in-Err-clause-adds g c =

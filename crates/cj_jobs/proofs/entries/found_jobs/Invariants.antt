@@ -1,3 +1,4 @@
+-- found_jobs: its loop; at each turn the Jobs pushed and those of the entries to come are all.
 use Rattle.std.proofs.Common.{◌≡◌, ◌++◌}
 use Rattle.cj_jobs.specs.Index.{found}
 use Rattle.cj_jobs.proofs.entries.found_jobs.Given as goal

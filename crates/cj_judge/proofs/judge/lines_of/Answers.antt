@@ -1,3 +1,4 @@
+-- lines_of: its ensures, that what is collected is the lines of the text.
 use Rattle.std.proofs.lemmas.Iterator.Splits.{YieldsList-from_lines}
 use Rattle.std.proofs.lemmas.Iterator.Consumers.{map_from_collect}
 use Rattle.cj_judge.proofs.judge.lines_of.Goals as goal

@@ -1,3 +1,4 @@
+-- created_laws: its clauses cron_reads_back and job_reads_back, from those of manifest_laws.
 use Rattle.cj_laws.proofs.Made.{created_cron_is, created_job_is}
 use Rattle.cj_laws.proofs.created.created_laws.Goals as goal
 

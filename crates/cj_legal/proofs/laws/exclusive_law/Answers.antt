@@ -1,3 +1,4 @@
+-- exclusive_law: its ensures, that between two Takes of a key its first taker ends its sync.
 use Rattle.cj_legal.proofs.Hands.{always_exclusive}
 use Rattle.cj_legal.proofs.laws.exclusive_law.Goals as goal
 

@@ -1,3 +1,4 @@
+-- seat_law: its clauses seats and held, of the seats that a history's entries give.
 use Rattle.cj_legal.proofs.Seated.{seats_agree, one_holder}
 use Rattle.cj_legal.proofs.laws.seat_law.Goals as goal
 

@@ -1,3 +1,4 @@
+-- sound_law: its clauses sound, few and window, of the state that any history leaves.
 use Rattle.cj_legal.proofs.Sound.{sound_of, version_of_history, window_of}
 use Rattle.cj_legal.proofs.laws.sound_law.Goals as goal
 

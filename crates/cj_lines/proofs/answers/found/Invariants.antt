@@ -1,3 +1,4 @@
+-- found, its loop over the Jobs: count is how many of those gone through are there.
 use Rattle.std.proofs.Common.{◌≡◌, ◌≤◌, take}
 use Rattle.cj_lines.specs.Answers.{found}
 use Rattle.cj_lines.proofs.answers.found.Given as goal

@@ -1,3 +1,4 @@
+-- told_of, its loop over the reasons: told has those gone through that were told of the key.
 use Rattle.std.proofs.Common.{◌≡◌, take}
 use Rattle.cj_lines.specs.Tellings.{known_of}
 use Rattle.cj_lines.proofs.reasons.told_of.Given as goal

@@ -1,3 +1,4 @@
+-- job_draft: its call of kept, whose requires plain and flat hold of the spec.
 use Rattle.std.proofs.Common.{codes}
 use Rattle.serde_json.specs.Read.{max_depth}
 use Rattle.serde_json.specs.View.{view}

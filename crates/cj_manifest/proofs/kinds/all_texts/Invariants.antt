@@ -1,3 +1,4 @@
+-- all_texts, its loop over the members: all are texts just where all those to come are.
 use Rattle.std.proofs.Common.{◌≡◌}
 use Rattle.serde_json.specs.View.{members_view}
 use Rattle.cj_manifest.specs.RowKinds.{all_texts}

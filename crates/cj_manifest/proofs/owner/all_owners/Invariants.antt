@@ -1,3 +1,4 @@
+-- all_owners, its loop over the items: all are owner references just where all those to come are.
 use Rattle.std.proofs.Common.{◌≡◌, drop}
 use Rattle.serde_json.specs.View.{items_view}
 use Rattle.cj_manifest.specs.Owners.{all_owners}

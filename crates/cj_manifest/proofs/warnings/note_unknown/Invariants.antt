@@ -1,3 +1,5 @@
+-- note_unknown, its loop over the members: the warnings so far and those of the members to come
+-- are the same at each turn.
 use Rattle.std.proofs.Common.{◌≡◌, ◌++◌}
 use Rattle.serde_json.specs.View.{members_view}
 use Rattle.cj_manifest.specs.Warnings.{unknown}

@@ -1,3 +1,4 @@
+-- last_version: its clause where there is a last event, whose version is before plus their number.
 use Rattle.std.proofs.Common.{◌≡◌, ◌-◌, length, slice_get, Some, sym, ap, ◌∙◌}
 use Rattle.std.specs.Option.{option_copied}
 use Rattle.cj_mirror.proofs.Numbered.{last_is}
@@ -6,5 +7,6 @@ use Rattle.cj_mirror.proofs.mirror.last_version.Goals as goal
 pub returns-in-Some : goal.returns-in-Some
 returns-in-Some c =
     let events = c.args.events.now in
-    let item : slice_get events (length events - 1) ≡ Some c.in-Some.event.now = sym c.last.ensures.value ∙ ap option_copied c.in-Some.is in
+    let item : slice_get events (length events - 1) ≡ Some c.in-Some.event.now =
+    sym c.last.ensures.value ∙ ap option_copied c.in-Some.is in
     c.version_of.ensures ∙ last_is c.args.before events c.in-Some.event.now item c.requires

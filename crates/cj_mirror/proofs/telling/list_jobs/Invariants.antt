@@ -1,3 +1,4 @@
+-- list_jobs, its loop: at each turn the Jobs are those of the list from the place left on.
 use Rattle.std.proofs.Common.{◌≡◌, ◌≤◌, length, drop}
 use Rattle.cj_mirror.specs.Lagging.{listed}
 use Rattle.cj_mirror.proofs.telling.list_jobs.Given as goal

@@ -1,3 +1,4 @@
+-- active_jobs: its loop; at each turn the Jobs found are those of the names so far.
 use Rattle.std.proofs.Common.{◌≡◌, take, map}
 use Rattle.cj_state.specs.Readings.{active_job}
 use Rattle.cj_moves.proofs.active.active_jobs.Given as goal

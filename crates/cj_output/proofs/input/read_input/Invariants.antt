@@ -1,3 +1,4 @@
+-- read_input, its loop: bytes is what was read of the input so far, and within most_bytes.
 use Rattle.std.proofs.Common.{◌≤◌, vec_len}
 use Rattle.std.specs.Io.KnownBytes.{Consumes}
 use Rattle.cj_output.proofs.input.read_input.Given as goal

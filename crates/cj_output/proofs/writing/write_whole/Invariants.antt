@@ -1,3 +1,4 @@
+-- write_whole, its loop: the first at of the bytes were appended to what the writer had.
 use Rattle.std.proofs.Common.{◌≤◌, length, take}
 use Rattle.std.specs.Io.KnownBytes.{Appends}
 use Rattle.cj_output.proofs.writing.write_whole.Given as goal

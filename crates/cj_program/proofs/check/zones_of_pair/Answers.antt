@@ -1,3 +1,4 @@
+-- zones_of_pair: its ensures where the pair has no = and where its zone is added.
 use Rattle.std.proofs.Common.{Some, None, inl, arith}
 use Rattle.std.proofs.lemmas.Str.Pattern.{split_once_first}
 use Rattle.cj_program.proofs.Pairs.{added}
@@ -8,6 +9,7 @@ returns-in_default c = inl (split_once_first 61 c.args.pair.now None c.in_defaul
 
 pub returns-in-Ok : goal.returns-in-Ok
 returns-in-Ok c =
-    let split = split_once_first 61 c.args.pair.now (Some (c.in-Some.name, c.in-Some.rule)) c.in-Some.ensures.cases (omega arith) in
+    let split = split_once_first 61 c.args.pair.now (Some (c.in-Some.name, c.in-Some.rule)) c.in-Some.ensures.cases
+    (omega arith) in
     added c.in_ok-table.table c.add_rule.new.self c.args.pair.now c.in-Some.name.now c.in-Some.rule.now
     c.in_ok-table.ensures.zones split.1 split.2 c.in-Ok.ensures.added

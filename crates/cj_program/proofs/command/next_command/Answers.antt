@@ -1,3 +1,4 @@
+-- next_command: its clause app, from the rules of its five arguments in their order.
 use Rattle.std.proofs.Common.{ap, ap₂, ◌∙◌}
 use Rattle.clap.specs.Simple.{app_of_fields}
 use Rattle.clap.specs.Words.{with_rule}

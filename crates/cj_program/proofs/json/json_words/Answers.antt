@@ -1,3 +1,4 @@
+-- json_words: its ensures, with the line and the column that place_of tells.
 use Rattle.cj_program.proofs.json.json_words.Goals as goal
 
 pub returns : goal.returns

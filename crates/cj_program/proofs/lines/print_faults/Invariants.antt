@@ -1,3 +1,4 @@
+-- print_faults, its loop: text and the lines of the faults left are those of all faults.
 use Rattle.std.proofs.Common.{◌≡◌, ◌++◌, drop, string_bytes}
 use Rattle.cj_program.specs.Check.{fault_lines}
 use Rattle.cj_program.proofs.lines.print_faults.Given as goal

@@ -1,3 +1,4 @@
+-- fault_text: its ensures, with the name of the cause in the line.
 use Rattle.std.proofs.Common.{◌∙◌, refl}
 use Rattle.std.proofs.lemmas.Result.{IfOk-weaker}
 use Rattle.cj_program.proofs.next.fault_text.Goals as goal

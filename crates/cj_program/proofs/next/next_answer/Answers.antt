@@ -1,3 +1,4 @@
+-- next_answer: its ensures where schedule, start and zone are read and the due times are printed.
 use Rattle.std.proofs.Common.{refl, inr, string_bytes}
 use Rattle.cj_program.proofs.next.next_answer.Goals as goal
 

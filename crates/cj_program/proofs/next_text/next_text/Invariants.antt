@@ -1,3 +1,4 @@
+-- next_text, its loop: text, with the lines that are still to come after at, is the whole text.
 use Rattle.std.proofs.Common.{◌-◌, string_bytes}
 use Rattle.cj_program.proofs.NextLemmas.{Continues}
 use Rattle.cj_program.proofs.next_text.next_text.Given as goal

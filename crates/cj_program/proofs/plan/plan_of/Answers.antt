@@ -1,3 +1,4 @@
+-- plan_of: its ensures, that the steps are the plan of the scene at that moment.
 use Rattle.std.proofs.Common.{◌≡◌, ◌∙◌, ap, subst, ℕ, List, Option}
 use Rattle.cj_types.specs.declared.cron.CronJob.{CronJob}
 use Rattle.cj_types.specs.declared.job.Job.{Job}
@@ -8,7 +9,8 @@ use Rattle.cj_program.specs.Plan.{zone_for}
 use Rattle.cj_program.proofs.plan.plan_of.Goals as goal
 
 -- a plan is the one of what it rests on
-rests : (p : Planned) (cron : Option CronJob) (jobs : List Job) (found : List (Option Job)) (now : ℕ) (z : Option Zone) → p.cron ≡ cron
+rests : (p : Planned) (cron : Option CronJob) (jobs : List Job) (found : List (Option Job)) (now : ℕ) (z : Option Zone)
+    → p.cron ≡ cron
     → p.jobs ≡ jobs → p.active ≡ found → p.at ≡ now → p.zone ≡ z → IsDecided p → IsPlan cron jobs found now z p.steps
 rests p cron jobs found now z a b l c d h =
     subst (λ x. IsPlan cron jobs found now x p.steps) d
@@ -20,4 +22,5 @@ rests p cron jobs found now z a b l c d h =
 pub returns : goal.returns
 returns c =
     let e = c.in_ok-decide.ensures in
-    rests c.in_ok-decide.field-0 _ _ _ _ _ e.cron e.jobs e.active e.at (e.zone ∙ c.in_ok-zone.ensures ∙ ap (λ (x : CronJob). zone_for x.spec.time_zone (zones_of c.args.scene.zones)) c.get.ensures) e.decided
+    rests c.in_ok-decide.field-0 _ _ _ _ _ e.cron e.jobs e.active e.at (e.zone ∙ c.in_ok-zone.ensures
+    ∙ ap (λ (x : CronJob). zone_for x.spec.time_zone (zones_of c.args.scene.zones)) c.get.ensures) e.decided

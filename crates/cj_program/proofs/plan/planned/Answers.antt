@@ -1,3 +1,4 @@
+-- planned: its ensures, from the scene's plan, why it is so, and what was seen of the bytes.
 use Rattle.std.proofs.Common.{◌++◌, ◌∙◌, ap, inr, ℕ, List, string_bytes}
 use Rattle.std.proofs.lemmas.Result.{IfOk-weaker}
 use Rattle.cj_program.specs.Outcome.{done, explained}
@@ -17,7 +18,9 @@ returns c = λ bytes said looked.
       seen = c.args.seen.now;
       looked = looked;
       answer = e
-          ∙ ap (λ (w : List ℕ). explained c.args.explain (w ++ c.args.seen.now) (done (plan_lines c.steps.result.now))) c.as_str.ensures.value
-          ∙ ap (λ s. explained c.args.explain (string_bytes c.in_ok-why.why ++ c.args.seen.now) (done (plan_lines s))) c.steps.ensures.steps;
+          ∙ ap (λ (w : List ℕ). explained c.args.explain (w ++ c.args.seen.now) (done (plan_lines c.steps.result.now)))
+          c.as_str.ensures.value
+          ∙ ap (λ s. explained c.args.explain (string_bytes c.in_ok-why.why ++ c.args.seen.now) (done (plan_lines s)))
+          c.steps.ensures.steps;
     }))
     c.printed.ensures

@@ -1,3 +1,4 @@
+-- refused_scene: its clause says, for the faults Syntax, Form and Manifest.
 use Rattle.cj_program.proofs.plan.refused_scene.Goals as goal
 
 pub returns-in-Syntax-clause-says : goal.returns-in-Syntax-clause-says
@@ -7,4 +8,5 @@ pub returns-in-Form-clause-says : goal.returns-in-Form-clause-says
 returns-in-Form-clause-says c = rw c.in-Form.is c.no_form.ensures
 
 pub returns-in_ok-faulty_manifest-in-Manifest-clause-says : goal.returns-in_ok-faulty_manifest-in-Manifest-clause-says
-returns-in_ok-faulty_manifest-in-Manifest-clause-says c = rw c.in-Manifest.is (c.in_ok-faulty_manifest-in-Manifest.ensures c.args.wanted c.args.bytes.now)
+returns-in_ok-faulty_manifest-in-Manifest-clause-says c = rw c.in-Manifest.is
+    (c.in_ok-faulty_manifest-in-Manifest.ensures c.args.wanted c.args.bytes.now)

@@ -1,3 +1,4 @@
+-- scene_why: its ensures, from that of asked_why for the scene's CronJob, zone and active Jobs.
 use Rattle.std.proofs.Common.{◌∙◌, ap, subst, string_bytes, List, Option}
 use Rattle.std.specs.Prelude.{IfOk, option_copied}
 use Rattle.cj_types.specs.declared.cron.CronJob.{CronJob}
@@ -15,7 +16,11 @@ returns c =
     let zone = c.zone_of-zone.ensures
     ∙ ap (λ (x : CronSpec). zone_for x.time_zone (zones_of c.args.scene.now.zones)) c.deref.ensures
     ∙ ap (λ (x : CronJob). zone_for x.spec.time_zone (zones_of c.args.scene.now.zones)) cron in
-    subst (λ (x : CronJob). IfOk r (λ s. IsAskedWhy c.args.explain x (zone_for c.args.scene.now.cron.spec.time_zone (zones_of c.args.scene.now.zones)) c.args.scene.now.active c.args.now (string_bytes s))) cron
-    (subst (λ (z : Option Zone). IfOk r (λ s. IsAskedWhy c.args.explain c.get-cron.result.now z c.args.scene.now.active c.args.now (string_bytes s))) zone
-    (subst (λ (f : List (Option Job)). IfOk r (λ s. IsAskedWhy c.args.explain c.get-cron.result.now (option_copied c.zone_of-zone.result) f c.args.now (string_bytes s))) c.as_slice.ensures
+    subst (λ (x : CronJob). IfOk r (λ s. IsAskedWhy c.args.explain x
+    (zone_for c.args.scene.now.cron.spec.time_zone (zones_of c.args.scene.now.zones)) c.args.scene.now.active
+    c.args.now (string_bytes s))) cron
+    (subst (λ (z : Option Zone). IfOk r (λ s. IsAskedWhy c.args.explain c.get-cron.result.now z c.args.scene.now.active
+    c.args.now (string_bytes s))) zone
+    (subst (λ (f : List (Option Job)). IfOk r (λ s. IsAskedWhy c.args.explain c.get-cron.result.now
+    (option_copied c.zone_of-zone.result) f c.args.now (string_bytes s))) c.as_slice.ensures
     c.asked_why.ensures))

@@ -1,3 +1,4 @@
+-- end_of: its clause well, where no step found the history full.
 use Rattle.std.proofs.Common.{refl}
 use Rattle.cj_output.proofs.Written.{appends_none}
 use Rattle.cj_program.proofs.replay.end_of.Goals as goal

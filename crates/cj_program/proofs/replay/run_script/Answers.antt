@@ -1,3 +1,4 @@
+-- run_script: its clauses well and badly where the script was run, and badly where the run failed.
 use Rattle.cj_program.proofs.Runs.{cut, ends_well, fills}
 use Rattle.cj_program.proofs.replay.run_script.Goals as goal
 
@@ -12,4 +13,5 @@ returns-in-Ok-clause-badly g c = λ e.
     fills c.args.script.now _ _ _ _ c.in-Ok.is_full f.0 c.in-Ok.ensures.whole f.1
 
 pub returns-in-Err-clause-badly : goal.returns-in-Err-clause-badly
-returns-in-Err-clause-badly g c = λ e. cut c.args.script.now _ _ _ _ c.in-Err.failure c.in-Err.ensures.begun c.tell_failure.ensures.told
+returns-in-Err-clause-badly g c = λ e. cut c.args.script.now _ _ _ _ c.in-Err.failure c.in-Err.ensures.begun
+    c.tell_failure.ensures.told

@@ -1,10 +1,12 @@
+-- serve_replay: its clauses served and failed, where the input is read.
 use Rattle.std.proofs.Common.{◌≡◌, ◌≤◌, ℕ, List, length, subst, sym}
 use Rattle.std.specs.Prelude.{Option, IfSome}
 use Rattle.cj_program.specs.Replay.{IsRead}
 use Rattle.cj_program.proofs.replay.serve_replay.Goals as goal
 
 -- a slice of all that was read
-read_from : (input : Option (List ℕ)) (slice bytes : List ℕ) (count : ℕ) → slice ≡ bytes → length slice ≡ count → IfSome input (λ xs. bytes ≡ xs)
+read_from : (input : Option (List ℕ)) (slice bytes : List ℕ) (count : ℕ) → slice ≡ bytes → length slice ≡ count
+    → IfSome input (λ xs. bytes ≡ xs)
     → count ≤ 16_777_216 → IsRead input slice
 read_from input slice bytes count e l are fits = record {
   are = subst (λ (bs : List ℕ). IfSome input (λ xs. bs ≡ xs)) (sym e) are;

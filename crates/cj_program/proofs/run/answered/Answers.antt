@@ -1,3 +1,4 @@
+-- answered: its ensures, from the report of the run and what was seen of the bytes.
 use Rattle.std.proofs.Common.{◌∙◌, ap, inr, ℕ, List, string_bytes}
 use Rattle.cj_program.specs.Outcome.{done, explained}
 use Rattle.cj_program.proofs.run.answered.Goals as goal
@@ -11,5 +12,6 @@ returns g c = inr (record {
   seen = string_bytes c.in_ok-seen.seen;
   looked = c.in_ok-seen.ensures;
   answer = c.in_ok-reported.ensures
-      ∙ ap (λ (w : List ℕ). explained c.args.run.now.explain w (done (string_bytes c.in_ok-report.report))) c.as_str.ensures.value;
+      ∙ ap (λ (w : List ℕ). explained c.args.run.now.explain w (done (string_bytes c.in_ok-report.report)))
+      c.as_str.ensures.value;
 })

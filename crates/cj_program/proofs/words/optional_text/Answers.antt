@@ -1,3 +1,4 @@
+-- optional_text: its ensures, that what get_str finds is the first value of the argument.
 use Rattle.std.proofs.Common.{sym, ◌∙◌}
 use Rattle.clap.specs.Words.{found_of}
 use Rattle.clap.proofs.WalkLemmas.{first_value-rows}

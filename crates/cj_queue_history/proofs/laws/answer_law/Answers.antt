@@ -1,3 +1,4 @@
+-- answer_law: its clause AnswerLaw, that each call of the queue is answered as the history says.
 use Rattle.cj_queue_history.proofs.Answered.{answers_agree}
 use Rattle.cj_queue_history.proofs.laws.answer_law.Goals as goal
 

@@ -1,3 +1,4 @@
+-- call_law: its clauses acts (the calls of a history's acts) and fit (the calls of any fit acts).
 use Rattle.cj_queue_history.proofs.Agreed.{acts_agree, fits_agree}
 use Rattle.cj_queue_history.proofs.laws.call_law.Goals as goal
 

@@ -1,3 +1,4 @@
+-- queue_laws: its one clause, QueuesAreStingy, which is a lemma by itself.
 use Rattle.cj_queue_laws.proofs.Queues.{queues_are_stingy}
 use Rattle.cj_queue_laws.proofs.laws.queue_laws.Goals as goal
 

@@ -1,3 +1,4 @@
+-- row_laws: its one clause, RowsStayStingy, which is a lemma by itself.
 use Rattle.cj_queue_laws.proofs.Rows.{rows_stay_stingy}
 use Rattle.cj_queue_laws.proofs.laws.row_laws.Goals as goal
 

@@ -1,3 +1,5 @@
+-- print_all: its loop; at each turn the steps so far were made and printed, the sights remember the
+-- history, and the limits are those of the beginning.
 use Rattle.std.proofs.Common.{◌≡◌, take}
 use Rattle.cj_sights.specs.Remembered.{Remembers}
 use Rattle.cj_replay.specs.Printing.{HasPlayed}
@@ -7,5 +9,7 @@ abbrev pub invariant-loop-step : goal.invariant-loop-step
 invariant-loop-step g l = record {
   remembered : Remembers l.sights l.world.history;
   limits : l.world.limits ≡ l.initial.world.limits;
-  played : HasPlayed l.zones l.initial.world.limits l.initial.world.history (take l.step-index l.steps) l.is_full l.world.history (g.W.Write.contents l.initial.out) (g.W.Write.contents l.out) l.pending;
+  played : HasPlayed l.zones l.initial.world.limits l.initial.world.history
+      (take l.step-index l.steps) l.is_full l.world.history (g.W.Write.contents l.initial.out)
+      (g.W.Write.contents l.out) l.pending;
 }

@@ -1,6 +1,8 @@
+-- drive: its loop over n, with the instant n lived through.
 use Rattle.cj_run.proofs.Done.{live_more}
 use Rattle.cj_run.proofs.drive.drive.Goals as goal
 
 pub loop-n-preserved : goal.loop-n-preserved
 loop-n-preserved g c =
-    live_more c.args.course.now c.args.cast.now.user c.loop-n.cast.user c.live_at.new.cast.user c.loop-n.n c.loop-n.invariant c.in_ok-live_at.ensures
+    live_more c.args.course.now c.args.cast.now.user c.loop-n.cast.user c.live_at.new.cast.user c.loop-n.n
+    c.loop-n.invariant c.in_ok-live_at.ensures

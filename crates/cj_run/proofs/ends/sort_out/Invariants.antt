@@ -1,3 +1,5 @@
+-- sort_out, its loop over the Jobs: due has those gone through that are due, others has the rest,
+-- and the Jobs gone through and those left are all.
 use Rattle.std.proofs.Common.{◌≡◌, ◌++◌}
 use Rattle.std.specs.Prelude.{filter, not}
 use Rattle.std.specs.Vec.Iter.{into_iter_items}

@@ -1,3 +1,4 @@
+-- create_all, its loop over the drafts: the user created the CronJobs of those gone through.
 use Rattle.std.proofs.Common.{take}
 use Rattle.cj_run.specs.Courses.{creations}
 use Rattle.cj_run.specs.Deeds.{Does}

@@ -1,3 +1,4 @@
+-- end_share: its loop; at each turn the receipts are of the ends due among the Jobs gone through.
 use Rattle.std.proofs.Common.{◌≡◌, ◌++◌, IsTrue}
 use Rattle.std.specs.Vec.Iter.{into_iter_items}
 use Rattle.cj_hub.specs.Runs.{extended}
@@ -9,6 +10,7 @@ abbrev pub invariant-loop-one : goal.invariant-loop-one
 invariant-loop-one g l = record {
   left : l.yielded ++ into_iter_items l.one-iterator ≡ l.fn.running.items;
   keeps : Keeps l.initial.pass l.pass l.receipts.items;
-  told : IsTrue g.D.Desk.tells → g.D.Desk.history l.desk ≡ extended (g.D.Desk.history l.initial.desk) (entries_of l.receipts.items);
+  told : IsTrue g.D.Desk.tells → g.D.Desk.history l.desk ≡ extended (g.D.Desk.history l.initial.desk)
+      (entries_of l.receipts.items);
   calls : calls_of l.receipts.items ≡ due_ends l.now l.yielded;
 }

@@ -1,3 +1,4 @@
+-- cut: its loop's invariant, with one share more cut off.
 use Rattle.cj_runner.proofs.Wholes.{owners_more, parts_more}
 use Rattle.cj_runner.proofs.shares.cut.Goals as goal
 
@@ -5,5 +6,6 @@ pub loop-pass-preserved : goal.loop-pass-preserved
 loop-pass-preserved c =
     let more = c.in_ok-push.ensures.items in record {
       owners = owners_more _ _ _ c.loop-pass.yielded more c.loop-pass.invariant.owners;
-      parts = parts_more _ _ _ c.min-at.result c.loop-pass.left.items _ _ more c.in_ok-rest.ensures.items c.in_ok-rest.ensures.tail c.loop-pass.invariant.parts;
+      parts = parts_more _ _ _ c.min-at.result c.loop-pass.left.items _ _ more c.in_ok-rest.ensures.items
+          c.in_ok-rest.ensures.tail c.loop-pass.invariant.parts;
     }

@@ -1,3 +1,4 @@
+-- items_of: its loop; at each turn the list leads to the Jobs so far, and the minutes are theirs.
 use Rattle.std.proofs.Common.{drop}
 use Rattle.serde_json.specs.View.{items_view}
 use Rattle.cj_scenario.specs.Minutes.{AreMinutesOf}

@@ -1,3 +1,4 @@
+-- found_of: its loop; at each turn each Job gone through stands there as found.
 use Rattle.std.proofs.Common.{◌≡◌, take, map, Some}
 use Rattle.cj_scenario.proofs.live.found_of.Given as goal
 

@@ -1,3 +1,4 @@
+-- sort: its clause ok, since the sorted Jobs are those in order of their names.
 use Rattle.std.proofs.Common.{rules}
 use Rattle.std.specs.Cmp.{IsStrictWeakOrder}
 use Rattle.std.proofs.lemmas.Cmp.{nat_list_cmp_total, on_total}
@@ -7,6 +8,7 @@ use Rattle.cj_status.proofs.Sorts.{sorted_is}
 use Rattle.cj_scenario.specs.Live.{is_before, name_cmp}
 use Rattle.cj_scenario.proofs.live.sort.Goals as goal
 
+-- To have the lesser name is an order that Jobs can be sorted by.
 by_name : IsStrictWeakOrder is_before
 by_name = ranks_by {R = name_cmp} (on_total (λ job. job.key.name) nat_list_cmp_total) (λ job. job)
 

@@ -1,3 +1,4 @@
+-- members_of: its loop; at each turn the members lead to the zones so far, and UTC is local.
 use Rattle.std.proofs.Common.{◌≡◌, Some, codes}
 use Rattle.serde_json.specs.View.{members_view}
 use Rattle.cj_zone.specs.Table.{local_zone, zones_of}

@@ -1,3 +1,4 @@
+-- cron_said: its clause ok, and its clause err where the manifest has faults.
 use Rattle.std.proofs.Common.{◌≡◌, ◌≢◌, ◌∙◌, Ok, Err, ap, sym}
 use Rattle.serde_json.specs.View.{view}
 use Rattle.cj_zone.specs.Table.{zones_of}
@@ -15,5 +16,6 @@ returns-in_err-draft-clause-err c =
 
 pub returns-clause-ok : goal.returns-clause-ok
 returns-clause-ok c =
-    cron_fine (zones_of c.args.zones.now) (view c.args.manifest.now) c.in_ok-draft.draft c.in_ok-draft.ensures.sound c.in_ok-draft.ensures.said
+    cron_fine (zones_of c.args.zones.now) (view c.args.manifest.now) c.in_ok-draft.draft c.in_ok-draft.ensures.sound
+    c.in_ok-draft.ensures.said
     ∙ ap (λ x. Ok x) (sym c.in_ok-new.ensures.ok)

@@ -1,3 +1,4 @@
+-- job_draft: its clauses ok and err, as the manifest has no fault or some.
 use Rattle.serde_json.specs.View.{view}
 use Rattle.cj_script.proofs.Drafted.{job_faulty, job_fine}
 use Rattle.cj_script.proofs.drafts.job_draft.Goals as goal

@@ -1,3 +1,4 @@
+-- script_of: its clause refused, where told_of refuses the value under its zones.
 use Rattle.std.proofs.Common.{subst}
 use Rattle.serde_json.specs.View.{view}
 use Rattle.cj_zone.specs.Table.{zones_of}

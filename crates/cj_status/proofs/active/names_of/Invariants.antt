@@ -1,3 +1,4 @@
+-- names_of: at each turn of its loop, the names are those of the Jobs before the turn's.
 use Rattle.std.proofs.Common.{◌≡◌, take}
 use Rattle.cj_status.specs.Active.{names_of}
 use Rattle.cj_status.proofs.active.names_of.Given as goal

@@ -1,3 +1,4 @@
+-- cut: its one clause, where the limit is above the count, where it is 0, and where it is neither.
 use Rattle.std.proofs.Common.{◌≡◌, ◌∙◌, ap, sym, arith}
 use Rattle.cj_status.specs.Surplus.{not_kept}
 use Rattle.cj_status.proofs.Cuts.{cut_by, cut_none, cut_all}
@@ -13,5 +14,7 @@ returns-else-limit-gt0 c =
 
 pub returns-then-limit-gt0 : goal.returns-then-limit-gt0
 returns-then-limit-gt0 c =
-    cut_by c.args.items.now.items c.as_slice.result.now c.truncate.new.self.items c.args.limit c.len-count.result c.older_count-keep.result c.index.result.now
-    c.truncate.ensures.items c.older_count-keep.ensures.place c.index.ensures c.as_slice.ensures.value (omega arith) c.requires.rises (omega arith) (omega arith)
+    cut_by c.args.items.now.items c.as_slice.result.now c.truncate.new.self.items c.args.limit c.len-count.result
+    c.older_count-keep.result c.index.result.now
+    c.truncate.ensures.items c.older_count-keep.ensures.place c.index.ensures c.as_slice.ensures.value
+    (omega arith) c.requires.rises (omega arith) (omega arith)

@@ -1,3 +1,4 @@
+-- gather: at each turn of its loop, the items are the Jobs meant of those before the turn's.
 use Rattle.std.proofs.Common.{◌≡◌, take}
 use Rattle.cj_status.specs.Picked.{gathered, picks}
 use Rattle.cj_status.proofs.listing.gather.Given as goal

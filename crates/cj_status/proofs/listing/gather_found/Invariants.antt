@@ -1,3 +1,4 @@
+-- gather_found: at each turn of its loop, the items and the unfinished Jobs of the rest are all.
 use Rattle.std.proofs.Common.{◌≡◌, ◌++◌, drop}
 use Rattle.cj_status.specs.Mine.{is_running, present}
 use Rattle.cj_status.specs.Picked.{gathered}
@@ -5,4 +6,5 @@ use Rattle.cj_status.proofs.listing.gather_found.Given as goal
 
 abbrev pub invariant-loop-one : goal.invariant-loop-one
 invariant-loop-one l =
-    l.items.items ++ gathered (is_running l.uid) (present (drop l.one-index l.found)) ≡ gathered (is_running l.uid) (present l.found)
+    l.items.items ++ gathered (is_running l.uid) (present (drop l.one-index l.found))
+    ≡ gathered (is_running l.uid) (present l.found)

@@ -1,3 +1,4 @@
+-- last_success: at each turn of its loop, the time so far and the Jobs left give the answer.
 use Rattle.std.proofs.Common.{◌≡◌, drop}
 use Rattle.cj_status.specs.Success.{success_of}
 use Rattle.cj_status.proofs.success.last_success.Given as goal

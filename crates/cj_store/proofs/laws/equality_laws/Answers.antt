@@ -1,3 +1,4 @@
+-- equality_laws: its clauses cron_specs, job_specs and owners, that the three tests are equality.
 use Rattle.cj_store.proofs.Codes.{same_is_equal}
 use Rattle.cj_store.proofs.laws.equality_laws.Goals as goal
 

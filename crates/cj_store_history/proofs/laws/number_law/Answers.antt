@@ -1,3 +1,4 @@
+-- number_law: its clauses versions (the n-th write has version n) and uids (none is given twice).
 use Rattle.cj_store_history.proofs.Numbered.{numbers_law, uid_law}
 use Rattle.cj_store_history.proofs.laws.number_law.Goals as goal
 

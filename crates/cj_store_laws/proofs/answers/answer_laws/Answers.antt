@@ -1,3 +1,4 @@
+-- answer_laws: its clauses crons and jobs, of what accepted calls on CronJobs and on Jobs answer.
 use Rattle.cj_store_laws.proofs.Answered.{cron_answers, job_answers}
 use Rattle.cj_store_laws.proofs.answers.answer_laws.Goals as goal
 

@@ -1,3 +1,4 @@
+-- sound_laws: its clauses begins, stays and planned, of what makes a content sound and keeps it so.
 use Rattle.cj_store_laws.proofs.Planned.{begins_sound, stays_sound, plans_sound}
 use Rattle.cj_store_laws.proofs.sound.sound_laws.Goals as goal
 

@@ -1,3 +1,4 @@
+-- push_drops: its loop; at each turn as many Drops are pushed as Jobs were passed.
 use Rattle.std.proofs.Common.{◌≡◌, ◌++◌, take}
 use Rattle.cj_sync.specs.Outlines.{drops_of}
 use Rattle.cj_sync.proofs.outline.push_drops.Given as goal

@@ -1,3 +1,4 @@
+-- apart_laws: its clauses places and numbers, each a lemma by itself.
 use Rattle.cj_table.proofs.Apart.{places_apart, numbers_apart}
 use Rattle.cj_table.proofs.laws.apart_laws.Goals as goal
 

@@ -1,3 +1,4 @@
+-- table_laws: all its clauses, each a lemma by itself.
 use Rattle.cj_table.proofs.Order.{places_total, places_exact}
 use Rattle.cj_table.proofs.Puts.{put_there, cut_there, remove-insert, at_put, at_cut}
 use Rattle.cj_table.proofs.laws.table_laws.Goals as goal

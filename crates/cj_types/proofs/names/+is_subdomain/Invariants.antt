@@ -1,3 +1,4 @@
+-- is_subdomain: it calls itself with fewer bytes.
 use Rattle.std.proofs.Common.{length}
 use Rattle.cj_types.proofs.names.+is_subdomain.Given as goal
 

@@ -1,3 +1,4 @@
+-- joined: its clause seam, that a character begins where the second text does.
 use Rattle.std.proofs.Common.{rules, ◌≡◌, ◌++◌, string_bytes}
 use Rattle.std.proofs.lemmas.Str.{IsCharBoundary-at_seam}
 use Rattle.cj_types.proofs.text_pair.joined.Goals as goal

@@ -1,3 +1,4 @@
+-- watch_laws: its clauses keeps_latest and tells_all, each a lemma by itself.
 use Rattle.cj_watch.proofs.Logs.{keeps_latest, tells_all}
 use Rattle.cj_watch.proofs.laws.watch_laws.Goals as goal
 

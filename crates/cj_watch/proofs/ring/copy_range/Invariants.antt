@@ -1,3 +1,4 @@
+-- copy_range: its loop; at each turn the copies are the items from the start up to the next place.
 use Rattle.std.proofs.Common.{◌≡◌, ◌-◌, take, drop}
 use Rattle.cj_watch.proofs.ring.copy_range.Given as goal
 

@@ -1,3 +1,4 @@
+-- running_lines: at each turn the text so far, with the lines of the Jobs left, is that of all.
 use Rattle.std.proofs.Common.{◌≡◌, ◌++◌, drop, string_bytes}
 use Rattle.cj_why.specs.Running.{running_lines}
 use Rattle.cj_why.proofs.running.running_lines.Given as goal

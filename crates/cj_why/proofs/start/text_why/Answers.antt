@@ -1,3 +1,4 @@
+-- text_why: its clause ok where the text does not parse, and so is no schedule.
 use Rattle.std.proofs.Common.{inr, subst, sym, ap, ◌∙◌, List, ℕ}
 use Rattle.cj_types.specs.declared.cron.CronSpec.{CronSpec}
 use Rattle.cj_schedule.specs.Grammar.{IsSchedule}

@@ -1,3 +1,4 @@
+-- sync_on: its clauses longer and ended, from what sync_once ensures of the pass and of its end.
 use Rattle.cj_worker.proofs.Passes.{ended, longer}
 use Rattle.cj_worker.proofs.work.sync_on.Goals as goal
 

@@ -1,3 +1,4 @@
+-- work, its loop: it can go on, and the pass is the one given with new receipts behind.
 use Rattle.cj_worker.specs.Ends.{Extends}
 use Rattle.cj_worker.proofs.work.work.Given as goal
 

@@ -1,3 +1,4 @@
+-- active_values, its loop over the names: values are the references by the names gone through.
 use Rattle.std.proofs.Common.{◌≡◌, map, take}
 use Rattle.serde_json.specs.View.{view}
 use Rattle.cj_written.specs.Objects.{active_data}

@@ -1,3 +1,5 @@
+-- items_have_float and members_have_float, their loops over items and members: a float is in all
+-- just where one is in those to come.
 use Rattle.std.proofs.Common.{◌≡◌, drop}
 use Rattle.serde_json.specs.View.{items_view, members_view}
 use Rattle.serde_json.specs.Written.{items_have_float, members_have_float}

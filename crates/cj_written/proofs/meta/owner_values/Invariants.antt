@@ -1,3 +1,4 @@
+-- owner_values, its loop over the owners: values are those written of the owners gone through.
 use Rattle.std.proofs.Common.{◌≡◌, map, take}
 use Rattle.serde_json.specs.View.{view}
 use Rattle.cj_written.specs.Parts.{owner_data}

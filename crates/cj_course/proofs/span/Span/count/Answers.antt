@@ -1,3 +1,4 @@
+-- Span::count: that its addition does not overflow.
 use Rattle.cj_course.proofs.Clock.{steps_fit}
 use Rattle.cj_course.proofs.span.Span.count.Goals as goal
 

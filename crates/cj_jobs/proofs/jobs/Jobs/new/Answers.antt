@@ -1,3 +1,4 @@
+-- Jobs::new: the type's invariant, that the index agrees with the Jobs, where both are empty.
 use Rattle.cj_jobs.proofs.Writes.{index_empty}
 use Rattle.cj_jobs.proofs.jobs.Jobs.new.Goals as goal
 

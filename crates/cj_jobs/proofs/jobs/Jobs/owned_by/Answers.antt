@@ -1,3 +1,4 @@
+-- Jobs::owned_by: its clause ok, and what found_jobs requires of first and last.
 use Rattle.std.proofs.Common.{◌≡◌, ◌∙◌}
 use Rattle.std.specs.declared.ops.Bound.TheVariants.{Included, Excluded}
 use Rattle.std.specs.BTreeSet.{keys_between}
@@ -12,6 +13,9 @@ found_jobs-requires c = rw (c.in_ok-first.ensures.ok, c.in_ok-last.ensures.ok) (
 
 pub returns-clause-ok : goal.returns-clause-ok
 returns-clause-ok c =
-    let e : found c.self.inside.table (keys_between owned_cmp (Included c.in_ok-first.first) (Excluded c.in_ok-last.last) c.self.inside.index) ≡ owned_by c.args.self.now c.args.key.now =
-    rw (c.in_ok-first.ensures.ok, c.in_ok-last.ensures.ok, ← c.self.view_is) (found_owned c.self.inside.table c.self.inside.index c.args.key.now c.self.invariant c.found_jobs.ensures.ordered) in
+    let e : found c.self.inside.table (keys_between owned_cmp (Included c.in_ok-first.first)
+    (Excluded c.in_ok-last.last) c.self.inside.index) ≡ owned_by c.args.self.now c.args.key.now =
+    rw (c.in_ok-first.ensures.ok, c.in_ok-last.ensures.ok, ← c.self.view_is)
+    (found_owned c.self.inside.table c.self.inside.index c.args.key.now c.self.invariant c.found_jobs.ensures.ordered)
+    in
     IfOk-weaker c.found_jobs.result _ _ (λ v h. h ∙ e) c.found_jobs.ensures.ok

@@ -1,3 +1,4 @@
+-- Jobs::remove: the type's invariant, that the index without the entry agrees with the Jobs.
 use Rattle.std.proofs.Common.{false, subst}
 use Rattle.cj_jobs.specs.Index.{Sets}
 use Rattle.cj_jobs.proofs.Writes.{index_cut}
@@ -5,5 +6,7 @@ use Rattle.cj_jobs.proofs.jobs.Jobs.remove.Goals as goal
 
 pub invariant_of-self : goal.invariant_of-self
 invariant_of-self c =
-    let sets = subst (λ e. Sets false c.self.inside.index c.cut_entry.new.index e) c.in_ok-entry.ensures.ok c.cut_entry.ensures in
-    index_cut c.self.inside.table c.remove.new.self c.self.inside.index c.cut_entry.new.index c.args.key.now c.self.invariant c.remove.ensures sets
+    let sets = subst (λ e. Sets false c.self.inside.index c.cut_entry.new.index e) c.in_ok-entry.ensures.ok
+    c.cut_entry.ensures in
+    index_cut c.self.inside.table c.remove.new.self c.self.inside.index c.cut_entry.new.index c.args.key.now
+    c.self.invariant c.remove.ensures sets

@@ -1,3 +1,4 @@
+-- Jobs::replace: the type's invariant, that the index as it was agrees with the Jobs.
 use Rattle.std.proofs.Common.{ap, ◌∙◌}
 use Rattle.std.specs.FinMap as map
 use Rattle.cj_types.specs.Keys.{Place, place_cmp}

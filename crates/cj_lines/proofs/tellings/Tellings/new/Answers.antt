@@ -1,3 +1,4 @@
+-- Tellings::new: its ensures, that it knows the history without an entry.
 use Rattle.cj_lines.proofs.OneWalk.{knows_nothing}
 use Rattle.cj_lines.proofs.tellings.Tellings.new.Goals as goal
 

@@ -1,3 +1,4 @@
+-- Tellings::read, its loop over the entries: what those gone through tell is known.
 use Rattle.std.proofs.Common.{take}
 use mathlib.Core.List.{reverse}
 use Rattle.cj_lines.specs.Tellings.{Knows}

@@ -1,3 +1,4 @@
+-- Failures::put: its one clause, that the map has the count inserted at the key.
 use Rattle.std.proofs.Common.{ap, ◌∙◌}
 use Rattle.std.specs.FinMap as map
 use Rattle.cj_queue.proofs.Counts.{counts_put}

@@ -1,3 +1,4 @@
+-- Waits::cut: its one clause, that the key is removed from the times.
 use Rattle.std.proofs.Common.{ap, ◌∙◌}
 use Rattle.std.specs.FinMap as map
 use Rattle.cj_table.proofs.Order.{places_total, places_exact}
@@ -6,5 +7,6 @@ use Rattle.cj_queue.proofs.waits.Waits.cut.Goals as goal
 
 pub returns : goal.returns
 returns c =
-    removed places_total places_exact c.self.inside.times.entries c.cut_both.new.times.entries c.args.key.now c.cut_both.ensures.leaves
+    removed places_total places_exact c.self.inside.times.entries c.cut_both.new.times.entries c.args.key.now
+    c.cut_both.ensures.leaves
     ∙ ap (λ m. map.remove m c.args.key.now) c.self.view_is

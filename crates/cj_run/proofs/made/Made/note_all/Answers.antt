@@ -1,3 +1,4 @@
+-- Made::note_all: its loop over the Jobs, with one Job more noted.
 use Rattle.std.proofs.Common.{◌∙◌, ap, nat_lt, if◌then◌else◌}
 use Rattle.cj_types.specs.declared.job.Job.{Job}
 use Rattle.cj_run.specs.Made.{noted, notes}
@@ -10,5 +11,6 @@ loop-job-preserved c =
     note_more c.args.runs.now c.args.now c.args.self.now.last c.args.jobs.now c.loop-job.job-index c.job-item.result
     before (notes c.note_new.new.self.counts c.note_new.new.self.running.items)
     c.loop-job-test.true c.job-item.is
-    (c.in_ok-note_new.ensures.ok ∙ ap (λ (j : Job). if nat_lt c.args.self.now.last j.meta.uid then noted c.args.runs.now c.args.now j before else before) c.deref.ensures)
+    (c.in_ok-note_new.ensures.ok ∙ ap (λ (j : Job). if nat_lt c.args.self.now.last j.meta.uid then noted c.args.runs.now
+    c.args.now j before else before) c.deref.ensures)
     ∙ c.loop-job.invariant

@@ -1,3 +1,4 @@
+-- Made::note_all, its loop over the Jobs: to note those left gives what to note all gave at first.
 use Rattle.std.proofs.Common.{◌≡◌, drop}
 use Rattle.cj_run.specs.Made.{noted_all, notes}
 use Rattle.cj_run.proofs.made.Made.note_all.Given as goal

@@ -1,3 +1,4 @@
+-- Seats::replace: its one clause; the insert can't fail, as the worker has a seat.
 use Rattle.std.proofs.Common.{ap, ◌∙◌}
 use Rattle.std.specs.FinMap.{insert}
 use Rattle.cj_seats.proofs.Tables.{inserted, get_is, present}
@@ -6,5 +7,6 @@ use Rattle.cj_seats.proofs.seats.Seats.replace.Goals as goal
 pub returns : goal.returns
 returns c =
     inserted c.self.inside.rows.entries c.insert.new.self.entries c.args.worker c.args.seat
-    ((present c.insert.result (get_is c.args.worker c.self.inside.rows.entries) (rw c.self.view_is c.requires) c.insert.ensures.absent c.insert.ensures.updates).0)
+    ((present c.insert.result (get_is c.args.worker c.self.inside.rows.entries)
+    (rw c.self.view_is c.requires) c.insert.ensures.absent c.insert.ensures.updates).0)
     ∙ ap (λ m. insert m c.args.worker c.args.seat) c.self.view_is

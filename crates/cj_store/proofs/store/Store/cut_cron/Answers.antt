@@ -1,5 +1,11 @@
+-- Store::cut_cron: that the store is sound without the CronJob, as the type's invariant asks for.
 use Rattle.cj_store.proofs.Kept.{cut_cron_sound}
 use Rattle.cj_store.proofs.store.Store.cut_cron.Goals as goal
 
 pub invariant_of-self : goal.invariant_of-self
-invariant_of-self c = cut_cron_sound (record { crons = c.self.inside.crons; jobs = c.self.inside.jobs; version = c.self.inside.writes; uids = c.self.inside.creations }) _ _ c.self.invariant c.remove.ensures
+invariant_of-self c = cut_cron_sound (record {
+  crons = c.self.inside.crons;
+  jobs = c.self.inside.jobs;
+  version = c.self.inside.writes;
+  uids = c.self.inside.creations;
+}) _ _ c.self.invariant c.remove.ensures

@@ -1,3 +1,4 @@
+-- Store::new: that the store with no object is sound, as the type's invariant asks for.
 use Rattle.cj_store.proofs.Kept.{new_sound}
 use Rattle.cj_store.proofs.store.Store.new.Goals as goal
 

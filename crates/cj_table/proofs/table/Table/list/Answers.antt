@@ -1,3 +1,4 @@
+-- Table::list: its clause ok, as the copies are the values of the entries in their order.
 use Rattle.std.proofs.Common.{◌++◌, ap, ◌∙◌, sym, List, append-nil}
 use Rattle.std.specs.FinMap as map
 use Rattle.cj_table.proofs.Order.{places_total, places_exact}

@@ -1,3 +1,4 @@
+-- Table::list: its loop; at each turn the copies made and the values to come are all the values.
 use Rattle.std.proofs.Common.{◌≡◌, ◌++◌}
 use Rattle.cj_table.proofs.table.Table.list.Given as goal
 

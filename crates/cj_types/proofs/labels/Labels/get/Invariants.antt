@@ -1,3 +1,4 @@
+-- Labels::get: at each turn of its loop, the value at the name is that among the entries left.
 use Rattle.std.proofs.Common.{◌≡◌, drop}
 use Rattle.cj_types.specs.LabelMap.{label_of}
 use Rattle.cj_types.proofs.labels.Labels.get.Given as goal

@@ -1,3 +1,4 @@
+-- Zone::of_file: its clause clock, by the tables that were read.
 use Rattle.cj_zone.specs.declared.rules.Rules.TheVariants as Clock
 use Rattle.cj_zone.proofs.zone.Zone.of_file.Goals as goal
 

@@ -1,3 +1,4 @@
+-- Zone::of_rule: its clause clock, by the rule that jiff read.
 use Rattle.cj_zone.specs.declared.rules.Rules.TheVariants as Clock
 use Rattle.cj_zone.proofs.zone.Zone.of_rule.Goals as goal
 

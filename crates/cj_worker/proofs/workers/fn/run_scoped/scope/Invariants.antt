@@ -1,3 +1,5 @@
+-- run_scoped, the loops of its scope: the passes of the started threads are part of those gone
+-- through; and the ends are those of the threads joined so far, in their order.
 use Rattle.std.proofs.Common.{map}
 use Rattle.std.specs.List.{AllZip}
 use Rattle.cj_worker.specs.Ends.{IsPart, Went}
