@@ -1,12 +1,7 @@
-//! The program `cronsim`. Its tests are of what no row of data shows: readers and writers that fail, words as they are
-//! kept, and what is told where words are no request.
+//! The program `cronsim`.
 #![tactic(auto)]
 
-#[cfg(test)]
-mod failing;
 mod source;
-#[cfg(test)]
-mod words;
 
 use cj_program::{Failure, Request, parse_words, serve, tell_failure, tell_fault};
 use source::Input;
