@@ -1,4 +1,4 @@
--- The path of each field in a manifest.
+-- The path of each field in a manifest, and of those that a server sets.
 use Rattle.std.specs.Prelude.{ℕ, List, codes}
 use Rattle.cj_base.specs.declared.field.Field.{Field}
 use Rattle.cj_base.specs.declared.field.Field.TheVariants as Of
@@ -16,6 +16,8 @@ path_of Of.Annotations = codes "metadata.annotations"
 path_of Of.Uid = codes "metadata.uid"
 path_of Of.ResourceVersion = codes "metadata.resourceVersion"
 path_of Of.OwnerReferences = codes "metadata.ownerReferences"
+path_of Of.CreationTimestamp = codes "metadata.creationTimestamp"
+path_of Of.ScheduledTimestamp = codes "metadata.annotations.batch.kubernetes.io/cronjob-scheduled-timestamp"
 path_of Of.Spec = codes "spec"
 path_of Of.ScheduleText = codes "spec.schedule"
 path_of Of.TimeZone = codes "spec.timeZone"
@@ -35,4 +37,10 @@ path_of Of.JobTemplateRestartPolicy = codes "spec.jobTemplate.spec.template.spec
 path_of Of.Pods = codes "spec.template"
 path_of Of.PodSpec = codes "spec.template.spec"
 path_of Of.RestartPolicy = codes "spec.template.spec.restartPolicy"
+path_of Of.Status = codes "status"
+path_of Of.Active = codes "status.active"
+path_of Of.LastScheduleTime = codes "status.lastScheduleTime"
+path_of Of.LastSuccessfulTime = codes "status.lastSuccessfulTime"
+path_of Of.Conditions = codes "status.conditions"
+path_of Of.CompletionTime = codes "status.completionTime"
 path_of Of.Zones = codes "zones"

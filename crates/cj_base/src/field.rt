@@ -3,7 +3,7 @@ ghost use Rattle.cj_base.specs.Field.{path_of};
 
 use std::fmt;
 
-/// A field that may have a fault, named by its path in the manifest.
+/// A field that may have a fault, named by its path in the manifest or in an object of a cluster.
 #[derive(Clone, Copy, Debug, PartialEq, Eq)]
 pub enum Field {
     /// The whole manifest.
@@ -18,6 +18,10 @@ pub enum Field {
     Uid,
     ResourceVersion,
     OwnerReferences,
+    /// When the server made the object.
+    CreationTimestamp,
+    /// The annotation of a Job with the time for which it was made.
+    ScheduledTimestamp,
     Spec,
     ScheduleText,
     TimeZone,
@@ -39,6 +43,12 @@ pub enum Field {
     Pods,
     PodSpec,
     RestartPolicy,
+    Status,
+    Active,
+    LastScheduleTime,
+    LastSuccessfulTime,
+    Conditions,
+    CompletionTime,
     /// The table of zones.
     Zones,
 }
@@ -60,6 +70,10 @@ impl Field {
             Field::Uid => "metadata.uid",
             Field::ResourceVersion => "metadata.resourceVersion",
             Field::OwnerReferences => "metadata.ownerReferences",
+            Field::CreationTimestamp => "metadata.creationTimestamp",
+            Field::ScheduledTimestamp => {
+                "metadata.annotations.batch.kubernetes.io/cronjob-scheduled-timestamp"
+            }
             Field::Spec => "spec",
             Field::ScheduleText => "spec.schedule",
             Field::TimeZone => "spec.timeZone",
@@ -79,6 +93,12 @@ impl Field {
             Field::Pods => "spec.template",
             Field::PodSpec => "spec.template.spec",
             Field::RestartPolicy => "spec.template.spec.restartPolicy",
+            Field::Status => "status",
+            Field::Active => "status.active",
+            Field::LastScheduleTime => "status.lastScheduleTime",
+            Field::LastSuccessfulTime => "status.lastSuccessfulTime",
+            Field::Conditions => "status.conditions",
+            Field::CompletionTime => "status.completionTime",
             Field::Zones => "zones",
         }
     }

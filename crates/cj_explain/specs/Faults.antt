@@ -6,7 +6,7 @@ use Rattle.cj_base.specs.declared.cause.Cause.TheVariants as Why
 use Rattle.cj_base.specs.declared.field.Field.{Field}
 use Rattle.cj_base.specs.declared.faults.FieldFault.{FieldFault}
 use Rattle.cj_base.specs.declared.schedule_fault.ScheduleFault.{ScheduleFault}
-use Rattle.cj_explain.specs.Fields.{choices, form, most, need, numbers}
+use Rattle.cj_explain.specs.Fields.{choices, form, most, need, numbers, text_form}
 use Rattle.cj_explain.specs.Schedules.{cause_words, placed}
 
 -- of a schedule, whose element isn't shown
@@ -29,7 +29,7 @@ cause_of field Why.WrongType = wanted (form field)
 cause_of field Why.NotSupported = wanted (choices field)
 cause_of field Why.Fraction = wanted (codes "numbers without a fraction, of 64 bits; any other as a text, like \"0.5\"")
 cause_of field Why.TooLong = wanted (most field)
-cause_of field Why.Format = wanted (codes "a to z, 0 to 9, - and in a name dots, with a letter or a digit at both ends")
+cause_of field Why.Format = wanted (text_form field)
 cause_of field Why.Range = wanted (numbers field)
 cause_of field Why.Zone = wanted (codes "a zone that is known: UTC, or one given by --zone")
 cause_of field Why.NotAllowed = codes "may not stand here"

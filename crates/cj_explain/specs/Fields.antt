@@ -23,6 +23,13 @@ form Of.TimeZone = codes "a text"
 form Of.ConcurrencyPolicy = codes "a text"
 form Of.JobTemplateRestartPolicy = codes "a text"
 form Of.RestartPolicy = codes "a text"
+form Of.CreationTimestamp = codes "a time"
+form Of.ScheduledTimestamp = codes "a time"
+form Of.LastScheduleTime = codes "a time"
+form Of.LastSuccessfulTime = codes "a time"
+form Of.CompletionTime = codes "a time"
+form Of.Active = codes "a list of objects, each with a name"
+form Of.Conditions = codes "a list of objects, each with a type and a status"
 form Of.Suspend = codes "true or false"
 form Of.StartingDeadlineSeconds = codes "a whole number"
 form Of.SuccessfulJobsHistoryLimit = codes "a whole number"
@@ -56,6 +63,17 @@ numbers Of.StartingDeadlineSeconds = codes "0 to 9223372036854775807"
 numbers Of.SuccessfulJobsHistoryLimit = codes "0 to 2147483647"
 numbers Of.FailedJobsHistoryLimit = codes "0 to 2147483647"
 numbers _ = codes "another number"
+
+-- of what form its text is
+-- rule: explain-field
+abbrev pub text_form : Field → List ℕ
+text_form Of.CreationTimestamp = codes "a time like 2024-01-01T00:00:00Z"
+text_form Of.ScheduledTimestamp = codes "a time like 2024-01-01T00:00:00Z or 2024-01-01T01:00:00+01:00"
+text_form Of.LastScheduleTime = codes "a time like 2024-01-01T00:00:00Z"
+text_form Of.LastSuccessfulTime = codes "a time like 2024-01-01T00:00:00Z"
+text_form Of.Conditions = codes "a lastTransitionTime like 2024-01-01T00:00:00Z"
+text_form Of.CompletionTime = codes "a time like 2024-01-01T00:00:00Z"
+text_form _ = codes "a to z, 0 to 9, - and in a name dots, with a letter or a digit at both ends"
 
 -- how long its text may be
 -- rule: explain-field

@@ -2,7 +2,7 @@
 ghost use Rattle.std.specs.Prelude.{◌≡◌, IfOk, string_bytes};
 ghost use Rattle.cj_explain.specs.Faults.{cause_of, fault_words, faults_words, missing, schedule_words, wanted};
 
-use crate::field::{choices, form, most, need, numbers};
+use crate::field::{choices, form, most, need, numbers, text_form};
 use crate::schedule::{cause_words, title};
 use cj_base::{Cause, Field, FieldFault, ScheduleFault};
 use std::alloc::{AllocError, Global};
@@ -44,10 +44,7 @@ fn cause_of(alloc: Global, field: Field, cause: Cause) -> Result<String, AllocEr
             "numbers without a fraction, of 64 bits; any other as a text, like \"0.5\"",
         ),
         Cause::TooLong => wanted(alloc, most(field)),
-        Cause::Format => wanted(
-            alloc,
-            "a to z, 0 to 9, - and in a name dots, with a letter or a digit at both ends",
-        ),
+        Cause::Format => wanted(alloc, text_form(field)),
         Cause::Range => wanted(alloc, numbers(field)),
         Cause::Zone => wanted(alloc, "a zone that is known: UTC, or one given by --zone"),
         Cause::NotAllowed => String::from_str(alloc, "may not stand here"),

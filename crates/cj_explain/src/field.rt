@@ -1,6 +1,6 @@
 // What each field of a manifest wants.
 ghost use Rattle.std.specs.Prelude.{◌≡◌};
-ghost use Rattle.cj_explain.specs.Fields.{choices, form, most, need, numbers};
+ghost use Rattle.cj_explain.specs.Fields.{choices, form, most, need, numbers, text_form};
 
 use cj_base::Field;
 
@@ -26,6 +26,13 @@ pub(crate) fn form(field: Field) -> &'static str
         | Field::ConcurrencyPolicy
         | Field::JobTemplateRestartPolicy
         | Field::RestartPolicy => "a text",
+        Field::CreationTimestamp
+        | Field::ScheduledTimestamp
+        | Field::LastScheduleTime
+        | Field::LastSuccessfulTime
+        | Field::CompletionTime => "a time",
+        Field::Active => "a list of objects, each with a name",
+        Field::Conditions => "a list of objects, each with a type and a status",
         Field::Suspend => "true or false",
         Field::StartingDeadlineSeconds
         | Field::SuccessfulJobsHistoryLimit
@@ -67,6 +74,23 @@ pub(crate) fn numbers(field: Field) -> &'static str
         Field::StartingDeadlineSeconds => "0 to 9223372036854775807",
         Field::SuccessfulJobsHistoryLimit | Field::FailedJobsHistoryLimit => "0 to 2147483647",
         _ => "another number",
+    }
+}
+
+/// Of what form a field's text is.
+pub(crate) fn text_form(field: Field) -> &'static str
+    ensures { result.now ≡ text_form field }
+{
+    match field {
+        Field::CreationTimestamp
+        | Field::LastScheduleTime
+        | Field::LastSuccessfulTime
+        | Field::CompletionTime => "a time like 2024-01-01T00:00:00Z",
+        Field::ScheduledTimestamp => {
+            "a time like 2024-01-01T00:00:00Z or 2024-01-01T01:00:00+01:00"
+        }
+        Field::Conditions => "a lastTransitionTime like 2024-01-01T00:00:00Z",
+        _ => "a to z, 0 to 9, - and in a name dots, with a letter or a digit at both ends",
     }
 }
 

@@ -2,7 +2,7 @@
 -- well formed.
 use Rattle.std.proofs.Common.{◌≡◌, ◌++◌, List, [], ◌∷◌, Bool, true, false, Option, Some, None, Result, Ok, Err, refl, sym, ap, subst, ◌∙◌}
 use Rattle.std.specs.Prelude.{not}
-use Rattle.std.specs.Result.{result_ok}
+use Rattle.std.specs.Result.{result_ok, result_err}
 use Rattle.serde_json.specs.Data.{Data, null, boolean, number, string, array, object}
 use Rattle.serde_json.specs.Written.{has_float}
 use Rattle.cj_base.specs.declared.cause.Cause.{Cause}
@@ -16,7 +16,7 @@ use Rattle.cj_zone.specs.declared.zone.Zone.{Zone}
 use Rattle.cj_manifest.specs.declared.kind.ObjectKind.{ObjectKind}
 use Rattle.cj_manifest.specs.declared.kind.ObjectKind.TheVariants as Of
 use Rattle.cj_manifest.specs.RowKinds.{when}
-use Rattle.cj_manifest.specs.Faults.{with_rows, metadata_faults, cron_faults, job_faults, top_faults, object_faults, cron_spec_faults, template_faults, job_spec_faults, template_fields, job_fields}
+use Rattle.cj_manifest.specs.Faults.{with_rows, metadata_faults, cron_faults, head_faults, job_faults, top_faults, object_faults, cron_spec_faults, template_faults, job_spec_faults, template_fields, job_fields}
 use Rattle.cj_manifest.specs.Drafts.{then_do, cron_draft, job_draft}
 use Rattle.cj_manifest.specs.Reading.{IsNamed, HasNames}
 use Rattle.cj_manifest.specs.Table as row
@@ -155,3 +155,18 @@ job_named d h = has_names Of.Job d (nil_left _ _ (plain (object_faults Of.Job (j
 -- For job_of: the draft of a Job's manifest without a fault isn't absent.
 pub job_there : (d : Data) → job_faults d ≡ [] → job_draft d ≡ None → ⊥
 job_there d h none = let r = job_drafted d h in some_is_there (job_draft d) r.0 r.1 none
+
+-- For head_of: name and namespace in a Job without a fault in its head have no cause.
+pub head_named : (d : Data) → head_faults d ≡ [] → HasNames Of.Job d
+head_named d h = has_names Of.Job d (plain (top_faults Of.Job) d h).1
+
+-- For head_there: what a row gives isn't absent.
+given_there : {A : Type 0} (r : Result A Cause) (x : A) (c : Cause) → r ≡ Ok x → result_err r ≡ Some c → ⊥
+given_there (Ok y) x c h e = cc e
+given_there (Err y) x c h e = cc h
+
+-- For head_of: the metadata of a Job without a fault in its head is there.
+pub head_there : (d : Data) → head_faults d ≡ [] → (c : Cause) → result_err (row.metadata d) ≡ Some c → ⊥
+head_there d h c e =
+    let m = metadata_clear Of.Job d (plain (top_faults Of.Job) d h).1 in
+    given_there (row.metadata d) m.object c m.there e

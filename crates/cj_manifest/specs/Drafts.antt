@@ -15,6 +15,7 @@ use Rattle.cj_types.specs.declared.owners.OwnerRef.{OwnerRef}
 use Rattle.cj_types.specs.declared.policy.Policy.TheVariants.{Allow}
 use Rattle.cj_types.specs.Keys.{Place, place}
 use Rattle.cj_types.specs.LabelMap.{put_label}
+use Rattle.cj_manifest.specs.declared.head.JobHead.{JobHead}
 use Rattle.cj_manifest.specs.declared.kind.ObjectKind.{ObjectKind}
 use Rattle.cj_manifest.specs.declared.kind.ObjectKind.TheVariants as Of
 use Rattle.cj_manifest.specs.Members.{present}
@@ -143,3 +144,12 @@ job_draft d =
     then_do (result_ok (row.metadata d)) (λ m.
     then_do (result_ok (row.spec d)) (λ s.
     Some (record { key = key_of Of.Job m; meta = meta_of m; owners = owners_of m; spec = compact_text s })))
+
+-- the key and the owners in the metadata of a Job
+abbrev pub head_in : Data → JobHead
+head_in m = record { key = key_of Of.Job m; owners = owners_of m }
+
+-- the head of a Job, where its metadata is there
+-- rule: cluster-job
+abbrev pub job_head : Data → Option JobHead
+job_head d = then_do (result_ok (row.metadata d)) (λ m. Some (head_in m))

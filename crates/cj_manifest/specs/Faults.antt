@@ -112,6 +112,11 @@ object_faults k spec_faults d = top_faults k d ++ with_rows At.Spec spec_faults 
 abbrev pub cron_faults : List Zone → Data → List FieldFault
 cron_faults zones d = with_rows At.Whole (object_faults Of.Cron (cron_spec_faults zones)) (row.whole d)
 
+-- of a Job's, whose spec nobody looks at
+-- rule: cluster-job
+abbrev pub head_faults : Data → List FieldFault
+head_faults d = with_rows At.Whole (top_faults Of.Job) (row.whole d)
+
 -- of a Job's
 -- rules: all-faults, job-rows
 abbrev pub job_faults : Data → List FieldFault

@@ -79,7 +79,7 @@ fn cron_key(alloc: Global, metadata: &Value) -> Result<CronKey, Refusal>
     CronKey::new(alloc, namespace, name)
 }
 
-fn job_key(alloc: Global, metadata: &Value) -> Result<Key, Refusal>
+pub(crate) fn job_key(alloc: Global, metadata: &Value) -> Result<Key, Refusal>
     requires { IsNamed Of.Job (view metadata.now) }
     ensures ok { IfOk result (λ k. k ≡ said.key_of Of.Job (view metadata.now)) }
     ensures err { IfErr result (λ e. e ≡ OutOfMemory) }
@@ -89,7 +89,7 @@ fn job_key(alloc: Global, metadata: &Value) -> Result<Key, Refusal>
     Key::new(alloc, namespace, name)
 }
 
-fn owner_refs(alloc: Global, metadata: &Value) -> Result<OwnerRefs, Refusal>
+pub(crate) fn owner_refs(alloc: Global, metadata: &Value) -> Result<OwnerRefs, Refusal>
     ensures ok { IfOk result (λ o. o ≡ said.owners_of (view metadata.now)) }
     ensures err { IfErr result (λ e. e ≡ OutOfMemory) }
 {

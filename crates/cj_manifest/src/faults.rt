@@ -275,6 +275,18 @@ pub(crate) fn cron_faults(
     Ok(faults)
 }
 
+/// The faults of a Job's manifest, whose spec nobody looks at.
+pub(crate) fn head_faults(alloc: Global, value: &Value) -> Result<FieldFaults, AllocError>
+    ensures { IfOk result (λ f. f ≡ table.head_faults (view value.now)) }
+{
+    let mut faults = FieldFaults::new(alloc);
+    match whole(value) {
+        Ok(found) => top_faults(&mut faults, ObjectKind::Job, found)?,
+        Err(cause) => note(&mut faults, Field::Whole, Some(cause))?,
+    }
+    Ok(faults)
+}
+
 /// The faults of a Job's manifest.
 pub(crate) fn job_faults(alloc: Global, value: &Value) -> Result<FieldFaults, AllocError>
     ensures { IfOk result (λ f. f ≡ table.job_faults (view value.now)) }

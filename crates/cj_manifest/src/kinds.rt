@@ -12,7 +12,7 @@ use cj_zone::ZoneTable;
 use serde_json::{Map, Value};
 
 /// A member, where null counts as absent.
-pub(crate) fn present<'v>(value: &'v Value, name: &str) -> Option<&'v Value>
+pub fn present<'v>(value: &'v Value, name: &str) -> Option<&'v Value>
     ensures { option_map (λ v. view v.now) result ≡ member_at name.now (view value.now) }
 {
     match value.get(name) {
@@ -22,7 +22,8 @@ pub(crate) fn present<'v>(value: &'v Value, name: &str) -> Option<&'v Value>
     }
 }
 
-pub(crate) fn text(value: &Value) -> Result<&str, Cause>
+/// A text.
+pub fn text(value: &Value) -> Result<&str, Cause>
     ensures fault { result_err result ≡ result_err (row.text (view value.now)) }
     ensures value { option_map (λ s. s.now) (result_ok result)
         ≡ result_ok (row.text (view value.now)) }
@@ -42,7 +43,8 @@ pub(crate) fn truth(value: &Value) -> Result<bool, Cause>
     }
 }
 
-pub(crate) fn object(value: &Value) -> Result<&Value, Cause>
+/// An object, which is handed on.
+pub fn object(value: &Value) -> Result<&Value, Cause>
     ensures fault { result_err result ≡ result_err (row.an_object (view value.now)) }
     ensures value { option_map (λ v. view v.now) (result_ok result)
         ≡ result_ok (row.an_object (view value.now)) }

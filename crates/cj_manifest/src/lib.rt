@@ -4,6 +4,7 @@
 mod draft;
 mod draft_parts;
 mod faults;
+mod head;
 mod kind;
 mod kinds;
 mod laws;
@@ -18,7 +19,10 @@ mod warning;
 mod warnings;
 
 pub use cj_written::Written;
+pub use head::{JobHead, head_of};
+pub use kinds::{object, present, text};
 pub use laws::manifest_laws;
 pub use manifest::Manifest;
 pub use read::{cron_of, job_of, read_cronjob, read_job, read_manifest};
+pub use rows::metadata;
 pub use warning::Warning;

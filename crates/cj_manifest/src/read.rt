@@ -41,8 +41,8 @@ fn value_of(alloc: Global, bytes: &[u8]) -> Result<Value, Refusal>
     }
 }
 
-// Refuses what has a fault.
-fn refuse(faults: FieldFaults) -> Result<(), Refusal>
+/// Refuses what has a fault.
+pub(crate) fn refuse(faults: FieldFaults) -> Result<(), Refusal>
     ensures sound { OnOk result (faults ≡ []) }
     ensures refused { IfErr result (HasFaults faults) }
 {

@@ -57,7 +57,8 @@ pub(crate) fn kind_row(kind: ObjectKind, value: &Value) -> Result<&str, Cause>
     }
 }
 
-pub(crate) fn metadata(value: &Value) -> Result<&Value, Cause>
+/// The object `metadata`, which must be there.
+pub fn metadata(value: &Value) -> Result<&Value, Cause>
     ensures fault { result_err result ≡ result_err (row.metadata (view value.now)) }
     ensures value { option_map (λ v. view v.now) (result_ok result)
         ≡ result_ok (row.metadata (view value.now)) }
