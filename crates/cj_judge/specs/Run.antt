@@ -1,11 +1,11 @@
 -- What a row's run gives: what the program answers to its words and input.
-use Rattle.std.specs.Prelude.{◌≡◌, ◌⊎◌, ℕ, ◌<◌, List, ◌∷◌, None, Some, codes}
+use Rattle.std.specs.Prelude.{◌≡◌, ◌⊎◌, ℕ, ◌<◌, List, [], ◌∷◌, None, Some, codes}
 use Rattle.cj_program.specs.Answers.{IsOutcome}
-use Rattle.cj_program.specs.Command.{IsOf, RefusesWords, file_of}
-use Rattle.cj_program.specs.Outcome.{Outcome, status_of}
+use Rattle.cj_words.specs.Command.{IsOf, RefusesWords, file_of}
+use Rattle.cj_answers.specs.Outcome.{Outcome, status_of}
 use Rattle.cj_program.specs.Told.{Telling, Tells}
-use Rattle.cj_program.specs.declared.request.Request.{Request}
-use Rattle.cj_program.specs.declared.word_fault.WordFault.{WordFault}
+use Rattle.cj_words.specs.declared.request.Request.{Request}
+use Rattle.cj_words.specs.declared.word_fault.WordFault.{WordFault}
 use Rattle.cj_judge.specs.declared.run.Seen.{Seen}
 
 -- the status, and the bytes on standard output and on standard error
@@ -17,10 +17,10 @@ pub record Given : Type 0 where
 abbrev pub given_of : Seen → Given
 given_of s = record { status = s.status; printed = s.printed.items; said = s.said.items }
 
--- an outcome of the request on that input
+-- an outcome of the request on that input, with no zone file read for it
 pub record IsOutcomeOf (request : Request) (input : List ℕ) (g : Given) : Type 0 where
   pub outcome : Outcome
-  pub answer : IsOutcome request (Some input) outcome
+  pub answer : IsOutcome request [] (Some input) outcome
   pub status : g.status ≡ status_of outcome.verdict
   pub printed : g.printed ≡ outcome.printed
   pub said : g.said ≡ outcome.said

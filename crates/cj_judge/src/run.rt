@@ -1,6 +1,6 @@
 // Running a row.
 ghost use Rattle.std.specs.Prelude.{◌≡◌, ◌⊎◌, map, None, Some, IfOk, OnOk, codes};
-ghost use Rattle.cj_program.specs.Command.{file_of};
+ghost use Rattle.cj_words.specs.Command.{file_of};
 ghost use Rattle.cj_judge.specs.Row.{stated_of};
 ghost use Rattle.cj_judge.specs.Run.{IsAnswered, IsRun, IsRunOf, IsToldOf, given_of};
 
@@ -49,7 +49,7 @@ fn served<T: Threads + Wait + Sync>(
     let mut input: &[u8] = input.as_bytes();
     let mut printed = Vec::new(alloc);
     let mut said = Vec::new(alloc);
-    let status = serve(rt, alloc, request, &mut input, &mut printed, &mut said);
+    let status = serve(rt, alloc, request, &[], &mut input, &mut printed, &mut said);
     Ok(Seen {
         status,
         printed,

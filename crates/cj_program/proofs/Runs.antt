@@ -11,9 +11,9 @@ use Rattle.cj_glance.specs.declared.form.Form.TheVariants as A
 use Rattle.cj_script.specs.declared.script.Script.{Script}
 use Rattle.cj_script.specs.Scripts.{IsRefusedScript, IsScript}
 use Rattle.cj_replay.specs.Replays.{IsPartOf, IsReplayed}
-use Rattle.cj_program.specs.declared.answer.Answer.{Answer}
-use Rattle.cj_program.specs.Outcome.{Outcome, done, outcome_of, status_of}
-use Rattle.cj_program.specs.Plan.{IsSceneRefusal}
+use Rattle.cj_answers.specs.declared.answer.Answer.{Answer}
+use Rattle.cj_answers.specs.Outcome.{Outcome, done, outcome_of, status_of}
+use Rattle.cj_answers.specs.Plan.{IsSceneRefusal}
 use Rattle.cj_program.specs.Replay.{EndsBadly, EndsWell, IsRead, IsReplayOutcome}
 use Rattle.cj_program.specs.Writing.{FailsReplay, IsCut, IsGiven, IsUnanswered}
 

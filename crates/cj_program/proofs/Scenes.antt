@@ -4,24 +4,15 @@ use Rattle.std.specs.Prelude.{Result, Ok, Err, IfOk}
 use Rattle.cj_output.specs.declared.failure.Failure.{Failure}
 use Rattle.cj_scenario.specs.declared.fault.SceneFault.{SceneFault}
 use Rattle.cj_scenario.specs.declared.fault.SceneFault.TheVariants as Why
-use Rattle.cj_scenario.specs.Made.{IsRefusedScene}
 use Rattle.cj_glance.specs.declared.form.Form.TheVariants as A
 use Rattle.cj_course.specs.Courses.{IsRefusedCourse}
-use Rattle.cj_program.specs.declared.answer.Answer.{Answer}
-use Rattle.cj_program.specs.Outcome.{outcome_of}
-use Rattle.cj_program.specs.Plan.{IsPlannedFor, IsSceneRefusal}
+use Rattle.cj_answers.specs.declared.answer.Answer.{Answer}
+use Rattle.cj_answers.specs.Outcome.{outcome_of}
+use Rattle.cj_answers.specs.Plan.{IsSceneRefusal}
 use Rattle.cj_program.specs.Run.{IsRanOf}
 
 -- fault is why the bytes are refused; explain says whether words for people are asked for.
 module _ (explain : Bool) (bytes : List ℕ) (fault : SceneFault) where
-  -- of `plan`: closes what a scenario is answered
-  pub scenario_refused : (now : ℕ) (r : Result Answer Failure) → IsRefusedScene bytes fault
-      → IfOk r (λ _. fault ≢ Why.Memory)
-      → IfOk r (λ a. IsSceneRefusal explain A.Scenario bytes fault (outcome_of a))
-      → IfOk r (λ a. IsPlannedFor explain bytes now (outcome_of a))
-  scenario_refused now (Ok a) why told is = inl (record { fault = fault; refused = why; told = told; says = is })
-  scenario_refused now (Err e) why told is = search rules
-
   -- of `run`: closes what the bytes are answered
   pub course_refused : (r : Result Answer Failure) → IsRefusedCourse bytes fault → IfOk r (λ _. fault ≢ Why.Memory)
       → IfOk r (λ a. IsSceneRefusal explain A.Course bytes fault (outcome_of a))

@@ -1,18 +1,23 @@
 -- What each request is answered.
 use Rattle.std.specs.Prelude.{ℕ, List, Option}
-use Rattle.cj_program.specs.Check.{IsCheckOutcome}
-use Rattle.cj_program.specs.Outcome.{IsNextOutcome, Outcome}
-use Rattle.cj_program.specs.Plan.{IsPlanOutcome}
+use Rattle.cj_answers.specs.Audit.{IsAuditOutcome}
+use Rattle.cj_answers.specs.Check.{IsCheckOutcome}
+use Rattle.cj_answers.specs.Outcome.{IsNextOutcome, Outcome}
+use Rattle.cj_answers.specs.Plan.{IsPlanOutcome}
+use Rattle.cj_answers.specs.Why.{IsWhyOutcome}
+use Rattle.cj_zoneinfo.specs.declared.file.ZoneFile.{ZoneFile}
 use Rattle.cj_program.specs.Replay.{IsReplayOutcome}
 use Rattle.cj_program.specs.Run.{IsRunOutcome}
-use Rattle.cj_program.specs.declared.request.Request.{Request}
-use Rattle.cj_program.specs.declared.request.Request.TheVariants.{Check, Next, Plan, Replay, Run}
+use Rattle.cj_words.specs.declared.request.Request.{Request}
+use Rattle.cj_words.specs.declared.request.Request.TheVariants.{Audit, Check, Next, Plan, Replay, Run, Why}
 
--- the outcome of a request on an input, where what it holds is known
+-- the outcome of a request, with the zone files that were read for it, on an input, where what it holds is known
 -- rule: statuses
-abbrev pub IsOutcome : Request → Option (List ℕ) → Outcome → Type 0
-IsOutcome (Next r) input o = IsNextOutcome r o
-IsOutcome (Check r) input o = IsCheckOutcome r input o
-IsOutcome (Plan r) input o = IsPlanOutcome r input o
-IsOutcome (Replay r) input o = IsReplayOutcome r.explain input o
-IsOutcome (Run r) input o = IsRunOutcome r input o
+abbrev pub IsOutcome : Request → List ZoneFile → Option (List ℕ) → Outcome → Type 0
+IsOutcome (Next r) files input o = IsNextOutcome r files o
+IsOutcome (Check r) files input o = IsCheckOutcome r files input o
+IsOutcome (Plan r) files input o = IsPlanOutcome r input o
+IsOutcome (Replay r) files input o = IsReplayOutcome r.explain input o
+IsOutcome (Run r) files input o = IsRunOutcome r input o
+IsOutcome (Why r) files input o = IsWhyOutcome r files input o
+IsOutcome (Audit r) files input o = IsAuditOutcome r files input o

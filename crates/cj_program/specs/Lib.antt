@@ -1,11 +1,3 @@
-pub mod Command
-pub mod NextText
-pub mod Outcome
-pub mod Json
-pub mod Coming
-pub mod Advice
-pub mod Check
-pub mod Plan
 pub mod Replay
 pub mod Run
 pub mod Answers

@@ -9,8 +9,8 @@ use Rattle.cj_glance.specs.declared.form.Form.TheVariants as A
 use Rattle.cj_script.specs.declared.script.Script.{Script}
 use Rattle.cj_script.specs.Scripts.{IsRefusedScript, IsScript}
 use Rattle.cj_replay.specs.Replays.{IsPartOf, IsReplayed}
-use Rattle.cj_program.specs.Outcome.{Outcome, done}
-use Rattle.cj_program.specs.Plan.{IsSceneRefusal}
+use Rattle.cj_answers.specs.Outcome.{Outcome, done}
+use Rattle.cj_answers.specs.Plan.{IsSceneRefusal}
 
 -- what was read, all of the input
 pub record IsRead (input : Option (List ℕ)) (bytes : List ℕ) : Type 0 where

@@ -6,9 +6,9 @@ use Rattle.cj_glance.specs.declared.form.Form.TheVariants as A
 use Rattle.cj_course.specs.Courses.{IsCourse, IsRefusedCourse}
 use Rattle.cj_course.specs.declared.course.Course.{Course}
 use Rattle.cj_run.specs.Runs.{IsRun}
-use Rattle.cj_program.specs.declared.request.RunRequest.{RunRequest}
-use Rattle.cj_program.specs.Outcome.{Outcome, done, explained}
-use Rattle.cj_program.specs.Plan.{IsAskedGlance, IsSceneRefusal}
+use Rattle.cj_words.specs.declared.request.RunRequest.{RunRequest}
+use Rattle.cj_answers.specs.Outcome.{Outcome, done, explained}
+use Rattle.cj_answers.specs.Plan.{IsAskedGlance, IsSceneRefusal}
 
 -- the bytes are no scenario of a run, for another cause than memory
 pub record RefusesCourse (explain : Bool) (bytes : List ℕ) (o : Outcome) : Type 0 where

@@ -3,10 +3,11 @@ use Rattle.std.specs.Prelude.{◌≡◌, ◌⊎◌, ℕ, List, Option, Bool}
 use Rattle.std.specs.Io.KnownBytes.{Appends, Keeps}
 use Rattle.cj_output.specs.declared.failure.Failure.{Failure}
 use Rattle.cj_output.specs.Writing.{AppendsSome, failure_line}
-use Rattle.cj_program.specs.declared.request.Request.{Request}
-use Rattle.cj_program.specs.declared.request.Request.TheVariants.{Check, Next, Plan, Replay, Run}
+use Rattle.cj_words.specs.declared.request.Request.{Request}
+use Rattle.cj_words.specs.declared.request.Request.TheVariants.{Audit, Check, Next, Plan, Replay, Run, Why}
+use Rattle.cj_zoneinfo.specs.declared.file.ZoneFile.{ZoneFile}
 use Rattle.cj_program.specs.Answers.{IsOutcome}
-use Rattle.cj_program.specs.Outcome.{Outcome, status_of}
+use Rattle.cj_answers.specs.Outcome.{Outcome, status_of}
 use Rattle.cj_program.specs.Replay.{IsFailedRun, IsReplayOutcome}
 
 -- standard output was cut off, and a line on standard error tells of which failure
@@ -37,9 +38,9 @@ pub record IsUnanswered (out out' err err' : Option (List ℕ)) : Type 0 where
   pub told : AppendsSome err err' (failure_line failure)
 
 -- the answer of the request was cut off
-pub record IsAnswerCut (request : Request) (input out out' err err' : Option (List ℕ)) : Type 0 where
+pub record IsAnswerCut (request : Request) (files : List ZoneFile) (input out out' err err' : Option (List ℕ)) : Type 0 where
   pub outcome : Outcome
-  pub answer : IsOutcome request input outcome
+  pub answer : IsOutcome request files input outcome
   pub cut : IsCut outcome.printed outcome.said out out' err err'
 
 -- the answer of `replay` was cut off
@@ -54,14 +55,16 @@ abbrev pub FailsReplay : Bool → Option (List ℕ) → Option (List ℕ) → Op
 FailsReplay explain input out out' err err' = IsUnanswered out out' err err' ⊎ IsRefusalCut explain input out out' err err' ⊎ IsFailedRun input out out' err err'
 
 -- another command did
-abbrev pub FailsAnswer : Request → Option (List ℕ) → Option (List ℕ) → Option (List ℕ) → Option (List ℕ) → Option (List ℕ) → Type 0
-FailsAnswer request input out out' err err' = IsUnanswered out out' err err' ⊎ IsAnswerCut request input out out' err err'
+abbrev pub FailsAnswer : Request → List ZoneFile → Option (List ℕ) → Option (List ℕ) → Option (List ℕ) → Option (List ℕ) → Option (List ℕ) → Type 0
+FailsAnswer request files input out out' err err' = IsUnanswered out out' err err' ⊎ IsAnswerCut request files input out out' err err'
 
 -- a request that ended with status 3
 -- rule: statuses
-abbrev pub IsFailed : Request → Option (List ℕ) → Option (List ℕ) → Option (List ℕ) → Option (List ℕ) → Option (List ℕ) → Type 0
-IsFailed (Replay r) input out out' err err' = FailsReplay r.explain input out out' err err'
-IsFailed (Next r) input out out' err err' = FailsAnswer (Next r) input out out' err err'
-IsFailed (Check r) input out out' err err' = FailsAnswer (Check r) input out out' err err'
-IsFailed (Plan r) input out out' err err' = FailsAnswer (Plan r) input out out' err err'
-IsFailed (Run r) input out out' err err' = FailsAnswer (Run r) input out out' err err'
+abbrev pub IsFailed : Request → List ZoneFile → Option (List ℕ) → Option (List ℕ) → Option (List ℕ) → Option (List ℕ) → Option (List ℕ) → Type 0
+IsFailed (Replay r) files input out out' err err' = FailsReplay r.explain input out out' err err'
+IsFailed (Next r) files input out out' err err' = FailsAnswer (Next r) files input out out' err err'
+IsFailed (Check r) files input out out' err err' = FailsAnswer (Check r) files input out out' err err'
+IsFailed (Plan r) files input out out' err err' = FailsAnswer (Plan r) files input out out' err err'
+IsFailed (Run r) files input out out' err err' = FailsAnswer (Run r) files input out out' err err'
+IsFailed (Why r) files input out out' err err' = FailsAnswer (Why r) files input out out' err err'
+IsFailed (Audit r) files input out out' err err' = FailsAnswer (Audit r) files input out out' err err'

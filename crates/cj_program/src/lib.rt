@@ -1,30 +1,19 @@
-//! The commands of the program: what the words of a command line ask for, and what they are answered.
+//! The program: what the words of a command line ask for, and what is answered, written and told.
 #![tactic(auto)]
 
-mod advice;
-mod answer;
-mod check;
-mod coming;
-mod command;
-mod help;
-mod json;
-mod lines;
-mod next;
-mod next_text;
-mod plan;
-mod plan_text;
 mod replay;
-mod request;
 mod run;
 mod serving;
 mod told;
-mod word_fault;
-mod words;
 mod writing;
 
-pub use cj_output::{Failure, tell_failure};
-pub use request::{CheckRequest, NextRequest, PlanRequest, ReplayRequest, Request, RunRequest};
+pub use cj_answers::{MOST_LIST_BYTES, MOST_LIST_READS};
+pub use cj_output::{Failure, MOST_READS, read_input, tell_failure};
+pub use cj_types::Text;
+pub use cj_words::{
+    AuditRequest, CheckRequest, NextRequest, PlanRequest, ReplayRequest, Request, RunRequest,
+    WhyRequest, WordFault, ZoneWords, parse_words,
+};
+pub use cj_zoneinfo::{FileBytes, ZoneFile, is_file_name, zones_named};
 pub use serving::serve;
 pub use told::tell_fault;
-pub use word_fault::WordFault;
-pub use words::parse_words;

@@ -2,12 +2,12 @@
 ghost use Rattle.std.specs.Prelude.{◌≡◌, ◌<◌, ◌≤◌, List, ℕ, Option, [], codes, false, true};
 ghost use Rattle.std.specs.Io.KnownBytes.{Appends};
 ghost use Rattle.cj_output.specs.Writing.{AppendsSome};
-ghost use Rattle.cj_program.specs.Outcome.{Outcome, status_of};
+ghost use Rattle.cj_answers.specs.Outcome.{Outcome, status_of};
 ghost use Rattle.cj_program.specs.Replay.{EndsBadly, EndsWell, IsRead, IsReplayOutcome};
 ghost use Rattle.cj_program.specs.Writing.{FailsReplay};
 
-use crate::plan::refused_scene;
 use crate::serving::give_answer;
+use cj_answers::refused_scene;
 use cj_glance::Form;
 use cj_output::{Failure, MOST_BYTES, MOST_READS, read_input, tell_failure};
 use cj_replay::replay;

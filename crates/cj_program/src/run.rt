@@ -1,16 +1,15 @@
 // Running the whole controller.
 ghost use Rattle.std.specs.Prelude.{◌≡◌, IfOk, string_bytes};
 ghost use Rattle.cj_course.specs.Courses.{IsCourse};
-ghost use Rattle.cj_program.specs.Outcome.{done, explained, outcome_of};
+ghost use Rattle.cj_answers.specs.Outcome.{done, explained, outcome_of};
 ghost use Rattle.cj_program.specs.Run.{IsRanOf, IsRunOutcome};
 
-use crate::answer::{Answer, Verdict};
-use crate::plan::{asked_glance, refused_scene};
-use crate::request::RunRequest;
+use cj_answers::{Answer, Verdict, asked_glance, refused_scene};
 use cj_course::{Course, read_course};
 use cj_glance::Form;
 use cj_output::{Failure, MOST_BYTES, MOST_READS, read_input};
 use cj_run::run_course;
+use cj_words::RunRequest;
 use std::alloc::{AllocError, Global};
 use std::io::Read;
 use std::sync::Wait;

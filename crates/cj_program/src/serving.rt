@@ -2,18 +2,18 @@ ghost use Rattle.std.specs.Prelude.{◌≡◌, ◌<◌, ◌≤◌, ◌⊎◌};
 ghost use Rattle.std.specs.Result.{IsOkAnd};
 ghost use Rattle.std.specs.Io.KnownBytes.{Appends};
 ghost use Rattle.cj_program.specs.Answers.{IsOutcome};
-ghost use Rattle.cj_program.specs.Outcome.{Outcome, outcome_of, status_of};
+ghost use Rattle.cj_answers.specs.Outcome.{Outcome, outcome_of, status_of};
 ghost use Rattle.cj_program.specs.Writing.{IsCut, IsFailed, IsGiven, IsUnanswered};
 
-use crate::answer::{Answer, Verdict};
-use crate::check::check_answer;
-use crate::next::next_answer;
-use crate::plan::plan_answer;
 use crate::replay::serve_replay;
-use crate::request::Request;
 use crate::run::run_answer;
 use crate::writing::give;
+use cj_answers::{
+    Answer, Verdict, audit_answer, check_answer, next_answer, plan_answer, why_answer,
+};
 use cj_output::{Failure, tell_failure};
+use cj_words::Request;
+use cj_zoneinfo::ZoneFile;
 use std::alloc::Global;
 use std::io::{Read, Write};
 use std::sync::Wait;
@@ -56,30 +56,34 @@ pub(crate) fn give_answer<W: Write, E: Write>(
     }
 }
 
-/// Serves a request, and answers the status: 0 where it is done, 1 where what it asks about is refused, 3
+/// Serves a request, for which these zone files were read, and answers the status: 0 where it is done, 1 where what it asks about is refused, 3
 /// where reading, writing or memory failed, or where a call found the history full; one line on standard
 /// error says which.
 pub fn serve<T: Threads + Wait + Sync, R: Read, W: Write, E: Write>(
     rt: &T,
     alloc: Global,
     request: &Request<'_>,
+    files: &[ZoneFile],
     input: &mut R,
     out: &mut W,
     err: &mut E,
 ) -> u8
-    ensures served { result < 3 → (o : Outcome) × IsOutcome request.now (R.remaining input.old) o
+    ensures served { result < 3 → (o : Outcome)
+        × IsOutcome request.now files.now (R.remaining input.old) o
         × (result ≡ status_of o.verdict)
         × Appends (W.contents out.old) (W.contents out.new) o.printed
         × Appends (E.contents err.old) (E.contents err.new) o.said }
-    ensures failed { result ≡ 3 → IsFailed request.now (R.remaining input.old) (W.contents out.old)
-        (W.contents out.new) (E.contents err.old) (E.contents err.new) }
+    ensures failed { result ≡ 3 → IsFailed request.now files.now (R.remaining input.old)
+        (W.contents out.old) (W.contents out.new) (E.contents err.old) (E.contents err.new) }
     ensures most { result ≤ 3 }
 {
     match request {
-        Request::Next(next) => give_answer(next_answer(alloc, next), out, err),
-        Request::Check(check) => give_answer(check_answer(alloc, check, input), out, err),
+        Request::Next(next) => give_answer(next_answer(alloc, next, files), out, err),
+        Request::Check(check) => give_answer(check_answer(alloc, check, files, input), out, err),
         Request::Plan(plan) => give_answer(plan_answer(alloc, plan, input), out, err),
         Request::Replay(replay) => serve_replay(alloc, replay.explain, input, out, err),
         Request::Run(run) => give_answer(run_answer(rt, alloc, run, input), out, err),
+        Request::Why(why) => give_answer(why_answer(alloc, why, files, input), out, err),
+        Request::Audit(audit) => give_answer(audit_answer(alloc, audit, files, input), out, err),
     }
 }

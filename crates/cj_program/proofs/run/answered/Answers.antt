@@ -1,6 +1,6 @@
 -- answered: its ensures, from the report of the run and what was seen of the bytes.
 use Rattle.std.proofs.Common.{◌∙◌, ap, inr, ℕ, List, string_bytes}
-use Rattle.cj_program.specs.Outcome.{done, explained}
+use Rattle.cj_answers.specs.Outcome.{done, explained}
 use Rattle.cj_program.proofs.run.answered.Goals as goal
 
 pub returns : goal.returns

@@ -1,0 +1,5 @@
+pub mod Checked
+pub mod Comes
+pub mod NextLemmas
+pub mod Scenes
+pub mod Zones

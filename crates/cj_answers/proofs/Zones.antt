@@ -1,0 +1,10 @@
+-- What a table of zones that is refused says.
+use Rattle.std.proofs.Common.{◌≡◌, ◌⊎◌, inl, inr}
+use Rattle.cj_zoneinfo.specs.declared.refused.Refused.{Refused}
+use Rattle.cj_zoneinfo.specs.declared.refused.Refused.TheVariants as Why
+use Rattle.cj_zoneinfo.specs.Rules.{Refuses}
+
+-- For given_zones: a refusal of a rule has its reason.
+pub none_given : (e : Refused) (P : Type 0) → e ≡ Why.Zone → Refuses e P → P
+none_given e P z (inl memory) = absurd (cc (z, memory))
+none_given e P z (inr reason) = reason.1

@@ -1,0 +1,18 @@
+-- list_audited: its ensures, from the findings of the list that was read and what is told of them.
+use Rattle.std.proofs.Common.{◌∙◌, ap, ℕ, List}
+use Rattle.std.proofs.lemmas.Result.{IfOk-weaker}
+use Rattle.cj_answers.specs.Audit.{audited}
+use Rattle.cj_answers.specs.Outcome.{explained}
+use Rattle.cj_answers.proofs.audit.list_audited.Goals as goal
+
+pub returns : goal.returns
+returns c =
+    let findings = c.in_ok-findings.findings in
+    IfOk-weaker c.told_of.result _ _ (λ a e. record {
+      list = c.args.list.now;
+      read = c.requires;
+      findings = findings;
+      found = c.in_ok-findings.ensures.ok;
+      answer = e ∙ ap (λ (w : List ℕ). explained c.args.explain w (audited c.args.list.now findings))
+          (c.as_str.ensures.value ∙ c.in_ok-words.ensures);
+    }) c.told_of.ensures

@@ -1,0 +1,26 @@
+-- planned: its ensures, from the scene's plan, why it is so, and what was seen of the bytes.
+use Rattle.std.proofs.Common.{◌++◌, ◌∙◌, ap, inr, ℕ, List, string_bytes}
+use Rattle.std.proofs.lemmas.Result.{IfOk-weaker}
+use Rattle.cj_answers.specs.Outcome.{done, explained}
+use Rattle.cj_review.specs.PlanLines.{plan_lines}
+use Rattle.cj_answers.proofs.plan.planned.Goals as goal
+
+pub returns : goal.returns
+returns c = λ bytes said looked.
+    IfOk-weaker c.printed.result _ _
+    (λ a e. inr (record {
+      scene = c.args.scene;
+      said = said;
+      steps = c.in_ok-plan.plan.steps;
+      decided = c.in_ok-plan.ensures;
+      why = string_bytes c.in_ok-why.why;
+      reason = c.in_ok-why.ensures;
+      seen = c.args.seen.now;
+      looked = looked;
+      answer = e
+          ∙ ap (λ (w : List ℕ). explained c.args.explain (w ++ c.args.seen.now) (done (plan_lines c.steps.result.now)))
+          c.as_str.ensures.value
+          ∙ ap (λ s. explained c.args.explain (string_bytes c.in_ok-why.why ++ c.args.seen.now) (done (plan_lines s)))
+          c.steps.ensures.steps;
+    }))
+    c.printed.ensures

@@ -1,0 +1,7 @@
+-- scene_answer: its ensures where the scenario is refused.
+use Rattle.cj_answers.proofs.Scenes.{scenario_refused}
+use Rattle.cj_answers.proofs.plan.scene_answer.Goals as goal
+
+pub returns-in-Err : goal.returns-in-Err
+returns-in-Err c = scenario_refused c.args.explain c.args.bytes.now c.in-Err.fault c.args.now c.refused_scene.result
+    c.in-Err.ensures.refused c.refused_scene.ensures.told c.refused_scene.ensures.says

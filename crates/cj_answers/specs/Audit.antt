@@ -1,0 +1,71 @@
+-- What `audit` answers of a cluster.
+use Rattle.std.specs.Prelude.{◌≡◌, ◌⊎◌, ℕ, ◌≤◌, ◌&&◌, List, [], ◌∷◌, ◌++◌, length, Option, IfSome, Bool, true, false, codes}
+use Rattle.std.specs.FinMap as map
+use Rattle.cj_zone.specs.declared.zone.Zone.{Zone}
+use Rattle.cj_audit.specs.declared.finding.Finding.{Finding}
+use Rattle.cj_audit.specs.Findings.{IsAudit}
+use Rattle.cj_audit.specs.Lines.{audit_lines}
+use Rattle.cj_audit.specs.Words.{audit_words}
+use Rattle.cj_kubectl.specs.Reading.{IsClusterList}
+use Rattle.cj_kubectl.specs.declared.list.ClusterList.{ClusterList}
+use Rattle.cj_words.specs.declared.request.AuditRequest.{AuditRequest}
+use Rattle.cj_zoneinfo.specs.declared.file.ZoneFile.{ZoneFile}
+use Rattle.cj_answers.specs.declared.answer.Verdict.{Verdict}
+use Rattle.cj_answers.specs.declared.answer.Verdict.TheVariants.{Done, Refused}
+use Rattle.cj_answers.specs.Clusters.{RefusesList, is_read, note_lines, note_words}
+use Rattle.cj_answers.specs.Given.{AreGiven, IsNoneGiven, pair_words}
+use Rattle.cj_answers.specs.Outcome.{Outcome, explained, refusal}
+
+abbrev pub is_clean : List Finding → Bool
+is_clean [] = true
+is_clean (f ∷ fs) = false
+
+abbrev pub verdict_by : Bool → Verdict
+verdict_by true = Done
+verdict_by false = Refused
+
+-- done where nothing was found and no item was refused
+-- rule: audit-status
+abbrev pub verdict_of : ClusterList → List Finding → Verdict
+verdict_of list findings = verdict_by (is_clean findings && is_read list.notes)
+
+-- the items that can't be used, then the findings and how many there are
+-- rule: audit-lines
+abbrev pub audited : ClusterList → List Finding → Outcome
+audited list findings = record {
+  verdict = verdict_of list findings;
+  printed = note_lines list.notes
+      ++ audit_lines (length (map.values list.cluster.crons)) (length (map.values list.cluster.jobs)) findings;
+  said = [];
+}
+
+-- of a list that was read
+pub record AuditsList (explain : Bool) (zones : List Zone) (bytes : List ℕ) (o : Outcome) : Type 0 where
+  pub list : ClusterList
+  pub read : IsClusterList zones bytes list
+  pub findings : List Finding
+  pub found : IsAudit zones list.cluster findings
+  pub answer : o ≡ explained explain (note_words list.notes ++ audit_words findings) (audited list findings)
+
+-- what the bytes of a list are answered
+abbrev pub IsAuditedOf : Bool → List Zone → List ℕ → Outcome → Type 0
+IsAuditedOf explain zones bytes o = RefusesList explain bytes o ⊎ AuditsList explain zones bytes o
+
+-- a zone is refused first, and nothing is read then
+pub record RefusesAuditZone (r : AuditRequest) (files : List ZoneFile) (o : Outcome) : Type 0 where
+  pub zones : IsNoneGiven r.zones files
+  pub answer : o ≡ explained r.explain pair_words (refusal (codes "cronsim: zone\n"))
+
+-- else what is read, all of the input, is looked over
+pub record AuditsInput (r : AuditRequest) (files : List ZoneFile) (input : Option (List ℕ)) (o : Outcome) : Type 0 where
+  pub zones : List Zone
+  pub zones_are : AreGiven r.zones files zones
+  pub bytes : List ℕ
+  pub bytes_are : IfSome input (λ xs. bytes ≡ xs)
+  pub fits : length bytes ≤ 268_435_456
+  pub audited_is : IsAuditedOf r.explain zones bytes o
+
+-- what `audit` answers, where the input is known
+-- rule: audit-lines
+abbrev pub IsAuditOutcome : AuditRequest → List ZoneFile → Option (List ℕ) → Outcome → Type 0
+IsAuditOutcome r files input o = RefusesAuditZone r files o ⊎ AuditsInput r files input o

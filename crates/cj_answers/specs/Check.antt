@@ -1,0 +1,121 @@
+-- What `check` answers of a manifest.
+use Rattle.std.specs.Prelude.{◌≡◌, ◌⊎◌, ℕ, ◌==◌, ◌≤◌, List, [], ◌∷◌, ◌++◌, length, Option, None, Some, IsNone, IfSome, Bool, false, true, codes, decimal}
+use Rattle.cj_base.specs.declared.cause.Cause.{Cause}
+use Rattle.cj_base.specs.declared.cause.Cause.TheVariants as Why
+use Rattle.cj_base.specs.declared.faults.FieldFault.{FieldFault}
+use Rattle.cj_base.specs.declared.schedule_fault.ScheduleFault.{ScheduleFault}
+use Rattle.cj_base.specs.declared.refusal.Refusal.TheVariants.{Invalid, Syntax}
+use Rattle.cj_base.specs.Field.{path_of}
+use Rattle.cj_base.specs.ScheduleCause.{cause_name}
+use Rattle.cj_types.specs.Keys.{Place}
+use Rattle.cj_zone.specs.declared.zone.Zone.{Zone}
+use Rattle.cj_manifest.specs.declared.manifest.Manifest.{Manifest}
+use Rattle.cj_manifest.specs.Either.{key_of, kind_of, manifest_draft, manifest_faults, manifest_warnings}
+use Rattle.cj_manifest.specs.Reading.{IsReading, IsRefused}
+use Rattle.cj_answers.specs.declared.answer.Verdict.TheVariants.{Refused}
+use Rattle.cj_words.specs.declared.request.CheckRequest.{CheckRequest}
+use Rattle.cj_glance.specs.declared.form.Form.TheVariants as A
+use Rattle.cj_glance.specs.Glances.{IsGlance}
+use Rattle.cj_explain.specs.Faults.{faults_words}
+use Rattle.cj_answers.specs.Json.{IsJsonWords, yaml_words}
+use Rattle.cj_answers.specs.Advice.{IsAdvice, dropped_words_all}
+use Rattle.cj_zoneinfo.specs.declared.file.ZoneFile.{ZoneFile}
+use Rattle.cj_answers.specs.Given.{AreGiven, IsNoneGiven, pair_words}
+use Rattle.cj_answers.specs.Outcome.{Outcome, done, explained, refusal}
+
+-- ---- lines
+
+-- `Schedule FIELD BYTE CAUSE`
+abbrev pub schedule_cause : ScheduleFault → List ℕ
+schedule_cause f = codes "Schedule " ++ (decimal f.field ++ (codes " " ++ (decimal f.byte ++ (codes " " ++ cause_name f.cause))))
+
+-- a cause as it is printed
+abbrev pub cause_text : Cause → List ℕ
+cause_text Why.Required = codes "Required"
+cause_text Why.WrongType = codes "Type"
+cause_text Why.NotSupported = codes "NotSupported"
+cause_text Why.Fraction = codes "Fraction"
+cause_text Why.TooLong = codes "TooLong"
+cause_text Why.Format = codes "Format"
+cause_text Why.Range = codes "Range"
+cause_text Why.Zone = codes "Zone"
+cause_text Why.NotAllowed = codes "NotAllowed"
+cause_text (Why.Schedule f) = schedule_cause f
+
+-- `refused 2 FIELD CAUSE`, a line for each fault
+abbrev pub fault_line : FieldFault → List ℕ
+fault_line f = codes "refused 2 " ++ (path_of f.field ++ (codes " " ++ (cause_text f.cause ++ codes "\n")))
+
+abbrev pub fault_lines : List FieldFault → List ℕ
+fault_lines [] = []
+fault_lines (f ∷ fs) = fault_line f ++ fault_lines fs
+
+-- `warning FIELD`, a line for each member that is dropped
+abbrev pub warning_line : List ℕ → List ℕ
+warning_line path = codes "warning " ++ (path ++ codes "\n")
+
+abbrev pub warning_lines : List (List ℕ) → List ℕ
+warning_lines [] = []
+warning_lines (w ∷ ws) = warning_line w ++ warning_lines ws
+
+-- `ok KIND NAMESPACE/NAME`
+abbrev pub ok_line : List ℕ → Place → List ℕ
+ok_line kind key = codes "ok " ++ (kind ++ (codes " " ++ (key.namespace ++ (codes "/" ++ (key.name ++ codes "\n")))))
+
+-- ---- the answer
+
+-- refused on standard output, as what a manifest's faults are for
+abbrev pub faulty : List ℕ → Outcome
+faulty lines = record { verdict = Refused; printed = lines; said = [] }
+
+-- the line of bytes that are no JSON, and where they aren't
+pub record IsNoJson (explain : Bool) (o : Outcome) : Type 0 where
+  pub words : List ℕ
+  pub place : IsJsonWords words
+  pub answer : o ≡ explained explain (words ++ yaml_words) (faulty (codes "refused 1 Syntax\n"))
+
+-- the bytes are no JSON
+pub record IsNoManifest (explain : Bool) (zones : List Zone) (bytes : List ℕ) (o : Outcome) : Type 0 where
+  pub refused : IsRefused (manifest_faults zones) bytes Syntax
+  pub says : IsNoJson explain o
+
+-- every fault is named; people are told what the text is, where it is no manifest
+pub record IsFaulty (explain : Bool) (zones : List Zone) (bytes : List ℕ) (o : Outcome) : Type 0 where
+  pub faults : List FieldFault
+  pub refused : IsRefused (manifest_faults zones) bytes (Invalid faults)
+  pub seen : List ℕ
+  pub looked : IsGlance A.Manifest bytes seen
+  pub answer : o ≡ explained explain (faults_words faults ++ seen) (faulty (fault_lines faults))
+
+-- there is none, and every member that is dropped is named; people are told what is worth a look
+pub record IsFine (explain : Bool) (zones : List Zone) (bytes : List ℕ) (o : Outcome) : Type 0 where
+  pub manifest : Manifest
+  pub warnings : List (List ℕ)
+  pub reading : IsReading Manifest (manifest_faults zones) manifest_draft manifest_warnings bytes manifest warnings
+  pub words : List ℕ
+  pub advice : IsAdvice manifest zones words
+  pub answer : o ≡ explained explain (dropped_words_all warnings ++ words)
+      (done (ok_line (kind_of manifest) (key_of manifest) ++ warning_lines warnings))
+
+-- what the bytes of a manifest are answered under these zones, its faults explained or not
+abbrev pub IsChecked : Bool → List Zone → List ℕ → Outcome → Type 0
+IsChecked explain zones bytes o = IsNoManifest explain zones bytes o ⊎ IsFaulty explain zones bytes o ⊎ IsFine explain zones bytes o
+
+-- a zone is refused first, and nothing is read then
+pub record RefusesNamedZone (r : CheckRequest) (files : List ZoneFile) (o : Outcome) : Type 0 where
+  pub zones : IsNoneGiven r.zones files
+  pub answer : o ≡ explained r.explain pair_words (refusal (codes "cronsim: zone\n"))
+
+-- else what is read, all of the input, is checked
+pub record ChecksInput (r : CheckRequest) (files : List ZoneFile) (input : Option (List ℕ)) (o : Outcome) : Type 0 where
+  pub zones : List Zone
+  pub zones_are : AreGiven r.zones files zones
+  pub bytes : List ℕ
+  pub bytes_are : IfSome input (λ xs. bytes ≡ xs)
+  pub fits : length bytes ≤ 16_777_216
+  pub checked : IsChecked r.explain zones bytes o
+
+-- what `check` answers, where the input is known
+-- rule: check-lines
+abbrev pub IsCheckOutcome : CheckRequest → List ZoneFile → Option (List ℕ) → Outcome → Type 0
+IsCheckOutcome r files input o = RefusesNamedZone r files o ⊎ ChecksInput r files input o

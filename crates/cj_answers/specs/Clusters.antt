@@ -1,0 +1,86 @@
+-- What is told of a list of a cluster's objects: the items that can't be used, and why bytes are no list.
+use Rattle.std.specs.Prelude.{◌≡◌, ◌≢◌, ℕ, List, [], ◌∷◌, ◌++◌, Bool, true, false, codes, decimal}
+use Rattle.std.specs.List.{list_all}
+use Rattle.cj_base.specs.declared.faults.FieldFault.{FieldFault}
+use Rattle.cj_explain.specs.Faults.{fault_words}
+use Rattle.cj_kubectl.specs.declared.notes.ItemNote.{ItemNote}
+use Rattle.cj_kubectl.specs.declared.notes.Said.{Said}
+use Rattle.cj_kubectl.specs.declared.notes.Said.TheVariants as Was
+use Rattle.cj_kubectl.specs.declared.fault.ListFault.{ListFault}
+use Rattle.cj_kubectl.specs.declared.fault.ListFault.TheVariants as Why
+use Rattle.cj_kubectl.specs.Reading.{IsRefusedList}
+use Rattle.cj_answers.specs.Check.{fault_line}
+use Rattle.cj_answers.specs.Json.{IsJsonWords}
+use Rattle.cj_answers.specs.Outcome.{Outcome, explained, refusal}
+
+-- ---- items
+
+-- `item N `, N counted from 1
+abbrev pub item_prefix : ℕ → List ℕ
+item_prefix n = codes "item " ++ (decimal n ++ codes " ")
+
+-- `item N refused 2 FIELD CAUSE`, a line for each fault
+abbrev pub item_fault_lines : ℕ → List FieldFault → List ℕ
+item_fault_lines n [] = []
+item_fault_lines n (f ∷ fs) = (item_prefix n ++ fault_line f) ++ item_fault_lines n fs
+
+-- `item N kind KIND` of an object that is neither a CronJob nor a Job
+abbrev pub said_lines : ℕ → Said → List ℕ
+said_lines n (Was.Kind kind) = item_prefix n ++ (codes "kind " ++ (kind ++ codes "\n"))
+said_lines n (Was.Refused faults) = item_fault_lines n faults
+
+-- of all items that can't be used, in their order
+-- rule: cluster-faults
+abbrev pub note_lines : List ItemNote → List ℕ
+note_lines [] = []
+note_lines (note ∷ notes) = said_lines note.place note.said ++ note_lines notes
+
+-- for people: what is wrong with an item, and what is wanted
+abbrev pub item_fault_words : ℕ → List FieldFault → List ℕ
+item_fault_words n [] = []
+item_fault_words n (f ∷ fs) = (item_prefix n ++ fault_words f) ++ item_fault_words n fs
+
+abbrev pub said_words : ℕ → Said → List ℕ
+said_words n (Was.Kind kind) = []
+said_words n (Was.Refused faults) = item_fault_words n faults
+
+-- rule: cluster-explained
+abbrev pub note_words : List ItemNote → List ℕ
+note_words [] = []
+note_words (note ∷ notes) = said_words note.place note.said ++ note_words notes
+
+abbrev pub is_other : Said → Bool
+is_other (Was.Kind kind) = true
+is_other (Was.Refused faults) = false
+
+-- no item was refused
+-- rule: audit-status
+abbrev pub is_read : List ItemNote → Bool
+is_read notes = list_all (λ note. is_other note.said) notes
+
+-- ---- bytes that are no list
+
+-- rule: cluster-list
+abbrev pub list_line : ListFault → List ℕ
+list_line Why.Syntax = codes "cronsim: refused 1 Syntax\n"
+list_line Why.Form = codes "cronsim: list\n"
+list_line Why.Memory = codes "cronsim: out of memory\n"
+
+abbrev pub wanted_list : List ℕ
+wanted_list = codes "FILE: want what kubectl get cronjobs,jobs -o json prints: a List, or one CronJob or Job\n"
+
+-- rule: cluster-explained
+abbrev pub IsListWords : ListFault → List ℕ → Type 0
+IsListWords Why.Syntax words = IsJsonWords words
+IsListWords Why.Form words = words ≡ wanted_list
+IsListWords Why.Memory words = words ≡ []
+
+-- the bytes are refused, for another cause than memory
+-- rule: cluster-list
+pub record RefusesList (explain : Bool) (bytes : List ℕ) (o : Outcome) : Type 0 where
+  pub fault : ListFault
+  pub refused : IsRefusedList bytes fault
+  pub told : fault ≢ Why.Memory
+  pub words : List ℕ
+  pub are : IsListWords fault words
+  pub answer : o ≡ explained explain words (refusal (list_line fault))

@@ -1,0 +1,11 @@
+pub mod Advice
+pub mod Audit
+pub mod Check
+pub mod Clusters
+pub mod Coming
+pub mod Given
+pub mod Json
+pub mod NextText
+pub mod Outcome
+pub mod Plan
+pub mod Why

@@ -1,0 +1,169 @@
+-- What the program answers to a request.
+use Rattle.std.specs.Prelude.{◌≡◌, ◌≢◌, ◌⊎◌, ℕ, ◌≤◌, List, [], ◌++◌, Option, None, Some, IsNone, Bool, true, false, bytes_eq, codes, decimal, string_bytes}
+use Rattle.std.specs.Borrow.{Bor}
+use Rattle.jiff.specs.Words.{read_whole}
+use Rattle.cj_base.specs.Instant.{last_second}
+use Rattle.cj_base.specs.ScheduleCause.{cause_name}
+use Rattle.cj_base.specs.declared.schedule_fault.ScheduleFault.{ScheduleFault}
+use Rattle.cj_schedule.specs.Matches.{Sets}
+use Rattle.cj_schedule.specs.Grammar.{IsSchedule}
+use Rattle.cj_schedule.specs.Reading.{fault_of}
+use Rattle.cj_zone.specs.declared.source.Source.TheVariants.{Rule}
+use Rattle.cj_zone.specs.declared.zone.Zone.{Zone}
+use Rattle.cj_zone.specs.Made.{IsMade}
+use Rattle.cj_zone.specs.Zones.{utc_zone, zone_named}
+use Rattle.cj_zone.specs.TimeText.{time_text_of}
+use Rattle.cj_zoneinfo.specs.declared.file.ZoneFile.{ZoneFile}
+use Rattle.cj_zoneinfo.specs.Files.{IsTableWith}
+use Rattle.cj_explain.specs.Schedules.{IsExplained}
+use Rattle.cj_answers.specs.NextText.{IsNextText}
+use Rattle.cj_answers.specs.declared.answer.Answer.{Answer}
+use Rattle.cj_answers.specs.declared.answer.Verdict.{Verdict}
+use Rattle.cj_answers.specs.declared.answer.Verdict.TheVariants.{Done, Refused}
+use Rattle.cj_words.specs.declared.request.NextRequest.{NextRequest}
+
+-- the verdict, and the bytes on standard output and on standard error
+pub record Outcome : Type 0 where
+  pub verdict : Verdict
+  pub printed : List ℕ
+  pub said : List ℕ
+
+-- the exit status of the program
+-- rule: statuses
+abbrev pub status_of : Verdict → ℕ
+status_of Done = 0
+status_of Refused = 1
+
+abbrev pub outcome_of : Answer → Outcome
+outcome_of a = record { verdict = a.verdict; printed = string_bytes a.printed; said = string_bytes a.said }
+
+-- the input was refused, with one line on standard error
+abbrev pub refusal : List ℕ → Outcome
+refusal line = record { verdict = Refused; printed = []; said = line }
+
+-- an outcome with what is said of it to people, behind the fixed lines and only where they asked for it
+-- rule: explain
+abbrev pub explained : Bool → List ℕ → Outcome → Outcome
+explained true words o = record o { said = o.said ++ words }
+explained false words o = o
+
+abbrev pub done : List ℕ → Outcome
+done text = record { verdict = Done; printed = text; said = [] }
+
+-- `cronsim: schedule FIELD BYTE CAUSE`
+abbrev pub schedule_line : ScheduleFault → List ℕ
+schedule_line f =
+    codes "cronsim: schedule "
+    ++ (decimal f.field ++ (codes " " ++ (decimal f.byte ++ (codes " " ++ (cause_name f.cause ++ codes "\n")))))
+
+-- no instant up to the end of 9998 is printed so
+abbrev pub IsNoTime : List ℕ → Type 0
+IsNoTime text = (t : ℕ) → t ≤ last_second → text ≢ time_text_of t
+
+-- the text is a printed instant up to the end of 9998
+pub record IsTime (text : List ℕ) (t : ℕ) : Type 0 where
+  pub in_range : t ≤ last_second
+  pub printed : text ≡ time_text_of t
+
+abbrev pub is_utc : List ℕ → Bool
+is_utc rule = bytes_eq rule (codes "UTC")
+
+-- the rule is one that is given, isn't `UTC`, and `jiff` refuses it
+abbrev pub IsNoRule : Option (Bor (List ℕ)) → Type 0
+IsNoRule None = ⊥
+IsNoRule (Some rule) = (is_utc rule.now ≡ false) × IsNone (read_whole rule.now)
+
+-- UTC by its name, else a zone whose clock is what `jiff` makes of the rule
+abbrev pub IsZoneBy : Bool → List ℕ → Zone → Type 0
+IsZoneBy true rule zone = zone ≡ utc_zone (codes "UTC")
+IsZoneBy false rule zone = (zone.source ≡ Rule rule) × IsMade (Rule rule)
+
+-- UTC where no rule is given, else the zone of the rule
+abbrev pub IsZoneOf : Option (Bor (List ℕ)) → Zone → Type 0
+IsZoneOf None zone = zone ≡ utc_zone (codes "UTC")
+IsZoneOf (Some rule) zone = IsZoneBy (is_utc rule.now) rule.now zone
+
+-- what a table of these files has by that name
+-- rule: zoneinfo
+pub record IsLookedUp (name : List ℕ) (files : List ZoneFile) (zone : Option Zone) : Type 0 where
+  pub zones : List Zone
+  pub table : IsTableWith [] files zones
+  pub is : zone_named name zones ≡ zone
+
+-- by the name of the zone, or by its rule, not by both
+-- rule: zoneinfo
+abbrev pub IsNextZone : Option (Bor (List ℕ)) → Option (Bor (List ℕ)) → List ZoneFile → Zone → Type 0
+IsNextZone None rule files zone = IsZoneOf rule zone
+IsNextZone (Some name) None files zone = IsLookedUp name.now files (Some zone)
+IsNextZone (Some name) (Some rule) files zone = ⊥
+
+-- there is no zone of the rule or of the name, or both are given
+abbrev pub IsNoNextZone : Option (Bor (List ℕ)) → Option (Bor (List ℕ)) → List ZoneFile → Type 0
+IsNoNextZone None rule files = IsNoRule rule
+IsNoNextZone (Some name) None files = IsLookedUp name.now files None
+IsNoNextZone (Some name) (Some rule) files = Unit {0}
+
+-- the line of a schedule's fault, and what is wrong with the text
+pub record IsScheduleRefusal (explain : Bool) (text : List ℕ) (fault : ScheduleFault) (o : Outcome) : Type 0 where
+  pub words : List ℕ
+  pub are : IsExplained text fault words
+  pub answer : o ≡ explained explain words (refusal (schedule_line fault))
+
+-- what a start has to be
+-- rule: explain
+abbrev pub after_words : List ℕ
+after_words = codes "--after: want a UTC time like 2024-01-01T00:00:00Z\n"
+
+-- what a rule has to be
+-- rule: explain
+abbrev pub rule_words : List ℕ
+rule_words = codes "--zone: want UTC or a POSIX rule like CET-1CEST,M3.5.0,M10.5.0/3\n"
+
+-- what the name of a zone has to be
+-- rule: explain
+abbrev pub time_zone_words : List ℕ
+time_zone_words =
+    codes "--time-zone: want the name of a zone whose file is in the folder of --zoneinfo, and no --zone beside it\n"
+
+abbrev pub next_zone_words : Option (Bor (List ℕ)) → List ℕ
+next_zone_words None = rule_words
+next_zone_words (Some name) = time_zone_words
+
+-- the schedule is refused first
+pub record RefusesSchedule (r : NextRequest) (o : Outcome) : Type 0 where
+  pub fault : ScheduleFault
+  pub at : fault_of r.schedule.now ≡ Some fault
+  pub told : IsScheduleRefusal r.explain r.schedule.now fault o
+
+-- then the start
+pub record RefusesTime (r : NextRequest) (o : Outcome) : Type 0 where
+  pub sets : Sets
+  pub schedule : IsSchedule r.schedule.now sets
+  pub start : IsNoTime r.after.now
+  pub answer : o ≡ explained r.explain after_words (refusal (codes "cronsim: time\n"))
+
+-- then the zone
+pub record RefusesZone (r : NextRequest) (files : List ZoneFile) (o : Outcome) : Type 0 where
+  pub sets : Sets
+  pub schedule : IsSchedule r.schedule.now sets
+  pub after : ℕ
+  pub start : IsTime r.after.now after
+  pub none : IsNoNextZone r.time_zone r.zone files
+  pub answer : o ≡ explained r.explain (next_zone_words r.time_zone) (refusal (codes "cronsim: zone\n"))
+
+-- else the due times are printed
+pub record PrintsTimes (r : NextRequest) (files : List ZoneFile) (o : Outcome) : Type 0 where
+  pub sets : Sets
+  pub schedule : IsSchedule r.schedule.now sets
+  pub after : ℕ
+  pub start : IsTime r.after.now after
+  pub zone : Zone
+  pub is_zone : IsNextZone r.time_zone r.zone files zone
+  pub text : List ℕ
+  pub times : IsNextText sets zone after r.count text
+  pub answer : o ≡ done text
+
+-- what `next` answers
+-- rule: next-lines
+abbrev pub IsNextOutcome : NextRequest → List ZoneFile → Outcome → Type 0
+IsNextOutcome r files o = RefusesSchedule r o ⊎ RefusesTime r o ⊎ RefusesZone r files o ⊎ PrintsTimes r files o

@@ -1,0 +1,120 @@
+-- What `plan` answers of a scenario.
+use Rattle.std.specs.Prelude.{◌≡◌, ◌≢◌, ◌⊎◌, ℕ, ◌≤◌, List, [], ◌∷◌, ◌++◌, length, Option, None, Some, IfSome, option_map, codes, Bool, true, false}
+use Rattle.cj_types.specs.declared.cron.CronJob.{CronJob}
+use Rattle.cj_types.specs.declared.job.Job.{Job}
+use Rattle.cj_types.specs.declared.job.JobDraft.{JobDraft}
+use Rattle.cj_types.specs.declared.policy.Reason.{Reason}
+use Rattle.cj_types.specs.Printed.{reason_name}
+use Rattle.cj_zone.specs.declared.zone.Zone.{Zone}
+use Rattle.cj_zone.specs.Table.{zones_of}
+use Rattle.cj_zone.specs.TimeText.{time_text_of}
+use Rattle.cj_zone.specs.Zones.{utc_zone, zone_named}
+use Rattle.cj_status.specs.declared.refs.JobRef.{JobRef}
+use Rattle.cj_decide.specs.declared.steps.Steps.{Steps}
+use Rattle.cj_decide.specs.Decision.{IsPlan, running_of}
+use Rattle.cj_glance.specs.declared.form.Form.{Form}
+use Rattle.cj_glance.specs.declared.form.Form.TheVariants as A
+use Rattle.cj_glance.specs.Forms.{wanted_words}
+use Rattle.cj_glance.specs.Glances.{IsGlance}
+use Rattle.cj_scenario.specs.declared.fault.SceneFault.{SceneFault}
+use Rattle.cj_scenario.specs.declared.fault.SceneFault.TheVariants as Why
+use Rattle.cj_scenario.specs.declared.scene.Scene.{Scene}
+use Rattle.cj_scenario.specs.Made.{IsRefusedScene, IsScene}
+use Rattle.cj_why.specs.Why.{IsWhy}
+use Rattle.cj_review.specs.PlanLines.{plan_lines}
+use Rattle.cj_review.specs.ZoneFor.{zone_for}
+use Rattle.cj_words.specs.declared.request.PlanRequest.{PlanRequest}
+use Rattle.cj_answers.specs.Check.{fault_line}
+use Rattle.cj_explain.specs.Faults.{fault_words}
+use Rattle.cj_answers.specs.Json.{IsJsonWords}
+use Rattle.cj_answers.specs.Outcome.{IsNoTime, IsTime, Outcome, done, explained, refusal}
+
+-- ---- lines
+
+-- the fault of a scenario
+abbrev pub scene_line : SceneFault → List ℕ
+scene_line Why.Syntax = codes "cronsim: refused 1 Syntax\n"
+scene_line Why.Form = codes "cronsim: scenario\n"
+scene_line (Why.Manifest fault) = codes "cronsim: " ++ fault_line fault
+scene_line Why.Memory = codes "cronsim: out of memory\n"
+
+-- of what form it has to be, and what it is
+pub record IsFormWords (wanted : Form) (bytes : List ℕ) (words : List ℕ) : Type 0 where
+  pub seen : List ℕ
+  pub looked : IsGlance wanted bytes seen
+  pub are : words ≡ wanted_words wanted ++ seen
+
+-- what is wrong with the bytes of a scenario
+-- rule: explain
+abbrev pub IsSceneWords : Form → List ℕ → SceneFault → List ℕ → Type 0
+IsSceneWords wanted bytes Why.Syntax words = IsJsonWords words
+IsSceneWords wanted bytes Why.Form words = IsFormWords wanted bytes words
+IsSceneWords wanted bytes (Why.Manifest fault) words = words ≡ fault_words fault
+IsSceneWords wanted bytes Why.Memory words = words ≡ []
+
+-- the line of a scenario's fault, and what is wrong with it
+pub record IsSceneRefusal (explain : Bool) (wanted : Form) (bytes : List ℕ) (fault : SceneFault) (o : Outcome) : Type 0 where
+  pub words : List ℕ
+  pub are : IsSceneWords wanted bytes fault words
+  pub answer : o ≡ explained explain words (refusal (scene_line fault))
+
+-- what a moment has to be
+-- rule: explain
+abbrev pub now_words : List ℕ
+now_words = codes "--now: want a UTC time like 2024-01-01T00:00:00Z\n"
+
+-- ---- the answer
+
+-- why a Job is started or not, where people ask for it
+-- rule: explain-why
+abbrev pub IsAskedWhy : Bool → CronJob → Option Zone → List (Option Job) → ℕ → List ℕ → Type 0
+IsAskedWhy true cron z found now words = IsWhy cron z (running_of cron found) now words
+IsAskedWhy false cron z found now words = words ≡ []
+
+-- the members that nobody reads, where people ask for them
+-- rule: explain-ignored
+abbrev pub IsAskedGlance : Bool → Form → List ℕ → List ℕ → Type 0
+IsAskedGlance true wanted bytes words = IsGlance wanted bytes words
+IsAskedGlance false wanted bytes words = words ≡ []
+
+-- the scenario is refused, for another cause than memory
+pub record RefusesScene (explain : Bool) (bytes : List ℕ) (o : Outcome) : Type 0 where
+  pub fault : SceneFault
+  pub refused : IsRefusedScene bytes fault
+  pub told : fault ≢ Why.Memory
+  pub says : IsSceneRefusal explain A.Scenario bytes fault o
+
+-- the lines of the one plan of the CronJob, its Jobs, those of them that run, the moment and its zone
+pub record PrintsPlan (explain : Bool) (bytes : List ℕ) (now : ℕ) (o : Outcome) : Type 0 where
+  pub scene : Scene
+  pub said : IsScene bytes scene
+  pub steps : Steps
+  pub decided : IsPlan (Some scene.cron) scene.jobs scene.active now (zone_for scene.cron.spec.time_zone (zones_of scene.zones)) steps
+  pub why : List ℕ
+  pub reason : IsAskedWhy explain scene.cron (zone_for scene.cron.spec.time_zone (zones_of scene.zones)) scene.active now why
+  pub seen : List ℕ
+  pub looked : IsAskedGlance explain A.Scenario bytes seen
+  pub answer : o ≡ explained explain (why ++ seen) (done (plan_lines steps))
+
+-- what the bytes of a scenario are answered
+abbrev pub IsPlannedFor : Bool → List ℕ → ℕ → Outcome → Type 0
+IsPlannedFor explain bytes now o = RefusesScene explain bytes o ⊎ PrintsPlan explain bytes now o
+
+-- the moment is refused first, and nothing is read then
+pub record RefusesMoment (r : PlanRequest) (o : Outcome) : Type 0 where
+  pub moment : IsNoTime r.moment.now
+  pub answer : o ≡ explained r.explain now_words (refusal (codes "cronsim: time\n"))
+
+-- else what is read, all of the input, is planned for
+pub record PlansInput (r : PlanRequest) (input : Option (List ℕ)) (o : Outcome) : Type 0 where
+  pub now : ℕ
+  pub moment : IsTime r.moment.now now
+  pub bytes : List ℕ
+  pub bytes_are : IfSome input (λ xs. bytes ≡ xs)
+  pub fits : length bytes ≤ 16_777_216
+  pub planned : IsPlannedFor r.explain bytes now o
+
+-- what `plan` answers, where the input is known
+-- rule: plan-lines
+abbrev pub IsPlanOutcome : PlanRequest → Option (List ℕ) → Outcome → Type 0
+IsPlanOutcome r input o = RefusesMoment r o ⊎ PlansInput r input o

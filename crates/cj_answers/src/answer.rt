@@ -1,0 +1,43 @@
+ghost use Rattle.std.specs.Prelude.{◌≡◌, IfOk};
+ghost use Rattle.cj_answers.specs.Outcome.{explained, outcome_of, refusal};
+
+use std::alloc::{AllocError, Global};
+
+/// Whether a request is done, or what it asks about is refused.
+#[derive(Clone, Copy, Debug, PartialEq, Eq)]
+pub enum Verdict {
+    Done,
+    Refused,
+}
+
+/// What a request is answered: the verdict, and the texts for standard output and standard error.
+#[derive(Debug, Drop)]
+pub struct Answer {
+    pub verdict: Verdict,
+    pub printed: String,
+    pub said: String,
+}
+
+impl Answer {
+    /// What a request is answered where its input is refused with this line on standard error.
+    pub fn refused(alloc: Global, line: &str) -> Result<Answer, AllocError>
+        ensures { IfOk result (λ a. outcome_of a ≡ refusal line.now) }
+    {
+        Ok(Answer {
+            verdict: Verdict::Refused,
+            printed: String::new(alloc),
+            said: String::from_str(alloc, line)?,
+        })
+    }
+
+    /// The same answer with what is said to people after it, where they ask for that.
+    pub fn explained(self, explain: bool, words: &str) -> Result<Answer, AllocError>
+        ensures { IfOk result (λ a. outcome_of a ≡ explained explain words.now (outcome_of self)) }
+    {
+        let mut answer = self;
+        if explain {
+            answer.said.push_str(words)?;
+        }
+        Ok(answer)
+    }
+}

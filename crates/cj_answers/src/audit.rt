@@ -1,0 +1,131 @@
+// What `audit` answers of a cluster.
+ghost use Rattle.std.specs.Prelude.{◌≡◌, ◌++◌, IfOk, string_bytes};
+ghost use Rattle.cj_zone.specs.Table.{zones_of};
+ghost use Rattle.cj_audit.specs.Words.{audit_words};
+ghost use Rattle.cj_kubectl.specs.Reading.{IsClusterList};
+ghost use Rattle.cj_answers.specs.Audit.{AuditsList, IsAuditOutcome, IsAuditedOf, audited, is_clean, verdict_by};
+ghost use Rattle.cj_answers.specs.Clusters as told;
+ghost use Rattle.cj_answers.specs.Outcome.{explained, outcome_of};
+
+use crate::answer::{Answer, Verdict};
+use crate::clusters::{is_read, note_lines, note_words, refused_list};
+use crate::given::{given_zones, refused_pair};
+use crate::why::{MOST_LIST_BYTES, MOST_LIST_READS, joined};
+use cj_audit::{Finding, Findings, audit, audit_text, audit_words};
+use cj_kubectl::{ClusterList, read_cluster};
+use cj_output::{Failure, read_input};
+use cj_words::AuditRequest;
+use cj_zone::ZoneTable;
+use cj_zoneinfo::ZoneFile;
+use std::alloc::Global;
+use std::io::Read;
+
+fn is_clean(findings: &[Finding]) -> bool
+    ensures { result ≡ is_clean findings.now }
+{
+    findings.is_empty()
+}
+
+fn verdict_by(is_well: bool) -> Verdict
+    ensures { result ≡ verdict_by is_well }
+{
+    if is_well {
+        Verdict::Done
+    } else {
+        Verdict::Refused
+    }
+}
+
+// The items that can't be used, then the findings and how many there are.
+fn printed(alloc: Global, list: &ClusterList, findings: &Findings) -> Result<Answer, Failure>
+    ensures { IfOk result (λ a. outcome_of a ≡ audited list.now findings.now) }
+{
+    let notes = list.notes.as_slice();
+    let lines = note_lines(alloc, notes)?;
+    let crons = list.cluster.crons(alloc)?;
+    let jobs = list.cluster.jobs(alloc)?;
+    let found = audit_text(
+        alloc,
+        crons.as_slice().len(),
+        jobs.as_slice().len(),
+        findings,
+    )?;
+    let is_clean = is_clean(findings.as_slice());
+    let is_read = is_read(notes);
+    Ok(Answer {
+        verdict: verdict_by(is_clean && is_read),
+        printed: joined(alloc, lines.as_str(), found.as_str())?,
+        said: String::new(alloc),
+    })
+}
+
+fn words(alloc: Global, list: &ClusterList, findings: &Findings) -> Result<String, Failure>
+    ensures { IfOk result (λ s. string_bytes s
+        ≡ told.note_words list.now.notes ++ audit_words findings.now) }
+{
+    let notes = note_words(alloc, list.notes.as_slice())?;
+    let found = audit_words(alloc, findings)?;
+    Ok(joined(alloc, notes.as_str(), found.as_str())?)
+}
+
+fn told_of(
+    alloc: Global,
+    explain: bool,
+    list: &ClusterList,
+    findings: &Findings,
+    words: &str,
+) -> Result<Answer, Failure>
+    ensures { IfOk result (λ a. outcome_of a
+        ≡ explained explain words.now (audited list.now findings.now)) }
+{
+    let answer = printed(alloc, list, findings)?;
+    Ok(answer.explained(explain, words)?)
+}
+
+fn list_audited(
+    alloc: Global,
+    explain: bool,
+    zones: &ZoneTable,
+    bytes: &[u8],
+    list: &ClusterList,
+) -> Result<Answer, Failure>
+    requires { IsClusterList (zones_of zones.now) bytes.now list.now }
+    ensures { IfOk result (λ a. AuditsList explain (zones_of zones.now) bytes.now (outcome_of a)) }
+{
+    let findings = audit(alloc, zones, &list.cluster)?;
+    let words = words(alloc, list, &findings)?;
+    told_of(alloc, explain, list, &findings, words.as_str())
+}
+
+// What the bytes of a list are answered.
+fn bytes_audited(
+    alloc: Global,
+    explain: bool,
+    zones: &ZoneTable,
+    bytes: &[u8],
+) -> Result<Answer, Failure>
+    ensures { IfOk result (λ a. IsAuditedOf explain (zones_of zones.now) bytes.now
+        (outcome_of a)) }
+{
+    match read_cluster(alloc, bytes, zones) {
+        Ok(list) => list_audited(alloc, explain, zones, bytes, &list),
+        Err(fault) => refused_list(alloc, explain, bytes, fault),
+    }
+}
+
+/// What the command `audit` answers: the zones are looked at first, then all of the input is read.
+pub fn audit_answer<R: Read>(
+    alloc: Global,
+    audit: &AuditRequest<'_>,
+    files: &[ZoneFile],
+    input: &mut R,
+) -> Result<Answer, Failure>
+    ensures { IfOk result (λ a. IsAuditOutcome audit.now files.now (R.remaining input.old)
+        (outcome_of a)) }
+{
+    let Some(zones) = given_zones(alloc, &audit.zones, files)? else {
+        return Ok(refused_pair(alloc, audit.explain)?);
+    };
+    let bytes = read_input(alloc, input, MOST_LIST_BYTES, MOST_LIST_READS)?;
+    bytes_audited(alloc, audit.explain, &zones, bytes.as_slice())
+}

@@ -1,0 +1,23 @@
+//! What the commands answer that look at a text: schedules, manifests, scenarios, clusters.
+#![tactic(auto)]
+
+mod advice;
+mod answer;
+mod audit;
+mod check;
+mod clusters;
+mod coming;
+mod given;
+mod json;
+mod lines;
+mod next;
+mod next_text;
+mod plan;
+mod why;
+
+pub use answer::{Answer, Verdict};
+pub use audit::audit_answer;
+pub use check::check_answer;
+pub use next::next_answer;
+pub use plan::{asked_glance, plan_answer, refused_scene};
+pub use why::{MOST_LIST_BYTES, MOST_LIST_READS, why_answer};

@@ -1,0 +1,173 @@
+ghost use Rattle.std.specs.Prelude.{◌≡◌, ◌⊎◌, IfOk, IfErr, IsNone, None, Some, codes, string_bytes};
+ghost use Rattle.jiff.specs.Words.{read_whole};
+ghost use Rattle.cj_base.specs.declared.refusal.Refusal.TheVariants.{OutOfMemory};
+ghost use Rattle.cj_zone.specs.declared.source.Source.TheVariants.{Rule};
+ghost use Rattle.cj_zone.specs.declared.zone.Zone.{Zone};
+ghost use Rattle.cj_zone.specs.Made.{IsMade};
+ghost use Rattle.cj_zone.specs.Table.{local_zone};
+ghost use Rattle.cj_zone.specs.Zones.{utc_zone};
+ghost use Rattle.cj_answers.specs.Outcome.{IsLookedUp, IsNextOutcome, IsNextZone, IsNoNextZone, IsNoRule, IsScheduleRefusal, IsZoneOf, after_words, explained, next_zone_words, outcome_of, refusal, schedule_line};
+
+use crate::answer::{Answer, Verdict};
+use crate::next_text::next_text;
+use cj_base::{Refusal, ScheduleFault};
+use cj_explain::explain_schedule;
+use cj_output::Failure;
+use cj_schedule::Schedule;
+use cj_words::NextRequest;
+use cj_zone::{ZoneTable, read_time};
+use cj_zoneinfo::{ZoneFile, table_with};
+use std::alloc::{AllocError, Global};
+
+fn fault_text(alloc: Global, fault: ScheduleFault) -> Result<String, AllocError>
+    ensures { IfOk result (λ s. string_bytes s ≡ schedule_line fault) }
+{
+    let ScheduleFault { field, byte, cause } = fault;
+    let cause = cause.name();
+    format!(in alloc; "cronsim: schedule {field} {byte} {cause}\n")
+}
+
+fn refused_schedule(
+    alloc: Global,
+    explain: bool,
+    text: &str,
+    fault: ScheduleFault,
+) -> Result<Answer, AllocError>
+    ensures { IfOk result (λ a. IsScheduleRefusal explain text.now fault (outcome_of a)) }
+{
+    let line = fault_text(alloc, fault)?;
+    let words = explain_schedule(alloc, text, fault)?;
+    Answer::refused(alloc, line.as_str())?.explained(explain, words.as_str())
+}
+
+// What a start has to be.
+const AFTER_WORDS: &str = "--after: want a UTC time like 2024-01-01T00:00:00Z\n";
+
+// What a rule has to be.
+const RULE_WORDS: &str = "--zone: want UTC or a POSIX rule like CET-1CEST,M3.5.0,M10.5.0/3\n";
+
+fn refused_time(alloc: Global, explain: bool) -> Result<Answer, AllocError>
+    ensures { IfOk result (λ a. outcome_of a ≡ explained explain after_words
+        (refusal (codes "cronsim: time\n"))) }
+{
+    Answer::refused(alloc, "cronsim: time\n")?.explained(explain, AFTER_WORDS)
+}
+
+// What the name of a zone has to be.
+const TIME_ZONE_WORDS: &str =
+    "--time-zone: want the name of a zone whose file is in the folder of --zoneinfo, and no --zone beside it\n";
+
+fn zone_words(name: Option<&str>) -> &'static str
+    ensures { result.now ≡ next_zone_words name.entry }
+{
+    match name {
+        None => RULE_WORDS,
+        Some(_) => TIME_ZONE_WORDS,
+    }
+}
+
+fn refused_zone(alloc: Global, explain: bool, words: &str) -> Result<Answer, AllocError>
+    ensures { IfOk result (λ a. outcome_of a ≡ explained explain words.now
+        (refusal (codes "cronsim: zone\n"))) }
+{
+    Answer::refused(alloc, "cronsim: zone\n")?.explained(explain, words)
+}
+
+const RULE_NAME: &str = "rule";
+
+// A table whose local zone is the one of the rule.
+fn zones_of_rule(alloc: Global, rule: &str) -> Result<ZoneTable, Refusal>
+    ensures ok { IfOk result (λ table. (zone : Zone) → local_zone table ≡ Some zone →
+        (zone.source ≡ Rule rule.now) × IsMade (Rule rule.now)) }
+    ensures err { IfErr result (λ e. (e ≡ OutOfMemory) ⊎ IsNone (read_whole rule.now)) }
+{
+    let mut table = ZoneTable::new(alloc)?;
+    table.add_rule(RULE_NAME, rule)?;
+    table.set_local(RULE_NAME)?;
+    Ok(table)
+}
+
+// One whose local zone is UTC.
+fn utc(alloc: Global) -> Result<ZoneTable, Refusal>
+    ensures ok { IfOk result (λ table. (zone : Zone) → local_zone table ≡ Some zone →
+        zone ≡ utc_zone (codes "UTC")) }
+    ensures err { IfErr result (λ e. e ≡ OutOfMemory) }
+{
+    ZoneTable::new(alloc)
+}
+
+// A table whose local zone is that of the rule, or UTC where no rule is given.
+fn zones(alloc: Global, rule: Option<&str>) -> Result<ZoneTable, Refusal>
+    ensures ok { IfOk result (λ table. (zone : Zone) → local_zone table ≡ Some zone →
+        IsZoneOf rule.entry zone) }
+    ensures err { IfErr result (λ e. (e ≡ OutOfMemory) ⊎ IsNoRule rule.entry) }
+{
+    match rule {
+        Some(rule) if rule != "UTC" => zones_of_rule(alloc, rule),
+        _ => utc(alloc),
+    }
+}
+
+// A table whose local zone is the one of that name among those of the files.
+fn zones_of_name(alloc: Global, name: &str, files: &[ZoneFile]) -> Result<ZoneTable, Refusal>
+    ensures ok { IfOk result (λ table. (zone : Zone) → local_zone table ≡ Some zone →
+        IsLookedUp name.now files.now (Some zone)) }
+    ensures err { IfErr result (λ e. (e ≡ OutOfMemory) ⊎ IsLookedUp name.now files.now None) }
+{
+    let Ok(mut table) = table_with(alloc, &[], files) else {
+        return Err(Refusal::OutOfMemory);
+    };
+    table.set_local(name)?;
+    Ok(table)
+}
+
+// A table whose local zone is the one that is asked for.
+fn next_zones(
+    alloc: Global,
+    name: Option<&str>,
+    rule: Option<&str>,
+    files: &[ZoneFile],
+) -> Result<ZoneTable, Refusal>
+    ensures ok { IfOk result (λ table. (zone : Zone) → local_zone table ≡ Some zone →
+        IsNextZone name.entry rule.entry files.now zone) }
+    ensures err { IfErr result (λ e. (e ≡ OutOfMemory)
+        ⊎ IsNoNextZone name.entry rule.entry files.now) }
+{
+    match (name, rule) {
+        (None, rule) => zones(alloc, rule),
+        (Some(name), None) => zones_of_name(alloc, name, files),
+        (Some(_), Some(_)) => Err(Refusal::NotFound),
+    }
+}
+
+/// What the command `next` answers: the schedule is looked at first, then the start, then the zone.
+pub fn next_answer(
+    alloc: Global,
+    next: &NextRequest<'_>,
+    files: &[ZoneFile],
+) -> Result<Answer, Failure>
+    ensures { IfOk result (λ a. IsNextOutcome next.now files.now (outcome_of a)) }
+{
+    let schedule = match Schedule::parse(next.schedule) {
+        Ok(schedule) => schedule,
+        Err(fault) => {
+            return Ok(refused_schedule(alloc, next.explain, next.schedule, fault)?);
+        }
+    };
+    let Some(after) = read_time(next.after) else {
+        return Ok(refused_time(alloc, next.explain)?);
+    };
+    let table = match next_zones(alloc, next.time_zone, next.zone, files) {
+        Ok(table) => table,
+        Err(Refusal::OutOfMemory) => return Err(Failure::Memory),
+        Err(_) => {
+            let words = zone_words(next.time_zone);
+            return Ok(refused_zone(alloc, next.explain, words)?);
+        }
+    };
+    Ok(Answer {
+        verdict: Verdict::Done,
+        printed: next_text(alloc, &schedule, table.default_zone(), after, next.count)?,
+        said: String::new(alloc),
+    })
+}

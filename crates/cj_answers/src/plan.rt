@@ -1,0 +1,268 @@
+ghost use Rattle.std.specs.Prelude.{◌≡◌, ◌≢◌, ◌++◌, ℕ, List, Some, codes, option_copied, string_bytes, IfOk};
+ghost use Rattle.cj_zone.specs.Table.{local_zone, zones_of};
+ghost use Rattle.cj_zone.specs.Zones.{utc_zone};
+ghost use Rattle.cj_decide.specs.Decision.{IsPlan};
+ghost use Rattle.cj_scenario.specs.Made.{IsScene};
+ghost use Rattle.cj_scenario.specs.declared.fault.SceneFault.TheVariants.{Form as FormFault, Manifest, Memory, Syntax};
+ghost use Rattle.cj_glance.specs.declared.form.Form.{Form as Wanted};
+ghost use Rattle.cj_glance.specs.declared.form.Form.TheVariants.{Scenario};
+ghost use Rattle.cj_explain.specs.Faults.{fault_words};
+ghost use Rattle.cj_answers.specs.Outcome.{done, explained, outcome_of, refusal};
+ghost use Rattle.cj_review.specs.PlanLines.{plan_lines};
+ghost use Rattle.cj_review.specs.ZoneFor.{zone_for};
+ghost use Rattle.cj_answers.specs.Plan.{IsAskedGlance, IsAskedWhy, IsFormWords, IsPlanOutcome, IsPlannedFor, IsSceneRefusal, now_words, scene_line};
+
+use crate::answer::{Answer, Verdict};
+use crate::json::json_words;
+use crate::lines::print_fault;
+use cj_decide::{Plan, Steps, decide};
+use cj_explain::explain_fault;
+use cj_glance::{Form, glance};
+use cj_output::{Failure, MOST_BYTES, MOST_READS, read_input};
+use cj_review::{plan_text, zone_copy, zone_of};
+use cj_scenario::{Scene, SceneFault, read_scene};
+use cj_types::{CronJob, FieldFault, Job, Seconds, Shared};
+use cj_why::why;
+use cj_words::PlanRequest;
+use cj_zone::{Zone, read_time};
+use std::alloc::{AllocError, Global};
+use std::io::Read;
+
+fn plan_of(alloc: Global, scene: Scene, now: Seconds) -> Result<Plan, Failure>
+    requires { local_zone scene.zones ≡ Some (utc_zone (codes "UTC")) }
+    ensures { IfOk result (λ p. IsPlan (Some scene.cron) scene.jobs scene.active now
+        (zone_for scene.cron.spec.time_zone (zones_of scene.zones)) p.steps) }
+{
+    let Scene {
+        zones,
+        cron,
+        jobs,
+        active,
+    } = scene;
+    let zone = zone_copy(alloc, &zones, cron.get())?;
+    Ok(decide(alloc, Some(cron), jobs, active, now, zone)?)
+}
+
+// Why a Job is started or not, where people ask for it.
+fn asked_why(
+    alloc: Global,
+    explain: bool,
+    cron: &CronJob,
+    zone: Option<&Zone>,
+    active: &[Option<Shared<Job>>],
+    now: Seconds,
+) -> Result<String, Failure>
+    ensures { IfOk result (λ s. IsAskedWhy explain cron.now (option_copied zone.entry) active.now
+        now (string_bytes s)) }
+{
+    if explain {
+        Ok(why(alloc, cron, zone, active, now)?)
+    } else {
+        Ok(String::new(alloc))
+    }
+}
+
+// The same of a scenario.
+fn scene_why(alloc: Global, explain: bool, scene: &Scene, now: Seconds) -> Result<String, Failure>
+    requires { local_zone scene.now.zones ≡ Some (utc_zone (codes "UTC")) }
+    ensures { IfOk result (λ s. IsAskedWhy explain scene.now.cron
+        (zone_for scene.now.cron.spec.time_zone (zones_of scene.now.zones)) scene.now.active now
+        (string_bytes s)) }
+{
+    let cron = scene.cron.get();
+    let zone = zone_of(&scene.zones, &cron.spec.time_zone);
+    asked_why(alloc, explain, cron, zone, scene.active.as_slice(), now)
+}
+
+fn joined(alloc: Global, why: &str, seen: &str) -> Result<String, AllocError>
+    ensures { IfOk result (λ s. string_bytes s ≡ why.now ++ seen.now) }
+{
+    let mut text = String::from_str(alloc, why)?;
+    text.push_str(seen)?;
+    Ok(text)
+}
+
+fn printed(
+    alloc: Global,
+    explain: bool,
+    steps: &Steps,
+    why: &str,
+    seen: &str,
+) -> Result<Answer, Failure>
+    ensures { IfOk result (λ a. outcome_of a ≡ explained explain (why.now ++ seen.now)
+        (done (plan_lines steps.now))) }
+{
+    let answer = Answer {
+        verdict: Verdict::Done,
+        printed: plan_text(alloc, steps)?,
+        said: String::new(alloc),
+    };
+    let words = joined(alloc, why, seen)?;
+    Ok(answer.explained(explain, words.as_str())?)
+}
+
+// The plan of a scenario, of which this was seen.
+fn planned(
+    alloc: Global,
+    explain: bool,
+    scene: Scene,
+    now: Seconds,
+    seen: &str,
+) -> Result<Answer, Failure>
+    requires { local_zone scene.zones ≡ Some (utc_zone (codes "UTC")) }
+    ensures { (bytes : List ℕ) → IsScene bytes scene →
+        IsAskedGlance explain Scenario bytes seen.now →
+        IfOk result (λ a. IsPlannedFor explain bytes now (outcome_of a)) }
+{
+    let why = scene_why(alloc, explain, &scene, now)?;
+    let plan = plan_of(alloc, scene, now)?;
+    printed(alloc, explain, plan.steps(), why.as_str(), seen)
+}
+
+fn fault_text(alloc: Global, fault: FieldFault) -> Result<String, AllocError>
+    ensures { IfOk result (λ s. string_bytes s ≡ scene_line (Manifest fault)) }
+{
+    let line = print_fault(alloc, fault)?;
+    let mut text = String::from_str(alloc, "cronsim: ")?;
+    text.push_str(line.as_str())?;
+    Ok(text)
+}
+
+fn manifest_fault(alloc: Global, explain: bool, fault: FieldFault) -> Result<Answer, AllocError>
+    ensures { IfOk result (λ a. outcome_of a ≡ explained explain (fault_words fault)
+        (refusal (scene_line (Manifest fault)))) }
+{
+    let line = fault_text(alloc, fault)?;
+    let words = explain_fault(alloc, fault)?;
+    Answer::refused(alloc, line.as_str())?.explained(explain, words.as_str())
+}
+
+fn syntax_fault(alloc: Global, explain: bool, words: &str) -> Result<Answer, AllocError>
+    ensures { IfOk result (λ a. outcome_of a ≡ explained explain words.now
+        (refusal (scene_line Syntax))) }
+{
+    Answer::refused(alloc, "cronsim: refused 1 Syntax\n")?.explained(explain, words)
+}
+
+fn no_json(alloc: Global, explain: bool, bytes: &[u8]) -> Result<Answer, Failure>
+    ensures { (wanted : Wanted) → IfOk result
+        (λ a. IsSceneRefusal explain wanted bytes.now Syntax (outcome_of a)) }
+{
+    let words = json_words(alloc, bytes)?;
+    Ok(syntax_fault(alloc, explain, words.as_str())?)
+}
+
+// Of what form the bytes have to be, and what they are.
+fn form_words(alloc: Global, wanted: Form, bytes: &[u8]) -> Result<String, Failure>
+    ensures { IfOk result (λ s. IsFormWords wanted bytes.now (string_bytes s)) }
+{
+    let seen = glance(alloc, wanted, bytes)?;
+    Ok(joined(alloc, wanted.wanted(), seen.as_str())?)
+}
+
+fn form_fault(alloc: Global, explain: bool, words: &str) -> Result<Answer, AllocError>
+    ensures { IfOk result (λ a. outcome_of a ≡ explained explain words.now
+        (refusal (scene_line FormFault))) }
+{
+    Answer::refused(alloc, "cronsim: scenario\n")?.explained(explain, words)
+}
+
+fn no_form(alloc: Global, explain: bool, wanted: Form, bytes: &[u8]) -> Result<Answer, Failure>
+    ensures { IfOk result (λ a. IsSceneRefusal explain wanted bytes.now FormFault (outcome_of a)) }
+{
+    let words = form_words(alloc, wanted, bytes)?;
+    Ok(form_fault(alloc, explain, words.as_str())?)
+}
+
+fn faulty_manifest(alloc: Global, explain: bool, fault: FieldFault) -> Result<Answer, AllocError>
+    ensures { (wanted : Wanted) (bytes : List ℕ) →
+        IfOk result (λ a. IsSceneRefusal explain wanted bytes (Manifest fault) (outcome_of a)) }
+{
+    manifest_fault(alloc, explain, fault)
+}
+
+/// What the bytes of a scenario or a script are answered that are refused.
+pub fn refused_scene(
+    alloc: Global,
+    explain: bool,
+    wanted: Form,
+    bytes: &[u8],
+    fault: SceneFault,
+) -> Result<Answer, Failure>
+    ensures told { IfOk result (λ _. fault ≢ Memory) }
+    ensures says { IfOk result (λ a. IsSceneRefusal explain wanted bytes.now fault (outcome_of a)) }
+{
+    match fault {
+        SceneFault::Syntax => no_json(alloc, explain, bytes),
+        SceneFault::Form => no_form(alloc, explain, wanted, bytes),
+        SceneFault::Manifest(fault) => Ok(faulty_manifest(alloc, explain, fault)?),
+        SceneFault::Memory => Err(Failure::Memory),
+    }
+}
+
+/// What is seen of the bytes, where people ask for it.
+pub fn asked_glance(
+    alloc: Global,
+    explain: bool,
+    wanted: Form,
+    bytes: &[u8],
+) -> Result<String, Failure>
+    ensures { IfOk result (λ s. IsAskedGlance explain wanted bytes.now (string_bytes s)) }
+{
+    if explain {
+        Ok(glance(alloc, wanted, bytes)?)
+    } else {
+        Ok(String::new(alloc))
+    }
+}
+
+// What a moment has to be.
+const NOW_WORDS: &str = "--now: want a UTC time like 2024-01-01T00:00:00Z\n";
+
+fn scene_planned(
+    alloc: Global,
+    explain: bool,
+    bytes: &[u8],
+    scene: Scene,
+    now: Seconds,
+) -> Result<Answer, Failure>
+    requires said { IsScene bytes.now scene }
+    requires local { local_zone scene.zones ≡ Some (utc_zone (codes "UTC")) }
+    ensures { IfOk result (λ a. IsPlannedFor explain bytes.now now (outcome_of a)) }
+{
+    let seen = asked_glance(alloc, explain, Form::Scenario, bytes)?;
+    planned(alloc, explain, scene, now, seen.as_str())
+}
+
+// What a scenario is answered at that moment.
+fn scene_answer(alloc: Global, explain: bool, bytes: &[u8], now: Seconds) -> Result<Answer, Failure>
+    ensures { IfOk result (λ a. IsPlannedFor explain bytes.now now (outcome_of a)) }
+{
+    match read_scene(alloc, bytes) {
+        Ok(scene) => scene_planned(alloc, explain, bytes, scene, now),
+        Err(fault) => refused_scene(alloc, explain, Form::Scenario, bytes, fault),
+    }
+}
+
+/// What is answered where a moment is refused.
+pub(crate) fn refused_moment(alloc: Global, explain: bool) -> Result<Answer, AllocError>
+    ensures { IfOk result (λ a. outcome_of a ≡ explained explain now_words
+        (refusal (codes "cronsim: time\n"))) }
+{
+    Answer::refused(alloc, "cronsim: time\n")?.explained(explain, NOW_WORDS)
+}
+
+/// What the command `plan` answers: the moment is looked at first, then all of the input is read.
+pub fn plan_answer<R: Read>(
+    alloc: Global,
+    plan: &PlanRequest<'_>,
+    input: &mut R,
+) -> Result<Answer, Failure>
+    ensures { IfOk result (λ a. IsPlanOutcome plan.now (R.remaining input.old) (outcome_of a)) }
+{
+    let Some(now) = read_time(plan.moment) else {
+        return Ok(refused_moment(alloc, plan.explain)?);
+    };
+    let bytes = read_input(alloc, input, MOST_BYTES, MOST_READS)?;
+    scene_answer(alloc, plan.explain, bytes.as_slice(), now)
+}

@@ -1,0 +1,10 @@
+pub mod Members
+pub mod Orders
+pub mod Noting
+pub mod Walks
+pub mod PairsIn
+pub mod InMaps
+pub mod RunsIn
+pub mod Controls
+pub mod OfCron
+pub mod Audited

@@ -1,0 +1,109 @@
+-- What is wrong in a cluster: Jobs that a correct controller would not have made (Kubernetes CronJob documentation,
+-- "Concurrency policy" and "CronJob limitations").
+use Rattle.std.specs.Prelude.{◌≡◌, ◌⊎◌, ℕ, Bool, false, List, Option, Some, None, All, Contains}
+use Rattle.std.specs.List.{list_any}
+use Rattle.std.specs.List.Sorted.{IsStrictlySortedBy}
+use Rattle.std.specs.FinMap as map
+use Rattle.cj_types.specs.Objects.{cron_of}
+use Rattle.cj_types.specs.declared.job.Job.{Job}
+use Rattle.cj_zone.specs.declared.zone.Zone.{Zone}
+use Rattle.cj_cluster.specs.declared.cron.ClusterCron.{ClusterCron}
+use Rattle.cj_cluster.specs.Content.{Content, is_of}
+use Rattle.cj_audit.specs.declared.kind.Exclusive.{Exclusive}
+use Rattle.cj_audit.specs.declared.kind.FindingKind.TheVariants.{Stray}
+use Rattle.cj_audit.specs.declared.finding.Finding.{Finding}
+use Rattle.cj_audit.specs.declared.pairing.Pairing.{Pairing}
+use Rattle.cj_audit.specs.declared.pairing.Pairing.TheVariants.{SameTime, SideBySide}
+use Rattle.cj_audit.specs.declared.run.Run.{Run}
+use Rattle.cj_audit.specs.Kinds.{exclusive_of}
+use Rattle.cj_audit.specs.Order.{finding_cmp}
+use Rattle.cj_audit.specs.Runs.{IsRunOf}
+use Rattle.cj_audit.specs.Pairs.{IsPairNote}
+use Rattle.cj_audit.specs.Times.{IsUndueRun, IsEarlyRun}
+
+-- two Jobs of the CronJob are such a pair
+pub record IsPairOf (p : Pairing) (content : Content) (c : ClusterCron) (f : Finding) : Type 0 where
+  pub first : Run
+  pub second : Run
+  pub first_of : IsRunOf content c first
+  pub second_of : IsRunOf content c second
+  pub note : IsPairNote p c first second f
+
+-- two Jobs of the CronJob have one scheduled time
+-- rule: audit-twice
+abbrev pub IsTwiceOf : Content → ClusterCron → Finding → Type 0
+IsTwiceOf content c f = IsPairOf SameTime content c f
+
+abbrev pub IsBesideUnder : Option Exclusive → Content → ClusterCron → Finding → Type 0
+IsBesideUnder None content c f = ⊥
+IsBesideUnder (Some e) content c f = IsPairOf (SideBySide e) content c f
+
+-- the CronJob's policy is Forbid or Replace, and two Jobs of it ran at once
+-- rule: audit-beside
+abbrev pub IsBesideOf : Content → ClusterCron → Finding → Type 0
+IsBesideOf content c f = IsBesideUnder (exclusive_of c.cron.spec.policy) content c f
+
+-- a Job of the CronJob has a scheduled time at which its schedule isn't due
+-- rule: audit-undue
+pub record IsUndueOf (zones : List Zone) (content : Content) (c : ClusterCron) (f : Finding) : Type 0 where
+  pub run : Run
+  pub run_of : IsRunOf content c run
+  pub note : IsUndueRun zones c run f
+
+-- a Job of the CronJob was created before its scheduled time
+-- rule: audit-early
+pub record IsEarlyOf (content : Content) (c : ClusterCron) (f : Finding) : Type 0 where
+  pub run : Run
+  pub run_of : IsRunOf content c run
+  pub note : IsEarlyRun c run f
+
+abbrev pub IsFindingOf : List Zone → Content → ClusterCron → Finding → Type 0
+IsFindingOf zones content c f =
+    IsTwiceOf content c f ⊎ (IsBesideOf content c f ⊎ (IsUndueOf zones content c f ⊎ IsEarlyOf content c f))
+
+-- a CronJob of the cluster controls this Job
+abbrev pub has_cron : Content → Job → Bool
+has_cron content job = list_any (λ c. is_of c job) (map.values content.crons)
+
+-- what is told of a Job whose controller reference names a CronJob
+abbrev pub stray_finding : Job → List ℕ → Finding
+stray_finding job name = record {
+  namespace = job.key.namespace;
+  cron = name;
+  time = job.meta.created;
+  first = job.key.name;
+  second = None;
+  kind = Stray;
+}
+
+-- the controller reference of the Job names a CronJob of batch/v1, and no CronJob of the cluster controls the Job: none
+-- is at that key, or one with another uid
+-- rule: audit-stray
+pub record IsStrayJob (content : Content) (job : Job) (f : Finding) : Type 0 where
+  pub name : List ℕ
+  pub named : cron_of job ≡ Some name
+  pub free : has_cron content job ≡ false
+  pub is : f ≡ stray_finding job name
+
+-- what is wrong with the Jobs of a CronJob of the cluster
+pub record IsFindingIn (zones : List Zone) (content : Content) (f : Finding) : Type 0 where
+  pub cron : ClusterCron
+  pub there : Contains (map.values content.crons) cron
+  pub finding : IsFindingOf zones content cron f
+
+-- a Job of the cluster whose CronJob isn't there
+-- rule: audit-stray
+pub record IsStray (content : Content) (f : Finding) : Type 0 where
+  pub job : Job
+  pub there : Contains (map.values content.jobs) job
+  pub stray : IsStrayJob content job f
+
+abbrev pub IsFinding : List Zone → Content → Finding → Type 0
+IsFinding zones content f = IsFindingIn zones content f ⊎ IsStray content f
+
+-- what the list has are all findings and nothing else, each once, in their order
+-- rule: audit-order
+pub record IsAudit (zones : List Zone) (content : Content) (findings : List Finding) : Type 0 where
+  pub each : All (IsFinding zones content) findings
+  pub all : (f : Finding) → IsFinding zones content f → Contains findings f
+  pub rises : IsStrictlySortedBy finding_cmp findings

@@ -1,0 +1,10 @@
+pub mod Kinds
+pub mod Order
+pub mod Runs
+pub mod Pairs
+pub mod Times
+pub mod Notes
+pub mod Findings
+pub mod Places
+pub mod Lines
+pub mod Words

@@ -1,0 +1,65 @@
+-- What is said of findings for people. That a policy or a schedule may have been changed since is said with it, as the
+-- object doesn't tell what it was.
+use Rattle.std.specs.Prelude.{ℕ, List, [], ◌∷◌, ◌++◌, codes}
+use Rattle.cj_zone.specs.TimeText.{time_text_of}
+use Rattle.cj_audit.specs.declared.kind.Exclusive.{Exclusive}
+use Rattle.cj_audit.specs.declared.kind.Exclusive.TheVariants.{UnderForbid, UnderReplace}
+use Rattle.cj_audit.specs.declared.kind.FindingKind.{FindingKind}
+use Rattle.cj_audit.specs.declared.kind.FindingKind.TheVariants.{Twice, Beside, Undue, Early, Stray}
+use Rattle.cj_audit.specs.declared.finding.Finding.{Finding}
+use Rattle.cj_audit.specs.Lines.{second_name}
+
+-- rule: audit-explained
+unfoldable pub twice_words : Finding → List ℕ → List ℕ
+twice_words f time =
+    codes "twice " ++ (f.namespace ++ (codes "/" ++ (f.cron ++ (codes ": two Jobs were made for "
+    ++ (time ++ codes "\n")))))
+
+-- rule: audit-explained
+unfoldable pub policy_words : Exclusive → List ℕ
+policy_words UnderForbid = codes "; spec.concurrencyPolicy is Forbid now, and may have been another then\n"
+policy_words UnderReplace = codes "; spec.concurrencyPolicy is Replace now, and may have been another then\n"
+
+-- rule: audit-explained
+unfoldable pub beside_words : Exclusive → Finding → List ℕ → List ℕ
+beside_words e f time =
+    codes "beside " ++ (f.namespace ++ (codes "/" ++ (f.cron ++ (codes ": " ++ (second_name f
+    ++ (codes " was created at " ++ (time ++ (codes ", while " ++ (f.first ++ (codes " ran" ++ policy_words e))))))))))
+
+-- rule: audit-explained
+unfoldable pub undue_words : Finding → List ℕ → List ℕ
+undue_words f time =
+    codes "undue " ++ (f.namespace ++ (codes "/" ++ (f.cron ++ (codes ": its schedule isn't due at "
+    ++ (time ++ codes "; it may have been another then\n")))))
+
+-- rule: audit-explained
+unfoldable pub early_words : Finding → List ℕ → List ℕ
+early_words f time =
+    codes "early " ++ (f.namespace ++ (codes "/" ++ (f.cron ++ (codes ": " ++ (f.first
+    ++ (codes " was created before " ++ (time ++ codes ", by a clock that is ahead\n")))))))
+
+-- rule: audit-explained
+unfoldable pub stray_end : List ℕ
+stray_end = codes " that isn't in the list, or one of that name made anew\n"
+
+-- rule: audit-explained
+unfoldable pub stray_words : Finding → List ℕ
+stray_words f =
+    codes "stray " ++ (f.namespace ++ (codes "/" ++ (f.first ++ (codes ": its controller is a CronJob "
+    ++ (f.cron ++ stray_end)))))
+
+abbrev pub words_by : FindingKind → Finding → List ℕ
+words_by Twice f = twice_words f (time_text_of f.time)
+words_by (Beside e) f = beside_words e f (time_text_of f.time)
+words_by Undue f = undue_words f (time_text_of f.time)
+words_by Early f = early_words f (time_text_of f.time)
+words_by Stray f = stray_words f
+
+abbrev pub finding_words : Finding → List ℕ
+finding_words f = words_by f.kind f
+
+-- a line for each, in their order
+-- rule: audit-explained
+abbrev pub audit_words : List Finding → List ℕ
+audit_words [] = []
+audit_words (f ∷ fs) = finding_words f ++ audit_words fs

@@ -1,0 +1,97 @@
+ghost use Rattle.std.specs.Prelude.{◌≡◌, Some, Ok, IsTrue, IfOk, IfErr, OnOk, All};
+ghost use Rattle.std.specs.FinMap as map;
+ghost use Rattle.cj_base.specs.declared.refusal.Refusal.TheVariants.{OutOfMemory};
+ghost use Rattle.cj_types.specs.Names.{longest, longest_cron};
+ghost use Rattle.cj_types.specs.Keys.{is_place, place};
+ghost use Rattle.cj_types.specs.Objects.{cron_of};
+ghost use Rattle.cj_audit.specs.Notes.{Notes, AnyOf};
+ghost use Rattle.cj_audit.specs.Findings.{has_cron, stray_finding, IsStrayJob};
+ghost use Rattle.cj_audit.specs.Places.{place_if, AreShort};
+
+use crate::finding::Finding;
+use crate::kind::FindingKind;
+use crate::note::note;
+use cj_cluster::Cluster;
+use cj_types::{Job, Key, Refusal, Shared, Text, TryCopy};
+use std::alloc::Global;
+use std::collections::BTreeSet;
+
+// The key of these texts, if they are well formed.
+fn key_of(alloc: Global, namespace: &str, name: &str) -> Result<Option<Key>, Refusal>
+    ensures ok { IfOk result (λ k. k ≡ place_if namespace.now name.now) }
+    ensures memory { IfErr result (λ e. e ≡ OutOfMemory) }
+{
+    match Key::new(alloc, namespace, name) {
+        Ok(key) => Ok(Some(key)),
+        Err(Refusal::OutOfMemory) => Err(Refusal::OutOfMemory),
+        Err(_) => Ok(None),
+    }
+}
+
+// Whether a CronJob of that name controls the Job, which names it.
+fn has_cron(alloc: Global, cluster: &Cluster, job: &Job, name: &Text) -> Result<bool, Refusal>
+    requires short { AreShort cluster.now.crons }
+    requires named { cron_of job.now ≡ Some name.now }
+    ensures ok { IfOk result (λ b. b ≡ has_cron cluster.now job.now) }
+    ensures memory { IfErr result (λ e. e ≡ OutOfMemory) }
+{
+    let Some(key) = key_of(alloc, job.key.namespace(), name.as_str())? else {
+        return Ok(false);
+    };
+    match cluster.cron(&key) {
+        Some(cron) => Ok(cron.controls(job)),
+        None => Ok(false),
+    }
+}
+
+fn stray_finding(alloc: Global, job: &Job, name: &Text) -> Result<Finding, Refusal>
+    ensures ok { IfOk result (λ f. f ≡ stray_finding job.now name.now) }
+    ensures memory { IfErr result (λ e. e ≡ OutOfMemory) }
+{
+    Ok(Finding {
+        namespace: Text::new(alloc, job.key.namespace())?,
+        cron: name.try_copy(alloc)?,
+        time: job.meta.created,
+        first: Text::new(alloc, job.key.name())?,
+        second: None,
+        kind: FindingKind::Stray,
+    })
+}
+
+// Notes the Job, if it names a CronJob that doesn't control it or isn't there.
+fn note_stray(
+    alloc: Global,
+    cluster: &Cluster,
+    job: &Job,
+    notes: &mut BTreeSet<Finding>,
+) -> Result<(), Refusal>
+    requires { AreShort cluster.now.crons }
+    ensures ok { OnOk result (Notes (IsStrayJob cluster.now job.now) notes.old notes.new) }
+    ensures memory { IfErr result (λ e. e ≡ OutOfMemory) }
+{
+    let Some(name) = job.cron_name() else {
+        return Ok(());
+    };
+    if has_cron(alloc, cluster, job, name)? {
+        return Ok(());
+    }
+    note(notes, stray_finding(alloc, job, name)?)
+}
+
+/// Notes the Jobs whose CronJob isn't there.
+pub(crate) fn note_strays(
+    alloc: Global,
+    cluster: &Cluster,
+    notes: &mut BTreeSet<Finding>,
+) -> Result<(), Refusal>
+    requires { AreShort cluster.now.crons }
+    ensures ok { OnOk result (Notes (AnyOf (IsStrayJob cluster.now) (map.values cluster.now.jobs))
+        notes.old notes.new) }
+    ensures memory { IfErr result (λ e. e ≡ OutOfMemory) }
+{
+    let jobs = cluster.jobs(alloc)?;
+    for job in jobs.as_slice() {
+        note_stray(alloc, cluster, job.get(), notes)?;
+    }
+    Ok(())
+}

@@ -1,0 +1,10 @@
+use cj_types::Seconds;
+
+/// What a cluster says of a Job's times beside that of its creation.
+#[derive(Clone, Copy, Debug, PartialEq, Eq)]
+pub struct JobTimes {
+    /// The scheduled time that it was made for, where an annotation says it.
+    pub scheduled: Option<Seconds>,
+    /// When it ended, if it did.
+    pub ended: Option<Seconds>,
+}

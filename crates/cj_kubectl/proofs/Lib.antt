@@ -1,0 +1,6 @@
+pub mod InstantLemmas
+pub mod Places
+pub mod ActiveLemmas
+pub mod Depth
+pub mod ListLemmas
+pub mod ItemLemmas

@@ -1,0 +1,7 @@
+pub mod Instants
+pub mod Lists
+pub mod Rows
+pub mod Finishes
+pub mod Faults
+pub mod Objects
+pub mod Reading

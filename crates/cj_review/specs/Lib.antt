@@ -1,0 +1,5 @@
+pub mod PlanLines
+pub mod Review
+pub mod Seen
+pub mod Words
+pub mod ZoneFor

@@ -1,0 +1,51 @@
+-- What a sync of a cluster's CronJob sees. A server's uid is any text; in the decision a number stands for it.
+use Rattle.std.specs.Prelude.{ℕ, List, map, codes, bytes_eq, if◌then◌else◌, Option}
+use Rattle.std.specs.Option.{option_map}
+use Rattle.std.specs.FinMap as maps
+use Rattle.cj_types.specs.Keys.{place}
+use Rattle.cj_types.specs.Uids.{uid_text}
+use Rattle.cj_types.specs.declared.job.Job.{Job}
+use Rattle.cj_types.specs.declared.owners.OwnerRef.{OwnerRef}
+use Rattle.cj_jobs.specs.Owners.{owned_by}
+use Rattle.cj_cluster.specs.Content.{Content}
+use Rattle.cj_cluster.specs.declared.cron.ClusterCron.{ClusterCron}
+
+-- the text of the CronJob's number for the CronJob's own uid, and one that is no number's for any other
+-- rule: why-numbered
+abbrev pub number_of : ClusterCron → List ℕ → List ℕ
+number_of c uid = if bytes_eq uid c.uid then uid_text c.cron.meta.uid else codes "another"
+
+abbrev pub numbered_owner : ClusterCron → OwnerRef → OwnerRef
+numbered_owner c o = record {
+  api_version = o.api_version;
+  kind = o.kind;
+  name = o.name;
+  uid = number_of c o.uid;
+  controller = o.controller;
+  block_owner_deletion = o.block_owner_deletion;
+}
+
+-- the Job, with numbers for the uids of its owners
+-- rule: why-numbered
+abbrev pub numbered : ClusterCron → Job → Job
+numbered c job = record {
+  key = job.key;
+  meta = job.meta;
+  owners = map (numbered_owner c) job.owners;
+  spec = job.spec;
+  outcome = job.outcome;
+}
+
+-- the Jobs whose controller names the CronJob, in the order of their names
+-- rule: why-seen
+abbrev pub listed : Content → ClusterCron → List Job
+listed content c = map (numbered c) (owned_by content.jobs c.cron.key)
+
+-- the Job of that name in the CronJob's namespace
+abbrev pub found_at : Content → ClusterCron → List ℕ → Option Job
+found_at content c name = option_map (numbered c) (maps.get content.jobs (place c.cron.key.namespace name))
+
+-- what a live read finds for each name in `status.active`
+-- rule: why-seen
+abbrev pub found : Content → ClusterCron → List (Option Job)
+found content c = map (found_at content c) c.cron.status.active

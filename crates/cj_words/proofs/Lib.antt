@@ -1,0 +1,4 @@
+pub mod Refused
+pub mod Texts
+pub mod Commands
+pub mod Simple

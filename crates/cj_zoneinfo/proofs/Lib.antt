@@ -1,0 +1,3 @@
+pub mod FileNames
+pub mod Rules
+pub mod Files

@@ -1,0 +1,4 @@
+pub mod Named
+pub mod FileName
+pub mod Rules
+pub mod Files

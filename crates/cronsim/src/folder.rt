@@ -1,0 +1,56 @@
+use cj_program::{
+    Failure, FileBytes, MOST_READS, Text, ZoneFile, is_file_name, read_input, zones_named,
+};
+use std::fs::File;
+
+// A zone file has at most so many bytes.
+const MOST_ZONE_BYTES: usize = 1_048_576;
+
+// The file of a zone in the folder; none where there is no such file, or more bytes in it than a zone file has.
+fn file_of(rt: &HostRuntime, folder: &str, name: &str) -> Result<Option<ZoneFile>, Failure> {
+    let alloc = rt.alloc();
+    let path = format!(in alloc; "{folder}/{name}")?;
+    let Ok(mut file) = File::open(rt, path.as_str()) else {
+        return Ok(None);
+    };
+    match read_input(alloc, &mut file, MOST_ZONE_BYTES, MOST_READS) {
+        Ok(bytes) => Ok(Some(ZoneFile {
+            name: Text::new(alloc, name)?,
+            bytes: FileBytes::from_vec(bytes),
+        })),
+        Err(Failure::Memory) => Err(Failure::Memory),
+        Err(_) => Ok(None),
+    }
+}
+
+// The file of a zone more, where the zone's name leads to one in the folder.
+fn push_file(
+    rt: &HostRuntime,
+    files: &mut Vec<ZoneFile>,
+    folder: &str,
+    name: &str,
+) -> Result<(), Failure> {
+    if is_file_name(name) {
+        if let Some(file) = file_of(rt, folder, name)? {
+            files.push(file)?;
+        }
+    }
+    Ok(())
+}
+
+/// The file of the zone of that name in the folder, if there is one.
+pub fn named_file(rt: &HostRuntime, folder: &str, name: &str) -> Result<Vec<ZoneFile>, Failure> {
+    let mut files = Vec::new(rt.alloc());
+    push_file(rt, &mut files, folder, name)?;
+    Ok(files)
+}
+
+/// The files of the zones that the input names.
+pub fn input_files(rt: &HostRuntime, folder: &str, input: &[u8]) -> Result<Vec<ZoneFile>, Failure> {
+    let mut files = Vec::new(rt.alloc());
+    let names = zones_named(rt.alloc(), input)?;
+    for name in names.as_slice() {
+        push_file(rt, &mut files, folder, name.as_str())?;
+    }
+    Ok(files)
+}
