@@ -24,7 +24,10 @@ use Rattle.cj_why.specs.Why.{IsWhy}
 use Rattle.cj_review.specs.PlanLines.{plan_lines}
 use Rattle.cj_review.specs.ZoneFor.{zone_for}
 use Rattle.cj_words.specs.declared.request.PlanRequest.{PlanRequest}
+use Rattle.cj_zoneinfo.specs.declared.file.ZoneFile.{ZoneFile}
+use Rattle.cj_zoneinfo.specs.declared.given.GivenZones.{GivenZones}
 use Rattle.cj_answers.specs.Check.{fault_line}
+use Rattle.cj_answers.specs.Given.{IsReadUnder, RefusesRule}
 use Rattle.cj_explain.specs.Faults.{fault_words}
 use Rattle.cj_answers.specs.Json.{IsJsonWords}
 use Rattle.cj_answers.specs.Outcome.{IsNoTime, IsTime, Outcome, done, explained, refusal}
@@ -78,16 +81,16 @@ IsAskedGlance true wanted bytes words = IsGlance wanted bytes words
 IsAskedGlance false wanted bytes words = words ≡ []
 
 -- the scenario is refused, for another cause than memory
-pub record RefusesScene (explain : Bool) (bytes : List ℕ) (o : Outcome) : Type 0 where
+pub record RefusesScene (explain : Bool) (given : GivenZones) (bytes : List ℕ) (o : Outcome) : Type 0 where
   pub fault : SceneFault
-  pub refused : IsRefusedScene bytes fault
+  pub refused : IsRefusedScene given bytes fault
   pub told : fault ≢ Why.Memory
   pub says : IsSceneRefusal explain A.Scenario bytes fault o
 
 -- the lines of the one plan of the CronJob, its Jobs, those of them that run, the moment and its zone
-pub record PrintsPlan (explain : Bool) (bytes : List ℕ) (now : ℕ) (o : Outcome) : Type 0 where
+pub record PrintsPlan (explain : Bool) (given : GivenZones) (bytes : List ℕ) (now : ℕ) (o : Outcome) : Type 0 where
   pub scene : Scene
-  pub said : IsScene bytes scene
+  pub said : IsScene given bytes scene
   pub steps : Steps
   pub decided : IsPlan (Some scene.cron) scene.jobs scene.active now (zone_for scene.cron.spec.time_zone (zones_of scene.zones)) steps
   pub why : List ℕ
@@ -96,25 +99,33 @@ pub record PrintsPlan (explain : Bool) (bytes : List ℕ) (now : ℕ) (o : Outco
   pub looked : IsAskedGlance explain A.Scenario bytes seen
   pub answer : o ≡ explained explain (why ++ seen) (done (plan_lines steps))
 
--- what the bytes of a scenario are answered
-abbrev pub IsPlannedFor : Bool → List ℕ → ℕ → Outcome → Type 0
-IsPlannedFor explain bytes now o = RefusesScene explain bytes o ⊎ PrintsPlan explain bytes now o
+-- what the bytes of a scenario are answered under these zones
+abbrev pub IsPlannedFor : Bool → GivenZones → List ℕ → ℕ → Outcome → Type 0
+IsPlannedFor explain given bytes now o = RefusesScene explain given bytes o ⊎ PrintsPlan explain given bytes now o
 
 -- the moment is refused first, and nothing is read then
 pub record RefusesMoment (r : PlanRequest) (o : Outcome) : Type 0 where
   pub moment : IsNoTime r.moment.now
   pub answer : o ≡ explained r.explain now_words (refusal (codes "cronsim: time\n"))
 
--- else what is read, all of the input, is planned for
-pub record PlansInput (r : PlanRequest) (input : Option (List ℕ)) (o : Outcome) : Type 0 where
+-- then a zone, and nothing is read then
+pub record RefusesPlanZone (r : PlanRequest) (o : Outcome) : Type 0 where
   pub now : ℕ
   pub moment : IsTime r.moment.now now
+  pub refuses : RefusesRule r.zones r.explain o
+
+-- else what is read, all of the input, is planned for
+pub record PlansInput (r : PlanRequest) (files : List ZoneFile) (input : Option (List ℕ)) (o : Outcome) : Type 0 where
+  pub now : ℕ
+  pub moment : IsTime r.moment.now now
+  pub given : GivenZones
+  pub zones : IsReadUnder r.zones files given
   pub bytes : List ℕ
   pub bytes_are : IfSome input (λ xs. bytes ≡ xs)
   pub fits : length bytes ≤ 16_777_216
-  pub planned : IsPlannedFor r.explain bytes now o
+  pub planned : IsPlannedFor r.explain given bytes now o
 
 -- what `plan` answers, where the input is known
 -- rule: plan-lines
-abbrev pub IsPlanOutcome : PlanRequest → Option (List ℕ) → Outcome → Type 0
-IsPlanOutcome r input o = RefusesMoment r o ⊎ PlansInput r input o
+abbrev pub IsPlanOutcome : PlanRequest → List ZoneFile → Option (List ℕ) → Outcome → Type 0
+IsPlanOutcome r files input o = RefusesMoment r o ⊎ RefusesPlanZone r o ⊎ PlansInput r files input o

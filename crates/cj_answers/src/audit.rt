@@ -124,7 +124,7 @@ pub fn audit_answer<R: Read>(
         (outcome_of a)) }
 {
     let Some(zones) = given_zones(alloc, &audit.zones, files)? else {
-        return Ok(refused_pair(alloc, audit.explain)?);
+        return refused_pair(alloc, audit.explain);
     };
     let bytes = read_input(alloc, input, MOST_LIST_BYTES, MOST_LIST_READS)?;
     bytes_audited(alloc, audit.explain, &zones, bytes.as_slice())

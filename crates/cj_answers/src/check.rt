@@ -156,7 +156,7 @@ pub fn check_answer<R: Read>(
         (outcome_of a)) }
 {
     let Some(zones) = given_zones(alloc, &check.zones, files)? else {
-        return Ok(refused_pair(alloc, check.explain)?);
+        return refused_pair(alloc, check.explain);
     };
     let bytes = read_input(alloc, input, MOST_BYTES, MOST_READS)?;
     manifest_answer(alloc, check.explain, bytes.as_slice(), &zones)

@@ -1,16 +1,16 @@
 // The zones that the words of a command and its folder give.
-ghost use Rattle.std.specs.Prelude.{◌≡◌, IfOk, IfSome, MatchOption, Some, codes};
+ghost use Rattle.std.specs.Prelude.{◌≡◌, IfOk, IfSome, MatchOption, Some, [], codes};
 ghost use Rattle.cj_zone.specs.Table.{local_zone, zones_of};
 ghost use Rattle.cj_zone.specs.Zones.{utc_zone};
-ghost use Rattle.cj_answers.specs.Given.{AreGiven, IsNoneGiven, pair_words};
+ghost use Rattle.cj_answers.specs.Given.{AreGiven, IsNoneGiven, IsReadUnder, pair_words};
 ghost use Rattle.cj_answers.specs.Outcome.{explained, outcome_of, refusal};
 
 use crate::answer::Answer;
 use cj_output::Failure;
 use cj_words::ZoneWords;
 use cj_zone::ZoneTable;
-use cj_zoneinfo::{Refused, ZoneFile, table_with};
-use std::alloc::{AllocError, Global};
+use cj_zoneinfo::{GivenZones, Refused, ZoneFile, table_with};
+use std::alloc::Global;
 
 // What a zone has to be.
 const PAIR_WORDS: &str = "--zone: want NAME=RULE like Europe/Berlin=CET-1CEST,M3.5.0,M10.5.0/3\n";
@@ -34,10 +34,27 @@ pub(crate) fn given_zones(
     }
 }
 
+/// The zones that an input with zones of its own is read under: those of the rules, with UTC as the local zone, and the
+/// files; none where a rule is refused.
+pub fn given_for<'a>(
+    alloc: Global,
+    words: &ZoneWords<'_>,
+    files: &'a [ZoneFile],
+) -> Result<Option<GivenZones<'a>>, Failure>
+    ensures { IfOk result (λ given. MatchOption given (IsNoneGiven words.now [])
+        (IsReadUnder words.now files.now)) }
+{
+    match given_zones(alloc, words, &[])? {
+        Some(rules) => Ok(Some(GivenZones { rules, files })),
+        None => Ok(None),
+    }
+}
+
 /// What is answered where a rule is refused.
-pub(crate) fn refused_pair(alloc: Global, explain: bool) -> Result<Answer, AllocError>
+pub fn refused_pair(alloc: Global, explain: bool) -> Result<Answer, Failure>
     ensures { IfOk result (λ a. outcome_of a ≡ explained explain pair_words
         (refusal (codes "cronsim: zone\n"))) }
 {
-    Answer::refused(alloc, "cronsim: zone\n")?.explained(explain, PAIR_WORDS)
+    let answer = Answer::refused(alloc, "cronsim: zone\n")?;
+    Ok(answer.explained(explain, PAIR_WORDS)?)
 }

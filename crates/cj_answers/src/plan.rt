@@ -10,9 +10,11 @@ ghost use Rattle.cj_explain.specs.Faults.{fault_words};
 ghost use Rattle.cj_answers.specs.Outcome.{done, explained, outcome_of, refusal};
 ghost use Rattle.cj_review.specs.PlanLines.{plan_lines};
 ghost use Rattle.cj_review.specs.ZoneFor.{zone_for};
+ghost use Rattle.cj_zoneinfo.specs.declared.given.GivenZones.{GivenZones};
 ghost use Rattle.cj_answers.specs.Plan.{IsAskedGlance, IsAskedWhy, IsFormWords, IsPlanOutcome, IsPlannedFor, IsSceneRefusal, now_words, scene_line};
 
 use crate::answer::{Answer, Verdict};
+use crate::given::{given_for, refused_pair};
 use crate::json::json_words;
 use crate::lines::print_fault;
 use cj_decide::{Plan, Steps, decide};
@@ -25,6 +27,7 @@ use cj_types::{CronJob, FieldFault, Job, Seconds, Shared};
 use cj_why::why;
 use cj_words::PlanRequest;
 use cj_zone::{Zone, read_time};
+use cj_zoneinfo::{GivenZones, ZoneFile};
 use std::alloc::{AllocError, Global};
 use std::io::Read;
 
@@ -110,9 +113,9 @@ fn planned(
     seen: &str,
 ) -> Result<Answer, Failure>
     requires { local_zone scene.zones ≡ Some (utc_zone (codes "UTC")) }
-    ensures { (bytes : List ℕ) → IsScene bytes scene →
+    ensures { (given : GivenZones) (bytes : List ℕ) → IsScene given bytes scene →
         IsAskedGlance explain Scenario bytes seen.now →
-        IfOk result (λ a. IsPlannedFor explain bytes now (outcome_of a)) }
+        IfOk result (λ a. IsPlannedFor explain given bytes now (outcome_of a)) }
 {
     let why = scene_why(alloc, explain, &scene, now)?;
     let plan = plan_of(alloc, scene, now)?;
@@ -226,19 +229,26 @@ fn scene_planned(
     scene: Scene,
     now: Seconds,
 ) -> Result<Answer, Failure>
-    requires said { IsScene bytes.now scene }
     requires local { local_zone scene.zones ≡ Some (utc_zone (codes "UTC")) }
-    ensures { IfOk result (λ a. IsPlannedFor explain bytes.now now (outcome_of a)) }
+    ensures { (given : GivenZones) → IsScene given bytes.now scene →
+        IfOk result (λ a. IsPlannedFor explain given bytes.now now (outcome_of a)) }
 {
     let seen = asked_glance(alloc, explain, Form::Scenario, bytes)?;
     planned(alloc, explain, scene, now, seen.as_str())
 }
 
-// What a scenario is answered at that moment.
-fn scene_answer(alloc: Global, explain: bool, bytes: &[u8], now: Seconds) -> Result<Answer, Failure>
-    ensures { IfOk result (λ a. IsPlannedFor explain bytes.now now (outcome_of a)) }
+// What a scenario is answered at that moment under the zones that are given.
+fn scene_answer(
+    alloc: Global,
+    explain: bool,
+    given: GivenZones<'_>,
+    bytes: &[u8],
+    now: Seconds,
+) -> Result<Answer, Failure>
+    requires { local_zone given.rules ≡ Some (utc_zone (codes "UTC")) }
+    ensures { IfOk result (λ a. IsPlannedFor explain given.entry bytes.now now (outcome_of a)) }
 {
-    match read_scene(alloc, bytes) {
+    match read_scene(alloc, given, bytes) {
         Ok(scene) => scene_planned(alloc, explain, bytes, scene, now),
         Err(fault) => refused_scene(alloc, explain, Form::Scenario, bytes, fault),
     }
@@ -252,17 +262,22 @@ pub(crate) fn refused_moment(alloc: Global, explain: bool) -> Result<Answer, All
     Answer::refused(alloc, "cronsim: time\n")?.explained(explain, NOW_WORDS)
 }
 
-/// What the command `plan` answers: the moment is looked at first, then all of the input is read.
+/// What the command `plan` answers: the moment is looked at first, then the zones, then all of the input is read.
 pub fn plan_answer<R: Read>(
     alloc: Global,
     plan: &PlanRequest<'_>,
+    files: &[ZoneFile],
     input: &mut R,
 ) -> Result<Answer, Failure>
-    ensures { IfOk result (λ a. IsPlanOutcome plan.now (R.remaining input.old) (outcome_of a)) }
+    ensures { IfOk result (λ a. IsPlanOutcome plan.now files.now (R.remaining input.old)
+        (outcome_of a)) }
 {
     let Some(now) = read_time(plan.moment) else {
         return Ok(refused_moment(alloc, plan.explain)?);
     };
+    let Some(given) = given_for(alloc, &plan.zones, files)? else {
+        return refused_pair(alloc, plan.explain);
+    };
     let bytes = read_input(alloc, input, MOST_BYTES, MOST_READS)?;
-    scene_answer(alloc, plan.explain, bytes.as_slice(), now)
+    scene_answer(alloc, plan.explain, given, bytes.as_slice(), now)
 }

@@ -194,7 +194,7 @@ pub fn why_answer<R: Read>(
         return Ok(refused_moment(alloc, why.explain)?);
     };
     let Some(zones) = given_zones(alloc, &why.zones, files)? else {
-        return Ok(refused_pair(alloc, why.explain)?);
+        return refused_pair(alloc, why.explain);
     };
     let bytes = read_input(alloc, input, MOST_LIST_BYTES, MOST_LIST_READS)?;
     bytes_reviewed(alloc, why, &zones, bytes.as_slice(), now)

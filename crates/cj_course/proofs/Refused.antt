@@ -1,11 +1,12 @@
 -- Why a value is refused: never as no JSON.
-use Rattle.std.proofs.Common.{◌≡◌, ◌≢◌, ℕ, List, codes, Result, Ok, Err, option_and_then, inr}
+use Rattle.std.proofs.Common.{◌≡◌, ◌≢◌, ℕ, List, codes, Result, Ok, Err, option_and_then, inl, inr}
 use Rattle.serde_json.specs.Data.{Data, Items}
 use Rattle.serde_json.specs.Find.{as_array}
 use Rattle.cj_types.specs.declared.cron.CronJobDraft.{CronJobDraft}
 use Rattle.cj_zone.specs.declared.zone.Zone.{Zone}
+use Rattle.cj_zoneinfo.specs.declared.given.GivenZones.{GivenZones}
 use Rattle.cj_manifest.specs.Members.{present, unless_null}
-use Rattle.cj_scenario.specs.Scenes.{AreZones}
+use Rattle.cj_scenario.specs.Scenes.{AreZones, Refuses}
 use Rattle.cj_scenario.specs.declared.fault.SceneFault.{SceneFault}
 use Rattle.cj_scenario.specs.declared.fault.SceneFault.TheVariants.{Form, Manifest, Memory, Syntax}
 use Rattle.cj_script.specs.declared.step.Deed.{Deed}
@@ -79,9 +80,16 @@ other_told zones d =
     (λ lists. other_fine (told span runs lists))))
 
 -- why a value is refused that has these zones
-pub refused_under : (d : Data) (zones : List Zone) (e : SceneFault) → AreZones (present (codes "zones") d) zones
-    → (e ≢ Memory → told_in zones d ≡ Err e) → IsRefusedValue d e
-refused_under d zones Syntax are h = absurd ((other_told zones d).differs (h (λ q. absurd (cc q))))
-refused_under d zones Form are h = inr (record { zones = zones; are = are; told = h (λ q. absurd (cc q)) })
-refused_under d zones (Manifest fault) are h = record { zones = zones; are = are; told = h (λ q. absurd (cc q)) }
-refused_under d zones Memory are h = tt
+pub refused_under : (given : GivenZones) (d : Data) (zones : List Zone) (e : SceneFault) → AreZones given (present (codes "zones") d) zones
+    → (e ≢ Memory → told_in zones d ≡ Err e) → IsRefusedValue given d e
+refused_under given d zones Syntax are h = absurd ((other_told zones d).differs (h (λ q. absurd (cc q))))
+refused_under given d zones Form are h = inr (record { zones = zones; are = are; told = h (λ q. absurd (cc q)) })
+refused_under given d zones (Manifest fault) are h = record { zones = zones; are = are; told = h (λ q. absurd (cc q)) }
+refused_under given d zones Memory are h = tt
+
+-- why a value is refused that has no zones
+pub refused_zones : (given : GivenZones) (d : Data) (e : SceneFault)
+    → Refuses e ((zones : List Zone) → AreZones given (present (codes "zones") d) zones → ⊥)
+    → IsRefusedValue given d e
+refused_zones given d e (inl memory) = rw memory tt
+refused_zones given d e (inr (form, none)) = rw form (inl none)

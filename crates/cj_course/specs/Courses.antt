@@ -3,8 +3,8 @@ use Rattle.std.specs.Prelude.{◌≡◌, ◌⊎◌, ℕ, List, codes, Some, Resu
 use Rattle.serde_json.specs.Data.{Data}
 use Rattle.cj_types.specs.declared.cron.CronJobDraft.{CronJobDraft}
 use Rattle.cj_zone.specs.Table.{local_zone, zones_of}
-use Rattle.cj_zone.specs.Zones.{utc_zone}
 use Rattle.cj_zone.specs.declared.zone.Zone.{Zone}
+use Rattle.cj_zoneinfo.specs.declared.given.GivenZones.{GivenZones}
 use Rattle.cj_manifest.specs.Members.{present}
 use Rattle.cj_manifest.specs.Reading.{IsNoValue, Reads}
 use Rattle.cj_scenario.specs.Scenes.{AreZones}
@@ -55,35 +55,35 @@ told_in zones d =
     then (needed (runs_in d)) (λ runs.
     then (lists_in zones span d) (λ lists. Ok (told span runs lists))))
 
--- a value says this: its zones beside UTC, which is the local one, and under these the rest
+-- a value says this: its zones beside those that are given, and under these the rest
 -- rule: run-form
-pub record Says (d : Data) (c : Course) : Type 0 where
-  pub zones : AreZones (present (codes "zones") d) (zones_of c.zones)
-  pub local : local_zone c.zones ≡ Some (utc_zone (codes "UTC"))
+pub record Says (given : GivenZones) (d : Data) (c : Course) : Type 0 where
+  pub zones : AreZones given (present (codes "zones") d) (zones_of c.zones)
+  pub local : local_zone c.zones ≡ local_zone given.rules
   pub told : told_in (zones_of c.zones) d ≡ Ok (told c.span c.runs (c.crons.items, c.edits.items))
 
 -- what the bytes of a scenario say
 -- rule: run-form
-abbrev pub IsCourse : List ℕ → Course → Type 0
-IsCourse bytes c = (d : Data) × Reads bytes d × Says d c
+abbrev pub IsCourse : GivenZones → List ℕ → Course → Type 0
+IsCourse given bytes c = (d : Data) × Reads bytes d × Says given d c
 
 -- under its zones it is refused so
-pub record IsAtFault (d : Data) (e : SceneFault) : Type 0 where
+pub record IsAtFault (given : GivenZones) (d : Data) (e : SceneFault) : Type 0 where
   pub zones : List Zone
-  pub are : AreZones (present (codes "zones") d) zones
+  pub are : AreZones given (present (codes "zones") d) zones
   pub told : told_in zones d ≡ Err e
 
 -- why a value is no scenario: its form or one of its zones; else a manifest; or there was no memory
 -- rule: run-order
-abbrev pub IsRefusedValue : Data → SceneFault → Type 0
-IsRefusedValue d Form = HasNoZones d ⊎ IsAtFault d Form
-IsRefusedValue d (Manifest fault) = IsAtFault d (Manifest fault)
-IsRefusedValue d Memory = Unit {0}
-IsRefusedValue d Syntax = ⊥
+abbrev pub IsRefusedValue : GivenZones → Data → SceneFault → Type 0
+IsRefusedValue given d Form = HasNoZones given d ⊎ IsAtFault given d Form
+IsRefusedValue given d (Manifest fault) = IsAtFault given d (Manifest fault)
+IsRefusedValue given d Memory = Unit {0}
+IsRefusedValue given d Syntax = ⊥
 
 -- why bytes are none: they are no JSON; else the value that they are is none; or there was no memory
 -- rule: run-order
-abbrev pub IsRefusedCourse : List ℕ → SceneFault → Type 0
-IsRefusedCourse bytes Syntax = IsNoValue bytes
-IsRefusedCourse bytes Memory = Unit {0}
-IsRefusedCourse bytes e = (d : Data) × Reads bytes d × IsRefusedValue d e
+abbrev pub IsRefusedCourse : GivenZones → List ℕ → SceneFault → Type 0
+IsRefusedCourse given bytes Syntax = IsNoValue bytes
+IsRefusedCourse given bytes Memory = Unit {0}
+IsRefusedCourse given bytes e = (d : Data) × Reads bytes d × IsRefusedValue given d e

@@ -20,6 +20,7 @@ use cj_acts::present;
 use cj_scenario::{SceneFault, table_of, value_of};
 use cj_types::{CronJobDraft, FieldFault, Shared};
 use cj_zone::ZoneTable;
+use cj_zoneinfo::GivenZones;
 use serde_json::Value;
 use std::alloc::Global;
 
@@ -97,12 +98,12 @@ fn content_of(alloc: Global, zones: &ZoneTable, value: &Value) -> Result<Content
 }
 
 // What the value says.
-fn course_of(alloc: Global, value: &Value) -> Result<Course, SceneFault>
+fn course_of(alloc: Global, given: GivenZones<'_>, value: &Value) -> Result<Course, SceneFault>
     requires flat { depth (view value.now) ≤ max_depth }
-    ensures said { IfOk result (Says (view value.now)) }
-    ensures refused { IfErr result (IsRefusedValue (view value.now)) }
+    ensures said { IfOk result (Says given.entry (view value.now)) }
+    ensures refused { IfErr result (IsRefusedValue given.entry (view value.now)) }
 {
-    let zones = table_of(alloc, present(value, "zones"))?;
+    let zones = table_of(given, present(value, "zones"))?;
     let Content { span, runs, lists } = content_of(alloc, &zones, value)?;
     let Lists { crons, edits } = lists;
     Ok(Course {
@@ -114,7 +115,7 @@ fn course_of(alloc: Global, value: &Value) -> Result<Course, SceneFault>
     })
 }
 
-/// Reads the scenario of a run: a JSON object with the times `start` and `end`, from which to which its clock
+/// Reads the scenario of a run under the zones that are given: a JSON object with the times `start` and `end`, from which to which its clock
 /// goes; `stepSeconds`, from one instant of it to the next, 1 to 3,600, by default 60; `cronJobs`, the
 /// manifests of the CronJobs that are there from the start; and, where wanted, `runs`, an object from
 /// CronJobs' keys to lists of objects with `seconds` and `outcome`, `Complete` or `Failed`, which say how
@@ -125,10 +126,10 @@ fn course_of(alloc: Global, value: &Value) -> Result<Course, SceneFault>
 /// Refused in this order: `Syntax` for bytes that aren't JSON, `Form` for a value of another form or with a
 /// zone that is refused, and `Manifest` with the first fault of the first manifest that has one, those of
 /// `cronJobs` before those of `edits`.
-pub fn read_course(alloc: Global, bytes: &[u8]) -> Result<Course, SceneFault>
-    ensures read { IfOk result (IsCourse bytes.now) }
-    ensures refused { IfErr result (IsRefusedCourse bytes.now) }
+pub fn read_course(alloc: Global, given: GivenZones<'_>, bytes: &[u8]) -> Result<Course, SceneFault>
+    ensures read { IfOk result (IsCourse given.entry bytes.now) }
+    ensures refused { IfErr result (IsRefusedCourse given.entry bytes.now) }
 {
     let value = value_of(alloc, bytes)?;
-    course_of(alloc, &value)
+    course_of(alloc, given, &value)
 }

@@ -46,7 +46,10 @@ fn cause_of(alloc: Global, field: Field, cause: Cause) -> Result<String, AllocEr
         Cause::TooLong => wanted(alloc, most(field)),
         Cause::Format => wanted(alloc, text_form(field)),
         Cause::Range => wanted(alloc, numbers(field)),
-        Cause::Zone => wanted(alloc, "a zone that is known: UTC, or one given by --zone"),
+        Cause::Zone => wanted(
+            alloc,
+            "a zone that is known: UTC, or one given by --zone or --zoneinfo",
+        ),
         Cause::NotAllowed => String::from_str(alloc, "may not stand here"),
         Cause::Schedule(fault) => schedule_words(alloc, fault),
     }

@@ -12,7 +12,11 @@ use Rattle.cj_script.specs.declared.script.Script.{Script}
 use Rattle.cj_script.specs.Scripts.{IsRefusedScript, IsScript}
 use Rattle.cj_replay.specs.Replays.{IsPartOf, IsReplayed}
 use Rattle.cj_answers.specs.declared.answer.Answer.{Answer}
-use Rattle.cj_answers.specs.Outcome.{Outcome, done, outcome_of, status_of}
+use Rattle.cj_words.specs.declared.request.ReplayRequest.{ReplayRequest}
+use Rattle.cj_zoneinfo.specs.declared.file.ZoneFile.{ZoneFile}
+use Rattle.cj_zoneinfo.specs.declared.given.GivenZones.{GivenZones}
+use Rattle.cj_answers.specs.Given.{IsNoneGiven, IsReadUnder, pair_words}
+use Rattle.cj_answers.specs.Outcome.{Outcome, done, explained, outcome_of, refusal, status_of}
 use Rattle.cj_answers.specs.Plan.{IsSceneRefusal}
 use Rattle.cj_program.specs.Replay.{EndsBadly, EndsWell, IsRead, IsReplayOutcome}
 use Rattle.cj_program.specs.Writing.{FailsReplay, IsCut, IsGiven, IsUnanswered}
@@ -47,52 +51,59 @@ module _ (s : Script) (out out' err err' : Option (List ℕ)) where
 
 -- ---- of the bytes
 
--- bytes are all of the input; explain says whether words for people are asked for.
-module _ (explain : Bool) (bytes : List ℕ) (input : Option (List ℕ)) (read : IsRead input bytes) (out out' err err' : Option (List ℕ)) where
+-- bytes are all of the input of the request r, and given are the zones of its words with the files.
+module _ (r : ReplayRequest) (files : List ZoneFile) (given : GivenZones) (zones : IsReadUnder r.zones files given) (bytes : List ℕ)
+    (input : Option (List ℕ)) (read : IsRead input bytes) (out out' err err' : Option (List ℕ)) where
   -- For serve_bytes: the run of their script that ended well is an outcome of replay.
-  pub run_served : (s : Script) → IsScript bytes s → (status : ℕ) → (status ≡ 0) × EndsWell s out out' err err'
-      → (o : Outcome) × IsReplayOutcome explain input o × (status ≡ status_of o.verdict) × Appends out out' o.printed
+  pub run_served : (s : Script) → IsScript given bytes s → (status : ℕ) → (status ≡ 0) × EndsWell s out out' err err'
+      → (o : Outcome) × IsReplayOutcome r files input o × (status ≡ status_of o.verdict) × Appends out out' o.printed
       × Appends err err' o.said
   run_served s is status (e, w) = (
     done w.text,
-    inr
+    inr (inr
         (record {
           script = s;
-          reads = record { bytes = bytes; read = read; said = is };
+          reads = record { given = given; zones = zones; bytes = bytes; read = read; said = is };
           text = w.text;
           run = w.run;
           answer = refl;
-        }),
+        })),
     e,
     w.printed,
     w.said,
   )
 
   -- For serve_bytes: where the run of their script ended badly, replay failed.
-  pub run_failed : (s : Script) → IsScript bytes s → EndsBadly s out out' err err'
-      → FailsReplay explain input out out' err err'
+  pub run_failed : (s : Script) → IsScript given bytes s → EndsBadly s out out' err err'
+      → FailsReplay r files input out out' err err'
   run_failed s is b =
-      inr (inr (record { script = s; reads = record { bytes = bytes; read = read; said = is }; ends = b }))
+      inr (inr (record {
+        script = s;
+        reads = record { given = given; zones = zones; bytes = bytes; read = read; said = is };
+        ends = b;
+      }))
 
   -- The bytes are refused as a script, with this fault.
-  module _ (fault : SceneFault) (why : IsRefusedScript bytes fault) where
+  module _ (fault : SceneFault) (why : IsRefusedScript given bytes fault) where
     -- A refusal of the bytes for another cause than memory is an outcome of replay.
-    refused : (o : Outcome) → fault ≢ Why.Memory → IsSceneRefusal explain A.Script bytes fault o
-        → IsReplayOutcome explain input o
-    refused o told is = inl (record {
+    refused : (o : Outcome) → fault ≢ Why.Memory → IsSceneRefusal r.explain A.Script bytes fault o
+        → IsReplayOutcome r files input o
+    refused o told is = inr (inl (record {
+      given = given;
+      zones = zones;
       bytes = bytes;
       read = read;
       fault = fault;
       refused = why;
       told = told;
       says = is;
-    })
+    }))
 
     -- For serve_bytes: a refusal of the bytes that was given is an outcome of replay.
-    pub refusal_served : (status : ℕ) (r : Result Answer Failure) → IfOk r (λ _. fault ≢ Why.Memory)
-        → IfOk r (λ a. IsSceneRefusal explain A.Script bytes fault (outcome_of a))
-        → IsOkAnd r (λ a. IsGiven status (outcome_of a) out out' err err')
-        → (o : Outcome) × IsReplayOutcome explain input o × (status ≡ status_of o.verdict) × Appends out out' o.printed
+    pub refusal_served : (status : ℕ) (made : Result Answer Failure) → IfOk made (λ _. fault ≢ Why.Memory)
+        → IfOk made (λ a. IsSceneRefusal r.explain A.Script bytes fault (outcome_of a))
+        → IsOkAnd made (λ a. IsGiven status (outcome_of a) out out' err err')
+        → (o : Outcome) × IsReplayOutcome r files input o × (status ≡ status_of o.verdict) × Appends out out' o.printed
         × Appends err err' o.said
     refusal_served status (Ok a) told is g = (
       outcome_of a,
@@ -104,12 +115,41 @@ module _ (explain : Bool) (bytes : List ℕ) (input : Option (List ℕ)) (read :
     refusal_served status (Err e) told is g = absurd g
 
     -- For serve_bytes: where a refusal has no answer, or one that was cut off, replay failed.
-    pub refusal_failed : (r : Result Answer Failure) → IfOk r (λ _. fault ≢ Why.Memory)
-        → IfOk r (λ a. IsSceneRefusal explain A.Script bytes fault (outcome_of a))
-        → IsUnanswered out out' err err' ⊎ IsOkAnd r
+    pub refusal_failed : (made : Result Answer Failure) → IfOk made (λ _. fault ≢ Why.Memory)
+        → IfOk made (λ a. IsSceneRefusal r.explain A.Script bytes fault (outcome_of a))
+        → IsUnanswered out out' err err' ⊎ IsOkAnd made
         (λ a. IsCut (outcome_of a).printed (outcome_of a).said out out' err err')
-        → FailsReplay explain input out out' err err'
-    refusal_failed r told is (inl u) = inl u
+        → FailsReplay r files input out out' err err'
+    refusal_failed made told is (inl u) = inl u
     refusal_failed (Ok a) told is (inr c) = inr (inl
         (record { outcome = outcome_of a; answer = refused (outcome_of a) told is; cut = c }))
     refusal_failed (Err e) told is (inr c) = absurd c
+
+-- ---- of the words
+
+-- A rule of the words of the request r is refused, so nothing is read.
+module _ (r : ReplayRequest) (files : List ZoneFile) (input out out' err err' : Option (List ℕ)) (none : IsNoneGiven r.zones []) where
+  -- What is answered then is an outcome of replay.
+  refused_rule : (o : Outcome) → o ≡ explained r.explain pair_words (refusal (codes "cronsim: zone\n"))
+      → IsReplayOutcome r files input o
+  refused_rule o is = inl (record { zones = none; answer = is })
+
+  -- For serve_replay: that answer, where it was given, is an outcome of replay.
+  pub rule_served : (status : ℕ) (made : Result Answer Failure)
+      → IfOk made (λ a. outcome_of a ≡ explained r.explain pair_words (refusal (codes "cronsim: zone\n")))
+      → IsOkAnd made (λ a. IsGiven status (outcome_of a) out out' err err')
+      → (o : Outcome) × IsReplayOutcome r files input o × (status ≡ status_of o.verdict) × Appends out out' o.printed
+      × Appends err err' o.said
+  rule_served status (Ok a) is g = (outcome_of a, refused_rule (outcome_of a) is, g.status_is, g.printed, g.said)
+  rule_served status (Err e) is g = absurd g
+
+  -- For serve_replay: where there is no answer then, or one that was cut off, replay failed.
+  pub rule_failed : (made : Result Answer Failure)
+      → IfOk made (λ a. outcome_of a ≡ explained r.explain pair_words (refusal (codes "cronsim: zone\n")))
+      → IsUnanswered out out' err err' ⊎ IsOkAnd made
+      (λ a. IsCut (outcome_of a).printed (outcome_of a).said out out' err err')
+      → FailsReplay r files input out out' err err'
+  rule_failed made is (inl u) = inl u
+  rule_failed (Ok a) is (inr c) = inr (inl
+      (record { outcome = outcome_of a; answer = refused_rule (outcome_of a) is; cut = c }))
+  rule_failed (Err e) is (inr c) = absurd c

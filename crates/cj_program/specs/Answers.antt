@@ -16,8 +16,8 @@ use Rattle.cj_words.specs.declared.request.Request.TheVariants.{Audit, Check, Ne
 abbrev pub IsOutcome : Request → List ZoneFile → Option (List ℕ) → Outcome → Type 0
 IsOutcome (Next r) files input o = IsNextOutcome r files o
 IsOutcome (Check r) files input o = IsCheckOutcome r files input o
-IsOutcome (Plan r) files input o = IsPlanOutcome r input o
-IsOutcome (Replay r) files input o = IsReplayOutcome r.explain input o
-IsOutcome (Run r) files input o = IsRunOutcome r input o
+IsOutcome (Plan r) files input o = IsPlanOutcome r files input o
+IsOutcome (Replay r) files input o = IsReplayOutcome r files input o
+IsOutcome (Run r) files input o = IsRunOutcome r files input o
 IsOutcome (Why r) files input o = IsWhyOutcome r files input o
 IsOutcome (Audit r) files input o = IsAuditOutcome r files input o

@@ -1,5 +1,5 @@
 -- What `replay` answers of a script.
-use Rattle.std.specs.Prelude.{◌≡◌, ◌≢◌, ◌⊎◌, ℕ, ◌≤◌, List, [], length, Option, IfSome, codes, false, true, Bool}
+use Rattle.std.specs.Prelude.{◌≡◌, ◌≢◌, ◌⊎◌, ℕ, ◌≤◌, List, [], length, Option, IfSome, codes, false, true}
 use Rattle.std.specs.Io.KnownBytes.{Appends}
 use Rattle.cj_output.specs.declared.failure.Failure.{Failure}
 use Rattle.cj_output.specs.Writing.{AppendsSome, failure_line}
@@ -9,6 +9,10 @@ use Rattle.cj_glance.specs.declared.form.Form.TheVariants as A
 use Rattle.cj_script.specs.declared.script.Script.{Script}
 use Rattle.cj_script.specs.Scripts.{IsRefusedScript, IsScript}
 use Rattle.cj_replay.specs.Replays.{IsPartOf, IsReplayed}
+use Rattle.cj_words.specs.declared.request.ReplayRequest.{ReplayRequest}
+use Rattle.cj_zoneinfo.specs.declared.file.ZoneFile.{ZoneFile}
+use Rattle.cj_zoneinfo.specs.declared.given.GivenZones.{GivenZones}
+use Rattle.cj_answers.specs.Given.{IsReadUnder, RefusesRule}
 use Rattle.cj_answers.specs.Outcome.{Outcome, done}
 use Rattle.cj_answers.specs.Plan.{IsSceneRefusal}
 
@@ -17,33 +21,37 @@ pub record IsRead (input : Option (List ℕ)) (bytes : List ℕ) : Type 0 where
   pub are : IfSome input (λ xs. bytes ≡ xs)
   pub fits : length bytes ≤ 16_777_216
 
--- the script that is read
-pub record ReadsScript (input : Option (List ℕ)) (script : Script) : Type 0 where
+-- the script that is read under the zones of the words and the files
+pub record ReadsScript (r : ReplayRequest) (files : List ZoneFile) (input : Option (List ℕ)) (script : Script) : Type 0 where
+  pub given : GivenZones
+  pub zones : IsReadUnder r.zones files given
   pub bytes : List ℕ
   pub read : IsRead input bytes
-  pub said : IsScript bytes script
+  pub said : IsScript given bytes script
 
--- what is read is no script, for another cause than memory
-pub record RefusesScript (explain : Bool) (input : Option (List ℕ)) (o : Outcome) : Type 0 where
+-- what is read under these zones is no script, for another cause than memory
+pub record RefusesScript (r : ReplayRequest) (files : List ZoneFile) (input : Option (List ℕ)) (o : Outcome) : Type 0 where
+  pub given : GivenZones
+  pub zones : IsReadUnder r.zones files given
   pub bytes : List ℕ
   pub read : IsRead input bytes
   pub fault : SceneFault
-  pub refused : IsRefusedScript bytes fault
+  pub refused : IsRefusedScript given bytes fault
   pub told : fault ≢ Why.Memory
-  pub says : IsSceneRefusal explain A.Script bytes fault o
+  pub says : IsSceneRefusal r.explain A.Script bytes fault o
 
 -- the lines of its steps and the report, where no step found the history full
-pub record PrintsRun (input : Option (List ℕ)) (o : Outcome) : Type 0 where
+pub record PrintsRun (r : ReplayRequest) (files : List ZoneFile) (input : Option (List ℕ)) (o : Outcome) : Type 0 where
   pub script : Script
-  pub reads : ReadsScript input script
+  pub reads : ReadsScript r files input script
   pub text : List ℕ
   pub run : IsReplayed script text false
   pub answer : o ≡ done text
 
--- what `replay` answers, where the input is known
+-- what `replay` answers, where the input is known: a rule of the words is refused first, and nothing is read then
 -- rules: replay, replay-lines
-abbrev pub IsReplayOutcome : Bool → Option (List ℕ) → Outcome → Type 0
-IsReplayOutcome explain input o = RefusesScript explain input o ⊎ PrintsRun input o
+abbrev pub IsReplayOutcome : ReplayRequest → List ZoneFile → Option (List ℕ) → Outcome → Type 0
+IsReplayOutcome r files input o = RefusesRule r.zones r.explain o ⊎ RefusesScript r files input o ⊎ PrintsRun r files input o
 
 -- ---- a run that ends with status 3
 
@@ -68,9 +76,9 @@ abbrev pub EndsBadly : Script → Option (List ℕ) → Option (List ℕ) → Op
 EndsBadly script out out' err err' = FillsHistory script out out' err err' ⊎ IsRunCut script out out' err err'
 
 -- the script of the input was run, which ended so
-pub record IsFailedRun (input out out' err err' : Option (List ℕ)) : Type 0 where
+pub record IsFailedRun (r : ReplayRequest) (files : List ZoneFile) (input out out' err err' : Option (List ℕ)) : Type 0 where
   pub script : Script
-  pub reads : ReadsScript input script
+  pub reads : ReadsScript r files input script
   pub ends : EndsBadly script out out' err err'
 
 -- all of a run was printed, and nothing was said

@@ -7,34 +7,43 @@ use Rattle.cj_course.specs.Courses.{IsCourse, IsRefusedCourse}
 use Rattle.cj_course.specs.declared.course.Course.{Course}
 use Rattle.cj_run.specs.Runs.{IsRun}
 use Rattle.cj_words.specs.declared.request.RunRequest.{RunRequest}
+use Rattle.cj_zoneinfo.specs.declared.file.ZoneFile.{ZoneFile}
+use Rattle.cj_zoneinfo.specs.declared.given.GivenZones.{GivenZones}
+use Rattle.cj_answers.specs.Given.{IsReadUnder, RefusesRule}
 use Rattle.cj_answers.specs.Outcome.{Outcome, done, explained}
 use Rattle.cj_answers.specs.Plan.{IsAskedGlance, IsSceneRefusal}
 
 -- the bytes are no scenario of a run, for another cause than memory
-pub record RefusesCourse (explain : Bool) (bytes : List ℕ) (o : Outcome) : Type 0 where
+pub record RefusesCourse (explain : Bool) (given : GivenZones) (bytes : List ℕ) (o : Outcome) : Type 0 where
   pub fault : SceneFault
-  pub refused : IsRefusedCourse bytes fault
+  pub refused : IsRefusedCourse given bytes fault
   pub told : fault ≢ Why.Memory
   pub says : IsSceneRefusal explain A.Course bytes fault o
 
 -- the report of a run of the scenario that they are
-pub record PrintsReport (explain : Bool) (bytes : List ℕ) (o : Outcome) : Type 0 where
+pub record PrintsReport (explain : Bool) (given : GivenZones) (bytes : List ℕ) (o : Outcome) : Type 0 where
   pub course : Course
-  pub said : IsCourse bytes course
+  pub said : IsCourse given bytes course
   pub text : List ℕ
   pub run : IsRun course text
   pub seen : List ℕ
   pub looked : IsAskedGlance explain A.Course bytes seen
   pub answer : o ≡ explained explain seen (done text)
 
--- what the bytes are answered
-abbrev pub IsRanOf : Bool → List ℕ → Outcome → Type 0
-IsRanOf explain bytes o = RefusesCourse explain bytes o ⊎ PrintsReport explain bytes o
+-- what the bytes are answered under these zones
+abbrev pub IsRanOf : Bool → GivenZones → List ℕ → Outcome → Type 0
+IsRanOf explain given bytes o = RefusesCourse explain given bytes o ⊎ PrintsReport explain given bytes o
 
--- what `run` answers, where the input is known: all of it is read
--- rule: run
-pub record IsRunOutcome (r : RunRequest) (input : Option (List ℕ)) (o : Outcome) : Type 0 where
+-- what is read, all of the input, is run under the zones of the words and the files
+pub record RunsInput (r : RunRequest) (files : List ZoneFile) (input : Option (List ℕ)) (o : Outcome) : Type 0 where
+  pub given : GivenZones
+  pub zones : IsReadUnder r.zones files given
   pub bytes : List ℕ
   pub bytes_are : IfSome input (λ xs. bytes ≡ xs)
   pub fits : length bytes ≤ 16_777_216
-  pub ran : IsRanOf r.explain bytes o
+  pub ran : IsRanOf r.explain given bytes o
+
+-- what `run` answers, where the input is known: a rule of the words is refused first, and nothing is read then
+-- rule: run
+abbrev pub IsRunOutcome : RunRequest → List ZoneFile → Option (List ℕ) → Outcome → Type 0
+IsRunOutcome r files input o = RefusesRule r.zones r.explain o ⊎ RunsInput r files input o

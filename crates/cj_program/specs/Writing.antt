@@ -3,6 +3,7 @@ use Rattle.std.specs.Prelude.{◌≡◌, ◌⊎◌, ℕ, List, Option, Bool}
 use Rattle.std.specs.Io.KnownBytes.{Appends, Keeps}
 use Rattle.cj_output.specs.declared.failure.Failure.{Failure}
 use Rattle.cj_output.specs.Writing.{AppendsSome, failure_line}
+use Rattle.cj_words.specs.declared.request.ReplayRequest.{ReplayRequest}
 use Rattle.cj_words.specs.declared.request.Request.{Request}
 use Rattle.cj_words.specs.declared.request.Request.TheVariants.{Audit, Check, Next, Plan, Replay, Run, Why}
 use Rattle.cj_zoneinfo.specs.declared.file.ZoneFile.{ZoneFile}
@@ -44,15 +45,16 @@ pub record IsAnswerCut (request : Request) (files : List ZoneFile) (input out ou
   pub cut : IsCut outcome.printed outcome.said out out' err err'
 
 -- the answer of `replay` was cut off
-pub record IsRefusalCut (explain : Bool) (input out out' err err' : Option (List ℕ)) : Type 0 where
+pub record IsRefusalCut (r : ReplayRequest) (files : List ZoneFile) (input out out' err err' : Option (List ℕ)) : Type 0 where
   pub outcome : Outcome
-  pub answer : IsReplayOutcome explain input outcome
+  pub answer : IsReplayOutcome r files input outcome
   pub cut : IsCut outcome.printed outcome.said out out' err err'
 
 -- `replay` ended with status 3
 -- rule: statuses
-abbrev pub FailsReplay : Bool → Option (List ℕ) → Option (List ℕ) → Option (List ℕ) → Option (List ℕ) → Option (List ℕ) → Type 0
-FailsReplay explain input out out' err err' = IsUnanswered out out' err err' ⊎ IsRefusalCut explain input out out' err err' ⊎ IsFailedRun input out out' err err'
+abbrev pub FailsReplay : ReplayRequest → List ZoneFile → Option (List ℕ) → Option (List ℕ) → Option (List ℕ) → Option (List ℕ) → Option (List ℕ) → Type 0
+FailsReplay r files input out out' err err' =
+    IsUnanswered out out' err err' ⊎ IsRefusalCut r files input out out' err err' ⊎ IsFailedRun r files input out out' err err'
 
 -- another command did
 abbrev pub FailsAnswer : Request → List ZoneFile → Option (List ℕ) → Option (List ℕ) → Option (List ℕ) → Option (List ℕ) → Option (List ℕ) → Type 0
@@ -61,7 +63,7 @@ FailsAnswer request files input out out' err err' = IsUnanswered out out' err er
 -- a request that ended with status 3
 -- rule: statuses
 abbrev pub IsFailed : Request → List ZoneFile → Option (List ℕ) → Option (List ℕ) → Option (List ℕ) → Option (List ℕ) → Option (List ℕ) → Type 0
-IsFailed (Replay r) files input out out' err err' = FailsReplay r.explain input out out' err err'
+IsFailed (Replay r) files input out out' err err' = FailsReplay r files input out out' err err'
 IsFailed (Next r) files input out out' err err' = FailsAnswer (Next r) files input out out' err err'
 IsFailed (Check r) files input out out' err err' = FailsAnswer (Check r) files input out out' err err'
 IsFailed (Plan r) files input out out' err err' = FailsAnswer (Plan r) files input out out' err err'

@@ -2,16 +2,19 @@
 ghost use Rattle.std.specs.Prelude.{◌≡◌, ◌<◌, ◌≤◌, List, ℕ, Option, [], codes, false, true};
 ghost use Rattle.std.specs.Io.KnownBytes.{Appends};
 ghost use Rattle.cj_output.specs.Writing.{AppendsSome};
+ghost use Rattle.cj_answers.specs.Given.{IsReadUnder};
 ghost use Rattle.cj_answers.specs.Outcome.{Outcome, status_of};
 ghost use Rattle.cj_program.specs.Replay.{EndsBadly, EndsWell, IsRead, IsReplayOutcome};
 ghost use Rattle.cj_program.specs.Writing.{FailsReplay};
 
 use crate::serving::give_answer;
-use cj_answers::refused_scene;
+use cj_answers::{given_for, refused_pair, refused_scene};
 use cj_glance::Form;
 use cj_output::{Failure, MOST_BYTES, MOST_READS, read_input, tell_failure};
 use cj_replay::replay;
 use cj_script::{Script, read_script};
+use cj_words::ReplayRequest;
+use cj_zoneinfo::{GivenZones, ZoneFile};
 use std::alloc::Global;
 use std::io::{Read, Write};
 
@@ -43,51 +46,85 @@ fn run_script<W: Write, E: Write>(alloc: Global, script: &Script, out: &mut W, e
     }
 }
 
-// Runs the script that the bytes are.
+// Runs the script that the bytes are under the zones that are given.
 fn serve_bytes<W: Write, E: Write>(
     alloc: Global,
-    explain: bool,
+    replay: &ReplayRequest<'_>,
+    given: GivenZones<'_>,
     bytes: &[u8],
     out: &mut W,
     err: &mut E,
 ) -> u8
-    ensures served { result < 3 → (input : Option (List ℕ)) → IsRead input bytes.now →
-        (o : Outcome) × IsReplayOutcome explain input o × (result ≡ status_of o.verdict)
+    ensures served { result < 3 → (files : List ZoneFile) (input : Option (List ℕ)) →
+        IsReadUnder replay.now.zones files given.entry → IsRead input bytes.now →
+        (o : Outcome) × IsReplayOutcome replay.now files input o × (result ≡ status_of o.verdict)
         × Appends (W.contents out.old) (W.contents out.new) o.printed
         × Appends (E.contents err.old) (E.contents err.new) o.said }
-    ensures failed { result ≡ 3 → (input : Option (List ℕ)) → IsRead input bytes.now →
-        FailsReplay explain input (W.contents out.old) (W.contents out.new) (E.contents err.old)
-        (E.contents err.new) }
+    ensures failed { result ≡ 3 → (files : List ZoneFile) (input : Option (List ℕ)) →
+        IsReadUnder replay.now.zones files given.entry → IsRead input bytes.now →
+        FailsReplay replay.now files input (W.contents out.old) (W.contents out.new)
+        (E.contents err.old) (E.contents err.new) }
     ensures most { result ≤ 3 }
 {
-    match read_script(alloc, bytes) {
+    match read_script(alloc, given, bytes) {
         Ok(script) => run_script(alloc, &script, out, err),
         Err(fault) => give_answer(
-            refused_scene(alloc, explain, Form::Script, bytes, fault),
+            refused_scene(alloc, replay.explain, Form::Script, bytes, fault),
             out,
             err,
         ),
     }
 }
 
-/// Serves the command `replay`: all of the input is read first. Status 3 also tells that a step found the history full.
-pub(crate) fn serve_replay<R: Read, W: Write, E: Write>(
+// Runs the script of the input under the zones that are given.
+fn serve_given<R: Read, W: Write, E: Write>(
     alloc: Global,
-    explain: bool,
+    replay: &ReplayRequest<'_>,
+    given: GivenZones<'_>,
     input: &mut R,
     out: &mut W,
     err: &mut E,
 ) -> u8
-    ensures served { result < 3 → (o : Outcome) × IsReplayOutcome explain (R.remaining input.old) o
+    ensures served { result < 3 → (files : List ZoneFile) →
+        IsReadUnder replay.now.zones files given.entry →
+        (o : Outcome) × IsReplayOutcome replay.now files (R.remaining input.old) o
         × (result ≡ status_of o.verdict)
         × Appends (W.contents out.old) (W.contents out.new) o.printed
         × Appends (E.contents err.old) (E.contents err.new) o.said }
-    ensures failed { result ≡ 3 → FailsReplay explain (R.remaining input.old) (W.contents out.old)
+    ensures failed { result ≡ 3 → (files : List ZoneFile) →
+        IsReadUnder replay.now.zones files given.entry →
+        FailsReplay replay.now files (R.remaining input.old) (W.contents out.old)
         (W.contents out.new) (E.contents err.old) (E.contents err.new) }
     ensures most { result ≤ 3 }
 {
     match read_input(alloc, input, MOST_BYTES, MOST_READS) {
-        Ok(bytes) => serve_bytes(alloc, explain, bytes.as_slice(), out, err),
+        Ok(bytes) => serve_bytes(alloc, replay, given, bytes.as_slice(), out, err),
+        Err(failure) => tell_failure(failure, err),
+    }
+}
+
+/// Serves the command `replay`: the zones are looked at first, then all of the input is read. Status 3 also tells that a
+/// step found the history full.
+pub(crate) fn serve_replay<R: Read, W: Write, E: Write>(
+    alloc: Global,
+    replay: &ReplayRequest<'_>,
+    files: &[ZoneFile],
+    input: &mut R,
+    out: &mut W,
+    err: &mut E,
+) -> u8
+    ensures served { result < 3 → (o : Outcome)
+        × IsReplayOutcome replay.now files.now (R.remaining input.old) o
+        × (result ≡ status_of o.verdict)
+        × Appends (W.contents out.old) (W.contents out.new) o.printed
+        × Appends (E.contents err.old) (E.contents err.new) o.said }
+    ensures failed { result ≡ 3 → FailsReplay replay.now files.now (R.remaining input.old)
+        (W.contents out.old) (W.contents out.new) (E.contents err.old) (E.contents err.new) }
+    ensures most { result ≤ 3 }
+{
+    match given_for(alloc, &replay.zones, files) {
+        Ok(Some(given)) => serve_given(alloc, replay, given, input, out, err),
+        Ok(None) => give_answer(refused_pair(alloc, replay.explain), out, err),
         Err(failure) => tell_failure(failure, err),
     }
 }

@@ -1,15 +1,17 @@
 // Running the whole controller.
 ghost use Rattle.std.specs.Prelude.{◌≡◌, IfOk, string_bytes};
 ghost use Rattle.cj_course.specs.Courses.{IsCourse};
+ghost use Rattle.cj_zoneinfo.specs.declared.given.GivenZones.{GivenZones};
 ghost use Rattle.cj_answers.specs.Outcome.{done, explained, outcome_of};
 ghost use Rattle.cj_program.specs.Run.{IsRanOf, IsRunOutcome};
 
-use cj_answers::{Answer, Verdict, asked_glance, refused_scene};
+use cj_answers::{Answer, Verdict, asked_glance, given_for, refused_pair, refused_scene};
 use cj_course::{Course, read_course};
 use cj_glance::Form;
 use cj_output::{Failure, MOST_BYTES, MOST_READS, read_input};
 use cj_run::run_course;
 use cj_words::RunRequest;
+use cj_zoneinfo::{GivenZones, ZoneFile};
 use std::alloc::{AllocError, Global};
 use std::io::Read;
 use std::sync::Wait;
@@ -36,8 +38,8 @@ fn answered<T: Threads + Wait + Sync>(
     bytes: &[u8],
     course: &Course,
 ) -> Result<Answer, Failure>
-    requires { IsCourse bytes.now course.now }
-    ensures { IfOk result (λ a. IsRanOf run.now.explain bytes.now (outcome_of a)) }
+    ensures { (given : GivenZones) → IsCourse given bytes.now course.now →
+        IfOk result (λ a. IsRanOf run.now.explain given bytes.now (outcome_of a)) }
 {
     let report = run_course(rt, alloc, course, u64::from(run.workers))?;
     let seen = asked_glance(alloc, run.explain, Form::Course, bytes)?;
@@ -48,26 +50,32 @@ fn bytes_answer<T: Threads + Wait + Sync>(
     rt: &T,
     alloc: Global,
     run: &RunRequest<'_>,
+    given: GivenZones<'_>,
     bytes: &[u8],
 ) -> Result<Answer, Failure>
-    ensures { IfOk result (λ a. IsRanOf run.now.explain bytes.now (outcome_of a)) }
+    ensures { IfOk result (λ a. IsRanOf run.now.explain given.entry bytes.now (outcome_of a)) }
 {
-    match read_course(alloc, bytes) {
+    match read_course(alloc, given, bytes) {
         Ok(course) => answered(rt, alloc, run, bytes, &course),
         Err(fault) => refused_scene(alloc, run.explain, Form::Course, bytes, fault),
     }
 }
 
-/// What the command `run` answers: all of the input is read first. A history that a call found full fails it,
+/// What the command `run` answers: the zones are looked at first, then all of the input is read. A history that a call found full fails it,
 /// as want of memory does.
 pub(crate) fn run_answer<T: Threads + Wait + Sync, R: Read>(
     rt: &T,
     alloc: Global,
     run: &RunRequest<'_>,
+    files: &[ZoneFile],
     input: &mut R,
 ) -> Result<Answer, Failure>
-    ensures { IfOk result (λ a. IsRunOutcome run.now (R.remaining input.old) (outcome_of a)) }
+    ensures { IfOk result (λ a. IsRunOutcome run.now files.now (R.remaining input.old)
+        (outcome_of a)) }
 {
+    let Some(given) = given_for(alloc, &run.zones, files)? else {
+        return refused_pair(alloc, run.explain);
+    };
     let bytes = read_input(alloc, input, MOST_BYTES, MOST_READS)?;
-    bytes_answer(rt, alloc, run, bytes.as_slice())
+    bytes_answer(rt, alloc, run, given, bytes.as_slice())
 }

@@ -80,9 +80,9 @@ pub fn serve<T: Threads + Wait + Sync, R: Read, W: Write, E: Write>(
     match request {
         Request::Next(next) => give_answer(next_answer(alloc, next, files), out, err),
         Request::Check(check) => give_answer(check_answer(alloc, check, files, input), out, err),
-        Request::Plan(plan) => give_answer(plan_answer(alloc, plan, input), out, err),
-        Request::Replay(replay) => serve_replay(alloc, replay.explain, input, out, err),
-        Request::Run(run) => give_answer(run_answer(rt, alloc, run, input), out, err),
+        Request::Plan(plan) => give_answer(plan_answer(alloc, plan, files, input), out, err),
+        Request::Replay(replay) => serve_replay(alloc, replay, files, input, out, err),
+        Request::Run(run) => give_answer(run_answer(rt, alloc, run, files, input), out, err),
         Request::Why(why) => give_answer(why_answer(alloc, why, files, input), out, err),
         Request::Audit(audit) => give_answer(audit_answer(alloc, audit, files, input), out, err),
     }

@@ -1,3 +1,4 @@
+pub mod Otherwise
 pub mod PlanLines
 pub mod Review
 pub mod Seen

@@ -6,6 +6,7 @@ use Rattle.cj_decide.specs.Decision.{running_of}
 use Rattle.cj_why.specs.Why.{IsWhy}
 use Rattle.cj_cluster.specs.Content.{Content}
 use Rattle.cj_cluster.specs.declared.cron.ClusterCron.{ClusterCron}
+use Rattle.cj_review.specs.Otherwise.{otherwise_words}
 use Rattle.cj_review.specs.Review.{IsCronReview}
 use Rattle.cj_review.specs.Seen.{found}
 use Rattle.cj_review.specs.ZoneFor.{zone_for}
@@ -20,12 +21,13 @@ abbrev pub zone_title : Option (List ℕ) → List ℕ
 zone_title None = codes "UTC"
 zone_title (Some name) = name
 
--- that line, and why
--- rule: why-explained
+-- that line, why, and what Kubernetes' own controller does otherwise
+-- rules: why-explained, why-otherwise
 pub record IsCronWords (zones : List Zone) (content : Content) (now : ℕ) (c : ClusterCron) (text : List ℕ) : Type 0 where
   pub why : List ℕ
   pub reason : IsWhy c.cron (zone_for c.cron.spec.time_zone zones) (running_of c.cron (found content c)) now why
-  pub are : text ≡ title_line c.cron.key (zone_title c.cron.spec.time_zone) ++ why
+  pub are : text ≡ (title_line c.cron.key (zone_title c.cron.spec.time_zone) ++ why)
+      ++ otherwise_words c.cron (zone_for c.cron.spec.time_zone zones)
 
 -- where people ask for it
 abbrev pub IsAskedWords : Bool → List Zone → Content → ℕ → ClusterCron → List ℕ → Type 0

@@ -1,6 +1,7 @@
 //! What the next sync of each CronJob of a cluster does, and what it missed.
 #![tactic(auto)]
 
+mod otherwise;
 mod reviewing;
 mod seen;
 mod since;

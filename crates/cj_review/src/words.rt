@@ -6,8 +6,10 @@ ghost use Rattle.cj_review.specs.ZoneFor.{zone_for};
 ghost use Rattle.cj_base.specs.declared.refusal.Refusal.TheVariants.{OutOfMemory};
 ghost use Rattle.cj_zone.specs.Table.{local_zone, zones_of};
 ghost use Rattle.cj_zone.specs.Zones.{utc_zone};
+ghost use Rattle.cj_review.specs.Otherwise.{otherwise_words};
 ghost use Rattle.cj_review.specs.Words.{IsAskedWords, IsCronWords, title_line, zone_title};
 
+use crate::otherwise::otherwise_words;
 use crate::seen::found;
 use crate::zone_for::zone_of;
 use cj_cluster::{Cluster, ClusterCron};
@@ -52,15 +54,28 @@ fn why_of(
     why(alloc, cron, zone, found, now)
 }
 
-// With the line of the CronJob before it.
-fn titled(alloc: Global, cron: &CronJob, why: &str) -> Result<String, Refusal>
+// What Kubernetes' own controller does otherwise with it.
+fn otherwise_of(alloc: Global, zones: &ZoneTable, cron: &CronJob) -> Result<String, Refusal>
+    requires { local_zone zones.now ≡ Some (utc_zone (codes "UTC")) }
+    ensures ok { IfOk result (λ s. string_bytes s ≡ otherwise_words cron.now
+        (zone_for cron.now.spec.time_zone (zones_of zones.now))) }
+    ensures err { IfErr result (λ e. e ≡ OutOfMemory) }
+{
+    let zone = zone_of(zones, &cron.spec.time_zone);
+    otherwise_words(alloc, cron, zone)
+}
+
+// With the line of the CronJob before them.
+fn titled(alloc: Global, cron: &CronJob, why: &str, otherwise: &str) -> Result<String, Refusal>
     ensures ok { IfOk result (λ s. string_bytes s
-        ≡ title_line cron.now.key (zone_title cron.now.spec.time_zone) ++ why.now) }
+        ≡ (title_line cron.now.key (zone_title cron.now.spec.time_zone) ++ why.now)
+        ++ otherwise.now) }
     ensures err { IfErr result (λ e. e ≡ OutOfMemory) }
 {
     let zone = zone_title(&cron.spec.time_zone);
     let mut text = title_line(alloc, cron.key.key(), zone)?;
     text.push_str(why)?;
+    text.push_str(otherwise)?;
     Ok(text)
 }
 
@@ -78,10 +93,12 @@ fn cron_words(
 {
     let found = found(alloc, cluster, cron)?;
     let why = why_of(alloc, zones, cron.cron.get(), found.as_slice(), now)?;
-    titled(alloc, cron.cron.get(), why.as_str())
+    let otherwise = otherwise_of(alloc, zones, cron.cron.get())?;
+    titled(alloc, cron.cron.get(), why.as_str(), otherwise.as_str())
 }
 
-/// Why the CronJob starts a Job at this moment, or why not, where people ask for it.
+/// Why the CronJob starts a Job at this moment, or why not, and what Kubernetes' own controller does otherwise, where
+/// people ask for it.
 pub(crate) fn asked_words(
     alloc: Global,
     explain: bool,

@@ -17,7 +17,7 @@ use Rattle.cj_zone.specs.declared.zone.Zone.{Zone}
 use Rattle.cj_zone.specs.Made.{IsRuleClock}
 use Rattle.cj_zone.specs.Zones.{is_refused_name, zone_named}
 use Rattle.cj_manifest.specs.Members.{unless_null}
-use Rattle.cj_scenario.specs.Scenes.{AddsMember, AddsMembers, AddsRule, AddsText, names_of, utc_zones}
+use Rattle.cj_scenario.specs.Scenes.{AddsMember, AddsMembers, AddsRule, AddsText, names_of}
 
 -- For found_by_name: a zone is found where the first has the name or one is found among the others.
 one : (b : Bool) (z : Zone) (found : Option Zone) (rest : Bool) → is_some found ≡ rest
@@ -89,16 +89,16 @@ pub record Stands (zones : List Zone) (rest : Members) (all : List Zone) : Type 
   pub names : names_of others ≡ names_of zones
   pub adds : AddsMembers others rest all
 
--- what goes on from these zones is what goes on from UTC
-pub record LeadsOn (ms : Members) (zones : List Zone) (rest : Members) : Type 0 where
-  pub whole : (all : List Zone) → AddsMembers zones rest all → AddsMembers utc_zones ms all
-  pub back : (all : List Zone) → AddsMembers utc_zones ms all → Stands zones rest all
+-- what goes on from these zones is what goes on from those at first
+pub record LeadsOn (first : List Zone) (ms : Members) (zones : List Zone) (rest : Members) : Type 0 where
+  pub whole : (all : List Zone) → AddsMembers zones rest all → AddsMembers first ms all
+  pub back : (all : List Zone) → AddsMembers first ms all → Stands zones rest all
 
--- Before the first member the members lead to the zones of UTC, and to all members.
-pub leads_start : (ms : Members) (zones : List Zone) → zones ≡ utc_zones → LeadsOn ms zones ms
-leads_start ms zones e = record {
-  whole = λ all h. subst (λ x. AddsMembers x ms all) e h;
-  back = λ all h. record { others = utc_zones; names = ap names_of (sym e); adds = h };
+-- Before the first member the members lead to the zones at first, and to all members.
+pub leads_start : (first : List Zone) (ms : Members) → LeadsOn first ms first ms
+leads_start first ms = record {
+  whole = λ all h. h;
+  back = λ all h. record { others = first; names = refl; adds = h };
 }
 
 -- For leads_member: behind a member added to both, zones of the same names lead on to the same
@@ -110,10 +110,10 @@ goes_on zones others more name d rest all e h (other, k, adds) =
     record { others = other; names = names_after zones others more other name (unless_null d) e h k; adds = adds }
 
 -- Where the members lead to one that was added, they lead on to those behind it.
-pub leads_member : (ms : Members) (zones more : List Zone) (name : List ℕ) (d : Data) (rest : Members)
-    → LeadsOn ms zones (member name d rest)
-    → AddsMember zones name (unless_null d) more → LeadsOn ms more rest
-leads_member ms zones more name d rest leads h = record {
+pub leads_member : (first : List Zone) (ms : Members) (zones more : List Zone) (name : List ℕ) (d : Data) (rest : Members)
+    → LeadsOn first ms zones (member name d rest)
+    → AddsMember zones name (unless_null d) more → LeadsOn first ms more rest
+leads_member first ms zones more name d rest leads h = record {
   whole = λ all k. leads.whole all (more, h, k);
   back = λ all k. let s = leads.back all k in goes_on zones s.others more name d rest all s.names h s.adds;
 }
@@ -126,20 +126,20 @@ ends others name d rest all none (more, h, k) = none more h
 
 -- Where the members lead to one that no zones of these names take, there are no zones of the
 -- members.
-pub leads_nowhere : (ms : Members) (zones : List Zone) (name : List ℕ) (d : Data) (rest : Members)
-    → LeadsOn ms zones (member name d rest)
+pub leads_nowhere : (first : List Zone) (ms : Members) (zones : List Zone) (name : List ℕ) (d : Data) (rest : Members)
+    → LeadsOn first ms zones (member name d rest)
     → ((others more : List Zone) → names_of others ≡ names_of zones → AddsMember others name (unless_null d) more → ⊥)
-    → (all : List Zone) → AddsMembers utc_zones ms all → ⊥
-leads_nowhere ms zones name d rest leads none all k =
+    → (all : List Zone) → AddsMembers first ms all → ⊥
+leads_nowhere first ms zones name d rest leads none all k =
     let s = leads.back all k in ends s.others name d rest all (λ more. none s.others more s.names) s.adds
 
 -- one entry more of an object
-pub leads_entry : (ms : Members) (zones more : List Zone)
+pub leads_entry : (first : List Zone) (ms : Members) (zones more : List Zone)
     (entries rest : List (String Global × Value)) (name : String Global) (value : Value)
     (text : List ℕ) → entries ≡ (name, value) ∷ rest → text ≡ string_bytes name
-    → LeadsOn ms zones (members_view entries)
-    → AddsMember zones text (unless_null (view value)) more → LeadsOn ms more (members_view rest)
-leads_entry ms zones more entries rest name value text e t leads h =
-    leads_member ms zones more (string_bytes name) (view value) (members_view rest)
-    (subst (λ es. LeadsOn ms zones (members_view es)) e leads)
+    → LeadsOn first ms zones (members_view entries)
+    → AddsMember zones text (unless_null (view value)) more → LeadsOn first ms more (members_view rest)
+leads_entry first ms zones more entries rest name value text e t leads h =
+    leads_member first ms zones more (string_bytes name) (view value) (members_view rest)
+    (subst (λ es. LeadsOn first ms zones (members_view es)) e leads)
     (subst (λ n. AddsMember zones n (unless_null (view value)) more) t h)

@@ -1,5 +1,5 @@
 -- The objects of a scenario, and what a reading of its bytes answers.
-use Rattle.std.specs.Prelude.{◌≡◌, ℕ, ◌+◌, ◌/◌, List, [], ◌∷◌, map, codes, Option, Some, None}
+use Rattle.std.specs.Prelude.{◌≡◌, ℕ, ◌+◌, ◌/◌, List, [], ◌∷◌, map, Option, Some, None}
 use Rattle.serde_json.specs.Data.{Data}
 use Rattle.cj_base.specs.declared.faults.FieldFault.{FieldFault}
 use Rattle.cj_types.specs.declared.cron.CronJob.{CronJob}
@@ -10,7 +10,7 @@ use Rattle.cj_types.specs.declared.meta.Meta.{Meta}
 use Rattle.cj_types.specs.Made.{made_job}
 use Rattle.cj_zone.specs.Table.{local_zone, zones_of}
 use Rattle.cj_zone.specs.TimeText.{time_text_of}
-use Rattle.cj_zone.specs.Zones.{utc_zone}
+use Rattle.cj_zoneinfo.specs.declared.given.GivenZones.{GivenZones}
 use Rattle.cj_manifest.specs.Drafts.{cron_draft}
 use Rattle.cj_manifest.specs.Faults.{cron_faults}
 use Rattle.cj_manifest.specs.Reading.{IsNoValue, Reads}
@@ -75,23 +75,23 @@ scene_job cron given =
 
 -- ---- the answer
 
--- a value of the form, whose manifest has no fault under UTC and the zones in it, says this
-pub record Says (d : Data) (s : Scene) : Type 0 where
+-- a value of the form, whose manifest has no fault under the zones that are given and those in it, says this
+pub record Says (given : GivenZones) (d : Data) (s : Scene) : Type 0 where
   pub form : Form
-  pub formed : IsForm d form
+  pub formed : IsForm given d form
   pub draft : CronJobDraft
   pub sound : cron_faults form.zones form.manifest ≡ []
   pub drafted : cron_draft form.manifest ≡ Some draft
   pub zones : zones_of s.zones ≡ form.zones
-  pub local : local_zone s.zones ≡ Some (utc_zone (codes "UTC"))
+  pub local : local_zone s.zones ≡ local_zone given.rules
   pub cron : s.cron ≡ with_active (scene_cron draft form.created form.last) (names_of (live_jobs s.jobs))
   pub jobs : s.jobs ≡ map (scene_job s.cron) form.jobs
   pub active : s.active ≡ map (λ job. Some job) (live_jobs s.jobs)
 
 -- what the bytes of a scenario say
 -- rule: plan-scenario
-abbrev pub IsScene : List ℕ → Scene → Type 0
-IsScene bytes s = (d : Data) × Reads bytes d × Says d s
+abbrev pub IsScene : GivenZones → List ℕ → Scene → Type 0
+IsScene given bytes s = (d : Data) × Reads bytes d × Says given d s
 
 -- the first of a manifest's faults, or there was no memory
 abbrev pub IsFirst : List FieldFault → SceneFault → Type 0
@@ -99,22 +99,22 @@ IsFirst faults (Manifest fault) = (others : List FieldFault) × (faults ≡ faul
 IsFirst faults Memory = Unit {0}
 IsFirst faults other = ⊥
 
--- a value of the form, whose manifest is at fault under UTC and the zones in it
-pub record HasFault (d : Data) (e : SceneFault) : Type 0 where
+-- a value of the form, whose manifest is at fault under these zones
+pub record HasFault (given : GivenZones) (d : Data) (e : SceneFault) : Type 0 where
   pub form : Form
-  pub formed : IsForm d form
+  pub formed : IsForm given d form
   pub first : IsFirst (cron_faults form.zones form.manifest) e
 
 -- why a value is no scenario: it has no such form; else its manifest is at fault; or there was no memory
-abbrev pub IsRefusedValue : Data → SceneFault → Type 0
-IsRefusedValue d FormFault = IsNoForm d
-IsRefusedValue d (Manifest fault) = HasFault d (Manifest fault)
-IsRefusedValue d Memory = Unit {0}
-IsRefusedValue d Syntax = ⊥
+abbrev pub IsRefusedValue : GivenZones → Data → SceneFault → Type 0
+IsRefusedValue given d FormFault = IsNoForm given d
+IsRefusedValue given d (Manifest fault) = HasFault given d (Manifest fault)
+IsRefusedValue given d Memory = Unit {0}
+IsRefusedValue given d Syntax = ⊥
 
 -- why bytes are none: they are no JSON; else the value that they are is none; or there was no memory
 -- rule: plan-scenario
-abbrev pub IsRefusedScene : List ℕ → SceneFault → Type 0
-IsRefusedScene bytes Syntax = IsNoValue bytes
-IsRefusedScene bytes Memory = Unit {0}
-IsRefusedScene bytes e = (d : Data) × Reads bytes d × IsRefusedValue d e
+abbrev pub IsRefusedScene : GivenZones → List ℕ → SceneFault → Type 0
+IsRefusedScene given bytes Syntax = IsNoValue bytes
+IsRefusedScene given bytes Memory = Unit {0}
+IsRefusedScene given bytes e = (d : Data) × Reads bytes d × IsRefusedValue given d e

@@ -11,8 +11,11 @@ use Rattle.cj_types.specs.declared.policy.Outcome.TheVariants.{Complete, Failed}
 use Rattle.cj_zone.specs.declared.source.Source.TheVariants.{Rule}
 use Rattle.cj_zone.specs.declared.zone.Zone.{Zone}
 use Rattle.cj_zone.specs.Made.{IsMade}
+use Rattle.cj_zone.specs.Table.{zones_of}
 use Rattle.cj_zone.specs.TimeText.{time_text_of}
-use Rattle.cj_zone.specs.Zones.{is_refused_name, utc_zone}
+use Rattle.cj_zone.specs.Zones.{is_refused_name}
+use Rattle.cj_zoneinfo.specs.declared.given.GivenZones.{GivenZones}
+use Rattle.cj_zoneinfo.specs.Files.{AddsFiles}
 use Rattle.cj_manifest.specs.Members.{present, unless_null}
 use Rattle.cj_scenario.specs.declared.fault.SceneFault.{SceneFault}
 use Rattle.cj_scenario.specs.declared.fault.SceneFault.TheVariants.{Form as FormFault, Memory}
@@ -37,10 +40,6 @@ IsMaybeTime (Some d) None = ⊥
 IsMaybeTime (Some d) (Some t) = IsTime d t
 
 -- ---- zones
-
--- UTC under its two names
-abbrev pub utc_zones : List Zone
-utc_zones = utc_zone (codes "UTC") ∷ utc_zone (codes "Etc/UTC") ∷ []
 
 -- one zone more, of a name that is free, whose clock is what `jiff` makes of the rule
 pub record AddsRule (zones : List Zone) (name rule : List ℕ) (more : List Zone) : Type 0 where
@@ -67,14 +66,21 @@ AddsMembers zones no_members all = all ≡ zones
 AddsMembers zones (member name d ms) all =
     (more : List Zone) × AddsMember zones name (unless_null d) more × AddsMembers more ms all
 
-abbrev pub AddsObject : Option Members → List Zone → Type 0
-AddsObject None zones = ⊥
-AddsObject (Some ms) zones = AddsMembers utc_zones ms zones
+abbrev pub AddsMaybe : List Zone → Option Members → List Zone → Type 0
+AddsMaybe zones None all = ⊥
+AddsMaybe zones (Some ms) all = AddsMembers zones ms all
 
--- UTC, and the zones of an object from names to rules, where there is one
-abbrev pub AreZones : Option Data → List Zone → Type 0
-AreZones None zones = zones ≡ utc_zones
-AreZones (Some d) zones = AddsObject (as_object d) zones
+-- the zones with those of an object from names to rules, where there is one
+abbrev pub AddsObject : List Zone → Option Data → List Zone → Type 0
+AddsObject zones None all = all ≡ zones
+AddsObject zones (Some d) all = AddsMaybe zones (as_object d) all
+
+-- the zones of the rules that are given, those of such an object, and those of the files that are given
+-- rules: zone-option, zoneinfo
+pub record AreZones (given : GivenZones) (o : Option Data) (zones : List Zone) : Type 0 where
+  pub own : List Zone
+  pub own_are : AddsObject (zones_of given.rules) o own
+  pub zones_are : AddsFiles own given.files.now zones
 
 -- ---- Jobs
 
@@ -130,8 +136,8 @@ pub record Form : Type 0 where
   pub jobs : List GivenJob
 
 -- rule: plan-scenario
-pub record IsForm (d : Data) (f : Form) : Type 0 where
-  pub zones : AreZones (present (codes "zones") d) f.zones
+pub record IsForm (given : GivenZones) (d : Data) (f : Form) : Type 0 where
+  pub zones : AreZones given (present (codes "zones") d) f.zones
   pub manifest : present (codes "manifest") d ≡ Some f.manifest
   pub created : IsTimeIn (present (codes "created") d) f.created
   pub last : IsMaybeTime (present (codes "last") d) f.last
@@ -149,5 +155,5 @@ names_of zones = map (λ z. z.name) zones
 
 -- a value of no form
 -- rule: plan-scenario
-abbrev pub IsNoForm : Data → Type 0
-IsNoForm d = (f : Form) → IsForm d f → ⊥
+abbrev pub IsNoForm : GivenZones → Data → Type 0
+IsNoForm given d = (f : Form) → IsForm given d f → ⊥

@@ -2,7 +2,6 @@
 ghost use Rattle.std.specs.Prelude.{◌≡◌, codes, Some, IfOk, IfErr};
 ghost use Rattle.serde_json.specs.View.{view};
 ghost use Rattle.cj_zone.specs.Table.{local_zone};
-ghost use Rattle.cj_zone.specs.Zones.{utc_zone};
 ghost use Rattle.cj_scenario.specs.Parts.{form_of};
 ghost use Rattle.cj_scenario.specs.Scenes.{IsForm, IsNoForm, Refuses};
 
@@ -12,6 +11,7 @@ use crate::times::{maybe_time_at, present, time_at};
 use crate::zones::table_of;
 use cj_types::Seconds;
 use cj_zone::ZoneTable;
+use cj_zoneinfo::GivenZones;
 use serde_json::Value;
 use std::alloc::Global;
 
@@ -25,11 +25,15 @@ pub(crate) struct Parts<'v> {
     pub jobs: Vec<GivenJob>,
 }
 
-/// The parts of a scenario, or `Form` where it has another form.
-pub(crate) fn parts_of<'v>(alloc: Global, value: &'v Value) -> Result<Parts<'v>, SceneFault>
-    ensures ok { IfOk result (λ p. IsForm (view value.now) (form_of p)) }
-    ensures local { IfOk result (λ p. local_zone p.zones ≡ Some (utc_zone (codes "UTC"))) }
-    ensures refused { IfErr result (λ e. Refuses e (IsNoForm (view value.now))) }
+/// The parts of a scenario under the zones that are given, or `Form` where it has another form.
+pub(crate) fn parts_of<'v>(
+    alloc: Global,
+    given: GivenZones<'_>,
+    value: &'v Value,
+) -> Result<Parts<'v>, SceneFault>
+    ensures ok { IfOk result (λ p. IsForm given.entry (view value.now) (form_of p)) }
+    ensures local { IfOk result (λ p. local_zone p.zones ≡ local_zone given.entry.rules) }
+    ensures refused { IfErr result (λ e. Refuses e (IsNoForm given.entry (view value.now))) }
 {
     let Some(manifest) = present(value, "manifest") else {
         return Err(SceneFault::Form);
@@ -41,7 +45,7 @@ pub(crate) fn parts_of<'v>(alloc: Global, value: &'v Value) -> Result<Parts<'v>,
         return Err(SceneFault::Form);
     };
     let jobs = jobs_of(alloc, present(value, "jobs"))?;
-    let zones = table_of(alloc, present(value, "zones"))?;
+    let zones = table_of(given, present(value, "zones"))?;
     Ok(Parts {
         zones,
         manifest,

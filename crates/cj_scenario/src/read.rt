@@ -20,6 +20,7 @@ use crate::scene::Scene;
 use cj_manifest::cron_of;
 use cj_types::{CronJob, CronJobDraft, Job, Listing, Refusal, Shared};
 use cj_zone::ZoneTable;
+use cj_zoneinfo::GivenZones;
 use serde_json::Value;
 use std::alloc::Global;
 
@@ -96,12 +97,12 @@ fn scene_with(
 }
 
 // What the value says.
-fn scene_of(alloc: Global, value: &Value) -> Result<Scene, SceneFault>
+fn scene_of(alloc: Global, given: GivenZones<'_>, value: &Value) -> Result<Scene, SceneFault>
     requires flat { depth (view value.now) ≤ max_depth }
-    ensures said { IfOk result (Says (view value.now)) }
-    ensures refused { IfErr result (IsRefusedValue (view value.now)) }
+    ensures said { IfOk result (Says given.entry (view value.now)) }
+    ensures refused { IfErr result (IsRefusedValue given.entry (view value.now)) }
 {
-    let parts = parts_of(alloc, value)?;
+    let parts = parts_of(alloc, given, value)?;
     let draft = draft_of(alloc, parts.manifest, &parts.zones)?;
     let cron = scene_cron(alloc, draft, parts.created, parts.last);
     let jobs = scene_jobs(alloc, &cron, parts.jobs.as_slice())?;
@@ -109,18 +110,18 @@ fn scene_of(alloc: Global, value: &Value) -> Result<Scene, SceneFault>
     Ok(scene)
 }
 
-/// Reads a scenario for a plan: a JSON object with `manifest`, a CronJob's; `created`, the time of its
+/// Reads a scenario for a plan, under the zones that are given: a JSON object with `manifest`, a CronJob's; `created`, the time of its
 /// creation; `last`, its last schedule time; `jobs`, a list of objects with a `time` and an `outcome`,
 /// `Running`, `Complete` or `Failed`; and `zones`, an object from names to POSIX rules. The last three may be
 /// absent; members of other names, or that are null, are ignored.
 ///
 /// Refused in this order: `Syntax` for bytes that aren't JSON, `Form` for a value of another form, with a
-/// zone that is refused or two Jobs of one minute, and `Manifest` with the manifest's first fault under UTC
-/// and the zones.
-pub fn read_scene(alloc: Global, bytes: &[u8]) -> Result<Scene, SceneFault>
-    ensures read { IfOk result (IsScene bytes.now) }
-    ensures refused { IfErr result (IsRefusedScene bytes.now) }
+/// zone that is refused or two Jobs of one minute, and `Manifest` with the manifest's first fault under all
+/// these zones.
+pub fn read_scene(alloc: Global, given: GivenZones<'_>, bytes: &[u8]) -> Result<Scene, SceneFault>
+    ensures read { IfOk result (IsScene given.entry bytes.now) }
+    ensures refused { IfErr result (IsRefusedScene given.entry bytes.now) }
 {
     let value = value_of(alloc, bytes)?;
-    scene_of(alloc, &value)
+    scene_of(alloc, given, &value)
 }

@@ -1,17 +1,16 @@
 // The zones of a scenario.
-ghost use Rattle.std.specs.Prelude.{◌≡◌, ℕ, List, codes, Some, IfOk, IfErr, OnOk, option_map};
+ghost use Rattle.std.specs.Prelude.{◌≡◌, List, IfOk, IfErr, OnOk, option_map};
 ghost use Rattle.serde_json.specs.View.{view, members_view};
 ghost use Rattle.cj_zone.specs.declared.zone.Zone.{Zone};
 ghost use Rattle.cj_zone.specs.Table.{local_zone, zones_of};
-ghost use Rattle.cj_zone.specs.Zones.{utc_zone};
 ghost use Rattle.cj_manifest.specs.Members.{unless_null};
 ghost use Rattle.cj_scenario.specs.Scenes as form;
 
 use crate::fault::SceneFault;
 use cj_types::Refusal;
 use cj_zone::ZoneTable;
+use cj_zoneinfo::{GivenZones, add_files};
 use serde_json::{Map, Value};
-use std::alloc::Global;
 
 // The zone of a rule more, at the end.
 fn add_rule(table: &mut ZoneTable, name: &str, rule: &str) -> Result<(), SceneFault>
@@ -45,34 +44,49 @@ fn add_member(table: &mut ZoneTable, name: &str, value: &Value) -> Result<(), Sc
     }
 }
 
-fn members_of(alloc: Global, members: &Map<String, Value>) -> Result<ZoneTable, SceneFault>
-    ensures ok { IfOk result (λ t. form.AddsMembers form.utc_zones
-        (members_view members.now.entries) (zones_of t)) }
-    ensures local { IfOk result (λ t. local_zone t ≡ Some (utc_zone (codes "UTC"))) }
+fn add_members(table: &mut ZoneTable, members: &Map<String, Value>) -> Result<(), SceneFault>
+    ensures ok { OnOk result (form.AddsMembers (zones_of table.old)
+        (members_view members.now.entries) (zones_of table.new)) }
+    ensures local { OnOk result (local_zone table.new ≡ local_zone table.old) }
     ensures refused { IfErr result (λ e. form.Refuses e ((all : List Zone) →
-        form.AddsMembers form.utc_zones (members_view members.now.entries) all → ⊥)) }
+        form.AddsMembers (zones_of table.old) (members_view members.now.entries) all → ⊥)) }
 {
-    let mut table = ZoneTable::new(alloc)?;
     for (name, member) in members.iter() {
-        add_member(&mut table, name.as_str(), member)?;
+        add_member(table, name.as_str(), member)?;
     }
-    Ok(table)
+    Ok(())
 }
 
-/// UTC, and the zones of an object from names to POSIX rules, where there is one: `Form` where that has
-/// another form or a zone is refused. UTC is the local zone.
-pub fn table_of(alloc: Global, object: Option<&Value>) -> Result<ZoneTable, SceneFault>
-    ensures ok { IfOk result (λ t. form.AreZones (option_map (λ v. view v.now) object.entry)
-        (zones_of t)) }
-    ensures local { IfOk result (λ t. local_zone t ≡ Some (utc_zone (codes "UTC"))) }
+// The zones of an object from names to POSIX rules more, where there is one.
+fn add_object(table: &mut ZoneTable, object: Option<&Value>) -> Result<(), SceneFault>
+    ensures ok { OnOk result (form.AddsObject (zones_of table.old)
+        (option_map (λ v. view v.now) object.entry) (zones_of table.new)) }
+    ensures local { OnOk result (local_zone table.new ≡ local_zone table.old) }
     ensures refused { IfErr result (λ e. form.Refuses e ((all : List Zone) →
-        form.AreZones (option_map (λ v. view v.now) object.entry) all → ⊥)) }
+        form.AddsObject (zones_of table.old) (option_map (λ v. view v.now) object.entry) all → ⊥)) }
 {
     match object {
-        None => Ok(ZoneTable::new(alloc)?),
+        None => Ok(()),
         Some(found) => match found.as_object() {
-            Some(members) => members_of(alloc, members),
+            Some(members) => add_members(table, members),
             None => Err(SceneFault::Form),
         },
     }
+}
+
+/// The zones of the rules that are given, those of an object from names to POSIX rules, where there is one, and
+/// those of the files that are given: `Form` where the object has another form or a zone of it is refused. A file
+/// is passed over whose name isn't free. The local zone stays.
+pub fn table_of(given: GivenZones<'_>, object: Option<&Value>) -> Result<ZoneTable, SceneFault>
+    ensures ok { IfOk result (λ t. form.AreZones given.entry
+        (option_map (λ v. view v.now) object.entry) (zones_of t)) }
+    ensures local { IfOk result (λ t. local_zone t ≡ local_zone given.entry.rules) }
+    ensures refused { IfErr result (λ e. form.Refuses e ((all : List Zone) →
+        form.AreZones given.entry (option_map (λ v. view v.now) object.entry) all → ⊥)) }
+{
+    let GivenZones { rules, files } = given;
+    let mut table = rules;
+    add_object(&mut table, object)?;
+    add_files(&mut table, files)?;
+    Ok(table)
 }

@@ -1,9 +1,10 @@
 -- Why a value is refused: never as no JSON.
-use Rattle.std.proofs.Common.{◌≡◌, ◌≢◌, ◌++◌, List, [], ◌∷◌, codes, Option, Some, None, option_and_then, Result, Ok, Err, refl, inr}
+use Rattle.std.proofs.Common.{◌≡◌, ◌≢◌, ◌++◌, List, [], ◌∷◌, codes, Option, Some, None, option_and_then, Result, Ok, Err, refl, inl, inr}
 use Rattle.serde_json.specs.Data.{Data, Items, no_items, item}
 use Rattle.serde_json.specs.Find.{as_array}
 use Rattle.cj_base.specs.declared.faults.FieldFault.{FieldFault}
 use Rattle.cj_zone.specs.declared.zone.Zone.{Zone}
+use Rattle.cj_zoneinfo.specs.declared.given.GivenZones.{GivenZones}
 use Rattle.cj_scenario.specs.declared.fault.SceneFault.{SceneFault}
 use Rattle.cj_scenario.specs.declared.fault.SceneFault.TheVariants.{Form, Manifest, Memory, Syntax}
 use Rattle.cj_types.specs.declared.cron.CronJobDraft.{CronJobDraft}
@@ -14,7 +15,7 @@ use Rattle.cj_calls.specs.declared.call.Call.TheVariants as Of
 use Rattle.cj_manifest.specs.Drafts.{cron_draft, job_draft}
 use Rattle.cj_manifest.specs.Faults.{cron_faults, job_faults}
 use Rattle.cj_manifest.specs.Members.{present}
-use Rattle.cj_scenario.specs.Scenes.{AreZones}
+use Rattle.cj_scenario.specs.Scenes.{AreZones, Refuses}
 use Rattle.cj_acts.specs.Acts.{moment_in}
 use Rattle.cj_acts.specs.Plain.{plain_act}
 use Rattle.cj_acts.specs.declared.act.Act.{Act}
@@ -192,9 +193,16 @@ other_told zones d =
     (λ steps. other_fine (limits, steps)))))
 
 -- why a value is refused that has these zones
-pub refused_under : (d : Data) (zones : List Zone) (e : SceneFault) → AreZones (present (codes "zones") d) zones
-    → (e ≢ Memory → told_in zones d ≡ Err e) → IsRefusedValue d e
-refused_under d zones Syntax are h = absurd ((other_told zones d).differs (h (λ q. absurd (cc q))))
-refused_under d zones Form are h = inr (record { zones = zones; are = are; told = h (λ q. absurd (cc q)) })
-refused_under d zones (Manifest fault) are h = record { zones = zones; are = are; told = h (λ q. absurd (cc q)) }
-refused_under d zones Memory are h = tt
+pub refused_under : (given : GivenZones) (d : Data) (zones : List Zone) (e : SceneFault) → AreZones given (present (codes "zones") d) zones
+    → (e ≢ Memory → told_in zones d ≡ Err e) → IsRefusedValue given d e
+refused_under given d zones Syntax are h = absurd ((other_told zones d).differs (h (λ q. absurd (cc q))))
+refused_under given d zones Form are h = inr (record { zones = zones; are = are; told = h (λ q. absurd (cc q)) })
+refused_under given d zones (Manifest fault) are h = record { zones = zones; are = are; told = h (λ q. absurd (cc q)) }
+refused_under given d zones Memory are h = tt
+
+-- why a value is refused that has no zones
+pub refused_zones : (given : GivenZones) (d : Data) (e : SceneFault)
+    → Refuses e ((zones : List Zone) → AreZones given (present (codes "zones") d) zones → ⊥)
+    → IsRefusedValue given d e
+refused_zones given d e (inl memory) = rw memory tt
+refused_zones given d e (inr (form, none)) = rw form (inl none)

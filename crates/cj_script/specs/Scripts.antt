@@ -4,8 +4,8 @@ use Rattle.serde_json.specs.Data.{Data}
 use Rattle.serde_json.specs.Find.{as_array}
 use Rattle.cj_types.specs.WorldLimits.{Kept}
 use Rattle.cj_zone.specs.Table.{local_zone, zones_of}
-use Rattle.cj_zone.specs.Zones.{utc_zone}
 use Rattle.cj_zone.specs.declared.zone.Zone.{Zone}
+use Rattle.cj_zoneinfo.specs.declared.given.GivenZones.{GivenZones}
 use Rattle.cj_manifest.specs.Members.{present}
 use Rattle.cj_manifest.specs.Reading.{IsNoValue, Reads}
 use Rattle.cj_scenario.specs.Scenes.{AreZones}
@@ -27,39 +27,39 @@ told_in zones d =
     then (needed (option_and_then as_array (present (codes "steps") d))) (λ items.
     then (steps_of zones callers items) (λ steps. Ok (limits, steps)))))
 
--- a value says this: its zones beside UTC, which is the local one, and under these its limits and its steps
+-- a value says this: its zones beside those that are given, and under these its limits and its steps
 -- rule: script
-pub record Says (d : Data) (s : Script) : Type 0 where
-  pub zones : AreZones (present (codes "zones") d) (zones_of s.zones)
-  pub local : local_zone s.zones ≡ Some (utc_zone (codes "UTC"))
+pub record Says (given : GivenZones) (d : Data) (s : Script) : Type 0 where
+  pub zones : AreZones given (present (codes "zones") d) (zones_of s.zones)
+  pub local : local_zone s.zones ≡ local_zone given.rules
   pub told : told_in (zones_of s.zones) d ≡ Ok (s.limits, s.steps.items)
 
 -- what the bytes of a script say
 -- rule: script
-abbrev pub IsScript : List ℕ → Script → Type 0
-IsScript bytes s = (d : Data) × Reads bytes d × Says d s
+abbrev pub IsScript : GivenZones → List ℕ → Script → Type 0
+IsScript given bytes s = (d : Data) × Reads bytes d × Says given d s
 
 -- none of its zones' forms fits
-abbrev pub HasNoZones : Data → Type 0
-HasNoZones d = (zones : List Zone) → AreZones (present (codes "zones") d) zones → ⊥
+abbrev pub HasNoZones : GivenZones → Data → Type 0
+HasNoZones given d = (zones : List Zone) → AreZones given (present (codes "zones") d) zones → ⊥
 
 -- under its zones it is refused so
-pub record IsAtFault (d : Data) (e : SceneFault) : Type 0 where
+pub record IsAtFault (given : GivenZones) (d : Data) (e : SceneFault) : Type 0 where
   pub zones : List Zone
-  pub are : AreZones (present (codes "zones") d) zones
+  pub are : AreZones given (present (codes "zones") d) zones
   pub told : told_in zones d ≡ Err e
 
 -- why a value is no script: its form or one of its zones; else a manifest; or there was no memory
 -- rule: script-order
-abbrev pub IsRefusedValue : Data → SceneFault → Type 0
-IsRefusedValue d Form = HasNoZones d ⊎ IsAtFault d Form
-IsRefusedValue d (Manifest fault) = IsAtFault d (Manifest fault)
-IsRefusedValue d Memory = Unit {0}
-IsRefusedValue d Syntax = ⊥
+abbrev pub IsRefusedValue : GivenZones → Data → SceneFault → Type 0
+IsRefusedValue given d Form = HasNoZones given d ⊎ IsAtFault given d Form
+IsRefusedValue given d (Manifest fault) = IsAtFault given d (Manifest fault)
+IsRefusedValue given d Memory = Unit {0}
+IsRefusedValue given d Syntax = ⊥
 
 -- why bytes are none: they are no JSON; else the value that they are is none; or there was no memory
 -- rule: script-order
-abbrev pub IsRefusedScript : List ℕ → SceneFault → Type 0
-IsRefusedScript bytes Syntax = IsNoValue bytes
-IsRefusedScript bytes Memory = Unit {0}
-IsRefusedScript bytes e = (d : Data) × Reads bytes d × IsRefusedValue d e
+abbrev pub IsRefusedScript : GivenZones → List ℕ → SceneFault → Type 0
+IsRefusedScript given bytes Syntax = IsNoValue bytes
+IsRefusedScript given bytes Memory = Unit {0}
+IsRefusedScript given bytes e = (d : Data) × Reads bytes d × IsRefusedValue given d e

@@ -16,6 +16,7 @@ use cj_acts::present;
 use cj_scenario::{SceneFault, table_of, value_of};
 use cj_types::Limits;
 use cj_zone::ZoneTable;
+use cj_zoneinfo::GivenZones;
 use serde_json::Value;
 use std::alloc::Global;
 
@@ -50,12 +51,12 @@ fn told_of(alloc: Global, zones: &ZoneTable, value: &Value) -> Result<Told, Scen
 }
 
 // What the value says.
-fn script_of(alloc: Global, value: &Value) -> Result<Script, SceneFault>
+fn script_of(alloc: Global, given: GivenZones<'_>, value: &Value) -> Result<Script, SceneFault>
     requires flat { depth (view value.now) ≤ max_depth }
-    ensures said { IfOk result (Says (view value.now)) }
-    ensures refused { IfErr result (IsRefusedValue (view value.now)) }
+    ensures said { IfOk result (Says given.entry (view value.now)) }
+    ensures refused { IfErr result (IsRefusedValue given.entry (view value.now)) }
 {
-    let zones = table_of(alloc, present(value, "zones"))?;
+    let zones = table_of(given, present(value, "zones"))?;
     let Told { limits, steps } = told_of(alloc, &zones, value)?;
     Ok(Script {
         zones,
@@ -64,17 +65,17 @@ fn script_of(alloc: Global, value: &Value) -> Result<Script, SceneFault>
     })
 }
 
-/// Reads a script: a JSON object with `callers`, an object from names to roles, `User`, `Runner`, `Informer`
+/// Reads a script under the zones that are given: a JSON object with `callers`, an object from names to roles, `User`, `Runner`, `Informer`
 /// or `Worker`; `steps`, a list of objects that each say `who` does what, `do`, with what that needs; and,
 /// where wanted, `zones`, an object from names to POSIX rules, and the limits `history` and `window`, by
 /// default 1,048,576 and 1,000. Members of other names, or that are null, are ignored.
 ///
 /// Refused in this order: `Syntax` for bytes that aren't JSON, `Form` for a value of another form or with a
 /// zone that is refused, and `Manifest` with the first fault of the first manifest that has one.
-pub fn read_script(alloc: Global, bytes: &[u8]) -> Result<Script, SceneFault>
-    ensures read { IfOk result (IsScript bytes.now) }
-    ensures refused { IfErr result (IsRefusedScript bytes.now) }
+pub fn read_script(alloc: Global, given: GivenZones<'_>, bytes: &[u8]) -> Result<Script, SceneFault>
+    ensures read { IfOk result (IsScript given.entry bytes.now) }
+    ensures refused { IfErr result (IsRefusedScript given.entry bytes.now) }
 {
     let value = value_of(alloc, bytes)?;
-    script_of(alloc, &value)
+    script_of(alloc, given, &value)
 }

@@ -79,13 +79,13 @@ check_app = with_zones (with_rule (new_app (codes "check")) file_rule)
 abbrev pub now_rule : Rule
 now_rule = record (new_rule (codes "now")) { long = Some (codes "now"); required = true; value_names = 1 }
 
--- `cronsim plan FILE --now TIME [--explain]`
+-- `cronsim plan FILE --now TIME [--zone NAME=RULE].. [--zoneinfo DIR] [--explain]`
 abbrev pub plan_app : App
-plan_app = with_rule (with_rule (with_rule (new_app (codes "plan")) file_rule) now_rule) explain_rule
+plan_app = with_zones (with_rule (with_rule (new_app (codes "plan")) file_rule) now_rule)
 
--- `cronsim replay FILE [--explain]`
+-- `cronsim replay FILE [--zone NAME=RULE].. [--zoneinfo DIR] [--explain]`
 abbrev pub replay_app : App
-replay_app = with_rule (with_rule (new_app (codes "replay")) file_rule) explain_rule
+replay_app = with_zones (with_rule (new_app (codes "replay")) file_rule)
 
 abbrev pub workers_rule : Rule
 workers_rule = record (new_rule (codes "workers")) {
@@ -95,9 +95,9 @@ workers_rule = record (new_rule (codes "workers")) {
   parser = Some (Unsigned 1 32);
 }
 
--- `cronsim run FILE --workers N [--explain]`
+-- `cronsim run FILE --workers N [--zone NAME=RULE].. [--zoneinfo DIR] [--explain]`
 abbrev pub run_app : App
-run_app = with_rule (with_rule (with_rule (new_app (codes "run")) file_rule) workers_rule) explain_rule
+run_app = with_zones (with_rule (with_rule (new_app (codes "run")) file_rule) workers_rule)
 
 abbrev pub cron_rule : Rule
 cron_rule = record (new_rule (codes "cron")) { long = Some (codes "cron"); value_names = 1 }
@@ -174,11 +174,13 @@ pub record IsCheck (rows : List Row) (r : CheckRequest) : Type 0 where
 pub record IsPlan (rows : List Row) (r : PlanRequest) : Type 0 where
   pub file : first_of (codes "file") rows ≡ Some r.file.now
   pub moment : first_of (codes "now") rows ≡ Some r.moment.now
+  pub zones : AreZones rows r.zones
   pub explain : r.explain ≡ is_given (codes "explain") rows
 
 -- and for those of `replay`
 pub record IsReplay (rows : List Row) (r : ReplayRequest) : Type 0 where
   pub file : first_of (codes "file") rows ≡ Some r.file.now
+  pub zones : AreZones rows r.zones
   pub explain : r.explain ≡ is_given (codes "explain") rows
 
 -- and for those of `run`
@@ -187,6 +189,7 @@ pub record IsRunOf (rows : List Row) (r : RunRequest) : Type 0 where
   pub workers : (text : Text) × (first_of (codes "workers") rows ≡ Some text) × IsDecimal text r.workers
   pub least : 1 ≤ r.workers
   pub most : r.workers ≤ 32
+  pub zones : AreZones rows r.zones
   pub explain : r.explain ≡ is_given (codes "explain") rows
 
 -- and for those of `why`
@@ -233,9 +236,9 @@ file_of (Audit r) = Some r.file.now
 abbrev pub zones_of : Request → Option ZoneWords
 zones_of (Next r) = None
 zones_of (Check r) = Some r.zones
-zones_of (Plan r) = None
-zones_of (Replay r) = None
-zones_of (Run r) = None
+zones_of (Plan r) = Some r.zones
+zones_of (Replay r) = Some r.zones
+zones_of (Run r) = Some r.zones
 zones_of (Why r) = Some r.zones
 zones_of (Audit r) = Some r.zones
 
@@ -244,9 +247,9 @@ zones_of (Audit r) = Some r.zones
 abbrev pub folder_of : Request → Option Text
 folder_of (Next r) = option_map (λ s. s.now) r.folder
 folder_of (Check r) = option_map (λ s. s.now) r.zones.folder
-folder_of (Plan r) = None
-folder_of (Replay r) = None
-folder_of (Run r) = None
+folder_of (Plan r) = option_map (λ s. s.now) r.zones.folder
+folder_of (Replay r) = option_map (λ s. s.now) r.zones.folder
+folder_of (Run r) = option_map (λ s. s.now) r.zones.folder
 folder_of (Why r) = option_map (λ s. s.now) r.zones.folder
 folder_of (Audit r) = option_map (λ s. s.now) r.zones.folder
 

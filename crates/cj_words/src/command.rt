@@ -67,9 +67,8 @@ fn plan_command<'a>(alloc: Global) -> Result<Command<'a>, AllocError>
         .about("Print what the next sync of a CronJob does")
         .after_help(help::PLAN)
         .arg(file_arg(alloc, help::SCENARIO))?
-        .arg(now_arg(alloc, help::MOMENT))?
-        .arg(explain_arg(alloc))?;
-    Ok(command)
+        .arg(now_arg(alloc, help::MOMENT))?;
+    with_zones(alloc, command)
 }
 
 fn replay_command<'a>(alloc: Global) -> Result<Command<'a>, AllocError>
@@ -79,9 +78,8 @@ fn replay_command<'a>(alloc: Global) -> Result<Command<'a>, AllocError>
     let command = Command::new(alloc, "replay")
         .about("Make the steps of a script on an empty world, and print what each is answered")
         .after_help(help::REPLAY)
-        .arg(file_arg(alloc, help::SCRIPT))?
-        .arg(explain_arg(alloc))?;
-    Ok(command)
+        .arg(file_arg(alloc, help::SCRIPT))?;
+    with_zones(alloc, command)
 }
 
 fn run_command<'a>(alloc: Global) -> Result<Command<'a>, AllocError>
@@ -92,9 +90,8 @@ fn run_command<'a>(alloc: Global) -> Result<Command<'a>, AllocError>
         .about("Run the whole controller under a simulated clock, and print what it leaves")
         .after_help(help::RUN)
         .arg(file_arg(alloc, help::COURSE))?
-        .arg(workers_arg(alloc))?
-        .arg(explain_arg(alloc))?;
-    Ok(command)
+        .arg(workers_arg(alloc))?;
+    with_zones(alloc, command)
 }
 
 fn why_command<'a>(alloc: Global) -> Result<Command<'a>, AllocError>

@@ -50,7 +50,7 @@ pub(crate) const PLAN: &str = "Example:
 
 Exit status:
   0  the plan was printed
-  1  the moment or the scenario is refused, as standard error says; --explain says why
+  1  the moment, a zone or the scenario is refused, as standard error says; --explain says why
   2  the words are wrong
   3  reading or writing failed, or memory was wanting";
 
@@ -60,7 +60,7 @@ pub(crate) const REPLAY: &str = "Example:
 
 Exit status:
   0  the lines of all steps and the report were printed
-  1  the script is refused, as standard error says; --explain says why
+  1  a zone or the script is refused, as standard error says; --explain says why
   2  the words are wrong
   3  a step found the history full, reading or writing failed, or memory was wanting";
 
@@ -70,7 +70,7 @@ pub(crate) const RUN: &str = "Example:
 
 Exit status:
   0  the report was printed
-  1  the scenario is refused, as standard error says; --explain says why
+  1  a zone or the scenario is refused, as standard error says; --explain says why
   2  the words are wrong
   3  a call found the history full, reading or writing failed, or memory or a thread was wanting";
 

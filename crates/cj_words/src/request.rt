@@ -43,10 +43,13 @@ impl<'a> Request<'a> {
         ensures { option_map (λ z. z.now) result ≡ zones_of self.now }
     {
         match self {
+            Request::Next(_) => None,
             Request::Check(check) => Some(&check.zones),
+            Request::Plan(plan) => Some(&plan.zones),
+            Request::Replay(replay) => Some(&replay.zones),
+            Request::Run(run) => Some(&run.zones),
             Request::Why(why) => Some(&why.zones),
             Request::Audit(audit) => Some(&audit.zones),
-            _ => None,
         }
     }
 
@@ -57,9 +60,11 @@ impl<'a> Request<'a> {
         match self {
             Request::Next(next) => next.folder,
             Request::Check(check) => check.zones.folder,
+            Request::Plan(plan) => plan.zones.folder,
+            Request::Replay(replay) => replay.zones.folder,
+            Request::Run(run) => run.zones.folder,
             Request::Why(why) => why.zones.folder,
             Request::Audit(audit) => audit.zones.folder,
-            _ => None,
         }
     }
 
@@ -125,6 +130,8 @@ pub struct PlanRequest<'a> {
     pub file: &'a str,
     /// The moment that the plan is for: a printed time.
     pub moment: &'a str,
+    /// The zones that the CronJob may name.
+    pub zones: ZoneWords<'a>,
     /// Whether a refusal is explained.
     pub explain: bool,
 }
@@ -134,6 +141,8 @@ pub struct PlanRequest<'a> {
 pub struct ReplayRequest<'a> {
     /// The name of the file with the script; `-` is standard input.
     pub file: &'a str,
+    /// The zones that the CronJobs may name.
+    pub zones: ZoneWords<'a>,
     /// Whether a refusal is explained.
     pub explain: bool,
 }
@@ -145,6 +154,8 @@ pub struct RunRequest<'a> {
     pub file: &'a str,
     /// How many workers, 1 to 32.
     pub workers: u8,
+    /// The zones that the CronJobs may name.
+    pub zones: ZoneWords<'a>,
     /// Whether a refusal is explained.
     pub explain: bool,
 }

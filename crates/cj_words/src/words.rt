@@ -133,10 +133,10 @@ fn check_request<'a>(alloc: Global, found: &ArgMatches<'a>) -> Result<CheckReque
     })
 }
 
-fn plan_request<'a>(found: &ArgMatches<'a>) -> Result<PlanRequest<'a>, WordFault>
+fn plan_request<'a>(alloc: Global, found: &ArgMatches<'a>) -> Result<PlanRequest<'a>, WordFault>
     ensures stated { IfOk result (IsPlan (rows_of (found_of found.now))) }
-    ensures refused { IfErr result (λ e. e ≡ Incomplete) }
-    ensures only { IfErr result (λ _. (r : PlanRequest) →
+    ensures refused { IfErr result (λ e. (e ≡ Incomplete) ⊎ (e ≡ OutOfMemory)) }
+    ensures only { IfErr result (λ e. e ≡ Incomplete → (r : PlanRequest) →
         ¬ (IsPlan (rows_of (found_of found.now)) r)) }
 {
     let file = text(found, "file")?;
@@ -145,25 +145,30 @@ fn plan_request<'a>(found: &ArgMatches<'a>) -> Result<PlanRequest<'a>, WordFault
     Ok(PlanRequest {
         file,
         moment,
+        zones: zone_words(alloc, found)?,
         explain,
     })
 }
 
-fn replay_request<'a>(found: &ArgMatches<'a>) -> Result<ReplayRequest<'a>, WordFault>
+fn replay_request<'a>(alloc: Global, found: &ArgMatches<'a>) -> Result<ReplayRequest<'a>, WordFault>
     ensures stated { IfOk result (IsReplay (rows_of (found_of found.now))) }
-    ensures refused { IfErr result (λ e. e ≡ Incomplete) }
-    ensures only { IfErr result (λ _. (r : ReplayRequest) →
+    ensures refused { IfErr result (λ e. (e ≡ Incomplete) ⊎ (e ≡ OutOfMemory)) }
+    ensures only { IfErr result (λ e. e ≡ Incomplete → (r : ReplayRequest) →
         ¬ (IsReplay (rows_of (found_of found.now)) r)) }
 {
     let file = text(found, "file")?;
     let explain = is_given(found, "explain");
-    Ok(ReplayRequest { file, explain })
+    Ok(ReplayRequest {
+        file,
+        zones: zone_words(alloc, found)?,
+        explain,
+    })
 }
 
-fn run_request<'a>(found: &ArgMatches<'a>) -> Result<RunRequest<'a>, WordFault>
+fn run_request<'a>(alloc: Global, found: &ArgMatches<'a>) -> Result<RunRequest<'a>, WordFault>
     ensures stated { IfOk result (IsRunOf (rows_of (found_of found.now))) }
-    ensures refused { IfErr result (λ e. e ≡ Incomplete) }
-    ensures only { IfErr result (λ _. (r : RunRequest) →
+    ensures refused { IfErr result (λ e. (e ≡ Incomplete) ⊎ (e ≡ OutOfMemory)) }
+    ensures only { IfErr result (λ e. e ≡ Incomplete → (r : RunRequest) →
         ¬ (IsRunOf (rows_of (found_of found.now)) r)) }
 {
     let file = text(found, "file")?;
@@ -172,6 +177,7 @@ fn run_request<'a>(found: &ArgMatches<'a>) -> Result<RunRequest<'a>, WordFault>
     Ok(RunRequest {
         file,
         workers,
+        zones: zone_words(alloc, found)?,
         explain,
     })
 }
@@ -219,9 +225,9 @@ fn request_of<'a>(alloc: Global, matches: &ArgMatches<'a>) -> Result<Request<'a>
     match matches.subcommand() {
         Some(("next", found)) => Ok(Request::Next(next_request(found)?)),
         Some(("check", found)) => Ok(Request::Check(check_request(alloc, found)?)),
-        Some(("plan", found)) => Ok(Request::Plan(plan_request(found)?)),
-        Some(("replay", found)) => Ok(Request::Replay(replay_request(found)?)),
-        Some(("run", found)) => Ok(Request::Run(run_request(found)?)),
+        Some(("plan", found)) => Ok(Request::Plan(plan_request(alloc, found)?)),
+        Some(("replay", found)) => Ok(Request::Replay(replay_request(alloc, found)?)),
+        Some(("run", found)) => Ok(Request::Run(run_request(alloc, found)?)),
         Some(("why", found)) => Ok(Request::Why(why_request(alloc, found)?)),
         Some(("audit", found)) => Ok(Request::Audit(audit_request(alloc, found)?)),
         _ => Err(WordFault::Incomplete),

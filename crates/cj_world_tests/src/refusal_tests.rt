@@ -7,6 +7,8 @@ use cj_lines::step_line;
 use cj_script::{Script, Step, read_script};
 use cj_types::{Limits, Refusal, Same};
 use cj_world::World;
+use cj_zone::ZoneTable;
+use cj_zoneinfo::GivenZones;
 use std::alloc::Global;
 
 type Entered = Result<(Entry, Entry), Refusal>;
@@ -136,8 +138,17 @@ fn wrong_in(alloc: Global, script: &Script) -> Result<Option<usize>, Refusal> {
     first_wrong(alloc, &mut one, &mut other, script.steps.as_slice())
 }
 
+// UTC alone.
+fn utc<'a>(alloc: Global) -> Result<GivenZones<'a>, Refusal> {
+    Ok(GivenZones {
+        rules: ZoneTable::new(alloc)?,
+        files: &[],
+    })
+}
+
 fn the_script(alloc: Global) -> Result<Box<Script, Global>, Refusal> {
-    match read_script(alloc, SCRIPT.as_bytes()) {
+    let given = utc(alloc)?;
+    match read_script(alloc, given, SCRIPT.as_bytes()) {
         Ok(script) => boxed(alloc, script),
         Err(_) => Err(Refusal::Syntax),
     }

@@ -4,6 +4,7 @@
 mod cut;
 mod file;
 mod file_name;
+mod given;
 mod name_list;
 mod named;
 mod refused;
@@ -11,7 +12,8 @@ mod table;
 
 pub use file::{FileBytes, ZoneFile};
 pub use file_name::{file_names_law, is_file_name};
+pub use given::GivenZones;
 pub use name_list::ZoneNames;
 pub use named::zones_named;
 pub use refused::Refused;
-pub use table::table_with;
+pub use table::{add_files, table_with};

@@ -57,7 +57,8 @@ fn add_file(table: &mut ZoneTable, file: &ZoneFile) -> Result<(), Refusal>
     }
 }
 
-fn add_files(table: &mut ZoneTable, files: &[ZoneFile]) -> Result<(), Refusal>
+/// The zones of the files more, one after another: one whose name is refused, or that is no zone file, is passed over.
+pub fn add_files(table: &mut ZoneTable, files: &[ZoneFile]) -> Result<(), Refusal>
     ensures ok { OnOk result (AddsFiles (zones_of table.old) files.now (zones_of table.new)) }
     ensures local { OnOk result (local_zone table.new ≡ local_zone table.old) }
     ensures memory { IfErr result (λ e. e ≡ OutOfMemory) }

@@ -6,7 +6,7 @@ use Rattle.cj_review.specs.PlanLines.{plan_lines}
 use Rattle.cj_answers.proofs.plan.planned.Goals as goal
 
 pub returns : goal.returns
-returns c = λ bytes said looked.
+returns c = λ given bytes said looked.
     IfOk-weaker c.printed.result _ _
     (λ a e. inr (record {
       scene = c.args.scene;

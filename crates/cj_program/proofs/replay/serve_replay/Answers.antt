@@ -1,26 +1,24 @@
--- serve_replay: its clauses served and failed, where the input is read.
-use Rattle.std.proofs.Common.{◌≡◌, ◌≤◌, ℕ, List, length, subst, sym}
-use Rattle.std.specs.Prelude.{Option, IfSome}
-use Rattle.cj_program.specs.Replay.{IsRead}
+-- serve_replay: its clauses served and failed where a rule of the words is refused.
+use Rattle.std.proofs.Common.{◌≡◌, subst}
+use Rattle.std.specs.Prelude.{MatchOption, []}
+use Rattle.cj_answers.specs.Given.{IsNoneGiven, IsReadUnder}
+use Rattle.cj_program.proofs.Runs.{rule_failed, rule_served}
 use Rattle.cj_program.proofs.replay.serve_replay.Goals as goal
 
--- a slice of all that was read
-read_from : (input : Option (List ℕ)) (slice bytes : List ℕ) (count : ℕ) → slice ≡ bytes → length slice ≡ count
-    → IfSome input (λ xs. bytes ≡ xs)
-    → count ≤ 16_777_216 → IsRead input slice
-read_from input slice bytes count e l are fits = record {
-  are = subst (λ (bs : List ℕ). IfSome input (λ xs. bs ≡ xs)) (sym e) are;
-  fits = subst (λ (n : ℕ). n ≤ 16_777_216) (sym l) fits;
-}
+pub returns-in-Ok-None-clause-served : goal.returns-in-Ok-None-clause-served
+returns-in-Ok-None-clause-served g c = λ lt.
+    let r = c.args.replay.now in
+    let none : IsNoneGiven r.zones [] =
+    subst (λ o. MatchOption o (IsNoneGiven r.zones []) (IsReadUnder r.zones c.args.files.now)) c.in-Ok-None.field-0-is
+    c.in-Ok-None.ensures in
+    rule_served r c.args.files.now (g.R.Read.remaining c.args.input.now) _ _ _ _ none _ c.refused_pair.result
+    c.refused_pair.ensures (c.give_answer.ensures.given lt)
 
-pub returns-in-Ok-clause-served : goal.returns-in-Ok-clause-served
-returns-in-Ok-clause-served g c = λ lt.
-    c.serve_bytes.ensures.served lt (g.R.Read.remaining c.args.input.now)
-    (read_from (g.R.Read.remaining c.args.input.now) c.as_slice.result.now c.in-Ok.bytes.items c.in-Ok.bytes.len
-    c.as_slice.ensures.value c.as_slice.ensures.len c.in-Ok.ensures.all c.in-Ok.ensures.fits)
-
-pub returns-in-Ok-clause-failed : goal.returns-in-Ok-clause-failed
-returns-in-Ok-clause-failed g c = λ e.
-    c.serve_bytes.ensures.failed e (g.R.Read.remaining c.args.input.now)
-    (read_from (g.R.Read.remaining c.args.input.now) c.as_slice.result.now c.in-Ok.bytes.items c.in-Ok.bytes.len
-    c.as_slice.ensures.value c.as_slice.ensures.len c.in-Ok.ensures.all c.in-Ok.ensures.fits)
+pub returns-in-Ok-None-clause-failed : goal.returns-in-Ok-None-clause-failed
+returns-in-Ok-None-clause-failed g c = λ e.
+    let r = c.args.replay.now in
+    let none : IsNoneGiven r.zones [] =
+    subst (λ o. MatchOption o (IsNoneGiven r.zones []) (IsReadUnder r.zones c.args.files.now)) c.in-Ok-None.field-0-is
+    c.in-Ok-None.ensures in
+    rule_failed r c.args.files.now (g.R.Read.remaining c.args.input.now) _ _ _ _ none c.refused_pair.result
+    c.refused_pair.ensures (c.give_answer.ensures.failed e)

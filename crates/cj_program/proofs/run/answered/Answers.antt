@@ -4,9 +4,9 @@ use Rattle.cj_answers.specs.Outcome.{done, explained}
 use Rattle.cj_program.proofs.run.answered.Goals as goal
 
 pub returns : goal.returns
-returns g c = inr (record {
+returns g c = λ given said. inr (record {
   course = c.args.course.now;
-  said = c.requires;
+  said = said;
   text = string_bytes c.in_ok-report.report;
   run = c.in_ok-report.ensures;
   seen = string_bytes c.in_ok-seen.seen;

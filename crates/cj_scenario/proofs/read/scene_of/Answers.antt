@@ -7,7 +7,7 @@ use Rattle.cj_types.specs.declared.cron.CronJob.{CronJob}
 use Rattle.cj_types.specs.declared.cron.CronJobDraft.{CronJobDraft}
 use Rattle.cj_types.specs.declared.job.Job.{Job}
 use Rattle.cj_zone.specs.Table.{local_zone, zones_of}
-use Rattle.cj_zone.specs.Zones.{utc_zone}
+use Rattle.cj_zoneinfo.specs.declared.given.GivenZones.{GivenZones}
 use Rattle.cj_manifest.specs.Drafts.{cron_draft}
 use Rattle.cj_manifest.specs.Faults.{cron_faults}
 use Rattle.cj_scenario.specs.declared.form.Parts.{Parts}
@@ -29,14 +29,14 @@ draft_of-requires c =
     }
 
 -- what the parts say, with the scene of the Jobs that they give
-says : (d : Data) (s : Scene) (p : Parts) (draft : CronJobDraft) (cron : CronJob) (jobs : List Job)
-    → IsForm d (form_of p)
+says : (given : GivenZones) (d : Data) (s : Scene) (p : Parts) (draft : CronJobDraft) (cron : CronJob) (jobs : List Job)
+    → IsForm given d (form_of p)
     → cron_faults (zones_of p.zones) (view p.manifest.now) ≡ [] → cron_draft (view p.manifest.now) ≡ Some draft
-    → local_zone p.zones ≡ Some (utc_zone (codes "UTC"))
+    → local_zone p.zones ≡ local_zone given.rules
     → cron ≡ scene_cron draft p.created p.last → jobs ≡ map (scene_job cron) p.jobs.items
     → s.zones ≡ p.zones → s.cron ≡ with_active cron (names_of (live_jobs jobs)) → s.jobs ≡ jobs
-    → s.active ≡ map (λ job. Some job) (live_jobs jobs) → Says d s
-says d s p draft cron jobs formed sound drafted local c j z sc sj sa = record {
+    → s.active ≡ map (λ job. Some job) (live_jobs jobs) → Says given d s
+says given d s p draft cron jobs formed sound drafted local c j z sc sj sa = record {
   form = form_of p;
   formed = formed;
   draft = draft;
@@ -52,7 +52,7 @@ says d s p draft cron jobs formed sound drafted local c j z sc sj sa = record {
 
 pub returns-clause-said : goal.returns-clause-said
 returns-clause-said c =
-    says (view c.args.value.now) c.in_ok-scene.scene c.in_ok-parts.parts c.in_ok-draft.draft c.scene_cron-cron.result
+    says c.args.given (view c.args.value.now) c.in_ok-scene.scene c.in_ok-parts.parts c.in_ok-draft.draft c.scene_cron-cron.result
     c.in_ok-jobs.jobs.items
     c.in_ok-parts.ensures.ok c.in_ok-draft.ensures.sound c.in_ok-draft.ensures.said c.in_ok-parts.ensures.local
     c.scene_cron-cron.ensures
