@@ -38,7 +38,7 @@ is_slash b = b == 47
 abbrev pub key_named : List ℕ → List ℕ → Option Place
 key_named namespace name = result_ok (new_key longest namespace name)
 
--- NAMESPACE/NAME, cut at the first `/`
+-- NAMESPACE/NAME, split at the first `/`
 -- rule: step-form
 unfoldable pub key_of : List ℕ → Option Place
 key_of text =

@@ -9,7 +9,8 @@ use cj_types::Seconds;
 use cj_zone::read_time;
 use serde_json::Value;
 
-fn instant_of(text: &str) -> Option<Seconds>
+/// The instant that a text prints, `YYYY-MM-DDTHH:MM:SSZ`; none where it prints none.
+pub fn instant_of(text: &str) -> Option<Seconds>
     ensures { result ≡ said.instant_of text.now }
 {
     read_time(text)

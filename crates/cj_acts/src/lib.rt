@@ -10,7 +10,7 @@ mod plain;
 mod verb;
 
 pub use act::Act;
-pub use instant::time_at;
+pub use instant::{instant_of, time_at};
 pub use keys::key_of;
 pub use member::{number_at, present};
 pub use plain::plain_act;

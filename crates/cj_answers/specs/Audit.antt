@@ -10,8 +10,8 @@ use Rattle.cj_kubectl.specs.Reading.{IsClusterList}
 use Rattle.cj_kubectl.specs.declared.list.ClusterList.{ClusterList}
 use Rattle.cj_words.specs.declared.request.AuditRequest.{AuditRequest}
 use Rattle.cj_zoneinfo.specs.declared.file.ZoneFile.{ZoneFile}
-use Rattle.cj_answers.specs.declared.answer.Verdict.{Verdict}
-use Rattle.cj_answers.specs.declared.answer.Verdict.TheVariants.{Done, Refused}
+use Rattle.cj_answers.specs.declared.answer.Ending.{Ending}
+use Rattle.cj_answers.specs.declared.answer.Ending.TheVariants.{Done, Refused}
 use Rattle.cj_answers.specs.Clusters.{RefusesList, is_read, note_lines, note_words}
 use Rattle.cj_answers.specs.Given.{AreGiven, IsNoneGiven, pair_words}
 use Rattle.cj_answers.specs.Outcome.{Outcome, explained, refusal}
@@ -20,20 +20,20 @@ abbrev pub is_clean : List Finding → Bool
 is_clean [] = true
 is_clean (f ∷ fs) = false
 
-abbrev pub verdict_by : Bool → Verdict
-verdict_by true = Done
-verdict_by false = Refused
+abbrev pub ending_by : Bool → Ending
+ending_by true = Done
+ending_by false = Refused
 
 -- done where nothing was found and no item was refused
 -- rule: audit-status
-abbrev pub verdict_of : ClusterList → List Finding → Verdict
-verdict_of list findings = verdict_by (is_clean findings && is_read list.notes)
+abbrev pub ending_of : ClusterList → List Finding → Ending
+ending_of list findings = ending_by (is_clean findings && is_read list.notes)
 
 -- the items that can't be used, then the findings and how many there are
 -- rule: audit-lines
 abbrev pub audited : ClusterList → List Finding → Outcome
 audited list findings = record {
-  verdict = verdict_of list findings;
+  ending = ending_of list findings;
   printed = note_lines list.notes
       ++ audit_lines (length (map.values list.cluster.crons)) (length (map.values list.cluster.jobs)) findings;
   said = [];

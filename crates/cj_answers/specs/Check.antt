@@ -12,7 +12,7 @@ use Rattle.cj_zone.specs.declared.zone.Zone.{Zone}
 use Rattle.cj_manifest.specs.declared.manifest.Manifest.{Manifest}
 use Rattle.cj_manifest.specs.Either.{key_of, kind_of, manifest_draft, manifest_faults, manifest_warnings}
 use Rattle.cj_manifest.specs.Reading.{IsReading, IsRefused}
-use Rattle.cj_answers.specs.declared.answer.Verdict.TheVariants.{Refused}
+use Rattle.cj_answers.specs.declared.answer.Ending.TheVariants.{Refused}
 use Rattle.cj_words.specs.declared.request.CheckRequest.{CheckRequest}
 use Rattle.cj_glance.specs.declared.form.Form.TheVariants as A
 use Rattle.cj_glance.specs.Glances.{IsGlance}
@@ -66,7 +66,7 @@ ok_line kind key = codes "ok " ++ (kind ++ (codes " " ++ (key.namespace ++ (code
 
 -- refused on standard output, as what a manifest's faults are for
 abbrev pub faulty : List ℕ → Outcome
-faulty lines = record { verdict = Refused; printed = lines; said = [] }
+faulty lines = record { ending = Refused; printed = lines; said = [] }
 
 -- the line of bytes that are no JSON, and where they aren't
 pub record IsNoJson (explain : Bool) (o : Outcome) : Type 0 where

@@ -7,5 +7,6 @@ pub mod Given
 pub mod Json
 pub mod NextText
 pub mod Outcome
+pub mod Dropped
 pub mod Plan
 pub mod Why

@@ -3,11 +3,7 @@ use Rattle.std.specs.Prelude.{◌≡◌, ◌⊎◌, ℕ, zero, suc, ◌+◌, Lis
 use Rattle.cj_schedule.specs.Matches.{Sets}
 use Rattle.cj_zone.specs.declared.zone.Zone.{Zone}
 use Rattle.cj_zone.specs.TimeText.{time_text_of}
-use Rattle.cj_due.specs.Due.{IsQuiet, IsLeastDue}
-
--- how far ahead of a start a due time is looked for: 3,000 days in seconds
-abbrev pub reach : ℕ
-reach = 259_200_000
+use Rattle.cj_due.specs.Due.{reach, IsQuiet, IsLeastDue}
 
 -- a time on a line of its own
 abbrev pub line_of : ℕ → List ℕ

@@ -18,28 +18,28 @@ use Rattle.cj_zoneinfo.specs.Files.{IsTableWith}
 use Rattle.cj_explain.specs.Schedules.{IsExplained}
 use Rattle.cj_answers.specs.NextText.{IsNextText}
 use Rattle.cj_answers.specs.declared.answer.Answer.{Answer}
-use Rattle.cj_answers.specs.declared.answer.Verdict.{Verdict}
-use Rattle.cj_answers.specs.declared.answer.Verdict.TheVariants.{Done, Refused}
+use Rattle.cj_answers.specs.declared.answer.Ending.{Ending}
+use Rattle.cj_answers.specs.declared.answer.Ending.TheVariants.{Done, Refused}
 use Rattle.cj_words.specs.declared.request.NextRequest.{NextRequest}
 
--- the verdict, and the bytes on standard output and on standard error
+-- the ending, and the bytes on standard output and on standard error
 pub record Outcome : Type 0 where
-  pub verdict : Verdict
+  pub ending : Ending
   pub printed : List ℕ
   pub said : List ℕ
 
 -- the exit status of the program
 -- rule: statuses
-abbrev pub status_of : Verdict → ℕ
+abbrev pub status_of : Ending → ℕ
 status_of Done = 0
 status_of Refused = 1
 
 abbrev pub outcome_of : Answer → Outcome
-outcome_of a = record { verdict = a.verdict; printed = string_bytes a.printed; said = string_bytes a.said }
+outcome_of a = record { ending = a.ending; printed = string_bytes a.printed; said = string_bytes a.said }
 
 -- the input was refused, with one line on standard error
 abbrev pub refusal : List ℕ → Outcome
-refusal line = record { verdict = Refused; printed = []; said = line }
+refusal line = record { ending = Refused; printed = []; said = line }
 
 -- an outcome with what is said of it to people, behind the fixed lines and only where they asked for it
 -- rule: explain
@@ -48,7 +48,7 @@ explained true words o = record o { said = o.said ++ words }
 explained false words o = o
 
 abbrev pub done : List ℕ → Outcome
-done text = record { verdict = Done; printed = text; said = [] }
+done text = record { ending = Done; printed = text; said = [] }
 
 -- `cronsim: schedule FIELD BYTE CAUSE`
 abbrev pub schedule_line : ScheduleFault → List ℕ

@@ -16,6 +16,7 @@ use Rattle.cj_glance.specs.declared.form.Form.{Form}
 use Rattle.cj_glance.specs.declared.form.Form.TheVariants as A
 use Rattle.cj_glance.specs.Forms.{wanted_words}
 use Rattle.cj_glance.specs.Glances.{IsGlance}
+use Rattle.cj_members.specs.Looks.{IsLook}
 use Rattle.cj_scenario.specs.declared.fault.SceneFault.{SceneFault}
 use Rattle.cj_scenario.specs.declared.fault.SceneFault.TheVariants as Why
 use Rattle.cj_scenario.specs.declared.scene.Scene.{Scene}
@@ -27,6 +28,7 @@ use Rattle.cj_words.specs.declared.request.PlanRequest.{PlanRequest}
 use Rattle.cj_zoneinfo.specs.declared.file.ZoneFile.{ZoneFile}
 use Rattle.cj_zoneinfo.specs.declared.given.GivenZones.{GivenZones}
 use Rattle.cj_answers.specs.Check.{fault_line}
+use Rattle.cj_answers.specs.Dropped.{IsAskedDropped}
 use Rattle.cj_answers.specs.Given.{IsReadUnder, RefusesRule}
 use Rattle.cj_explain.specs.Faults.{fault_words}
 use Rattle.cj_answers.specs.Json.{IsJsonWords}
@@ -41,10 +43,11 @@ scene_line Why.Form = codes "cronsim: scenario\n"
 scene_line (Why.Manifest fault) = codes "cronsim: " ++ fault_line fault
 scene_line Why.Memory = codes "cronsim: out of memory\n"
 
--- of what form it has to be, and what it is
+-- of what form it has to be, which member is missing or wrong, and what it is
+-- rule: explain-members
 pub record IsFormWords (wanted : Form) (bytes : List ℕ) (words : List ℕ) : Type 0 where
   pub seen : List ℕ
-  pub looked : IsGlance wanted bytes seen
+  pub looked : IsLook wanted bytes seen
   pub are : words ≡ wanted_words wanted ++ seen
 
 -- what is wrong with the bytes of a scenario
@@ -80,6 +83,14 @@ abbrev pub IsAskedGlance : Bool → Form → List ℕ → List ℕ → Type 0
 IsAskedGlance true wanted bytes words = IsGlance wanted bytes words
 IsAskedGlance false wanted bytes words = words ≡ []
 
+-- the members of a scenario that nobody reads, and those of its manifest that are dropped
+pub record IsBeside (explain : Bool) (bytes : List ℕ) (words : List ℕ) : Type 0 where
+  pub seen : List ℕ
+  pub looked : IsAskedGlance explain A.Scenario bytes seen
+  pub dropped : List ℕ
+  pub drops : IsAskedDropped explain bytes dropped
+  pub are : words ≡ seen ++ dropped
+
 -- the scenario is refused, for another cause than memory
 pub record RefusesScene (explain : Bool) (given : GivenZones) (bytes : List ℕ) (o : Outcome) : Type 0 where
   pub fault : SceneFault
@@ -95,9 +106,9 @@ pub record PrintsPlan (explain : Bool) (given : GivenZones) (bytes : List ℕ) (
   pub decided : IsPlan (Some scene.cron) scene.jobs scene.active now (zone_for scene.cron.spec.time_zone (zones_of scene.zones)) steps
   pub why : List ℕ
   pub reason : IsAskedWhy explain scene.cron (zone_for scene.cron.spec.time_zone (zones_of scene.zones)) scene.active now why
-  pub seen : List ℕ
-  pub looked : IsAskedGlance explain A.Scenario bytes seen
-  pub answer : o ≡ explained explain (why ++ seen) (done (plan_lines steps))
+  pub beside : List ℕ
+  pub told : IsBeside explain bytes beside
+  pub answer : o ≡ explained explain (why ++ beside) (done (plan_lines steps))
 
 -- what the bytes of a scenario are answered under these zones
 abbrev pub IsPlannedFor : Bool → GivenZones → List ℕ → ℕ → Outcome → Type 0

@@ -3,17 +3,17 @@ ghost use Rattle.cj_answers.specs.Outcome.{explained, outcome_of, refusal};
 
 use std::alloc::{AllocError, Global};
 
-/// Whether a request is done, or what it asks about is refused.
+/// How a request ends: it is done, or what it asks about is refused.
 #[derive(Clone, Copy, Debug, PartialEq, Eq)]
-pub enum Verdict {
+pub enum Ending {
     Done,
     Refused,
 }
 
-/// What a request is answered: the verdict, and the texts for standard output and standard error.
+/// What a request is answered: the ending, and the texts for standard output and standard error.
 #[derive(Debug, Drop)]
 pub struct Answer {
-    pub verdict: Verdict,
+    pub ending: Ending,
     pub printed: String,
     pub said: String,
 }
@@ -24,7 +24,7 @@ impl Answer {
         ensures { IfOk result (λ a. outcome_of a ≡ refusal line.now) }
     {
         Ok(Answer {
-            verdict: Verdict::Refused,
+            ending: Ending::Refused,
             printed: String::new(alloc),
             said: String::from_str(alloc, line)?,
         })

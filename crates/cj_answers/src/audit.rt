@@ -3,11 +3,11 @@ ghost use Rattle.std.specs.Prelude.{◌≡◌, ◌++◌, IfOk, string_bytes};
 ghost use Rattle.cj_zone.specs.Table.{zones_of};
 ghost use Rattle.cj_audit.specs.Words.{audit_words};
 ghost use Rattle.cj_kubectl.specs.Reading.{IsClusterList};
-ghost use Rattle.cj_answers.specs.Audit.{AuditsList, IsAuditOutcome, IsAuditedOf, audited, is_clean, verdict_by};
+ghost use Rattle.cj_answers.specs.Audit.{AuditsList, IsAuditOutcome, IsAuditedOf, audited, is_clean, ending_by};
 ghost use Rattle.cj_answers.specs.Clusters as told;
 ghost use Rattle.cj_answers.specs.Outcome.{explained, outcome_of};
 
-use crate::answer::{Answer, Verdict};
+use crate::answer::{Answer, Ending};
 use crate::clusters::{is_read, note_lines, note_words, refused_list};
 use crate::given::{given_zones, refused_pair};
 use crate::why::{MOST_LIST_BYTES, MOST_LIST_READS, joined};
@@ -26,13 +26,13 @@ fn is_clean(findings: &[Finding]) -> bool
     findings.is_empty()
 }
 
-fn verdict_by(is_well: bool) -> Verdict
-    ensures { result ≡ verdict_by is_well }
+fn ending_by(is_well: bool) -> Ending
+    ensures { result ≡ ending_by is_well }
 {
     if is_well {
-        Verdict::Done
+        Ending::Done
     } else {
-        Verdict::Refused
+        Ending::Refused
     }
 }
 
@@ -53,7 +53,7 @@ fn printed(alloc: Global, list: &ClusterList, findings: &Findings) -> Result<Ans
     let is_clean = is_clean(findings.as_slice());
     let is_read = is_read(notes);
     Ok(Answer {
-        verdict: verdict_by(is_clean && is_read),
+        ending: ending_by(is_clean && is_read),
         printed: joined(alloc, lines.as_str(), found.as_str())?,
         said: String::new(alloc),
     })

@@ -10,7 +10,7 @@ ghost use Rattle.cj_answers.specs.Check.{IsCheckOutcome, IsChecked, IsNoJson, fa
 ghost use Rattle.cj_answers.specs.Outcome.{done, explained, outcome_of};
 
 use crate::advice::{advice, all_dropped_words};
-use crate::answer::{Answer, Verdict};
+use crate::answer::{Answer, Ending};
 use crate::given::{given_zones, refused_pair};
 use crate::json::json_words;
 use crate::lines::{print_faults, print_ok, print_warnings};
@@ -44,7 +44,7 @@ fn fine(
     let mut dropped = all_dropped_words(alloc, warnings)?;
     dropped.push_str(words)?;
     let answer = Answer {
-        verdict: Verdict::Done,
+        ending: Ending::Done,
         printed,
         said: String::new(alloc),
     };
@@ -56,7 +56,7 @@ fn faulty(alloc: Global, printed: String) -> Answer
     ensures { outcome_of result ≡ faulty (string_bytes printed) }
 {
     Answer {
-        verdict: Verdict::Refused,
+        ending: Ending::Refused,
         printed,
         said: String::new(alloc),
     }

@@ -7,6 +7,7 @@ mod audit;
 mod check;
 mod clusters;
 mod coming;
+mod dropped;
 mod given;
 mod json;
 mod lines;
@@ -15,7 +16,7 @@ mod next_text;
 mod plan;
 mod why;
 
-pub use answer::{Answer, Verdict};
+pub use answer::{Answer, Ending};
 pub use audit::audit_answer;
 pub use check::check_answer;
 pub use given::{given_for, refused_pair};

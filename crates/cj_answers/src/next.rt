@@ -8,7 +8,7 @@ ghost use Rattle.cj_zone.specs.Table.{local_zone};
 ghost use Rattle.cj_zone.specs.Zones.{utc_zone};
 ghost use Rattle.cj_answers.specs.Outcome.{IsLookedUp, IsNextOutcome, IsNextZone, IsNoNextZone, IsNoRule, IsScheduleRefusal, IsZoneOf, after_words, explained, next_zone_words, outcome_of, refusal, schedule_line};
 
-use crate::answer::{Answer, Verdict};
+use crate::answer::{Answer, Ending};
 use crate::next_text::next_text;
 use cj_base::{Refusal, ScheduleFault};
 use cj_explain::explain_schedule;
@@ -166,7 +166,7 @@ pub fn next_answer(
         }
     };
     Ok(Answer {
-        verdict: Verdict::Done,
+        ending: Ending::Done,
         printed: next_text(alloc, &schedule, table.default_zone(), after, next.count)?,
         said: String::new(alloc),
     })

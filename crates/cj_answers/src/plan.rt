@@ -5,21 +5,22 @@ ghost use Rattle.cj_decide.specs.Decision.{IsPlan};
 ghost use Rattle.cj_scenario.specs.Made.{IsScene};
 ghost use Rattle.cj_scenario.specs.declared.fault.SceneFault.TheVariants.{Form as FormFault, Manifest, Memory, Syntax};
 ghost use Rattle.cj_glance.specs.declared.form.Form.{Form as Wanted};
-ghost use Rattle.cj_glance.specs.declared.form.Form.TheVariants.{Scenario};
 ghost use Rattle.cj_explain.specs.Faults.{fault_words};
 ghost use Rattle.cj_answers.specs.Outcome.{done, explained, outcome_of, refusal};
 ghost use Rattle.cj_review.specs.PlanLines.{plan_lines};
 ghost use Rattle.cj_review.specs.ZoneFor.{zone_for};
 ghost use Rattle.cj_zoneinfo.specs.declared.given.GivenZones.{GivenZones};
-ghost use Rattle.cj_answers.specs.Plan.{IsAskedGlance, IsAskedWhy, IsFormWords, IsPlanOutcome, IsPlannedFor, IsSceneRefusal, now_words, scene_line};
+ghost use Rattle.cj_answers.specs.Plan.{IsAskedGlance, IsAskedWhy, IsBeside, IsFormWords, IsPlanOutcome, IsPlannedFor, IsSceneRefusal, now_words, scene_line};
 
-use crate::answer::{Answer, Verdict};
+use crate::answer::{Answer, Ending};
+use crate::dropped::asked_dropped;
 use crate::given::{given_for, refused_pair};
 use crate::json::json_words;
 use crate::lines::print_fault;
 use cj_decide::{Plan, Steps, decide};
 use cj_explain::explain_fault;
 use cj_glance::{Form, glance};
+use cj_members::look;
 use cj_output::{Failure, MOST_BYTES, MOST_READS, read_input};
 use cj_review::{plan_text, zone_copy, zone_of};
 use cj_scenario::{Scene, SceneFault, read_scene};
@@ -77,11 +78,11 @@ fn scene_why(alloc: Global, explain: bool, scene: &Scene, now: Seconds) -> Resul
     asked_why(alloc, explain, cron, zone, scene.active.as_slice(), now)
 }
 
-fn joined(alloc: Global, why: &str, seen: &str) -> Result<String, AllocError>
-    ensures { IfOk result (λ s. string_bytes s ≡ why.now ++ seen.now) }
+fn joined(alloc: Global, first: &str, second: &str) -> Result<String, AllocError>
+    ensures { IfOk result (λ s. string_bytes s ≡ first.now ++ second.now) }
 {
-    let mut text = String::from_str(alloc, why)?;
-    text.push_str(seen)?;
+    let mut text = String::from_str(alloc, first)?;
+    text.push_str(second)?;
     Ok(text)
 }
 
@@ -90,36 +91,36 @@ fn printed(
     explain: bool,
     steps: &Steps,
     why: &str,
-    seen: &str,
+    beside: &str,
 ) -> Result<Answer, Failure>
-    ensures { IfOk result (λ a. outcome_of a ≡ explained explain (why.now ++ seen.now)
+    ensures { IfOk result (λ a. outcome_of a ≡ explained explain (why.now ++ beside.now)
         (done (plan_lines steps.now))) }
 {
     let answer = Answer {
-        verdict: Verdict::Done,
+        ending: Ending::Done,
         printed: plan_text(alloc, steps)?,
         said: String::new(alloc),
     };
-    let words = joined(alloc, why, seen)?;
+    let words = joined(alloc, why, beside)?;
     Ok(answer.explained(explain, words.as_str())?)
 }
 
-// The plan of a scenario, of which this was seen.
+// The plan of a scenario, of which this is told beside.
 fn planned(
     alloc: Global,
     explain: bool,
     scene: Scene,
     now: Seconds,
-    seen: &str,
+    beside: &str,
 ) -> Result<Answer, Failure>
     requires { local_zone scene.zones ≡ Some (utc_zone (codes "UTC")) }
     ensures { (given : GivenZones) (bytes : List ℕ) → IsScene given bytes scene →
-        IsAskedGlance explain Scenario bytes seen.now →
+        IsBeside explain bytes beside.now →
         IfOk result (λ a. IsPlannedFor explain given bytes now (outcome_of a)) }
 {
     let why = scene_why(alloc, explain, &scene, now)?;
     let plan = plan_of(alloc, scene, now)?;
-    printed(alloc, explain, plan.steps(), why.as_str(), seen)
+    printed(alloc, explain, plan.steps(), why.as_str(), beside)
 }
 
 fn fault_text(alloc: Global, fault: FieldFault) -> Result<String, AllocError>
@@ -155,11 +156,11 @@ fn no_json(alloc: Global, explain: bool, bytes: &[u8]) -> Result<Answer, Failure
     Ok(syntax_fault(alloc, explain, words.as_str())?)
 }
 
-// Of what form the bytes have to be, and what they are.
+// Of what form the bytes have to be, which member is missing or wrong, and what they are.
 fn form_words(alloc: Global, wanted: Form, bytes: &[u8]) -> Result<String, Failure>
     ensures { IfOk result (λ s. IsFormWords wanted bytes.now (string_bytes s)) }
 {
-    let seen = glance(alloc, wanted, bytes)?;
+    let seen = look(alloc, wanted, bytes)?;
     Ok(joined(alloc, wanted.wanted(), seen.as_str())?)
 }
 
@@ -222,6 +223,15 @@ pub fn asked_glance(
 // What a moment has to be.
 const NOW_WORDS: &str = "--now: want a UTC time like 2024-01-01T00:00:00Z\n";
 
+// What is told of a scenario beside its plan.
+fn beside(alloc: Global, explain: bool, bytes: &[u8]) -> Result<String, Failure>
+    ensures { IfOk result (λ s. IsBeside explain bytes.now (string_bytes s)) }
+{
+    let seen = asked_glance(alloc, explain, Form::Scenario, bytes)?;
+    let dropped = asked_dropped(alloc, explain, bytes)?;
+    Ok(joined(alloc, seen.as_str(), dropped.as_str())?)
+}
+
 fn scene_planned(
     alloc: Global,
     explain: bool,
@@ -233,8 +243,8 @@ fn scene_planned(
     ensures { (given : GivenZones) → IsScene given bytes.now scene →
         IfOk result (λ a. IsPlannedFor explain given bytes.now now (outcome_of a)) }
 {
-    let seen = asked_glance(alloc, explain, Form::Scenario, bytes)?;
-    planned(alloc, explain, scene, now, seen.as_str())
+    let beside = beside(alloc, explain, bytes)?;
+    planned(alloc, explain, scene, now, beside.as_str())
 }
 
 // What a scenario is answered at that moment under the zones that are given.

@@ -8,7 +8,7 @@ ghost use Rattle.cj_answers.specs.Outcome.{done, explained, outcome_of, refusal}
 ghost use Rattle.cj_answers.specs.Plan.{now_words};
 ghost use Rattle.cj_answers.specs.Why.{IsReviewed, IsWhyOutcome, PrintsReview, RefusesCron, chosen, cron_words, is_meant, key_text};
 
-use crate::answer::{Answer, Verdict};
+use crate::answer::{Answer, Ending};
 use crate::clusters::{note_lines, note_words, refused_list};
 use crate::given::{given_zones, refused_pair};
 use crate::plan::refused_moment;
@@ -94,7 +94,7 @@ fn printed(
     let words = note_words(alloc, notes)?;
     let said = joined(alloc, words.as_str(), reviewed.said.as_str())?;
     let answer = Answer {
-        verdict: Verdict::Done,
+        ending: Ending::Done,
         printed: joined(alloc, lines.as_str(), reviewed.printed.as_str())?,
         said: String::new(alloc),
     };

@@ -1,4 +1,5 @@
-ghost use Rattle.std.specs.Prelude.{◌≡◌, ◌<◌, ◌^◌, None, IfOk, IfErr, OnErr};
+ghost use Rattle.std.specs.Prelude.{◌≡◌, None, IfOk, IfErr, OnErr};
+ghost use Rattle.cj_store.specs.Content.{HasRoom};
 ghost use Rattle.cj_base.specs.declared.refusal.Refusal.TheVariants.{OutOfMemory};
 ghost use Rattle.cj_store.specs.Change.{map_ok, cron_added, cron_modified, cron_gone};
 ghost use Rattle.cj_store.specs.Crons.{cron_created, cron_updated, cron_deleted};
@@ -19,7 +20,7 @@ pub fn create_cron(
     draft: &CronJobDraft,
     now: Seconds,
 ) -> Result<Answered, Refusal>
-    requires room { state.old.store.version < 2 ^ 40 }
+    requires room { HasRoom state.old.store }
     requires sound { IsSound state.old }
     ensures ok { IfOk result (λ t. writes state.old event_reply
         (map_ok cron_added (cron_created state.old.store draft.now now)) ≡ moved t state.new) }
@@ -45,7 +46,7 @@ pub fn update_cron(
     state: &mut State,
     draft: &CronJobDraft,
 ) -> Result<Answered, Refusal>
-    requires room { state.old.store.version < 2 ^ 40 }
+    requires room { HasRoom state.old.store }
     requires sound { IsSound state.old }
     ensures ok { IfOk result (λ t. writes state.old event_reply
         (map_ok cron_modified (cron_updated state.old.store draft.now)) ≡ moved t state.new) }
@@ -64,7 +65,7 @@ pub fn update_cron(
 /// Deletes a CronJob.
 #[tactic(auto, using(cj_state::proofs::Numbers::deleted_numbered))]
 pub fn delete_cron(alloc: Global, state: &mut State, key: &Key) -> Result<Answered, Refusal>
-    requires room { state.old.store.version < 2 ^ 40 }
+    requires room { HasRoom state.old.store }
     requires sound { IsSound state.old }
     ensures ok { IfOk result (λ t. writes state.old version_reply
         (map_ok cron_gone (cron_deleted state.old.store key.now)) ≡ moved t state.new) }

@@ -1,4 +1,5 @@
-ghost use Rattle.std.specs.Prelude.{◌≡◌, ◌<◌, ◌^◌, None, IfOk, IfErr, OnErr};
+ghost use Rattle.std.specs.Prelude.{◌≡◌, None, IfOk, IfErr, OnErr};
+ghost use Rattle.cj_store.specs.Content.{HasRoom};
 ghost use Rattle.cj_base.specs.declared.refusal.Refusal.TheVariants.{OutOfMemory};
 ghost use Rattle.cj_store.specs.Change.{map_ok, job_added, job_modified, job_gone};
 ghost use Rattle.cj_store.specs.Jobs.{job_created, job_updated, job_deleted, job_ended};
@@ -19,7 +20,7 @@ pub fn create_job(
     draft: &JobDraft,
     now: Seconds,
 ) -> Result<Answered, Refusal>
-    requires room { state.old.store.version < 2 ^ 40 }
+    requires room { HasRoom state.old.store }
     requires sound { IsSound state.old }
     ensures ok { IfOk result (λ t. writes state.old event_reply
         (map_ok job_added (job_created state.old.store draft.now now)) ≡ moved t state.new) }
@@ -41,7 +42,7 @@ pub fn create_job(
 /// Replaces labels, annotations and spec of a Job.
 #[tactic(auto, using(cj_state::proofs::Numbers::changed_numbered))]
 pub fn update_job(alloc: Global, state: &mut State, draft: &JobDraft) -> Result<Answered, Refusal>
-    requires room { state.old.store.version < 2 ^ 40 }
+    requires room { HasRoom state.old.store }
     requires sound { IsSound state.old }
     ensures ok { IfOk result (λ t. writes state.old event_reply
         (map_ok job_modified (job_updated state.old.store draft.now)) ≡ moved t state.new) }
@@ -60,7 +61,7 @@ pub fn update_job(alloc: Global, state: &mut State, draft: &JobDraft) -> Result<
 /// Deletes a Job.
 #[tactic(auto, using(cj_state::proofs::Numbers::gone_numbered))]
 pub fn delete_job(alloc: Global, state: &mut State, key: &Key) -> Result<Answered, Refusal>
-    requires room { state.old.store.version < 2 ^ 40 }
+    requires room { HasRoom state.old.store }
     requires sound { IsSound state.old }
     ensures ok { IfOk result (λ t. writes state.old version_reply
         (map_ok job_gone (job_deleted state.old.store key.now None)) ≡ moved t state.new) }
@@ -87,7 +88,7 @@ pub fn end_job(
     outcome: Outcome,
     now: Seconds,
 ) -> Result<Answered, Refusal>
-    requires room { state.old.store.version < 2 ^ 40 }
+    requires room { HasRoom state.old.store }
     requires sound { IsSound state.old }
     ensures ok { IfOk result (λ t. writes state.old event_reply
         (map_ok job_modified (job_ended state.old.store key.now uid outcome now))

@@ -1,4 +1,5 @@
-ghost use Rattle.std.specs.Prelude.{◌≡◌, ◌<◌, ◌^◌, IfOk, IfErr, OnErr};
+ghost use Rattle.std.specs.Prelude.{◌≡◌, IfOk, IfErr, OnErr};
+ghost use Rattle.cj_store.specs.Content.{HasRoom};
 ghost use Rattle.cj_base.specs.declared.refusal.Refusal.TheVariants.{OutOfMemory};
 ghost use Rattle.cj_state.specs.Sound.{IsSound};
 ghost use Rattle.cj_state.specs.Moves.{moved};
@@ -15,7 +16,7 @@ use std::alloc::Global;
 
 /// A call of a user. Where there is no memory all is as it was.
 pub fn by_user(alloc: Global, state: &mut State, call: &Call) -> Result<Answered, Refusal>
-    requires room { state.old.store.version < 2 ^ 40 }
+    requires room { HasRoom state.old.store }
     requires sound { IsSound state.old }
     ensures ok { IfOk result (λ t. by_user state.old call.now ≡ moved t state.new) }
     ensures err { OnErr result (state.new ≡ state.old) }
@@ -34,7 +35,7 @@ pub fn by_user(alloc: Global, state: &mut State, call: &Call) -> Result<Answered
 
 /// A call of a runner. Where there is no memory all is as it was.
 pub fn by_runner(alloc: Global, state: &mut State, call: &Call) -> Result<Answered, Refusal>
-    requires room { state.old.store.version < 2 ^ 40 }
+    requires room { HasRoom state.old.store }
     requires sound { IsSound state.old }
     ensures ok { IfOk result (λ t. by_runner state.old call.now ≡ moved t state.new) }
     ensures err { OnErr result (state.new ≡ state.old) }

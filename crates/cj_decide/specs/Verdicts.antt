@@ -11,7 +11,7 @@ use Rattle.cj_schedule.specs.Grammar.{IsSchedule}
 use Rattle.cj_zone.specs.declared.zone.Zone.{Zone}
 use Rattle.cj_due.specs.declared.answer.Missed.{Missed}
 use Rattle.cj_due.specs.declared.answer.Missed.TheVariants as Kind
-use Rattle.cj_due.specs.Due.{IsQuiet, IsLeastDue}
+use Rattle.cj_due.specs.Due.{reach, IsQuiet, IsLeastDue}
 use Rattle.cj_due.specs.Missed.{IsMissed}
 use Rattle.cj_due.specs.Window.{window_of}
 use Rattle.cj_decide.specs.declared.verdict.Verdict.{Verdict}
@@ -47,8 +47,8 @@ by_missed (Kind.Many latest) policy busy next = late (by_policy policy busy late
 -- the least due time after now and within 3,000 days, none where there is none
 -- rule: next-of-plan
 abbrev pub IsNext : Sets → Zone → ℕ → Option ℕ → Type 0
-IsNext s z now None = IsQuiet s z now (now + 259_200_000)
-IsNext s z now (Some t) = IsLeastDue s z now (now + 259_200_000) t
+IsNext s z now None = IsQuiet s z now (now + reach)
+IsNext s z now (Some t) = IsLeastDue s z now (now + reach) t
 
 -- the verdict of the times missed since the window's lower end, and of the next one
 abbrev pub IsByTimes : CronJob → Sets → Zone → Bool → ℕ → Verdict → Type 0

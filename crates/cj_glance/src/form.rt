@@ -68,7 +68,7 @@ fn kind_in(value: &Value) -> Option<&str>
 
 impl Form {
     /// What a value is: by its `kind` where that is a text, else by its members.
-    pub(crate) fn of(value: &Value) -> Form
+    pub fn of(value: &Value) -> Form
         ensures { result ≡ form_of (view value.now) }
     {
         match kind_in(value) {

@@ -4,8 +4,8 @@ ghost use Rattle.cj_base.specs.declared.refusal.Refusal.TheVariants.{OutOfMemory
 ghost use Rattle.serde_json.specs.View.{view, items_view, members_view};
 ghost use Rattle.cj_glance.specs.Fractions.{fraction_path, fraction_words, items_path, member_step, members_path};
 
+use cj_json::has_float;
 use cj_types::Refusal;
-use cj_written::has_float;
 use serde_json::{Map, Value};
 use std::alloc::{AllocError, Global};
 

@@ -21,11 +21,11 @@ use Rattle.cj_types.specs.Keys.{Place, place, place_cmp}
 use Rattle.cj_types.specs.declared.job.Job.{Job}
 use Rattle.cj_table.proofs.Order.{places_total, places_exact}
 use Rattle.cj_table.proofs.Gets.{find-lookup}
-use Rattle.cj_jobs.specs.declared.owned.At.{At}
-use Rattle.cj_jobs.specs.declared.owned.At.TheVariants.{Before, Here, After}
+use Rattle.cj_jobs.specs.declared.owned.Position.{Position}
+use Rattle.cj_jobs.specs.declared.owned.Position.TheVariants.{Before, Here, After}
 use Rattle.cj_jobs.specs.declared.owned.Owned.{Owned}
 use Rattle.cj_jobs.specs.Owners.{is_job_of, owned_by}
-use Rattle.cj_jobs.specs.Index.{owned, owned_cmp, at_cmp, key_at, is_owned, IsIndex, listed, listed_at, found, found_at}
+use Rattle.cj_jobs.specs.Index.{owned, owned_cmp, position_cmp, key_at, is_owned, IsIndex, listed, listed_at, found, found_at}
 
 abbrev Table : Type 0
 Table = map.FinMap place_cmp Job
@@ -56,8 +56,8 @@ between o = range_contains owned_cmp (Included (owned o Before)) (Excluded (owne
 
 -- Whether an entry is between its beginning and end for an owner, by how the owner compares to the
 -- entry's and by the entry's place.
-between_by : Ordering → At → Bool
-between_by g a = is_le (ordering_then g (at_cmp Before a)) && not (is_le (ordering_then g (at_cmp After a)))
+between_by : Ordering → Position → Bool
+between_by g a = is_le (ordering_then g (position_cmp Before a)) && not (is_le (ordering_then g (position_cmp After a)))
 
 -- the entry has a Job's key, with the Job that stands there
 abbrev row : Place → Option Job → List (Place × Job)
@@ -70,7 +70,7 @@ row_at m (Some k) = row k (map.get m k)
 
 abbrev rows : Table → List Owned → List (Place × Job)
 rows m [] = []
-rows m (q ∷ qs) = row_at m (key_at q.at) ++ rows m qs
+rows m (q ∷ qs) = row_at m (key_at q.position) ++ rows m qs
 
 -- The Jobs of a key's row before other rows are the Job that may stand at the key and the Jobs of
 -- those rows.
@@ -89,13 +89,13 @@ at_values m (Some k) rest = row_values k (map.get m k) rest
 -- The Jobs of the rows of some entries are the Jobs found at these entries.
 rows_values : (m : Table) (qs : List Owned) → map_list (λ e. e.1) (rows m qs) ≡ found m qs
 rows_values m [] = refl
-rows_values m (q ∷ qs) = at_values m (key_at q.at) (rows m qs) ∙ ap (λ (t : List Job). found_at m q ++ t)
+rows_values m (q ∷ qs) = at_values m (key_at q.position) (rows m qs) ∙ ap (λ (t : List Job). found_at m q ++ t)
     (rows_values m qs)
 
 -- With one entry more that is kept or left out, its row stands before the others or there are the
 -- others alone.
 rows_step : (m : Table) (q : Owned) (b : Bool) (qs : List Owned) → rows m (cond b (q ∷ qs) qs)
-    ≡ cond b (row_at m (key_at q.at) ++ rows m qs) (rows m qs)
+    ≡ cond b (row_at m (key_at q.position) ++ rows m qs) (rows m qs)
 rows_step m q true qs = refl
 rows_step m q false qs = refl
 
@@ -133,10 +133,10 @@ pick false any x (Some v) r h e = e
 
 -- For member: with one entry more, the key's Job is found if that entry or a later one is the
 -- owner's of this key.
-member_step : (m : Table) (k : Place) (g : Ordering) (a : At) (es : List (Place × Job)) (any : Bool)
+member_step : (m : Table) (k : Place) (g : Ordering) (a : Position) (es : List (Place × Job)) (any : Bool)
     → find place_cmp k es ≡ cond any (map.get m k) None
     → find place_cmp k (cond (between_by g a) (row_at m (key_at a) ++ es) es)
-    ≡ cond (is_eq (ordering_then g (at_cmp (Here k) a)) || any) (map.get m k) None
+    ≡ cond (is_eq (ordering_then g (position_cmp (Here k) a)) || any) (map.get m k) None
 unfolding between_by
 member_step m k Less a es any h = h
 member_step m k Equal Before es any h = h
@@ -153,15 +153,15 @@ unfolding between_by
 member m o k [] = refl
 member m o k (q ∷ qs) =
     ap (find place_cmp k) (rows_step m q (between o q) (filter (between o) qs))
-    ∙ member_step m k (side o q) q.at (rows m (filter (between o) qs))
+    ∙ member_step m k (side o q) q.position (rows m (filter (between o) qs))
     (list_any (is_at (owned_cmp (owned o (Here k)))) qs) (member m o k qs)
 
 -- ---- they are in the order of their keys
 
 -- An entry that has the owner's namespace and name and stands at a key is the owner's entry of that
 -- key.
-own : (o : Place) (q : Owned) (x : Place) → side o q ≡ Equal → q.at ≡ Here x → q ≡ owned o (Here x)
-own o q x e f = let p : o ≡ place q.namespace q.owner = places_exact o (place q.namespace q.owner) e in λ i. record { namespace = (sym p i).namespace; owner = (sym p i).name; at = f i }
+own : (o : Place) (q : Owned) (x : Place) → side o q ≡ Equal → q.position ≡ Here x → q ≡ owned o (Here x)
+own o q x e f = let p : o ≡ place q.namespace q.owner = places_exact o (place q.namespace q.owner) e in λ i. record { namespace = (sym p i).namespace; owner = (sym p i).name; position = f i }
 
 -- A key below those of some rows is below them with a row of a greater key in front, too.
 below_row : (x j : Place) (o : Option Job) (es : List (Place × Job)) → place_cmp x j ≡ Less
@@ -171,8 +171,8 @@ below_row x j (Some v) es e h = both _ _ (subst (λ r. T (is_lt r)) (sym e) tt) 
 
 -- For below_rows: a key below those of some rows is below them with the row of a greater entry in
 -- front, too.
-below_step : (m : Table) (x : Place) (g : Ordering) (a : At) (es : List (Place × Job))
-    → ordering_then g (at_cmp (Here x) a) ≡ Less → T (below_all place_cmp x es)
+below_step : (m : Table) (x : Place) (g : Ordering) (a : Position) (es : List (Place × Job))
+    → ordering_then g (position_cmp (Here x) a) ≡ Less → T (below_all place_cmp x es)
     → T (below_all place_cmp x (cond (between_by g a) (row_at m (key_at a) ++ es) es))
 unfolding between_by
 below_step m x Less a es e h = h
@@ -190,7 +190,7 @@ unfolding between_by
 below_rows m o x [] h = tt
 below_rows m o x (q ∷ qs) h = subst (λ (es : List (Place × Job)). T (below_all place_cmp x es))
     (sym (rows_step m q (between o q) (filter (between o) qs)))
-    (below_step m x (side o q) q.at _ h.0 (below_rows m o x qs h.1))
+    (below_step m x (side o q) q.position _ h.0 (below_rows m o x qs h.1))
 
 -- A key's row in front of sorted rows of greater keys gives sorted rows.
 sorted_row : (x : Place) (o : Option Job) (es : List (Place × Job)) → T (below_all place_cmp x es)
@@ -200,7 +200,7 @@ sorted_row x (Some v) es b h = both _ _ b h
 
 -- For sorted_rows: the owner's rows stay sorted with the row of one entry in front that is below
 -- the others.
-sorted_step : (m : Table) (o : Place) (q : Owned) (qs : List Owned) (g : Ordering) (a : At) → side o q ≡ g → q.at ≡ a
+sorted_step : (m : Table) (o : Place) (q : Owned) (qs : List Owned) (g : Ordering) (a : Position) → side o q ≡ g → q.position ≡ a
     → AllByRecursion (λ y. owned_cmp q y ≡ Less) qs → T (is_sorted place_cmp (rows m (filter (between o) qs)))
     → T (is_sorted place_cmp (cond (between_by g a) (row_at m (key_at a) ++ rows m (filter (between o) qs))
     (rows m (filter (between o) qs))))
@@ -220,7 +220,7 @@ sorted_rows m o [] h = tt
 sorted_rows m o (q ∷ qs) h =
     subst (λ (es : List (Place × Job)). T (is_sorted place_cmp es))
     (sym (rows_step m q (between o q) (filter (between o) qs)))
-    (sorted_step m o q qs (side o q) q.at refl refl (sorted_head owned_cmp q qs h)
+    (sorted_step m o q qs (side o q) q.position refl refl (sorted_head owned_cmp q qs h)
     (sorted_rows m o qs (sorted_tail owned_cmp q qs h)))
 
 -- ---- the Jobs that pass a test
@@ -308,4 +308,4 @@ found_owned m s o index sorted =
 
 -- For Jobs::owned_by: the beginning of a CronJob's entries is not above their end.
 pub forward : (o : Place) → IsLeBy owned_cmp (owned o Before) (owned o After)
-forward o = ap (λ r. is_gt (ordering_then r (at_cmp Before After))) (tied_itself places_total o)
+forward o = ap (λ r. is_gt (ordering_then r (position_cmp Before After))) (tied_itself places_total o)

@@ -2,7 +2,7 @@
 use Rattle.std.proofs.Common.{◌≡◌, inl, inr, Some, None, sym, ◌∙◌, subst}
 use Rattle.std.specs.FinMap as map
 use Rattle.cj_types.specs.Keys.{Place, place_cmp}
-use Rattle.cj_table.proofs.Puts.{at_put, at_cut}
+use Rattle.cj_table.proofs.Puts.{at_put, at_removal}
 
 module _ {X : Type 0} (P : Place → X → Type 0) where
   abbrev pub Holds : map.FinMap place_cmp X → Type 0
@@ -20,16 +20,16 @@ module _ {X : Type 0} (P : Place → X → Type 0) where
   pub put_holds : (m n : map.FinMap place_cmp X) (k : Place) (v : X) → n ≡ map.insert m k v → P k v → Holds m → Holds n
   put_holds m n k v e new old = subst Holds (sym e) (λ q x is. put_at m k v q x new old is)
 
-  -- For cut_holds: what stands at any key after the removal meets the fact there.
-  cut_at : (m : map.FinMap place_cmp X) (k q : Place) (x : X) → Holds m → map.get (map.remove m k) q ≡ Some x → P q x
-  cut_at m k q x old is = elim (at_cut m k q).1 as (λ _. P q x) [
+  -- For removal_holds: what stands at any key after the removal meets the fact there.
+  removal_at : (m : map.FinMap place_cmp X) (k q : Place) (x : X) → Holds m → map.get (map.remove m k) q ≡ Some x → P q x
+  removal_at m k q x old is = elim (at_removal m k q).1 as (λ _. P q x) [
     | inl h ↦ absurd (let none : map.get (map.remove m k) q ≡ None = h.1 in cc)
     | inr h ↦ old q x (sym h ∙ is)
   ]
 
   -- With a key removed, all of a map meet the fact if they did before.
-  pub cut_holds : (m n : map.FinMap place_cmp X) (k : Place) → n ≡ map.remove m k → Holds m → Holds n
-  cut_holds m n k e old = subst Holds (sym e) (λ q x is. cut_at m k q x old is)
+  pub removal_holds : (m n : map.FinMap place_cmp X) (k : Place) → n ≡ map.remove m k → Holds m → Holds n
+  removal_holds m n k e old = subst Holds (sym e) (λ q x is. removal_at m k q x old is)
 
   -- All of an empty map meet the fact, as there are none.
   pub empty_holds : (m : map.FinMap place_cmp X) → m ≡ map.empty → Holds m

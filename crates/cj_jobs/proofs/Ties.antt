@@ -10,11 +10,11 @@ use Rattle.std.specs.BTreeMap.{is_at}
 use Rattle.cj_types.specs.Keys.{place, place_cmp}
 use Rattle.cj_types.specs.Objects.{cron_of}
 use Rattle.cj_types.specs.declared.job.Job.{Job}
-use Rattle.cj_jobs.specs.declared.owned.At.{At}
-use Rattle.cj_jobs.specs.declared.owned.At.TheVariants.{Before, Here, After}
+use Rattle.cj_jobs.specs.declared.owned.Position.{Position}
+use Rattle.cj_jobs.specs.declared.owned.Position.TheVariants.{Before, Here, After}
 use Rattle.cj_jobs.specs.declared.owned.Owned.{Owned}
 use Rattle.cj_jobs.specs.Owners.{names}
-use Rattle.cj_jobs.specs.Index.{owned, owned_of, at_cmp, is_entry}
+use Rattle.cj_jobs.specs.Index.{owned, owned_of, position_cmp, is_entry}
 
 -- Three orders, each asked where those before it tie, tie just where all three tie.
 both_ties : (a b c : Ordering) → is_eq (ordering_then (ordering_then a b) c) ≡ ((is_eq a && is_eq b) && is_eq c)
@@ -35,7 +35,7 @@ never true b = refl
 never false b = refl
 
 -- whether the Job, whose controller reference names this CronJob if any, stands there under the entry's owner
-abbrev pub here_by : Job → Owned → Option (List ℕ) → At → Bool
+abbrev pub here_by : Job → Owned → Option (List ℕ) → Position → Bool
 here_by job q owner Before = false
 here_by job q owner (Here k) = (bytes_eq job.key.namespace q.namespace && names q.owner owner)
     && is_at (place_cmp job.key) k
@@ -43,11 +43,11 @@ here_by job q owner After = false
 
 -- The entry of a Job under the CronJob named n ties with another just where here_by says that it
 -- stands there.
-entry_ties : (job : Job) (q : Owned) (n : List ℕ) (a : At)
+entry_ties : (job : Job) (q : Owned) (n : List ℕ) (a : Position)
     → is_eq (ordering_then (ordering_then (slice_cmp nat_cmp job.key.namespace q.namespace)
-    (slice_cmp nat_cmp n q.owner)) (at_cmp (Here job.key) a)) ≡ here_by job q (Some n) a
+    (slice_cmp nat_cmp n q.owner)) (position_cmp (Here job.key) a)) ≡ here_by job q (Some n) a
 entry_ties job q n Before = both_ties (slice_cmp nat_cmp job.key.namespace q.namespace) (slice_cmp nat_cmp n q.owner)
-    (at_cmp (Here job.key) Before) ∙ no_more (is_eq (slice_cmp nat_cmp job.key.namespace q.namespace)
+    (position_cmp (Here job.key) Before) ∙ no_more (is_eq (slice_cmp nat_cmp job.key.namespace q.namespace)
     && is_eq (slice_cmp nat_cmp n q.owner))
 entry_ties job q n (Here k) =
     both_ties (slice_cmp nat_cmp job.key.namespace q.namespace) (slice_cmp nat_cmp n q.owner) (place_cmp job.key k)
@@ -56,11 +56,11 @@ entry_ties job q n (Here k) =
     ∙ ap (λ b. (bytes_eq job.key.namespace q.namespace && b) && is_at (place_cmp job.key) k)
     (sym (texts_ties n q.owner))
 entry_ties job q n After = both_ties (slice_cmp nat_cmp job.key.namespace q.namespace) (slice_cmp nat_cmp n q.owner)
-    (at_cmp (Here job.key) After) ∙ no_more (is_eq (slice_cmp nat_cmp job.key.namespace q.namespace)
+    (position_cmp (Here job.key) After) ∙ no_more (is_eq (slice_cmp nat_cmp job.key.namespace q.namespace)
     && is_eq (slice_cmp nat_cmp n q.owner))
 
 -- A Job that no CronJob owns stands at no entry.
-no_entry : (job : Job) (q : Owned) (a : At) → false ≡ here_by job q None a
+no_entry : (job : Job) (q : Owned) (a : Position) → false ≡ here_by job q None a
 no_entry job q Before = refl
 no_entry job q (Here k) = never _ _
 no_entry job q After = refl
@@ -69,11 +69,11 @@ no_entry job q After = refl
 -- says so.
 entry_from : (job : Job) (q : Owned) (owner : Option (List ℕ))
     → is_entry (option_map (λ name. owned (place job.key.namespace name) (Here job.key)) owner) q
-    ≡ here_by job q owner q.at
-entry_from job q None = no_entry job q q.at
-entry_from job q (Some n) = entry_ties job q n q.at
+    ≡ here_by job q owner q.position
+entry_from job q None = no_entry job q q.position
+entry_from job q (Some n) = entry_ties job q n q.position
 
 -- The entry of a Job, if its controller reference names a CronJob, is at q just where here_by says
 -- so.
-pub entry_is : (job : Job) (q : Owned) → is_entry (owned_of job) q ≡ here_by job q (cron_of job) q.at
+pub entry_is : (job : Job) (q : Owned) → is_entry (owned_of job) q ≡ here_by job q (cron_of job) q.position
 entry_is job q = entry_from job q (cron_of job)

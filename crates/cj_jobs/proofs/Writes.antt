@@ -15,12 +15,12 @@ use Rattle.cj_types.specs.Objects.{cron_of}
 use Rattle.cj_types.specs.declared.job.Job.{Job}
 use Rattle.cj_table.proofs.Order.{places_total, places_exact}
 use Rattle.cj_table.proofs.Puts.{remove-insert}
-use Rattle.cj_jobs.specs.declared.owned.At.{At}
-use Rattle.cj_jobs.specs.declared.owned.At.TheVariants.{Before, Here, After}
+use Rattle.cj_jobs.specs.declared.owned.Position.{Position}
+use Rattle.cj_jobs.specs.declared.owned.Position.TheVariants.{Before, Here, After}
 use Rattle.cj_jobs.specs.declared.owned.Owned.{Owned}
 use Rattle.cj_jobs.specs.Owners.{owners_of}
 use Rattle.cj_jobs.specs.Index.{owned_cmp, owned_of, owned_at, is_owned, stands, stands_at, IsIndex, Sets}
-use Rattle.cj_jobs.proofs.Holds.{put_holds, cut_holds, empty_holds}
+use Rattle.cj_jobs.proofs.Holds.{put_holds, removal_holds, empty_holds}
 use Rattle.cj_jobs.proofs.Ties.{here_by, entry_is}
 
 abbrev Table : Type 0
@@ -48,8 +48,8 @@ get_put m k v q = map.get-insert places_total m k v q ∙ ap (λ b. cond b (Some
     ((eq_by_cmp_equiv places_total).symm q k)
 
 -- After a key is taken out nothing stands at it, and at each other key what stood there before.
-get_cut : (m : Table) (k q : Place) → map.get (map.remove m k) q ≡ cond (is_at (place_cmp k) q) None (map.get m q)
-get_cut m k q = map.get-remove places_total m k q ∙ ap (λ b. cond b None (map.get m q))
+get_removal : (m : Table) (k q : Place) → map.get (map.remove m k) q ≡ cond (is_at (place_cmp k) q) None (map.get m q)
+get_removal m k q = map.get-remove places_total m k q ∙ ap (λ b. cond b None (map.get m q))
     ((eq_by_cmp_equiv places_total).symm q k)
 
 -- For put_step: at the key of the Job an entry stands where it is of the Job's owner.
@@ -57,12 +57,12 @@ there : (a : Bool) → cond (a && true) true false ≡ a
 there true = refl
 there false = refl
 
--- For cut_step: at the key of the Job no entry of its owner stands any more.
+-- For removal_step: at the key of the Job no entry of its owner stands any more.
 gone : (a : Bool) → cond (a && true) false a ≡ false
 gone true = refl
 gone false = refl
 
--- For put_step and cut_step: at another key an entry stands or doesn't as before.
+-- For put_step and removal_step: at another key an entry stands or doesn't as before.
 other : (a b x : Bool) → cond (a && false) b x ≡ x
 other true b x = refl
 other false b x = refl
@@ -75,12 +75,12 @@ put_step q job true old none = ap (λ o. cond (is_owned q (Some job) && true) tr
     ∙ there (is_owned q (Some job))
 put_step q job false old none = other (is_owned q (Some job)) true (is_owned q old)
 
--- For cut_at: at each key the entries after a Job left are the old ones without the Job's.
-cut_step : (q : Owned) (job : Job) (t : Bool) (old : Option Job) → (t ≡ true → old ≡ Some job)
+-- For removal_at: at each key the entries after a Job left are the old ones without the Job's.
+removal_step : (q : Owned) (job : Job) (t : Bool) (old : Option Job) → (t ≡ true → old ≡ Some job)
     → cond (is_owned q (Some job) && t) false (is_owned q old) ≡ is_owned q (cond t None old)
-cut_step q job true old some = ap (λ o. cond (is_owned q (Some job) && true) false (is_owned q o)) (some refl)
+removal_step q job true old some = ap (λ o. cond (is_owned q (Some job) && true) false (is_owned q o)) (some refl)
     ∙ gone (is_owned q (Some job))
-cut_step q job false old some = other (is_owned q (Some job)) false (is_owned q old)
+removal_step q job false old some = other (is_owned q (Some job)) false (is_owned q old)
 
 -- For none_at: at each key the entries after a removal where nothing stood are the old ones.
 none_step : (q : Owned) (t : Bool) (old : Option Job) → (t ≡ true → old ≡ None)
@@ -96,7 +96,7 @@ same_step q was job true old some same = ap (is_owned q) (some refl) ∙ same
 same_step q was job false old some same = refl
 
 -- After a Job is put at a free key, the entries that stand are those that stood and the Job's.
-put_at : (m : Table) (job : Job) (q : Owned) (a : At) → map.get m job.key ≡ None
+put_at : (m : Table) (job : Job) (q : Owned) (a : Position) → map.get m job.key ≡ None
     → cond (here_by job q (cron_of job) a) true (stands_at m q a) ≡ stands_at (map.insert m job.key job) q a
 put_at m job q Before none = refl
 put_at m job q (Here k) none = put_step q job (is_at (place_cmp job.key) k) (map.get m k) (at_key m job.key k None none)
@@ -104,24 +104,24 @@ put_at m job q (Here k) none = put_step q job (is_at (place_cmp job.key) k) (map
 put_at m job q After none = refl
 
 -- After a Job is taken out, the entries that stand are those that stood but the Job's.
-cut_at : (m : Table) (job : Job) (q : Owned) (a : At) → map.get m job.key ≡ Some job
+removal_at : (m : Table) (job : Job) (q : Owned) (a : Position) → map.get m job.key ≡ Some job
     → cond (here_by job q (cron_of job) a) false (stands_at m q a) ≡ stands_at (map.remove m job.key) q a
-cut_at m job q Before some = refl
-cut_at m job q (Here k) some = cut_step q job (is_at (place_cmp job.key) k) (map.get m k)
-    (at_key m job.key k (Some job) some) ∙ ap (is_owned q) (sym (get_cut m job.key k))
-cut_at m job q After some = refl
+removal_at m job q Before some = refl
+removal_at m job q (Here k) some = removal_step q job (is_at (place_cmp job.key) k) (map.get m k)
+    (at_key m job.key k (Some job) some) ∙ ap (is_owned q) (sym (get_removal m job.key k))
+removal_at m job q After some = refl
 
 -- After a removal at a key where nothing stands, the entries that stand are those that stood.
-none_at : (m : Table) (key : Place) (q : Owned) (a : At) → map.get m key ≡ None
+none_at : (m : Table) (key : Place) (q : Owned) (a : Position) → map.get m key ≡ None
     → stands_at m q a ≡ stands_at (map.remove m key) q a
 none_at m key q Before none = refl
 none_at m key q (Here k) none = none_step q (is_at (place_cmp key) k) (map.get m k) (at_key m key k None none)
-    ∙ ap (is_owned q) (sym (get_cut m key k))
+    ∙ ap (is_owned q) (sym (get_removal m key k))
 none_at m key q After none = refl
 
 -- After a Job is put in place of one of the same owner, the entries that stand are those that
 -- stood.
-same_at : (m : Table) (was job : Job) (q : Owned) (a : At) → map.get m job.key ≡ Some was
+same_at : (m : Table) (was job : Job) (q : Owned) (a : Position) → map.get m job.key ≡ Some was
     → is_owned q (Some was) ≡ is_owned q (Some job) → stands_at m q a ≡ stands_at (map.insert m job.key job) q a
 same_at m was job q Before some same = refl
 same_at m was job q (Here k) some same = same_step q was job (is_at (place_cmp job.key) k) (map.get m k)
@@ -139,46 +139,46 @@ index_put m n s t job index none e sets = record {
   exact = λ q.
       sets q
       ∙ ap (λ b. cond b true (contains owned_cmp s q)) (entry_is job q)
-      ∙ ap (λ b. cond (here_by job q (cron_of job) q.at) true b) (index.exact q)
-      ∙ put_at m job q q.at none
+      ∙ ap (λ b. cond (here_by job q (cron_of job) q.position) true b) (index.exact q)
+      ∙ put_at m job q q.position none
       ∙ ap (λ (x : Table). stands x q) (sym e);
 }
 
--- For cut_from: the index without the Job's entry agrees with the Jobs after the Job is taken out.
-cut_there : (m n : Table) (s t : BTreeSet Owned) (job : Job) → IsIndex m s → map.get m job.key ≡ Some job
+-- For removal_from: the index without the Job's entry agrees with the Jobs after the Job is taken out.
+removal_there : (m n : Table) (s t : BTreeSet Owned) (job : Job) → IsIndex m s → map.get m job.key ≡ Some job
     → n ≡ map.remove m job.key → Sets false s t (owned_of job) → IsIndex n t
-cut_there m n s t job index some e sets = record {
-  keyed = cut_holds Keyed m n job.key e index.keyed;
+removal_there m n s t job index some e sets = record {
+  keyed = removal_holds Keyed m n job.key e index.keyed;
   exact = λ q.
       sets q
       ∙ ap (λ b. cond b false (contains owned_cmp s q)) (entry_is job q)
-      ∙ ap (λ b. cond (here_by job q (cron_of job) q.at) false b) (index.exact q)
-      ∙ cut_at m job q q.at some
+      ∙ ap (λ b. cond (here_by job q (cron_of job) q.position) false b) (index.exact q)
+      ∙ removal_at m job q q.position some
       ∙ ap (λ (x : Table). stands x q) (sym e);
 }
 
--- For cut_from: the index as it was agrees with the Jobs after a removal at a key where nothing
+-- For removal_from: the index as it was agrees with the Jobs after a removal at a key where nothing
 -- stands.
-cut_absent : (m n : Table) (s t : BTreeSet Owned) (key : Place) → IsIndex m s → map.get m key ≡ None
+removal_absent : (m n : Table) (s t : BTreeSet Owned) (key : Place) → IsIndex m s → map.get m key ≡ None
     → n ≡ map.remove m key → Sets false s t None → IsIndex n t
-cut_absent m n s t key index none e sets = record {
-  keyed = cut_holds Keyed m n key e index.keyed;
-  exact = λ q. sets q ∙ index.exact q ∙ none_at m key q q.at none ∙ ap (λ (x : Table). stands x q) (sym e);
+removal_absent m n s t key index none e sets = record {
+  keyed = removal_holds Keyed m n key e index.keyed;
+  exact = λ q. sets q ∙ index.exact q ∙ none_at m key q q.position none ∙ ap (λ (x : Table). stands x q) (sym e);
 }
 
--- For index_cut: cut_there or cut_absent, by the Job that may stand at the key.
-cut_from : (m n : Table) (s t : BTreeSet Owned) (key : Place) (o : Option Job) → IsIndex m s → map.get m key ≡ o
+-- For index_removal: removal_there or removal_absent, by the Job that may stand at the key.
+removal_from : (m n : Table) (s t : BTreeSet Owned) (key : Place) (o : Option Job) → IsIndex m s → map.get m key ≡ o
     → n ≡ map.remove m key → Sets false s t (owned_at o) → IsIndex n t
-cut_from m n s t key None index is e sets = cut_absent m n s t key index is e sets
-cut_from m n s t key (Some job) index is e sets =
+removal_from m n s t key None index is e sets = removal_absent m n s t key index is e sets
+removal_from m n s t key (Some job) index is e sets =
     let own : job.key ≡ key = index.keyed key job is in
-    cut_there m n s t job index (ap (map.get m) own ∙ is) (e ∙ ap (map.remove m) (sym own)) sets
+    removal_there m n s t job index (ap (map.get m) own ∙ is) (e ∙ ap (map.remove m) (sym own)) sets
 
 -- For Jobs::remove: the index without the entry of the key's Job agrees with the Jobs without the
 -- key.
-pub index_cut : (m n : Table) (s t : BTreeSet Owned) (key : Place) → IsIndex m s → n ≡ map.remove m key
+pub index_removal : (m n : Table) (s t : BTreeSet Owned) (key : Place) → IsIndex m s → n ≡ map.remove m key
     → Sets false s t (owned_at (map.get m key)) → IsIndex n t
-index_cut m n s t key index e sets = cut_from m n s t key (map.get m key) index refl e sets
+index_removal m n s t key index e sets = removal_from m n s t key (map.get m key) index refl e sets
 
 -- Two Jobs of the same key and the same owner references belong to the same entries.
 same_owned : (q : Owned) (was job : Job) → was.key ≡ job.key → was.owners ≡ job.owners
@@ -191,7 +191,7 @@ same_there : (m n : Table) (s : BTreeSet Owned) (was job : Job) → IsIndex m s 
     → was.owners ≡ job.owners → n ≡ map.insert m job.key job → IsIndex n s
 same_there m n s was job index some same e = record {
   keyed = put_holds Keyed m n job.key job e refl index.keyed;
-  exact = λ q. index.exact q ∙ same_at m was job q q.at some (same_owned q was job (index.keyed job.key was some) same)
+  exact = λ q. index.exact q ∙ same_at m was job q q.position some (same_owned q was job (index.keyed job.key was some) same)
       ∙ ap (λ (x : Table). stands x q) (sym e);
 }
 
@@ -210,7 +210,7 @@ pub index_same : (m n : Table) (s : BTreeSet Owned) (job : Job) → IsIndex m s 
 index_same m n s job index same e = same_from m n s job (map.get m job.key) index refl same e
 
 -- Where no key has a Job, no entry stands.
-empty_at : (m : Table) (q : Owned) (a : At) → ((k : Place) → map.get m k ≡ None) → false ≡ stands_at m q a
+empty_at : (m : Table) (q : Owned) (a : Position) → ((k : Place) → map.get m k ≡ None) → false ≡ stands_at m q a
 empty_at m q Before none = refl
 empty_at m q (Here k) none = ap (is_owned q) (sym (none k))
 empty_at m q After none = refl
@@ -221,7 +221,7 @@ index_empty m s e f = record {
   keyed = empty_holds Keyed m e;
   exact = λ q.
       ap (λ ks. list_any (is_at (owned_cmp q)) ks) f
-      ∙ empty_at m q q.at (λ k. ap (λ (x : Table). map.get x k) e ∙ map.get-empty place_cmp k);
+      ∙ empty_at m q q.position (λ k. ap (λ (x : Table). map.get x k) e ∙ map.get-empty place_cmp k);
 }
 
 -- For Jobs::add without memory: where the Jobs and the entries are as they were, they still agree.
@@ -234,8 +234,8 @@ index_kept m n s t index e f = record {
 -- a Job that was put in is taken out again
 pub taken_back : (m n l : Table) (job : Job) (k j : Place) → map.get m job.key ≡ None → n ≡ map.insert m k job
     → k ≡ job.key → l ≡ map.remove n j → j ≡ job.key → l ≡ m
-taken_back m n l job k j none put own cut again =
-    cut
+taken_back m n l job k j none put own removal again =
+    removal
     ∙ ap (λ (q : Place). map.remove n q) again
     ∙ ap (λ (x : Table). map.remove x job.key) (put ∙ ap (λ (q : Place). map.insert m q job) own)
     ∙ remove-insert m job.key job none

@@ -12,26 +12,26 @@ use Rattle.std.specs.FinMap as map
 use Rattle.cj_types.specs.Keys.{Place, place, place_cmp}
 use Rattle.cj_types.specs.Objects.{cron_of}
 use Rattle.cj_types.specs.declared.job.Job.{Job}
-use Rattle.cj_jobs.specs.declared.owned.At.{At}
-use Rattle.cj_jobs.specs.declared.owned.At.TheVariants.{Before, Here, After}
+use Rattle.cj_jobs.specs.declared.owned.Position.{Position}
+use Rattle.cj_jobs.specs.declared.owned.Position.TheVariants.{Before, Here, After}
 use Rattle.cj_jobs.specs.declared.owned.Owned.{Owned}
-use Rattle.cj_jobs.specs.contracts.owned.AtOrd.TheImpl as at
-use Rattle.cj_jobs.specs.contracts.owned.AtOrd.TheImpl.Laws as at_laws
+use Rattle.cj_jobs.specs.contracts.owned.PositionOrd.TheImpl as positions
+use Rattle.cj_jobs.specs.contracts.owned.PositionOrd.TheImpl.Laws as position_laws
 use Rattle.cj_jobs.specs.Owners.{is_job_of}
 
 -- the beginning, the Jobs by key, the end
-abbrev pub at_cmp : At → At → Ordering
-at_cmp = at.ghosts.cmp
+abbrev pub position_cmp : Position → Position → Ordering
+position_cmp = positions.ghosts.cmp
 
 abbrev pub owned_cmp : Owned → Owned → Ordering
-owned_cmp = then_cmp (then_cmp (on (λ o. o.namespace) (slice_cmp nat_cmp)) (on (λ o. o.owner) (slice_cmp nat_cmp))) (on (λ o. o.at) at_cmp)
+owned_cmp = then_cmp (then_cmp (on (λ o. o.namespace) (slice_cmp nat_cmp)) (on (λ o. o.owner) (slice_cmp nat_cmp))) (on (λ o. o.position) position_cmp)
 
 pub owned_total : IsTotalOrder owned_cmp
-owned_total = then_total (then_total (on_total (λ o. o.namespace) nat_list_cmp_total) (on_total (λ o. o.owner) nat_list_cmp_total)) (on_total (λ o. o.at) at_laws.total-law)
+owned_total = then_total (then_total (on_total (λ o. o.namespace) nat_list_cmp_total) (on_total (λ o. o.owner) nat_list_cmp_total)) (on_total (λ o. o.position) position_laws.total-law)
 
 -- a place among the entries of a CronJob's key
-abbrev pub owned : Place → At → Owned
-owned owner at = record { namespace = owner.namespace; owner = owner.name; at = at }
+abbrev pub owned : Place → Position → Owned
+owned owner position = record { namespace = owner.namespace; owner = owner.name; position = position }
 
 -- the entry of a Job, if its controller reference names a CronJob
 abbrev pub owned_of : Job → Option Owned
@@ -42,7 +42,7 @@ abbrev pub owned_at : Option Job → Option Owned
 owned_at None = None
 owned_at (Some job) = owned_of job
 
-abbrev pub key_at : At → Option Place
+abbrev pub key_at : Position → Option Place
 key_at Before = None
 key_at (Here key) = Some key
 key_at After = None
@@ -52,14 +52,14 @@ abbrev pub is_owned : Owned → Option Job → Bool
 is_owned entry None = false
 is_owned entry (Some job) = is_job_of (place entry.namespace entry.owner) job
 
-abbrev pub stands_at : map.FinMap place_cmp Job → Owned → At → Bool
+abbrev pub stands_at : map.FinMap place_cmp Job → Owned → Position → Bool
 stands_at jobs entry Before = false
 stands_at jobs entry (Here key) = is_owned entry (map.get jobs key)
 stands_at jobs entry After = false
 
 -- whether the Job at the entry's key is one of the entry's owner
 abbrev pub stands : map.FinMap place_cmp Job → Owned → Bool
-stands jobs entry = stands_at jobs entry entry.at
+stands jobs entry = stands_at jobs entry entry.position
 
 -- each Job stands at its own key, and the index has exactly the entries of the Jobs
 -- rule: jobs-of
@@ -67,14 +67,14 @@ pub record IsIndex (jobs : map.FinMap place_cmp Job) (index : BTreeSet Owned) : 
   pub keyed : (key : Place) (job : Job) → map.get jobs key ≡ Some job → job.key ≡ key
   pub exact : (entry : Owned) → contains owned_cmp index entry ≡ stands jobs entry
 
--- whether the entry, if there is one, is at this place
+-- whether the entry, if there is one, is this one
 abbrev pub is_entry : Option Owned → Owned → Bool
-is_entry None at = false
-is_entry (Some entry) at = is_at (owned_cmp entry) at
+is_entry None other = false
+is_entry (Some entry) other = is_at (owned_cmp entry) other
 
 -- the new index has the entry or not, if there is one, and else what the old has
 abbrev pub Sets : Bool → BTreeSet Owned → BTreeSet Owned → Option Owned → Type 0
-Sets there old new entry = (at : Owned) → contains owned_cmp new at ≡ cond (is_entry entry at) there (contains owned_cmp old at)
+Sets there old new entry = (other : Owned) → contains owned_cmp new other ≡ cond (is_entry entry other) there (contains owned_cmp old other)
 
 -- the Job at an entry, if there is one
 abbrev pub listed : Option Job → List Job
@@ -86,7 +86,7 @@ listed_at jobs None = []
 listed_at jobs (Some key) = listed (map.get jobs key)
 
 abbrev pub found_at : map.FinMap place_cmp Job → Owned → List Job
-found_at jobs entry = listed_at jobs (key_at entry.at)
+found_at jobs entry = listed_at jobs (key_at entry.position)
 
 -- the Jobs at the entries
 abbrev pub found : map.FinMap place_cmp Job → List Owned → List Job

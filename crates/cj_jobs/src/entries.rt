@@ -12,7 +12,7 @@ use std::alloc::Global;
 use std::collections::BTreeSet;
 
 // Puts the entry into the index, if there is one.
-pub(crate) fn put_entry(index: &mut BTreeSet<Owned>, entry: Option<Owned>) -> Result<(), Refusal>
+pub(crate) fn insert_entry(index: &mut BTreeSet<Owned>, entry: Option<Owned>) -> Result<(), Refusal>
     ensures ok { OnOk result (Sets true index.old index.new entry) }
     ensures err { OnErr result (IsUnchanged index.old index.new) }
     ensures memory { IfErr result (λ e. e ≡ OutOfMemory) }
@@ -27,7 +27,7 @@ pub(crate) fn put_entry(index: &mut BTreeSet<Owned>, entry: Option<Owned>) -> Re
 }
 
 // Takes the entry out of the index, if there is one.
-pub(crate) fn cut_entry(index: &mut BTreeSet<Owned>, entry: Option<Owned>)
+pub(crate) fn remove_entry(index: &mut BTreeSet<Owned>, entry: Option<Owned>)
     ensures { Sets false index.old index.new entry }
 {
     if let Some(entry) = entry {

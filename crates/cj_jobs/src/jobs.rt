@@ -3,8 +3,8 @@ ghost use Rattle.std.specs.FinMap as map;
 ghost use Rattle.cj_base.specs.declared.refusal.Refusal.TheVariants.{OutOfMemory};
 ghost use Rattle.cj_jobs.specs.Owners.{owned_by, owners_of};
 
-use crate::entries::{cut_entry, found_jobs, put_entry};
-use crate::owned::{At, Owned};
+use crate::entries::{found_jobs, insert_entry, remove_entry};
+use crate::owned::{Owned, Position};
 use cj_table::Table;
 use cj_types::{Job, Key, Listing, Refusal, Shared, TryCopy};
 use std::alloc::Global;
@@ -75,8 +75,8 @@ impl Jobs {
         ensures ok { IfOk result (λ l. l ≡ owned_by self.now key.now) }
         ensures memory { IfErr result (λ e. e ≡ OutOfMemory) }
     {
-        let first = Owned::beside(alloc, key, At::Before)?;
-        let last = Owned::beside(alloc, key, At::After)?;
+        let first = Owned::beside(alloc, key, Position::Before)?;
+        let last = Owned::beside(alloc, key, Position::After)?;
         found_jobs(&self.table, &self.index, alloc, first, last)
     }
 
@@ -91,7 +91,7 @@ impl Jobs {
         let key = key_of(alloc, &job)?;
         let again = key_of(alloc, &job)?;
         self.table.insert(key, job)?;
-        if let Err(refusal) = put_entry(&mut self.index, entry) {
+        if let Err(refusal) = insert_entry(&mut self.index, entry) {
             self.table.remove(&again);
             return Err(refusal);
         }
@@ -106,8 +106,8 @@ impl Jobs {
         ensures err { OnErr result (self.new ≡ self.old) }
         ensures memory { IfErr result (λ e. e ≡ OutOfMemory) }
     {
-        let at = key_of(alloc, &job)?;
-        self.table.insert(at, job)?;
+        let key = key_of(alloc, &job)?;
+        self.table.insert(key, job)?;
         Ok(())
     }
 
@@ -117,8 +117,8 @@ impl Jobs {
         ensures err { OnErr result (self.new ≡ self.old) }
         ensures memory { IfErr result (λ e. e ≡ OutOfMemory) }
     {
-        let entry = Owned::at(alloc, &self.table, key)?;
-        cut_entry(&mut self.index, entry);
+        let entry = Owned::standing(alloc, &self.table, key)?;
+        remove_entry(&mut self.index, entry);
         self.table.remove(key);
         Ok(())
     }

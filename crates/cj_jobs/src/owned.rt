@@ -14,7 +14,7 @@ use std::cmp::Ordering;
 
 // Where a Job stands among those of its owner, or where a list of them begins or ends.
 #[derive(Drop, PartialEq, Eq, PartialOrd, Ord)]
-pub(crate) enum At {
+pub(crate) enum Position {
     Before,
     Here(Key),
     After,
@@ -26,7 +26,7 @@ pub(crate) enum At {
 pub(crate) struct Owned {
     namespace: Text,
     owner: Text,
-    at: At,
+    position: Position,
 }
 
 impl Owned {
@@ -41,12 +41,12 @@ impl Owned {
         Ok(Some(Owned {
             namespace: Text::new(alloc, job.key.namespace())?,
             owner: owner.try_copy(alloc)?,
-            at: At::Here(job.key.try_copy(alloc)?),
+            position: Position::Here(job.key.try_copy(alloc)?),
         }))
     }
 
     // The entry of the Job at the key, if one stands there and its controller reference names a CronJob.
-    pub(crate) fn at(
+    pub(crate) fn standing(
         alloc: Global,
         table: &Table<Shared<Job>>,
         key: &Key,
@@ -61,23 +61,23 @@ impl Owned {
     }
 
     // Below or above the entries of the CronJob at the key.
-    pub(crate) fn beside(alloc: Global, key: &Key, at: At) -> Result<Owned, Refusal>
-        ensures ok { IfOk result (λ o. o ≡ owned key.now at) }
+    pub(crate) fn beside(alloc: Global, key: &Key, position: Position) -> Result<Owned, Refusal>
+        ensures ok { IfOk result (λ o. o ≡ owned key.now position) }
         ensures err { IfErr result (λ e. e ≡ OutOfMemory) }
     {
         Ok(Owned {
             namespace: Text::new(alloc, key.namespace())?,
             owner: Text::new(alloc, key.name())?,
-            at,
+            position,
         })
     }
 
     // The key of the Job that stands here.
     pub(crate) fn key(&self) -> Option<&Key>
-        ensures { option_copied result ≡ key_at self.now.at }
+        ensures { option_copied result ≡ key_at self.now.position }
     {
-        match &self.at {
-            At::Here(key) => Some(key),
+        match &self.position {
+            Position::Here(key) => Some(key),
             _ => None,
         }
     }
@@ -111,7 +111,7 @@ impl Ord for Owned {
             .as_str()
             .cmp(other.namespace.as_str())
             .then(self.owner.as_str().cmp(other.owner.as_str()))
-            .then(self.at.cmp(&other.at))
+            .then(self.position.cmp(&other.position))
     }
 }
 

@@ -21,7 +21,7 @@ given_of s = record { status = s.status; printed = s.printed.items; said = s.sai
 pub record IsOutcomeOf (request : Request) (input : List ℕ) (g : Given) : Type 0 where
   pub outcome : Outcome
   pub answer : IsOutcome request [] (Some input) outcome
-  pub status : g.status ≡ status_of outcome.verdict
+  pub status : g.status ≡ status_of outcome.ending
   pub printed : g.printed ≡ outcome.printed
   pub said : g.said ≡ outcome.said
 

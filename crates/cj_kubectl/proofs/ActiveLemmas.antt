@@ -3,7 +3,7 @@ use Rattle.std.proofs.Common.{◌≡◌, ◌∙◌, ℕ, ◌+◌, ◌<◌, List,
 use Rattle.serde_json.specs.View.{items_view, view}
 use Rattle.serde_json.specs.declared.value.Value.{Value}
 use Rattle.cj_base.specs.declared.cause.Cause.{Cause}
-use Rattle.cj_manifest.specs.RowKinds.{and_then}
+use Rattle.cj_manifest.specs.Values.{and_then}
 use Rattle.cj_kubectl.proofs.Places.{rest_at}
 use Rattle.cj_kubectl.specs.Rows.{before, name_in, names_in}
 

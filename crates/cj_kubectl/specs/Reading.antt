@@ -17,7 +17,7 @@ use Rattle.cj_manifest.specs.Drafts.{cron_draft, given, job_head, value_or}
 use Rattle.cj_manifest.specs.Faults.{cron_faults, head_faults}
 use Rattle.cj_manifest.specs.Members.{present}
 use Rattle.cj_manifest.specs.Reading.{IsNoValue, Reads}
-use Rattle.cj_manifest.specs.RowKinds.{an_object, required, text}
+use Rattle.cj_manifest.specs.Values.{an_object, required, text}
 use Rattle.cj_manifest.specs.declared.head.JobHead.{JobHead}
 use Rattle.cj_kubectl.specs.declared.fault.ListFault.{ListFault}
 use Rattle.cj_kubectl.specs.declared.fault.ListFault.TheVariants.{Form, Memory, Syntax}
@@ -83,8 +83,8 @@ IsOfKind true is_job zones place d kind r = IsCronItem zones place d r
 IsOfKind false true zones place d kind r = IsJobItem place d r
 IsOfKind false false zones place d kind r = r ≡ Read.Other kind
 
-abbrev pub kind_row : Data → Result (List ℕ) Cause
-kind_row d = required text (present (codes "kind") d)
+abbrev pub kind_field : Data → Result (List ℕ) Cause
+kind_field d = required text (present (codes "kind") d)
 
 abbrev pub IsKindItem : List Zone → ℕ → Data → Result (List ℕ) Cause → Item → Type 0
 IsKindItem zones place d (Err cause) r = r ≡ Read.Faulty (fault_of At.Kind (Some cause))
@@ -93,7 +93,7 @@ IsKindItem zones place d (Ok kind) r =
 
 abbrev pub IsObjectItem : List Zone → ℕ → Result Data Cause → Item → Type 0
 IsObjectItem zones place (Err cause) r = r ≡ Read.Faulty (fault_of At.Whole (Some cause))
-IsObjectItem zones place (Ok d) r = IsKindItem zones place d (kind_row d) r
+IsObjectItem zones place (Ok d) r = IsKindItem zones place d (kind_field d) r
 
 -- what is read of the item at a place
 -- rule: cluster-list

@@ -11,7 +11,7 @@ use Rattle.cj_types.specs.Names.{longest}
 use Rattle.cj_manifest.specs.Drafts.{given}
 use Rattle.cj_manifest.specs.Members.{present}
 use Rattle.cj_manifest.specs.Owners.{then_do, text_at}
-use Rattle.cj_manifest.specs.RowKinds.{an_object, and_then, name, optional, or_wrong_type, required}
+use Rattle.cj_manifest.specs.Values.{an_object, and_then, name, optional, or_wrong_type, required}
 use Rattle.cj_manifest.specs.Table as row
 use Rattle.cj_kubectl.specs.declared.conditions.Ending.{Ending}
 use Rattle.cj_kubectl.specs.declared.conditions.Ending.TheVariants.{Success, Failure}

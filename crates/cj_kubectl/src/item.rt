@@ -6,7 +6,7 @@ ghost use Rattle.serde_json.specs.Read.{max_depth};
 ghost use Rattle.serde_json.specs.View.{view};
 ghost use Rattle.cj_base.specs.declared.refusal.Refusal.TheVariants.{OutOfMemory};
 ghost use Rattle.cj_zone.specs.Table.{zones_of};
-ghost use Rattle.cj_kubectl.specs.Reading.{IsItem, IsKindItem, kind_row};
+ghost use Rattle.cj_kubectl.specs.Reading.{IsItem, IsKindItem, kind_field};
 
 use crate::crons::cron_item;
 use crate::faults::fault;
@@ -32,9 +32,9 @@ pub(crate) enum Item {
 }
 
 fn kind_of(value: &Value) -> Result<&str, Cause>
-    ensures fault { result_err result ≡ result_err (kind_row (view value.now)) }
+    ensures fault { result_err result ≡ result_err (kind_field (view value.now)) }
     ensures value { option_map (λ s. s.now) (result_ok result)
-        ≡ result_ok (kind_row (view value.now)) }
+        ≡ result_ok (kind_field (view value.now)) }
 {
     match present(value, "kind") {
         Some(found) => text(found),
@@ -46,7 +46,7 @@ fn kind_of(value: &Value) -> Result<&str, Cause>
 fn kind_item(alloc: Global, place: Uid, value: &Value, zones: &ZoneTable) -> Result<Item, Refusal>
     requires flat { depth (view value.now) ≤ max_depth }
     ensures ok { IfOk result (IsKindItem (zones_of zones.now) place (view value.now)
-        (kind_row (view value.now))) }
+        (kind_field (view value.now))) }
     ensures err { IfErr result (λ e. e ≡ OutOfMemory) }
 {
     match kind_of(value) {

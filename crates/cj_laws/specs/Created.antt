@@ -4,7 +4,7 @@ use Rattle.cj_types.specs.declared.cron.CronJob.{CronJob}
 use Rattle.cj_types.specs.declared.cron.CronJobDraft.{CronJobDraft}
 use Rattle.cj_types.specs.declared.job.Job.{Job}
 use Rattle.cj_types.specs.declared.job.JobDraft.{JobDraft}
-use Rattle.cj_written.specs.Objects.{cron_written, job_written}
+use Rattle.cj_json.specs.Objects.{cron_written, job_written}
 use Rattle.cj_zone.specs.declared.zone.Zone.{Zone}
 use Rattle.cj_store.specs.Content.{Content}
 use Rattle.cj_store.specs.Crons.{cron_created}

@@ -26,7 +26,7 @@ use Rattle.cj_state.specs.Step.{step_of}
 use Rattle.cj_state.specs.Legal.{state_of}
 use Rattle.cj_legal.proofs.Shapes.{Shape, Ends, same, sat, wrote_it, took, left_it, stored, listed, queued, shape}
 use Rattle.cj_legal.proofs.Follows.{Follows, told_of, follows_start, follows_shape}
-use Rattle.cj_legal.proofs.Rows.{RowOk, put_has, put_keeps, cut_other, add_ok, adds_ok, end_ok, take_ok, add_works, adds_works, take_works, first_free}
+use Rattle.cj_legal.proofs.Rows.{RowOk, put_has, put_keeps, removal_other, add_ok, adds_ok, end_ok, take_ok, add_works, adds_works, take_works, first_free}
 
 -- ---- seats by number
 
@@ -40,11 +40,11 @@ put_case : (t : Bool) (q k : ℕ) (v : Seat) (old : Option Seat) → (t ≡ true
 put_case true q k v old h = inl (h refl, refl)
 put_case false q k v old h = inr refl
 
--- For cut_seat: by the test of the numbers, a seat is gone or the one there before.
-cut_case : (t : Bool) (q k : ℕ) (old : Option Seat) → (t ≡ true → q ≡ k)
+-- For removal_seat: by the test of the numbers, a seat is gone or the one there before.
+removal_case : (t : Bool) (q k : ℕ) (old : Option Seat) → (t ≡ true → q ≡ k)
     → ((q ≡ k) × (cond t None old ≡ None)) ⊎ (cond t None old ≡ old)
-cut_case true q k old h = inl (h refl, refl)
-cut_case false q k old h = inr refl
+removal_case true q k old h = inl (h refl, refl)
+removal_case false q k old h = inr refl
 
 module _ (m : map.FinMap nat_cmp Seat) (k : ℕ) where
   -- After a seat is put at a number, a number is that one and has the seat, or has what it had.
@@ -54,9 +54,9 @@ module _ (m : map.FinMap nat_cmp Seat) (k : ℕ) where
       (put_case (eq_by_cmp nat_cmp q k) q k v (map.get m q) (one_number q k))
 
   -- After a seat is removed, a number is the one it was at and has none, or has what it had.
-  cut_seat : (q : ℕ) → ((q ≡ k) × (map.get (map.remove m k) q ≡ None)) ⊎ (map.get (map.remove m k) q ≡ map.get m q)
-  cut_seat q = rw (map.get-remove nat_cmp_total m k q)
-      (cut_case (eq_by_cmp nat_cmp q k) q k (map.get m q) (one_number q k))
+  removal_seat : (q : ℕ) → ((q ≡ k) × (map.get (map.remove m k) q ≡ None)) ⊎ (map.get (map.remove m k) q ≡ map.get m q)
+  removal_seat q = rw (map.get-remove nat_cmp_total m k q)
+      (removal_case (eq_by_cmp nat_cmp q k) q k (map.get m q) (one_number q k))
 
 -- Two values that equal options have are equal.
 the_same : {X : Type 0} (a b : X) (o p : Option X) → o ≡ Some a → p ≡ Some b → o ≡ p → a ≡ b
@@ -145,7 +145,7 @@ module _ (m : map.FinMap nat_cmp Seat) (works : Keys) (w : ℕ) (seat : Seat) (a
       ⊎_elim
       (λ (i : (v ≡ w) × (map.get (map.remove m w) v ≡ None)). absurd (cc (e, i.1)))
       (λ (i : map.get (map.remove m w) v ≡ map.get m v). sym i ∙ e)
-      (cut_seat m w v)
+      (removal_seat m w v)
 
   -- Each seat that is there after the end has another key than the one that was left.
   other : (v : ℕ) (a : Seat) → map.get (map.remove m w) v ≡ Some a → a.key ≢ seat.key
@@ -157,7 +157,7 @@ module _ (m : map.FinMap nat_cmp Seat) (works : Keys) (w : ℕ) (seat : Seat) (a
   -- After the end each key held is worked on, and held by one worker.
   sat_end : Sat (map.remove m w) (map.remove works seat.key)
   sat_end = record {
-    held = λ v a e. cut_other works seat.key a.key (other v a e) ∙ s.held v a (stays v a e);
+    held = λ v a e. removal_other works seat.key a.key (other v a e) ∙ s.held v a (stays v a e);
     single = λ u v a b e f i. s.single u v a b (stays u a e) (stays v b f) i;
   }
 

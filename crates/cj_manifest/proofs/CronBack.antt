@@ -7,8 +7,8 @@ use Rattle.cj_types.specs.declared.cron.JobTemplate.{JobTemplate}
 use Rattle.cj_types.specs.Limits.{last_deadline, last_history_limit}
 use Rattle.cj_types.specs.Printed.{policy_name}
 use Rattle.cj_zone.specs.declared.zone.Zone.{Zone}
-use Rattle.cj_written.specs.Parts.{put_some_number}
-use Rattle.cj_written.specs.Objects.{template_data, cron_spec_data, active_data}
+use Rattle.cj_json.specs.Parts.{put_some_number}
+use Rattle.cj_json.specs.Objects.{template_data, cron_spec_data, active_data}
 use Rattle.cj_manifest.proofs.CronRows.{IsWithin}
 use Rattle.cj_manifest.proofs.SpecTrip.{IsFineSpec}
 use Rattle.cj_manifest.proofs.WrittenBack.{Fits, IsFlat, Are, are, fit, none, value, text, truth, count, flat_object, some_text, some_time, some_object, some_list, labels}

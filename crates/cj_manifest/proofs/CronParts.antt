@@ -3,8 +3,8 @@ use Rattle.std.proofs.Common.{◌≡◌, ℕ, List, [], ◌∷◌, codes, Option
 use Rattle.serde_json.specs.Data.{Data, boolean, number, string, object, unsigned, Members, no_members, put}
 use Rattle.cj_types.specs.declared.cron.CronSpec.{CronSpec}
 use Rattle.cj_types.specs.Printed.{policy_name}
-use Rattle.cj_written.specs.Parts.{put_some_text, put_some_number, put_some_object, put_labels}
-use Rattle.cj_written.specs.Objects.{spec_head}
+use Rattle.cj_json.specs.Parts.{put_some_text, put_some_number, put_some_object, put_labels}
+use Rattle.cj_json.specs.Objects.{spec_head}
 use Rattle.cj_manifest.specs.declared.level.Level.TheVariants as In
 use Rattle.cj_manifest.specs.Members.{present, unless_null}
 use Rattle.cj_manifest.specs.Warnings.{dropped}

@@ -14,9 +14,9 @@ use Rattle.cj_schedule.specs.Reading as schedules
 use Rattle.cj_zone.specs.declared.zone.Zone.{Zone}
 use Rattle.cj_zone.specs.Zones.{zone_named}
 use Rattle.cj_manifest.specs.Drafts.{given, value_or}
-use Rattle.cj_manifest.specs.RowKinds.{or_wrong_type, when, unless, and_then, text, up_to, range, required, optional, or_default}
-use Rattle.cj_manifest.specs.RowKinds as kinds
-use Rattle.cj_manifest.specs.Table as row
+use Rattle.cj_manifest.specs.Values.{or_wrong_type, when, unless, and_then, text, up_to, range, required, optional, or_default}
+use Rattle.cj_manifest.specs.Values as read
+use Rattle.cj_manifest.specs.Table as fields
 use Rattle.cj_manifest.proofs.CronParts.{number_data}
 use Rattle.cj_manifest.proofs.KeyLemmas.{kept}
 
@@ -37,15 +37,15 @@ schedule_text (Ok s) k is h =
     ap schedules.fault_of (ap (value_or []) is ∙ both.1) ∙ no_cause_of Why.Schedule _ both.0
 
 -- The schedule that a manifest gives, where its row has no cause, has no fault as a schedule.
-pub schedule_given : (o : Option Data) → result_err (required kinds.schedule o) ≡ None
-    → schedules.fault_of (value_or [] (required kinds.schedule o)) ≡ None
+pub schedule_given : (o : Option Data) → result_err (required read.schedule o) ≡ None
+    → schedules.fault_of (value_or [] (required read.schedule o)) ≡ None
 schedule_given None h = absurd (cc h)
 schedule_given (Some d) h = schedule_text (text d) _ refl h
 
 -- The row of a written schedule without a fault gives that schedule.
 pub schedule_row : (s : List ℕ) (o : Option Data) → o ≡ Some (string s) → schedules.fault_of s ≡ None
-    → required kinds.schedule o ≡ Ok s
-schedule_row s o h k = ap (required kinds.schedule) h ∙ ap (λ c. unless (option_map Why.Schedule c) s) k
+    → required read.schedule o ≡ Ok s
+schedule_row s o h k = ap (required read.schedule) h ∙ ap (λ c. unless (option_map Why.Schedule c) s) k
 
 -- ---- the zone
 
@@ -68,16 +68,16 @@ known_text zones None h = absurd (cc h)
 known_text zones (Some name) h = known_by zones (is_some (zone_named name zones)) name refl h
 
 -- The zone that a manifest gives, where its row has no cause, is one of the table, or none.
-pub zone_given : (zones : List Zone) (o : Option Data) → result_err (optional (kinds.zone zones) o) ≡ None
+pub zone_given : (zones : List Zone) (o : Option Data) → result_err (optional (read.zone zones) o) ≡ None
     → IsKnownZone zones (given (optional text o))
 zone_given zones None h = tt
 zone_given zones (Some d) h = known_text zones (as_str d) h
 
 -- The row of the zone has no cause where a zone of the table is written, or none.
 pub zone_row : (zones : List Zone) (z : Option (List ℕ)) (o : Option Data) → o ≡ option_map string z
-    → IsKnownZone zones z → result_err (optional (kinds.zone zones) o) ≡ None
-zone_row zones None o h k = ap (λ x. result_err (optional (kinds.zone zones) x)) h
-zone_row zones (Some name) o h k = ap (λ x. result_err (optional (kinds.zone zones) x)) h
+    → IsKnownZone zones z → result_err (optional (read.zone zones) o) ≡ None
+zone_row zones None o h k = ap (λ x. result_err (optional (read.zone zones) x)) h
+zone_row zones (Some name) o h k = ap (λ x. result_err (optional (read.zone zones) x)) h
     ∙ ap (λ b. result_err (and_then (λ x. Ok (Some x)) (when b Why.Zone name))) k
 
 -- What is written of a zone says its name, and what is written of none says none.
@@ -88,15 +88,15 @@ zone_said (Some name) o h = ap (λ x. given (optional text x)) h
 -- ---- policy and suspension
 
 -- For policy_row: the written name of a policy reads as that policy.
-named_policy : (p : Policy) → or_default Allow kinds.policy (Some (string (policy_name p))) ≡ Ok p
+named_policy : (p : Policy) → or_default Allow read.policy (Some (string (policy_name p))) ≡ Ok p
 named_policy Allow = refl
 named_policy Forbid = refl
 named_policy Replace = refl
 
 -- The row of the concurrency policy gives the policy whose name is written there.
 pub policy_row : (p : Policy) (o : Option Data) → o ≡ Some (string (policy_name p))
-    → or_default Allow kinds.policy o ≡ Ok p
-policy_row p o h = ap (or_default Allow kinds.policy) h ∙ named_policy p
+    → or_default Allow read.policy o ≡ Ok p
+policy_row p o h = ap (or_default Allow read.policy) h ∙ named_policy p
 
 -- ---- numbers
 
@@ -119,15 +119,15 @@ within_num most (Some (negative z)) = tt
 within_num most (Some (float x)) = tt
 
 -- The starting deadline that a manifest gives is within its limit, where there is one.
-pub deadline_given : (o : Option Data) → IsWithin last_deadline (given (optional row.seconds o))
+pub deadline_given : (o : Option Data) → IsWithin last_deadline (given (optional fields.seconds o))
 deadline_given None = tt
 deadline_given (Some d) = within_num last_deadline (as_number d)
 
 -- The row of a written starting deadline within the limit, or of none, gives it back.
 pub deadline_row : (n : Option ℕ) (o : Option Data) → o ≡ option_map number_data n → IsWithin last_deadline n
-    → optional row.seconds o ≡ Ok n
-deadline_row None o h k = ap (optional row.seconds) h
-deadline_row (Some n) o h k = ap (optional row.seconds) h ∙ ap (λ b. and_then (λ x. Ok (Some x)) (when b Why.Range n)) k
+    → optional fields.seconds o ≡ Ok n
+deadline_row None o h k = ap (optional fields.seconds) h
+deadline_row (Some n) o h k = ap (optional fields.seconds) h ∙ ap (λ b. and_then (λ x. Ok (Some x)) (when b Why.Range n)) k
 
 -- For limit_num: a number that is let through is within the limit, and else 0 stands for it.
 limit_by : (most n : ℕ) (b : Bool) → nat_le 0 most ≡ true → nat_le n most ≡ b
@@ -145,11 +145,11 @@ limit_num most (Some (float x)) z = z
 
 -- The history limit that a manifest gives, or else the default, is at most the greatest one.
 pub limit_given : (n : ℕ) (o : Option Data) → nat_le n last_history_limit ≡ true
-    → nat_le (value_or 0 (or_default n row.limit o)) last_history_limit ≡ true
+    → nat_le (value_or 0 (or_default n fields.limit o)) last_history_limit ≡ true
 limit_given n None h = h
 limit_given n (Some d) h = limit_num last_history_limit (as_number d) refl
 
 -- The row of a written history limit, at most the greatest one, gives it whatever the default is.
 pub limit_row : (usual n : ℕ) (o : Option Data) → o ≡ Some (number_data n) → nat_le n last_history_limit ≡ true
-    → or_default usual row.limit o ≡ Ok n
-limit_row usual n o h k = ap (or_default usual row.limit) h ∙ ap (λ b. when b Why.Range n) k
+    → or_default usual fields.limit o ≡ Ok n
+limit_row usual n o h k = ap (or_default usual fields.limit) h ∙ ap (λ b. when b Why.Range n) k

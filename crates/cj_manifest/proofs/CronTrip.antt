@@ -11,9 +11,9 @@ use Rattle.cj_types.specs.declared.cron.CronJobDraft.{CronJobDraft}
 use Rattle.cj_types.specs.declared.cron.CronSpec.{CronSpec}
 use Rattle.cj_types.specs.declared.meta.DraftMeta.{DraftMeta}
 use Rattle.cj_types.specs.Keys.{Place}
-use Rattle.cj_written.specs.Parts.{kept_value}
-use Rattle.cj_written.specs.Objects.{metadata_members, cron_status_members, cron_spec_data, template_data, cron_data, cron_written}
-use Rattle.cj_written.proofs.Plain.{cron_written_plain}
+use Rattle.cj_json.specs.Parts.{kept_value}
+use Rattle.cj_json.specs.Objects.{metadata_members, cron_status_members, cron_spec_data, template_data, cron_data, cron_written}
+use Rattle.cj_json.proofs.Plain.{cron_written_plain}
 use Rattle.cj_zone.specs.declared.zone.Zone.{Zone}
 use Rattle.cj_manifest.specs.declared.kind.ObjectKind.TheVariants as Of
 use Rattle.cj_manifest.specs.declared.level.Level.TheVariants as In
@@ -21,7 +21,7 @@ use Rattle.cj_manifest.specs.Drafts.{given, cron_draft}
 use Rattle.cj_manifest.specs.Faults.{object_faults, cron_faults, cron_spec_faults, template_faults, job_spec_faults, template_fields}
 use Rattle.cj_manifest.specs.Laws.{ReadsBack, CronReadsBack, identified}
 use Rattle.cj_manifest.specs.Owners.{then_do}
-use Rattle.cj_manifest.specs.Table as row
+use Rattle.cj_manifest.specs.Table as fields
 use Rattle.cj_manifest.specs.Warnings.{dropped, template_in, template_metadata_in, cron_warnings}
 use Rattle.cj_manifest.proofs.CronParts.{spec_members}
 use Rattle.cj_manifest.proofs.FloatLemmas.{no_float-object}
@@ -29,7 +29,7 @@ use Rattle.cj_manifest.proofs.DepthLemmas.{depth-one_less, depth-most}
 use Rattle.cj_manifest.proofs.LabelTrips.{in_order}
 use Rattle.cj_manifest.proofs.MetaTrip.{no_faults, IsNamedWell, named_well, meta_draft, meta_says}
 use Rattle.cj_manifest.proofs.Rising.{rises}
-use Rattle.cj_manifest.proofs.Sound.{nil_left, nil_right, plain, clear_rows, metadata_clear, named, step}
+use Rattle.cj_manifest.proofs.Sound.{nil_left, nil_right, plain, clear_fields, metadata_clear, named, step}
 use Rattle.cj_manifest.proofs.SpecTrip.{IsFineSpec, fine_spec, spec_says}
 use Rattle.cj_manifest.proofs.TextTrips.{was_read, object_back, reads_again, kept_as_read}
 use Rattle.cj_manifest.proofs.WrittenBack.{IsFlat, metadata, whole_flat}
@@ -79,10 +79,10 @@ reads_back zones o ms h =
     (cron_status 123 o.key.namespace o.status) (cron_spec_flat zones 122 o.spec (object ms) h.spec h.flat) in
     let says = meta_says Of.Cron o.key o.meta [] (object members) h.named h.labels h.annotations meta in
     let spec = spec_says zones o.spec ms h.spec h.text h.sound in
-    let template : template_in w ≡ Some t = ap (λ r. then_do (result_ok r) (λ x. result_ok (row.job_template x)))
+    let template : template_in w ≡ Some t = ap (λ r. then_do (result_ok r) (λ x. result_ok (fields.job_template x)))
     whole.spec ∙ ap result_ok spec.template in
-    let inner : template_metadata_in w ≡ given (row.template_metadata t) =
-    ap (λ x. then_do x (λ y. given (row.template_metadata y))) template in
+    let inner : template_metadata_in w ≡ given (fields.template_metadata t) =
+    ap (λ x. then_do x (λ y. given (fields.template_metadata y))) template in
     record {
       value = w;
       written = written;
@@ -90,8 +90,8 @@ reads_back zones o ms h =
       says = record {
         sound = whole_sound Of.Cron (object members) s w (cron_spec_faults zones) whole says.sound spec.sound;
         drafted =
-            step (row.metadata w) (object members) _ whole.metadata ∙ step (row.spec w) s _ whole.spec
-            ∙ step (row.job_template s) t _ spec.template ∙ step (row.job_spec t) (object ms) _ spec.job
+            step (fields.metadata w) (object members) _ whole.metadata ∙ step (fields.spec w) s _ whole.spec
+            ∙ step (fields.job_template s) t _ spec.template ∙ step (fields.job_spec t) (object ms) _ spec.job
             ∙ made _ _ _ _ _ _ says.key_is says.meta_is spec.said;
         warned = sym (
             no_faults _ _ (no_faults _ _ (no_faults _ _ (no_faults _ _ (no_faults _ _ parts.current parts.known)
@@ -115,17 +115,17 @@ cron_reads_back zones bytes draft warnings o reading is =
     let d = reading.value in
     let rows = plain (object_faults Of.Cron (cron_spec_faults zones)) d reading.sound in
     let m = metadata_clear Of.Cron d (nil_left _ _ rows.1) in
-    let s = clear_rows At.Spec (cron_spec_faults zones) (row.spec d) (nil_right _ _ rows.1) in
-    let t = clear_rows At.JobTemplate template_faults (row.job_template s.object) (nil_right _ _ s.clear) in
-    let j = clear_rows At.JobTemplateSpec (job_spec_faults template_fields) (row.job_spec t.object)
+    let s = clear_fields At.Spec (cron_spec_faults zones) (fields.spec d) (nil_right _ _ rows.1) in
+    let t = clear_fields At.JobTemplate template_faults (fields.job_template s.object) (nil_right _ _ s.clear) in
+    let j = clear_fields At.JobTemplateSpec (job_spec_faults template_fields) (fields.job_spec t.object)
     (nil_right _ _ t.clear) in
     let spec_found = sym (ap result_ok s.there) in
     let template_found = sym (ap result_ok t.there) in
     let job_found = sym (ap result_ok j.there) in
     let body = object_is _ j.object j.there in
-    let source = same_some draft _ (sym reading.drafted ∙ step (row.metadata d) m.object _ m.there
-    ∙ step (row.spec d) s.object _ s.there ∙ step (row.job_template s.object) t.object _ t.there
-    ∙ step (row.job_spec t.object) j.object _ j.there) in
+    let source = same_some draft _ (sym reading.drafted ∙ step (fields.metadata d) m.object _ m.there
+    ∙ step (fields.spec d) s.object _ s.there ∙ step (fields.job_template s.object) t.object _ t.there
+    ∙ step (fields.job_spec t.object) j.object _ j.there) in
     let key = is.key ∙ ap (λ r. r.key) source in
     let spec = is.spec ∙ ap (λ r. r.spec) source in
     let text = ap (λ r. r.template.spec) spec in
@@ -152,9 +152,9 @@ cron_reads_back zones bytes draft warnings o reading is =
     (reads_back zones o body.0 (record {
       named = subst (IsNamedWell Of.Cron) (sym key) (named_well Of.Cron m.object (named Of.Cron m.object m.clear));
       labels = subst (λ l. rises l) (sym (is.meta.labels ∙ ap (λ r. r.meta.labels) source))
-          (in_order (given (row.labels m.object)));
+          (in_order (given (fields.labels m.object)));
       annotations = subst (λ l. rises l) (sym (is.meta.annotations ∙ ap (λ r. r.meta.annotations) source))
-          (in_order (given (row.annotations m.object)));
+          (in_order (given (fields.annotations m.object)));
       spec = subst (IsFineSpec zones) (sym spec) (fine_spec zones s.object t.object j.object s.clear);
       kept = ap kept_value text ∙ kept ∙ ap Some body.1;
       text = ap compact_text (sym body.1) ∙ sym text;

@@ -8,7 +8,7 @@ use Rattle.std.specs.Cmp.Lexicographic.{slice_cmp}
 use Rattle.serde_json.specs.Data.{Data, null, boolean, number, string, array, object, Members, no_members, member, depth, members_depth}
 use Rattle.serde_json.specs.Find.{get, get_member}
 use Rattle.cj_manifest.specs.Members.{present, unless_null}
-use Rattle.cj_manifest.specs.RowKinds.{required, an_object}
+use Rattle.cj_manifest.specs.Values.{required, an_object}
 
 -- Two values that are the same as found values are the same.
 same : (e d : Data) → Some e ≡ Some d → e ≡ d

@@ -9,7 +9,7 @@ use Rattle.serde_json.specs.Data.{Data, null, boolean, number, string, array, ob
 use Rattle.serde_json.specs.Find.{get, get_member}
 use Rattle.serde_json.specs.Written.{has_float, members_have_float}
 use Rattle.cj_manifest.specs.Members.{present, unless_null}
-use Rattle.cj_manifest.specs.RowKinds.{required, an_object}
+use Rattle.cj_manifest.specs.Values.{required, an_object}
 
 -- Where neither of two is true, the first is false.
 or-none_left : (a b : Bool) → (a || b) ≡ false → a ≡ false

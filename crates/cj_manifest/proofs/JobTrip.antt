@@ -11,22 +11,22 @@ use Rattle.cj_types.specs.declared.job.JobDraft.{JobDraft}
 use Rattle.cj_types.specs.declared.meta.DraftMeta.{DraftMeta}
 use Rattle.cj_types.specs.declared.owners.OwnerRef.{OwnerRef}
 use Rattle.cj_types.specs.Keys.{Place}
-use Rattle.cj_written.specs.Parts.{owner_data, kept_value}
-use Rattle.cj_written.specs.Objects.{metadata_members, job_status_members, job_data, job_written}
-use Rattle.cj_written.proofs.Plain.{job_written_plain}
+use Rattle.cj_json.specs.Parts.{owner_data, kept_value}
+use Rattle.cj_json.specs.Objects.{metadata_members, job_status_members, job_data, job_written}
+use Rattle.cj_json.proofs.Plain.{job_written_plain}
 use Rattle.cj_manifest.specs.declared.kind.ObjectKind.TheVariants as Of
 use Rattle.cj_manifest.specs.declared.level.Level.TheVariants as In
 use Rattle.cj_manifest.specs.Drafts.{given, job_draft}
 use Rattle.cj_manifest.specs.Faults.{object_faults, job_faults, job_spec_faults, job_fields}
 use Rattle.cj_manifest.specs.Laws.{ReadsBack, JobReadsBack, identified}
-use Rattle.cj_manifest.specs.Table as row
+use Rattle.cj_manifest.specs.Table as fields
 use Rattle.cj_manifest.specs.Warnings.{dropped, job_warnings}
 use Rattle.cj_manifest.proofs.FloatLemmas.{no_float-object}
 use Rattle.cj_manifest.proofs.DepthLemmas.{depth-one_less, depth-most}
 use Rattle.cj_manifest.proofs.LabelTrips.{in_order}
 use Rattle.cj_manifest.proofs.MetaTrip.{no_faults, IsNamedWell, named_well, meta_draft, meta_says}
 use Rattle.cj_manifest.proofs.Rising.{rises}
-use Rattle.cj_manifest.proofs.Sound.{nil_left, nil_right, plain, clear_rows, metadata_clear, named, step}
+use Rattle.cj_manifest.proofs.Sound.{nil_left, nil_right, plain, clear_fields, metadata_clear, named, step}
 use Rattle.cj_manifest.proofs.TextTrips.{was_read, object_back, reads_again, kept_as_read}
 use Rattle.cj_manifest.proofs.WrittenBack.{IsFlat, metadata, whole_flat, job_status}
 use Rattle.cj_manifest.proofs.WholeTrip.{object_is, same_some, whole_says, whole_sound}
@@ -75,7 +75,7 @@ reads_back o ms h =
       says = record {
         sound = whole_sound Of.Job (object members) (object ms) w (job_spec_faults job_fields) whole says.sound h.sound;
         drafted =
-            step (row.metadata w) (object members) _ whole.metadata ∙ step (row.spec w) (object ms) _ whole.spec
+            step (fields.metadata w) (object members) _ whole.metadata ∙ step (fields.spec w) (object ms) _ whole.spec
             ∙ made _ _ _ _ _ _ _ _ says.key_is says.meta_is says.owners_are h.text;
         warned = sym (no_faults _ _ parts.known (ap (λ r. dropped In.JobMetadata (result_ok r)) whole.metadata
             ∙ meta.known));
@@ -95,11 +95,11 @@ job_reads_back bytes draft warnings o reading is =
     let rows = plain (object_faults Of.Job (job_spec_faults job_fields)) d reading.sound in
     let top = nil_left _ _ rows.1 in
     let m = metadata_clear Of.Job d top in
-    let s = clear_rows At.Spec (job_spec_faults job_fields) (row.spec d) (nil_right _ _ rows.1) in
+    let s = clear_fields At.Spec (job_spec_faults job_fields) (fields.spec d) (nil_right _ _ rows.1) in
     let found = sym (ap result_ok s.there) in
     let body = object_is _ s.object s.there in
-    let source = same_some draft _ (sym reading.drafted ∙ step (row.metadata d) m.object _ m.there
-    ∙ step (row.spec d) s.object _ s.there) in
+    let source = same_some draft _ (sym reading.drafted ∙ step (fields.metadata d) m.object _ m.there
+    ∙ step (fields.spec d) s.object _ s.there) in
     let key = is.key ∙ ap (λ r. r.key) source in
     let text = is.spec ∙ ap (λ r. r.spec) source in
     let plain_spec = no_float-object (codes "spec") d s.object rows.0 found in
@@ -119,9 +119,9 @@ job_reads_back bytes draft warnings o reading is =
     subst (ReadsBack JobDraft job_faults job_draft job_warnings (job_written o)) same (reads_back o body.0 (record {
       named = subst (IsNamedWell Of.Job) (sym key) (named_well Of.Job m.object (named Of.Job m.object m.clear));
       labels = subst (λ l. rises l) (sym (is.meta.labels ∙ ap (λ r. r.meta.labels) source))
-          (in_order (given (row.labels m.object)));
+          (in_order (given (fields.labels m.object)));
       annotations = subst (λ l. rises l) (sym (is.meta.annotations ∙ ap (λ r. r.meta.annotations) source))
-          (in_order (given (row.annotations m.object)));
+          (in_order (given (fields.annotations m.object)));
       kept = ap kept_value text ∙ kept ∙ ap Some body.1;
       text = ap compact_text (sym body.1) ∙ sym text;
       sound = subst (λ x. job_spec_faults job_fields x ≡ []) body.1 s.clear;

@@ -11,9 +11,9 @@ use Rattle.cj_base.specs.declared.faults.FieldFault.{FieldFault}
 use Rattle.cj_types.specs.Keys.{Place, place, key_or_faults, new_key, key_faults}
 use Rattle.cj_types.specs.Names.{name_cause, namespace_cause, is_label}
 use Rattle.cj_manifest.specs.declared.kind.ObjectKind.{ObjectKind}
-use Rattle.cj_manifest.specs.RowKinds.{unless, and_then, required, or_default, text}
-use Rattle.cj_manifest.specs.RowKinds as kinds
-use Rattle.cj_manifest.specs.Table as row
+use Rattle.cj_manifest.specs.Values.{unless, and_then, required, or_default, text}
+use Rattle.cj_manifest.specs.Values as read
+use Rattle.cj_manifest.specs.Table as fields
 use Rattle.cj_manifest.specs.Drafts.{value_or, key_of}
 use Rattle.cj_manifest.specs.Reading.{IsNamed}
 
@@ -31,8 +31,8 @@ checked cause (Err c) h = absurd (cc h)
 checked cause (Ok s) h = let k = kept (cause s) s h in ap cause k.1 ∙ k.0
 
 -- The name that a manifest gives, where its row has no cause, is a well formed one.
-pub name_given : (limit : ℕ) (o : Option Data) → result_err (required (kinds.name limit) o) ≡ None
-    → name_cause limit (value_or [] (required (kinds.name limit) o)) ≡ None
+pub name_given : (limit : ℕ) (o : Option Data) → result_err (required (read.name limit) o) ≡ None
+    → name_cause limit (value_or [] (required (read.name limit) o)) ≡ None
 name_given limit None h = absurd (cc h)
 name_given limit (Some d) h = checked (name_cause limit) (text d) h
 
@@ -42,16 +42,16 @@ unfolding is_label chars
 default_namespace = refl
 
 -- The namespace that a manifest gives, or else the default one, is well formed.
-pub namespace_given : (o : Option Data) → result_err (or_default (codes "default") kinds.namespace o) ≡ None
-    → namespace_cause (value_or [] (or_default (codes "default") kinds.namespace o)) ≡ None
+pub namespace_given : (o : Option Data) → result_err (or_default (codes "default") read.namespace o) ≡ None
+    → namespace_cause (value_or [] (or_default (codes "default") read.namespace o)) ≡ None
 namespace_given None h = default_namespace
 namespace_given (Some d) h = checked namespace_cause (text d) h
 
 -- Where the rows of the name and the namespace have no cause, the key of the two has no fault.
 no_faults : (k : ObjectKind) (m : Data) → IsNamed k m
-    → key_faults (row.name_limit k) (key_of k m).namespace (key_of k m).name ≡ []
+    → key_faults (fields.name_limit k) (key_of k m).namespace (key_of k m).name ≡ []
 no_faults k m h =
-    let name = name_given (row.name_limit k) _ h.0 in
+    let name = name_given (fields.name_limit k) _ h.0 in
     let namespace = namespace_given _ h.1 in
     rw (name, namespace) refl
 
@@ -71,8 +71,8 @@ key_is limit n m k h = found (key_faults limit n m) (place n m) k h
 
 -- and it isn't refused
 pub not_refused : (k : ObjectKind) (m : Data) (e : Refusal) → IsNamed k m
-    → new_key (row.name_limit k) (key_of k m).namespace (key_of k m).name ≡ Err e → ⊥
-not_refused k m e h is = refused (key_faults (row.name_limit k) (key_of k m).namespace (key_of k m).name) (key_of k m) e
+    → new_key (fields.name_limit k) (key_of k m).namespace (key_of k m).name ≡ Err e → ⊥
+not_refused k m e h is = refused (key_faults (fields.name_limit k) (key_of k m).namespace (key_of k m).name) (key_of k m) e
     (no_faults k m h) is
 
 -- A refusal that can't be any but OutOfMemory is OutOfMemory.
@@ -95,7 +95,7 @@ settled Of.AlreadyFinished h = absurd (h (λ q. cc q))
 
 -- so only memory can be wanting
 pub memory_alone : (k : ObjectKind) (m : Data) (n l : List ℕ) (e : Refusal) → IsNamed k m → n ≡ (key_of k m).namespace
-    → l ≡ (key_of k m).name → ((e ≡ OutOfMemory → ⊥) → new_key (row.name_limit k) n l ≡ Err e) → e ≡ OutOfMemory
+    → l ≡ (key_of k m).name → ((e ≡ OutOfMemory → ⊥) → new_key (fields.name_limit k) n l ≡ Err e) → e ≡ OutOfMemory
 memory_alone k m n l e h in_n in_l is =
-    settled e (λ no. not_refused k m e h (ap (λ x. new_key (row.name_limit k) x (key_of k m).name) (sym in_n)
-    ∙ ap (λ y. new_key (row.name_limit k) n y) (sym in_l) ∙ is no))
+    settled e (λ no. not_refused k m e h (ap (λ x. new_key (fields.name_limit k) x (key_of k m).name) (sym in_n)
+    ∙ ap (λ y. new_key (fields.name_limit k) n y) (sym in_l) ∙ is no))

@@ -9,9 +9,9 @@ use Rattle.std.proofs.lemmas.Cmp.{nat_list_cmp_total}
 use Rattle.serde_json.specs.Data.{Data, string, object, Members, no_members, member, put}
 use Rattle.serde_json.specs.Find.{as_str}
 use Rattle.cj_types.specs.LabelMap.{text_cmp, put_label}
-use Rattle.cj_written.specs.Parts.{label_members}
+use Rattle.cj_json.specs.Parts.{label_members}
 use Rattle.cj_manifest.specs.Drafts.{given, with_label, labels_onto, label_map}
-use Rattle.cj_manifest.specs.RowKinds.{optional, texts, all_texts}
+use Rattle.cj_manifest.specs.Values.{optional, texts, all_texts}
 use Rattle.cj_manifest.proofs.Rising.{Named, rises, onto, onto_nothing}
 
 abbrev pub Entries : Type 0

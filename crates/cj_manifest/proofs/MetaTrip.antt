@@ -12,15 +12,15 @@ use Rattle.cj_types.specs.declared.owners.OwnerRef.{OwnerRef}
 use Rattle.cj_types.specs.Keys.{Place, place, fault_of}
 use Rattle.cj_types.specs.Names.{name_cause, namespace_cause}
 use Rattle.cj_types.specs.Uids.{uid_text}
-use Rattle.cj_written.specs.Parts.{owner_data}
+use Rattle.cj_json.specs.Parts.{owner_data}
 use Rattle.cj_manifest.specs.declared.kind.ObjectKind.{ObjectKind}
 use Rattle.cj_manifest.specs.declared.kind.ObjectKind.TheVariants as Of
 use Rattle.cj_manifest.specs.Drafts.{given, value_or, unless_empty, label_map, owners_in, key_of, meta_of, owners_of}
 use Rattle.cj_manifest.specs.Faults.{fault_by, owner_faults, metadata_faults}
 use Rattle.cj_manifest.specs.Owners as owners
-use Rattle.cj_manifest.specs.RowKinds.{unless, required, optional, or_default, text, texts}
-use Rattle.cj_manifest.specs.RowKinds as kinds
-use Rattle.cj_manifest.specs.Table as row
+use Rattle.cj_manifest.specs.Values.{unless, required, optional, or_default, text, texts}
+use Rattle.cj_manifest.specs.Values as read
+use Rattle.cj_manifest.specs.Table as fields
 use Rattle.cj_manifest.specs.Reading.{IsNamed}
 use Rattle.cj_manifest.proofs.KeyLemmas.{name_given, namespace_given}
 use Rattle.cj_manifest.proofs.LabelTrips.{labels_sound, labels_said}
@@ -66,12 +66,12 @@ some_text (x ∷ xs) h = rw (ne_eqb (length (x ∷ xs)) 0 (λ e. omega arith)) r
 -- ---- the whole
 
 pub record IsNamedWell (k : ObjectKind) (key : Place) : Type 0 where
-  pub name : name_cause (row.name_limit k) key.name ≡ None
+  pub name : name_cause (fields.name_limit k) key.name ≡ None
   pub namespace : namespace_cause key.namespace ≡ None
 
 -- The key of a manifest whose name and namespace have no cause is well formed.
 pub named_well : (k : ObjectKind) (m : Data) → IsNamed k m → IsNamedWell k (key_of k m)
-named_well k m h = record { name = name_given (row.name_limit k) _ h.0; namespace = namespace_given _ h.1 }
+named_well k m h = record { name = name_given (fields.name_limit k) _ h.0; namespace = namespace_given _ h.1 }
 
 -- what the metadata of an object is as a draft's
 abbrev pub meta_draft : Meta → DraftMeta
@@ -90,34 +90,34 @@ pub record MetaSays (k : ObjectKind) (key : Place) (meta : Meta) (os : List Owne
 
 -- The row of a written name that is well formed gives that name.
 name_row : (limit : ℕ) (n : List ℕ) (o : Option Data) → o ≡ Some (string n) → name_cause limit n ≡ None
-    → required (kinds.name limit) o ≡ Ok n
-name_row limit n o h k = ap (required (kinds.name limit)) h ∙ ap (λ c. unless c n) k
+    → required (read.name limit) o ≡ Ok n
+name_row limit n o h k = ap (required (read.name limit)) h ∙ ap (λ c. unless c n) k
 
 -- The row of a written namespace that is well formed gives that namespace.
 namespace_row : (n : List ℕ) (o : Option Data) → o ≡ Some (string n) → namespace_cause n ≡ None
-    → or_default (codes "default") kinds.namespace o ≡ Ok n
-namespace_row n o h k = ap (or_default (codes "default") kinds.namespace) h ∙ ap (λ c. unless c n) k
+    → or_default (codes "default") read.namespace o ≡ Ok n
+namespace_row n o h k = ap (or_default (codes "default") read.namespace) h ∙ ap (λ c. unless c n) k
 
 -- Where the row of the owner references has no cause, a manifest of either kind has no such fault.
-owners_clear : (k : ObjectKind) (os : List OwnerRef) (m : Data) → result_err (row.owners m) ≡ None
+owners_clear : (k : ObjectKind) (os : List OwnerRef) (m : Data) → result_err (fields.owners m) ≡ None
     → owner_faults k m ≡ []
 owners_clear Of.Cron os m h = refl
-owners_clear Of.Job os m h = no_fault At.OwnerReferences (row.owners m) h
+owners_clear Of.Job os m h = no_fault At.OwnerReferences (fields.owners m) h
 
 -- The metadata written of a well formed object has no fault and says what the object has.
 pub meta_says : (k : ObjectKind) (key : Place) (meta : Meta) (os : List OwnerRef) (m : Data) → IsNamedWell k key
     → rises meta.labels → rises meta.annotations
     → MetaIs key meta (map owner_data os) meta.labels meta.annotations m → MetaSays k key meta os m
 meta_says k key meta os m named labels annotations is =
-    let name : row.name k m ≡ Ok key.name = name_row (row.name_limit k) key.name _ is.name named.name in
-    let namespace : row.namespace m ≡ Ok key.namespace = namespace_row key.namespace _ is.namespace named.namespace in
-    let uid : row.uid m ≡ Ok (Some (uid_text meta.uid)) = ap (optional text) is.uid in
-    let version : row.resource_version m ≡ Ok (Some (decimal meta.version)) = ap (optional text) is.version in
-    let sound_labels : result_err (row.labels m) ≡ None = ap (λ o. result_err (optional texts o)) is.labels
+    let name : fields.name k m ≡ Ok key.name = name_row (fields.name_limit k) key.name _ is.name named.name in
+    let namespace : fields.namespace m ≡ Ok key.namespace = namespace_row key.namespace _ is.namespace named.namespace in
+    let uid : fields.uid m ≡ Ok (Some (uid_text meta.uid)) = ap (optional text) is.uid in
+    let version : fields.resource_version m ≡ Ok (Some (decimal meta.version)) = ap (optional text) is.version in
+    let sound_labels : result_err (fields.labels m) ≡ None = ap (λ o. result_err (optional texts o)) is.labels
     ∙ labels_sound meta.labels labels in
-    let sound_annotations : result_err (row.annotations m) ≡ None =
+    let sound_annotations : result_err (fields.annotations m) ≡ None =
     ap (λ o. result_err (optional texts o)) is.annotations ∙ labels_sound meta.annotations annotations in
-    let sound_owners : result_err (row.owners m) ≡ None = ap (λ o. result_err (optional owners.owners o)) is.owners
+    let sound_owners : result_err (fields.owners m) ≡ None = ap (λ o. result_err (optional owners.owners o)) is.owners
     ∙ owners_sound os in
     let uid_is = ap (λ r. unless_empty (given r)) uid ∙ some_text (uid_text meta.uid) (λ e. cc e) in
     let version_is = ap (λ r. unless_empty (given r)) version ∙ some_text (decimal meta.version)
@@ -128,12 +128,12 @@ meta_says k key meta os m named labels annotations is =
     record {
       sound =
           no_faults _ _ (no_faults _ _ (no_faults _ _ (no_faults _ _ (no_faults _ _ (no_faults _ _
-          (no_fault At.Name (row.name k m) (ap result_err name))
-          (no_fault At.Namespace (row.namespace m) (ap result_err namespace)))
-          (no_fault At.Labels (row.labels m) sound_labels))
-          (no_fault At.Annotations (row.annotations m) sound_annotations))
-          (no_fault At.Uid (row.uid m) (ap result_err uid)))
-          (no_fault At.ResourceVersion (row.resource_version m) (ap result_err version)))
+          (no_fault At.Name (fields.name k m) (ap result_err name))
+          (no_fault At.Namespace (fields.namespace m) (ap result_err namespace)))
+          (no_fault At.Labels (fields.labels m) sound_labels))
+          (no_fault At.Annotations (fields.annotations m) sound_annotations))
+          (no_fault At.Uid (fields.uid m) (ap result_err uid)))
+          (no_fault At.ResourceVersion (fields.resource_version m) (ap result_err version)))
           (owners_clear k os m sound_owners);
       key_is = ap₂ (λ a b. place (value_or [] a) (value_or [] b)) namespace name;
       meta_is = λ i. record {

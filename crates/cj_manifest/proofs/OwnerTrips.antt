@@ -4,9 +4,9 @@ use Rattle.std.specs.Result.{result_err}
 use Rattle.serde_json.specs.Data.{Data, array}
 use Rattle.serde_json.specs.View.{items_of}
 use Rattle.cj_types.specs.declared.owners.OwnerRef.{OwnerRef}
-use Rattle.cj_written.specs.Parts.{owner_data}
+use Rattle.cj_json.specs.Parts.{owner_data}
 use Rattle.cj_manifest.specs.Owners.{owner, owners, all_owners, owner_list}
-use Rattle.cj_manifest.specs.RowKinds.{optional}
+use Rattle.cj_manifest.specs.Values.{optional}
 use Rattle.cj_manifest.specs.Drafts.{given, owners_in}
 
 -- An owner reference that is written reads back as it is.

@@ -15,11 +15,11 @@ use Rattle.cj_types.specs.declared.job.JobDraft.{JobDraft}
 use Rattle.cj_zone.specs.declared.zone.Zone.{Zone}
 use Rattle.cj_manifest.specs.declared.kind.ObjectKind.{ObjectKind}
 use Rattle.cj_manifest.specs.declared.kind.ObjectKind.TheVariants as Of
-use Rattle.cj_manifest.specs.RowKinds.{when}
-use Rattle.cj_manifest.specs.Faults.{with_rows, metadata_faults, cron_faults, head_faults, job_faults, top_faults, object_faults, cron_spec_faults, template_faults, job_spec_faults, template_fields, job_fields}
+use Rattle.cj_manifest.specs.Values.{when}
+use Rattle.cj_manifest.specs.Faults.{with_fields, metadata_faults, cron_faults, head_faults, job_faults, top_faults, object_faults, cron_spec_faults, template_faults, job_spec_faults, template_fields, job_fields}
 use Rattle.cj_manifest.specs.Drafts.{then_do, cron_draft, job_draft}
 use Rattle.cj_manifest.specs.Reading.{IsNamed, HasNames}
-use Rattle.cj_manifest.specs.Table as row
+use Rattle.cj_manifest.specs.Table as fields
 
 -- Where two lists together are empty, the first is.
 pub nil_left : {A : Type 0} (xs ys : List A) → xs ++ ys ≡ [] → xs ≡ []
@@ -38,10 +38,10 @@ pub record IsClear (rows : Data → List FieldFault) (r : Result Data Cause) : T
   pub clear : rows object ≡ []
 
 -- Where an object with its rows has no fault, the object is there and its rows have none.
-pub clear_rows : (f : Field) (rows : Data → List FieldFault) (r : Result Data Cause) → with_rows f rows r ≡ []
+pub clear_fields : (f : Field) (rows : Data → List FieldFault) (r : Result Data Cause) → with_fields f rows r ≡ []
     → IsClear rows r
-clear_rows f rows (Ok d) h = record { object = d; there = refl; clear = h }
-clear_rows f rows (Err c) h = absurd (cc h)
+clear_fields f rows (Ok d) h = record { object = d; there = refl; clear = h }
+clear_fields f rows (Err c) h = absurd (cc h)
 
 -- Where no fault is made of a cause, there was no cause.
 pub no_cause : (f : Field) (o : Option Cause) → fault_of f o ≡ [] → o ≡ None
@@ -56,7 +56,7 @@ when_ok true c d x h = absurd (cc h)
 when_ok false c d x h = (cc h, refl)
 
 -- What is let through as a whole manifest is the value itself, and that has no float.
-whole_ok : (d x : Data) → row.whole d ≡ Ok x → (d ≡ x) × (has_float d ≡ false)
+whole_ok : (d x : Data) → fields.whole d ≡ Ok x → (d ≡ x) × (has_float d ≡ false)
 whole_ok null x h = absurd (cc h)
 whole_ok (boolean b) x h = absurd (cc h)
 whole_ok (number n) x h = absurd (cc h)
@@ -65,10 +65,10 @@ whole_ok (array ds) x h = absurd (cc h)
 whole_ok (object ms) x h = when_ok (has_float (object ms)) _ (object ms) x h
 
 -- Where a manifest as a whole has no fault, no number in it is a float and its rows have no fault.
-pub plain : (rows : Data → List FieldFault) (d : Data) → with_rows At.Whole rows (row.whole d) ≡ []
+pub plain : (rows : Data → List FieldFault) (d : Data) → with_fields At.Whole rows (fields.whole d) ≡ []
     → (has_float d ≡ false) × (rows d ≡ [])
 plain rows d h =
-    let w = clear_rows At.Whole rows (row.whole d) h in
+    let w = clear_fields At.Whole rows (fields.whole d) h in
     let same = whole_ok d w.object w.there in
     (same.1, subst (λ x. rows x ≡ []) (sym same.0) w.clear)
 
@@ -81,8 +81,8 @@ named k m h =
     (no_cause At.Name _ (nil_left _ _ two), no_cause At.Namespace _ (nil_right _ _ two))
 
 -- Where the top of a manifest has no fault, its metadata is there and has none.
-pub metadata_clear : (k : ObjectKind) (d : Data) → top_faults k d ≡ [] → IsClear (metadata_faults k) (row.metadata d)
-metadata_clear k d h = clear_rows At.Metadata (metadata_faults k) (row.metadata d) (nil_right _ _ h)
+pub metadata_clear : (k : ObjectKind) (d : Data) → top_faults k d ≡ [] → IsClear (metadata_faults k) (fields.metadata d)
+metadata_clear k d h = clear_fields At.Metadata (metadata_faults k) (fields.metadata d) (nil_right _ _ h)
 
 -- For has_names: an object that a row gives is the one that is found by it.
 same_object : (r : Result Data Cause) (x m : Data) → r ≡ Ok x → result_ok r ≡ Some m → x ≡ m
@@ -93,7 +93,7 @@ same_object (Err e) x m h is = absurd (cc h)
 pub has_names : (k : ObjectKind) (d : Data) → top_faults k d ≡ [] → HasNames k d
 has_names k d h m is =
     let c = metadata_clear k d h in
-    let same : c.object ≡ m = same_object (row.metadata d) c.object m c.there is in
+    let same : c.object ≡ m = same_object (fields.metadata d) c.object m c.there is in
     named k m (subst (λ x. metadata_faults k x ≡ []) same c.clear)
 
 -- ---- drafts
@@ -108,13 +108,13 @@ pub cron_drafted : (zones : List Zone) (d : Data) → cron_faults zones d ≡ []
 cron_drafted zones d h =
     let rows = (plain (object_faults Of.Cron (cron_spec_faults zones)) d h).1 in
     let m = metadata_clear Of.Cron d (nil_left _ _ rows) in
-    let s = clear_rows At.Spec (cron_spec_faults zones) (row.spec d) (nil_right _ _ rows) in
-    let t = clear_rows At.JobTemplate template_faults (row.job_template s.object) (nil_right _ _ s.clear) in
-    let j = clear_rows At.JobTemplateSpec (job_spec_faults template_fields) (row.job_spec t.object)
+    let s = clear_fields At.Spec (cron_spec_faults zones) (fields.spec d) (nil_right _ _ rows) in
+    let t = clear_fields At.JobTemplate template_faults (fields.job_template s.object) (nil_right _ _ s.clear) in
+    let j = clear_fields At.JobTemplateSpec (job_spec_faults template_fields) (fields.job_spec t.object)
     (nil_right _ _ t.clear) in (
       _,
-      step (row.metadata d) m.object _ m.there ∙ step (row.spec d) s.object _ s.there
-          ∙ step (row.job_template s.object) t.object _ t.there ∙ step (row.job_spec t.object) j.object _ j.there,
+      step (fields.metadata d) m.object _ m.there ∙ step (fields.spec d) s.object _ s.there
+          ∙ step (fields.job_template s.object) t.object _ t.there ∙ step (fields.job_spec t.object) j.object _ j.there,
     )
 
 -- A Job's manifest without a fault has a draft.
@@ -122,8 +122,8 @@ pub job_drafted : (d : Data) → job_faults d ≡ [] → (r : JobDraft) × (job_
 job_drafted d h =
     let rows = (plain (object_faults Of.Job (job_spec_faults job_fields)) d h).1 in
     let m = metadata_clear Of.Job d (nil_left _ _ rows) in
-    let s = clear_rows At.Spec (job_spec_faults job_fields) (row.spec d) (nil_right _ _ rows) in
-    (_, step (row.metadata d) m.object _ m.there ∙ step (row.spec d) s.object _ s.there)
+    let s = clear_fields At.Spec (job_spec_faults job_fields) (fields.spec d) (nil_right _ _ rows) in
+    (_, step (fields.metadata d) m.object _ m.there ∙ step (fields.spec d) s.object _ s.there)
 
 -- ---- what the reading of a manifest needs
 
@@ -166,7 +166,7 @@ given_there (Ok y) x c h e = cc e
 given_there (Err y) x c h e = cc h
 
 -- For head_of: the metadata of a Job without a fault in its head is there.
-pub head_there : (d : Data) → head_faults d ≡ [] → (c : Cause) → result_err (row.metadata d) ≡ Some c → ⊥
+pub head_there : (d : Data) → head_faults d ≡ [] → (c : Cause) → result_err (fields.metadata d) ≡ Some c → ⊥
 head_there d h c e =
     let m = metadata_clear Of.Job d (plain (top_faults Of.Job) d h).1 in
-    given_there (row.metadata d) m.object c m.there e
+    given_there (fields.metadata d) m.object c m.there e

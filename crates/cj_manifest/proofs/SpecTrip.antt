@@ -9,13 +9,13 @@ use Rattle.cj_types.specs.declared.policy.Policy.TheVariants.{Allow}
 use Rattle.cj_types.specs.Limits.{last_deadline, last_history_limit}
 use Rattle.cj_schedule.specs.Reading as schedules
 use Rattle.cj_zone.specs.declared.zone.Zone.{Zone}
-use Rattle.cj_written.specs.Objects.{cron_spec_data, template_data}
+use Rattle.cj_json.specs.Objects.{cron_spec_data, template_data}
 use Rattle.cj_manifest.specs.declared.level.Level.TheVariants as In
 use Rattle.cj_manifest.specs.Drafts.{given, value_or, cron_spec_of, template_of}
-use Rattle.cj_manifest.specs.Faults.{with_rows, timing_faults, cron_spec_faults, template_faults, template_fields, job_spec_faults}
-use Rattle.cj_manifest.specs.RowKinds.{required, or_default, an_object, truth}
+use Rattle.cj_manifest.specs.Faults.{with_fields, timing_faults, cron_spec_faults, template_faults, template_fields, job_spec_faults}
+use Rattle.cj_manifest.specs.Values.{required, or_default, an_object, truth}
 use Rattle.cj_manifest.specs.Members.{present}
-use Rattle.cj_manifest.specs.Table as row
+use Rattle.cj_manifest.specs.Table as fields
 use Rattle.cj_manifest.specs.Warnings.{dropped}
 use Rattle.cj_manifest.proofs.CronParts.{SpecIs, spec_is, template_is}
 use Rattle.cj_manifest.proofs.CronRows.{schedule_given, schedule_row, IsKnownZone, zone_given, zone_row, zone_said, policy_row, IsWithin, deadline_given, deadline_row, limit_given, limit_row}
@@ -46,20 +46,20 @@ fine_spec zones s t j h =
       deadline = deadline_given (present (codes "startingDeadlineSeconds") s);
       successful = limit_given 3 (present (codes "successfulJobsHistoryLimit") s) refl;
       failed = limit_given 1 (present (codes "failedJobsHistoryLimit") s) refl;
-      labels = labels_rise (given (row.template_metadata t));
-      annotations = annotations_rise (given (row.template_metadata t));
+      labels = labels_rise (given (fields.template_metadata t));
+      annotations = annotations_rise (given (fields.template_metadata t));
     }
 
 -- ---- once it is written
 
 pub record SpecSays (zones : List Zone) (spec : CronSpec) (t j s : Data) : Type 0 where
   pub sound : cron_spec_faults zones s ≡ []
-  pub template : row.job_template s ≡ Ok t
-  pub job : row.job_spec t ≡ Ok j
+  pub template : fields.job_template s ≡ Ok t
+  pub job : fields.job_spec t ≡ Ok j
   pub said : cron_spec_of s (template_of t j) ≡ spec
   pub known : dropped In.CronSpec (Some s) ≡ []
   pub template_known : dropped In.Template (Some t) ≡ []
-  pub inner_known : dropped In.TemplateMetadata (given (row.template_metadata t)) ≡ []
+  pub inner_known : dropped In.TemplateMetadata (given (fields.template_metadata t)) ≡ []
 
 -- What is written of a fine spec has no fault and no unknown name, and says that spec.
 pub spec_says : (zones : List Zone) (spec : CronSpec) (ms : Members) → IsFineSpec zones spec
@@ -75,24 +75,24 @@ spec_says zones spec ms fine text sound =
     (template_is spec.template.labels spec.template.annotations (object ms)) fine.labels fine.annotations sound in
     let schedule = schedule_row spec.schedule _ is.schedule fine.schedule in
     let policy = policy_row spec.policy _ is.policy in
-    let suspend : row.suspend s ≡ Ok spec.suspend = ap (or_default false truth) is.suspend in
+    let suspend : fields.suspend s ≡ Ok spec.suspend = ap (or_default false truth) is.suspend in
     let deadline = deadline_row spec.starting_deadline_seconds _ is.deadline fine.deadline in
     let successful = limit_row 3 spec.successful_limit _ is.successful fine.successful in
     let failed = limit_row 1 spec.failed_limit _ is.failed fine.failed in
-    let template : row.job_template s ≡ Ok t = ap (required an_object) is.template in
+    let template : fields.job_template s ≡ Ok t = ap (required an_object) is.template in
     record {
       sound =
           no_faults _ _ (no_faults _ _
           (no_faults _ _ (no_faults _ _ (no_faults _ _
-          (no_fault At.ScheduleText (row.schedule s) (ap result_err schedule))
-          (no_fault At.TimeZone (row.time_zone zones s) (zone_row zones spec.time_zone _ is.time_zone fine.time_zone)))
-          (no_fault At.ConcurrencyPolicy (row.policy s) (ap result_err policy)))
-          (no_fault At.Suspend (row.suspend s) (ap result_err suspend)))
+          (no_fault At.ScheduleText (fields.schedule s) (ap result_err schedule))
+          (no_fault At.TimeZone (fields.time_zone zones s) (zone_row zones spec.time_zone _ is.time_zone fine.time_zone)))
+          (no_fault At.ConcurrencyPolicy (fields.policy s) (ap result_err policy)))
+          (no_fault At.Suspend (fields.suspend s) (ap result_err suspend)))
           (no_faults _ _ (no_faults _ _
-          (no_fault At.StartingDeadlineSeconds (row.deadline s) (ap result_err deadline))
-          (no_fault At.SuccessfulJobsHistoryLimit (row.successful_limit s) (ap result_err successful)))
-          (no_fault At.FailedJobsHistoryLimit (row.failed_limit s) (ap result_err failed))))
-          (ap (with_rows At.JobTemplate template_faults) template ∙ inner.sound);
+          (no_fault At.StartingDeadlineSeconds (fields.deadline s) (ap result_err deadline))
+          (no_fault At.SuccessfulJobsHistoryLimit (fields.successful_limit s) (ap result_err successful)))
+          (no_fault At.FailedJobsHistoryLimit (fields.failed_limit s) (ap result_err failed))))
+          (ap (with_fields At.JobTemplate template_faults) template ∙ inner.sound);
       template = template;
       job = inner.job;
       said = λ i. record {

@@ -6,9 +6,9 @@ use Rattle.cj_base.specs.declared.cause.Cause.{Cause}
 use Rattle.cj_base.specs.declared.field.Field.TheVariants as At
 use Rattle.cj_manifest.specs.declared.level.Level.TheVariants as In
 use Rattle.cj_manifest.specs.Drafts.{given, label_map, template_labels, template_annotations}
-use Rattle.cj_manifest.specs.Faults.{with_rows, with_optional_rows, template_metadata_faults, template_faults, template_fields, job_spec_faults}
-use Rattle.cj_manifest.specs.RowKinds.{required, optional, an_object, texts}
-use Rattle.cj_manifest.specs.Table as row
+use Rattle.cj_manifest.specs.Faults.{with_fields, with_optional_fields, template_metadata_faults, template_faults, template_fields, job_spec_faults}
+use Rattle.cj_manifest.specs.Values.{required, optional, an_object, texts}
+use Rattle.cj_manifest.specs.Table as fields
 use Rattle.cj_manifest.specs.Warnings.{dropped}
 use Rattle.cj_manifest.proofs.CronParts.{TemplateIs, inner_is, inner_data, inner_members}
 use Rattle.cj_manifest.proofs.LabelTrips.{Entries, in_order, labels_sound, labels_said}
@@ -18,7 +18,7 @@ use Rattle.cj_manifest.proofs.Rising.{rises}
 -- ---- the metadata in it, as the row gives it
 
 record InnerSays (ls more : Entries) (r : Result (Option Data) Cause) : Type 0 where
-  pub sound : with_optional_rows At.JobTemplateMetadata template_metadata_faults r ≡ []
+  pub sound : with_optional_fields At.JobTemplateMetadata template_metadata_faults r ≡ []
   pub labels : template_labels (given r) ≡ ls
   pub annotations : template_annotations (given r) ≡ more
   pub known : dropped In.TemplateMetadata (given r) ≡ []
@@ -32,9 +32,9 @@ some_inner ls more h k =
     record {
       sound =
           no_faults _ _
-          (no_fault At.JobTemplateLabels (row.labels m) (ap (λ o. result_err (optional texts o)) is.labels
+          (no_fault At.JobTemplateLabels (fields.labels m) (ap (λ o. result_err (optional texts o)) is.labels
           ∙ labels_sound ls h))
-          (no_fault At.JobTemplateAnnotations (row.annotations m)
+          (no_fault At.JobTemplateAnnotations (fields.annotations m)
           (ap (λ o. result_err (optional texts o)) is.annotations ∙ labels_sound more k));
       labels = ap (λ o. label_map (given (optional texts o))) is.labels ∙ labels_said ls h;
       annotations = ap (λ o. label_map (given (optional texts o))) is.annotations ∙ labels_said more k;
@@ -51,11 +51,11 @@ inner_says (l ∷ ls) more h k = some_inner (l ∷ ls) more h k
 
 pub record TemplateSays (ls more : Entries) (j t : Data) : Type 0 where
   pub sound : template_faults t ≡ []
-  pub labels : template_labels (given (row.template_metadata t)) ≡ ls
-  pub annotations : template_annotations (given (row.template_metadata t)) ≡ more
-  pub job : row.job_spec t ≡ Ok j
+  pub labels : template_labels (given (fields.template_metadata t)) ≡ ls
+  pub annotations : template_annotations (given (fields.template_metadata t)) ≡ more
+  pub job : fields.job_spec t ≡ Ok j
   pub known : dropped In.Template (Some t) ≡ []
-  pub inner : dropped In.TemplateMetadata (given (row.template_metadata t)) ≡ []
+  pub inner : dropped In.TemplateMetadata (given (fields.template_metadata t)) ≡ []
 
 -- A written template has no fault, and says its labels, its annotations and the Job's spec.
 pub template_says : (ls more : Entries) (ms : Members) (t : Data) → TemplateIs ls more (object ms) t → rises ls
@@ -63,14 +63,14 @@ pub template_says : (ls more : Entries) (ms : Members) (t : Data) → TemplateIs
     → TemplateSays ls more (object ms) t
 template_says ls more ms t is h k sound =
     let inner = inner_says ls more h k in
-    let same : row.template_metadata t ≡ optional an_object (inner_data ls more) =
+    let same : fields.template_metadata t ≡ optional an_object (inner_data ls more) =
     ap (optional an_object) is.metadata in
-    let job : row.job_spec t ≡ Ok (object ms) = ap (required an_object) is.spec in
+    let job : fields.job_spec t ≡ Ok (object ms) = ap (required an_object) is.spec in
     record {
       sound =
           no_faults _ _
-          (ap (with_optional_rows At.JobTemplateMetadata template_metadata_faults) same ∙ inner.sound)
-          (ap (with_rows At.JobTemplateSpec (job_spec_faults template_fields)) job ∙ sound);
+          (ap (with_optional_fields At.JobTemplateMetadata template_metadata_faults) same ∙ inner.sound)
+          (ap (with_fields At.JobTemplateSpec (job_spec_faults template_fields)) job ∙ sound);
       labels = ap (λ r. template_labels (given r)) same ∙ inner.labels;
       annotations = ap (λ r. template_annotations (given r)) same ∙ inner.annotations;
       job = job;
@@ -83,9 +83,9 @@ template_says ls more ms t is h k sound =
 -- The labels that a manifest gives the template are in order.
 pub labels_rise : (m : Option Data) → rises (template_labels m)
 labels_rise None = tt
-labels_rise (Some m) = in_order (given (row.labels m))
+labels_rise (Some m) = in_order (given (fields.labels m))
 
 -- The annotations that a manifest gives the template are in order.
 pub annotations_rise : (m : Option Data) → rises (template_annotations m)
 annotations_rise None = tt
-annotations_rise (Some m) = in_order (given (row.annotations m))
+annotations_rise (Some m) = in_order (given (fields.annotations m))

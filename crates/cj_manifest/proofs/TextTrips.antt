@@ -26,9 +26,9 @@ use Rattle.serde_json.proofs.Numbers.{number_of-decimal, number_of-negative}
 use Rattle.serde_json.proofs.Texts.{print-outline}
 use Rattle.cj_types.specs.LabelMap.{text_cmp}
 use Rattle.std.specs.Result.{result_ok}
-use Rattle.cj_written.specs.Parts.{unless_float, kept_value}
+use Rattle.cj_json.specs.Parts.{unless_float, kept_value}
 use Rattle.cj_manifest.specs.Members.{present, unless_null}
-use Rattle.cj_manifest.specs.RowKinds.{required, an_object}
+use Rattle.cj_manifest.specs.Values.{required, an_object}
 use Rattle.cj_manifest.proofs.Rising.{Named, rises, onto, onto_nothing}
 
 -- ---- members as entries

@@ -14,8 +14,8 @@ use Rattle.cj_types.specs.Keys.{Place}
 use Rattle.cj_types.specs.LabelMap.{text_cmp}
 use Rattle.cj_types.specs.Uids.{uid_text}
 use Rattle.cj_zone.specs.TimeText.{time_text_of}
-use Rattle.cj_written.specs.Parts.{put_some_text, put_some_time, put_some_object, put_some_list, put_labels, label_members, owner_data}
-use Rattle.cj_written.specs.Objects.{condition, job_status_members, object_data}
+use Rattle.cj_json.specs.Parts.{put_some_text, put_some_time, put_some_object, put_some_list, put_labels, label_members, owner_data}
+use Rattle.cj_json.specs.Objects.{condition, job_status_members, object_data}
 use Rattle.cj_manifest.proofs.TextTrips.{IsBack, ItemsAreBack, IsObject, put_back, put_rises, unsigned_fine}
 
 -- members that read back, whose values nest at most so deep

@@ -5,8 +5,8 @@ use Rattle.serde_json.specs.Data.{Data, string, object, Members, no_members, mem
 use Rattle.cj_types.specs.declared.meta.Meta.{Meta}
 use Rattle.cj_types.specs.Keys.{Place}
 use Rattle.cj_types.specs.Uids.{uid_text}
-use Rattle.cj_written.specs.Parts.{put_some_list, put_labels}
-use Rattle.cj_written.specs.Objects.{identity, object_data}
+use Rattle.cj_json.specs.Parts.{put_some_list, put_labels}
+use Rattle.cj_json.specs.Objects.{identity, object_data}
 use Rattle.cj_manifest.specs.declared.level.Level.TheVariants as In
 use Rattle.cj_manifest.specs.Members.{present, unless_null}
 use Rattle.cj_manifest.specs.Warnings.{dropped, version_warnings}

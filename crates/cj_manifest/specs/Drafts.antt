@@ -19,9 +19,9 @@ use Rattle.cj_manifest.specs.declared.head.JobHead.{JobHead}
 use Rattle.cj_manifest.specs.declared.kind.ObjectKind.{ObjectKind}
 use Rattle.cj_manifest.specs.declared.kind.ObjectKind.TheVariants as Of
 use Rattle.cj_manifest.specs.Members.{present}
-use Rattle.cj_manifest.specs.RowKinds.{optional, text}
+use Rattle.cj_manifest.specs.Values.{optional, text}
 use Rattle.cj_manifest.specs.Owners.{owner_list}
-use Rattle.cj_manifest.specs.Table as row
+use Rattle.cj_manifest.specs.Table as fields
 
 -- ---- values of rows
 
@@ -58,19 +58,19 @@ label_map (Some ms) = labels_onto [] ms
 -- ---- metadata
 
 abbrev pub key_of : ObjectKind → Data → Place
-key_of k m = place (value_or [] (row.namespace m)) (value_or [] (row.name k m))
+key_of k m = place (value_or [] (fields.namespace m)) (value_or [] (fields.name k m))
 
 abbrev pub uid_of : Data → Option (List ℕ)
-uid_of m = unless_empty (given (row.uid m))
+uid_of m = unless_empty (given (fields.uid m))
 
 abbrev pub version_of : Data → Option (List ℕ)
-version_of m = unless_empty (given (row.resource_version m))
+version_of m = unless_empty (given (fields.resource_version m))
 
 abbrev pub labels_of : Data → List (List ℕ × List ℕ)
-labels_of m = label_map (given (row.labels m))
+labels_of m = label_map (given (fields.labels m))
 
 abbrev pub annotations_of : Data → List (List ℕ × List ℕ)
-annotations_of m = label_map (given (row.annotations m))
+annotations_of m = label_map (given (fields.annotations m))
 
 -- rule: drafts
 abbrev pub meta_of : Data → DraftMeta
@@ -81,7 +81,7 @@ owners_in None = []
 owners_in (Some ds) = owner_list ds
 
 abbrev pub owners_of : Data → List OwnerRef
-owners_of m = owners_in (given (row.owners m))
+owners_of m = owners_in (given (fields.owners m))
 
 -- ---- a CronJob
 
@@ -97,8 +97,8 @@ template_annotations (Some m) = annotations_of m
 -- a template and the spec in it, which is kept as its compact text
 abbrev pub template_of : Data → Data → JobTemplate
 template_of t j = record {
-  labels = template_labels (given (row.template_metadata t));
-  annotations = template_annotations (given (row.template_metadata t));
+  labels = template_labels (given (fields.template_metadata t));
+  annotations = template_annotations (given (fields.template_metadata t));
   spec = compact_text j;
 }
 
@@ -108,17 +108,17 @@ zone_name s = given (optional text (present (codes "timeZone") s))
 
 -- the schedule as it is given
 abbrev pub schedule_text : Data → List ℕ
-schedule_text s = value_or [] (row.schedule s)
+schedule_text s = value_or [] (fields.schedule s)
 
 abbrev pub cron_spec_of : Data → JobTemplate → CronSpec
 cron_spec_of s template = record {
   schedule = schedule_text s;
   time_zone = zone_name s;
-  policy = value_or Allow (row.policy s);
-  suspend = value_or false (row.suspend s);
-  starting_deadline_seconds = given (row.deadline s);
-  successful_limit = value_or 0 (row.successful_limit s);
-  failed_limit = value_or 0 (row.failed_limit s);
+  policy = value_or Allow (fields.policy s);
+  suspend = value_or false (fields.suspend s);
+  starting_deadline_seconds = given (fields.deadline s);
+  successful_limit = value_or 0 (fields.successful_limit s);
+  failed_limit = value_or 0 (fields.failed_limit s);
   template = template;
 }
 
@@ -130,10 +130,10 @@ then_do (Some x) f = f x
 -- rule: drafts
 abbrev pub cron_draft : Data → Option CronJobDraft
 cron_draft d =
-    then_do (result_ok (row.metadata d)) (λ m.
-    then_do (result_ok (row.spec d)) (λ s.
-    then_do (result_ok (row.job_template s)) (λ t.
-    then_do (result_ok (row.job_spec t)) (λ j.
+    then_do (result_ok (fields.metadata d)) (λ m.
+    then_do (result_ok (fields.spec d)) (λ s.
+    then_do (result_ok (fields.job_template s)) (λ t.
+    then_do (result_ok (fields.job_spec t)) (λ j.
     Some (record { key = key_of Of.Cron m; meta = meta_of m; spec = cron_spec_of s (template_of t j) })))))
 
 -- ---- a Job
@@ -141,8 +141,8 @@ cron_draft d =
 -- rule: drafts
 abbrev pub job_draft : Data → Option JobDraft
 job_draft d =
-    then_do (result_ok (row.metadata d)) (λ m.
-    then_do (result_ok (row.spec d)) (λ s.
+    then_do (result_ok (fields.metadata d)) (λ m.
+    then_do (result_ok (fields.spec d)) (λ s.
     Some (record { key = key_of Of.Job m; meta = meta_of m; owners = owners_of m; spec = compact_text s })))
 
 -- the key and the owners in the metadata of a Job
@@ -152,4 +152,4 @@ head_in m = record { key = key_of Of.Job m; owners = owners_of m }
 -- the head of a Job, where its metadata is there
 -- rule: cluster-job
 abbrev pub job_head : Data → Option JobHead
-job_head d = then_do (result_ok (row.metadata d)) (λ m. Some (head_in m))
+job_head d = then_do (result_ok (fields.metadata d)) (λ m. Some (head_in m))

@@ -10,12 +10,12 @@ use Rattle.cj_manifest.specs.declared.manifest.Manifest.{Manifest}
 use Rattle.cj_manifest.specs.declared.manifest.Manifest.TheVariants as Said
 use Rattle.cj_manifest.specs.Drafts.{cron_draft, job_draft}
 use Rattle.cj_manifest.specs.Faults.{cron_faults, job_faults}
-use Rattle.cj_manifest.specs.Table as row
+use Rattle.cj_manifest.specs.Table as fields
 use Rattle.cj_manifest.specs.Warnings.{cron_warnings, job_warnings}
 
 -- read as a Job's, the row of the kind has no fault
 abbrev pub is_job : Data → Bool
-is_job d = is_none (result_err (row.kind Of.Job d))
+is_job d = is_none (result_err (fields.kind Of.Job d))
 
 abbrev pub manifest_faults : List Zone → Data → List FieldFault
 manifest_faults zones d = if is_job d then job_faults d else cron_faults zones d

@@ -12,7 +12,7 @@ use Rattle.cj_types.specs.declared.job.JobDraft.{JobDraft}
 use Rattle.cj_types.specs.declared.meta.DraftMeta.{DraftMeta}
 use Rattle.cj_types.specs.declared.meta.Meta.{Meta}
 use Rattle.cj_types.specs.Uids.{uid_text}
-use Rattle.cj_written.specs.Objects.{cron_written, job_written}
+use Rattle.cj_json.specs.Objects.{cron_written, job_written}
 use Rattle.cj_zone.specs.declared.zone.Zone.{Zone}
 use Rattle.cj_manifest.specs.Drafts.{cron_draft, job_draft}
 use Rattle.cj_manifest.specs.Faults.{cron_faults, job_faults}

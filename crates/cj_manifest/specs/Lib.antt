@@ -1,5 +1,5 @@
 pub mod Members
-pub mod RowKinds
+pub mod Values
 pub mod Owners
 pub mod OwnerTexts
 pub mod Table

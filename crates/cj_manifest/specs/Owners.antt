@@ -6,7 +6,7 @@ use Rattle.cj_base.specs.declared.cause.Cause.{Cause}
 use Rattle.cj_base.specs.declared.cause.Cause.TheVariants as Why
 use Rattle.cj_types.specs.declared.owners.OwnerRef.{OwnerRef}
 use Rattle.cj_manifest.specs.Members.{present}
-use Rattle.cj_manifest.specs.RowKinds.{or_wrong_type, when, and_then}
+use Rattle.cj_manifest.specs.Values.{or_wrong_type, when, and_then}
 
 abbrev pub then_do : {A B : Type 0} → Option A → (A → Option B) → Option B
 then_do None f = None

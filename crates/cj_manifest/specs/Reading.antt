@@ -7,7 +7,7 @@ use Rattle.cj_base.specs.declared.faults.FieldFault.{FieldFault}
 use Rattle.cj_base.specs.declared.refusal.Refusal.{Refusal}
 use Rattle.cj_base.specs.declared.refusal.Refusal.TheVariants.{Syntax, Invalid, OutOfMemory}
 use Rattle.cj_manifest.specs.declared.kind.ObjectKind.{ObjectKind}
-use Rattle.cj_manifest.specs.Table as row
+use Rattle.cj_manifest.specs.Table as fields
 
 -- the bytes are UTF-8, and as JSON (RFC 8259) they are this value
 -- rule: manifest-json
@@ -49,8 +49,8 @@ IsRefused faults bytes other = ⊥
 
 -- the row of the name and that of the namespace have no fault
 abbrev pub IsNamed : ObjectKind → Data → Type 0
-IsNamed k m = (result_err (row.name k m) ≡ None) × (result_err (row.namespace m) ≡ None)
+IsNamed k m = (result_err (fields.name k m) ≡ None) × (result_err (fields.namespace m) ≡ None)
 
 -- and so in the metadata of a manifest
 abbrev pub HasNames : ObjectKind → Data → Type 0
-HasNames k d = (m : Data) → result_ok (row.metadata d) ≡ Some m → IsNamed k m
+HasNames k d = (m : Data) → result_ok (fields.metadata d) ≡ Some m → IsNamed k m

@@ -13,8 +13,8 @@ use Rattle.cj_manifest.specs.declared.kind.ObjectKind.{ObjectKind}
 use Rattle.cj_manifest.specs.declared.kind.ObjectKind.TheVariants as Of
 use Rattle.cj_manifest.specs.Members.{present}
 use Rattle.cj_manifest.specs.Owners as owners_in
-use Rattle.cj_manifest.specs.RowKinds.{when, and_then, required, optional, or_default, text, truth, an_object, choice, either, range, texts}
-use Rattle.cj_manifest.specs.RowKinds as row
+use Rattle.cj_manifest.specs.Values.{when, and_then, required, optional, or_default, text, truth, an_object, choice, either, range, texts}
+use Rattle.cj_manifest.specs.Values as read
 
 -- ---- the two kinds of object
 
@@ -56,10 +56,10 @@ spec d = required an_object (present (codes "spec") d)
 
 -- rule: all-faults
 abbrev pub name : ObjectKind → Data → Result (List ℕ) Cause
-name k m = required (row.name (name_limit k)) (present (codes "name") m)
+name k m = required (read.name (name_limit k)) (present (codes "name") m)
 
 abbrev pub namespace : Data → Result (List ℕ) Cause
-namespace m = or_default (codes "default") row.namespace (present (codes "namespace") m)
+namespace m = or_default (codes "default") read.namespace (present (codes "namespace") m)
 
 abbrev pub labels : Data → Result (Option Members) Cause
 labels m = optional texts (present (codes "labels") m)
@@ -81,13 +81,13 @@ owners m = optional owners_in.owners (present (codes "ownerReferences") m)
 
 -- rule: all-faults
 abbrev pub schedule : Data → Result (List ℕ) Cause
-schedule s = required row.schedule (present (codes "schedule") s)
+schedule s = required read.schedule (present (codes "schedule") s)
 
 abbrev pub time_zone : List Zone → Data → Result (Option (List ℕ)) Cause
-time_zone zones s = optional (row.zone zones) (present (codes "timeZone") s)
+time_zone zones s = optional (read.zone zones) (present (codes "timeZone") s)
 
 abbrev pub policy : Data → Result Policy Cause
-policy s = or_default Allow row.policy (present (codes "concurrencyPolicy") s)
+policy s = or_default Allow read.policy (present (codes "concurrencyPolicy") s)
 
 abbrev pub suspend : Data → Result Bool Cause
 suspend s = or_default false truth (present (codes "suspend") s)

@@ -10,7 +10,7 @@ use Rattle.cj_manifest.specs.declared.level.Level.TheVariants as In
 use Rattle.cj_manifest.specs.Members.{unless_null}
 use Rattle.cj_manifest.specs.Owners.{then_do}
 use Rattle.cj_manifest.specs.Drafts.{given}
-use Rattle.cj_manifest.specs.Table as row
+use Rattle.cj_manifest.specs.Table as fields
 
 -- ---- the members that are read, or dropped without a warning
 
@@ -61,22 +61,22 @@ prefix In.TemplateMetadata = codes "spec.jobTemplate.metadata."
 
 -- the paths of the other members, where they aren't null
 abbrev pub unknown : Level → Members → List (List ℕ)
-unknown at no_members = []
-unknown at (member k d ms) =
-    if is_known at k || is_none (unless_null d) then unknown at ms else (prefix at ++ k) ∷ unknown at ms
+unknown level no_members = []
+unknown level (member k d ms) =
+    if is_known level k || is_none (unless_null d) then unknown level ms else (prefix level ++ k) ∷ unknown level ms
 
 -- of an object, where it is there
 -- rule: warnings
 abbrev pub dropped : Level → Option Data → List (List ℕ)
-dropped at None = []
-dropped at (Some d) = unknown at (unwrap_or (as_object d) no_members)
+dropped level None = []
+dropped level (Some d) = unknown level (unwrap_or (as_object d) no_members)
 
 -- the template of a CronJob's manifest, and its metadata
 abbrev pub template_in : Data → Option Data
-template_in d = then_do (result_ok (row.spec d)) (λ s. result_ok (row.job_template s))
+template_in d = then_do (result_ok (fields.spec d)) (λ s. result_ok (fields.job_template s))
 
 abbrev pub template_metadata_in : Data → Option Data
-template_metadata_in d = then_do (template_in d) (λ t. given (row.template_metadata t))
+template_metadata_in d = then_do (template_in d) (λ t. given (fields.template_metadata t))
 
 abbrev pub is_beta : Option (List ℕ) → Bool
 is_beta None = false
@@ -84,7 +84,7 @@ is_beta (Some version) = bytes_eq version (codes "batch/v1beta1")
 
 -- of a CronJob that is given in the older version of the API, as it is stored and written in batch/v1
 abbrev pub version_warnings : Data → List (List ℕ)
-version_warnings d = if is_beta (result_ok (row.api_version Of.Cron d)) then codes "apiVersion" ∷ [] else []
+version_warnings d = if is_beta (result_ok (fields.api_version Of.Cron d)) then codes "apiVersion" ∷ [] else []
 
 -- first the version of the API, then the members that are dropped
 -- rules: v1beta1, warnings
@@ -92,11 +92,11 @@ abbrev pub cron_warnings : Data → List (List ℕ)
 cron_warnings d =
     version_warnings d
     ++ dropped In.Top (Some d)
-    ++ dropped In.CronMetadata (result_ok (row.metadata d))
-    ++ dropped In.CronSpec (result_ok (row.spec d))
+    ++ dropped In.CronMetadata (result_ok (fields.metadata d))
+    ++ dropped In.CronSpec (result_ok (fields.spec d))
     ++ dropped In.Template (template_in d)
     ++ dropped In.TemplateMetadata (template_metadata_in d)
 
 -- rule: warnings
 abbrev pub job_warnings : Data → List (List ℕ)
-job_warnings d = dropped In.Top (Some d) ++ dropped In.JobMetadata (result_ok (row.metadata d))
+job_warnings d = dropped In.Top (Some d) ++ dropped In.JobMetadata (result_ok (fields.metadata d))

@@ -5,21 +5,21 @@ ghost use Rattle.serde_json.specs.Data.{depth};
 ghost use Rattle.serde_json.specs.Read.{max_depth};
 ghost use Rattle.serde_json.specs.View.{view};
 ghost use Rattle.serde_json.specs.Written.{has_float, compact_text};
-ghost use Rattle.cj_written.specs.Parts.{IsKept};
+ghost use Rattle.cj_json.specs.Parts.{IsKept};
 ghost use Rattle.cj_manifest.specs.declared.kind.ObjectKind.TheVariants as Of;
 ghost use Rattle.cj_manifest.specs.Drafts as said;
 ghost use Rattle.cj_manifest.specs.Reading.{IsNamed, HasNames};
 
 use crate::draft_parts::{given_text, label_map, owner_list};
 use crate::kind::ObjectKind;
-use crate::kinds::present;
-use crate::rows::{
+use crate::metadata_fields::{
     annotations, labels, metadata, name, namespace, owners, resource_version, spec, uid,
 };
-use crate::spec_rows::{
+use crate::spec_fields::{
     deadline, failed_limit, job_spec, job_template, policy, schedule, successful_limit, suspend,
     template_metadata,
 };
+use crate::values::present;
 use cj_types::{
     CronJobDraft, CronKey, CronSpec, DraftMeta, HistoryLimit, JobDraft, JobTemplate, Key, Labels,
     OwnerRefs, Policy, Refusal, Shared, SpecText, Text,

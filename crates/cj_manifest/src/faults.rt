@@ -6,15 +6,15 @@ ghost use Rattle.cj_zone.specs.Table.{zones_of};
 ghost use Rattle.cj_base.specs.declared.field.Field.TheVariants as At;
 ghost use Rattle.cj_manifest.specs.declared.kind.ObjectKind.TheVariants as Of;
 ghost use Rattle.cj_manifest.specs.Faults as table;
-ghost use Rattle.cj_manifest.specs.Table as row;
+ghost use Rattle.cj_manifest.specs.Table as fields;
 
 use crate::kind::ObjectKind;
-use crate::pods::{JOB_FIELDS, PodFields, TEMPLATE_FIELDS};
-use crate::rows::{
-    annotations, api_version, kind_row, labels, metadata, name, namespace, owners,
+use crate::metadata_fields::{
+    annotations, api_version, kind_field, labels, metadata, name, namespace, owners,
     resource_version, spec, uid, whole,
 };
-use crate::spec_rows::{
+use crate::pods::{JOB_FIELDS, PodFields, TEMPLATE_FIELDS};
+use crate::spec_fields::{
     deadline, failed_limit, job_spec, job_template, pod_spec, pods, policy, restart_policy,
     schedule, successful_limit, suspend, template_metadata, time_zone,
 };
@@ -68,14 +68,14 @@ fn metadata_faults(
     owner_faults(faults, kind, metadata)
 }
 
-fn metadata_rows(
+fn note_metadata(
     faults: &mut FieldFaults,
     kind: ObjectKind,
     value: &Value,
 ) -> Result<(), AllocError>
     ensures { OnOk result (faults.new ≡ faults.old
-        ++ table.with_rows At.Metadata (table.metadata_faults kind)
-        (row.metadata (view value.now))) }
+        ++ table.with_fields At.Metadata (table.metadata_faults kind)
+        (fields.metadata (view value.now))) }
 {
     match metadata(value) {
         Ok(found) => metadata_faults(faults, kind, found),
@@ -85,33 +85,33 @@ fn metadata_rows(
 
 // ---- the spec of a Job
 
-fn pods_faults(faults: &mut FieldFaults, at: PodFields, pods: &Value) -> Result<(), AllocError>
-    ensures { OnOk result (faults.new ≡ faults.old ++ table.pods_faults at (view pods.now)) }
+fn pods_faults(faults: &mut FieldFaults, named: PodFields, pods: &Value) -> Result<(), AllocError>
+    ensures { OnOk result (faults.new ≡ faults.old ++ table.pods_faults named (view pods.now)) }
 {
     match pod_spec(pods) {
-        Ok(found) => note(faults, at.restart_policy, restart_policy(found).err()),
-        Err(cause) => note(faults, at.spec, Some(cause)),
+        Ok(found) => note(faults, named.restart_policy, restart_policy(found).err()),
+        Err(cause) => note(faults, named.spec, Some(cause)),
     }
 }
 
 fn job_spec_faults(
     faults: &mut FieldFaults,
-    at: PodFields,
+    named: PodFields,
     job_spec: &Value,
 ) -> Result<(), AllocError>
     ensures { OnOk result (faults.new ≡ faults.old
-        ++ table.job_spec_faults at (view job_spec.now)) }
+        ++ table.job_spec_faults named (view job_spec.now)) }
 {
     match pods(job_spec) {
-        Ok(found) => pods_faults(faults, at, found),
-        Err(cause) => note(faults, at.template, Some(cause)),
+        Ok(found) => pods_faults(faults, named, found),
+        Err(cause) => note(faults, named.template, Some(cause)),
     }
 }
 
-fn job_spec_rows(faults: &mut FieldFaults, value: &Value) -> Result<(), AllocError>
+fn note_job_spec(faults: &mut FieldFaults, value: &Value) -> Result<(), AllocError>
     ensures { OnOk result (faults.new ≡ faults.old
-        ++ table.with_rows At.Spec (table.job_spec_faults table.job_fields)
-        (row.spec (view value.now))) }
+        ++ table.with_fields At.Spec (table.job_spec_faults table.job_fields)
+        (fields.spec (view value.now))) }
 {
     match spec(value) {
         Ok(found) => job_spec_faults(faults, JOB_FIELDS, found),
@@ -133,10 +133,10 @@ fn template_metadata_faults(faults: &mut FieldFaults, metadata: &Value) -> Resul
     )
 }
 
-fn template_metadata_rows(faults: &mut FieldFaults, template: &Value) -> Result<(), AllocError>
+fn note_template_metadata(faults: &mut FieldFaults, template: &Value) -> Result<(), AllocError>
     ensures { OnOk result (faults.new ≡ faults.old
-        ++ table.with_optional_rows At.JobTemplateMetadata table.template_metadata_faults
-        (row.template_metadata (view template.now))) }
+        ++ table.with_optional_fields At.JobTemplateMetadata table.template_metadata_faults
+        (fields.template_metadata (view template.now))) }
 {
     match template_metadata(template) {
         Ok(None) => Ok(()),
@@ -145,10 +145,10 @@ fn template_metadata_rows(faults: &mut FieldFaults, template: &Value) -> Result<
     }
 }
 
-fn template_spec_rows(faults: &mut FieldFaults, template: &Value) -> Result<(), AllocError>
+fn note_template_spec(faults: &mut FieldFaults, template: &Value) -> Result<(), AllocError>
     ensures { OnOk result (faults.new ≡ faults.old
-        ++ table.with_rows At.JobTemplateSpec (table.job_spec_faults table.template_fields)
-        (row.job_spec (view template.now))) }
+        ++ table.with_fields At.JobTemplateSpec (table.job_spec_faults table.template_fields)
+        (fields.job_spec (view template.now))) }
 {
     match job_spec(template) {
         Ok(found) => job_spec_faults(faults, TEMPLATE_FIELDS, found),
@@ -159,14 +159,14 @@ fn template_spec_rows(faults: &mut FieldFaults, template: &Value) -> Result<(), 
 fn template_faults(faults: &mut FieldFaults, template: &Value) -> Result<(), AllocError>
     ensures { OnOk result (faults.new ≡ faults.old ++ table.template_faults (view template.now)) }
 {
-    template_metadata_rows(faults, template)?;
-    template_spec_rows(faults, template)
+    note_template_metadata(faults, template)?;
+    note_template_spec(faults, template)
 }
 
-fn template_rows(faults: &mut FieldFaults, spec: &Value) -> Result<(), AllocError>
+fn note_template(faults: &mut FieldFaults, spec: &Value) -> Result<(), AllocError>
     ensures { OnOk result (faults.new ≡ faults.old
-        ++ table.with_rows At.JobTemplate table.template_faults
-        (row.job_template (view spec.now))) }
+        ++ table.with_fields At.JobTemplate table.template_faults
+        (fields.job_template (view spec.now))) }
 {
     match job_template(spec) {
         Ok(found) => template_faults(faults, found),
@@ -214,17 +214,17 @@ fn cron_spec_faults(
 {
     timing_faults(faults, zones, spec)?;
     limit_faults(faults, spec)?;
-    template_rows(faults, spec)
+    note_template(faults, spec)
 }
 
-fn cron_spec_rows(
+fn note_cron_spec(
     faults: &mut FieldFaults,
     zones: &ZoneTable,
     value: &Value,
 ) -> Result<(), AllocError>
     ensures { OnOk result (faults.new ≡ faults.old
-        ++ table.with_rows At.Spec (table.cron_spec_faults (zones_of zones.now))
-        (row.spec (view value.now))) }
+        ++ table.with_fields At.Spec (table.cron_spec_faults (zones_of zones.now))
+        (fields.spec (view value.now))) }
 {
     match spec(value) {
         Ok(found) => cron_spec_faults(faults, zones, found),
@@ -238,25 +238,25 @@ fn top_faults(faults: &mut FieldFaults, kind: ObjectKind, value: &Value) -> Resu
     ensures { OnOk result (faults.new ≡ faults.old ++ table.top_faults kind (view value.now)) }
 {
     note(faults, Field::ApiVersion, api_version(kind, value).err())?;
-    note(faults, Field::Kind, kind_row(kind, value).err())?;
-    metadata_rows(faults, kind, value)
+    note(faults, Field::Kind, kind_field(kind, value).err())?;
+    note_metadata(faults, kind, value)
 }
 
-fn cron_rows(faults: &mut FieldFaults, zones: &ZoneTable, value: &Value) -> Result<(), AllocError>
+fn note_cron(faults: &mut FieldFaults, zones: &ZoneTable, value: &Value) -> Result<(), AllocError>
     ensures { OnOk result (faults.new ≡ faults.old
         ++ table.object_faults Of.Cron (table.cron_spec_faults (zones_of zones.now))
         (view value.now)) }
 {
     top_faults(faults, ObjectKind::Cron, value)?;
-    cron_spec_rows(faults, zones, value)
+    note_cron_spec(faults, zones, value)
 }
 
-fn job_rows(faults: &mut FieldFaults, value: &Value) -> Result<(), AllocError>
+fn note_job(faults: &mut FieldFaults, value: &Value) -> Result<(), AllocError>
     ensures { OnOk result (faults.new ≡ faults.old
         ++ table.object_faults Of.Job (table.job_spec_faults table.job_fields) (view value.now)) }
 {
     top_faults(faults, ObjectKind::Job, value)?;
-    job_spec_rows(faults, value)
+    note_job_spec(faults, value)
 }
 
 /// The faults of a CronJob's manifest.
@@ -269,7 +269,7 @@ pub(crate) fn cron_faults(
 {
     let mut faults = FieldFaults::new(alloc);
     match whole(value) {
-        Ok(found) => cron_rows(&mut faults, zones, found)?,
+        Ok(found) => note_cron(&mut faults, zones, found)?,
         Err(cause) => note(&mut faults, Field::Whole, Some(cause))?,
     }
     Ok(faults)
@@ -293,7 +293,7 @@ pub(crate) fn job_faults(alloc: Global, value: &Value) -> Result<FieldFaults, Al
 {
     let mut faults = FieldFaults::new(alloc);
     match whole(value) {
-        Ok(found) => job_rows(&mut faults, found)?,
+        Ok(found) => note_job(&mut faults, found)?,
         Err(cause) => note(&mut faults, Field::Whole, Some(cause))?,
     }
     Ok(faults)

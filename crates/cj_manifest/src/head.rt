@@ -9,8 +9,8 @@ ghost use Rattle.cj_manifest.specs.Reading.{HasFaults, IsNamed};
 
 use crate::draft::{job_key, owner_refs};
 use crate::faults::head_faults;
+use crate::metadata_fields::metadata;
 use crate::read::refuse;
-use crate::rows::metadata;
 use cj_types::{Key, OwnerRefs, Refusal};
 use serde_json::Value;
 use std::alloc::Global;

@@ -1,5 +1,5 @@
 ghost use Rattle.std.specs.Prelude.{◌≡◌};
-ghost use Rattle.cj_manifest.specs.Table as row;
+ghost use Rattle.cj_manifest.specs.Table as fields;
 
 /// The kind of object that a manifest is read as.
 #[derive(Clone, Copy)]
@@ -11,7 +11,7 @@ pub(crate) enum ObjectKind {
 impl ObjectKind {
     /// `CronJob` or `Job`.
     pub fn name(self) -> &'static str
-        ensures { result.now ≡ row.kind_name self }
+        ensures { result.now ≡ fields.kind_name self }
     {
         match self {
             ObjectKind::Cron => "CronJob",
@@ -21,7 +21,7 @@ impl ObjectKind {
 
     /// The most characters of a name: the names of a CronJob's Jobs are up to 11 characters longer than its own.
     pub fn name_limit(self) -> usize
-        ensures { result ≡ row.name_limit self }
+        ensures { result ≡ fields.name_limit self }
     {
         match self {
             ObjectKind::Cron => 52,

@@ -3,10 +3,10 @@ ghost use Rattle.std.specs.Prelude.{◌≡◌, option_map, option_and_then};
 ghost use Rattle.std.specs.Result.{result_ok, result_err};
 ghost use Rattle.serde_json.specs.Find.{as_str};
 ghost use Rattle.serde_json.specs.View.{view, items_view};
-ghost use Rattle.cj_manifest.specs.Owners as row;
+ghost use Rattle.cj_manifest.specs.Owners as said;
 ghost use Rattle.cj_manifest.specs.OwnerTexts.{owner_view};
 
-use crate::kinds::present;
+use crate::values::present;
 use cj_types::Cause;
 use serde_json::Value;
 
@@ -22,13 +22,13 @@ pub(crate) struct OwnerTexts<'v> {
 }
 
 fn text_at<'v>(value: &'v Value, name: &str) -> Option<&'v str>
-    ensures { option_map (λ s. s.now) result ≡ row.text_at name.now (view value.now) }
+    ensures { option_map (λ s. s.now) result ≡ said.text_at name.now (view value.now) }
 {
     present(value, name)?.as_str()
 }
 
 fn flag_at(value: &Value, name: &str) -> Option<bool>
-    ensures { result ≡ row.flag_at name.now (view value.now) }
+    ensures { result ≡ said.flag_at name.now (view value.now) }
 {
     match present(value, name) {
         None => Some(false),
@@ -37,7 +37,7 @@ fn flag_at(value: &Value, name: &str) -> Option<bool>
 }
 
 pub(crate) fn owner(value: &Value) -> Option<OwnerTexts<'_>>
-    ensures { option_map owner_view result ≡ row.owner (view value.now) }
+    ensures { option_map owner_view result ≡ said.owner (view value.now) }
 {
     Some(OwnerTexts {
         api_version: text_at(value, "apiVersion")?,
@@ -50,7 +50,7 @@ pub(crate) fn owner(value: &Value) -> Option<OwnerTexts<'_>>
 }
 
 fn all_owners(items: &Vec<Value>) -> bool
-    ensures { result ≡ row.all_owners (items_view items.now.items) }
+    ensures { result ≡ said.all_owners (items_view items.now.items) }
 {
     for item in items {
         if owner(item).is_none() {
@@ -62,9 +62,9 @@ fn all_owners(items: &Vec<Value>) -> bool
 
 /// A list of owner references.
 pub(crate) fn owners(value: &Value) -> Result<&Vec<Value>, Cause>
-    ensures fault { result_err result ≡ result_err (row.owners (view value.now)) }
+    ensures fault { result_err result ≡ result_err (said.owners (view value.now)) }
     ensures value { option_map (λ v. items_view v.now.items) (result_ok result)
-        ≡ result_ok (row.owners (view value.now)) }
+        ≡ result_ok (said.owners (view value.now)) }
 {
     let Some(items) = value.as_array() else {
         return Err(Cause::WrongType);

@@ -7,7 +7,7 @@ ghost use Rattle.cj_base.specs.declared.refusal.Refusal.TheVariants.{OutOfMemory
 ghost use Rattle.cj_types.specs.declared.cron.CronJobDraft.{CronJobDraft};
 ghost use Rattle.cj_types.specs.declared.job.JobDraft.{JobDraft};
 ghost use Rattle.cj_zone.specs.Table.{zones_of};
-ghost use Rattle.cj_written.specs.Parts.{IsKept};
+ghost use Rattle.cj_json.specs.Parts.{IsKept};
 ghost use Rattle.cj_manifest.specs.Drafts as said;
 ghost use Rattle.cj_manifest.specs.Either as either;
 ghost use Rattle.cj_manifest.specs.Faults as table;
@@ -19,9 +19,9 @@ use crate::draft::{cron_draft, job_draft};
 use crate::faults::{cron_faults, job_faults};
 use crate::kind::ObjectKind;
 use crate::manifest::Manifest;
-use crate::rows::kind_row;
+use crate::metadata_fields::kind_field;
+use crate::warned::{cron_warnings, job_warnings};
 use crate::warning::Warning;
-use crate::warnings::{cron_warnings, job_warnings};
 use cj_base::FieldFaults;
 use cj_types::{CronJobDraft, JobDraft, Refusal};
 use cj_zone::ZoneTable;
@@ -109,7 +109,7 @@ fn manifest_of(
     ensures refused { IfErr result (HasFaults
         (either.manifest_faults (zones_of zones.now) (view value.now))) }
 {
-    if kind_row(ObjectKind::Job, value).is_ok() {
+    if kind_field(ObjectKind::Job, value).is_ok() {
         let (draft, warnings) = job_of(alloc, value)?;
         Ok((Manifest::Job(draft), warnings))
     } else {

@@ -1,9 +1,9 @@
+use cj_json::Written;
 use cj_types::{
     CronJob, CronKey, CronSpec, CronStatus, Deadline, HistoryLimit, Job, JobTemplate, Key, Labels,
     Meta, Names, ObjectName, Outcome, OwnerRef, OwnerRefs, Policy, Refusal, Seconds, Shared,
     SpecText, Text, Uid, Version,
 };
-use cj_written::Written;
 use std::alloc::Global;
 use std::test::Fail;
 

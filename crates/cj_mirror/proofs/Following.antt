@@ -41,8 +41,8 @@ put_keyed m v h q j e = by ((places_apart Job).after_put m v.key q v j e)
     by (inr s) = h q j s.1
 
 -- With a key taken out, each Job still stands at its own key.
-cut_keyed : (m : Jobs) (k : Place) → IsKeyed m → IsKeyed (map.remove m k)
-cut_keyed m k h q j e = h q j ((places_apart Job).after_cut m k q j e).1
+removal_keyed : (m : Jobs) (k : Place) → IsKeyed m → IsKeyed (map.remove m k)
+removal_keyed m k h q j e = h q j ((places_apart Job).after_removal m k q j e).1
 
 -- After an event each Job still stands at its own key.
 told_keyed : (m : Jobs) (e : Event) → IsKeyed m → IsKeyed (told m e)
@@ -51,7 +51,7 @@ told_keyed m (Added (Kind.Job j)) h = put_keyed m j h
 told_keyed m (Modified (Kind.Cron c)) h = h
 told_keyed m (Modified (Kind.Job j)) h = put_keyed m j h
 told_keyed m (Deleted (Kind.Cron c)) h = h
-told_keyed m (Deleted (Kind.Job j)) h = cut_keyed m j.key h
+told_keyed m (Deleted (Kind.Job j)) h = removal_keyed m j.key h
 
 -- After several events, one after the other, each Job still stands at its own key.
 all_keyed : (m : Jobs) (es : List Event) → IsKeyed m → IsKeyed (told_all m es)

@@ -9,7 +9,7 @@ use std::alloc::Global;
 
 // Puts the Job at its key, whatever stands there, and copies none. Where there is no memory nothing may stand
 // there, until it is put again.
-#[tactic(auto, using(crate::proofs::Puts::put_cut, crate::proofs::Puts::gone_at))]
+#[tactic(auto, using(crate::proofs::Puts::put_removal, crate::proofs::Puts::gone_at))]
 fn put(jobs: &mut Jobs, alloc: Global, job: &Shared<Job>) -> Result<(), Refusal>
     ensures ok { OnOk result (jobs.new ≡ jobs_are.with_job jobs.old job.now) }
     ensures err { OnErr result (jobs_are.with_job jobs.new job.now

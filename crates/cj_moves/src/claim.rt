@@ -1,5 +1,6 @@
-ghost use Rattle.std.specs.Prelude.{◌≡◌, ◌+◌, ◌<◌, ◌^◌, IfOk, IfErr, OnErr, IsSome, Some};
+ghost use Rattle.std.specs.Prelude.{◌≡◌, ◌+◌, IfOk, IfErr, OnErr, IsSome, Some};
 ghost use Rattle.std.specs.FinMap as map;
+ghost use Rattle.cj_store.specs.Content.{HasRoom};
 ghost use Rattle.cj_base.specs.declared.refusal.Refusal.TheVariants.{OutOfMemory};
 ghost use Rattle.cj_seats.specs.declared.seat.Phase.TheVariants.{Works};
 ghost use Rattle.cj_state.specs.Sound.{IsSound};
@@ -52,7 +53,7 @@ fn claim_time(
     claim: &Claim,
     cron: &CronJob,
 ) -> Result<Answered, Refusal>
-    requires room { state.old.store.version < 2 ^ 40 }
+    requires room { HasRoom state.old.store }
     requires sound { IsSound state.old }
     requires there { IsSome (map.get state.old.seats worker) }
     ensures ok { IfOk result (λ t. claims state.old worker key.now plan.now claim.now
@@ -85,7 +86,7 @@ fn claim_where(
     key: &Key,
     plan: &Shared<Plan>,
 ) -> Result<Answered, Refusal>
-    requires room { state.old.store.version < 2 ^ 40 }
+    requires room { HasRoom state.old.store }
     requires sound { IsSound state.old }
     requires there { IsSome (map.get state.old.seats worker) }
     ensures ok { IfOk result (λ t. claim_where state.old worker key.now plan.now
@@ -113,7 +114,7 @@ pub fn claim(
     worker: u64,
     plan: &Shared<Plan>,
 ) -> Result<Answered, Refusal>
-    requires room { state.old.store.version < 2 ^ 40 }
+    requires room { HasRoom state.old.store }
     requires sound { IsSound state.old }
     ensures ok { IfOk result (λ t. claim state.old worker plan.now ≡ moved t state.new) }
     ensures err { OnErr result (state.new ≡ state.old) }

@@ -1,5 +1,6 @@
 ghost use Rattle.std.specs.Prelude.{◌≡◌, ◌+◌, ◌<◌, ◌^◌, IfOk, IfErr, OnErr, IsSome, Some, Ok, option_copied};
 ghost use Rattle.std.specs.FinMap as map;
+ghost use Rattle.cj_store.specs.Content.{HasRoom};
 ghost use Rattle.cj_base.specs.declared.refusal.Refusal.TheVariants.{OutOfMemory};
 ghost use Rattle.cj_store.specs.Change.{map_ok, cron_modified, job_added, job_gone};
 ghost use Rattle.cj_store.specs.Crons.{status_set};
@@ -36,7 +37,7 @@ fn drop_job(
     uid: Uid,
     seat: Heap<Seat>,
 ) -> Result<Answered, Refusal>
-    requires room { state.old.store.version < 2 ^ 40 }
+    requires room { HasRoom state.old.store }
     requires sound { IsSound state.old }
     requires there { IsSome (map.get state.old.seats worker) }
     ensures ok { IfOk result (λ t. drops_it state.old worker seat name
@@ -68,7 +69,7 @@ fn make_job(
     now: Seconds,
     seat: Heap<Seat>,
 ) -> Result<Answered, Refusal>
-    requires room { state.old.store.version < 2 ^ 40 }
+    requires room { HasRoom state.old.store }
     requires sound { IsSound state.old }
     requires there { IsSome (map.get state.old.seats worker) }
     ensures ok { IfOk result (λ t. steps_on state.old worker seat event_reply
@@ -95,7 +96,7 @@ fn put_status(
     status: CronStatus,
     seat: Heap<Seat>,
 ) -> Result<Answered, Refusal>
-    requires room { state.old.store.version < 2 ^ 40 }
+    requires room { HasRoom state.old.store }
     requires sound { IsSound state.old }
     requires there { IsSome (map.get state.old.seats worker) }
     ensures ok { IfOk result (λ t. steps_on state.old worker seat version_reply
@@ -120,7 +121,7 @@ fn put_status(
 /// Drops the Job that the next step of the worker's plan drops.
 #[tactic(auto, unfolding(cj_state::specs::Moves::drop_next))]
 pub fn drop_next(alloc: Global, state: &mut State, worker: u64) -> Result<Answered, Refusal>
-    requires room { state.old.store.version < 2 ^ 40 }
+    requires room { HasRoom state.old.store }
     requires sound { IsSound state.old }
     ensures ok { IfOk result (λ t. drop_next state.old worker ≡ moved t state.new) }
     ensures err { OnErr result (state.new ≡ state.old) }
@@ -144,7 +145,7 @@ pub fn drop_next(alloc: Global, state: &mut State, worker: u64) -> Result<Answer
 /// Makes the Job that the next step of the worker's plan makes.
 #[tactic(auto, unfolding(cj_state::specs::Moves::make_next))]
 pub fn make_next(alloc: Global, state: &mut State, worker: u64) -> Result<Answered, Refusal>
-    requires room { state.old.store.version < 2 ^ 40 }
+    requires room { HasRoom state.old.store }
     requires sound { IsSound state.old }
     ensures ok { IfOk result (λ t. make_next state.old worker ≡ moved t state.new) }
     ensures err { OnErr result (state.new ≡ state.old) }
@@ -168,7 +169,7 @@ pub fn make_next(alloc: Global, state: &mut State, worker: u64) -> Result<Answer
 /// Sets the status that the next step of the worker's plan sets.
 #[tactic(auto, unfolding(cj_state::specs::Moves::set_status))]
 pub fn set_status(alloc: Global, state: &mut State, worker: u64) -> Result<Answered, Refusal>
-    requires room { state.old.store.version < 2 ^ 40 }
+    requires room { HasRoom state.old.store }
     requires sound { IsSound state.old }
     ensures ok { IfOk result (λ t. set_status state.old worker ≡ moved t state.new) }
     ensures err { OnErr result (state.new ≡ state.old) }

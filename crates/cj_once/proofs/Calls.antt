@@ -40,11 +40,11 @@ use Rattle.cj_state.specs.Moves.{Moved, moved, refused, seat_of, seated, written
 use Rattle.cj_state.specs.Step.{writes, found_cron, found_job, told_events, by_reader, by_user, by_runner, by_informer, add, tick, shut}
 use Rattle.cj_decide_laws.specs.Fits.{IsAt, IsHere, IsFoundIn, runs, upto}
 use Rattle.cj_once.specs.Once.{Claimed}
-use Rattle.cj_once.proofs.Maps.{cut_at}
+use Rattle.cj_once.proofs.Maps.{removal_at}
 use Rattle.cj_once.proofs.Lists.{IsIn, Before, Ordered, Rest, runs_mine}
 use Rattle.cj_once.proofs.Facts.{Homes, Named, StoreFact, SeenFact, CheckedFact, MakeFact, StatusFact, PlanFact, SeatFact, IsLine, Inv}
 use Rattle.cj_once.proofs.Grows.{Grows, plan_kept, last_of}
-use Rattle.cj_once.proofs.Writes.{Grown, mapped, IsSet, set_is, not_deleted, deleted_key, grows_same, grows_put, grows_cut_job, create_grows, update_grows, delete_grows, create_job_grows, update_job_grows, delete_job_grows, end_job_grows}
+use Rattle.cj_once.proofs.Writes.{Grown, mapped, IsSet, set_is, not_deleted, deleted_key, grows_same, grows_put, grows_removal_job, create_grows, update_grows, delete_grows, create_job_grows, update_job_grows, delete_job_grows, end_job_grows}
 use Rattle.cj_once.proofs.Rows.{Lined, lined_same, lined_added, lined_ticked, lined_ok, lined_retry}
 use Rattle.cj_once.proofs.Frames.{Claims, seat, all_grown, row_changed, seat_changed, taken_by, ended_by}
 

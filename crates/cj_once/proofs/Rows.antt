@@ -3,11 +3,11 @@ use Rattle.std.proofs.Common.{◌≡◌, ◌≢◌, ◌⊎◌, inl, inr, ℕ, Bo
 use Rattle.std.specs.Prelude.{if◌then◌else◌, ◌+◌}
 use Rattle.std.specs.FinMap as map
 use Rattle.cj_types.specs.Keys.{Place, place_cmp}
-use Rattle.cj_table.proofs.Puts.{put_split, cut_split, cut_there}
+use Rattle.cj_table.proofs.Puts.{put_split, removal_split, removal_there}
 use Rattle.cj_queue.specs.Times.{ready}
 use Rattle.cj_once.proofs.Lists.{IsIn}
 use Rattle.cj_queue.specs.Queue.{Keys, Row, Queue, has, row_add, row_adds, take_in, row_take, row_end, first, added, taken, ended, added_after, ticked, closed, delay, failures_of, failed, forgotten, added_where, finished_ok, finished_retry}
-use Rattle.cj_once.proofs.Maps.{cut_other, put_other, put_here}
+use Rattle.cj_once.proofs.Maps.{removal_other, put_other, put_here}
 use Rattle.cj_once.proofs.Facts.{IsLine}
 
 -- For has_put: a key in a set stays there, be it the one that is put or another.
@@ -20,19 +20,19 @@ put_by m k q h (inr e) = ap is_some e ∙ h
 has_put : (m : Keys) (k q : Place) → has m q ≡ true → has (map.insert m k tt) q ≡ true
 has_put m k q h = put_by m k q h (put_split m k tt q)
 
--- For has_cut: a key that isn't in a set isn't after a removal, of this key or another.
-cut_by : (m : Keys) (k q : Place) → has m q ≡ false → ((q ≡ k) × (map.get (map.remove m k) q ≡ None))
+-- For has_removal: a key that isn't in a set isn't after a removal, of this key or another.
+removal_by : (m : Keys) (k q : Place) → has m q ≡ false → ((q ≡ k) × (map.get (map.remove m k) q ≡ None))
     ⊎ (map.get (map.remove m k) q ≡ map.get m q) → has (map.remove m k) q ≡ false
-cut_by m k q h (inl e) = ap is_some e.1
-cut_by m k q h (inr e) = ap is_some e ∙ h
+removal_by m k q h (inl e) = ap is_some e.1
+removal_by m k q h (inr e) = ap is_some e ∙ h
 
 -- A key that isn't in a set isn't in it after a removal.
-has_cut : (m : Keys) (k q : Place) → has m q ≡ false → has (map.remove m k) q ≡ false
-has_cut m k q h = cut_by m k q h (cut_split m k q)
+has_removal : (m : Keys) (k q : Place) → has m q ≡ false → has (map.remove m k) q ≡ false
+has_removal m k q h = removal_by m k q h (removal_split m k q)
 
 -- The removal of a key leaves another key in the set or out of it.
 pub has_other : (m : Keys) (k q : Place) → q ≢ k → has (map.remove m k) q ≡ has m q
-has_other m k q n = ap is_some (cut_other m k q n)
+has_other m k q n = ap is_some (removal_other m k q n)
 
 -- A key that is put in a set is in it.
 pub has_new : (m : Keys) (k : Place) → has (map.insert m k tt) k ≡ true
@@ -149,13 +149,13 @@ line_take r k ks f = line_more r (take_in r (k ∷ ks)) ks (λ q i h. has_other 
 -- the work on a key ends
 end_by : (r : Row) (k : Place) (b : Bool) → has r.dirty k ≡ b → has r.processing k ≡ true → IsLine r r.line
     → IsLine (row_end r k) (if b then r.line ++ k ∷ [] else r.line)
-end_by r k false d p f = line_more r (row_end r k) r.line (λ q i h. h) (λ q i h. has_cut r.processing k q h) f
+end_by r k false d p f = line_more r (row_end r k) r.line (λ q i h. h) (λ q i h. has_removal r.processing k q h) f
 end_by r k true d p f =
     line_push (row_end r k) r.line k (line_more r (row_end r k) r.line (λ q i h. h)
-    (λ q i h. has_cut r.processing k q h) f) d gone (λ h. absurd (cc (sym (line_free r r.line k f h) ∙ p)))
+    (λ q i h. has_removal r.processing k q h) f) d gone (λ h. absurd (cc (sym (line_free r r.line k f h) ∙ p)))
   where
     gone : has (map.remove r.processing k) k ≡ false
-    gone = ap is_some (cut_there r.processing k)
+    gone = ap is_some (removal_there r.processing k)
 
 -- The end of the work on a key that is worked on keeps the line's facts.
 pub line_end : (r : Row) (k : Place) → has r.processing k ≡ true → IsLine r r.line

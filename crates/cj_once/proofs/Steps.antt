@@ -34,11 +34,11 @@ use Rattle.cj_state.specs.declared.state.State.{State}
 use Rattle.cj_state.specs.Moves.{Moved, moved, refused, seat_of, seated, by_seat, works, seen_version, wrote, claims, claim_where, claim_in, claim, further, next_seat, sits, steps_on, drops_it, drop_where, drop_in, drop_next, sets_it, status_where, status_in, set_status, version_reply}
 use Rattle.cj_decide_laws.specs.Fits.{IsAt, IsAmong, IsFound, runs, upto, is_strict, Starts, Waits, FitsWith, FitsFor, Fits, Keeps, IsMade}
 use Rattle.cj_once.specs.Once.{Claimed, claimed_under, claimed_of, claim_answered}
-use Rattle.cj_once.proofs.Maps.{cut_at, put_at}
+use Rattle.cj_once.proofs.Maps.{removal_at, put_at}
 use Rattle.cj_once.proofs.Lists.{IsIn, Before, Ordered, Rest, before_all, in_all_makes, in_all_sets, all_ordered, both_true, weaker}
 use Rattle.cj_once.proofs.Facts.{Homes, Named, StoreFact, SeenFact, CheckedFact, MakeFact, StatusFact, PlanFact, SeatFact, Inv}
 use Rattle.cj_once.proofs.Grows.{Grows, plan_kept, last_of}
-use Rattle.cj_once.proofs.Writes.{mapped, IsSet, set_is, not_deleted, deleted_key, grows_same, grows_put, grows_cut_job}
+use Rattle.cj_once.proofs.Writes.{mapped, IsSet, set_is, not_deleted, deleted_key, grows_same, grows_put, grows_removal_job}
 use Rattle.cj_once.proofs.Frames.{Claims, seat, seat_changed, same_claims}
 use Rattle.cj_once.proofs.Calls.{Now, Plain, stays, by_seat_plain, fact_of}
 
@@ -129,14 +129,14 @@ module _ {s : State} {ms : List Claimed} {cl : Claims} {home : Homes} where
   drop_result f b w x at work r fact (Ok e) is =
       let a = mapped job_gone (job_deleted s.store r.key (Some r.uid)) e is in
       let g : Grows None home home s.store (after s.store (job_gone a.0)) =
-      grows_cut_job a.0 f.inv.store (omega arith) in
+      grows_removal_job a.0 f.inv.store (omega arith) in
       let key : a.0.key ≡ r.key = deleted_key f.inv.store r.key (Some r.uid) a.0 a.1 in
       subst (λ (c : Event). Plain s ms cl (drops_it s w (next_seat x.key work) r.key (Ok c))) a.2 (
         home,
         stepped f None (after s.store (job_gone a.0)) w x at work g (inl refl)
             (dropped_fact home (after s.store (job_gone a.0)) ms (cl w) x.key work.plan.cron work.version r
             (left work.plan.steps (work.place + 1))
-            (λ q j is k u. (cut_at s.store.jobs a.0.key q j is).0 (sym (key ∙ k)))
+            (λ q j is k u. (removal_at s.store.jobs a.0.key q j is).0 (sym (key ∙ k)))
             (plan_kept g ms (cl w) x.key (λ e. absurd (cc e)) work.plan.cron work.version
             (drops r ∷ left work.plan.steps (work.place + 1)) fact)),
         omega arith,

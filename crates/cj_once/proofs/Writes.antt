@@ -26,7 +26,7 @@ use Rattle.cj_store.specs.Crons.{new_cron, cron_created, updated_cron, cron_upda
 use Rattle.cj_store.specs.Jobs.{new_job, job_made, job_created, updated_job, job_updated_from, job_updated, is_asked, last_job, job_deleted_from, job_deleted, ended_job, job_ended_from, job_ended}
 use Rattle.cj_decide_laws.specs.Fits.{IsAt, upto}
 use Rattle.cj_once.specs.Once.{Claimed}
-use Rattle.cj_once.proofs.Maps.{put_at, cut_at}
+use Rattle.cj_once.proofs.Maps.{put_at, removal_at}
 use Rattle.cj_once.proofs.Lists.{Rest}
 use Rattle.cj_once.proofs.Facts.{Homes, Named, CronFact, StoreFact}
 use Rattle.cj_once.proofs.Grows.{last_of, IsOlder, IsFresh, WasJob, IsFree, Cronic, Jobbed, Grows}
@@ -283,13 +283,13 @@ module _ {home : Homes} {s : Content} {ms : List Claimed} where
       by i x (inr e) = cron_same own home (after s (cron_modified d)) f i x e.1
 
   -- The deletion of a CronJob counts as a growth of the store.
-  grows_cut : (d : CronJob) → StoreFact home s ms → s.uids ≤ last_uid → Grows None home home s (after s (cron_gone d))
-  grows_cut d f b = record {
+  grows_removal : (d : CronJob) → StoreFact home s ms → s.uids ≤ last_uid → Grows None home home s (after s (cron_gone d))
+  grows_removal d f b = record {
     uids = omega arith;
     bound = b;
     version = omega arith;
     homes = λ u h. refl;
-    crons = λ i x is. cron_same None home (after s (cron_gone d)) f i x (cut_at s.crons d.key i x is).1;
+    crons = λ i x is. cron_same None home (after s (cron_gone d)) f i x (removal_at s.crons d.key i x is).1;
     jobs = λ q j is. job_same f q j is;
   }
 
@@ -317,15 +317,15 @@ module _ {home : Homes} {s : Content} {ms : List Claimed} where
       by p x (inr e) = job_same f p x e.1
 
   -- The deletion of a Job counts as a growth of the store.
-  pub grows_cut_job : (j : Job) → StoreFact home s ms → s.uids ≤ last_uid
+  pub grows_removal_job : (j : Job) → StoreFact home s ms → s.uids ≤ last_uid
       → Grows None home home s (after s (job_gone j))
-  grows_cut_job j f b = record {
+  grows_removal_job j f b = record {
     uids = omega arith;
     bound = b;
     version = omega arith;
     homes = λ u h. refl;
     crons = λ k d is. cron_same None home (after s (job_gone j)) f k d is;
-    jobs = λ p x is. job_same f p x (cut_at s.jobs j.key p x is).1;
+    jobs = λ p x is. job_same f p x (removal_at s.jobs j.key p x is).1;
   }
 
   -- The creation of a Job without a controller is a growth of the store.
@@ -405,7 +405,7 @@ module _ {home : Homes} {s : Content} {ms : List Claimed} where
       → map_ok cron_gone (cron_deleted s k) ≡ Ok e → Grown home s e
   delete_grows f b k e h =
       let a = mapped cron_gone (cron_deleted s k) e h in
-      subst (Grown home s) a.2 (home, grows_cut a.0 f (omega arith), omega arith)
+      subst (Grown home s) a.2 (home, grows_removal a.0 f (omega arith), omega arith)
 
   -- A CreateJob that is accepted lets the store grow, by one uid at most.
   pub create_job_grows : StoreFact home s ms → s.uids + 1 ≤ last_uid → (draft : JobDraft) (now : ℕ) (e : Event)
@@ -434,7 +434,7 @@ module _ {home : Homes} {s : Content} {ms : List Claimed} where
       → map_ok job_gone (job_deleted s k u) ≡ Ok e → Grown home s e
   delete_job_grows f b k u e h =
       let a = mapped job_gone (job_deleted s k u) e h in
-      subst (Grown home s) a.2 (home, grows_cut_job a.0 f (omega arith), omega arith)
+      subst (Grown home s) a.2 (home, grows_removal_job a.0 f (omega arith), omega arith)
 
   -- An EndJob that is accepted lets the store grow, by one uid at most.
   pub end_job_grows : StoreFact home s ms → s.uids + 1 ≤ last_uid

@@ -31,13 +31,13 @@ pub fn write_whole<W: Write>(writer: &mut W, bytes: &[u8]) -> io::Result<()>
         bytes.now) }
     ensures begun { AppendsSome (W.contents writer.old) (W.contents writer.new) bytes.now }
 {
-    let mut at = 0;
+    let mut written = 0;
     for _ in 0..MOST_WRITES {
-        if at == bytes.len() {
+        if written == bytes.len() {
             return Ok(());
         }
-        let count = write_once(writer, &bytes[at..])?;
-        at += count;
+        let count = write_once(writer, &bytes[written..])?;
+        written += count;
     }
     Err(io::Error::from(ErrorKind::Interrupted))
 }

@@ -16,7 +16,7 @@ module _ (request : Request) (files : List ZoneFile) (input out out' err err' : 
   -- An answer for the request that was given is an outcome of it, with its status and its texts.
   pub served : (r : Result Answer Failure) (status : ℕ) → IfOk r (λ a. IsOutcome request files input (outcome_of a))
       → IsOkAnd r (λ a. IsGiven status (outcome_of a) out out' err err')
-      → (o : Outcome) × IsOutcome request files input o × (status ≡ status_of o.verdict) × Appends out out' o.printed
+      → (o : Outcome) × IsOutcome request files input o × (status ≡ status_of o.ending) × Appends out out' o.printed
       × Appends err err' o.said
   served (Ok a) status is g = (outcome_of a, is, g.status_is, g.printed, g.said)
   served (Err e) status is g = absurd g
@@ -34,16 +34,16 @@ module _ (request : Request) (files : List ZoneFile) (input out out' err err' : 
   pub served_at : (request' : Request) → request ≡ request' → (r : Result Answer Failure) (status : ℕ)
       → IfOk r (λ a. IsOutcome request' files input (outcome_of a))
       → IsOkAnd r (λ a. IsGiven status (outcome_of a) out out' err err')
-      → (o : Outcome) × IsOutcome request files input o × (status ≡ status_of o.verdict) × Appends out out' o.printed
+      → (o : Outcome) × IsOutcome request files input o × (status ≡ status_of o.ending) × Appends out out' o.printed
       × Appends err err' o.said
   served_at request' e r status is g = served r status
       (subst (λ (q : Request). IfOk r (λ a. IsOutcome q files input (outcome_of a))) (sym e) is) g
 
   -- a script that was run
   pub replayed_at : (request' : Request) → request ≡ request' → (status : ℕ)
-      → (o : Outcome) × IsOutcome request' files input o × (status ≡ status_of o.verdict) × Appends out out' o.printed
+      → (o : Outcome) × IsOutcome request' files input o × (status ≡ status_of o.ending) × Appends out out' o.printed
       × Appends err err' o.said
-      → (o : Outcome) × IsOutcome request files input o × (status ≡ status_of o.verdict) × Appends out out' o.printed
+      → (o : Outcome) × IsOutcome request files input o × (status ≡ status_of o.ending) × Appends out out' o.printed
       × Appends err err' o.said
   replayed_at request' e status x = (x.0, subst (λ (q : Request). IsOutcome q files input x.0) (sym e) x.1, x.2, x.3, x.4)
 

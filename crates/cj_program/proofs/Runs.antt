@@ -56,7 +56,7 @@ module _ (r : ReplayRequest) (files : List ZoneFile) (given : GivenZones) (zones
     (input : Option (List ℕ)) (read : IsRead input bytes) (out out' err err' : Option (List ℕ)) where
   -- For serve_bytes: the run of their script that ended well is an outcome of replay.
   pub run_served : (s : Script) → IsScript given bytes s → (status : ℕ) → (status ≡ 0) × EndsWell s out out' err err'
-      → (o : Outcome) × IsReplayOutcome r files input o × (status ≡ status_of o.verdict) × Appends out out' o.printed
+      → (o : Outcome) × IsReplayOutcome r files input o × (status ≡ status_of o.ending) × Appends out out' o.printed
       × Appends err err' o.said
   run_served s is status (e, w) = (
     done w.text,
@@ -103,7 +103,7 @@ module _ (r : ReplayRequest) (files : List ZoneFile) (given : GivenZones) (zones
     pub refusal_served : (status : ℕ) (made : Result Answer Failure) → IfOk made (λ _. fault ≢ Why.Memory)
         → IfOk made (λ a. IsSceneRefusal r.explain A.Script bytes fault (outcome_of a))
         → IsOkAnd made (λ a. IsGiven status (outcome_of a) out out' err err')
-        → (o : Outcome) × IsReplayOutcome r files input o × (status ≡ status_of o.verdict) × Appends out out' o.printed
+        → (o : Outcome) × IsReplayOutcome r files input o × (status ≡ status_of o.ending) × Appends out out' o.printed
         × Appends err err' o.said
     refusal_served status (Ok a) told is g = (
       outcome_of a,
@@ -138,7 +138,7 @@ module _ (r : ReplayRequest) (files : List ZoneFile) (input out out' err err' : 
   pub rule_served : (status : ℕ) (made : Result Answer Failure)
       → IfOk made (λ a. outcome_of a ≡ explained r.explain pair_words (refusal (codes "cronsim: zone\n")))
       → IsOkAnd made (λ a. IsGiven status (outcome_of a) out out' err err')
-      → (o : Outcome) × IsReplayOutcome r files input o × (status ≡ status_of o.verdict) × Appends out out' o.printed
+      → (o : Outcome) × IsReplayOutcome r files input o × (status ≡ status_of o.ending) × Appends out out' o.printed
       × Appends err err' o.said
   rule_served status (Ok a) is g = (outcome_of a, refused_rule (outcome_of a) is, g.status_is, g.printed, g.said)
   rule_served status (Err e) is g = absurd g

@@ -28,7 +28,7 @@ IsCut printed said out out' err err' = IsOutputCut printed out out' err err' ⊎
 
 -- an outcome was given, and its status is this one
 pub record IsGiven (status : ℕ) (o : Outcome) (out out' err err' : Option (List ℕ)) : Type 0 where
-  pub status_is : status ≡ status_of o.verdict
+  pub status_is : status ≡ status_of o.ending
   pub printed : Appends out out' o.printed
   pub said : Appends err err' o.said
 

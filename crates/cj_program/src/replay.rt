@@ -57,7 +57,7 @@ fn serve_bytes<W: Write, E: Write>(
 ) -> u8
     ensures served { result < 3 → (files : List ZoneFile) (input : Option (List ℕ)) →
         IsReadUnder replay.now.zones files given.entry → IsRead input bytes.now →
-        (o : Outcome) × IsReplayOutcome replay.now files input o × (result ≡ status_of o.verdict)
+        (o : Outcome) × IsReplayOutcome replay.now files input o × (result ≡ status_of o.ending)
         × Appends (W.contents out.old) (W.contents out.new) o.printed
         × Appends (E.contents err.old) (E.contents err.new) o.said }
     ensures failed { result ≡ 3 → (files : List ZoneFile) (input : Option (List ℕ)) →
@@ -88,7 +88,7 @@ fn serve_given<R: Read, W: Write, E: Write>(
     ensures served { result < 3 → (files : List ZoneFile) →
         IsReadUnder replay.now.zones files given.entry →
         (o : Outcome) × IsReplayOutcome replay.now files (R.remaining input.old) o
-        × (result ≡ status_of o.verdict)
+        × (result ≡ status_of o.ending)
         × Appends (W.contents out.old) (W.contents out.new) o.printed
         × Appends (E.contents err.old) (E.contents err.new) o.said }
     ensures failed { result ≡ 3 → (files : List ZoneFile) →
@@ -115,7 +115,7 @@ pub(crate) fn serve_replay<R: Read, W: Write, E: Write>(
 ) -> u8
     ensures served { result < 3 → (o : Outcome)
         × IsReplayOutcome replay.now files.now (R.remaining input.old) o
-        × (result ≡ status_of o.verdict)
+        × (result ≡ status_of o.ending)
         × Appends (W.contents out.old) (W.contents out.new) o.printed
         × Appends (E.contents err.old) (E.contents err.new) o.said }
     ensures failed { result ≡ 3 → FailsReplay replay.now files.now (R.remaining input.old)

@@ -5,7 +5,7 @@ ghost use Rattle.cj_zoneinfo.specs.declared.given.GivenZones.{GivenZones};
 ghost use Rattle.cj_answers.specs.Outcome.{done, explained, outcome_of};
 ghost use Rattle.cj_program.specs.Run.{IsRanOf, IsRunOutcome};
 
-use cj_answers::{Answer, Verdict, asked_glance, given_for, refused_pair, refused_scene};
+use cj_answers::{Answer, Ending, asked_glance, given_for, refused_pair, refused_scene};
 use cj_course::{Course, read_course};
 use cj_glance::Form;
 use cj_output::{Failure, MOST_BYTES, MOST_READS, read_input};
@@ -23,7 +23,7 @@ fn reported(alloc: Global, explain: bool, report: String, seen: &str) -> Result<
         (done (string_bytes report))) }
 {
     let answer = Answer {
-        verdict: Verdict::Done,
+        ending: Ending::Done,
         printed: report,
         said: String::new(alloc),
     };

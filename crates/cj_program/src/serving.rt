@@ -9,7 +9,7 @@ use crate::replay::serve_replay;
 use crate::run::run_answer;
 use crate::writing::give;
 use cj_answers::{
-    Answer, Verdict, audit_answer, check_answer, next_answer, plan_answer, why_answer,
+    Answer, Ending, audit_answer, check_answer, next_answer, plan_answer, why_answer,
 };
 use cj_output::{Failure, tell_failure};
 use cj_words::Request;
@@ -19,13 +19,13 @@ use std::io::{Read, Write};
 use std::sync::Wait;
 use std::thread::Threads;
 
-fn status_code(verdict: Verdict) -> u8
-    ensures code { result ≡ status_of verdict }
+fn status_code(ending: Ending) -> u8
+    ensures code { result ≡ status_of ending }
     ensures most { result < 3 }
 {
-    match verdict {
-        Verdict::Done => 0,
-        Verdict::Refused => 1,
+    match ending {
+        Ending::Done => 0,
+        Ending::Refused => 1,
     }
 }
 
@@ -46,7 +46,7 @@ pub(crate) fn give_answer<W: Write, E: Write>(
 {
     match answer {
         Ok(answer) => give(
-            status_code(answer.verdict),
+            status_code(answer.ending),
             answer.printed.as_str(),
             answer.said.as_str(),
             out,
@@ -70,7 +70,7 @@ pub fn serve<T: Threads + Wait + Sync, R: Read, W: Write, E: Write>(
 ) -> u8
     ensures served { result < 3 → (o : Outcome)
         × IsOutcome request.now files.now (R.remaining input.old) o
-        × (result ≡ status_of o.verdict)
+        × (result ≡ status_of o.ending)
         × Appends (W.contents out.old) (W.contents out.new) o.printed
         × Appends (E.contents err.old) (E.contents err.new) o.said }
     ensures failed { result ≡ 3 → IsFailed request.now files.now (R.remaining input.old)

@@ -28,8 +28,8 @@ module _ {X : Type 0} where
       (sym (get_counts es q)) ∙ sym (get_put (map.from_entries es) k v q))
 
   -- For Failures::remove: where a look-up finds nothing at k and else what it did, k is removed.
-  pub counts_cut : (es fs : List (Place × X)) (k : Place)
+  pub counts_removal : (es fs : List (Place × X)) (k : Place)
       → ((q : Place) → lookup (key_eq q) fs ≡ cond (key_eq k q) None (lookup (key_eq q) es))
       → map.from_entries {R = place_cmp} fs ≡ map.remove (map.from_entries es) k
-  counts_cut es fs k h = alike _ _ (λ q. get_counts fs q ∙ h q ∙ ap (cond (key_eq k q) None) (sym (get_counts es q))
+  counts_removal es fs k h = alike _ _ (λ q. get_counts fs q ∙ h q ∙ ap (cond (key_eq k q) None) (sym (get_counts es q))
       ∙ sym (get_off (map.from_entries es) k q))

@@ -39,7 +39,7 @@ one_more n [] b e = absurd (search arith)
 one_more zero (x ∷ f) b e = refl
 one_more (suc n) (x ∷ f) b e = one_more n f b (search arith)
 
--- For Line::advance: what one_more says, of the count as the code adds to it.
+-- For Line::drop_first: what one_more says, of the count as the code adds to it.
 pub rest_of_front : (n : ℕ) (f b : List Place) → n < length f → drop (n + 1) f ++ b ≡ drop 1 (drop n f ++ b)
 rest_of_front n f b e = let next : n + 1 ≡ suc n = omega arith in ap (λ m. drop m f ++ b) next ∙ one_more n f b e
 

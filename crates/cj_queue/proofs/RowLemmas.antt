@@ -6,7 +6,7 @@ use Rattle.std.proofs.lemmas.List.Folds.{list_any-append}
 use Rattle.cj_types.specs.Keys.{Place}
 use Rattle.cj_queue.specs.Queue.{Row, row_add, row_end, row_take, first, has}
 use Rattle.cj_queue.specs.Parts.{key_eq, keys_of, stands_in, IsLined}
-use Rattle.cj_queue.proofs.Sets.{has_keys, keys_put, keys_cut, same_keys, at_equal, eq_true, eq_self, eq_turned}
+use Rattle.cj_queue.proofs.Sets.{has_keys, keys_put, keys_removal, same_keys, at_equal, eq_true, eq_self, eq_turned}
 use Rattle.cj_queue.proofs.LineLemmas.{head_once, tail_once, push_once, behind, refuted, true_or_false}
 
 -- the row of a line, of the keys that were added again and of those that are being worked on
@@ -165,7 +165,7 @@ still_out : (t b : Bool) → b ≡ false → cond t false b ≡ false
 still_out true b e = refl
 still_out false b e = e
 
--- For lined_off: where a test implies another, it still does after the same cut of both.
+-- For lined_off: where a test implies another, it still does after the same removal from both.
 still_held : (t y z : Bool) → cond t false y ≡ true → (y ≡ true → z ≡ true) → cond t false z ≡ true
 still_held true y z e f = absurd (cc e)
 still_held false y z e f = f e
@@ -173,9 +173,9 @@ still_held false y z e f = f e
 -- IsLined stays when k leaves those that were added again and those that are being worked on.
 pub lined_off : (l a b p o : List Place) (k : Place) → IsLined l a p → Sets a b k false → Sets p o k false
     → IsLined l b o
-lined_off l a b p o k lined cut sets = record {
+lined_off l a b p o k lined removal sets = record {
   free = λ q t. sets q ∙ still_out (key_eq k q) (stands_in p q) (lined.free q t);
-  held = λ q t. sets q ∙ still_held (key_eq k q) (stands_in a q) (stands_in p q) (sym (cut q) ∙ t) (lined.held q);
+  held = λ q t. sets q ∙ still_held (key_eq k q) (stands_in a q) (stands_in p q) (sym (removal q) ∙ t) (lined.held q);
   once = lined.once;
 }
 
@@ -198,18 +198,18 @@ moved false false y f = refl
 -- the key was added again, and goes last
 pub end_again : (l m a b p o : List Place) (k : Place) → stands_in a k ≡ true → m ≡ l ++ k ∷ [] → Sets a b k false
     → Sets p o k false → row_end (row l a p) k ≡ row m b o
-end_again l m a b p o k added last cut sets =
+end_again l m a b p o k added last removal sets =
     (λ i. record {
       line = on (has (keys_of (l ++ a)) k) (l ++ k ∷ []) l (has_keys (l ++ a) k ∙ list_any-append (key_eq k) l a
           ∙ one_of (stands_in l k) (stands_in a k) added) i;
       dirty = sym (same_keys (l ++ a) ((l ++ k ∷ []) ++ b) same) i;
-      processing = sym (keys_cut p o k sets) i;
+      processing = sym (keys_removal p o k sets) i;
     })
     ∙ ap (λ n. row n b o) (sym last)
   where
     same : (q : Place) → stands_in ((l ++ k ∷ []) ++ b) q ≡ stands_in (l ++ a) q
     same q =
-        in_pushed l b k q ∙ ap (λ t. (stands_in l q || (key_eq k q || false)) || t) (cut q)
+        in_pushed l b k q ∙ ap (λ t. (stands_in l q || (key_eq k q || false)) || t) (removal q)
         ∙ moved (stands_in l q) (key_eq k q) (stands_in a q) (at_equal (stands_in a) k q true added)
         ∙ sym (list_any-append (key_eq q) l a)
 
@@ -220,27 +220,27 @@ end_clean l a p o k lined held clean sets = λ i. record {
   line = off (has (keys_of (l ++ a)) k) (l ++ k ∷ []) l (has_keys (l ++ a) k
       ∙ neither l a k (out_of_line l a p k lined held) clean) i;
   dirty = keys_of (l ++ a);
-  processing = sym (keys_cut p o k sets) i;
+  processing = sym (keys_removal p o k sets) i;
 }
 
 -- ---- a take
 
 -- For take_is: what stands behind the first key is what stood in the whole line, less that key.
-cut_first : (t z : Bool) → (t ≡ true → z ≡ false) → z ≡ cond t false (t || z)
-cut_first true z f = f refl
-cut_first false z f = refl
+removal_first : (t z : Bool) → (t ≡ true → z ≡ false) → z ≡ cond t false (t || z)
+removal_first true z f = f refl
+removal_first false z f = refl
 
 -- When the first key leaves the line to be worked on, the row is what row_take says.
 pub take_is : (l m a p o : List Place) (k : Place) → IsLined l a p → first l ≡ Some k → m ≡ drop 1 l → Sets p o k true
     → row_take (row l a p) ≡ row m a o
-take_is [] m a p o k lined h cut sets = absurd (cc h)
-take_is (x ∷ l) m a p o k lined h cut sets =
+take_is [] m a p o k lined h removal sets = absurd (cc h)
+take_is (x ∷ l) m a p o k lined h removal sets =
     (λ i. record {
       line = l;
-      dirty = sym (keys_cut (x ∷ l ++ a) (l ++ a) x out) i;
+      dirty = sym (keys_removal (x ∷ l ++ a) (l ++ a) x out) i;
       processing = (ap (λ j. map.insert (keys_of p) j tt) same ∙ sym (keys_put p o k sets)) i;
     })
-    ∙ ap (λ n. row n a o) (sym cut)
+    ∙ ap (λ n. row n a o) (sym removal)
   where
     same : x ≡ k
     same = cc h
@@ -251,7 +251,7 @@ take_is (x ∷ l) m a p o k lined h cut sets =
 
     out : Sets (x ∷ l ++ a) (l ++ a) x false
     out q =
-        cut_first (key_eq x q) (stands_in (l ++ a) q) (at_equal (stands_in (l ++ a)) x q false absent)
+        removal_first (key_eq x q) (stands_in (l ++ a) q) (at_equal (stands_in (l ++ a)) x q false absent)
         ∙ ap (λ t. cond (key_eq x q) false (t || stands_in (l ++ a) q)) (eq_turned x q)
 
 -- A test that holds still holds where another may set it to true.
@@ -262,8 +262,8 @@ put_still false b e = e
 -- IsLined stays when the first key leaves the line to be worked on.
 pub lined_take : (l m a p o : List Place) (k : Place) → IsLined l a p → first l ≡ Some k → m ≡ drop 1 l
     → Sets p o k true → IsLined m a o
-lined_take [] m a p o k lined h cut sets = absurd (cc h)
-lined_take (x ∷ l) m a p o k lined h cut sets = subst (λ y. IsLined y a o) (sym cut) (record {
+lined_take [] m a p o k lined h removal sets = absurd (cc h)
+lined_take (x ∷ l) m a p o k lined h removal sets = subst (λ y. IsLined y a o) (sym removal) (record {
   free = λ q t. sets q ∙ off (key_eq k q) true (stands_in p q) (other q t)
       ∙ lined.free q (one_of (key_eq q x) (stands_in l q) t);
   held = λ q t. sets q ∙ put_still (key_eq k q) (stands_in p q) (lined.held q t);

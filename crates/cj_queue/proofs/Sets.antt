@@ -117,9 +117,9 @@ keys_put old new k h = alike _ _ (λ q.
     ∙ ap (cond (key_eq k q) (Some tt)) (sym (get_keys old q)) ∙ sym (get_put (keys_of old) k tt q))
 
 -- Where a list lacks k and has else what another has, its set is the other's with k removed.
-pub keys_cut : (old new : List Place) (k : Place)
+pub keys_removal : (old new : List Place) (k : Place)
     → ((q : Place) → stands_in new q ≡ cond (key_eq k q) false (stands_in old q))
     → keys_of new ≡ map.remove (keys_of old) k
-keys_cut old new k h = alike _ _ (λ q.
+keys_removal old new k h = alike _ _ (λ q.
     get_keys new q ∙ ap flag (h q) ∙ flag_cond (key_eq k q) false (stands_in old q)
     ∙ ap (cond (key_eq k q) None) (sym (get_keys old q)) ∙ sym (get_off (keys_of old) k q))

@@ -158,16 +158,16 @@ pub ok_since : {A E : Type 0} (r : Result A E) (o : Option ℕ) (b : ℕ) → On
 ok_since (Ok x) o b h w = refl
 ok_since (Err x) o b h w = cc
 
--- For cut_both: the two maps agree after a key that waits is taken out of both.
-pub agrees_cut : (times new : BTreeMap Place ℕ) (order last : BTreeMap (ℕ × Place) (Unit {0})) (k : Place) (b : ℕ)
+-- For remove_both: the two maps agree after a key that waits is taken out of both.
+pub agrees_removal : (times new : BTreeMap Place ℕ) (order last : BTreeMap (ℕ × Place) (Unit {0})) (k : Place) (b : ℕ)
     → Agrees times order → time_of times k ≡ Some b → Leaves times new k → SetsOrder order last b k None
     → Agrees new last
-agrees_cut times new order last k b agree waits leaves drops = record {
+agrees_removal times new order last k b agree waits leaves drops = record {
   same = λ q t.
       drops (t, q)
       ∙ ap (λ c. cond c None (waits_at order t q)) (timed_is b t k q)
       ∙ ap (λ w. cond (cond (eqb b t) (is_at (place_cmp k) q) false) None w) (agree.same q t)
-      ∙ cut_step (is_at (place_cmp k) q) b t (time_of times q) (tied times k q (Some b) waits)
+      ∙ removal_step (is_at (place_cmp k) q) b t (time_of times q) (tied times k q (Some b) waits)
       ∙ ap (λ o. at_time o t) (sym (leaves q));
 }
   where
@@ -175,7 +175,7 @@ agrees_cut times new order last k b agree waits leaves drops = record {
     gone true = refl
     gone false = refl
 
-    cut_step : (e : Bool) (b t : ℕ) (old : Option ℕ) → (T e → old ≡ Some b)
+    removal_step : (e : Bool) (b t : ℕ) (old : Option ℕ) → (T e → old ≡ Some b)
         → cond (cond (eqb b t) e false) None (at_time old t) ≡ at_time (cond e None old) t
-    cut_step true b t old f = ap (λ o. cond (cond (eqb b t) true false) None (at_time o t)) (f tt) ∙ gone (eqb b t)
-    cut_step false b t old f = drop_false (eqb b t) None (at_time old t)
+    removal_step true b t old f = ap (λ o. cond (cond (eqb b t) true false) None (at_time o t)) (f tt) ∙ gone (eqb b t)
+    removal_step false b t old f = drop_false (eqb b t) None (at_time old t)

@@ -32,13 +32,13 @@ pub record Line : Type 0 where
 abbrev pub line_code : Coded Line
 line_code = code_by (List Place × ℕ) (coded× (coded_list coded_place) coded_ℕ) (λ l. (l.keys, l.room)) (λ p. record { keys = p.0; room = p.1 }) (λ _. refl)
 
--- of `Rows`: the row, and for how many adds there is room
-pub record Rows : Type 0 where
+-- of `Work`: the row, and for how many adds there is room
+pub record Work : Type 0 where
   pub row : Row
   pub room : ℕ
 
-abbrev pub rows_code : Coded Rows
-rows_code = code_by (Row × ℕ) (coded× row_code coded_ℕ) (λ r. (r.row, r.room)) (λ p. record { row = p.0; room = p.1 }) (λ _. refl)
+abbrev pub work_code : Coded Work
+work_code = code_by (Row × ℕ) (coded× row_code coded_ℕ) (λ r. (r.row, r.room)) (λ p. record { row = p.0; room = p.1 }) (λ _. refl)
 
 -- no key of the line is being worked on, each of those that were added again is, and no key stands twice in the line
 -- rule: queue-line

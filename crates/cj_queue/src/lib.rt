@@ -10,7 +10,7 @@ mod backoff;
 mod failures;
 mod line;
 mod queue;
-mod rows;
 mod waits;
+mod work;
 
 pub use queue::Queue;

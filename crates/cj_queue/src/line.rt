@@ -93,7 +93,7 @@ impl Line {
 
     /// Lets the first key go, if there is one.
     #[tactic(auto, using(crate::proofs::LineLemmas::rest_of_front, crate::proofs::LineLemmas::none_left))]
-    pub fn advance(&mut self)
+    pub fn drop_first(&mut self)
         ensures { self.new.keys ≡ drop 1 self.old.keys }
     {
         turn(&mut self.front, &mut self.gone, &mut self.back);

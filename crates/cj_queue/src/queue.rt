@@ -6,8 +6,8 @@ ghost use Rattle.cj_queue.specs.Times.{without};
 
 use crate::backoff::{delay_after, one_more};
 use crate::failures::Failures;
-use crate::rows::Rows;
 use crate::waits::Waits;
+use crate::work::Work;
 use cj_types::{Key, Millis, Refusal, TryCopy};
 use std::alloc::Global;
 use std::marker::Model;
@@ -21,7 +21,7 @@ use std::marker::Model;
 #[derive(Drop)]
 pub struct Queue {
     alloc: Global,
-    rows: Rows,
+    work: Work,
     waits: Waits,
     failures: Failures,
     tick: u64,
@@ -36,7 +36,7 @@ impl Model for Queue {
     ghost coded = { queue_code };
 
     ghost view = { λ q. record {
-      row = q.rows.row;
+      row = q.work.row;
       waiting = q.waits;
       failures = q.failures.counts;
       tick = q.tick;
@@ -51,7 +51,7 @@ impl Queue {
     {
         Queue {
             alloc,
-            rows: Rows::new(alloc),
+            work: Work::new(alloc),
             waits: Waits::new(alloc),
             failures: Failures::new(alloc),
             tick: 0,
@@ -69,14 +69,14 @@ impl Queue {
         if self.shut {
             return Ok(());
         }
-        self.rows.add_key(self.alloc, key)
+        self.work.add_key(self.alloc, key)
     }
 
     /// The first of the line, which the next `take` gives.
     pub fn front(&self) -> Option<&Key>
         ensures { option_copied result ≡ first self.now.row.line }
     {
-        self.rows.front()
+        self.work.front()
     }
 
     /// Takes the first of the line to work on it: it isn't dirty any more. None where the line is empty.
@@ -86,14 +86,14 @@ impl Queue {
         ensures err { OnErr result (self.new ≡ self.old) }
         ensures memory { IfErr result (λ e. e ≡ OutOfMemory) }
     {
-        self.rows.take(self.alloc)
+        self.work.take(self.alloc)
     }
 
     /// Whether the key was taken, and the work on it isn't done.
     pub fn is_processing(&self, key: &Key) -> bool
         ensures { result ≡ has self.now.row.processing key.now }
     {
-        self.rows.is_processing(key)
+        self.work.is_processing(key)
     }
 
     /// Ends the work on the key, which goes last in the line where it was added meanwhile.
@@ -103,8 +103,8 @@ impl Queue {
         ensures err { OnErr result (self.new ≡ self.old) }
         ensures memory { IfErr result (λ e. e ≡ OutOfMemory) }
     {
-        self.rows.reserve(1)?;
-        self.rows.end(key);
+        self.work.reserve(1)?;
+        self.work.end(key);
         Ok(())
     }
 
@@ -121,7 +121,7 @@ impl Queue {
         if at_ms > self.tick {
             return self.waits.keep(self.alloc, key, at_ms);
         }
-        self.rows.add_key(self.alloc, key)
+        self.work.add_key(self.alloc, key)
     }
 
     /// The moment is `now_ms`: adds each key that waits for a time not above it, by time, then key.
@@ -136,8 +136,8 @@ impl Queue {
             return Ok(());
         }
         let ready = self.waits.ready(self.alloc, moment)?;
-        self.rows.reserve(ready.len())?;
-        add_all(&mut self.waits, &mut self.rows, ready);
+        self.work.reserve(ready.len())?;
+        add_all(&mut self.waits, &mut self.work, ready);
         self.tick = self.tick.max(moment);
         Ok(())
     }
@@ -192,23 +192,23 @@ impl Queue {
         ensures err { OnErr result (self.new ≡ self.old) }
         ensures memory { IfErr result (λ e. e ≡ OutOfMemory) }
     {
-        self.rows.reserve(2)?;
+        self.work.reserve(2)?;
         let Some(next) = at_ms else {
-            end_well(&mut self.rows, &mut self.failures, key);
+            end_well(&mut self.work, &mut self.failures, key);
             return Ok(());
         };
         if self.shut {
-            end_well(&mut self.rows, &mut self.failures, key);
+            end_well(&mut self.work, &mut self.failures, key);
             return Ok(());
         }
         if next > self.tick {
             self.waits.keep(self.alloc, key, next)?;
-            end_well(&mut self.rows, &mut self.failures, key);
+            end_well(&mut self.work, &mut self.failures, key);
             return Ok(());
         }
         let again = key.try_copy(self.alloc)?;
-        end_well(&mut self.rows, &mut self.failures, key);
-        self.rows.add(again);
+        end_well(&mut self.work, &mut self.failures, key);
+        self.work.add(again);
         Ok(())
     }
 
@@ -222,57 +222,57 @@ impl Queue {
         let copy = key.try_copy(self.alloc)?;
         let count = self.failures.get(key);
         let at = now_ms.get() + delay_after(count);
-        self.rows.reserve(2)?;
+        self.work.reserve(2)?;
         self.failures.reserve(1)?;
         if self.shut {
-            end_badly(&mut self.rows, &mut self.failures, copy, count);
+            end_badly(&mut self.work, &mut self.failures, copy, count);
             return Ok(());
         }
         if at > self.tick {
             self.waits.keep(self.alloc, key, at)?;
-            end_badly(&mut self.rows, &mut self.failures, copy, count);
+            end_badly(&mut self.work, &mut self.failures, copy, count);
             return Ok(());
         }
         let again = key.try_copy(self.alloc)?;
-        end_badly(&mut self.rows, &mut self.failures, copy, count);
-        self.rows.add(again);
+        end_badly(&mut self.work, &mut self.failures, copy, count);
+        self.work.add(again);
         Ok(())
     }
 }
 
 // Adds the keys, one after the other, and lets them wait no more.
-fn add_all(waits: &mut Waits, rows: &mut Rows, keys: Vec<Key>)
-    requires room { length keys.items ≤ rows.old.room }
+fn add_all(waits: &mut Waits, work: &mut Work, keys: Vec<Key>)
+    requires room { length keys.items ≤ work.old.room }
     ensures waits { waits.new ≡ without waits.old keys.items }
-    ensures rows { rows.new.row ≡ row_adds rows.old.row keys.items }
+    ensures rows { work.new.row ≡ row_adds work.old.row keys.items }
 {
     for key in keys {
-        waits.cut(&key);
-        rows.add(key);
+        waits.remove(&key);
+        work.add(key);
     }
 }
 
 // Ends the work on the key, whose failures are forgotten.
-fn end_well(rows: &mut Rows, failures: &mut Failures, key: &Key)
-    requires room { 0 < rows.old.room }
-    requires held { IsTrue (has rows.old.row.processing key.now) }
-    ensures row { rows.new.row ≡ row_end rows.old.row key.now }
-    ensures room { rows.old.room ≤ rows.new.room + 1 }
+fn end_well(work: &mut Work, failures: &mut Failures, key: &Key)
+    requires room { 0 < work.old.room }
+    requires held { IsTrue (has work.old.row.processing key.now) }
+    ensures row { work.new.row ≡ row_end work.old.row key.now }
+    ensures room { work.old.room ≤ work.new.room + 1 }
     ensures counts { failures.new.counts ≡ map.remove failures.old.counts key.now }
 {
     failures.remove(key);
-    rows.end(key);
+    work.end(key);
 }
 
 // Ends the work on the key, which failed once more than `count` times.
-fn end_badly(rows: &mut Rows, failures: &mut Failures, key: Key, count: u64)
-    requires room { 0 < rows.old.room }
-    requires held { IsTrue (has rows.old.row.processing key) }
+fn end_badly(work: &mut Work, failures: &mut Failures, key: Key, count: u64)
+    requires room { 0 < work.old.room }
+    requires held { IsTrue (has work.old.row.processing key) }
     requires place { 0 < failures.old.room }
-    ensures row { rows.new.row ≡ row_end rows.old.row key }
-    ensures room { rows.old.room ≤ rows.new.room + 1 }
+    ensures row { work.new.row ≡ row_end work.old.row key }
+    ensures room { work.old.room ≤ work.new.room + 1 }
     ensures counts { failures.new.counts ≡ map.insert failures.old.counts key (min (count + 1) 18) }
 {
-    rows.end(&key);
+    work.end(&key);
     failures.put(key, one_more(count));
 }

@@ -63,10 +63,10 @@ impl Waits {
     }
 
     /// The key waits no more.
-    pub fn cut(&mut self, key: &Key)
+    pub fn remove(&mut self, key: &Key)
         ensures { self.new ≡ map.remove self.old key.now }
     {
-        cut_both(&mut self.times, &mut self.order, key);
+        remove_both(&mut self.times, &mut self.order, key);
     }
 
     /// Nothing waits any more.
@@ -182,7 +182,7 @@ fn put_earlier(
 }
 
 // Takes the key out of both maps.
-fn cut_both(times: &mut BTreeMap<Key, u64>, order: &mut BTreeMap<(u64, Key), ()>, key: &Key)
+fn remove_both(times: &mut BTreeMap<Key, u64>, order: &mut BTreeMap<(u64, Key), ()>, key: &Key)
     requires agree { Agrees times.old order.old }
     ensures agree { Agrees times.new order.new }
     ensures leaves { Leaves times.old times.new key.now }

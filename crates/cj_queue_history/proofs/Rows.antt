@@ -384,18 +384,18 @@ pub row_end_is : (D H G : Place → Bool) (R S N : Place → ℕ × ℕ) (r : Ro
     → RowIs D H R r → RowIs D G S (row_end r u)
 row_end_is D H G R S N r u held less ranks fresh is = by (has r.dirty u) refl
   where
-    cut : (k : Place) → has (remove r.processing u) k ≡ G k
-    cut k = has_off r.processing u k ∙ ap (λ b. not (key_eq k u) && b) (is.held k) ∙ sym (less k)
+    removal : (k : Place) → has (remove r.processing u) k ≡ G k
+    removal k = has_off r.processing u k ∙ ap (λ b. not (key_eq k u) && b) (is.held k) ∙ sym (less k)
 
     by : (a : Bool) → has r.dirty u ≡ a → RowIs D G S (row_end r u)
     by true e =
-        row_push D H D G R S N ranks r (row_end r u) u is (on (has r.dirty u) _ _ e) is.dirty cut
+        row_push D H D G R S N ranks r (row_end r u) u is (on (has r.dirty u) _ _ e) is.dirty removal
         (held_out (D u) (H u) held)
         (λ k. ap (λ b. D k && not b) (less k) ∙ done_dirty (key_eq k u) (D k) (H k)
         (λ t. ap D (eq_true k u t) ∙ sym (is.dirty u) ∙ e) (λ t. ap H (eq_true k u t) ∙ held))
         fresh
     by false e =
-        row_same D H D G R S N ranks r (row_end r u) is (off (has r.dirty u) _ _ e) is.dirty cut
+        row_same D H D G R S N ranks r (row_end r u) is (off (has r.dirty u) _ _ e) is.dirty removal
         (λ k. ap (λ b. D k && not b) (less k) ∙ done_clean (key_eq k u) (D k) (H k)
         (λ t. ap D (eq_true k u t) ∙ sym (is.dirty u) ∙ e))
 

@@ -66,11 +66,11 @@ has_apart m k q n = ap is_some ((places_apart (Unit {0})).put_other m k q tt n)
 
 -- A key that is removed from a set isn't in it.
 pub has_gone : (m : Keys) (k : Place) → has (map.remove m k) k ≡ false
-has_gone m k = ap is_some ((places_apart (Unit {0})).cut_here m k)
+has_gone m k = ap is_some ((places_apart (Unit {0})).removal_here m k)
 
 -- A removal of k from a set changes nothing at any other key.
 pub has_other : (m : Keys) (k q : Place) → q ≢ k → has (map.remove m k) q ≡ has m q
-has_other m k q n = ap is_some ((places_apart (Unit {0})).cut_other m k q n)
+has_other m k q n = ap is_some ((places_apart (Unit {0})).removal_other m k q n)
 
 -- A key that is in a set still is after an insert.
 pub has_still : (m : Keys) (k q : Place) → has m q ≡ true → has (map.insert m k tt) q ≡ true

@@ -22,15 +22,15 @@ use Rattle.cj_runner.specs.declared.threads.ShareEnd.{ShareEnd}
 use Rattle.cj_runner.proofs.Calls.{due-append}
 use Rattle.cj_runner.proofs.Parts.{part_skip, part_after, part_before, part_both}
 
--- ---- the list, cut
+-- ---- the list, split
 
--- For cut: with a share more, the passes of the shares are those so far and its own.
+-- For share_out: with a share more, the passes of the shares are those so far and its own.
 pub owners_more : (shares shares' : List Share) (s : Share) (ps : List PassView) → shares' ≡ shares ++ s ∷ []
     → map (λ x. x.pass) shares ≡ ps → map (λ x. x.pass) shares' ≡ ps ++ s.pass ∷ []
 owners_more shares shares' s ps more is = ap (λ (xs : List Share). map (λ x. x.pass) xs) more
     ∙ map_push (λ (x : Share). x.pass) shares s ∙ ap (λ (qs : List PassView). qs ++ s.pass ∷ []) is
 
--- For cut: with a share more of the first n that were left, the shares and the rest are still the
+-- For share_out: with a share more of the first n that were left, the shares and the rest are still the
 -- list.
 pub parts_more : (shares shares' : List Share) (s : Share) (n : ℕ) (left rest all : List Running)
     → shares' ≡ shares ++ s ∷ [] → s.running.items ≡ take n left → rest ≡ drop n left
@@ -189,16 +189,16 @@ pub came_back : (now : ℕ) (passes : List PassView)
     (running left : List Running) (shares : List Share) (ends : List (Option ShareEnd)) (g : Gathered)
     → AreShares passes running shares left
     → AllZip (HasCome now) shares ends → IsGathered ends g → CameBack now running passes g.passes.items
-came_back now passes running left shares ends g cut come h =
+came_back now passes running left shares ends g split come h =
     let b = come_back now shares ends h.kept come h.part in record {
       kept = b.kept;
-      part = subst (λ (ps : List PassView). IsPart b.kept ps) cut.owners b.part;
+      part = subst (λ (ps : List PassView). IsPart b.kept ps) split.owners b.part;
       news = b.news;
       handed = subst (λ (ps : List PassView). HandedBack b.kept ps b.news) (sym h.passes) b.handed;
       due =
           subst (λ (cs : List Call). IsPart (calls_of b.news) cs)
           (sym (due-append now (flat_map (λ s. s.running.items) shares) left)
-          ∙ ap (λ (rs : List Running). due_ends now rs) cut.parts)
+          ∙ ap (λ (rs : List Running). due_ends now rs) split.parts)
           (part_before (calls_of b.news) (due_ends now (flat_map (λ s. s.running.items) shares))
           (due_ends now left) b.due);
     }
@@ -239,7 +239,7 @@ pub are_ended : (now : ℕ) (passes : List PassView)
     → AreShares passes running shares left
     → AllZip (HasCome now) shares ends → IsGathered ends g → g.stop ≡ None → due_ends now left ≡ []
     → AreEnded now running passes g.passes.items g.receipts.items
-are_ended now passes running left shares ends g cut come h none no_more =
+are_ended now passes running left shares ends g split come h none no_more =
     let w = h.whole none in
     let a = ended_all now shares h.kept (subst (λ (es : List (Option ShareEnd)). AllZip (HasCome now) shares es) w.all
     come) w.quiet in
@@ -247,9 +247,9 @@ are_ended now passes running left shares ends g cut come h none no_more =
     sym (append-nil (due_ends now (flat_map (λ s. s.running.items) shares)))
     ∙ ap (λ (cs : List Call). due_ends now (flat_map (λ s. s.running.items) shares) ++ cs) (sym no_more)
     ∙ sym (due-append now (flat_map (λ s. s.running.items) shares) left)
-    ∙ ap (λ (rs : List Running). due_ends now rs) cut.parts in record {
+    ∙ ap (λ (rs : List Running). due_ends now rs) split.parts in record {
       ends = ap calls_of w.joined ∙ a.ends ∙ whole;
-      handed = rw (h.passes, w.joined, ← cut.owners) a.handed;
+      handed = rw (h.passes, w.joined, ← split.owners) a.handed;
     }
 
 -- ---- nothing is due

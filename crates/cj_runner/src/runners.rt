@@ -67,7 +67,7 @@ fn run<R: Threads + Wait + Sync>(
 /// Ends the Jobs of the list that are due: those that were made before the moment and have run for their
 /// seconds. Each is ended by one EndJob of its key and uid at the moment.
 ///
-/// The list is cut into as many shares as there are passes. Each pass ends what is due in its share, in
+/// The list is split into as many shares as there are passes. Each pass ends what is due in its share, in
 /// order, in a thread of its own, up to the first call that the hub doesn't enter. An end that was entered
 /// with a refusal has a receipt like the others. The receipts stand in the list's order, and the passes come
 /// back in theirs, each with its own.

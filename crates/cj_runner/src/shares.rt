@@ -1,4 +1,4 @@
-//! The list, cut into a share for each pass.
+//! The list, split into a share for each pass.
 ghost use Rattle.std.specs.Prelude.{IfOk};
 ghost use Rattle.cj_runner.specs.Shares.{AreShares};
 
@@ -14,7 +14,7 @@ pub(crate) struct Share {
 }
 
 // One share for each pass, in the list's order, each of at most so many. What is left of the list comes beside them.
-fn cut(
+fn share_out(
     alloc: Global,
     passes: Vec<Pass>,
     running: Vec<Running>,
@@ -25,8 +25,8 @@ fn cut(
     let mut shares = Vec::with_capacity(alloc, passes.len())?;
     let mut left = running;
     for pass in passes {
-        let at = most.min(left.len());
-        let rest = left.split_off(at)?;
+        let count = most.min(left.len());
+        let rest = left.split_off(count)?;
         let running = left;
         shares.push(Share { pass, running })?;
         left = rest;
@@ -43,5 +43,5 @@ pub(crate) fn shares_of(
     ensures { IfOk result (λ r. AreShares passes.items running.items r.0.items r.1.items) }
 {
     let most = running.len().div_ceil(passes.len().max(1));
-    cut(alloc, passes, running, most)
+    share_out(alloc, passes, running, most)
 }

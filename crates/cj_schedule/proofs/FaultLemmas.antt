@@ -14,15 +14,15 @@ use Rattle.cj_schedule.specs.Grammar.{value, AreWords, meaning_of}
 use Rattle.cj_schedule.specs.Kinds.{field_number}
 use Rattle.cj_schedule.specs.Matches.{Sets}
 use Rattle.cj_schedule.specs.Numbers.{Lists}
-use Rattle.cj_schedule.specs.Pieces.{Piece, is_mark, cut, pieces_at, placed}
+use Rattle.cj_schedule.specs.Pieces.{Piece, is_mark, split, pieces_at, placed}
 use Rattle.cj_schedule.specs.Reading.{fault_at, is_digits, number_of, name_of, value_of, base_of, step_of, element_of, then_element, elements_of, list_of, then_list, Five, five, lists_of, fault, by_five, fields_of, begins, has_zone, by_meaning, macro_of, words_lists, lists_or_fault}
 use Rattle.cj_schedule.specs.Readers.{IsParsed}
 use Rattle.cj_schedule.proofs.Causes.{cause_sound}
-use Rattle.cj_schedule.proofs.Cuts.{IsCut, is_cut}
+use Rattle.cj_schedule.proofs.FirstSplits.{IsSplit, is_split}
 use Rattle.cj_schedule.proofs.Elements.{element_sound}
 use Rattle.cj_schedule.proofs.Laws.{five_is}
 use Rattle.cj_schedule.proofs.Lists.{elements_step, elements_none, comma_here, list_sound}
-use Rattle.cj_schedule.proofs.Pieces.{rejoin, pieces_cut}
+use Rattle.cj_schedule.proofs.Pieces.{rejoin, pieces_split}
 use Rattle.cj_schedule.proofs.Words.{texts, words_at, words_sound, words_placed}
 
 abbrev bad : ScheduleFault → Result (List Element) ScheduleFault
@@ -68,13 +68,13 @@ first_step : (kind : FieldKind) (place : ℕ) (text : List ℕ) (ps : List Piece
 first_step kind place text ps f h = piece_fault kind place text _ (elements_of kind ps) f refl
     (sym (elements_step kind (record { place = place; text = text }) ps) ∙ h)
 
--- A byte at which a list is cut is a comma.
+-- A byte at which a list is split is a comma.
 is_comma : (c : ℕ) → is_mark Comma c ≡ true → c ≡ 44
 is_comma c h = grind (arith, nat_tests)
 
--- For list_fault_at: the same, by the cut at the first comma, if it holds of each shorter text.
+-- For list_fault_at: the same, by the split at the first comma, if it holds of each shorter text.
 list_fault_by : (kind : FieldKind) (place : ℕ) (text : List ℕ) (parts : List ℕ × Option (List ℕ)) (f : ScheduleFault)
-    → IsCut (is_mark Comma) text parts → elements_of kind (rejoin (is_mark Comma) (placed place parts)) ≡ bad f
+    → IsSplit (is_mark Comma) text parts → elements_of kind (rejoin (is_mark Comma) (placed place parts)) ≡ bad f
     → ((n : ℕ) (xs : List ℕ) → length xs < length text → elements_of kind (pieces_at (is_mark Comma) n xs) ≡ bad f
     → HasListFault kind n xs f)
     → HasListFault kind place text f
@@ -103,12 +103,12 @@ list_fault_by kind place text (front, Some back) f (plain, (c, here, is)) h next
 list_fault_at : (kind : FieldKind) (bound place : ℕ) (text : List ℕ) (f : ScheduleFault) → length text ≤ bound
     → elements_of kind (pieces_at (is_mark Comma) place text) ≡ bad f → HasListFault kind place text f
 list_fault_at kind zero place text f le h =
-    list_fault_by kind place text (cut (is_mark Comma) text) f (is_cut (is_mark Comma) text)
-    (sym (ap (elements_of kind) (pieces_cut (is_mark Comma) place text)) ∙ h)
+    list_fault_by kind place text (split (is_mark Comma) text) f (is_split (is_mark Comma) text)
+    (sym (ap (elements_of kind) (pieces_split (is_mark Comma) place text)) ∙ h)
     (λ n xs less more. absurd (omega (arith, less, le)))
 list_fault_at kind (suc bound) place text f le h =
-    list_fault_by kind place text (cut (is_mark Comma) text) f (is_cut (is_mark Comma) text)
-    (sym (ap (elements_of kind) (pieces_cut (is_mark Comma) place text)) ∙ h)
+    list_fault_by kind place text (split (is_mark Comma) text) f (is_split (is_mark Comma) text)
+    (sym (ap (elements_of kind) (pieces_split (is_mark Comma) place text)) ∙ h)
     (λ n xs less more. list_fault_at kind bound n xs f (omega (arith, less, le)) more)
 
 -- The fault for which a field's word is refused is a fault of that field.
@@ -228,31 +228,31 @@ good meaning lists e = λ f h. absurd (cc (e, h))
 -- What @yearly and @annually stand for has no fault.
 yearly : IsFaultless (codes "0 0 1 1 *")
 unfolding fields_of lists_of list_of elements_of element_of base_of step_of value_of number_of name_of is_digits value
-    cut pieces_at
+    split pieces_at
 yearly = good (codes "0 0 1 1 *") _ refl
 
 -- What @monthly stands for has no fault.
 monthly : IsFaultless (codes "0 0 1 * *")
 unfolding fields_of lists_of list_of elements_of element_of base_of step_of value_of number_of name_of is_digits value
-    cut pieces_at
+    split pieces_at
 monthly = good (codes "0 0 1 * *") _ refl
 
 -- What @weekly stands for has no fault.
 weekly : IsFaultless (codes "0 0 * * 0")
 unfolding fields_of lists_of list_of elements_of element_of base_of step_of value_of number_of name_of is_digits value
-    cut pieces_at
+    split pieces_at
 weekly = good (codes "0 0 * * 0") _ refl
 
 -- What @daily and @midnight stand for has no fault.
 daily : IsFaultless (codes "0 0 * * *")
 unfolding fields_of lists_of list_of elements_of element_of base_of step_of value_of number_of name_of is_digits value
-    cut pieces_at
+    split pieces_at
 daily = good (codes "0 0 * * *") _ refl
 
 -- What @hourly stands for has no fault.
 hourly : IsFaultless (codes "0 * * * *")
 unfolding fields_of lists_of list_of elements_of element_of base_of step_of value_of number_of name_of is_digits value
-    cut pieces_at
+    split pieces_at
 hourly = good (codes "0 * * * *") _ refl
 
 -- For meaning_good: after the last row of the table nothing is found.

@@ -8,13 +8,13 @@ use Rattle.cj_schedule.specs.Faults.{EndsElement, IsListFault, IsFieldFault, IsF
 use Rattle.cj_schedule.specs.Grammar.{IsElement}
 use Rattle.cj_schedule.specs.Kinds.{field_number}
 use Rattle.cj_schedule.specs.Numbers.{Lists}
-use Rattle.cj_schedule.specs.Pieces.{Piece, comma, cut, pieces_at}
+use Rattle.cj_schedule.specs.Pieces.{Piece, comma, split, pieces_at}
 use Rattle.cj_schedule.specs.Reading.{fault_at, elements_of, list_of, Five, lists_of}
-use Rattle.cj_schedule.proofs.Cuts.{lacks, cut_none, cut_some}
+use Rattle.cj_schedule.proofs.FirstSplits.{lacks, split_none, split_some}
 use Rattle.cj_schedule.proofs.Elements.{is_inner, element_inner, element_complete}
 use Rattle.cj_schedule.proofs.Lists.{elements_step, list_complete}
 use Rattle.cj_schedule.proofs.Names.{list_all-weaker}
-use Rattle.cj_schedule.proofs.Pieces.{pieces_cut}
+use Rattle.cj_schedule.proofs.Pieces.{pieces_split}
 use Rattle.cj_schedule_laws.proofs.Bases.{Kind, Element}
 use Rattle.cj_schedule_laws.proofs.Forms.{cause_read}
 
@@ -43,12 +43,12 @@ faulty_here : (kind : Kind) (place : ℕ) (element rest : List ℕ) (cause : Sch
     → EndsElement rest → IsCause kind element cause
     → elements_of kind (pieces_at is_comma place (element ++ rest)) ≡ bad (fault_at kind place cause)
 faulty_here kind place element [] cause plain ends is =
-    rw (append-nil element, pieces_cut is_comma place element, cut_none is_comma element plain)
+    rw (append-nil element, pieces_split is_comma place element, split_none is_comma element plain)
     (elements_step kind (record { place = place; text = element }) [] ∙ rw (cause_read kind element cause is) refl)
 faulty_here kind place element (b ∷ bs) cause plain ends is =
-    let here : cut is_comma (element ++ b ∷ bs) ≡ (element, Some bs) = rw ends
-    (cut_some is_comma element comma bs plain refl) in
-    rw (pieces_cut is_comma place (element ++ b ∷ bs), here)
+    let here : split is_comma (element ++ b ∷ bs) ≡ (element, Some bs) = rw ends
+    (split_some is_comma element comma bs plain refl) in
+    rw (pieces_split is_comma place (element ++ b ∷ bs), here)
     (elements_step kind (record { place = place; text = element })
     (pieces_at is_comma (place + (length element + 1)) bs) ∙ rw (cause_read kind element cause is) refl)
 
@@ -61,10 +61,10 @@ list_faulty kind [] place word byte cause (element, rest, is, plain, ends, refus
     ∙ faulty_here kind place element rest cause plain ends refused
     ∙ ap (λ n. bad (fault_at kind n cause)) (sym at)
 list_faulty kind (e ∷ es) place word byte cause (front, back, is, first, more) =
-    let here : cut is_comma word ≡ (front, Some back) = ap (cut is_comma) is
-    ∙ cut_some is_comma front comma back (no_comma kind front e first) refl in
+    let here : split is_comma word ≡ (front, Some back) = ap (split is_comma) is
+    ∙ split_some is_comma front comma back (no_comma kind front e first) refl in
     let next = list_faulty kind es (place + (length front + 1)) back byte cause more in
-    rw (pieces_cut is_comma place word, here)
+    rw (pieces_split is_comma place word, here)
     (elements_step kind (record { place = place; text = front }) (pieces_at is_comma (place + (length front + 1)) back)
     ∙ rw (element_complete kind front e first, next) refl)
 

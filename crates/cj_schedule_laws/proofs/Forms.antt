@@ -6,12 +6,12 @@ use Rattle.std.specs.List.{list_all}
 use Rattle.cj_base.specs.declared.schedule_fault.ScheduleCause.{ScheduleCause}
 use Rattle.cj_base.specs.declared.schedule_fault.ScheduleCause.TheVariants.{Length, Empty, Zone, Macro, Fields, Syntax, Range, Order, Step}
 use Rattle.cj_schedule.specs.Numbers.{base_first, last_by}
-use Rattle.cj_schedule.specs.Pieces.{cut, dash, slash}
+use Rattle.cj_schedule.specs.Pieces.{split, dash, slash}
 use Rattle.cj_schedule.specs.Grammar.{IsNumber, IsValue, IsBase, IsStep, IsElement}
 use Rattle.cj_schedule.specs.Causes.{IsNumeral, IsValueForm, IsBaseForm, IsStepForm, IsForm, IsCause}
 use Rattle.cj_schedule.specs.Reading.{is_digits, number_of, value_of, base_of, step_of, element_of}
 use Rattle.cj_schedule.proofs.Causes.{cause_sound}
-use Rattle.cj_schedule.proofs.Cuts.{lacks, cut_none, cut_some}
+use Rattle.cj_schedule.proofs.FirstSplits.{lacks, split_none, split_some}
 use Rattle.cj_schedule.proofs.Names.{is_plain, list_all-weaker, digit_plain, value_plain, value_complete}
 use Rattle.cj_schedule.proofs.Elements.{not_star, not_star_dash, lacks-append, element_sound}
 use Rattle.cj_schedule_laws.proofs.Bases.{Kind, Base, Element, star, single, between, base_cases, star_is, StarForm, BetweenForm, star_form, single_form, between_form, star_right, single_right, between_right}
@@ -65,7 +65,7 @@ single_read : (kind : Kind) (text : List ℕ) (n : ℕ) → IsValueForm kind tex
 unfolding base_of
 single_read kind text n h =
     let p = form_plain kind text n h in (
-      rw (not_star text p.1, cut_none is_dash text (dash_free text p.1), value_read kind text n h) refl,
+      rw (not_star text p.1, split_none is_dash text (dash_free text p.1), value_read kind text n h) refl,
       slash_free text p.1,
     )
 
@@ -79,7 +79,7 @@ between_read kind text a b (x, y, e, first, last) =
     rw e (
       rw (
         not_star_dash x y p.0,
-        cut_some is_dash x dash y (dash_free x p.1) refl,
+        split_some is_dash x dash y (dash_free x p.1) refl,
         value_read kind x a first,
         value_read kind y b last,
       ) refl,
@@ -100,15 +100,15 @@ base_read kind text base h = elim (base_cases kind base) [
       (r.0 ∙ e, r.1)
 ]
 
--- A front without a slash, and a step's form behind it, are cut apart and read as that step.
+-- A front without a slash, and a step's form behind it, are split apart and read as that step.
 step_read : (front back : List ℕ) (step : Option ℕ) → lacks is_slash front ≡ true → IsStepForm back step
-    → (parts : List ℕ × Option (List ℕ)) × (cut is_slash (front ++ back) ≡ parts) × (parts.0 ≡ front)
+    → (parts : List ℕ × Option (List ℕ)) × (split is_slash (front ++ back) ≡ parts) × (parts.0 ≡ front)
     × (step_of parts.1 ≡ Some step)
 unfolding step_of
-step_read front back None h e = ((front, None), rw e (rw (append-nil front) (cut_none is_slash front h)), refl, refl)
+step_read front back None h e = ((front, None), rw e (rw (append-nil front) (split_none is_slash front h)), refl, refl)
 step_read front back (Some s) h (digits, e, number) = (
   (front, Some digits),
-  rw e (cut_some is_slash front slash digits h refl),
+  rw e (split_some is_slash front slash digits h refl),
   refl,
   rw (numeral_read digits s number) refl,
 )
@@ -116,11 +116,11 @@ step_read front back (Some s) h (digits, e, number) = (
 -- In a text in the form of an element, what stands before the first slash is read as its base, and
 -- what stands after it as its step.
 form_read : (kind : Kind) (text : List ℕ) (e : Element) → IsForm kind text e
-    → (base_of kind (cut is_slash text).0 ≡ Some e.base) × (step_of (cut is_slash text).1 ≡ Some e.step)
+    → (base_of kind (split is_slash text).0 ≡ Some e.base) × (step_of (split is_slash text).1 ≡ Some e.step)
 form_read kind text e (front, back, is, base, step) =
     let f = base_read kind front e.base base in
     let s = step_read front back e.step f.1 step in
-    let c : cut is_slash text ≡ s.0 = ap (cut is_slash) is ∙ s.1 in
+    let c : split is_slash text ≡ s.0 = ap (split is_slash) is ∙ s.1 in
     (ap (λ parts. base_of kind parts.0) c ∙ ap (base_of kind) s.2 ∙ f.0, ap (λ parts. step_of parts.1) c ∙ s.3)
 
 -- ---- an element has its form

@@ -4,9 +4,9 @@ use Rattle.std.proofs.lemmas.Bool.Decides.{nat_tests}
 use Rattle.std.specs.List.{list_all}
 use Rattle.cj_schedule.specs.Faults.{ArePlaced}
 use Rattle.cj_schedule.specs.Grammar.{IsApart, AreWords}
-use Rattle.cj_schedule.specs.Pieces.{Piece, is_blank, cut}
-use Rattle.cj_schedule.proofs.Cuts.{cut_none, cut_some}
-use Rattle.cj_schedule.proofs.Pieces.{pieces_none, pieces_cut}
+use Rattle.cj_schedule.specs.Pieces.{Piece, is_blank, split}
+use Rattle.cj_schedule.proofs.FirstSplits.{split_none, split_some}
+use Rattle.cj_schedule.proofs.Pieces.{pieces_none, pieces_split}
 use Rattle.cj_schedule.proofs.Words.{texts, words_at, blanks_skipped}
 
 -- An empty text has no words.
@@ -19,16 +19,16 @@ word_then : (place : ℕ) (word rest : List ℕ) → 1 ≤ length word → list_
     → words_at place (word ++ rest) ≡ record { place = place; text = word } ∷ words_at (place + length word) rest
 word_then place word [] some plain apart =
     let has : not (length word == 0) ≡ true = grind (arith, nat_tests) in
-    rw (append-nil word, pieces_cut is_blank place word, cut_none is_blank word plain)
+    rw (append-nil word, pieces_split is_blank place word, split_none is_blank word plain)
     (rw has (ap (λ ps. record { place = place; text = word } ∷ ps) (sym (nothing (place + length word)))))
 word_then place word (b ∷ bs) some plain apart =
     let has : not (length word == 0) ≡ true = grind (arith, nat_tests) in
-    let here : cut is_blank (word ++ b ∷ bs) ≡ (word, Some bs) = cut_some is_blank word b bs plain apart in
+    let here : split is_blank (word ++ b ∷ bs) ≡ (word, Some bs) = split_some is_blank word b bs plain apart in
     let blank : list_all is_blank (b ∷ []) ≡ true = rw apart refl in
     let next : place + length word + 1 ≡ place + (length word + 1) = omega arith in
     let after : words_at (place + length word) (b ∷ bs) ≡ words_at (place + (length word + 1)) bs =
     blanks_skipped (b ∷ []) bs (place + length word) blank ∙ ap (λ n. words_at n bs) next in
-    rw (pieces_cut is_blank place (word ++ b ∷ bs), here)
+    rw (pieces_split is_blank place (word ++ b ∷ bs), here)
     (rw has (ap (λ ps. record { place = place; text = word } ∷ ps) (sym after)))
 
 -- Words that stand in a text at their places are those that the reading finds.

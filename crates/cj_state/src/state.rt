@@ -1,5 +1,6 @@
-ghost use Rattle.std.specs.Prelude.{◌≡◌, ◌+◌, ◌<◌, ◌^◌, IfOk, IfErr, OnOk, OnErr, IsSome};
+ghost use Rattle.std.specs.Prelude.{◌≡◌, ◌+◌, IfOk, IfErr, OnOk, OnErr, IsSome};
 ghost use Rattle.std.specs.FinMap as map;
+ghost use Rattle.cj_store.specs.Content.{HasRoom};
 ghost use Rattle.cj_base.specs.declared.refusal.Refusal.TheVariants.{OutOfMemory};
 ghost use Rattle.cj_store.specs.Change.{IsFor};
 ghost use Rattle.cj_types.specs.Events.{version_of};
@@ -29,7 +30,7 @@ impl State {
 
     /// Makes a write that was planned, and tells its event. Where there is no memory all is as it was.
     pub fn write(&mut self, alloc: Global, change: Change) -> Result<(), Refusal>
-        requires room { self.old.store.version < 2 ^ 40 }
+        requires room { HasRoom self.old.store }
         requires planned { IsFor self.old.store change }
         requires numbered { version_of change ≡ self.old.watch.count + 1 }
         ensures ok { OnOk result (self.new ≡ written self.old change) }
@@ -50,7 +51,7 @@ impl State {
         change: Change,
         answer: Answered,
     ) -> Result<Answered, Refusal>
-        requires room { self.old.store.version < 2 ^ 40 }
+        requires room { HasRoom self.old.store }
         requires planned { IsFor self.old.store change }
         requires numbered { version_of change ≡ self.old.watch.count + 1 }
         ensures same { IfOk result (λ t. t ≡ answer) }
@@ -71,7 +72,7 @@ impl State {
         answer: Answered,
         seat: Heap<Seat>,
     ) -> Result<Answered, Refusal>
-        requires room { self.old.store.version < 2 ^ 40 }
+        requires room { HasRoom self.old.store }
         requires planned { IsFor self.old.store change }
         requires numbered { version_of change ≡ self.old.watch.count + 1 }
         requires there { IsSome (map.get self.old.seats worker) }

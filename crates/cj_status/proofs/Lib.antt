@@ -1,3 +1,3 @@
 pub mod Orders
 pub mod Sorts
-pub mod Cuts
+pub mod NotKept

@@ -29,7 +29,7 @@ fn older_count(items: &[JobRef], pivot: &JobRef) -> usize
 
 // Of Jobs in order of age, leaves those than which as many as the limit are newer: all that are older than the one
 // from which on as many stand as are kept.
-fn cut(items: &mut Vec<JobRef>, limit: usize)
+fn leave_surplus(items: &mut Vec<JobRef>, limit: usize)
     requires rises { IsRising is_older items.old.items }
     ensures { items.new.items ≡ not_kept limit items.old.items }
 {
@@ -53,7 +53,7 @@ fn surplus_by(
     ensures err { IfErr result (λ e. e ≡ OutOfMemory) }
 {
     let mut items = picked_items(alloc, pick, Sorting::ByAge, uid, jobs)?;
-    cut(&mut items, limit.get() as usize);
+    leave_surplus(&mut items, limit.get() as usize);
     Ok(JobRefs::from_vec(items))
 }
 

@@ -6,7 +6,7 @@ use Rattle.cj_types.specs.Keys.{Place, place_cmp}
 use Rattle.cj_types.specs.declared.cron.CronJob.{CronJob}
 use Rattle.cj_types.specs.declared.job.Job.{Job}
 use Rattle.cj_types.specs.declared.meta.Meta.{Meta}
-use Rattle.cj_table.proofs.Puts.{put_split, cut_split}
+use Rattle.cj_table.proofs.Puts.{put_split, removal_split}
 use Rattle.cj_store.specs.Content.{Content, Home, CronAt, JobAt, meta_at, uid_at, IsCounted, HasOwnUids}
 
 -- an object with this metadata stands at the place, else all is as it was
@@ -14,8 +14,8 @@ abbrev pub PutAt : Content → Content → Home → Meta → Type 0
 PutAt s t home m = (h : Home) → ((h ≡ home) × (meta_at t h ≡ Some m)) ⊎ (meta_at t h ≡ meta_at s h)
 
 -- no object is new
-abbrev pub CutAt : Content → Content → Type 0
-CutAt s t = (h : Home) → (meta_at t h ≡ None) ⊎ (meta_at t h ≡ meta_at s h)
+abbrev pub RemovedAt : Content → Content → Type 0
+RemovedAt s t = (h : Home) → (meta_at t h ≡ None) ⊎ (meta_at t h ≡ meta_at s h)
 
 -- the uid is the next one, or that of the object that stands there
 abbrev pub Given : Content → Home → Meta → Type 0
@@ -44,7 +44,7 @@ pub counted_put : (s t : Content) (home : Home) (m : Meta) → IsCounted s → P
 counted_put s t home m old put later more version uid = λ h x is. counted_by s t home m old later more version uid h x
     (put h) is
 
--- For counted_cut: the uid and version of an object that is left are within the counts.
+-- For counted_removal: the uid and version of an object that is left are within the counts.
 counted_left : (s t : Content) → IsCounted s → s.version ≤ t.version → s.uids ≤ t.uids
     → (h : Home) (x : Meta) → (meta_at t h ≡ None) ⊎ (meta_at t h ≡ meta_at s h) → meta_at t h ≡ Some x
     → (x.version ≤ t.version) × (x.uid ≤ t.uids)
@@ -56,8 +56,8 @@ counted_left s t old later more h x (inr e) is =
     (omega arith, omega arith)
 
 -- After a deletion the uids and versions of all objects are within the counts still.
-pub counted_cut : (s t : Content) → IsCounted s → CutAt s t → s.version ≤ t.version → s.uids ≤ t.uids → IsCounted t
-counted_cut s t old cut later more = λ h x is. counted_left s t old later more h x (cut h) is
+pub counted_removal : (s t : Content) → IsCounted s → RemovedAt s t → s.version ≤ t.version → s.uids ≤ t.uids → IsCounted t
+counted_removal s t old removal later more = λ h x is. counted_left s t old later more h x (removal h) is
 
 -- an object with that uid is the one at the place
 there_by : (s : Content) (home h : Home) (b : Meta) (u : ℕ) (o : Option Meta) → meta_at s home ≡ o → HasOwnUids s
@@ -98,8 +98,8 @@ left s t h a (inl e) x = absurd (let none : None ≡ Some a = sym e ∙ x in cc)
 left s t h a (inr e) x = sym e ∙ x
 
 -- After a deletion no two objects have one uid still.
-pub own_cut : (s t : Content) → HasOwnUids s → CutAt s t → HasOwnUids t
-own_cut s t own cut = λ g h a b x y same. own g h a b (left s t g a (cut g) x) (left s t h b (cut h) y) same
+pub own_removal : (s t : Content) → HasOwnUids s → RemovedAt s t → HasOwnUids t
+own_removal s t own removal = λ g h a b x y same. own g h a b (left s t g a (removal g) x) (left s t h b (removal h) y) same
 
 -- ---- the writes
 
@@ -125,17 +125,17 @@ module _ {X : Type 0} (f : X → Meta) (home : Place → Home) where
       ⊎ (option_map f (map.get n q) ≡ option_map f (map.get m q))
   put_home m n k v q e = put_by m n k v q (ap (λ (t : map.FinMap place_cmp X). map.get t q) e) (put_split m k v q)
 
-  -- For cut_home: the same, from what the map has at q after the removal.
-  cut_by : (m n : map.FinMap place_cmp X) (k q : Place) → map.get n q ≡ map.get (map.remove m k) q
+  -- For removal_home: the same, from what the map has at q after the removal.
+  removal_by : (m n : map.FinMap place_cmp X) (k q : Place) → map.get n q ≡ map.get (map.remove m k) q
       → ((q ≡ k) × (map.get (map.remove m k) q ≡ None)) ⊎ (map.get (map.remove m k) q ≡ map.get m q)
       → (option_map f (map.get n q) ≡ None) ⊎ (option_map f (map.get n q) ≡ option_map f (map.get m q))
-  cut_by m n k q e (inl x) = inl (ap (option_map f) (e ∙ x.1))
-  cut_by m n k q e (inr x) = inr (ap (option_map f) (e ∙ x))
+  removal_by m n k q e (inl x) = inl (ap (option_map f) (e ∙ x.1))
+  removal_by m n k q e (inr x) = inr (ap (option_map f) (e ∙ x))
 
   -- With the object at k removed, q has no metadata, or that of before.
-  cut_home : (m n : map.FinMap place_cmp X) (k q : Place) → n ≡ map.remove m k
+  removal_home : (m n : map.FinMap place_cmp X) (k q : Place) → n ≡ map.remove m k
       → (option_map f (map.get n q) ≡ None) ⊎ (option_map f (map.get n q) ≡ option_map f (map.get m q))
-  cut_home m n k q e = cut_by m n k q (ap (λ (t : map.FinMap place_cmp X). map.get t q) e) (cut_split m k q)
+  removal_home m n k q e = removal_by m n k q (ap (λ (t : map.FinMap place_cmp X). map.get t q) e) (removal_split m k q)
 
 -- With a CronJob put at a key its metadata is at that place, and all else as it was.
 pub cron_put : (s : Content) (n : map.FinMap place_cmp CronJob) (k : Place) (c : CronJob) (u : ℕ)
@@ -150,16 +150,16 @@ job_put s n k j u e (CronAt q) = inr refl
 job_put s n k j u e (JobAt q) = put_home (λ (x : Job). x.meta) JobAt s.jobs n k j q e
 
 -- A removal of a key's CronJob leaves each place as it was or without an object.
-pub cron_cut : (s : Content) (n : map.FinMap place_cmp CronJob) (k : Place) (u : ℕ) → n ≡ map.remove s.crons k
-    → CutAt s (with_crons s n u)
-cron_cut s n k u e (CronAt q) = cut_home (λ (x : CronJob). x.meta) CronAt s.crons n k q e
-cron_cut s n k u e (JobAt q) = inr refl
+pub cron_removal : (s : Content) (n : map.FinMap place_cmp CronJob) (k : Place) (u : ℕ) → n ≡ map.remove s.crons k
+    → RemovedAt s (with_crons s n u)
+cron_removal s n k u e (CronAt q) = removal_home (λ (x : CronJob). x.meta) CronAt s.crons n k q e
+cron_removal s n k u e (JobAt q) = inr refl
 
 -- A removal of a key's Job leaves each place as it was or without an object.
-pub job_cut : (s : Content) (n : map.FinMap place_cmp Job) (k : Place) (u : ℕ) → n ≡ map.remove s.jobs k
-    → CutAt s (with_jobs s n u)
-job_cut s n k u e (CronAt q) = inr refl
-job_cut s n k u e (JobAt q) = cut_home (λ (x : Job). x.meta) JobAt s.jobs n k q e
+pub job_removal : (s : Content) (n : map.FinMap place_cmp Job) (k : Place) (u : ℕ) → n ≡ map.remove s.jobs k
+    → RemovedAt s (with_jobs s n u)
+job_removal s n k u e (CronAt q) = inr refl
+job_removal s n k u e (JobAt q) = removal_home (λ (x : Job). x.meta) JobAt s.jobs n k q e
 
 -- Where no object of a kind is stored, there is no metadata at any key of it.
 none_in : {X : Type 0} (f : X → Meta) (m : map.FinMap place_cmp X) (q : Place) → m ≡ map.empty

@@ -7,9 +7,9 @@ use Rattle.cj_types.specs.declared.cron.CronJob.{CronJob}
 use Rattle.cj_types.specs.declared.job.Job.{Job}
 use Rattle.cj_types.specs.declared.meta.Meta.{Meta}
 use Rattle.cj_types.specs.declared.meta.DraftMeta.{DraftMeta}
-use Rattle.cj_jobs.proofs.Holds.{Holds, put_holds, cut_holds, empty_holds}
+use Rattle.cj_jobs.proofs.Holds.{Holds, put_holds, removal_holds, empty_holds}
 use Rattle.cj_store.specs.Content.{Content, IsSound, IsCounted, HasOwnUids, Home, CronAt, JobAt, meta_at, uid_at}
-use Rattle.cj_store.proofs.Homes.{Given, cron_put, cron_cut, job_put, job_cut, counted_put, counted_cut, own_put, own_cut, no_home, with_crons, with_jobs}
+use Rattle.cj_store.proofs.Homes.{Given, cron_put, cron_removal, job_put, job_removal, counted_put, counted_removal, own_put, own_removal, no_home, with_crons, with_jobs}
 use Rattle.cj_store.specs.Metadata.{updated}
 use Rattle.cj_store.specs.Change.{owners_at}
 
@@ -84,15 +84,15 @@ put_cron_sound s n k c u sound e keyed dated version more uid counts given = rec
   own = own_put s (with_crons s n u) (CronAt k) c.meta sound.counted sound.own (cron_put s n k c u e) given;
 }
 
--- For Store::cut_cron: a sound store is sound without the CronJob of a key.
-pub cut_cron_sound : (s : Content) (n : map.FinMap place_cmp CronJob) (k : Place) → IsSound s → n ≡ map.remove s.crons k
+-- For Store::remove_cron: a sound store is sound without the CronJob of a key.
+pub remove_cron_sound : (s : Content) (n : map.FinMap place_cmp CronJob) (k : Place) → IsSound s → n ≡ map.remove s.crons k
     → IsSound (with_crons s n s.uids)
-cut_cron_sound s n k sound e = record {
-  crons = cut_holds (CronIs (s.version + 1)) s.crons n k e (crons_later s.crons s.version sound.crons);
+remove_cron_sound s n k sound e = record {
+  crons = removal_holds (CronIs (s.version + 1)) s.crons n k e (crons_later s.crons s.version sound.crons);
   jobs = jobs_later s.jobs s.version sound.jobs;
   counts = let h : s.uids ≤ s.version = sound.counts in omega arith;
-  counted = counted_cut s (with_crons s n s.uids) sound.counted (cron_cut s n k s.uids e) (omega arith) (omega arith);
-  own = own_cut s (with_crons s n s.uids) sound.own (cron_cut s n k s.uids e);
+  counted = counted_removal s (with_crons s n s.uids) sound.counted (cron_removal s n k s.uids e) (omega arith) (omega arith);
+  own = own_removal s (with_crons s n s.uids) sound.own (cron_removal s n k s.uids e);
 }
 
 -- For add_job and put_job of Store: a sound store is sound with a Job put at its key.
@@ -109,15 +109,15 @@ put_job_sound s n k j u sound e keyed dated version more uid counts given = reco
   own = own_put s (with_jobs s n u) (JobAt k) j.meta sound.counted sound.own (job_put s n k j u e) given;
 }
 
--- For Store::cut_job: a sound store is sound without the Job of a key.
-pub cut_job_sound : (s : Content) (n : map.FinMap place_cmp Job) (k : Place) → IsSound s → n ≡ map.remove s.jobs k
+-- For Store::remove_job: a sound store is sound without the Job of a key.
+pub remove_job_sound : (s : Content) (n : map.FinMap place_cmp Job) (k : Place) → IsSound s → n ≡ map.remove s.jobs k
     → IsSound (with_jobs s n s.uids)
-cut_job_sound s n k sound e = record {
+remove_job_sound s n k sound e = record {
   crons = crons_later s.crons s.version sound.crons;
-  jobs = cut_holds (JobIs (s.version + 1)) s.jobs n k e (jobs_later s.jobs s.version sound.jobs);
+  jobs = removal_holds (JobIs (s.version + 1)) s.jobs n k e (jobs_later s.jobs s.version sound.jobs);
   counts = let h : s.uids ≤ s.version = sound.counts in omega arith;
-  counted = counted_cut s (with_jobs s n s.uids) sound.counted (job_cut s n k s.uids e) (omega arith) (omega arith);
-  own = own_cut s (with_jobs s n s.uids) sound.own (job_cut s n k s.uids e);
+  counted = counted_removal s (with_jobs s n s.uids) sound.counted (job_removal s n k s.uids e) (omega arith) (omega arith);
+  own = own_removal s (with_jobs s n s.uids) sound.own (job_removal s n k s.uids e);
 }
 
 -- the crons of a content, whose key is told in two ways

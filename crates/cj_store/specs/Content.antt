@@ -1,5 +1,5 @@
 -- What the store holds, as contracts see it.
-use Rattle.std.specs.Prelude.{◌≡◌, ℕ, ◌≤◌, Option, Some, refl}
+use Rattle.std.specs.Prelude.{◌≡◌, ℕ, ◌≤◌, ◌<◌, ◌^◌, Option, Some, refl}
 use Rattle.std.specs.Option.{option_map}
 use Rattle.std.specs.FinMap as map
 use Rattle.std.specs.Coded.{Coded, code_by, coded×, coded_ℕ}
@@ -29,6 +29,10 @@ coded_content =
 -- before the first write
 abbrev pub nothing : Content
 nothing = record { crons = map.empty; jobs = map.empty; version = 0; uids = 0 }
+
+-- one more write may be made: fewer than the most that are ever made
+abbrev pub HasRoom : Content → Type 0
+HasRoom s = s.version < 2 ^ 40
 
 -- where an object stands: its kind and its key
 pub data Home : Type 0 where

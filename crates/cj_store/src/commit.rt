@@ -1,6 +1,7 @@
-ghost use Rattle.std.specs.Prelude.{◌≡◌, ◌+◌, ◌<◌, ◌≤◌, ◌^◌, IfErr, OnOk, OnErr, None, Some};
+ghost use Rattle.std.specs.Prelude.{◌≡◌, ◌+◌, ◌≤◌, IfErr, OnOk, OnErr, None, Some};
 ghost use Rattle.std.specs.FinMap as map;
 ghost use Rattle.cj_base.specs.declared.refusal.Refusal.TheVariants.{OutOfMemory};
+ghost use Rattle.cj_store.specs.Content.{HasRoom};
 ghost use Rattle.cj_store.specs.Change.{after, IsFor, owners_at, cron_added, cron_modified, cron_gone, job_added, job_modified, job_gone};
 
 use crate::{Change, Store};
@@ -16,7 +17,7 @@ fn key_of(cron: &Shared<CronJob>) -> &Key
 impl Store {
     /// Makes the write that was planned. Where there is no memory the store is as it was.
     pub fn commit(&mut self, alloc: Global, change: Change) -> Result<(), Refusal>
-        requires room { self.old.version < 2 ^ 40 }
+        requires room { HasRoom self.old }
         requires planned { IsFor self.old change }
         ensures ok { OnOk result (self.new ≡ after self.old change) }
         ensures err { OnErr result (self.new ≡ self.old) }
@@ -27,7 +28,7 @@ impl Store {
 
     // Makes the write that the event tells of.
     pub(crate) fn apply(&mut self, alloc: Global, event: Event) -> Result<(), Refusal>
-        requires room { self.old.version < 2 ^ 40 }
+        requires room { HasRoom self.old }
         requires planned { IsFor self.old event }
         ensures ok { OnOk result (self.new ≡ after self.old event) }
         ensures err { OnErr result (self.new ≡ self.old) }
@@ -37,17 +38,17 @@ impl Store {
             Event::Added(Object::Cron(cron)) => self.add_cron(alloc, cron),
             Event::Modified(Object::Cron(cron)) => self.put_cron(alloc, cron),
             Event::Deleted(Object::Cron(cron)) => {
-                self.cut_cron(cron);
+                self.remove_cron(cron);
                 Ok(())
             }
             Event::Added(Object::Job(job)) => self.add_job(alloc, job),
             Event::Modified(Object::Job(job)) => self.put_job(alloc, job),
-            Event::Deleted(Object::Job(job)) => self.cut_job(alloc, job),
+            Event::Deleted(Object::Job(job)) => self.remove_job(alloc, job),
         }
     }
 
     fn put_cron(&mut self, alloc: Global, cron: Shared<CronJob>) -> Result<(), Refusal>
-        requires room { self.old.version < 2 ^ 40 }
+        requires room { HasRoom self.old }
         requires planned { IsFor self.old (cron_modified cron) }
         ensures ok { OnOk result (self.new ≡ after self.old (cron_modified cron)) }
         ensures err { OnErr result (self.new ≡ self.old) }
@@ -60,7 +61,7 @@ impl Store {
     }
 
     fn add_cron(&mut self, alloc: Global, cron: Shared<CronJob>) -> Result<(), Refusal>
-        requires room { self.old.version < 2 ^ 40 }
+        requires room { HasRoom self.old }
         requires planned { IsFor self.old (cron_added cron) }
         ensures ok { OnOk result (self.new ≡ after self.old (cron_added cron)) }
         ensures err { OnErr result (self.new ≡ self.old) }
@@ -73,8 +74,8 @@ impl Store {
         Ok(())
     }
 
-    fn cut_cron(&mut self, cron: Shared<CronJob>)
-        requires { self.old.version < 2 ^ 40 }
+    fn remove_cron(&mut self, cron: Shared<CronJob>)
+        requires { HasRoom self.old }
         ensures { self.new ≡ after self.old (cron_gone cron) }
     {
         self.crons.remove(key_of(&cron));
@@ -82,7 +83,7 @@ impl Store {
     }
 
     fn put_job(&mut self, alloc: Global, job: Shared<Job>) -> Result<(), Refusal>
-        requires room { self.old.version < 2 ^ 40 }
+        requires room { HasRoom self.old }
         requires planned { IsFor self.old (job_modified job) }
         ensures ok { OnOk result (self.new ≡ after self.old (job_modified job)) }
         ensures err { OnErr result (self.new ≡ self.old) }
@@ -94,7 +95,7 @@ impl Store {
     }
 
     fn add_job(&mut self, alloc: Global, job: Shared<Job>) -> Result<(), Refusal>
-        requires room { self.old.version < 2 ^ 40 }
+        requires room { HasRoom self.old }
         requires planned { IsFor self.old (job_added job) }
         ensures ok { OnOk result (self.new ≡ after self.old (job_added job)) }
         ensures err { OnErr result (self.new ≡ self.old) }
@@ -106,8 +107,8 @@ impl Store {
         Ok(())
     }
 
-    fn cut_job(&mut self, alloc: Global, job: Shared<Job>) -> Result<(), Refusal>
-        requires room { self.old.version < 2 ^ 40 }
+    fn remove_job(&mut self, alloc: Global, job: Shared<Job>) -> Result<(), Refusal>
+        requires room { HasRoom self.old }
         requires planned { IsFor self.old (job_gone job) }
         ensures ok { OnOk result (self.new ≡ after self.old (job_gone job)) }
         ensures err { OnErr result (self.new ≡ self.old) }

@@ -1,5 +1,6 @@
-ghost use Rattle.std.specs.Prelude.{◌≡◌, ◌≢◌, ◌<◌, ◌^◌, IfOk, IfErr, OnOk, OnErr, Ok, Err};
+ghost use Rattle.std.specs.Prelude.{◌≡◌, ◌≢◌, IfOk, IfErr, OnOk, OnErr, Ok, Err};
 ghost use Rattle.cj_base.specs.declared.refusal.Refusal.TheVariants.{OutOfMemory};
+ghost use Rattle.cj_store.specs.Content.{HasRoom};
 ghost use Rattle.cj_store.specs.Crons.{cron_created, cron_updated, status_set, cron_deleted};
 ghost use Rattle.cj_store.specs.Change.{after, map_ok, cron_added, cron_modified, cron_gone};
 
@@ -23,7 +24,7 @@ impl Store {
         draft: CronJobDraft,
         now: Seconds,
     ) -> Result<Shared<CronJob>, Refusal>
-        requires { self.old.version < 2 ^ 40 }
+        requires { HasRoom self.old }
         ensures ok { IfOk result (λ c. cron_created self.old draft now ≡ Ok c) }
         ensures err { IfErr result (λ e. e ≢ OutOfMemory →
             cron_created self.old draft now ≡ Err e) }
@@ -43,7 +44,7 @@ impl Store {
         alloc: Global,
         draft: CronJobDraft,
     ) -> Result<Shared<CronJob>, Refusal>
-        requires { self.old.version < 2 ^ 40 }
+        requires { HasRoom self.old }
         ensures ok { IfOk result (λ c. cron_updated self.old draft ≡ Ok c) }
         ensures err { IfErr result (λ e. e ≢ OutOfMemory → cron_updated self.old draft ≡ Err e) }
         ensures after { IfOk result (λ c. self.new ≡ after self.old (cron_modified c)) }
@@ -65,7 +66,7 @@ impl Store {
         version: Version,
         status: CronStatus,
     ) -> Result<Shared<CronJob>, Refusal>
-        requires { self.old.version < 2 ^ 40 }
+        requires { HasRoom self.old }
         ensures ok { IfOk result (λ c. status_set self.old key.now uid version status ≡ Ok c) }
         ensures err { IfErr result (λ e. e ≢ OutOfMemory →
             status_set self.old key.now uid version status ≡ Err e) }
@@ -80,7 +81,7 @@ impl Store {
 
     /// Deletes a CronJob, and answers the deletion's version. Refused: `NotFound`.
     pub fn delete_cron(&mut self, alloc: Global, key: &Key) -> Result<Version, Refusal>
-        requires { self.old.version < 2 ^ 40 }
+        requires { HasRoom self.old }
         ensures ok { IfOk result (λ v. map_ok (λ c. c.meta.version) (cron_deleted self.old key.now)
             ≡ Ok v) }
         ensures err { IfErr result (λ e. e ≢ OutOfMemory → cron_deleted self.old key.now ≡ Err e) }

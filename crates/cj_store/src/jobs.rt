@@ -1,5 +1,6 @@
-ghost use Rattle.std.specs.Prelude.{◌≡◌, ◌≢◌, ◌<◌, ◌^◌, IfOk, IfErr, OnOk, OnErr, Ok, Err};
+ghost use Rattle.std.specs.Prelude.{◌≡◌, ◌≢◌, IfOk, IfErr, OnOk, OnErr, Ok, Err};
 ghost use Rattle.cj_base.specs.declared.refusal.Refusal.TheVariants.{OutOfMemory};
+ghost use Rattle.cj_store.specs.Content.{HasRoom};
 ghost use Rattle.cj_store.specs.Jobs.{job_created, job_made, job_updated, job_deleted, job_ended};
 ghost use Rattle.cj_store.specs.Change.{after, map_ok, job_added, job_modified, job_gone};
 
@@ -24,7 +25,7 @@ impl Store {
         draft: JobDraft,
         now: Seconds,
     ) -> Result<Shared<Job>, Refusal>
-        requires { self.old.version < 2 ^ 40 }
+        requires { HasRoom self.old }
         ensures ok { IfOk result (λ j. job_created self.old draft now ≡ Ok j) }
         ensures err { IfErr result (λ e. e ≢ OutOfMemory → job_created self.old draft now ≡ Err e) }
         ensures after { IfOk result (λ j. self.new ≡ after self.old (job_added j)) }
@@ -43,7 +44,7 @@ impl Store {
         draft: JobDraft,
         now: Seconds,
     ) -> Result<Shared<Job>, Refusal>
-        requires { self.old.version < 2 ^ 40 }
+        requires { HasRoom self.old }
         ensures ok { IfOk result (λ j. job_made self.old draft now ≡ Ok j) }
         ensures err { IfErr result (λ e. e ≢ OutOfMemory → job_made self.old draft now ≡ Err e) }
         ensures after { IfOk result (λ j. self.new ≡ after self.old (job_added j)) }
@@ -59,7 +60,7 @@ impl Store {
     /// the draft gives a version or uid that isn't the current one, `NotPermitted` where its owner references
     /// differ.
     pub fn update_job(&mut self, alloc: Global, draft: JobDraft) -> Result<Shared<Job>, Refusal>
-        requires { self.old.version < 2 ^ 40 }
+        requires { HasRoom self.old }
         ensures ok { IfOk result (λ j. job_updated self.old draft ≡ Ok j) }
         ensures err { IfErr result (λ e. e ≢ OutOfMemory → job_updated self.old draft ≡ Err e) }
         ensures after { IfOk result (λ j. self.new ≡ after self.old (job_modified j)) }
@@ -79,7 +80,7 @@ impl Store {
         key: &Key,
         uid: Option<Uid>,
     ) -> Result<Version, Refusal>
-        requires { self.old.version < 2 ^ 40 }
+        requires { HasRoom self.old }
         ensures ok { IfOk result (λ v. map_ok
             (λ j. j.meta.version) (job_deleted self.old key.now uid) ≡ Ok v) }
         ensures err { IfErr result (λ e. e ≢ OutOfMemory →
@@ -104,7 +105,7 @@ impl Store {
         outcome: Outcome,
         now: Seconds,
     ) -> Result<Shared<Job>, Refusal>
-        requires { self.old.version < 2 ^ 40 }
+        requires { HasRoom self.old }
         ensures ok { IfOk result (λ j. job_ended self.old key.now uid outcome now ≡ Ok j) }
         ensures err { IfErr result (λ e. e ≢ OutOfMemory →
             job_ended self.old key.now uid outcome now ≡ Err e) }

@@ -9,9 +9,9 @@ mod equal;
 mod jobs;
 mod laws;
 mod meta;
-mod new_crons;
-mod new_jobs;
 mod owned;
+mod planned_crons;
+mod planned_jobs;
 mod plans;
 mod store;
 

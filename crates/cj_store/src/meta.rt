@@ -1,5 +1,6 @@
-ghost use Rattle.std.specs.Prelude.{◌≡◌, ◌≢◌, ◌+◌, ◌<◌, ◌≤◌, ◌^◌, IfOk, IfErr};
+ghost use Rattle.std.specs.Prelude.{◌≡◌, ◌≢◌, ◌+◌, ◌≤◌, IfOk, IfErr};
 ghost use Rattle.cj_base.specs.declared.refusal.Refusal.TheVariants.{OutOfMemory};
+ghost use Rattle.cj_store.specs.Content.{HasRoom};
 ghost use Rattle.cj_store.specs.Metadata.{new_meta, touched, updated, version_not_allowed};
 
 use crate::Store;
@@ -25,7 +26,7 @@ pub(crate) fn version_not_allowed(alloc: Global) -> Refusal
 impl Store {
     // The uid of the next object that is created.
     pub(crate) fn next_uid(&self) -> Uid
-        requires { self.now.version < 2 ^ 40 }
+        requires { HasRoom self.now }
         ensures { result ≡ self.now.uids + 1 }
     {
         Uid::new(self.creations + 1).unwrap()
@@ -33,7 +34,7 @@ impl Store {
 
     // The version of the next write.
     pub(crate) fn next_version(&self) -> Version
-        requires { self.now.version < 2 ^ 40 }
+        requires { HasRoom self.now }
         ensures { result ≡ self.now.version + 1 }
     {
         Version::new(self.writes + 1)
@@ -41,7 +42,7 @@ impl Store {
 
     // The metadata of an object that is created now.
     pub(crate) fn new_meta(&self, draft: DraftMeta, now: Seconds) -> Meta
-        requires { self.now.version < 2 ^ 40 }
+        requires { HasRoom self.now }
         ensures { result ≡ new_meta self.now draft now }
     {
         let uid = self.next_uid();
@@ -64,7 +65,7 @@ impl Store {
 
     // The metadata after a write that leaves labels, annotations and spec alone.
     pub(crate) fn touched(&self, alloc: Global, meta: &Meta) -> Result<Meta, Refusal>
-        requires { self.now.version < 2 ^ 40 }
+        requires { HasRoom self.now }
         ensures ok { IfOk result (λ m. m ≡ touched self.now meta.now) }
         ensures err { IfErr result (λ e. e ≡ OutOfMemory) }
     {
@@ -80,7 +81,7 @@ impl Store {
 
     // The metadata after an update by the draft.
     pub(crate) fn updated(&self, draft: DraftMeta, is_same: bool, meta: &Meta) -> Meta
-        requires room { self.now.version < 2 ^ 40 }
+        requires room { HasRoom self.now }
         requires dated { meta.now.generation ≤ self.now.version }
         ensures { result ≡ updated self.now draft is_same meta.now }
     {

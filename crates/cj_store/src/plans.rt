@@ -1,5 +1,6 @@
-ghost use Rattle.std.specs.Prelude.{◌≡◌, ◌≢◌, ◌<◌, ◌^◌, IfOk, IfErr, Ok, Err};
+ghost use Rattle.std.specs.Prelude.{◌≡◌, ◌≢◌, IfOk, IfErr, Ok, Err};
 ghost use Rattle.cj_base.specs.declared.refusal.Refusal.TheVariants.{OutOfMemory};
+ghost use Rattle.cj_store.specs.Content.{HasRoom};
 ghost use Rattle.cj_store.specs.Crons.{cron_created, cron_updated, status_set, cron_deleted};
 ghost use Rattle.cj_store.specs.Jobs.{job_created, job_made, job_updated, job_deleted, job_ended};
 ghost use Rattle.cj_store.specs.Change.{map_ok, IsFor, cron_added, cron_modified, cron_gone, job_added, job_modified, job_gone};
@@ -18,7 +19,7 @@ impl Store {
         draft: CronJobDraft,
         now: Seconds,
     ) -> Result<Change, Refusal>
-        requires { self.now.version < 2 ^ 40 }
+        requires { HasRoom self.now }
         ensures ok { IfOk result (λ change. map_ok cron_added (cron_created self.now draft now)
             ≡ Ok change) }
         ensures err { IfErr result (λ e. e ≢ OutOfMemory →
@@ -31,7 +32,7 @@ impl Store {
 
     /// What `update_cron` would make.
     pub fn plan_update_cron(&self, alloc: Global, draft: CronJobDraft) -> Result<Change, Refusal>
-        requires { self.now.version < 2 ^ 40 }
+        requires { HasRoom self.now }
         ensures ok { IfOk result (λ change. map_ok cron_modified (cron_updated self.now draft)
             ≡ Ok change) }
         ensures err { IfErr result (λ e. e ≢ OutOfMemory → cron_updated self.now draft ≡ Err e) }
@@ -50,7 +51,7 @@ impl Store {
         version: Version,
         status: CronStatus,
     ) -> Result<Change, Refusal>
-        requires { self.now.version < 2 ^ 40 }
+        requires { HasRoom self.now }
         ensures ok { IfOk result (λ change. map_ok cron_modified
             (status_set self.now key.now uid version status) ≡ Ok change) }
         ensures err { IfErr result (λ e. e ≢ OutOfMemory →
@@ -63,7 +64,7 @@ impl Store {
 
     /// What `delete_cron` would make.
     pub fn plan_delete_cron(&self, alloc: Global, key: &Key) -> Result<Change, Refusal>
-        requires { self.now.version < 2 ^ 40 }
+        requires { HasRoom self.now }
         ensures ok { IfOk result (λ change. map_ok cron_gone (cron_deleted self.now key.now)
             ≡ Ok change) }
         ensures err { IfErr result (λ e. e ≢ OutOfMemory → cron_deleted self.now key.now ≡ Err e) }
@@ -80,7 +81,7 @@ impl Store {
         draft: JobDraft,
         now: Seconds,
     ) -> Result<Change, Refusal>
-        requires { self.now.version < 2 ^ 40 }
+        requires { HasRoom self.now }
         ensures ok { IfOk result (λ change. map_ok job_added (job_created self.now draft now)
             ≡ Ok change) }
         ensures err { IfErr result (λ e. e ≢ OutOfMemory → job_created self.now draft now ≡ Err e) }
@@ -97,7 +98,7 @@ impl Store {
         draft: JobDraft,
         now: Seconds,
     ) -> Result<Change, Refusal>
-        requires { self.now.version < 2 ^ 40 }
+        requires { HasRoom self.now }
         ensures ok { IfOk result (λ change. map_ok job_added (job_made self.now draft now)
             ≡ Ok change) }
         ensures err { IfErr result (λ e. e ≢ OutOfMemory → job_made self.now draft now ≡ Err e) }
@@ -109,7 +110,7 @@ impl Store {
 
     /// What `update_job` would make.
     pub fn plan_update_job(&self, alloc: Global, draft: JobDraft) -> Result<Change, Refusal>
-        requires { self.now.version < 2 ^ 40 }
+        requires { HasRoom self.now }
         ensures ok { IfOk result (λ change. map_ok job_modified (job_updated self.now draft)
             ≡ Ok change) }
         ensures err { IfErr result (λ e. e ≢ OutOfMemory → job_updated self.now draft ≡ Err e) }
@@ -126,7 +127,7 @@ impl Store {
         key: &Key,
         uid: Option<Uid>,
     ) -> Result<Change, Refusal>
-        requires { self.now.version < 2 ^ 40 }
+        requires { HasRoom self.now }
         ensures ok { IfOk result (λ change. map_ok job_gone (job_deleted self.now key.now uid)
             ≡ Ok change) }
         ensures err { IfErr result (λ e. e ≢ OutOfMemory →
@@ -146,7 +147,7 @@ impl Store {
         outcome: Outcome,
         now: Seconds,
     ) -> Result<Change, Refusal>
-        requires { self.now.version < 2 ^ 40 }
+        requires { HasRoom self.now }
         ensures ok { IfOk result (λ change. map_ok job_modified
             (job_ended self.now key.now uid outcome now) ≡ Ok change) }
         ensures err { IfErr result (λ e. e ≢ OutOfMemory →

@@ -1,7 +1,7 @@
-ghost use Rattle.std.specs.Prelude.{◌≡◌, ◌<◌, ◌≤◌, ◌^◌, ◌↔◌, IsTrue, IfOk, IfErr, IfSome, option_copied};
+ghost use Rattle.std.specs.Prelude.{◌≡◌, ◌≤◌, ◌↔◌, IsTrue, IfOk, IfErr, IfSome, option_copied};
 ghost use Rattle.std.specs.FinMap as map;
 ghost use Rattle.cj_base.specs.declared.refusal.Refusal.TheVariants.{OutOfMemory};
-ghost use Rattle.cj_store.specs.Content.{nothing, IsSound};
+ghost use Rattle.cj_store.specs.Content.{HasRoom, nothing, IsSound};
 
 use cj_jobs::Jobs;
 use cj_table::Table;
@@ -58,7 +58,7 @@ impl Store {
 
     /// Whether one more write may be made: fewer than 2^40 were.
     pub fn has_room(&self) -> bool
-        ensures { IsTrue result ↔ (self.now.version < 2 ^ 40) }
+        ensures { IsTrue result ↔ HasRoom self.now }
     {
         self.writes < Self::MOST_WRITES
     }

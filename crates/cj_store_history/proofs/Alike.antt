@@ -66,9 +66,9 @@ module _ {X : Type 0} (m : map.FinMap place_cmp X) (now : Place → Option X) (i
   put_is k v q b e = e ∙ ap (cond b (Some v)) (is q)
 
   -- With k taken out, the map has nothing there, and at other keys what now says.
-  cut_is : (k q : Place) (b : Bool) → map.get (map.remove m k) q ≡ cond b None (map.get m q)
+  removal_is : (k q : Place) (b : Bool) → map.get (map.remove m k) q ≡ cond b None (map.get m q)
       → map.get (map.remove m k) q ≡ cond b None (now q)
-  cut_is k q b e = e ∙ ap (cond b None) (is q)
+  removal_is k q b e = e ∙ ap (cond b None) (is q)
 
 -- Before any write the empty content has what no writes leave.
 pub begins : IsStore [] nothing
@@ -96,7 +96,7 @@ one_more ws s (Modified (Kind.Cron c)) is = record {
 one_more ws s (Deleted (Kind.Cron c)) is = record {
   version = (let e = is.version in omega (arith, e));
   uids = is.uids;
-  crons = λ k. cut_is s.crons (current_cron ws) is.crons c.key k _ (get_off s.crons c.key k);
+  crons = λ k. removal_is s.crons (current_cron ws) is.crons c.key k _ (get_off s.crons c.key k);
   jobs = is.jobs;
 }
 one_more ws s (Added (Kind.Job j)) is = record {
@@ -115,5 +115,5 @@ one_more ws s (Deleted (Kind.Job j)) is = record {
   version = (let e = is.version in omega (arith, e));
   uids = is.uids;
   crons = is.crons;
-  jobs = λ k. cut_is s.jobs (current_job ws) is.jobs j.key k _ (get_off s.jobs j.key k);
+  jobs = λ k. removal_is s.jobs (current_job ws) is.jobs j.key k _ (get_off s.jobs j.key k);
 }

@@ -88,17 +88,17 @@ put_keyed key x k true was t h y e = (let i : x ≡ y = cc in ap key (sym i)) �
 put_keyed key x k false was t h y e = h y e
 
 -- With an object taken away, what stands at a key still has that key.
-cut_keyed : {X : Type 0} (key : X → Place) (k : Place) (b : Bool) (was : Option X) → IsKeyed key k was
+removal_keyed : {X : Type 0} (key : X → Place) (k : Place) (b : Bool) (was : Option X) → IsKeyed key k was
     → IsKeyed key k (if b then None else was)
-cut_keyed key k true was h y e = absurd (cc e)
-cut_keyed key k false was h y e = h y e
+removal_keyed key k true was h y e = absurd (cc e)
+removal_keyed key k false was h y e = h y e
 
 -- The CronJob that a write leaves at a key has that key, if the one before had it.
 crons_keyed : (w : Event) (k : Place) (was : Option CronJob) → IsKeyed (λ (c : CronJob). c.key) k was
     → IsKeyed (λ (c : CronJob). c.key) k (cron_left w k was)
 crons_keyed (Added (Kind.Cron x)) k was h = put_keyed (λ (c : CronJob). c.key) x k (key_eq x.key k) was refl h
 crons_keyed (Modified (Kind.Cron x)) k was h = put_keyed (λ (c : CronJob). c.key) x k (key_eq x.key k) was refl h
-crons_keyed (Deleted (Kind.Cron x)) k was h = cut_keyed (λ (c : CronJob). c.key) k (key_eq x.key k) was h
+crons_keyed (Deleted (Kind.Cron x)) k was h = removal_keyed (λ (c : CronJob). c.key) k (key_eq x.key k) was h
 crons_keyed (Added (Kind.Job j)) k was h = h
 crons_keyed (Modified (Kind.Job j)) k was h = h
 crons_keyed (Deleted (Kind.Job j)) k was h = h
@@ -113,7 +113,7 @@ jobs_keyed : (w : Event) (k : Place) (was : Option Job) → IsKeyed (λ (j : Job
     → IsKeyed (λ (j : Job). j.key) k (job_left w k was)
 jobs_keyed (Added (Kind.Job x)) k was h = put_keyed (λ (j : Job). j.key) x k (key_eq x.key k) was refl h
 jobs_keyed (Modified (Kind.Job x)) k was h = put_keyed (λ (j : Job). j.key) x k (key_eq x.key k) was refl h
-jobs_keyed (Deleted (Kind.Job x)) k was h = cut_keyed (λ (j : Job). j.key) k (key_eq x.key k) was h
+jobs_keyed (Deleted (Kind.Job x)) k was h = removal_keyed (λ (j : Job). j.key) k (key_eq x.key k) was h
 jobs_keyed (Added (Kind.Cron c)) k was h = h
 jobs_keyed (Modified (Kind.Cron c)) k was h = h
 jobs_keyed (Deleted (Kind.Cron c)) k was h = h

@@ -18,7 +18,7 @@ use Rattle.cj_store.specs.Equal.{same_cron_spec, same_job_spec}
 use Rattle.cj_store.specs.Crons.{cron_created, cron_updated, status_set, cron_deleted}
 use Rattle.cj_store.specs.Jobs.{job_created, job_made, job_updated, job_deleted, job_ended}
 use Rattle.cj_store.specs.Change.{after, map_ok, IsFor, cron_added, cron_modified, cron_gone, job_added, job_modified, job_gone}
-use Rattle.cj_store.proofs.Kept.{put_cron_sound, cut_cron_sound, put_job_sound, cut_job_sound, new_sound, standing_uid, updated_generation, cron_uid_there, job_uid_there, owners_there}
+use Rattle.cj_store.proofs.Kept.{put_cron_sound, remove_cron_sound, put_job_sound, remove_job_sound, new_sound, standing_uid, updated_generation, cron_uid_there, job_uid_there, owners_there}
 use Rattle.cj_store_laws.specs.Sound.{BeginsSound, StaysSound, PlansSound}
 use Rattle.cj_store_laws.proofs.Answered.{cron_answers, job_answers}
 
@@ -39,7 +39,7 @@ stays s (Modified (Of.Cron c)) sound p =
     let counts : s.uids ≤ s.version = sound.counts in
     put_cron_sound s (map.insert s.crons c.key c) c.key c s.uids sound refl refl p.1.1 p.0 (omega arith)
     (standing_uid s (CronAt c.key) c.meta.uid sound.counted p.1.0) (omega arith) (inr p.1.0)
-stays s (Deleted (Of.Cron c)) sound p = cut_cron_sound s (map.remove s.crons c.key) c.key sound refl
+stays s (Deleted (Of.Cron c)) sound p = remove_cron_sound s (map.remove s.crons c.key) c.key sound refl
 stays s (Added (Of.Job j)) sound p =
     let version : j.meta.version ≡ s.version + 1 = p.0 in
     let uid : j.meta.uid ≡ s.uids + 1 = p.1.1 in
@@ -51,7 +51,7 @@ stays s (Modified (Of.Job j)) sound p =
     let counts : s.uids ≤ s.version = sound.counts in
     put_job_sound s (map.insert s.jobs j.key j) j.key j s.uids sound refl refl p.1.2 p.0 (omega arith)
     (standing_uid s (JobAt j.key) j.meta.uid sound.counted p.1.1) (omega arith) (inr p.1.1)
-stays s (Deleted (Of.Job j)) sound p = cut_job_sound s (map.remove s.jobs j.key) j.key sound refl
+stays s (Deleted (Of.Job j)) sound p = remove_job_sound s (map.remove s.jobs j.key) j.key sound refl
 
 -- For sound_laws, clause stays: a sound content stays so after each write that was planned on it.
 pub stays_sound : StaysSound

@@ -34,10 +34,10 @@ module _ {K : Type 0} (R : K → K → Ordering) (X : Type 0) (o : IsTotalOrder 
   put_either q k x y old false e h = inr (differ q k e, h)
 
   -- For apart: what is found after a removal stood there before, at a key other than k.
-  cut_either : (q k : K) (y : X) (old : Option X) (t : Bool) → eq_by_cmp R q k ≡ t → cond t None old ≡ Some y
+  removal_either : (q k : K) (y : X) (old : Option X) (t : Bool) → eq_by_cmp R q k ≡ t → cond t None old ≡ Some y
       → (q ≢ k) × (old ≡ Some y)
-  cut_either q k y old true e h = absurd (cc h)
-  cut_either q k y old false e h = (differ q k e, h)
+  removal_either q k y old true e h = absurd (cc h)
+  removal_either q k y old false e h = (differ q k e, h)
 
   -- Where keys that tie are the same, an insert or a removal changes its own key alone.
   pub apart : IsApart R X
@@ -46,9 +46,9 @@ module _ {K : Type 0} (R : K → K → Ordering) (X : Type 0) (o : IsTotalOrder 
     put_other = λ m k q x n. map.get-insert o m k x q ∙ kept q k (Some x) (map.get m q) (eq_by_cmp R q k) refl n;
     after_put = λ m k q x y h. put_either q k x y (map.get m q) (eq_by_cmp R q k) refl
         (sym (map.get-insert o m k x q) ∙ h);
-    cut_here = λ m k. map.get-remove o m k k ∙ ap (λ t. cond t None (map.get m k)) (self_true k);
-    cut_other = λ m k q n. map.get-remove o m k q ∙ kept q k None (map.get m q) (eq_by_cmp R q k) refl n;
-    after_cut = λ m k q y h. cut_either q k y (map.get m q) (eq_by_cmp R q k) refl (sym (map.get-remove o m k q) ∙ h);
+    removal_here = λ m k. map.get-remove o m k k ∙ ap (λ t. cond t None (map.get m k)) (self_true k);
+    removal_other = λ m k q n. map.get-remove o m k q ∙ kept q k None (map.get m q) (eq_by_cmp R q k) refl n;
+    after_removal = λ m k q y h. removal_either q k y (map.get m q) (eq_by_cmp R q k) refl (sym (map.get-remove o m k q) ∙ h);
   }
 
 -- For apart_laws: in maps by key, an insert or a removal changes its own key alone.

@@ -25,11 +25,11 @@ module _ {X : Type 0} where
   put_either true q k v old h = inl (h refl, refl)
   put_either false q k v old h = inr refl
 
-  -- For cut_split: what is chosen at q is nothing, where q is k, or what stood there.
-  cut_either : (t : Bool) (q k : Place) (old : Option X) → (t ≡ true → q ≡ k)
+  -- For removal_split: what is chosen at q is nothing, where q is k, or what stood there.
+  removal_either : (t : Bool) (q k : Place) (old : Option X) → (t ≡ true → q ≡ k)
       → ((q ≡ k) × (cond t None old ≡ None)) ⊎ (cond t None old ≡ old)
-  cut_either true q k old h = inl (h refl, refl)
-  cut_either false q k old h = inr refl
+  removal_either true q k old h = inl (h refl, refl)
+  removal_either false q k old h = inr refl
 
   -- After an insert at k, q is k and has the new value, or q has what it had before.
   pub put_split : (m : map.FinMap place_cmp X) (k : Place) (v : X) (q : Place)
@@ -38,10 +38,10 @@ module _ {X : Type 0} where
       (put_either (eq_by_cmp place_cmp q k) q k v (map.get m q) (one_key q k))
 
   -- After a removal of k, q is k and has nothing, or q has what it had before.
-  pub cut_split : (m : map.FinMap place_cmp X) (k q : Place) → ((q ≡ k) × (map.get (map.remove m k) q ≡ None))
+  pub removal_split : (m : map.FinMap place_cmp X) (k q : Place) → ((q ≡ k) × (map.get (map.remove m k) q ≡ None))
       ⊎ (map.get (map.remove m k) q ≡ map.get m q)
-  cut_split m k q = rw (map.get-remove places_total m k q)
-      (cut_either (eq_by_cmp place_cmp q k) q k (map.get m q) (one_key q k))
+  removal_split m k q = rw (map.get-remove places_total m k q)
+      (removal_either (eq_by_cmp place_cmp q k) q k (map.get m q) (one_key q k))
 
   -- the same two, in a form that `grind` matches: its first half shows the look-up
   pub at_put : (m : map.FinMap place_cmp X) (k : Place) (v : X) (q : Place)
@@ -49,10 +49,10 @@ module _ {X : Type 0} where
       × (((q ≡ k) × (map.get (map.insert m k v) q ≡ Some v)) ⊎ (map.get (map.insert m k v) q ≡ map.get m q))
   at_put m k v q = (refl, put_split m k v q)
 
-  -- The second of the two: what cut_split says, behind the look-up itself.
-  pub at_cut : (m : map.FinMap place_cmp X) (k q : Place) → (map.get (map.remove m k) q ≡ map.get (map.remove m k) q)
+  -- The second of the two: what removal_split says, behind the look-up itself.
+  pub at_removal : (m : map.FinMap place_cmp X) (k q : Place) → (map.get (map.remove m k) q ≡ map.get (map.remove m k) q)
       × (((q ≡ k) × (map.get (map.remove m k) q ≡ None)) ⊎ (map.get (map.remove m k) q ≡ map.get m q))
-  at_cut m k q = (refl, cut_split m k q)
+  at_removal m k q = (refl, removal_split m k q)
 
   -- After an insert, the key has the new value.
   pub put_there : (m : map.FinMap place_cmp X) (k : Place) (v : X) → map.get (map.insert m k v) k ≡ Some v
@@ -60,8 +60,8 @@ module _ {X : Type 0} where
       ((eq_by_cmp_equiv places_total).refl k)
 
   -- After a removal, the key has nothing.
-  pub cut_there : (m : map.FinMap place_cmp X) (k : Place) → map.get (map.remove m k) k ≡ None
-  cut_there m k = map.get-remove places_total m k k ∙ ap (λ t. cond t None (map.get m k))
+  pub removal_there : (m : map.FinMap place_cmp X) (k : Place) → map.get (map.remove m k) k ≡ None
+  removal_there m k = map.get-remove places_total m k k ∙ ap (λ t. cond t None (map.get m k))
       ((eq_by_cmp_equiv places_total).refl k)
 
   -- For remove-insert: where a key had nothing, a put and a removal leave what was there.

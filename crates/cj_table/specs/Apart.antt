@@ -11,9 +11,9 @@ pub record IsApart {K : Type 0} (R : K → K → Ordering) (X : Type 0) : Type 0
   pub put_here : (m : FinMap R X) (k : K) (x : X) → get (insert m k x) k ≡ Some x
   pub put_other : (m : FinMap R X) (k q : K) (x : X) → q ≢ k → get (insert m k x) q ≡ get m q
   pub after_put : (m : FinMap R X) (k q : K) (x y : X) → get (insert m k x) q ≡ Some y → ((q ≡ k) × (x ≡ y)) ⊎ ((q ≢ k) × (get m q ≡ Some y))
-  pub cut_here : (m : FinMap R X) (k : K) → get (remove m k) k ≡ None
-  pub cut_other : (m : FinMap R X) (k q : K) → q ≢ k → get (remove m k) q ≡ get m q
-  pub after_cut : (m : FinMap R X) (k q : K) (y : X) → get (remove m k) q ≡ Some y → (q ≢ k) × (get m q ≡ Some y)
+  pub removal_here : (m : FinMap R X) (k : K) → get (remove m k) k ≡ None
+  pub removal_other : (m : FinMap R X) (k q : K) → q ≢ k → get (remove m k) q ≡ get m q
+  pub after_removal : (m : FinMap R X) (k q : K) (y : X) → get (remove m k) q ≡ Some y → (q ≢ k) × (get m q ≡ Some y)
 
 -- of maps by key
 abbrev pub PlacesApart : Type 0 → Type 0

@@ -14,10 +14,10 @@ pub fn table_laws<X>()
         (map.get (map.insert m k v) q ≡ map.get m q) }
     ensures put { (m : map.FinMap place_cmp X) (k : Place) (v : X) →
         map.get (map.insert m k v) k ≡ Some v }
-    ensures at_cut { (m : map.FinMap place_cmp X) (k q : Place) →
+    ensures at_removal { (m : map.FinMap place_cmp X) (k q : Place) →
         ((q ≡ k) × (map.get (map.remove m k) q ≡ None)) ⊎
         (map.get (map.remove m k) q ≡ map.get m q) }
-    ensures cut { (m : map.FinMap place_cmp X) (k : Place) → map.get (map.remove m k) k ≡ None }
+    ensures removal { (m : map.FinMap place_cmp X) (k : Place) → map.get (map.remove m k) k ≡ None }
     ensures undone { (m : map.FinMap place_cmp X) (k : Place) (v : X) → map.get m k ≡ None →
         map.remove (map.insert m k v) k ≡ m }
 {}

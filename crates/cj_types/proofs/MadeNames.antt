@@ -47,7 +47,7 @@ cons_step true b s = tt
 cons_step false b [] = tt
 cons_step false b (x ∷ r) = tt
 
--- A text cut at its dots has at least one part.
+-- A text split at its dots has at least one part.
 has_parts : (bs : List ℕ) → IsCons (slice_split is_dot bs)
 has_parts [] = tt
 has_parts (b ∷ bs) = cons_step (is_dot b) b (slice_split is_dot bs)
@@ -99,7 +99,7 @@ letters_fit (d ∷ ds) h =
     both _ _ (letter_fits d (and_left (is_letter_or_digit d) rest h))
     (letters_fit ds (and_right (is_letter_or_digit d) rest h))
 
--- A text of bytes that a label may have is a single part when it is cut at its dots.
+-- A text of bytes that a label may have is a single part when it is split at its dots.
 no_dot_in : (ds : List ℕ) → list_all is_label_byte ds ≡ true → slice_split is_dot ds ≡ ds ∷ []
 no_dot_in [] h = refl
 no_dot_in (d ∷ ds) h =

@@ -35,7 +35,7 @@ past : (t : Bool) (n m : ℕ) → m + 1 ≤ cond (not t) (1 + n) 0 → (t ≡ fa
 past true n m h = absurd (omega (arith, h))
 past false n m h = (refl, omega (arith, h))
 
--- A text in which no dot is met is a single part when it is cut at its dots.
+-- A text in which no dot is met is a single part when it is split at its dots.
 whole : (bs : List ℕ) → length bs ≤ position_or_len is_dot bs → slice_split is_dot bs ≡ bs ∷ []
 whole [] h = refl
 whole (b ∷ bs) h =

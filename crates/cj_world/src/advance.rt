@@ -1,5 +1,6 @@
-ghost use Rattle.std.specs.Prelude.{◌≡◌, ◌<◌, ◌^◌, ◌∷◌, Ok, Err, IfOk, IfErr, OnErr, vec_len, vec_capacity};
+ghost use Rattle.std.specs.Prelude.{◌≡◌, ◌<◌, ◌∷◌, Ok, Err, IfOk, IfErr, OnErr, vec_len, vec_capacity};
 ghost use mathlib.Core.List.{reverse};
+ghost use Rattle.cj_store.specs.Content.{HasRoom};
 ghost use Rattle.cj_base.specs.declared.refusal.Refusal.TheVariants.{OutOfMemory};
 ghost use Rattle.cj_state.specs.Sound.{IsSound};
 ghost use Rattle.cj_legal.specs.Answers.{is_empty};
@@ -65,7 +66,7 @@ pub(crate) fn advance(
     caller: &Caller,
     call: &Call,
 ) -> Result<Made, Refusal>
-    requires room { state.old.store.version < 2 ^ 40 }
+    requires room { HasRoom state.old.store }
     requires sound { IsSound state.old }
     requires place { vec_len entries.old < vec_capacity entries.old }
     ensures made { IfOk result (λ m. Advanced state.old (reverse entries.old.items) caller.now

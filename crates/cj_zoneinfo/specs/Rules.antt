@@ -27,7 +27,7 @@ pub record AddsSource (zones : List Zone) (name : List ℕ) (source : Source) (m
 abbrev pub is_equals_sign : ℕ → Bool
 is_equals_sign b = b == 61
 
--- cut at the first `=`
+-- split at the first `=`
 abbrev pub name_in : List ℕ → List ℕ
 name_in pair = before_first is_equals_sign pair
 
@@ -38,7 +38,7 @@ abbrev pub HasNoSign : List ℕ → Type 0
 HasNoSign pair = position_or_len is_equals_sign pair ≡ length pair
 
 -- there is an `=`, with this name before the first and this rule after it
-pub record IsCut (pair name rule : List ℕ) : Type 0 where
+pub record IsPair (pair name rule : List ℕ) : Type 0 where
   pub inside : position_or_len is_equals_sign pair < length pair
   pub name_is : name ≡ name_in pair
   pub rule_is : rule ≡ rule_in pair

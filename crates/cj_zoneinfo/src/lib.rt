@@ -1,12 +1,12 @@
 //! Zones that words and folders give: their names in an input, the files that may be looked up, a table of both.
 #![tactic(auto)]
 
-mod cut;
 mod file;
 mod file_name;
 mod given;
 mod name_list;
 mod named;
+mod pair;
 mod refused;
 mod table;
 

@@ -8,8 +8,8 @@ ghost use Rattle.cj_zoneinfo.specs.declared.refused.Refused.TheVariants as Why;
 ghost use Rattle.cj_zoneinfo.specs.Rules.{AddsRule, AddsRules, IsNoRule, Refuses};
 ghost use Rattle.cj_zoneinfo.specs.Files.{AddsFile, AddsFiles, IsTableWith};
 
-use crate::cut::cut;
 use crate::file::ZoneFile;
+use crate::pair::split_pair;
 use crate::refused::Refused;
 use cj_base::Refusal;
 use cj_zone::ZoneTable;
@@ -21,7 +21,7 @@ fn add_rule(table: &mut ZoneTable, pair: &str) -> Result<(), Refused>
     ensures local { OnOk result (local_zone table.new ≡ local_zone table.old) }
     ensures refused { IfErr result (λ e. Refuses e (IsNoRule (zones_of table.old) pair.now)) }
 {
-    let Some((name, rule)) = cut(pair) else {
+    let Some((name, rule)) = split_pair(pair) else {
         return Err(Refused::Zone);
     };
     match table.add_rule(name, rule) {
@@ -69,7 +69,7 @@ pub fn add_files(table: &mut ZoneTable, files: &[ZoneFile]) -> Result<(), Refusa
     Ok(())
 }
 
-/// UTC, the zones of the rules, each NAME=RULE cut at its first `=`, and those of the files. UTC is the
+/// UTC, the zones of the rules, each NAME=RULE split at its first `=`, and those of the files. UTC is the
 /// local zone.
 ///
 /// `Zone` where a rule has no `=`, or its name is empty, `Local` or there already, or `jiff` refuses it. A file

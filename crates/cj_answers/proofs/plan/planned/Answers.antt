@@ -1,4 +1,4 @@
--- planned: its ensures, from the scene's plan, why it is so, and what was seen of the bytes.
+-- planned: its ensures, from the scene's plan, why it is so, and what is told beside.
 use Rattle.std.proofs.Common.{◌++◌, ◌∙◌, ap, inr, ℕ, List, string_bytes}
 use Rattle.std.proofs.lemmas.Result.{IfOk-weaker}
 use Rattle.cj_answers.specs.Outcome.{done, explained}
@@ -6,7 +6,7 @@ use Rattle.cj_review.specs.PlanLines.{plan_lines}
 use Rattle.cj_answers.proofs.plan.planned.Goals as goal
 
 pub returns : goal.returns
-returns c = λ given bytes said looked.
+returns c = λ given bytes said told.
     IfOk-weaker c.printed.result _ _
     (λ a e. inr (record {
       scene = c.args.scene;
@@ -15,12 +15,12 @@ returns c = λ given bytes said looked.
       decided = c.in_ok-plan.ensures;
       why = string_bytes c.in_ok-why.why;
       reason = c.in_ok-why.ensures;
-      seen = c.args.seen.now;
-      looked = looked;
+      beside = c.args.beside.now;
+      told = told;
       answer = e
-          ∙ ap (λ (w : List ℕ). explained c.args.explain (w ++ c.args.seen.now) (done (plan_lines c.steps.result.now)))
+          ∙ ap (λ (w : List ℕ). explained c.args.explain (w ++ c.args.beside.now) (done (plan_lines c.steps.result.now)))
           c.as_str.ensures.value
-          ∙ ap (λ s. explained c.args.explain (string_bytes c.in_ok-why.why ++ c.args.seen.now) (done (plan_lines s)))
+          ∙ ap (λ s. explained c.args.explain (string_bytes c.in_ok-why.why ++ c.args.beside.now) (done (plan_lines s)))
           c.steps.ensures.steps;
     }))
     c.printed.ensures

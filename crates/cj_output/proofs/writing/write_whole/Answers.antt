@@ -6,6 +6,6 @@ use Rattle.cj_output.proofs.writing.write_whole.Goals as goal
 pub loop-preserved : goal.loop-preserved
 loop-preserved g c = record {
   within = search rules;
-  written = appends_more _ _ _ c.args.bytes.now c.loop.at c.in_ok-count.count c.loop.invariant.written
+  written = appends_more _ _ _ c.args.bytes.now c.loop.written c.in_ok-count.count c.loop.invariant.written
       c.in_ok-count.ensures.taken;
 }

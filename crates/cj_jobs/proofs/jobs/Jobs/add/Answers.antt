@@ -14,9 +14,9 @@ invariant_of-self-in_default c =
     let put : c.insert.new.self ≡ map.insert c.self.inside.table c.args.job.key c.args.job =
     c.in_ok-insert.ensures.ok ∙ ap (λ (k : Place). map.insert c.self.inside.table k c.args.job)
     c.in_ok-key.ensures.ok in
-    let sets = subst (λ e. Sets true c.self.inside.index c.put_entry.new.index e) c.in_ok-entry.ensures.ok
+    let sets = subst (λ e. Sets true c.self.inside.index c.insert_entry.new.index e) c.in_ok-entry.ensures.ok
     c.in_default.ensures.ok in
-    index_put c.self.inside.table c.insert.new.self c.self.inside.index c.put_entry.new.index c.args.job
+    index_put c.self.inside.table c.insert.new.self c.self.inside.index c.insert_entry.new.index c.args.job
     c.self.invariant absent put sets
 
 pub invariant_of-self-in-Err : goal.invariant_of-self-in-Err
@@ -25,7 +25,7 @@ invariant_of-self-in-Err c =
     ap (λ (m : map.FinMap place_cmp Job). map.get m c.args.job.key) c.self.view_is ∙ c.requires in
     let same = taken_back c.self.inside.table c.insert.new.self c.remove.new.self c.args.job _ _ absent
     c.in_ok-insert.ensures.ok c.in_ok-key.ensures.ok c.remove.ensures c.in_ok-again.ensures.ok in
-    index_kept c.self.inside.table c.remove.new.self c.self.inside.index c.put_entry.new.index c.self.invariant same
+    index_kept c.self.inside.table c.remove.new.self c.self.inside.index c.insert_entry.new.index c.self.invariant same
     c.in-Err.ensures.err
 
 pub returns-in-Err-clause-err : goal.returns-in-Err-clause-err

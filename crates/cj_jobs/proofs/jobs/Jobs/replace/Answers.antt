@@ -11,4 +11,4 @@ pub invariant_of-self-2 : goal.invariant_of-self-2
 invariant_of-self-2 c =
     index_same c.self.inside.table c.insert.new.self c.self.inside.index c.args.job c.self.invariant
     (ap (λ (m : map.FinMap place_cmp Job). owners_of m c.args.job.key) c.self.view_is ∙ c.requires)
-    (c.in_ok-insert.ensures.ok ∙ ap (λ (k : Place). map.insert c.self.inside.table k c.args.job) c.in_ok-at.ensures.ok)
+    (c.in_ok-insert.ensures.ok ∙ ap (λ (k : Place). map.insert c.self.inside.table k c.args.job) c.in_ok-key.ensures.ok)

@@ -1,0 +1,145 @@
+// A CronJob's spec and status.
+ghost use Rattle.std.specs.Prelude.{◌≡◌, map, IfOk, IfErr, OnOk};
+ghost use Rattle.cj_base.specs.declared.refusal.Refusal.TheVariants.{OutOfMemory};
+ghost use Rattle.serde_json.specs.View.{view, members_view};
+ghost use Rattle.cj_json.specs.Objects as object;
+
+use crate::members::{
+    put_labels, put_number, put_some_list, put_some_number, put_some_object, put_some_text,
+    put_some_time, put_text, put_truth, put_value,
+};
+use crate::meta::metadata;
+use crate::object::object_value;
+use cj_types::{CronJob, CronSpec, CronStatus, JobTemplate, ObjectName, Refusal};
+use serde_json::{Map, Value};
+use std::alloc::Global;
+
+fn template_metadata(alloc: Global, template: &JobTemplate) -> Result<Map<String, Value>, Refusal>
+    ensures ok { IfOk result (λ m. members_view m.entries ≡ object.template_metadata template.now) }
+    ensures err { IfErr result (λ e. e ≡ OutOfMemory) }
+{
+    let mut members = Map::new(alloc);
+    put_labels(&mut members, alloc, "annotations", &template.annotations)?;
+    put_labels(&mut members, alloc, "labels", &template.labels)?;
+    Ok(members)
+}
+
+fn template_value(alloc: Global, template: &JobTemplate, job: Value) -> Result<Value, Refusal>
+    ensures ok { IfOk result (λ v. view v ≡ object.template_data template.now (view job)) }
+    ensures err { IfErr result (λ e. e ≡ OutOfMemory) }
+{
+    let mut members = Map::new(alloc);
+    put_value(&mut members, alloc, "spec", job)?;
+    let metadata = template_metadata(alloc, template)?;
+    put_some_object(&mut members, alloc, "metadata", metadata)?;
+    Ok(Value::Object(members))
+}
+
+fn spec_head(alloc: Global, spec: &CronSpec, template: Value) -> Result<Map<String, Value>, Refusal>
+    ensures ok { IfOk result (λ m. members_view m.entries
+        ≡ object.spec_head spec.now (view template)) }
+    ensures err { IfErr result (λ e. e ≡ OutOfMemory) }
+{
+    let mut members = Map::new(alloc);
+    put_value(&mut members, alloc, "jobTemplate", template)?;
+    put_text(&mut members, alloc, "concurrencyPolicy", spec.policy.name())?;
+    put_number(
+        &mut members,
+        alloc,
+        "failedJobsHistoryLimit",
+        u64::from(spec.failed_limit.get()),
+    )?;
+    put_text(&mut members, alloc, "schedule", spec.schedule.as_str())?;
+    Ok(members)
+}
+
+fn spec_value(alloc: Global, spec: &CronSpec, job: Value) -> Result<Value, Refusal>
+    ensures ok { IfOk result (λ v. view v ≡ object.cron_spec_data spec.now (view job)) }
+    ensures err { IfErr result (λ e. e ≡ OutOfMemory) }
+{
+    let template = template_value(alloc, &spec.template, job)?;
+    let mut members = spec_head(alloc, spec, template)?;
+    let successful = u64::from(spec.successful_limit.get());
+    let deadline = spec
+        .starting_deadline_seconds
+        .map(|deadline| deadline.get());
+    put_number(
+        &mut members,
+        alloc,
+        "successfulJobsHistoryLimit",
+        successful,
+    )?;
+    put_truth(&mut members, alloc, "suspend", spec.suspend)?;
+    put_some_number(&mut members, alloc, "startingDeadlineSeconds", deadline)?;
+    put_some_text(&mut members, alloc, "timeZone", &spec.time_zone)?;
+    Ok(Value::Object(members))
+}
+
+fn active_value(alloc: Global, namespace: &str, name: &str) -> Result<Value, Refusal>
+    ensures ok { IfOk result (λ v. view v ≡ object.active_data namespace.now name.now) }
+    ensures err { IfErr result (λ e. e ≡ OutOfMemory) }
+{
+    let mut members = Map::new(alloc);
+    put_text(&mut members, alloc, "apiVersion", "batch/v1")?;
+    put_text(&mut members, alloc, "kind", "Job")?;
+    put_text(&mut members, alloc, "name", name)?;
+    put_text(&mut members, alloc, "namespace", namespace)?;
+    Ok(Value::Object(members))
+}
+
+fn active_values(
+    alloc: Global,
+    namespace: &str,
+    names: &[ObjectName],
+) -> Result<Vec<Value>, Refusal>
+    ensures ok { IfOk result (λ v. map view v.items
+        ≡ map (object.active_data namespace.now) names.now) }
+    ensures err { IfErr result (λ e. e ≡ OutOfMemory) }
+{
+    let mut values = Vec::new(alloc);
+    for name in names {
+        values
+            .push(active_value(alloc, namespace, name.as_str())?)
+            .map_err(|_| Refusal::OutOfMemory)?;
+    }
+    Ok(values)
+}
+
+fn status_members(
+    alloc: Global,
+    namespace: &str,
+    status: &CronStatus,
+) -> Result<Map<String, Value>, Refusal>
+    ensures ok { IfOk result (λ m. members_view m.entries
+        ≡ object.cron_status_members namespace.now status.now) }
+    ensures err { IfErr result (λ e. e ≡ OutOfMemory) }
+{
+    let active = active_values(alloc, namespace, status.active.as_slice())?;
+    let mut members = Map::new(alloc);
+    put_some_list(&mut members, alloc, "active", active)?;
+    put_some_time(
+        &mut members,
+        alloc,
+        "lastScheduleTime",
+        status.last_schedule_time,
+    )?;
+    put_some_time(
+        &mut members,
+        alloc,
+        "lastSuccessfulTime",
+        status.last_successful_time,
+    )?;
+    Ok(members)
+}
+
+/// The object of a CronJob, with the value of the spec that its template keeps.
+pub(crate) fn cron_value(alloc: Global, cron: &CronJob, job: Value) -> Result<Value, Refusal>
+    ensures ok { IfOk result (λ v. view v ≡ object.cron_data cron.now (view job)) }
+    ensures err { IfErr result (λ e. e ≡ OutOfMemory) }
+{
+    let key = cron.key.key();
+    let spec = spec_value(alloc, &cron.spec, job)?;
+    let metadata = metadata(alloc, key, &cron.meta, &[])?;
+    let status = status_members(alloc, key.namespace(), &cron.status)?;
+    object_value(alloc, "CronJob", metadata, spec, status)
+}

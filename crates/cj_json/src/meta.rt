@@ -1,0 +1,94 @@
+// The metadata of an object.
+ghost use Rattle.std.specs.Prelude.{◌≡◌, map, IfOk, IfErr, OnOk};
+ghost use Rattle.cj_base.specs.declared.refusal.Refusal.TheVariants.{OutOfMemory};
+ghost use Rattle.serde_json.specs.View.{view, members_view};
+ghost use Rattle.cj_json.specs.Objects as object;
+ghost use Rattle.cj_json.specs.Parts as part;
+
+use crate::members::{put_labels, put_number, put_some_list, put_text, put_time, put_truth};
+use cj_types::{Key, Meta, OwnerRef, Refusal, version_text};
+use serde_json::{Map, Value};
+use std::alloc::Global;
+
+fn owner_value(alloc: Global, owner: &OwnerRef) -> Result<Value, Refusal>
+    ensures ok { IfOk result (λ v. view v ≡ part.owner_data owner.now) }
+    ensures err { IfErr result (λ e. e ≡ OutOfMemory) }
+{
+    let mut members = Map::new(alloc);
+    let blocks = owner.block_owner_deletion;
+    put_text(
+        &mut members,
+        alloc,
+        "apiVersion",
+        owner.api_version.as_str(),
+    )?;
+    put_truth(&mut members, alloc, "blockOwnerDeletion", blocks)?;
+    put_truth(&mut members, alloc, "controller", owner.controller)?;
+    put_text(&mut members, alloc, "kind", owner.kind.as_str())?;
+    put_text(&mut members, alloc, "name", owner.name.as_str())?;
+    put_text(&mut members, alloc, "uid", owner.uid.as_str())?;
+    Ok(Value::Object(members))
+}
+
+fn owner_values(alloc: Global, owners: &[OwnerRef]) -> Result<Vec<Value>, Refusal>
+    ensures ok { IfOk result (λ v. map view v.items ≡ map part.owner_data owners.now) }
+    ensures err { IfErr result (λ e. e ≡ OutOfMemory) }
+{
+    let mut values = Vec::new(alloc);
+    for owner in owners {
+        values
+            .push(owner_value(alloc, owner)?)
+            .map_err(|_| Refusal::OutOfMemory)?;
+    }
+    Ok(values)
+}
+
+fn put_uid(members: &mut Map<String, Value>, alloc: Global, meta: &Meta) -> Result<(), Refusal>
+    ensures ok { OnOk result (members_view members.new.entries
+        ≡ object.put_uid meta.now (members_view members.old.entries)) }
+    ensures err { IfErr result (λ e. e ≡ OutOfMemory) }
+{
+    let uid = meta.uid.text(alloc)?;
+    put_text(members, alloc, "uid", uid.as_str())
+}
+
+fn put_version(members: &mut Map<String, Value>, alloc: Global, meta: &Meta) -> Result<(), Refusal>
+    ensures ok { OnOk result (members_view members.new.entries
+        ≡ object.put_version meta.now (members_view members.old.entries)) }
+    ensures err { IfErr result (λ e. e ≡ OutOfMemory) }
+{
+    let version = version_text(alloc, meta.version)?;
+    put_text(members, alloc, "resourceVersion", version.as_str())
+}
+
+fn identity(alloc: Global, key: &Key, meta: &Meta) -> Result<Map<String, Value>, Refusal>
+    ensures ok { IfOk result (λ m. members_view m.entries ≡ object.identity key.now meta.now) }
+    ensures err { IfErr result (λ e. e ≡ OutOfMemory) }
+{
+    let mut members = Map::new(alloc);
+    put_time(&mut members, alloc, "creationTimestamp", meta.created)?;
+    put_number(&mut members, alloc, "generation", meta.generation)?;
+    put_text(&mut members, alloc, "name", key.name())?;
+    put_text(&mut members, alloc, "namespace", key.namespace())?;
+    put_version(&mut members, alloc, meta)?;
+    put_uid(&mut members, alloc, meta)?;
+    Ok(members)
+}
+
+pub(crate) fn metadata(
+    alloc: Global,
+    key: &Key,
+    meta: &Meta,
+    owners: &[OwnerRef],
+) -> Result<Map<String, Value>, Refusal>
+    ensures ok { IfOk result (λ m. members_view m.entries
+        ≡ object.metadata_members key.now meta.now owners.now) }
+    ensures err { IfErr result (λ e. e ≡ OutOfMemory) }
+{
+    let mut members = identity(alloc, key, meta)?;
+    put_labels(&mut members, alloc, "annotations", &meta.annotations)?;
+    put_labels(&mut members, alloc, "labels", &meta.labels)?;
+    let owners = owner_values(alloc, owners)?;
+    put_some_list(&mut members, alloc, "ownerReferences", owners)?;
+    Ok(members)
+}

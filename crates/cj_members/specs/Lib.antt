@@ -1,0 +1,6 @@
+pub mod Wants
+pub mod Members
+pub mod Deeds
+pub mod Items
+pub mod Wholes
+pub mod Looks

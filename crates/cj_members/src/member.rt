@@ -1,0 +1,66 @@
+// One member.
+ghost use Rattle.std.specs.Prelude.{◌≡◌, ◌≢◌, Ok, Err, IfOk, IfErr};
+ghost use Rattle.serde_json.specs.View.{view};
+ghost use Rattle.cj_members.specs.declared.wrong.Wrong.TheVariants.{Memory};
+ghost use Rattle.cj_members.specs.Members as said;
+
+use crate::want::Want;
+use crate::wrong::{Wrong, told};
+use cj_acts::present;
+use serde_json::Value;
+use std::alloc::Global;
+
+/// A value that is there has to be what is wanted.
+pub(crate) fn checked(
+    alloc: Global,
+    path: &str,
+    name: &str,
+    want: Want,
+    value: &Value,
+) -> Result<(), Wrong>
+    ensures ok { IfOk result (λ _. said.checked path.now name.now want (view value.now) ≡ Ok tt) }
+    ensures err { IfErr result (λ e. e ≢ Memory →
+        said.checked path.now name.now want (view value.now) ≡ Err e) }
+{
+    if want.fits(alloc, value)? {
+        Ok(())
+    } else {
+        Err(told(alloc, path, name, ": want ", want.words()))
+    }
+}
+
+/// A member that must be there.
+pub(crate) fn must(
+    alloc: Global,
+    path: &str,
+    whole: &Value,
+    name: &str,
+    want: Want,
+) -> Result<(), Wrong>
+    ensures ok { IfOk result (λ _. said.must path.now (view whole.now) name.now want ≡ Ok tt) }
+    ensures err { IfErr result (λ e. e ≢ Memory →
+        said.must path.now (view whole.now) name.now want ≡ Err e) }
+{
+    match present(whole, name) {
+        Some(found) => checked(alloc, path, name, want, found),
+        None => Err(told(alloc, path, name, ": missing, want ", want.words())),
+    }
+}
+
+/// A member that may be there.
+pub(crate) fn may(
+    alloc: Global,
+    path: &str,
+    whole: &Value,
+    name: &str,
+    want: Want,
+) -> Result<(), Wrong>
+    ensures ok { IfOk result (λ _. said.may path.now (view whole.now) name.now want ≡ Ok tt) }
+    ensures err { IfErr result (λ e. e ≢ Memory →
+        said.may path.now (view whole.now) name.now want ≡ Err e) }
+{
+    match present(whole, name) {
+        Some(found) => checked(alloc, path, name, want, found),
+        None => Ok(()),
+    }
+}

@@ -1,0 +1,148 @@
+ghost use Rattle.std.specs.Prelude.{◌≡◌, ◌≤◌, ◌<◌, ◌+◌, IfErr, IfOk, OnOk, OnErr, IsTrue, true, option_copied};
+ghost use Rattle.indexmap.specs.IndexSet.{spare, Updates};
+ghost use Rattle.cj_base.specs.declared.refusal.Refusal.TheVariants.{OutOfMemory};
+ghost use Rattle.cj_queue.specs.Queue.{new_row, row_add, row_take, row_end, first, has};
+ghost use Rattle.cj_queue.specs.Parts.{key_eq};
+
+use crate::line::Line;
+use cj_types::{Key, Refusal, TryCopy};
+use indexmap::IndexSet;
+use std::alloc::Global;
+use std::marker::Model;
+
+/// The keys that want work, and those that are being worked on.
+///
+/// Contracts see the line, the dirty keys and those that are being worked on, and for how many adds there is room.
+#[derive(Drop)]
+pub struct Work {
+    // The keys that want work and that nobody works on.
+    line: Line,
+    // Those of the keys being worked on that were added meanwhile.
+    again: IndexSet<Key>,
+    // The keys that are being worked on.
+    processing: IndexSet<Key>,
+}
+
+impl Model for Work {
+    ghost use Rattle.indexmap.specs.IndexSet.{spare};
+    ghost use Rattle.std.specs.Prelude.{◌++◌, min};
+    ghost use Rattle.cj_queue.specs.Parts.{Work, work_code, keys_of, IsLined};
+
+    ghost Value = { Work };
+
+    ghost coded = { work_code };
+
+    ghost view = { λ r. record {
+      row = record {
+        line = r.line.keys;
+        dirty = keys_of (r.line.keys ++ r.again.keys);
+        processing = keys_of r.processing.keys;
+      };
+      room = min r.line.room (spare r.again);
+    } };
+
+    ghost invariant = { λ r. IsLined r.line.keys r.again.keys r.processing.keys };
+}
+
+// Puts a key into a set that has room.
+fn put(set: &mut IndexSet<Key>, key: Key)
+    requires { 0 < spare set.old }
+    ensures updates { Updates key_eq set.old set.new key true }
+    ensures spare { spare set.old ≤ spare set.new + 1 }
+{
+    let _ = set.insert(key);
+}
+
+impl Work {
+    /// No key.
+    pub fn new(alloc: Global) -> Work
+        ensures { result.row ≡ new_row }
+    {
+        Work {
+            line: Line::new(alloc),
+            again: IndexSet::new(alloc),
+            processing: IndexSet::new(alloc),
+        }
+    }
+
+    /// Makes room for so many adds.
+    pub fn reserve(&mut self, count: usize) -> Result<(), Refusal>
+        ensures row { self.new.row ≡ self.old.row }
+        ensures ok { OnOk result (count ≤ self.new.room) }
+        ensures memory { IfErr result (λ e. e ≡ OutOfMemory) }
+    {
+        self.line.reserve(count)?;
+        self.again.reserve(count)?;
+        Ok(())
+    }
+
+    /// The key is dirty, and goes last in the line unless it was dirty or is being worked on.
+    pub fn add(&mut self, key: Key)
+        requires { 0 < self.old.room }
+        ensures row { self.new.row ≡ row_add self.old.row key }
+        ensures room { self.old.room ≤ self.new.room + 1 }
+    {
+        if self.processing.contains(&key) {
+            put(&mut self.again, key);
+        } else if !self.line.contains(&key) {
+            self.line.push(key);
+        }
+    }
+
+    /// Adds the key, with the memory that it needs.
+    pub fn add_key(&mut self, alloc: Global, key: &Key) -> Result<(), Refusal>
+        ensures ok { OnOk result (self.new.row ≡ row_add self.old.row key.now) }
+        ensures err { OnErr result (self.new.row ≡ self.old.row) }
+        ensures memory { IfErr result (λ e. e ≡ OutOfMemory) }
+    {
+        let copy = key.try_copy(alloc)?;
+        self.reserve(1)?;
+        self.add(copy);
+        Ok(())
+    }
+
+    /// The first of the line.
+    pub fn front(&self) -> Option<&Key>
+        ensures { option_copied result ≡ first self.now.row.line }
+    {
+        self.line.first()
+    }
+
+    /// Moves the first of the line to those that are being worked on.
+    pub fn take(&mut self, alloc: Global) -> Result<Option<Key>, Refusal>
+        ensures answer { IfOk result (λ k. k ≡ first self.old.row.line) }
+        ensures ok { OnOk result (self.new.row ≡ row_take self.old.row) }
+        ensures err { OnErr result (self.new.row ≡ self.old.row) }
+        ensures memory { IfErr result (λ e. e ≡ OutOfMemory) }
+    {
+        let Some(front) = self.line.first() else {
+            return Ok(None);
+        };
+        let key = front.try_copy(alloc)?;
+        let copy = front.try_copy(alloc)?;
+        self.processing.reserve(1)?;
+        put(&mut self.processing, copy);
+        self.line.drop_first();
+        Ok(Some(key))
+    }
+
+    /// Whether the key is being worked on.
+    pub fn is_processing(&self, key: &Key) -> bool
+        ensures { result ≡ has self.now.row.processing key.now }
+    {
+        self.processing.contains(key)
+    }
+
+    /// Ends the work on a key, which goes last where it is dirty.
+    pub fn end(&mut self, key: &Key)
+        requires room { 0 < self.old.room }
+        requires held { IsTrue (has self.old.row.processing key.now) }
+        ensures row { self.new.row ≡ row_end self.old.row key.now }
+        ensures room { self.old.room ≤ self.new.room + 1 }
+    {
+        self.processing.swap_remove(key);
+        if let Some(again) = self.again.swap_take(key) {
+            self.line.push(again);
+        }
+    }
+}

@@ -1,0 +1,164 @@
+ghost use Rattle.std.specs.Prelude.{◌≡◌, ◌≢◌, ◌≤◌, IfOk, IfErr, Ok, Err};
+ghost use Rattle.cj_base.specs.declared.refusal.Refusal.TheVariants.{OutOfMemory};
+ghost use Rattle.cj_store.specs.Content.{HasRoom};
+ghost use Rattle.cj_store.specs.Change.{IsFor, cron_added, cron_modified, cron_gone};
+ghost use Rattle.cj_store.specs.Crons.{new_cron, cron_created, updated_cron, cron_updated, with_status, status_set, last_cron, cron_deleted};
+
+use crate::Store;
+use crate::equal::is_same_cron_spec;
+use crate::meta::version_not_allowed;
+use cj_types::{
+    CronJob, CronJobDraft, CronStatus, Key, Names, Refusal, Seconds, TryCopy, Uid, Version,
+};
+use std::alloc::Global;
+
+// The CronJobs that writes would leave, or why they are refused. Nothing changes here.
+impl Store {
+    fn new_cron(&self, alloc: Global, draft: CronJobDraft, now: Seconds) -> CronJob
+        requires { HasRoom self.now }
+        ensures { result ≡ new_cron self.now draft now }
+    {
+        let CronJobDraft { key, meta, spec } = draft;
+        CronJob {
+            key,
+            meta: self.new_meta(meta, now),
+            spec,
+            status: CronStatus {
+                active: Names::new(alloc),
+                last_schedule_time: None,
+                last_successful_time: None,
+            },
+        }
+    }
+
+    pub(crate) fn cron_created(
+        &self,
+        alloc: Global,
+        draft: CronJobDraft,
+        now: Seconds,
+    ) -> Result<CronJob, Refusal>
+        requires { HasRoom self.now }
+        ensures ok { IfOk result (λ c. cron_created self.now draft now ≡ Ok c) }
+        ensures err { IfErr result (λ e. e ≢ OutOfMemory →
+            cron_created self.now draft now ≡ Err e) }
+        ensures planned { IfOk result (λ c. IsFor self.now (cron_added c)) }
+    {
+        if draft.meta.version.is_some() {
+            return Err(version_not_allowed(alloc));
+        }
+        if self.get_cron(draft.key.key()).is_some() {
+            return Err(Refusal::AlreadyExists);
+        }
+        Ok(self.new_cron(alloc, draft, now))
+    }
+
+    fn updated_cron(
+        &self,
+        alloc: Global,
+        draft: CronJobDraft,
+        found: &CronJob,
+    ) -> Result<CronJob, Refusal>
+        requires room { HasRoom self.now }
+        requires keyed { found.now.key ≡ draft.key }
+        requires dated { found.now.meta.generation ≤ self.now.version }
+        ensures ok { IfOk result (λ c. c ≡ updated_cron self.now draft found.now) }
+        ensures err { IfErr result (λ e. e ≡ OutOfMemory) }
+    {
+        let status = found.status.try_copy(alloc)?;
+        let is_same = is_same_cron_spec(&draft.spec, &found.spec);
+        let CronJobDraft { key, meta, spec } = draft;
+        Ok(CronJob {
+            key,
+            meta: self.updated(meta, is_same, &found.meta),
+            spec,
+            status,
+        })
+    }
+
+    #[tactic(auto, using(crate::proofs::Kept::updated_generation, crate::proofs::Kept::cron_uid_there))]
+    pub(crate) fn cron_updated(
+        &self,
+        alloc: Global,
+        draft: CronJobDraft,
+    ) -> Result<CronJob, Refusal>
+        requires { HasRoom self.now }
+        ensures ok { IfOk result (λ c. cron_updated self.now draft ≡ Ok c) }
+        ensures err { IfErr result (λ e. e ≢ OutOfMemory → cron_updated self.now draft ≡ Err e) }
+        ensures planned { IfOk result (λ c. IsFor self.now (cron_modified c)) }
+    {
+        let Some(found) = self.get_cron(draft.key.key()) else {
+            return Err(Refusal::NotFound);
+        };
+        if !draft.meta.is_current(alloc, &found.meta)? {
+            return Err(Refusal::Conflict(found.meta.version));
+        }
+        self.updated_cron(alloc, draft, found)
+    }
+
+    fn with_status(
+        &self,
+        alloc: Global,
+        status: CronStatus,
+        found: &CronJob,
+    ) -> Result<CronJob, Refusal>
+        requires { HasRoom self.now }
+        ensures ok { IfOk result (λ c. c ≡ with_status self.now status found.now) }
+        ensures err { IfErr result (λ e. e ≡ OutOfMemory) }
+    {
+        Ok(CronJob {
+            key: found.key.try_copy(alloc)?,
+            meta: self.touched(alloc, &found.meta)?,
+            spec: found.spec.try_copy(alloc)?,
+            status,
+        })
+    }
+
+    #[tactic(auto, using(crate::proofs::Kept::cron_uid_there))]
+    pub(crate) fn status_set(
+        &self,
+        alloc: Global,
+        key: &Key,
+        uid: Uid,
+        version: Version,
+        status: CronStatus,
+    ) -> Result<CronJob, Refusal>
+        requires { HasRoom self.now }
+        ensures ok { IfOk result (λ c. status_set self.now key.now uid version status ≡ Ok c) }
+        ensures err { IfErr result (λ e. e ≢ OutOfMemory →
+            status_set self.now key.now uid version status ≡ Err e) }
+        ensures planned { IfOk result (λ c. IsFor self.now (cron_modified c)) }
+    {
+        let Some(found) = self.get_cron(key) else {
+            return Err(Refusal::NotFound);
+        };
+        if found.meta.uid != uid {
+            return Err(Refusal::NotFound);
+        }
+        if found.meta.version != version {
+            return Err(Refusal::Conflict(found.meta.version));
+        }
+        self.with_status(alloc, status, found)
+    }
+
+    fn last_cron(&self, alloc: Global, found: &CronJob) -> Result<CronJob, Refusal>
+        requires { HasRoom self.now }
+        ensures ok { IfOk result (λ c. c ≡ last_cron self.now found.now) }
+        ensures err { IfErr result (λ e. e ≡ OutOfMemory) }
+    {
+        let standing = found.status.try_copy(alloc)?;
+        self.with_status(alloc, standing, found)
+    }
+
+    #[tactic(auto, using(crate::proofs::Kept::cron_uid_there))]
+    pub(crate) fn cron_deleted(&self, alloc: Global, key: &Key) -> Result<CronJob, Refusal>
+        requires { HasRoom self.now }
+        ensures ok { IfOk result (λ c. cron_deleted self.now key.now ≡ Ok c) }
+        ensures err { IfErr result (λ e. e ≢ OutOfMemory → cron_deleted self.now key.now ≡ Err e) }
+        ensures planned { IfOk result (λ c. IsFor self.now (cron_gone c)) }
+    {
+        match self.get_cron(key) {
+            Some(found) => self.last_cron(alloc, found),
+            None => Err(Refusal::NotFound),
+        }
+    }
+}
