@@ -17,7 +17,7 @@ use Rattle.cj_script.proofs.Never.{IsOther, lost, other_after, other_all, other_
 use Rattle.cj_course.specs.declared.course.Edit.{Edit}
 use Rattle.cj_course.specs.Courses.{IsRefusedValue, Told, beside, lists_in, told, told_in}
 use Rattle.cj_course.specs.Edits.{edit_of, edits_in, instant_in, items_in}
-use Rattle.cj_course.specs.Rows.{runs_in}
+use Rattle.cj_course.specs.RunLists.{runs_in}
 use Rattle.cj_course.specs.Runs.{RunTable}
 use Rattle.cj_course.specs.Seeds.{crons_in, seed_of}
 use Rattle.cj_course.specs.Spans.{SpanView}

@@ -16,7 +16,7 @@ use Rattle.cj_script.specs.Scripts.{HasNoZones}
 use Rattle.cj_course.specs.declared.course.Course.{Course}
 use Rattle.cj_course.specs.declared.course.Edit.{Edit}
 use Rattle.cj_course.specs.Edits.{edits_in}
-use Rattle.cj_course.specs.Rows.{runs_in}
+use Rattle.cj_course.specs.RunLists.{runs_in}
 use Rattle.cj_course.specs.Runs.{RunTable}
 use Rattle.cj_course.specs.Seeds.{crons_in}
 use Rattle.cj_course.specs.Spans.{SpanView}

@@ -1,7 +1,7 @@
 pub mod Spans
 pub mod Times
 pub mod Runs
-pub mod Rows
+pub mod RunLists
 pub mod Seeds
 pub mod Edits
 pub mod Courses

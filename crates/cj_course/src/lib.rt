@@ -4,8 +4,8 @@
 mod course;
 mod edits;
 mod read;
-mod rows;
 mod run;
+mod run_lists;
 mod runs;
 mod seeds;
 mod span;

@@ -11,7 +11,7 @@ ghost use Rattle.cj_course.specs.Edits.{edits_in};
 
 use crate::course::{Course, Edit};
 use crate::edits::edits_at;
-use crate::rows::runs_at;
+use crate::run_lists::runs_at;
 use crate::runs::Runs;
 use crate::seeds::crons_at;
 use crate::span::Span;

@@ -14,7 +14,7 @@ use std::marker::Model;
 /// list of each key.
 #[derive(Drop)]
 pub struct Runs {
-    rows: Table<Listing<Run>>,
+    lists: Table<Listing<Run>>,
 }
 
 impl Model for Runs {
@@ -29,7 +29,7 @@ impl Model for Runs {
 
     ghost coded = { map.code coded_place (coded_list run.coded) };
 
-    ghost view = { λ r. r.rows };
+    ghost view = { λ r. r.lists };
 }
 
 // The run of that number, or the last one where there are fewer.
@@ -46,7 +46,7 @@ impl Runs {
         ensures { result ≡ map.empty }
     {
         Runs {
-            rows: Table::new(alloc),
+            lists: Table::new(alloc),
         }
     }
 
@@ -55,7 +55,7 @@ impl Runs {
         ensures ok { OnOk result (self.new ≡ map.insert self.old key runs) }
         ensures err { IfErr result (λ e. e ≡ OutOfMemory) }
     {
-        self.rows.insert(key, runs)
+        self.lists.insert(key, runs)
     }
 
     /// The run that a Job of the CronJob with this key takes, before which so many took one: that of this number in the
@@ -63,6 +63,6 @@ impl Runs {
     pub fn of(&self, key: &Key, n: u64) -> Option<Run>
         ensures { result ≡ run_of self.now key.now n }
     {
-        run_at(self.rows.get(key)?.as_slice(), n)
+        run_at(self.lists.get(key)?.as_slice(), n)
     }
 }

@@ -6,9 +6,9 @@ ghost use Rattle.cj_members.specs.declared.wrong.Wrong.TheVariants.{Memory};
 ghost use Rattle.cj_members.specs.Items as said;
 
 use crate::deed::{caller, deed};
-use crate::member::must;
+use crate::member::{must, other};
 use crate::want::{Range, Want, Word};
-use crate::wrong::{Wrong, told};
+use crate::wrong::Wrong;
 use cj_acts::present;
 use serde_json::Value;
 use std::alloc::{AllocError, Global};
@@ -67,7 +67,7 @@ fn seed(alloc: Global, path: &str, value: &Value) -> Result<(), Wrong>
         said.seed_by path.now (unless_null (view value.now)) ≡ Err e) }
 {
     match value {
-        Value::Null => Err(told(alloc, "", path, ": want ", Want::Manifest.words())),
+        Value::Null => Err(other(alloc, "", path, Want::Manifest)),
         _ => Ok(()),
     }
 }

@@ -1,14 +1,31 @@
 // One member.
 ghost use Rattle.std.specs.Prelude.{◌≡◌, ◌≢◌, Ok, Err, IfOk, IfErr};
 ghost use Rattle.serde_json.specs.View.{view};
-ghost use Rattle.cj_members.specs.declared.wrong.Wrong.TheVariants.{Memory};
+ghost use Rattle.cj_members.specs.declared.wrong.Wrong.TheVariants.{Member, Memory};
 ghost use Rattle.cj_members.specs.Members as said;
+ghost use Rattle.cj_members.specs.Wants.{words};
 
 use crate::want::Want;
 use crate::wrong::{Wrong, told};
 use cj_acts::present;
 use serde_json::Value;
 use std::alloc::Global;
+
+// A member that must be there isn't.
+fn missing(alloc: Global, path: &str, name: &str, want: Want) -> Wrong
+    ensures { result ≢ Memory →
+        result ≡ Member (said.line path.now name.now said.missing (words want)) }
+{
+    told(alloc, path, name, ": missing, want ", want.words())
+}
+
+/// What is there is something else.
+pub(crate) fn other(alloc: Global, path: &str, name: &str, want: Want) -> Wrong
+    ensures { result ≢ Memory →
+        result ≡ Member (said.line path.now name.now said.other (words want)) }
+{
+    told(alloc, path, name, ": want ", want.words())
+}
 
 /// A value that is there has to be what is wanted.
 pub(crate) fn checked(
@@ -25,7 +42,7 @@ pub(crate) fn checked(
     if want.fits(alloc, value)? {
         Ok(())
     } else {
-        Err(told(alloc, path, name, ": want ", want.words()))
+        Err(other(alloc, path, name, want))
     }
 }
 
@@ -43,7 +60,7 @@ pub(crate) fn must(
 {
     match present(whole, name) {
         Some(found) => checked(alloc, path, name, want, found),
-        None => Err(told(alloc, path, name, ": missing, want ", want.words())),
+        None => Err(missing(alloc, path, name, want)),
     }
 }
 

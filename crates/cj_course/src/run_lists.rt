@@ -4,7 +4,7 @@ ghost use Rattle.std.specs.FinMap as map;
 ghost use Rattle.serde_json.specs.View.{view, items_view, members_view};
 ghost use Rattle.cj_manifest.specs.Members.{unless_null};
 ghost use Rattle.cj_base.specs.declared.refusal.Refusal.TheVariants.{OutOfMemory};
-ghost use Rattle.cj_course.specs.Rows as said;
+ghost use Rattle.cj_course.specs.RunLists as said;
 
 use crate::run::{Run, RunEnd};
 use crate::runs::Runs;
@@ -57,8 +57,12 @@ fn runs_of(alloc: Global, items: &Vec<Value>) -> Result<Option<Vec<Run>>, Refusa
 }
 
 // The runs of a member that isn't null, under its key.
-fn row_of(alloc: Global, name: &str, value: &Value) -> Result<Option<(Key, Listing<Run>)>, Refusal>
-    ensures ok { IfOk result (λ r. r ≡ said.row_of name.now (view value.now)) }
+fn run_list_of(
+    alloc: Global,
+    name: &str,
+    value: &Value,
+) -> Result<Option<(Key, Listing<Run>)>, Refusal>
+    ensures ok { IfOk result (λ r. r ≡ said.run_list_of name.now (view value.now)) }
     ensures err { IfErr result (λ e. e ≡ OutOfMemory) }
 {
     let Some(key) = key_of(alloc, name)? else {
@@ -74,14 +78,19 @@ fn row_of(alloc: Global, name: &str, value: &Value) -> Result<Option<(Key, Listi
 }
 
 // The runs with those of a member, or no answer where it has another form; one that is null has none.
-fn add_row(alloc: Global, runs: &mut Runs, name: &str, value: &Value) -> Result<Option<()>, Refusal>
+fn add_run_list(
+    alloc: Global,
+    runs: &mut Runs,
+    name: &str,
+    value: &Value,
+) -> Result<Option<()>, Refusal>
     ensures ok { IfOk result (λ done. option_map (λ _. runs.new) done
-        ≡ said.with_row runs.old name.now (unless_null (view value.now))) }
+        ≡ said.with_run_list runs.old name.now (unless_null (view value.now))) }
     ensures err { IfErr result (λ e. e ≡ OutOfMemory) }
 {
     match value {
         Value::Null => Ok(Some(())),
-        _ => match row_of(alloc, name, value)? {
+        _ => match run_list_of(alloc, name, value)? {
             Some((key, list)) => {
                 runs.put(key, list)?;
                 Ok(Some(()))
@@ -91,14 +100,14 @@ fn add_row(alloc: Global, runs: &mut Runs, name: &str, value: &Value) -> Result<
     }
 }
 
-fn rows_of(alloc: Global, members: &Map<String, Value>) -> Result<Option<Runs>, Refusal>
-    ensures ok { IfOk result (λ rs. rs ≡ said.with_rows map.empty
+fn run_lists_of(alloc: Global, members: &Map<String, Value>) -> Result<Option<Runs>, Refusal>
+    ensures ok { IfOk result (λ rs. rs ≡ said.with_run_lists map.empty
         (members_view members.now.entries)) }
     ensures err { IfErr result (λ e. e ≡ OutOfMemory) }
 {
     let mut runs = Runs::new(alloc);
     for (name, member) in members.iter() {
-        if add_row(alloc, &mut runs, name.as_str(), member)?.is_none() {
+        if add_run_list(alloc, &mut runs, name.as_str(), member)?.is_none() {
             return Ok(None);
         }
     }
@@ -114,7 +123,7 @@ pub(crate) fn runs_at(alloc: Global, value: &Value) -> Result<Option<Runs>, Refu
         return Ok(Some(Runs::new(alloc)));
     };
     match found.as_object() {
-        Some(members) => rows_of(alloc, members),
+        Some(members) => run_lists_of(alloc, members),
         None => Ok(None),
     }
 }

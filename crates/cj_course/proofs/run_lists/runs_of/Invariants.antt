@@ -1,8 +1,8 @@
 -- runs_of: at each turn the runs so far, with the items left, are the runs of all items.
 use Rattle.std.proofs.Common.{◌≡◌, [], drop}
 use Rattle.serde_json.specs.View.{items_view}
-use Rattle.cj_course.specs.Rows.{with_runs}
-use Rattle.cj_course.proofs.rows.runs_of.Given as goal
+use Rattle.cj_course.specs.RunLists.{with_runs}
+use Rattle.cj_course.proofs.run_lists.runs_of.Given as goal
 
 abbrev pub invariant-loop-item : goal.invariant-loop-item
 invariant-loop-item l = with_runs l.runs.items (items_view (drop l.item-index l.item-items))

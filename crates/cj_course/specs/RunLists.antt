@@ -39,8 +39,8 @@ with_runs runs (item d ds) = option_and_then (λ run. with_runs (runs ++ run ∷
 
 -- a list of runs, under NAMESPACE/NAME
 -- rule: run-form
-abbrev pub row_of : List ℕ → Data → Option (Place × List Run)
-row_of name d =
+abbrev pub run_list_of : List ℕ → Data → Option (Place × List Run)
+run_list_of name d =
     option_and_then (λ key.
     option_map (λ runs. (key, runs))
     (option_and_then (with_runs []) (as_array d))) (key_of name)
@@ -48,19 +48,19 @@ row_of name d =
 -- ---- all
 
 -- the table with what a member says
-abbrev pub with_row : RunTable → List ℕ → Option Data → Option RunTable
-with_row table name None = Some table
-with_row table name (Some d) = option_map (λ (key, runs). map.insert table key runs) (row_of name d)
+abbrev pub with_run_list : RunTable → List ℕ → Option Data → Option RunTable
+with_run_list table name None = Some table
+with_run_list table name (Some d) = option_map (λ (key, runs). map.insert table key runs) (run_list_of name d)
 
 -- and with what the members say, one after another
-abbrev pub with_rows : RunTable → Members → Option RunTable
-with_rows table no_members = Some table
-with_rows table (member name d ms) = option_and_then (λ more. with_rows more ms) (with_row table name (unless_null d))
+abbrev pub with_run_lists : RunTable → Members → Option RunTable
+with_run_lists table no_members = Some table
+with_run_lists table (member name d ms) = option_and_then (λ more. with_run_lists more ms) (with_run_list table name (unless_null d))
 
-abbrev pub rows_of : Option Data → Option RunTable
-rows_of None = Some map.empty
-rows_of (Some d) = option_and_then (with_rows map.empty) (as_object d)
+abbrev pub run_lists_of : Option Data → Option RunTable
+run_lists_of None = Some map.empty
+run_lists_of (Some d) = option_and_then (with_run_lists map.empty) (as_object d)
 
 -- rule: run-form
 abbrev pub runs_in : Data → Option RunTable
-runs_in d = rows_of (present (codes "runs") d)
+runs_in d = run_lists_of (present (codes "runs") d)
