@@ -13,7 +13,7 @@ use Rattle.cj_acts.specs.Verbs.{verb_named}
 use Rattle.cj_members.specs.declared.want.Range.TheVariants.{Any, Max}
 use Rattle.cj_members.specs.declared.want.Want.TheVariants.{Manifest, Number, Reasons, Text, Truth}
 use Rattle.cj_members.specs.declared.want.Word.TheVariants as Word
-use Rattle.cj_members.specs.Members.{Checked, at_fault, may, missing, must, other, then}
+use Rattle.cj_members.specs.Members.{Checked, at_fault, both, may, missing, must, other}
 
 abbrev pub moment : List ℕ → Data → Checked
 moment path d = must path d (codes "at") (Text Word.Time)
@@ -28,7 +28,7 @@ abbrev pub manifest : List ℕ → Data → Checked
 manifest path d = must path d (codes "object") Manifest
 
 abbrev pub created : List ℕ → Data → Checked
-created path d = then (moment path d) (manifest path d)
+created path d = both (moment path d) (manifest path d)
 
 -- rule: explain-members
 abbrev pub written : List ℕ → Write → Data → Checked
@@ -38,10 +38,10 @@ written path Written.CreateJob d = created path d
 written path Written.UpdateJob d = manifest path d
 
 abbrev pub ended : List ℕ → Data → Checked
-ended path d = then (moment path d) (then (must path d (codes "outcome") (Text Word.End)) (key path d))
+ended path d = both (moment path d) (both (must path d (codes "outcome") (Text Word.End)) (key path d))
 
 abbrev pub watched : List ℕ → Data → Checked
-watched path d = then (must path d (codes "version") (Number Any)) (most path d)
+watched path d = both (must path d (codes "version") (Number Any)) (most path d)
 
 -- a sync that is tried again needs the time
 abbrev pub is_again : Option Bool → Bool
@@ -54,7 +54,7 @@ retried path d =
 
 abbrev pub finished : List ℕ → Data → Checked
 finished path d =
-    then (may path d (codes "retry") Truth) (then (retried path d) (may path d (codes "reasons") Reasons))
+    both (may path d (codes "retry") Truth) (both (retried path d) (may path d (codes "reasons") Reasons))
 
 -- rule: explain-members
 abbrev pub plain : List ℕ → Plain → Data → Checked
@@ -89,7 +89,7 @@ verb_in d = option_and_then verb_named (option_and_then as_str (present (codes "
 
 -- rule: explain-members
 abbrev pub deed : List ℕ → Data → Checked
-deed path d = then (must path d (codes "do") (Text Word.Verb)) (done path (verb_in d) d)
+deed path d = both (must path d (codes "do") (Text Word.Verb)) (done path (verb_in d) d)
 
 -- ---- who does it
 

@@ -12,22 +12,22 @@ use Rattle.cj_members.specs.declared.want.Range.TheVariants.{Any}
 use Rattle.cj_members.specs.declared.want.Want.TheVariants as Want
 use Rattle.cj_members.specs.declared.want.Word.TheVariants as Word
 use Rattle.cj_members.specs.Deeds.{caller, deed, moment}
-use Rattle.cj_members.specs.Members.{Checked, at_fault, checked, must, other, then}
+use Rattle.cj_members.specs.Members.{Checked, at_fault, both, checked, must, other}
 use Rattle.cj_members.specs.Wants.{is_key, words}
 
 -- ---- the items of a list
 
 abbrev pub job : List ℕ → Data → Checked
-job path d = then (must path d (codes "time") (Want.Text Word.Time)) (must path d (codes "outcome") (Want.Text Word.State))
+job path d = both (must path d (codes "time") (Want.Text Word.Time)) (must path d (codes "outcome") (Want.Text Word.State))
 
 abbrev pub step : List ℕ → Data → Data → Checked
-step path whole d = then (caller path whole d) (deed path d)
+step path whole d = both (caller path whole d) (deed path d)
 
 abbrev pub edit : List ℕ → Data → Checked
-edit path d = then (moment path d) (deed path d)
+edit path d = both (moment path d) (deed path d)
 
 abbrev pub run : List ℕ → Data → Checked
-run path d = then (must path d (codes "seconds") (Want.Number Any)) (must path d (codes "outcome") (Want.Text Word.End))
+run path d = both (must path d (codes "seconds") (Want.Number Any)) (must path d (codes "outcome") (Want.Text Word.End))
 
 abbrev pub seed_by : List ℕ → Option Data → Checked
 seed_by path None = at_fault [] path other (words Want.Manifest)
@@ -50,7 +50,7 @@ item_path list number = list ++ (codes "[" ++ (decimal number ++ codes "]"))
 abbrev pub items_from : Item → Data → List ℕ → ℕ → Items → Checked
 items_from kind whole list number no_items = Ok tt
 items_from kind whole list number (item d ds) =
-    then (item_of kind whole (item_path list number) d) (items_from kind whole list (number + 1) ds)
+    both (item_of kind whole (item_path list number) d) (items_from kind whole list (number + 1) ds)
 
 abbrev pub items_in : Item → Data → List ℕ → Option Items → Checked
 items_in kind whole list None = Ok tt
@@ -66,11 +66,11 @@ abbrev pub key_words : List ℕ
 key_words = codes "under the key of a CronJob, NAMESPACE/NAME"
 
 abbrev pub run_key : List ℕ → List ℕ → Checked
-run_key path key = if is_key key then Ok tt else at_fault [] path other (key_words)
+run_key path key = if is_key key then Ok tt else at_fault [] path other key_words
 
 abbrev pub runs : Data → List ℕ → List ℕ → Data → Checked
 runs whole path key d =
-    then (run_key path key) (then (checked [] path Want.List d) (items_in In.Run whole path (as_array d)))
+    both (run_key path key) (both (checked [] path Want.List d) (items_in In.Run whole path (as_array d)))
 
 -- a member by what the object is of
 -- rule: explain-members
@@ -91,7 +91,7 @@ entry_path name key = name ++ (codes "." ++ key)
 abbrev pub entries_from : Entry → Data → List ℕ → Members → Checked
 entries_from kind whole name no_members = Ok tt
 entries_from kind whole name (member key d ms) =
-    then (entry_by kind whole (entry_path name key) key (unless_null d)) (entries_from kind whole name ms)
+    both (entry_by kind whole (entry_path name key) key (unless_null d)) (entries_from kind whole name ms)
 
 abbrev pub entries_in : Entry → Data → List ℕ → Option Members → Checked
 entries_in kind whole name None = Ok tt

@@ -11,10 +11,10 @@ use Rattle.cj_members.specs.Wants.{fits, words}
 abbrev pub Checked : Type 0
 Checked = Result (Unit {0}) Wrong
 
--- what comes after is looked at where nothing was wrong before
-abbrev pub then : Checked → Checked → Checked
-then (Ok _) rest = rest
-then (Err e) rest = Err e
+-- one after the other: the second is looked at where nothing was wrong in the first
+abbrev pub both : Checked → Checked → Checked
+both (Ok _) rest = rest
+both (Err e) rest = Err e
 
 -- the path of a member of what stands at a path, which is empty for the whole
 abbrev pub member_at : List ℕ → List ℕ → List ℕ

@@ -9,55 +9,55 @@ use Rattle.cj_members.specs.declared.want.Range.TheVariants as Range
 use Rattle.cj_members.specs.declared.want.Want.TheVariants as Want
 use Rattle.cj_members.specs.declared.want.Word.TheVariants as Word
 use Rattle.cj_members.specs.Items.{entries, items}
-use Rattle.cj_members.specs.Members.{Checked, may, must, then}
+use Rattle.cj_members.specs.Members.{Checked, both, may, must}
 
 abbrev pub zones : Data → Checked
-zones d = then (may [] d (codes "zones") Want.Object) (entries Of.Zone d (codes "zones"))
+zones d = both (may [] d (codes "zones") Want.Object) (entries Of.Zone d (codes "zones"))
 
 abbrev pub jobs : Data → Checked
-jobs d = then (may [] d (codes "jobs") Want.List) (items In.Job d (codes "jobs"))
+jobs d = both (may [] d (codes "jobs") Want.List) (items In.Job d (codes "jobs"))
 
 -- rule: explain-members
 abbrev pub scenario : Data → Checked
 scenario d =
-    then (must [] d (codes "manifest") Want.Manifest)
-    (then (must [] d (codes "created") (Want.Text Word.Time))
-    (then (may [] d (codes "last") (Want.Text Word.Time))
-    (then (jobs d) (zones d))))
+    both (must [] d (codes "manifest") Want.Manifest)
+    (both (must [] d (codes "created") (Want.Text Word.Time))
+    (both (may [] d (codes "last") (Want.Text Word.Time))
+    (both (jobs d) (zones d))))
 
 abbrev pub limits : Data → Checked
 limits d =
-    then (may [] d (codes "history") (Want.Number Range.History))
+    both (may [] d (codes "history") (Want.Number Range.History))
     (may [] d (codes "window") (Want.Number Range.Window))
 
 abbrev pub callers : Data → Checked
-callers d = then (must [] d (codes "callers") Want.Object) (entries Of.Caller d (codes "callers"))
+callers d = both (must [] d (codes "callers") Want.Object) (entries Of.Caller d (codes "callers"))
 
 abbrev pub steps : Data → Checked
-steps d = then (must [] d (codes "steps") Want.List) (items In.Step d (codes "steps"))
+steps d = both (must [] d (codes "steps") Want.List) (items In.Step d (codes "steps"))
 
 -- rule: explain-members
 abbrev pub script : Data → Checked
-script d = then (limits d) (then (callers d) (then (steps d) (zones d)))
+script d = both (limits d) (both (callers d) (both (steps d) (zones d)))
 
 abbrev pub span : Data → Checked
 span d =
-    then (must [] d (codes "start") (Want.Text Word.Time))
-    (then (must [] d (codes "end") (Want.Text Word.Time))
+    both (must [] d (codes "start") (Want.Text Word.Time))
+    (both (must [] d (codes "end") (Want.Text Word.Time))
     (may [] d (codes "stepSeconds") (Want.Number Range.Step)))
 
 abbrev pub seeds : Data → Checked
-seeds d = then (must [] d (codes "cronJobs") Want.List) (items In.Seed d (codes "cronJobs"))
+seeds d = both (must [] d (codes "cronJobs") Want.List) (items In.Seed d (codes "cronJobs"))
 
 abbrev pub runs : Data → Checked
-runs d = then (may [] d (codes "runs") Want.Object) (entries Of.Runs d (codes "runs"))
+runs d = both (may [] d (codes "runs") Want.Object) (entries Of.Runs d (codes "runs"))
 
 abbrev pub edits : Data → Checked
-edits d = then (may [] d (codes "edits") Want.List) (items In.Edit d (codes "edits"))
+edits d = both (may [] d (codes "edits") Want.List) (items In.Edit d (codes "edits"))
 
 -- rule: explain-members
 abbrev pub course : Data → Checked
-course d = then (span d) (then (seeds d) (then (runs d) (then (edits d) (zones d))))
+course d = both (span d) (both (seeds d) (both (runs d) (both (edits d) (zones d))))
 
 -- rule: explain-members
 abbrev pub whole : Form → Data → Checked
