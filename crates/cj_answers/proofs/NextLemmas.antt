@@ -2,8 +2,8 @@
 use Rattle.std.proofs.Common.{◌≡◌, ℕ, zero, suc, ◌+◌, List, [], ◌++◌, codes, refl, sym, subst, inl, inr, append_assoc, append-nil}
 use Rattle.cj_schedule.specs.Matches.{Sets}
 use Rattle.cj_zone.specs.declared.zone.Zone.{Zone}
-use Rattle.cj_due.specs.Due.{IsQuiet, IsLeastDue}
-use Rattle.cj_answers.specs.NextText.{reach, line_of, IsNextText}
+use Rattle.cj_due.specs.Due.{reach, IsQuiet, IsLeastDue}
+use Rattle.cj_answers.specs.NextText.{line_of, IsNextText}
 
 -- what is left of a text, from one instant with so many lines to come, makes it the whole text
 pub record Continues (s : Sets) (z : Zone) (after count at left : ℕ) (text : List ℕ) : Type 0 where

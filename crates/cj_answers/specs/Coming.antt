@@ -5,8 +5,7 @@ use Rattle.cj_schedule.specs.Matches.{Sets}
 use Rattle.cj_types.specs.declared.cron.CronSpec.{CronSpec}
 use Rattle.cj_zone.specs.declared.zone.Zone.{Zone}
 use Rattle.cj_zone.specs.Zones.{zone_named}
-use Rattle.cj_due.specs.Due.{IsLeastDue, IsQuiet}
-use Rattle.cj_answers.specs.NextText.{reach}
+use Rattle.cj_due.specs.Due.{reach, IsLeastDue, IsQuiet}
 
 -- 2024-01-01T00:00:00Z
 abbrev pub look_from : ℕ
