@@ -1,4 +1,4 @@
 pub mod Printed
 pub mod Rest
 pub mod Reasons
-pub mod Cuts
+pub mod Splits

@@ -1,4 +1,4 @@
-/// What a clock on the wall of a zone shows, cut to the minute, on the Gregorian calendar.
+/// What a clock on the wall of a zone shows, truncated to the minute, on the Gregorian calendar.
 ///
 /// Plain data: a reader of it asks nothing of its numbers.
 #[derive(Clone, Copy, Debug, PartialEq, Eq)]

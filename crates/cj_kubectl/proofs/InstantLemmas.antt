@@ -83,15 +83,15 @@ front_is clock rest long = subst (λ n. take n (clock ++ rest) ≡ clock) long (
 back_is : (clock rest : List ℕ) → length clock ≡ 19 → drop 19 (clock ++ rest) ≡ rest
 back_is clock rest long = subst (λ n. drop n (clock ++ rest) ≡ rest) long (drop-append_seam clock rest)
 
--- how a text that shows a clock is cut in two
-pub record IsCut (clock rest : List ℕ) (sign shown : ℕ) (offset : List ℕ) : Type 0 where
+-- how a text that shows a clock is split in two
+pub record IsParted (clock rest : List ℕ) (sign shown : ℕ) (offset : List ℕ) : Type 0 where
   pub clock_is : clock ≡ take 19 (time_text_of shown)
   pub rest_is : rest ≡ sign ∷ offset
 
--- For apart: a text that shows a clock is cut behind the time that it shows.
-pub cut_at : (text clock rest : List ℕ) (sign shown distance : ℕ) (s : IsShown text sign shown distance)
-    → clock ≡ take 19 text → rest ≡ drop 19 text → IsCut clock rest sign shown s.offset
-cut_at text clock rest sign shown distance s front back =
+-- For apart: a text that shows a clock is split behind the time that it shows.
+pub split_behind : (text clock rest : List ℕ) (sign shown distance : ℕ) (s : IsShown text sign shown distance)
+    → clock ≡ take 19 text → rest ≡ drop 19 text → IsParted clock rest sign shown s.offset
+split_behind text clock rest sign shown distance s front back =
     let long = clock_length shown s.in_range in record {
       clock_is = front ∙ ap (take 19) s.text_is ∙ front_is (take 19 (time_text_of shown)) (sign ∷ s.offset) long;
       rest_is = back ∙ ap (drop 19) s.text_is ∙ back_is (take 19 (time_text_of shown)) (sign ∷ s.offset) long;

@@ -1,11 +1,11 @@
--- key_of: its clause ok, where the text has no slash and where it is cut at one.
+-- key_of: its clause ok, where the text has no slash and where it is split at one.
 use Rattle.std.proofs.Common.{Some, None, arith}
 use Rattle.std.proofs.lemmas.Str.Pattern.{split_once_first}
-use Rattle.cj_acts.proofs.Cuts.{key-made, key-uncut}
+use Rattle.cj_acts.proofs.Splits.{key-made, key-whole}
 use Rattle.cj_acts.proofs.keys.key_of.Goals as goal
 
 pub returns-in-None-clause-ok : goal.returns-in-None-clause-ok
-returns-in-None-clause-ok c = key-uncut c.args.text.now
+returns-in-None-clause-ok c = key-whole c.args.text.now
     (split_once_first 47 c.args.text.now None c.in-None.ensures.cases (omega arith))
 
 pub returns-in-Some-clause-ok : goal.returns-in-Some-clause-ok

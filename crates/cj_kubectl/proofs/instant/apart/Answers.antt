@@ -4,7 +4,7 @@ use Rattle.std.proofs.lemmas.Option.{IfSome_then}
 use Rattle.cj_base.specs.Instant.{last_second}
 use Rattle.cj_zone.specs.TimeText.{time_text_of}
 use Rattle.cj_kubectl.specs.Instants.{IsDistance, IsApart, IsShown}
-use Rattle.cj_kubectl.proofs.InstantLemmas.{cut_at, behind_sign, with_sign}
+use Rattle.cj_kubectl.proofs.InstantLemmas.{split_behind, behind_sign, with_sign}
 use Rattle.cj_kubectl.proofs.instant.apart.Goals as goal
 
 -- what is behind the sign
@@ -15,8 +15,8 @@ far rest = take (length rest - 1) (drop 1 rest)
 has_distance : (text clock rest : List ℕ) (sign shown distance : ℕ) → IsShown text sign shown distance
     → clock ≡ take 19 text → rest ≡ drop 19 text → IsDistance (far rest) distance
 has_distance text clock rest sign shown distance s front back =
-    let cut = cut_at text clock rest sign shown distance s front back in
-    subst (λ x. IsDistance x distance) (sym (behind_sign rest s.offset sign cut.rest_is)) s.far
+    let parts = split_behind text clock rest sign shown distance s front back in
+    subst (λ x. IsDistance x distance) (sym (behind_sign rest s.offset sign parts.rest_is)) s.far
 
 -- where no distance is behind the sign, the text tells no instant
 no_distance : (text clock rest : List ℕ) (t : ℕ) → clock ≡ take 19 text → rest ≡ drop 19 text
@@ -81,15 +81,15 @@ told : (text clock rest : List ℕ) (shown distance t : ℕ) (result : Option �
     → (get_or rest 0 0 ≡ 43 → t + distance ≡ shown → result ≡ Some t)
     → (get_or rest 0 0 ≡ 45 → shown + distance ≡ t → result ≡ Some t) → IsApart text t → result ≡ Some t
 told text clock rest shown distance t result front back clocks fars ahead behind (inl a) =
-    let cut = cut_at text clock rest 43 a.shown a.distance a.is_shown front back in
+    let parts = split_behind text clock rest 43 a.shown a.distance a.is_shown front back in
     let d = fars a.distance (has_distance text clock rest 43 a.shown a.distance a.is_shown front back) in
-    let s = clocks a.shown a.is_shown.in_range cut.clock_is in
-    ahead (ap (λ r. get_or r 0 0) cut.rest_is) (same_sum t a.distance distance a.shown shown a.later d s)
+    let s = clocks a.shown a.is_shown.in_range parts.clock_is in
+    ahead (ap (λ r. get_or r 0 0) parts.rest_is) (same_sum t a.distance distance a.shown shown a.later d s)
 told text clock rest shown distance t result front back clocks fars ahead behind (inr b) =
-    let cut = cut_at text clock rest 45 b.shown b.distance b.is_shown front back in
+    let parts = split_behind text clock rest 45 b.shown b.distance b.is_shown front back in
     let d = fars b.distance (has_distance text clock rest 45 b.shown b.distance b.is_shown front back) in
-    let s = clocks b.shown b.is_shown.in_range cut.clock_is in
-    behind (ap (λ r. get_or r 0 0) cut.rest_is) (omega (arith, b.earlier, d, s))
+    let s = clocks b.shown b.is_shown.in_range parts.clock_is in
+    behind (ap (λ r. get_or r 0 0) parts.rest_is) (omega (arith, b.earlier, d, s))
 
 pub returns-clause-only : goal.returns-clause-only
 returns-clause-only c = λ t h a.
