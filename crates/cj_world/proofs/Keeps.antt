@@ -1,10 +1,11 @@
 -- What a world keeps, and what one call adds.
-use Rattle.std.proofs.Common.{◌≡◌, ◌≢◌, ◌⊎◌, inl, inr, ℕ, ◌+◌, ◌≤◌, ◌<◌, ◌^◌, Bool, true, false, List, [], ◌∷◌, length, refl, sym, ap, subst, ◌∙◌, arith, IsTrue}
+use Rattle.std.proofs.Common.{◌≡◌, ◌≢◌, ◌⊎◌, inl, inr, ℕ, ◌+◌, ◌≤◌, ◌<◌, Bool, true, false, List, [], ◌∷◌, length, refl, sym, ap, subst, ◌∙◌, arith, IsTrue}
 use Rattle.std.proofs.lemmas.Bool.Decides.{nat_tests}
 use Rattle.std.specs.Prelude.{◌↔◌, nat_lt, Result, Ok, Err, Option, Some, None, if◌then◌else◌}
 use Rattle.cj_base.specs.declared.refusal.Refusal.{Refusal}
 use Rattle.cj_base.specs.declared.refusal.Refusal.TheVariants.{Empty, HistoryFull, OutOfMemory}
 use Rattle.cj_types.specs.WorldLimits.{Kept, last_history}
+use Rattle.cj_store.specs.Content.{HasRoom}
 use Rattle.cj_calls.specs.declared.caller.Caller.{Caller}
 use Rattle.cj_calls.specs.declared.call.Call.{Call}
 use Rattle.cj_calls.specs.declared.reply.Reply.{Reply}
@@ -101,8 +102,8 @@ advanced_empty s h caller call t got s' b step g e f =
 -- ---- one call more
 
 module _ (limits : Kept) (h : List Told) (s : State) (st : Stands limits h s) (room : length h < limits.history) where
-  -- For World::make: where the history has room, the store's version is below 2 ^ 40.
-  pub room_for : s.store.version < 2 ^ 40
+  -- For World::make: where the history has room, the store has it too.
+  pub room_for : HasRoom s.store
   room_for =
       let i = version_of_history limits.window h in
       let j = ap (λ (t : State). t.store.version) st.state_is in
