@@ -1,4 +1,5 @@
-ghost use Rattle.std.specs.Prelude.{◌<◌, ◌^◌, IfOk};
+ghost use Rattle.std.specs.Prelude.{IfOk};
+ghost use Rattle.cj_store.specs.Content.{HasRoom};
 ghost use Rattle.cj_store.specs.Change.{IsFor};
 
 use crate::ask::Ask;
@@ -10,7 +11,7 @@ use cj_types::{Key, Outcome, Refusal, Seconds, Uid, Version};
 use std::alloc::Global;
 
 fn commit(store: &mut Store, alloc: Global, plan: Result<Change, Refusal>) -> Answer
-    requires room { store.old.version < 2 ^ 40 }
+    requires room { HasRoom store.old }
     requires planned { IfOk plan (λ change. IsFor store.old change) }
 {
     match plan {
@@ -26,7 +27,7 @@ fn commit(store: &mut Store, alloc: Global, plan: Result<Change, Refusal>) -> An
 }
 
 fn create_cron(store: &mut Store, alloc: Global, ask: &Ask) -> Result<Answer, Refusal>
-    requires { store.old.version < 2 ^ 40 }
+    requires { HasRoom store.old }
 {
     let now = seconds(ask.now)?;
     let draft = cron_draft(alloc, ask)?;
@@ -38,7 +39,7 @@ fn create_cron(store: &mut Store, alloc: Global, ask: &Ask) -> Result<Answer, Re
 }
 
 fn update_cron(store: &mut Store, alloc: Global, ask: &Ask) -> Result<Answer, Refusal>
-    requires { store.old.version < 2 ^ 40 }
+    requires { HasRoom store.old }
 {
     let draft = cron_draft(alloc, ask)?;
     if ask.is_planned {
@@ -54,7 +55,7 @@ fn given(ask: &Ask) -> Result<(Uid, Version), Refusal> {
 }
 
 fn set_status(store: &mut Store, alloc: Global, ask: &Ask) -> Result<Answer, Refusal>
-    requires { store.old.version < 2 ^ 40 }
+    requires { HasRoom store.old }
 {
     let (uid, version) = given(ask)?;
     let key = key(alloc, ask)?;
@@ -67,7 +68,7 @@ fn set_status(store: &mut Store, alloc: Global, ask: &Ask) -> Result<Answer, Ref
 }
 
 fn delete_cron(store: &mut Store, alloc: Global, ask: &Ask) -> Result<Answer, Refusal>
-    requires { store.old.version < 2 ^ 40 }
+    requires { HasRoom store.old }
 {
     let key = key(alloc, ask)?;
     if ask.is_planned {
@@ -78,7 +79,7 @@ fn delete_cron(store: &mut Store, alloc: Global, ask: &Ask) -> Result<Answer, Re
 }
 
 fn create_job(store: &mut Store, alloc: Global, ask: &Ask) -> Result<Answer, Refusal>
-    requires { store.old.version < 2 ^ 40 }
+    requires { HasRoom store.old }
 {
     let now = seconds(ask.now)?;
     let draft = job_draft(alloc, ask)?;
@@ -90,7 +91,7 @@ fn create_job(store: &mut Store, alloc: Global, ask: &Ask) -> Result<Answer, Ref
 }
 
 fn make_job(store: &mut Store, alloc: Global, ask: &Ask) -> Result<Answer, Refusal>
-    requires { store.old.version < 2 ^ 40 }
+    requires { HasRoom store.old }
 {
     let now = seconds(ask.now)?;
     let draft = job_draft(alloc, ask)?;
@@ -102,7 +103,7 @@ fn make_job(store: &mut Store, alloc: Global, ask: &Ask) -> Result<Answer, Refus
 }
 
 fn update_job(store: &mut Store, alloc: Global, ask: &Ask) -> Result<Answer, Refusal>
-    requires { store.old.version < 2 ^ 40 }
+    requires { HasRoom store.old }
 {
     let draft = job_draft(alloc, ask)?;
     if ask.is_planned {
@@ -117,7 +118,7 @@ fn asked(ask: &Ask) -> Option<Uid> {
 }
 
 fn delete_job(store: &mut Store, alloc: Global, ask: &Ask) -> Result<Answer, Refusal>
-    requires { store.old.version < 2 ^ 40 }
+    requires { HasRoom store.old }
 {
     let uid = asked(ask);
     let key = key(alloc, ask)?;
@@ -138,7 +139,7 @@ fn outcome(ask: &Ask) -> Result<Outcome, Refusal> {
 }
 
 fn end_key(store: &mut Store, alloc: Global, ask: &Ask, key: &Key) -> Result<Answer, Refusal>
-    requires { store.old.version < 2 ^ 40 }
+    requires { HasRoom store.old }
 {
     let (uid, _) = given(ask)?;
     let outcome = outcome(ask)?;
@@ -151,7 +152,7 @@ fn end_key(store: &mut Store, alloc: Global, ask: &Ask, key: &Key) -> Result<Ans
 }
 
 fn end_job(store: &mut Store, alloc: Global, ask: &Ask) -> Result<Answer, Refusal>
-    requires { store.old.version < 2 ^ 40 }
+    requires { HasRoom store.old }
 {
     let key = key(alloc, ask)?;
     end_key(store, alloc, ask, &key)

@@ -1,4 +1,5 @@
-ghost use Rattle.std.specs.Prelude.{◌≡◌, ◌+◌, ◌<◌, ◌^◌, OnOk};
+ghost use Rattle.std.specs.Prelude.{◌≡◌, ◌+◌, OnOk};
+ghost use Rattle.cj_store.specs.Content.{HasRoom};
 
 use cj_store::Store;
 use cj_types::{Heap, JobDraft, Refusal, Seconds};
@@ -11,7 +12,7 @@ fn make(
     draft: Heap<JobDraft>,
     now: Seconds,
 ) -> Result<(), Refusal>
-    requires { store.old.version < 2 ^ 40 }
+    requires { HasRoom store.old }
     ensures { OnOk result (store.new.version ≡ store.old.version + 1) }
 {
     let change = store.plan_make_job(alloc, draft.into_inner(), now)?;
@@ -20,7 +21,7 @@ fn make(
 
 // Updates a Job by a plan.
 fn update(store: &mut Store, alloc: Global, draft: Heap<JobDraft>) -> Result<(), Refusal>
-    requires { store.old.version < 2 ^ 40 }
+    requires { HasRoom store.old }
     ensures { OnOk result (store.new.version ≡ store.old.version + 1) }
 {
     let change = store.plan_update_job(alloc, draft.into_inner())?;
