@@ -7,7 +7,7 @@ use std::io::{ErrorKind, Read, Stdin};
 pub enum Input {
     Standard(Stdin),
     File(File),
-    /// A file that could not be opened, for this cause: every read fails.
+    /// A file that could not be opened, or is a directory, for this cause: every read fails.
     Unopened(ErrorKind),
 }
 
@@ -28,6 +28,7 @@ impl Input {
         match self {
             Input::Unopened(ErrorKind::NotFound) => Some("no such file or directory"),
             Input::Unopened(ErrorKind::PermissionDenied) => Some("permission denied"),
+            Input::Unopened(ErrorKind::IsADirectory) => Some("is a directory"),
             Input::Unopened(_) => Some("it can't be opened"),
             Input::Standard(_) | Input::File(_) => None,
         }
@@ -35,11 +36,18 @@ impl Input {
 }
 
 impl Read for Input {
+    // A directory can be opened, and can't be read: that it is one is kept for people.
     fn read(&mut self, buf: &mut [u8]) -> io::Result<usize> {
-        match self {
+        let read = match self {
             Input::Standard(input) => input.read(buf),
             Input::File(file) => file.read(buf),
             Input::Unopened(kind) => Err(io::Error::from(*kind)),
+        };
+        if let Err(error) = &read {
+            if error.kind() == ErrorKind::IsADirectory {
+                *self = Input::Unopened(ErrorKind::IsADirectory);
+            }
         }
+        read
     }
 }
