@@ -1,5 +1,5 @@
 use crate::{CronKey, Deadline, DraftMeta, HistoryLimit, Labels, Meta, Names, Policy, SpecText};
-use cj_base::{Refusal, Same, Seconds, Shared, Text, TryCopy};
+use cj_base::{Refusal, Same, Seconds, Shared, Text, TryCopy, all_four, all_three};
 use std::alloc::Global;
 
 /// What each Job of a CronJob is made with (batch/v1, `JobTemplateSpec`).
@@ -12,10 +12,15 @@ pub struct JobTemplate {
 
 impl TryCopy for JobTemplate {
     fn try_copy(&self, alloc: Global) -> Result<JobTemplate, Refusal> {
+        let (labels, annotations, spec) = all_three(
+            self.labels.try_copy(alloc),
+            self.annotations.try_copy(alloc),
+            self.spec.try_copy(alloc),
+        )?;
         Ok(JobTemplate {
-            labels: self.labels.try_copy(alloc)?,
-            annotations: self.annotations.try_copy(alloc)?,
-            spec: self.spec.try_copy(alloc)?,
+            labels,
+            annotations,
+            spec,
         })
     }
 }
@@ -49,15 +54,20 @@ pub struct CronSpec {
 
 impl TryCopy for CronSpec {
     fn try_copy(&self, alloc: Global) -> Result<CronSpec, Refusal> {
+        let (schedule, time_zone, template) = all_three(
+            self.schedule.try_copy(alloc),
+            self.time_zone.try_copy(alloc),
+            self.template.try_copy(alloc),
+        )?;
         Ok(CronSpec {
-            schedule: self.schedule.try_copy(alloc)?,
-            time_zone: self.time_zone.try_copy(alloc)?,
+            schedule,
+            time_zone,
             policy: self.policy,
             suspend: self.suspend,
             starting_deadline_seconds: self.starting_deadline_seconds,
             successful_limit: self.successful_limit,
             failed_limit: self.failed_limit,
-            template: self.template.try_copy(alloc)?,
+            template,
         })
     }
 }
@@ -116,11 +126,17 @@ pub struct CronJob {
 
 impl TryCopy for CronJob {
     fn try_copy(&self, alloc: Global) -> Result<CronJob, Refusal> {
+        let (key, meta, spec, status) = all_four(
+            self.key.try_copy(alloc),
+            self.meta.try_copy(alloc),
+            self.spec.try_copy(alloc),
+            self.status.try_copy(alloc),
+        )?;
         Ok(CronJob {
-            key: self.key.try_copy(alloc)?,
-            meta: self.meta.try_copy(alloc)?,
-            spec: self.spec.try_copy(alloc)?,
-            status: self.status.try_copy(alloc)?,
+            key,
+            meta,
+            spec,
+            status,
         })
     }
 }
@@ -145,11 +161,12 @@ pub struct CronJobDraft {
 
 impl TryCopy for CronJobDraft {
     fn try_copy(&self, alloc: Global) -> Result<CronJobDraft, Refusal> {
-        Ok(CronJobDraft {
-            key: self.key.try_copy(alloc)?,
-            meta: self.meta.try_copy(alloc)?,
-            spec: self.spec.try_copy(alloc)?,
-        })
+        let (key, meta, spec) = all_three(
+            self.key.try_copy(alloc),
+            self.meta.try_copy(alloc),
+            self.spec.try_copy(alloc),
+        )?;
+        Ok(CronJobDraft { key, meta, spec })
     }
 }
 

@@ -2,7 +2,7 @@ ghost use Rattle.std.specs.Prelude.{◌≡◌, option_copied};
 ghost use Rattle.cj_types.specs.Objects.{is_unfinished, cron_of};
 
 use crate::{DraftMeta, Key, Meta, Outcome, OwnerRefs, SpecText};
-use cj_base::{Refusal, Same, Text, TryCopy};
+use cj_base::{Refusal, Same, Text, TryCopy, all_four};
 use std::alloc::Global;
 
 /// A Job as it is stored.
@@ -39,11 +39,17 @@ impl Job {
 
 impl TryCopy for Job {
     fn try_copy(&self, alloc: Global) -> Result<Job, Refusal> {
+        let (key, meta, owners, spec) = all_four(
+            self.key.try_copy(alloc),
+            self.meta.try_copy(alloc),
+            self.owners.try_copy(alloc),
+            self.spec.try_copy(alloc),
+        )?;
         Ok(Job {
-            key: self.key.try_copy(alloc)?,
-            meta: self.meta.try_copy(alloc)?,
-            owners: self.owners.try_copy(alloc)?,
-            spec: self.spec.try_copy(alloc)?,
+            key,
+            meta,
+            owners,
+            spec,
             outcome: self.outcome,
         })
     }
@@ -71,11 +77,17 @@ pub struct JobDraft {
 
 impl TryCopy for JobDraft {
     fn try_copy(&self, alloc: Global) -> Result<JobDraft, Refusal> {
+        let (key, meta, owners, spec) = all_four(
+            self.key.try_copy(alloc),
+            self.meta.try_copy(alloc),
+            self.owners.try_copy(alloc),
+            self.spec.try_copy(alloc),
+        )?;
         Ok(JobDraft {
-            key: self.key.try_copy(alloc)?,
-            meta: self.meta.try_copy(alloc)?,
-            owners: self.owners.try_copy(alloc)?,
-            spec: self.spec.try_copy(alloc)?,
+            key,
+            meta,
+            owners,
+            spec,
         })
     }
 }

@@ -4,7 +4,7 @@ ghost use Rattle.cj_types.specs.Made.{scheduled_annotation, made_name, made_plac
 ghost use Rattle.cj_base.specs.declared.refusal.Refusal.TheVariants.{OutOfMemory};
 
 use crate::{CronJob, CronKey, DraftMeta, JobDraft, Key, Labels, OwnerRef, OwnerRefs};
-use cj_base::{Refusal, Seconds, Text, TryCopy};
+use cj_base::{Refusal, Seconds, Text, TryCopy, all_four, all_three, both};
 use std::alloc::Global;
 
 // The name of the CronJob's Job for a scheduled time; the minutes have at most ten digits.
@@ -35,9 +35,11 @@ fn annotations_with(alloc: Global, annotations: &Labels, time_text: &str) -> Res
         annotations.now) }
     ensures err { IfErr result (λ e. e ≡ OutOfMemory) }
 {
-    let mut labels = annotations.try_copy(alloc)?;
-    let name = Text::new(alloc, "batch.kubernetes.io/cronjob-scheduled-timestamp")?;
-    let value = Text::new(alloc, time_text)?;
+    let (mut labels, name, value) = all_three(
+        annotations.try_copy(alloc),
+        Text::new(alloc, "batch.kubernetes.io/cronjob-scheduled-timestamp"),
+        Text::new(alloc, time_text),
+    )?;
     labels.put(name, value)?;
     Ok(labels)
 }
@@ -47,11 +49,17 @@ fn owner(alloc: Global, cron: &CronJob) -> Result<OwnerRef, Refusal>
     ensures ok { IfOk result (λ o. o ≡ owner_of cron.now) }
     ensures err { IfErr result (λ e. e ≡ OutOfMemory) }
 {
+    let (api_version, kind, name, uid) = all_four(
+        Text::new(alloc, "batch/v1"),
+        Text::new(alloc, "CronJob"),
+        Text::new(alloc, cron.key.key().name()),
+        cron.meta.uid.text(alloc),
+    )?;
     Ok(OwnerRef {
-        api_version: Text::new(alloc, "batch/v1")?,
-        kind: Text::new(alloc, "CronJob")?,
-        name: Text::new(alloc, cron.key.key().name())?,
-        uid: cron.meta.uid.text(alloc)?,
+        api_version,
+        kind,
+        name,
+        uid,
         controller: true,
         block_owner_deletion: true,
     })
@@ -70,11 +78,15 @@ fn meta(alloc: Global, cron: &CronJob, time_text: &str) -> Result<DraftMeta, Ref
     ensures ok { IfOk result (λ m. m ≡ made_meta cron.now time_text.now) }
     ensures err { IfErr result (λ e. e ≡ OutOfMemory) }
 {
+    let (labels, annotations) = both(
+        cron.spec.template.labels.try_copy(alloc),
+        annotations_with(alloc, &cron.spec.template.annotations, time_text),
+    )?;
     Ok(DraftMeta {
         uid: None,
         version: None,
-        labels: cron.spec.template.labels.try_copy(alloc)?,
-        annotations: annotations_with(alloc, &cron.spec.template.annotations, time_text)?,
+        labels,
+        annotations,
     })
 }
 
@@ -91,11 +103,17 @@ impl CronJob {
         ensures ok { IfOk result (λ d. d ≡ made_job self.now time time_text.now) }
         ensures err { IfErr result (λ e. e ≡ OutOfMemory) }
     {
+        let (key, meta, owners, spec) = all_four(
+            self.key.job_key(alloc, time),
+            meta(alloc, self, time_text),
+            owners(alloc, self),
+            self.spec.template.spec.try_copy(alloc),
+        )?;
         Ok(JobDraft {
-            key: self.key.job_key(alloc, time)?,
-            meta: meta(alloc, self, time_text)?,
-            owners: owners(alloc, self)?,
-            spec: self.spec.template.spec.try_copy(alloc)?,
+            key,
+            meta,
+            owners,
+            spec,
         })
     }
 }

@@ -3,7 +3,7 @@ ghost use Rattle.cj_types.specs.Current.{says, is_current};
 ghost use Rattle.cj_base.specs.declared.refusal.Refusal.TheVariants.{OutOfMemory};
 
 use crate::{Labels, Uid, version_text};
-use cj_base::{Refusal, Same, Seconds, Text, TryCopy, Version};
+use cj_base::{Refusal, Same, Seconds, Text, TryCopy, Version, all_four, both};
 use std::alloc::Global;
 
 /// What the store keeps of every object beside its key.
@@ -22,13 +22,17 @@ pub struct Meta {
 
 impl TryCopy for Meta {
     fn try_copy(&self, alloc: Global) -> Result<Meta, Refusal> {
+        let (labels, annotations) = both(
+            self.labels.try_copy(alloc),
+            self.annotations.try_copy(alloc),
+        )?;
         Ok(Meta {
             uid: self.uid,
             version: self.version,
             generation: self.generation,
             created: self.created,
-            labels: self.labels.try_copy(alloc)?,
-            annotations: self.annotations.try_copy(alloc)?,
+            labels,
+            annotations,
         })
     }
 }
@@ -70,8 +74,7 @@ impl DraftMeta {
         ensures ok { IfOk result (λ b. b ≡ is_current self.now meta.now) }
         ensures err { IfErr result (λ e. e ≡ OutOfMemory) }
     {
-        let uid = meta.uid.text(alloc)?;
-        let version = version_text(alloc, meta.version)?;
+        let (uid, version) = both(meta.uid.text(alloc), version_text(alloc, meta.version))?;
         let same_uid = says(&self.uid, &uid);
         let same_version = says(&self.version, &version);
         Ok(same_uid && same_version)
@@ -80,11 +83,17 @@ impl DraftMeta {
 
 impl TryCopy for DraftMeta {
     fn try_copy(&self, alloc: Global) -> Result<DraftMeta, Refusal> {
+        let (uid, version, labels, annotations) = all_four(
+            self.uid.try_copy(alloc),
+            self.version.try_copy(alloc),
+            self.labels.try_copy(alloc),
+            self.annotations.try_copy(alloc),
+        )?;
         Ok(DraftMeta {
-            uid: self.uid.try_copy(alloc)?,
-            version: self.version.try_copy(alloc)?,
-            labels: self.labels.try_copy(alloc)?,
-            annotations: self.annotations.try_copy(alloc)?,
+            uid,
+            version,
+            labels,
+            annotations,
         })
     }
 }

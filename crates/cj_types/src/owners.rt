@@ -2,7 +2,7 @@ ghost use Rattle.std.specs.Prelude.{◌≡◌, [], ◌∷◌, ◌++◌, find, op
 ghost use Rattle.cj_types.specs.Owners.{controller_of, is_cron_reference};
 ghost use Rattle.cj_base.specs.declared.refusal.Refusal.TheVariants.{OutOfMemory};
 
-use cj_base::{Refusal, Same, Text, TryCopy, copy_all, same_all};
+use cj_base::{Refusal, Same, Text, TryCopy, all_four, copy_all, same_all};
 use std::alloc::Global;
 use std::marker::Model;
 
@@ -31,11 +31,17 @@ impl OwnerRef {
 
 impl TryCopy for OwnerRef {
     fn try_copy(&self, alloc: Global) -> Result<OwnerRef, Refusal> {
+        let (api_version, kind, name, uid) = all_four(
+            self.api_version.try_copy(alloc),
+            self.kind.try_copy(alloc),
+            self.name.try_copy(alloc),
+            self.uid.try_copy(alloc),
+        )?;
         Ok(OwnerRef {
-            api_version: self.api_version.try_copy(alloc)?,
-            kind: self.kind.try_copy(alloc)?,
-            name: self.name.try_copy(alloc)?,
-            uid: self.uid.try_copy(alloc)?,
+            api_version,
+            kind,
+            name,
+            uid,
             controller: self.controller,
             block_owner_deletion: self.block_owner_deletion,
         })
