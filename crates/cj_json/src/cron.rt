@@ -5,11 +5,12 @@ ghost use Rattle.serde_json.specs.View.{view, members_view};
 ghost use Rattle.cj_json.specs.Objects as object;
 
 use crate::members::{
-    put_labels, put_number, put_some_list, put_some_number, put_some_object, put_some_text,
-    put_some_time, put_text, put_truth, put_value,
+    push_value, put_labels, put_number, put_some_list, put_some_number, put_some_object,
+    put_some_text, put_some_time, put_text, put_truth, put_value,
 };
 use crate::meta::metadata;
 use crate::object::object_value;
+use cj_base::{all_four, all_three, both};
 use cj_types::{CronJob, CronSpec, CronStatus, JobTemplate, ObjectName, Refusal};
 use serde_json::{Map, Value};
 use std::alloc::Global;
@@ -19,8 +20,9 @@ fn template_metadata(alloc: Global, template: &JobTemplate) -> Result<Map<String
     ensures err { IfErr result (λ e. e ≡ OutOfMemory) }
 {
     let mut members = Map::new(alloc);
-    put_labels(&mut members, alloc, "annotations", &template.annotations)?;
-    put_labels(&mut members, alloc, "labels", &template.labels)?;
+    let annotations = put_labels(&mut members, alloc, "annotations", &template.annotations);
+    let labels = put_labels(&mut members, alloc, "labels", &template.labels);
+    both(annotations, labels)?;
     Ok(members)
 }
 
@@ -29,8 +31,8 @@ fn template_value(alloc: Global, template: &JobTemplate, job: Value) -> Result<V
     ensures err { IfErr result (λ e. e ≡ OutOfMemory) }
 {
     let mut members = Map::new(alloc);
-    put_value(&mut members, alloc, "spec", job)?;
-    let metadata = template_metadata(alloc, template)?;
+    let spec = put_value(&mut members, alloc, "spec", job);
+    let (metadata, ()) = both(template_metadata(alloc, template), spec)?;
     put_some_object(&mut members, alloc, "metadata", metadata)?;
     Ok(Value::Object(members))
 }
@@ -41,15 +43,16 @@ fn spec_head(alloc: Global, spec: &CronSpec, template: Value) -> Result<Map<Stri
     ensures err { IfErr result (λ e. e ≡ OutOfMemory) }
 {
     let mut members = Map::new(alloc);
-    put_value(&mut members, alloc, "jobTemplate", template)?;
-    put_text(&mut members, alloc, "concurrencyPolicy", spec.policy.name())?;
-    put_number(
+    let template = put_value(&mut members, alloc, "jobTemplate", template);
+    let policy = put_text(&mut members, alloc, "concurrencyPolicy", spec.policy.name());
+    let limit = put_number(
         &mut members,
         alloc,
         "failedJobsHistoryLimit",
         u64::from(spec.failed_limit.get()),
-    )?;
-    put_text(&mut members, alloc, "schedule", spec.schedule.as_str())?;
+    );
+    let schedule = put_text(&mut members, alloc, "schedule", spec.schedule.as_str());
+    all_four(template, policy, limit, schedule)?;
     Ok(members)
 }
 
@@ -63,15 +66,16 @@ fn spec_value(alloc: Global, spec: &CronSpec, job: Value) -> Result<Value, Refus
     let deadline = spec
         .starting_deadline_seconds
         .map(|deadline| deadline.get());
-    put_number(
+    let limit = put_number(
         &mut members,
         alloc,
         "successfulJobsHistoryLimit",
         successful,
-    )?;
-    put_truth(&mut members, alloc, "suspend", spec.suspend)?;
-    put_some_number(&mut members, alloc, "startingDeadlineSeconds", deadline)?;
-    put_some_text(&mut members, alloc, "timeZone", &spec.time_zone)?;
+    );
+    let suspend = put_truth(&mut members, alloc, "suspend", spec.suspend);
+    let deadline = put_some_number(&mut members, alloc, "startingDeadlineSeconds", deadline);
+    let zone = put_some_text(&mut members, alloc, "timeZone", &spec.time_zone);
+    all_four(limit, suspend, deadline, zone)?;
     Ok(Value::Object(members))
 }
 
@@ -80,10 +84,11 @@ fn active_value(alloc: Global, namespace: &str, name: &str) -> Result<Value, Ref
     ensures err { IfErr result (λ e. e ≡ OutOfMemory) }
 {
     let mut members = Map::new(alloc);
-    put_text(&mut members, alloc, "apiVersion", "batch/v1")?;
-    put_text(&mut members, alloc, "kind", "Job")?;
-    put_text(&mut members, alloc, "name", name)?;
-    put_text(&mut members, alloc, "namespace", namespace)?;
+    let version = put_text(&mut members, alloc, "apiVersion", "batch/v1");
+    let kind = put_text(&mut members, alloc, "kind", "Job");
+    let name = put_text(&mut members, alloc, "name", name);
+    let namespace = put_text(&mut members, alloc, "namespace", namespace);
+    all_four(version, kind, name, namespace)?;
     Ok(Value::Object(members))
 }
 
@@ -98,9 +103,8 @@ fn active_values(
 {
     let mut values = Vec::new(alloc);
     for name in names {
-        values
-            .push(active_value(alloc, namespace, name.as_str())?)
-            .map_err(|_| Refusal::OutOfMemory)?;
+        let value = active_value(alloc, namespace, name.as_str())?;
+        push_value(&mut values, value)?;
     }
     Ok(values)
 }
@@ -116,19 +120,20 @@ fn status_members(
 {
     let active = active_values(alloc, namespace, status.active.as_slice())?;
     let mut members = Map::new(alloc);
-    put_some_list(&mut members, alloc, "active", active)?;
-    put_some_time(
+    let active = put_some_list(&mut members, alloc, "active", active);
+    let scheduled = put_some_time(
         &mut members,
         alloc,
         "lastScheduleTime",
         status.last_schedule_time,
-    )?;
-    put_some_time(
+    );
+    let successful = put_some_time(
         &mut members,
         alloc,
         "lastSuccessfulTime",
         status.last_successful_time,
-    )?;
+    );
+    all_three(active, scheduled, successful)?;
     Ok(members)
 }
 
@@ -138,8 +143,10 @@ pub(crate) fn cron_value(alloc: Global, cron: &CronJob, job: Value) -> Result<Va
     ensures err { IfErr result (λ e. e ≡ OutOfMemory) }
 {
     let key = cron.key.key();
-    let spec = spec_value(alloc, &cron.spec, job)?;
-    let metadata = metadata(alloc, key, &cron.meta, &[])?;
-    let status = status_members(alloc, key.namespace(), &cron.status)?;
+    let (spec, metadata, status) = all_three(
+        spec_value(alloc, &cron.spec, job),
+        metadata(alloc, key, &cron.meta, &[]),
+        status_members(alloc, key.namespace(), &cron.status),
+    )?;
     object_value(alloc, "CronJob", metadata, spec, status)
 }

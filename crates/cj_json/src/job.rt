@@ -4,9 +4,10 @@ ghost use Rattle.cj_base.specs.declared.refusal.Refusal.TheVariants.{OutOfMemory
 ghost use Rattle.serde_json.specs.View.{view, members_view};
 ghost use Rattle.cj_json.specs.Objects as object;
 
-use crate::members::{put_text, put_time, put_value};
+use crate::members::{push_value, put_text, put_time, put_value};
 use crate::meta::metadata;
 use crate::object::object_value;
+use cj_base::both;
 use cj_types::{Job, Outcome, Refusal, Seconds};
 use serde_json::{Map, Value};
 use std::alloc::Global;
@@ -16,8 +17,9 @@ fn condition(alloc: Global, kind: &str) -> Result<Value, Refusal>
     ensures err { IfErr result (λ e. e ≡ OutOfMemory) }
 {
     let mut members = Map::new(alloc);
-    put_text(&mut members, alloc, "status", "True")?;
-    put_text(&mut members, alloc, "type", kind)?;
+    let status = put_text(&mut members, alloc, "status", "True");
+    let kind = put_text(&mut members, alloc, "type", kind);
+    both(status, kind)?;
     Ok(Value::Object(members))
 }
 
@@ -25,12 +27,12 @@ fn one_condition(alloc: Global, kind: &str) -> Result<Map<String, Value>, Refusa
     ensures ok { IfOk result (λ m. members_view m.entries ≡ object.one_condition kind.now) }
     ensures err { IfErr result (λ e. e ≡ OutOfMemory) }
 {
+    let condition = condition(alloc, kind)?;
     let mut items = Vec::new(alloc);
-    items
-        .push(condition(alloc, kind)?)
-        .map_err(|_| Refusal::OutOfMemory)?;
+    let pushed = push_value(&mut items, condition);
     let mut members = Map::new(alloc);
-    put_value(&mut members, alloc, "conditions", Value::Array(items))?;
+    let put = put_value(&mut members, alloc, "conditions", Value::Array(items));
+    both(pushed, put)?;
     Ok(members)
 }
 
@@ -68,7 +70,9 @@ pub(crate) fn job_value(alloc: Global, job: &Job, spec: Value) -> Result<Value, 
     ensures ok { IfOk result (λ v. view v ≡ object.job_data job.now (view spec)) }
     ensures err { IfErr result (λ e. e ≡ OutOfMemory) }
 {
-    let metadata = metadata(alloc, &job.key, &job.meta, job.owners.as_slice())?;
-    let status = status_members(alloc, &job.outcome)?;
+    let (metadata, status) = both(
+        metadata(alloc, &job.key, &job.meta, job.owners.as_slice()),
+        status_members(alloc, &job.outcome),
+    )?;
     object_value(alloc, "Job", metadata, spec, status)
 }

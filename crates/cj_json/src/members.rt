@@ -1,5 +1,5 @@
 // Members of an object, each put in at its place by name.
-ghost use Rattle.std.specs.Prelude.{◌≡◌, map, option_map, IfOk, IfErr, OnOk};
+ghost use Rattle.std.specs.Prelude.{◌≡◌, [], ◌∷◌, ◌++◌, map, option_map, IfOk, IfErr, OnOk};
 ghost use Rattle.cj_base.specs.declared.refusal.Refusal.TheVariants.{OutOfMemory};
 ghost use Rattle.serde_json.specs.Data.{boolean, number, string, object, unsigned, put as with_member, no_members};
 ghost use Rattle.serde_json.specs.View.{view, members_view};
@@ -8,7 +8,16 @@ ghost use Rattle.cj_json.specs.Parts as part;
 use cj_types::{Labels, Refusal, Seconds, Text};
 use cj_zone::time_text;
 use serde_json::{Map, Value, put};
-use std::alloc::Global;
+use std::alloc::{AllocError, Global};
+
+/// One more value of a list.
+pub(crate) fn push_value(values: &mut Vec<Value>, value: Value) -> Result<(), Refusal>
+    ensures ok { OnOk result (values.new.items ≡ values.old.items ++ (value ∷ [])) }
+    ensures err { IfErr result (λ e. e ≡ OutOfMemory) }
+{
+    values.push(value).map_err(AllocError::from)?;
+    Ok(())
+}
 
 pub(crate) fn put_value(
     members: &mut Map<String, Value>,

@@ -5,7 +5,10 @@ ghost use Rattle.serde_json.specs.View.{view, members_view};
 ghost use Rattle.cj_json.specs.Objects as object;
 ghost use Rattle.cj_json.specs.Parts as part;
 
-use crate::members::{put_labels, put_number, put_some_list, put_text, put_time, put_truth};
+use crate::members::{
+    push_value, put_labels, put_number, put_some_list, put_text, put_time, put_truth,
+};
+use cj_base::{all_three, both};
 use cj_types::{Key, Meta, OwnerRef, Refusal, version_text};
 use serde_json::{Map, Value};
 use std::alloc::Global;
@@ -15,18 +18,27 @@ fn owner_value(alloc: Global, owner: &OwnerRef) -> Result<Value, Refusal>
     ensures err { IfErr result (λ e. e ≡ OutOfMemory) }
 {
     let mut members = Map::new(alloc);
-    let blocks = owner.block_owner_deletion;
-    put_text(
+    let version = put_text(
         &mut members,
         alloc,
         "apiVersion",
         owner.api_version.as_str(),
+    );
+    let blocks = put_truth(
+        &mut members,
+        alloc,
+        "blockOwnerDeletion",
+        owner.block_owner_deletion,
+    );
+    let controller = put_truth(&mut members, alloc, "controller", owner.controller);
+    let kind = put_text(&mut members, alloc, "kind", owner.kind.as_str());
+    let name = put_text(&mut members, alloc, "name", owner.name.as_str());
+    let uid = put_text(&mut members, alloc, "uid", owner.uid.as_str());
+    all_three(
+        both(version, blocks),
+        both(controller, kind),
+        both(name, uid),
     )?;
-    put_truth(&mut members, alloc, "blockOwnerDeletion", blocks)?;
-    put_truth(&mut members, alloc, "controller", owner.controller)?;
-    put_text(&mut members, alloc, "kind", owner.kind.as_str())?;
-    put_text(&mut members, alloc, "name", owner.name.as_str())?;
-    put_text(&mut members, alloc, "uid", owner.uid.as_str())?;
     Ok(Value::Object(members))
 }
 
@@ -36,9 +48,8 @@ fn owner_values(alloc: Global, owners: &[OwnerRef]) -> Result<Vec<Value>, Refusa
 {
     let mut values = Vec::new(alloc);
     for owner in owners {
-        values
-            .push(owner_value(alloc, owner)?)
-            .map_err(|_| Refusal::OutOfMemory)?;
+        let value = owner_value(alloc, owner)?;
+        push_value(&mut values, value)?;
     }
     Ok(values)
 }
@@ -66,12 +77,17 @@ fn identity(alloc: Global, key: &Key, meta: &Meta) -> Result<Map<String, Value>,
     ensures err { IfErr result (λ e. e ≡ OutOfMemory) }
 {
     let mut members = Map::new(alloc);
-    put_time(&mut members, alloc, "creationTimestamp", meta.created)?;
-    put_number(&mut members, alloc, "generation", meta.generation)?;
-    put_text(&mut members, alloc, "name", key.name())?;
-    put_text(&mut members, alloc, "namespace", key.namespace())?;
-    put_version(&mut members, alloc, meta)?;
-    put_uid(&mut members, alloc, meta)?;
+    let created = put_time(&mut members, alloc, "creationTimestamp", meta.created);
+    let generation = put_number(&mut members, alloc, "generation", meta.generation);
+    let name = put_text(&mut members, alloc, "name", key.name());
+    let namespace = put_text(&mut members, alloc, "namespace", key.namespace());
+    let version = put_version(&mut members, alloc, meta);
+    let uid = put_uid(&mut members, alloc, meta);
+    all_three(
+        both(created, generation),
+        both(name, namespace),
+        both(version, uid),
+    )?;
     Ok(members)
 }
 
@@ -85,10 +101,10 @@ pub(crate) fn metadata(
         ≡ object.metadata_members key.now meta.now owners.now) }
     ensures err { IfErr result (λ e. e ≡ OutOfMemory) }
 {
-    let mut members = identity(alloc, key, meta)?;
-    put_labels(&mut members, alloc, "annotations", &meta.annotations)?;
-    put_labels(&mut members, alloc, "labels", &meta.labels)?;
-    let owners = owner_values(alloc, owners)?;
-    put_some_list(&mut members, alloc, "ownerReferences", owners)?;
+    let (mut members, owners) = both(identity(alloc, key, meta), owner_values(alloc, owners))?;
+    let annotations = put_labels(&mut members, alloc, "annotations", &meta.annotations);
+    let labels = put_labels(&mut members, alloc, "labels", &meta.labels);
+    let owners = put_some_list(&mut members, alloc, "ownerReferences", owners);
+    all_three(annotations, labels, owners)?;
     Ok(members)
 }

@@ -7,6 +7,7 @@ ghost use Rattle.cj_json.specs.Parts as part;
 
 use crate::floats::has_float;
 use crate::members::{put_some_object, put_text, put_value};
+use cj_base::{all_four, both};
 use cj_types::Refusal;
 use serde_json::{Map, Value};
 use std::alloc::Global;
@@ -42,10 +43,11 @@ pub(crate) fn object_value(
     ensures err { IfErr result (λ e. e ≡ OutOfMemory) }
 {
     let mut members = Map::new(alloc);
-    put_text(&mut members, alloc, "apiVersion", "batch/v1")?;
-    put_text(&mut members, alloc, "kind", kind)?;
-    put_value(&mut members, alloc, "metadata", Value::Object(metadata))?;
-    put_value(&mut members, alloc, "spec", spec)?;
-    put_some_object(&mut members, alloc, "status", status)?;
+    let version = put_text(&mut members, alloc, "apiVersion", "batch/v1");
+    let kind = put_text(&mut members, alloc, "kind", kind);
+    let metadata = put_value(&mut members, alloc, "metadata", Value::Object(metadata));
+    let spec = put_value(&mut members, alloc, "spec", spec);
+    let status = put_some_object(&mut members, alloc, "status", status);
+    both(version, all_four(kind, metadata, spec, status))?;
     Ok(Value::Object(members))
 }
