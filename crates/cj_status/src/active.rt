@@ -9,13 +9,29 @@ use crate::refs::JobRef;
 use cj_types::{Job, Key, Names, ObjectName, Refusal, Shared, TryCopy};
 use std::alloc::Global;
 
+// The name in a key at the end.
+fn push_name(alloc: Global, all: &mut Names, key: &Key) -> Result<(), Refusal>
+    ensures ok { OnOk result (all.new ≡ all.old ++ key.now.name ∷ []) }
+    ensures err { IfErr result (λ e. e ≡ OutOfMemory) }
+{
+    all.push(ObjectName::of_key(alloc, key)?)
+}
+
+// A copy of the name at the end.
+fn push_copy(alloc: Global, all: &mut Names, name: &ObjectName) -> Result<(), Refusal>
+    ensures ok { OnOk result (all.new ≡ all.old ++ name.now ∷ []) }
+    ensures err { IfErr result (λ e. e ≡ OutOfMemory) }
+{
+    all.push(name.try_copy(alloc)?)
+}
+
 fn names_of(alloc: Global, refs: &[JobRef]) -> Result<Names, Refusal>
     ensures ok { IfOk result (λ n. n ≡ names_of refs.now) }
     ensures err { IfErr result (λ e. e ≡ OutOfMemory) }
 {
     let mut names = Names::new(alloc);
     for job in refs {
-        names.push(ObjectName::of_key(alloc, &job.key)?)?;
+        push_name(alloc, &mut names, &job.key)?;
     }
     Ok(names)
 }
@@ -40,14 +56,14 @@ pub fn names_with(alloc: Global, names: &Names, key: &Key) -> Result<Names, Refu
         if waits {
             let order = key.name().cmp(other.as_str());
             if order.is_lt() {
-                all.push(ObjectName::of_key(alloc, key)?)?;
+                push_name(alloc, &mut all, key)?;
             }
             waits = order.is_gt();
         }
-        all.push(other.try_copy(alloc)?)?;
+        push_copy(alloc, &mut all, other)?;
     }
     if waits {
-        all.push(ObjectName::of_key(alloc, key)?)?;
+        push_name(alloc, &mut all, key)?;
     }
     Ok(all)
 }
@@ -82,7 +98,7 @@ fn push_kept(alloc: Global, all: &mut Names, name: &ObjectName, keeps: bool) -> 
     ensures err { IfErr result (λ e. e ≡ OutOfMemory) }
 {
     if keeps {
-        all.push(name.try_copy(alloc)?)?;
+        push_copy(alloc, all, name)?;
     }
     Ok(())
 }

@@ -7,6 +7,7 @@ ghost use Rattle.cj_status.specs.Surplus.{not_kept, surplus_by, surplus_of};
 use crate::listing::{Pick, picked_items};
 use crate::order::{Sorting, compare};
 use crate::refs::{JobRef, JobRefs};
+use cj_base::both;
 use cj_types::{HistoryLimit, Job, Refusal, Shared};
 use std::alloc::Global;
 
@@ -70,7 +71,10 @@ pub fn surplus(
     ensures ok { IfOk result (λ r. r ≡ surplus_of successful failed uid.now jobs.now) }
     ensures err { IfErr result (λ e. e ≡ OutOfMemory) }
 {
-    let mut all = surplus_by(alloc, Pick::Completed, successful, uid, jobs)?;
-    all.append(surplus_by(alloc, Pick::Failed, failed, uid, jobs)?)?;
+    let (mut all, failed) = both(
+        surplus_by(alloc, Pick::Completed, successful, uid, jobs),
+        surplus_by(alloc, Pick::Failed, failed, uid, jobs),
+    )?;
+    all.append(failed)?;
     Ok(all)
 }

@@ -1,6 +1,7 @@
 ghost use Rattle.std.specs.Prelude.{◌≡◌, [], ◌∷◌, ◌++◌, IfOk, IfErr, OnOk};
 ghost use Rattle.cj_base.specs.declared.refusal.Refusal.TheVariants.{OutOfMemory};
 ghost use Rattle.cj_status.specs.Mine.{is_running, present};
+ghost use Rattle.cj_status.specs.Refs.{ref};
 ghost use Rattle.cj_status.specs.Picked.{picks, gathered, picked, running};
 
 use crate::mine::{is_complete, is_failed, is_mine, is_running};
@@ -37,6 +38,16 @@ fn picks(pick: Pick, uid: &str, job: &Job) -> bool
     }
 }
 
+// How a plan names the Job, at the end.
+fn push_ref(alloc: Global, items: &mut Vec<JobRef>, job: &Job) -> Result<(), Refusal>
+    ensures ok { OnOk result (items.new.items ≡ items.old.items ++ ref job.now ∷ []) }
+    ensures err { IfErr result (λ e. e ≡ OutOfMemory) }
+{
+    items
+        .push(JobRef::new(alloc, job)?)
+        .map_err(|_| Refusal::OutOfMemory)
+}
+
 // Those of the listing that are meant, as they stand.
 fn gather(
     alloc: Global,
@@ -50,9 +61,7 @@ fn gather(
     let mut items = Vec::new(alloc);
     for job in jobs {
         if picks(pick, uid, job.get()) {
-            items
-                .push(JobRef::new(alloc, job.get())?)
-                .map_err(|_| Refusal::OutOfMemory)?;
+            push_ref(alloc, &mut items, job.get())?;
         }
     }
     Ok(items)
@@ -105,9 +114,7 @@ fn push_running(
     if !is_running(uid, job.get()) {
         return Ok(());
     }
-    items
-        .push(JobRef::new(alloc, job.get())?)
-        .map_err(|_| Refusal::OutOfMemory)
+    push_ref(alloc, items, job.get())
 }
 
 // The unfinished ones of those that were found, as they stand.
