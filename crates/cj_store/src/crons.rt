@@ -5,6 +5,7 @@ ghost use Rattle.cj_store.specs.Crons.{cron_created, cron_updated, status_set, c
 ghost use Rattle.cj_store.specs.Change.{after, map_ok, cron_added, cron_modified, cron_gone};
 
 use crate::Store;
+use crate::placed::placed;
 use cj_types::{
     CronJob, CronJobDraft, CronStatus, Event, Key, Object, Refusal, Seconds, Shared, Uid, Version,
 };
@@ -31,8 +32,7 @@ impl Store {
         ensures after { IfOk result (λ c. self.new ≡ after self.old (cron_added c)) }
         ensures unchanged { OnErr result (self.new ≡ self.old) }
     {
-        let cron = Shared::new(alloc, self.cron_created(alloc, draft, now)?)?;
-        let answer = cron.share()?;
+        let (cron, answer) = placed(alloc, self.cron_created(alloc, draft, now))?;
         self.apply(alloc, Event::Added(Object::Cron(cron)))?;
         Ok(answer)
     }
@@ -50,8 +50,7 @@ impl Store {
         ensures after { IfOk result (λ c. self.new ≡ after self.old (cron_modified c)) }
         ensures unchanged { OnErr result (self.new ≡ self.old) }
     {
-        let cron = Shared::new(alloc, self.cron_updated(alloc, draft)?)?;
-        let answer = cron.share()?;
+        let (cron, answer) = placed(alloc, self.cron_updated(alloc, draft))?;
         self.apply(alloc, Event::Modified(Object::Cron(cron)))?;
         Ok(answer)
     }
@@ -73,8 +72,7 @@ impl Store {
         ensures after { IfOk result (λ c. self.new ≡ after self.old (cron_modified c)) }
         ensures unchanged { OnErr result (self.new ≡ self.old) }
     {
-        let cron = Shared::new(alloc, self.status_set(alloc, key, uid, version, status)?)?;
-        let answer = cron.share()?;
+        let (cron, answer) = placed(alloc, self.status_set(alloc, key, uid, version, status))?;
         self.apply(alloc, Event::Modified(Object::Cron(cron)))?;
         Ok(answer)
     }

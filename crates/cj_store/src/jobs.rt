@@ -5,6 +5,7 @@ ghost use Rattle.cj_store.specs.Jobs.{job_created, job_made, job_updated, job_de
 ghost use Rattle.cj_store.specs.Change.{after, map_ok, job_added, job_modified, job_gone};
 
 use crate::Store;
+use crate::placed::placed;
 use cj_types::{
     Event, Job, JobDraft, Key, Object, Outcome, Refusal, Seconds, Shared, Uid, Version,
 };
@@ -31,8 +32,7 @@ impl Store {
         ensures after { IfOk result (λ j. self.new ≡ after self.old (job_added j)) }
         ensures unchanged { OnErr result (self.new ≡ self.old) }
     {
-        let job = Shared::new(alloc, self.job_created(alloc, draft, now)?)?;
-        let answer = job.share()?;
+        let (job, answer) = placed(alloc, self.job_created(alloc, draft, now))?;
         self.apply(alloc, Event::Added(Object::Job(job)))?;
         Ok(answer)
     }
@@ -50,8 +50,7 @@ impl Store {
         ensures after { IfOk result (λ j. self.new ≡ after self.old (job_added j)) }
         ensures unchanged { OnErr result (self.new ≡ self.old) }
     {
-        let job = Shared::new(alloc, self.job_made(draft, now)?)?;
-        let answer = job.share()?;
+        let (job, answer) = placed(alloc, self.job_made(draft, now))?;
         self.apply(alloc, Event::Added(Object::Job(job)))?;
         Ok(answer)
     }
@@ -66,8 +65,7 @@ impl Store {
         ensures after { IfOk result (λ j. self.new ≡ after self.old (job_modified j)) }
         ensures unchanged { OnErr result (self.new ≡ self.old) }
     {
-        let job = Shared::new(alloc, self.job_updated(alloc, draft)?)?;
-        let answer = job.share()?;
+        let (job, answer) = placed(alloc, self.job_updated(alloc, draft))?;
         self.apply(alloc, Event::Modified(Object::Job(job)))?;
         Ok(answer)
     }
@@ -112,8 +110,7 @@ impl Store {
         ensures after { IfOk result (λ j. self.new ≡ after self.old (job_modified j)) }
         ensures unchanged { OnErr result (self.new ≡ self.old) }
     {
-        let job = Shared::new(alloc, self.job_ended(alloc, key, uid, outcome, now)?)?;
-        let answer = job.share()?;
+        let (job, answer) = placed(alloc, self.job_ended(alloc, key, uid, outcome, now))?;
         self.apply(alloc, Event::Modified(Object::Job(job)))?;
         Ok(answer)
     }

@@ -10,6 +10,7 @@ mod jobs;
 mod laws;
 mod meta;
 mod owned;
+mod placed;
 mod planned_crons;
 mod planned_jobs;
 mod plans;

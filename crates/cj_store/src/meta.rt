@@ -4,6 +4,7 @@ ghost use Rattle.cj_store.specs.Content.{HasRoom};
 ghost use Rattle.cj_store.specs.Metadata.{new_meta, touched, updated, version_not_allowed};
 
 use crate::Store;
+use cj_base::both;
 use cj_types::{
     Cause, DraftMeta, Field, FieldFault, FieldFaults, Meta, Refusal, Seconds, TryCopy, Uid, Version,
 };
@@ -69,13 +70,17 @@ impl Store {
         ensures ok { IfOk result (λ m. m ≡ touched self.now meta.now) }
         ensures err { IfErr result (λ e. e ≡ OutOfMemory) }
     {
+        let (labels, annotations) = both(
+            meta.labels.try_copy(alloc),
+            meta.annotations.try_copy(alloc),
+        )?;
         Ok(Meta {
             uid: meta.uid,
             version: self.next_version(),
             generation: meta.generation,
             created: meta.created,
-            labels: meta.labels.try_copy(alloc)?,
-            annotations: meta.annotations.try_copy(alloc)?,
+            labels,
+            annotations,
         })
     }
 

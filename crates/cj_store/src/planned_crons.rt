@@ -1,14 +1,17 @@
-ghost use Rattle.std.specs.Prelude.{◌≡◌, ◌≢◌, ◌≤◌, IfOk, IfErr, Ok, Err};
+ghost use Rattle.std.specs.Prelude.{◌≡◌, ◌≢◌, ◌≤◌, ℕ, true, false, is_some, Some, None, IfOk, IfErr, OnOk, Ok, Err};
+ghost use Rattle.std.specs.FinMap as map;
+ghost use Rattle.cj_types.specs.Current.{is_current};
 ghost use Rattle.cj_base.specs.declared.refusal.Refusal.TheVariants.{OutOfMemory};
 ghost use Rattle.cj_store.specs.Content.{HasRoom};
 ghost use Rattle.cj_store.specs.Change.{IsFor, cron_added, cron_modified, cron_gone};
-ghost use Rattle.cj_store.specs.Crons.{new_cron, cron_created, updated_cron, cron_updated, with_status, status_set, last_cron, cron_deleted};
+ghost use Rattle.cj_store.specs.Crons.{new_cron, cron_created, cron_updated, with_status, status_set, last_cron, cron_deleted};
 
 use crate::Store;
 use crate::equal::is_same_cron_spec;
 use crate::meta::version_not_allowed;
+use cj_base::all_three;
 use cj_types::{
-    CronJob, CronJobDraft, CronStatus, Key, Names, Refusal, Seconds, TryCopy, Uid, Version,
+    CronJob, CronJobDraft, CronStatus, Key, Names, Refusal, Seconds, Shared, TryCopy, Uid, Version,
 };
 use std::alloc::Global;
 
@@ -31,6 +34,22 @@ impl Store {
         }
     }
 
+    // The name of the draft is free, and the draft gives no version.
+    fn is_new_cron(&self, alloc: Global, draft: &CronJobDraft) -> Result<(), Refusal>
+        ensures ok { OnOk result ((is_some draft.now.meta.version ≡ false)
+            × (map.get self.now.crons draft.now.key ≡ None)) }
+        ensures err { IfErr result (λ e. e ≢ OutOfMemory →
+            (now : ℕ) → cron_created self.now draft.now now ≡ Err e) }
+    {
+        if draft.meta.version.is_some() {
+            return Err(version_not_allowed(alloc));
+        }
+        if self.get_cron(draft.key.key()).is_some() {
+            return Err(Refusal::AlreadyExists);
+        }
+        Ok(())
+    }
+
     pub(crate) fn cron_created(
         &self,
         alloc: Global,
@@ -43,36 +62,32 @@ impl Store {
             cron_created self.now draft now ≡ Err e) }
         ensures planned { IfOk result (λ c. IsFor self.now (cron_added c)) }
     {
-        if draft.meta.version.is_some() {
-            return Err(version_not_allowed(alloc));
-        }
-        if self.get_cron(draft.key.key()).is_some() {
-            return Err(Refusal::AlreadyExists);
-        }
+        self.is_new_cron(alloc, &draft)?;
         Ok(self.new_cron(alloc, draft, now))
     }
 
-    fn updated_cron(
+    // The CronJob that the draft would change, with a copy of its status.
+    fn replaced_cron(
         &self,
         alloc: Global,
-        draft: CronJobDraft,
-        found: &CronJob,
-    ) -> Result<CronJob, Refusal>
-        requires room { HasRoom self.now }
-        requires keyed { found.now.key ≡ draft.key }
-        requires dated { found.now.meta.generation ≤ self.now.version }
-        ensures ok { IfOk result (λ c. c ≡ updated_cron self.now draft found.now) }
-        ensures err { IfErr result (λ e. e ≡ OutOfMemory) }
+        draft: &CronJobDraft,
+    ) -> Result<(&Shared<CronJob>, CronStatus), Refusal>
+        ensures ok { IfOk result (λ c. map.get self.now.crons draft.now.key ≡ Some c.0.now) }
+        ensures status { IfOk result (λ c. c.1 ≡ c.0.now.status) }
+        ensures current { IfOk result (λ c. is_current draft.now.meta c.0.now.meta ≡ true) }
+        ensures keyed { IfOk result (λ c. c.0.now.key ≡ draft.now.key) }
+        ensures dated { IfOk result (λ c. c.0.now.meta.generation ≤ self.now.version) }
+        ensures err { IfErr result (λ e. e ≢ OutOfMemory →
+            cron_updated self.now draft.now ≡ Err e) }
     {
+        let Some(found) = self.get_cron(draft.key.key()) else {
+            return Err(Refusal::NotFound);
+        };
+        if !draft.meta.is_current(alloc, &found.meta)? {
+            return Err(Refusal::Conflict(found.meta.version));
+        }
         let status = found.status.try_copy(alloc)?;
-        let is_same = is_same_cron_spec(&draft.spec, &found.spec);
-        let CronJobDraft { key, meta, spec } = draft;
-        Ok(CronJob {
-            key,
-            meta: self.updated(meta, is_same, &found.meta),
-            spec,
-            status,
-        })
+        Ok((found, status))
     }
 
     #[tactic(auto, using(crate::proofs::Kept::updated_generation, crate::proofs::Kept::cron_uid_there))]
@@ -86,13 +101,15 @@ impl Store {
         ensures err { IfErr result (λ e. e ≢ OutOfMemory → cron_updated self.now draft ≡ Err e) }
         ensures planned { IfOk result (λ c. IsFor self.now (cron_modified c)) }
     {
-        let Some(found) = self.get_cron(draft.key.key()) else {
-            return Err(Refusal::NotFound);
-        };
-        if !draft.meta.is_current(alloc, &found.meta)? {
-            return Err(Refusal::Conflict(found.meta.version));
-        }
-        self.updated_cron(alloc, draft, found)
+        let (found, status) = self.replaced_cron(alloc, &draft)?;
+        let is_same = is_same_cron_spec(&draft.spec, &found.spec);
+        let CronJobDraft { key, meta, spec } = draft;
+        Ok(CronJob {
+            key,
+            meta: self.updated(meta, is_same, &found.meta),
+            spec,
+            status,
+        })
     }
 
     fn with_status(
@@ -105,10 +122,15 @@ impl Store {
         ensures ok { IfOk result (λ c. c ≡ with_status self.now status found.now) }
         ensures err { IfErr result (λ e. e ≡ OutOfMemory) }
     {
+        let (key, meta, spec) = all_three(
+            found.key.try_copy(alloc),
+            self.touched(alloc, &found.meta),
+            found.spec.try_copy(alloc),
+        )?;
         Ok(CronJob {
-            key: found.key.try_copy(alloc)?,
-            meta: self.touched(alloc, &found.meta)?,
-            spec: found.spec.try_copy(alloc)?,
+            key,
+            meta,
+            spec,
             status,
         })
     }

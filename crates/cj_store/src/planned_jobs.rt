@@ -1,13 +1,18 @@
-ghost use Rattle.std.specs.Prelude.{◌≡◌, ◌≢◌, ◌≤◌, IfOk, IfErr, Ok, Err};
+ghost use Rattle.std.specs.Prelude.{◌≡◌, ◌≢◌, ◌≤◌, ℕ, true, false, is_some, Some, IfOk, IfErr, OnOk, Ok, Err};
+ghost use Rattle.std.specs.FinMap as map;
+ghost use Rattle.cj_types.specs.Current.{is_current};
+ghost use Rattle.cj_types.specs.Owners.{controller_of};
+ghost use Rattle.cj_store.specs.Equal.{same_owners};
 ghost use Rattle.cj_base.specs.declared.refusal.Refusal.TheVariants.{OutOfMemory};
-ghost use Rattle.cj_store.specs.Content.{HasRoom};
-ghost use Rattle.cj_store.specs.Jobs.{new_job, job_made, job_created, updated_job, job_updated, is_asked, last_job, job_deleted, ended_at, ended_job, job_ended};
+ghost use Rattle.cj_store.specs.Content.{Content, HasRoom};
+ghost use Rattle.cj_store.specs.Jobs.{new_job, job_made, job_created, job_updated, is_asked, last_job, job_deleted, ended_at, ended_job, job_ended};
 ghost use Rattle.cj_store.specs.Change.{IsFor, job_added, job_modified, job_gone};
 
 use crate::Store;
 use crate::equal::{are_same_owners, is_same_job_spec};
 use crate::meta::version_not_allowed;
-use cj_types::{Job, JobDraft, Key, Outcome, Refusal, Seconds, TryCopy, Uid};
+use cj_base::all_four;
+use cj_types::{Job, JobDraft, Key, Outcome, OwnerRefs, Refusal, Seconds, Shared, TryCopy, Uid};
 use std::alloc::Global;
 
 fn is_asked(asked: Option<Uid>, uid: Uid) -> bool
@@ -27,6 +32,22 @@ fn ended_at(now: Seconds, outcome: Outcome) -> Outcome
         Outcome::Complete(_) => Outcome::Complete(now),
         Outcome::Failed => Outcome::Failed,
     }
+}
+
+// The draft gives no controller and no version.
+fn is_of_a_user(alloc: Global, draft: &JobDraft) -> Result<(), Refusal>
+    ensures ok { OnOk result ((is_some (controller_of draft.now.owners) ≡ false)
+        × (is_some draft.now.meta.version ≡ false)) }
+    ensures err { IfErr result (λ e. e ≢ OutOfMemory →
+        (s : Content) → (now : ℕ) → job_created s draft.now now ≡ Err e) }
+{
+    if draft.owners.controller().is_some() {
+        return Err(Refusal::NotPermitted);
+    }
+    if draft.meta.version.is_some() {
+        return Err(version_not_allowed(alloc));
+    }
+    Ok(())
 }
 
 // The Jobs that writes would leave, or why they are refused. Nothing changes here.
@@ -72,23 +93,45 @@ impl Store {
         ensures err { IfErr result (λ e. e ≢ OutOfMemory → job_created self.now draft now ≡ Err e) }
         ensures planned { IfOk result (λ j. IsFor self.now (job_added j)) }
     {
-        if draft.owners.controller().is_some() {
-            return Err(Refusal::NotPermitted);
-        }
-        if draft.meta.version.is_some() {
-            return Err(version_not_allowed(alloc));
-        }
+        is_of_a_user(alloc, &draft)?;
         self.job_made(draft, now)
     }
 
-    fn updated_job(&self, alloc: Global, draft: JobDraft, found: &Job) -> Result<Job, Refusal>
-        requires room { HasRoom self.now }
-        requires keyed { found.now.key ≡ draft.key }
-        requires dated { found.now.meta.generation ≤ self.now.version }
-        ensures ok { IfOk result (λ j. j ≡ updated_job self.now draft found.now) }
-        ensures err { IfErr result (λ e. e ≡ OutOfMemory) }
+    // The Job that the draft would change, with a copy of its owners.
+    fn replaced_job(
+        &self,
+        alloc: Global,
+        draft: &JobDraft,
+    ) -> Result<(&Shared<Job>, OwnerRefs), Refusal>
+        ensures ok { IfOk result (λ j. map.get self.now.jobs draft.now.key ≡ Some j.0.now) }
+        ensures owners { IfOk result (λ j. j.1 ≡ j.0.now.owners) }
+        ensures current { IfOk result (λ j. is_current draft.now.meta j.0.now.meta ≡ true) }
+        ensures owned { IfOk result (λ j. same_owners draft.now.owners j.0.now.owners ≡ true) }
+        ensures keyed { IfOk result (λ j. j.0.now.key ≡ draft.now.key) }
+        ensures dated { IfOk result (λ j. j.0.now.meta.generation ≤ self.now.version) }
+        ensures err { IfErr result (λ e. e ≢ OutOfMemory → job_updated self.now draft.now ≡ Err e) }
     {
+        let Some(found) = self.get_job(&draft.key) else {
+            return Err(Refusal::NotFound);
+        };
+        if !draft.meta.is_current(alloc, &found.meta)? {
+            return Err(Refusal::Conflict(found.meta.version));
+        }
+        if !are_same_owners(&draft.owners, &found.owners) {
+            return Err(Refusal::NotPermitted);
+        }
         let owners = found.owners.try_copy(alloc)?;
+        Ok((found, owners))
+    }
+
+    #[tactic(auto, using(crate::proofs::Kept::updated_generation, crate::proofs::Kept::owners_there, crate::proofs::Kept::job_uid_there))]
+    pub(crate) fn job_updated(&self, alloc: Global, draft: JobDraft) -> Result<Job, Refusal>
+        requires { HasRoom self.now }
+        ensures ok { IfOk result (λ j. job_updated self.now draft ≡ Ok j) }
+        ensures err { IfErr result (λ e. e ≢ OutOfMemory → job_updated self.now draft ≡ Err e) }
+        ensures planned { IfOk result (λ j. IsFor self.now (job_modified j)) }
+    {
+        let (found, owners) = self.replaced_job(alloc, &draft)?;
         let is_same = is_same_job_spec(&draft.spec, &found.spec);
         let JobDraft {
             key,
@@ -105,25 +148,6 @@ impl Store {
         })
     }
 
-    #[tactic(auto, using(crate::proofs::Kept::updated_generation, crate::proofs::Kept::owners_there, crate::proofs::Kept::job_uid_there))]
-    pub(crate) fn job_updated(&self, alloc: Global, draft: JobDraft) -> Result<Job, Refusal>
-        requires { HasRoom self.now }
-        ensures ok { IfOk result (λ j. job_updated self.now draft ≡ Ok j) }
-        ensures err { IfErr result (λ e. e ≢ OutOfMemory → job_updated self.now draft ≡ Err e) }
-        ensures planned { IfOk result (λ j. IsFor self.now (job_modified j)) }
-    {
-        let Some(found) = self.get_job(&draft.key) else {
-            return Err(Refusal::NotFound);
-        };
-        if !draft.meta.is_current(alloc, &found.meta)? {
-            return Err(Refusal::Conflict(found.meta.version));
-        }
-        if !are_same_owners(&draft.owners, &found.owners) {
-            return Err(Refusal::NotPermitted);
-        }
-        self.updated_job(alloc, draft, found)
-    }
-
     fn with_outcome(
         &self,
         alloc: Global,
@@ -136,11 +160,17 @@ impl Store {
         }) }
         ensures err { IfErr result (λ e. e ≡ OutOfMemory) }
     {
+        let (key, meta, owners, spec) = all_four(
+            found.key.try_copy(alloc),
+            self.touched(alloc, &found.meta),
+            found.owners.try_copy(alloc),
+            found.spec.try_copy(alloc),
+        )?;
         Ok(Job {
-            key: found.key.try_copy(alloc)?,
-            meta: self.touched(alloc, &found.meta)?,
-            owners: found.owners.try_copy(alloc)?,
-            spec: found.spec.try_copy(alloc)?,
+            key,
+            meta,
+            owners,
+            spec,
             outcome,
         })
     }
