@@ -15,16 +15,12 @@ use std::alloc::Global;
 fn reason_named(word: &str) -> Option<Reason>
     ensures { result ≡ said.reason_named word.now }
 {
-    if word == "UnknownTimeZone" {
-        Some(Reason::UnknownTimeZone)
-    } else if word == "TooManyMissedTimes" {
-        Some(Reason::TooManyMissedTimes)
-    } else if word == "JobAlreadyActive" {
-        Some(Reason::JobAlreadyActive)
-    } else if word == "FailedCreate" {
-        Some(Reason::FailedCreate)
-    } else {
-        None
+    match word {
+        "UnknownTimeZone" => Some(Reason::UnknownTimeZone),
+        "TooManyMissedTimes" => Some(Reason::TooManyMissedTimes),
+        "JobAlreadyActive" => Some(Reason::JobAlreadyActive),
+        "FailedCreate" => Some(Reason::FailedCreate),
+        _ => None,
     }
 }
 

@@ -49,12 +49,10 @@ fn add(alloc: Global, value: &Value) -> Result<Option<Act>, Refusal>
 fn outcome_named(at: Seconds, word: &str) -> Option<Outcome>
     ensures { result ≡ said.outcome_named at word.now }
 {
-    if word == "Complete" {
-        Some(Outcome::Complete(at))
-    } else if word == "Failed" {
-        Some(Outcome::Failed)
-    } else {
-        None
+    match word {
+        "Complete" => Some(Outcome::Complete(at)),
+        "Failed" => Some(Outcome::Failed),
+        _ => None,
     }
 }
 

@@ -43,26 +43,17 @@ pub enum Verb {
 fn worker_verb(text: &str) -> Option<Verb>
     ensures { result ≡ word.worker_verb text.now }
 {
-    if text == "take" {
-        Some(Verb::Does(Plain::Take))
-    } else if text == "seeCron" {
-        Some(Verb::Does(Plain::SeeCron))
-    } else if text == "seeJobs" {
-        Some(Verb::Does(Plain::SeeJobs))
-    } else if text == "seeActive" {
-        Some(Verb::Does(Plain::SeeActive))
-    } else if text == "claim" {
-        Some(Verb::Does(Plain::Claim))
-    } else if text == "drop" {
-        Some(Verb::Does(Plain::Drops))
-    } else if text == "make" {
-        Some(Verb::Does(Plain::Make))
-    } else if text == "setStatus" {
-        Some(Verb::Does(Plain::SetStatus))
-    } else if text == "finish" {
-        Some(Verb::Does(Plain::Finish))
-    } else {
-        None
+    match text {
+        "take" => Some(Verb::Does(Plain::Take)),
+        "seeCron" => Some(Verb::Does(Plain::SeeCron)),
+        "seeJobs" => Some(Verb::Does(Plain::SeeJobs)),
+        "seeActive" => Some(Verb::Does(Plain::SeeActive)),
+        "claim" => Some(Verb::Does(Plain::Claim)),
+        "drop" => Some(Verb::Does(Plain::Drops)),
+        "make" => Some(Verb::Does(Plain::Make)),
+        "setStatus" => Some(Verb::Does(Plain::SetStatus)),
+        "finish" => Some(Verb::Does(Plain::Finish)),
+        _ => None,
     }
 }
 
@@ -70,18 +61,13 @@ fn worker_verb(text: &str) -> Option<Verb>
 fn informer_verb(text: &str) -> Option<Verb>
     ensures { result ≡ word.informer_verb text.now }
 {
-    if text == "watch" {
-        Some(Verb::Does(Plain::Watch))
-    } else if text == "add" {
-        Some(Verb::Does(Plain::Add))
-    } else if text == "tick" {
-        Some(Verb::Does(Plain::Tick))
-    } else if text == "shut" {
-        Some(Verb::Does(Plain::Shut))
-    } else if text == "feed" {
-        Some(Verb::Does(Plain::Feed))
-    } else {
-        worker_verb(text)
+    match text {
+        "watch" => Some(Verb::Does(Plain::Watch)),
+        "add" => Some(Verb::Does(Plain::Add)),
+        "tick" => Some(Verb::Does(Plain::Tick)),
+        "shut" => Some(Verb::Does(Plain::Shut)),
+        "feed" => Some(Verb::Does(Plain::Feed)),
+        _ => worker_verb(text),
     }
 }
 
@@ -90,21 +76,14 @@ fn informer_verb(text: &str) -> Option<Verb>
 pub fn verb_named(text: &str) -> Option<Verb>
     ensures { result ≡ word.verb_named text.now }
 {
-    if text == "createCron" {
-        Some(Verb::Writes(Write::CreateCron))
-    } else if text == "updateCron" {
-        Some(Verb::Writes(Write::UpdateCron))
-    } else if text == "deleteCron" {
-        Some(Verb::Does(Plain::DeleteCron))
-    } else if text == "createJob" {
-        Some(Verb::Writes(Write::CreateJob))
-    } else if text == "updateJob" {
-        Some(Verb::Writes(Write::UpdateJob))
-    } else if text == "deleteJob" {
-        Some(Verb::Does(Plain::DeleteJob))
-    } else if text == "endJob" {
-        Some(Verb::Does(Plain::EndJob))
-    } else {
-        informer_verb(text)
+    match text {
+        "createCron" => Some(Verb::Writes(Write::CreateCron)),
+        "updateCron" => Some(Verb::Writes(Write::UpdateCron)),
+        "deleteCron" => Some(Verb::Does(Plain::DeleteCron)),
+        "createJob" => Some(Verb::Writes(Write::CreateJob)),
+        "updateJob" => Some(Verb::Writes(Write::UpdateJob)),
+        "deleteJob" => Some(Verb::Does(Plain::DeleteJob)),
+        "endJob" => Some(Verb::Does(Plain::EndJob)),
+        _ => informer_verb(text),
     }
 }
