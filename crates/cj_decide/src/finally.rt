@@ -81,8 +81,9 @@ pub(crate) fn final_step(
     ensures err { IfErr result (λ e. e ≡ OutOfMemory) }
 {
     let old = standing(cron, claim);
+    let active = active_after(alloc, cron, uid, found, verdict)?;
     let new = CronStatus {
-        active: active_after(alloc, cron, uid, found, verdict)?,
+        active,
         last_schedule_time: old.last_schedule_time,
         last_successful_time: last_success(cron.status.last_successful_time, jobs, uid),
     };

@@ -1,8 +1,9 @@
 ghost use Rattle.std.specs.Prelude.{◌≡◌, MatchBool, IfOk, IfErr, option_copied};
 ghost use Rattle.cj_base.specs.declared.refusal.Refusal.TheVariants.{OutOfMemory};
-ghost use Rattle.cj_decide.specs.Decision.{IsDecided, RestsOn};
+ghost use Rattle.cj_decide.specs.Decision.{IsDecided, IsPlan, RestsOn};
 
 use crate::steps::{Steps, plan_steps};
+use cj_base::{all_three, both};
 use cj_types::{CronJob, Job, Listing, Refusal, Same, Seconds, Shared, TryCopy, same_all};
 use cj_zone::Zone;
 use std::alloc::Global;
@@ -56,6 +57,23 @@ fn seen<T>(value: &Option<Shared<T>>) -> Option<&T>
     }
 }
 
+// The steps of the sync that read these, to be shared.
+fn shared_steps(
+    alloc: Global,
+    cron: Option<&CronJob>,
+    jobs: &[Shared<Job>],
+    found: &[Option<Shared<Job>>],
+    now: Seconds,
+    zone: Option<&Zone>,
+) -> Result<Shared<Steps>, Refusal>
+    ensures ok { IfOk result (λ s. IsPlan (option_copied cron.entry) jobs.now found.now now
+        (option_copied zone.entry) s) }
+    ensures err { IfErr result (λ e. e ≡ OutOfMemory) }
+{
+    let steps = plan_steps(alloc, cron, jobs, found, now, zone)?;
+    Shared::new(alloc, steps)
+}
+
 /// The one plan of a CronJob, or none, the Jobs listed for it, what a live read found for each name of its
 /// `status.active` in their order, the moment, and its zone, if that is known.
 pub fn decide(
@@ -74,7 +92,7 @@ pub fn decide(
     ensures decided { IfOk result (λ p. IsDecided p) }
     ensures err { IfErr result (λ e. e ≡ OutOfMemory) }
 {
-    let steps = plan_steps(
+    let steps = shared_steps(
         alloc,
         seen(&cron),
         jobs.as_slice(),
@@ -82,7 +100,6 @@ pub fn decide(
         now,
         seen(&zone),
     )?;
-    let steps = Shared::new(alloc, steps)?;
     Ok(Plan {
         cron,
         jobs,
@@ -156,13 +173,21 @@ impl Plan {
 
 impl TryCopy for Plan {
     fn try_copy(&self, alloc: Global) -> Result<Plan, Refusal> {
+        let ((cron, jobs, active), (zone, steps)) = both(
+            all_three(
+                self.cron.try_copy(alloc),
+                self.jobs.try_copy(alloc),
+                self.active.try_copy(alloc),
+            ),
+            both(self.zone.try_copy(alloc), self.steps.try_copy(alloc)),
+        )?;
         Ok(Plan {
-            cron: self.cron.try_copy(alloc)?,
-            jobs: self.jobs.try_copy(alloc)?,
-            active: self.active.try_copy(alloc)?,
+            cron,
+            jobs,
+            active,
             at: self.at,
-            zone: self.zone.try_copy(alloc)?,
-            steps: self.steps.try_copy(alloc)?,
+            zone,
+            steps,
         })
     }
 }

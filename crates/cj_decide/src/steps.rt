@@ -1,11 +1,14 @@
 ghost use Rattle.std.specs.Prelude.{◌≡◌, [], IfOk, IfErr, option_map, option_copied, if◌then◌else◌};
 ghost use Rattle.cj_base.specs.declared.refusal.Refusal.TheVariants.{OutOfMemory};
 ghost use Rattle.cj_types.specs.Uids.{uid_text};
-ghost use Rattle.cj_decide.specs.Decision.{reasons_of, running_of, AreSteps, clearing, IsDecision, IsPlan};
+ghost use Rattle.cj_decide.specs.Decision.{claim_by, reasons_of, running_of, AreSteps, clearing, IsDecision, IsPlan};
+ghost use Rattle.cj_decide.specs.Finally.{cleanup_of, standing, final, IsStatusStep};
+ghost use Rattle.cj_decide.specs.Start.{draft_of};
 
 use crate::finally::{cleanup, final_step};
 use crate::start::{Claim, claim_at, make_at};
 use crate::verdict::{Verdict, judge};
+use cj_base::{all_three, both};
 use cj_status::{JobRefs, Pick, Sorting, picked, running_found};
 use cj_types::{
     CronJob, CronStatus, Job, JobDraft, Reason, Reasons, Refusal, Same, Seconds, Shared, TryCopy,
@@ -33,13 +36,25 @@ pub struct Steps {
 
 impl TryCopy for Steps {
     fn try_copy(&self, alloc: Global) -> Result<Steps, Refusal> {
+        let ((claim, drop_first, make), (cleanup, status, reasons)) = both(
+            all_three(
+                self.claim.try_copy(alloc),
+                self.drop_first.try_copy(alloc),
+                self.make.try_copy(alloc),
+            ),
+            all_three(
+                self.cleanup.try_copy(alloc),
+                self.status.try_copy(alloc),
+                self.reasons.try_copy(alloc),
+            ),
+        )?;
         Ok(Steps {
-            claim: self.claim.try_copy(alloc)?,
-            drop_first: self.drop_first.try_copy(alloc)?,
-            make: self.make.try_copy(alloc)?,
-            cleanup: self.cleanup.try_copy(alloc)?,
-            status: self.status.try_copy(alloc)?,
-            reasons: self.reasons.try_copy(alloc)?,
+            claim,
+            drop_first,
+            make,
+            cleanup,
+            status,
+            reasons,
             next: self.next,
         })
     }
@@ -82,6 +97,48 @@ fn reasons(alloc: Global, verdict: Verdict) -> Result<Reasons, Refusal>
     Ok(reasons)
 }
 
+// The claim of a verdict, and the status at the end; the uid is the CronJob's, as a text.
+fn claim_and_status(
+    alloc: Global,
+    cron: &CronJob,
+    uid: &str,
+    jobs: &[Shared<Job>],
+    found: &[Option<Shared<Job>>],
+    verdict: &Verdict,
+) -> Result<(Option<Claim>, Option<CronStatus>), Refusal>
+    requires uid { uid.now ≡ uid_text cron.now.meta.uid }
+    ensures claim { IfOk result (λ p. p.0 ≡ claim_by cron.now verdict.now) }
+    ensures status { IfOk result (λ p. IsStatusStep
+        (standing cron.now (claim_by cron.now verdict.now))
+        (final cron.now jobs.now found.now verdict.now (claim_by cron.now verdict.now)) p.1) }
+    ensures err { IfErr result (λ e. e ≡ OutOfMemory) }
+{
+    let claim = claim_at(alloc, cron, verdict.start)?;
+    let status = final_step(alloc, cron, uid, jobs, found, *verdict, &claim)?;
+    Ok((claim, status))
+}
+
+// The Job that is made, those that go after it, and the reasons; the uid is the CronJob's, as a text.
+fn make_and_cleanup(
+    alloc: Global,
+    cron: &CronJob,
+    uid: &str,
+    jobs: &[Shared<Job>],
+    verdict: &Verdict,
+) -> Result<(Option<JobDraft>, JobRefs, Reasons), Refusal>
+    requires uid { uid.now ≡ uid_text cron.now.meta.uid }
+    ensures make { IfOk result (λ p. p.0 ≡ option_map (draft_of cron.now) verdict.now.start) }
+    ensures cleanup { IfOk result (λ p. p.1 ≡ cleanup_of cron.now jobs.now) }
+    ensures reasons { IfOk result (λ p. p.2 ≡ reasons_of verdict.now) }
+    ensures err { IfErr result (λ e. e ≡ OutOfMemory) }
+{
+    all_three(
+        make_at(alloc, cron, verdict.start),
+        cleanup(alloc, cron, uid, jobs),
+        reasons(alloc, *verdict),
+    )
+}
+
 // The steps of a verdict on a CronJob of which these Jobs run; the uid is the CronJob's, as a text.
 fn steps_of(
     alloc: Global,
@@ -97,15 +154,15 @@ fn steps_of(
     ensures ok { IfOk result (λ s. AreSteps cron.now jobs.now found.now verdict s) }
     ensures err { IfErr result (λ e. e ≡ OutOfMemory) }
 {
-    let claim = claim_at(alloc, cron, verdict.start)?;
-    let status = final_step(alloc, cron, uid, jobs, found, verdict, &claim)?;
+    let (claim, status) = claim_and_status(alloc, cron, uid, jobs, found, &verdict)?;
+    let (make, cleanup, reasons) = make_and_cleanup(alloc, cron, uid, jobs, &verdict)?;
     Ok(Steps {
         claim,
         drop_first: drops(alloc, running, verdict.replaces),
-        make: make_at(alloc, cron, verdict.start)?,
-        cleanup: cleanup(alloc, cron, uid, jobs)?,
+        make,
+        cleanup,
         status,
-        reasons: reasons(alloc, verdict)?,
+        reasons,
         next: verdict.next,
     })
 }
@@ -133,11 +190,12 @@ fn clearing(alloc: Global, jobs: &[Shared<Job>]) -> Result<Steps, Refusal>
     ensures ok { IfOk result (λ s. s ≡ clearing jobs.now) }
     ensures err { IfErr result (λ e. e ≡ OutOfMemory) }
 {
+    let cleanup = picked(alloc, Pick::Listed, Sorting::ByName, "", jobs)?;
     Ok(Steps {
         claim: None,
         drop_first: JobRefs::new(alloc),
         make: None,
-        cleanup: picked(alloc, Pick::Listed, Sorting::ByName, "", jobs)?,
+        cleanup,
         status: None,
         reasons: Reasons::new(alloc),
         next: None,
