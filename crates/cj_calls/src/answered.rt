@@ -3,6 +3,7 @@ ghost use Rattle.cj_base.specs.declared.refusal.Refusal.TheVariants.{OutOfMemory
 
 use crate::Answer;
 use crate::reply::copy_answer;
+use cj_base::both;
 use cj_types::{Heap, Refusal, Shared, TryCopy};
 use std::alloc::Global;
 use std::marker::Model;
@@ -20,7 +21,6 @@ pub struct Parts {
 /// Contracts see the answer.
 ///
 /// It stands on the heap, so that whoever gives it up drops one box and not the parts of each reply.
-#[derive(Drop)]
 pub struct Answered {
     parts: Heap<Parts>,
 }
@@ -38,15 +38,32 @@ impl Model for Answered {
         × (a.parts.second ≡ a.parts.answer) };
 }
 
+// A function of its own, so that whoever gives up an answer makes one call and not one for each part.
+impl Drop for Answered {
+    fn drop(self) {
+        let Answered { parts: _ } = self;
+    }
+}
+
+// What shares one copy of an answer: for the history, and for two receipts.
+type Copies = (Shared<Answer>, Shared<Answer>, Shared<Answer>);
+
+fn copies(alloc: Global, answer: &Answer) -> Result<Copies, Refusal>
+    ensures ok { IfOk result (λ c. (c.0 ≡ answer.now) × (c.1 ≡ answer.now) × (c.2 ≡ answer.now)) }
+    ensures err { IfErr result (λ e. e ≡ OutOfMemory) }
+{
+    let entered = Shared::new(alloc, copy_answer(alloc, answer)?)?;
+    let (first, second) = both(entered.try_copy(alloc), entered.try_copy(alloc))?;
+    Ok((entered, first, second))
+}
+
 impl Answered {
     /// The answer with its copies.
     pub fn new(alloc: Global, answer: Answer) -> Result<Answered, Refusal>
         ensures ok { IfOk result (λ a. a ≡ answer) }
         ensures err { IfErr result (λ e. e ≡ OutOfMemory) }
     {
-        let entered = Shared::new(alloc, copy_answer(alloc, &answer)?)?;
-        let first = entered.try_copy(alloc)?;
-        let second = entered.try_copy(alloc)?;
+        let (entered, first, second) = copies(alloc, &answer)?;
         let parts = Parts {
             answer,
             entered,
@@ -64,6 +81,7 @@ impl Answered {
         ensures first { result.first ≡ self }
         ensures second { result.second ≡ self }
     {
-        self.parts.into_inner()
+        let Answered { parts } = self;
+        parts.into_inner()
     }
 }

@@ -2,6 +2,7 @@ ghost use Rattle.std.specs.Prelude.{◌≡◌, IsTrue, IfOk, IfErr};
 ghost use Rattle.cj_calls.specs.Rows.{is_in_row};
 
 use crate::{Answer, Call, Caller};
+use cj_base::both;
 use cj_types::{Refusal, Shared, TryCopy};
 use std::alloc::Global;
 use std::marker::Model;
@@ -10,7 +11,6 @@ use std::marker::Model;
 ///
 /// Its type keeps that the answer is one that this call can have: a reply of its kind or one of its refusals, or that
 /// the caller isn't permitted to make it. An entry of a call that found nothing to take, or no memory, is none.
-#[derive(Drop)]
 pub struct Entry {
     caller: Caller,
     call: Shared<Call>,
@@ -26,6 +26,17 @@ impl Model for Entry {
     ghost view = { λ e. record { caller = e.caller; call = e.call; answer = e.answer } };
 
     ghost invariant = { λ e. IsTrue (is_in_row e.call e.answer) };
+}
+
+// A function of its own, so that whoever gives up an entry makes one call and not one for each part.
+impl Drop for Entry {
+    fn drop(self) {
+        let Entry {
+            caller: _,
+            call: _,
+            answer: _,
+        } = self;
+    }
 }
 
 impl Entry {
@@ -66,10 +77,11 @@ impl Entry {
 
 impl TryCopy for Entry {
     fn try_copy(&self, alloc: Global) -> Result<Entry, Refusal> {
+        let (call, answer) = both(self.call.try_copy(alloc), self.answer.try_copy(alloc))?;
         Ok(Entry {
             caller: self.caller,
-            call: self.call.try_copy(alloc)?,
-            answer: self.answer.try_copy(alloc)?,
+            call,
+            answer,
         })
     }
 }

@@ -14,7 +14,6 @@ use std::marker::Model;
 ///
 /// Its type keeps that its steps are the decision of what it rests on. Contracts see both. Copies share all
 /// of it.
-#[derive(Drop)]
 pub struct Plan {
     cron: Option<Shared<CronJob>>,
     jobs: Listing<Shared<Job>>,
@@ -46,6 +45,20 @@ impl Model for Plan {
       zone = p.zone;
       steps = p.steps;
     }) };
+}
+
+// A function of its own, so that whoever gives up a plan makes one call and not one for each part.
+impl Drop for Plan {
+    fn drop(self) {
+        let Plan {
+            cron: _,
+            jobs: _,
+            active: _,
+            at: _,
+            zone: _,
+            steps: _,
+        } = self;
+    }
 }
 
 fn seen<T>(value: &Option<Shared<T>>) -> Option<&T>

@@ -9,7 +9,6 @@ use std::collections::BTreeMap;
 use std::marker::Model;
 
 /// The seats of the workers that hold a key, by the worker's number. Contracts see a finite map.
-#[derive(Drop)]
 pub struct Seats {
     rows: BTreeMap<u64, Seat>,
 }
@@ -26,6 +25,13 @@ impl Model for Seats {
     ghost coded = { map.code coded_ℕ seat.coded };
 
     ghost view = { λ s. map.from_entries s.rows.entries };
+}
+
+// A function of its own, so that whoever gives up the seats makes one call and not one for each part.
+impl Drop for Seats {
+    fn drop(self) {
+        let Seats { rows: _ } = self;
+    }
 }
 
 impl Seats {
