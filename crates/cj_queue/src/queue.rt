@@ -219,11 +219,11 @@ impl Queue {
         ensures err { OnErr result (self.new ≡ self.old) }
         ensures memory { IfErr result (λ e. e ≡ OutOfMemory) }
     {
-        let copy = key.try_copy(self.alloc)?;
         let count = self.failures.get(key);
         let at = now_ms.get() + delay_after(count);
         self.work.reserve(2)?;
         self.failures.reserve(1)?;
+        let copy = key.try_copy(self.alloc)?;
         if self.shut {
             end_badly(&mut self.work, &mut self.failures, copy, count);
             return Ok(());

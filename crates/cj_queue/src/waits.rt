@@ -4,6 +4,7 @@ ghost use Rattle.cj_base.specs.declared.refusal.Refusal.TheVariants.{OutOfMemory
 ghost use Rattle.std.specs.BTreeMap.{keys, IsOrdered};
 ghost use Rattle.cj_queue.specs.Times.{ready, ready_in, waits_for, earlier, timed_cmp, Agrees, SetsTime, SameTimes, Leaves, time_of};
 
+use crate::work::two_copies;
 use cj_types::{Key, Refusal, TryCopy};
 use std::alloc::Global;
 use std::collections::BTreeMap;
@@ -140,8 +141,7 @@ fn put_new(
     ensures err { OnErr result (SameTimes times.old times.new) }
     ensures memory { IfErr result (λ e. e ≡ OutOfMemory) }
 {
-    let first = key.try_copy(alloc)?;
-    let second = key.try_copy(alloc)?;
+    let (first, second) = two_copies(alloc, key)?;
     if times.insert(first, at).is_err() {
         return Err(Refusal::OutOfMemory);
     }
@@ -169,9 +169,8 @@ fn put_earlier(
     ensures err { OnErr result (SameTimes times.old times.new) }
     ensures memory { IfErr result (λ e. e ≡ OutOfMemory) }
 {
-    let first = key.try_copy(alloc)?;
-    let second = key.try_copy(alloc)?;
     let last = (before, key.try_copy(alloc)?);
+    let (first, second) = two_copies(alloc, key)?;
     if order.insert((at, second), ()).is_err() {
         return Err(Refusal::OutOfMemory);
     }

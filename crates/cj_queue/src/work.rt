@@ -5,6 +5,7 @@ ghost use Rattle.cj_queue.specs.Queue.{new_row, row_add, row_take, row_end, firs
 ghost use Rattle.cj_queue.specs.Parts.{key_eq};
 
 use crate::line::Line;
+use cj_base::both;
 use cj_types::{Key, Refusal, TryCopy};
 use indexmap::IndexSet;
 use std::alloc::Global;
@@ -53,6 +54,15 @@ fn put(set: &mut IndexSet<Key>, key: Key)
     let _ = set.insert(key);
 }
 
+// Two copies of the key.
+pub(crate) fn two_copies(alloc: Global, key: &Key) -> Result<(Key, Key), Refusal>
+    ensures one { IfOk result (λ copies. copies.0 ≡ key.now) }
+    ensures other { IfOk result (λ copies. copies.1 ≡ key.now) }
+    ensures memory { IfErr result (λ e. e ≡ OutOfMemory) }
+{
+    both(key.try_copy(alloc), key.try_copy(alloc))
+}
+
 impl Work {
     /// No key.
     pub fn new(alloc: Global) -> Work
@@ -95,8 +105,8 @@ impl Work {
         ensures err { OnErr result (self.new.row ≡ self.old.row) }
         ensures memory { IfErr result (λ e. e ≡ OutOfMemory) }
     {
-        let copy = key.try_copy(alloc)?;
         self.reserve(1)?;
+        let copy = key.try_copy(alloc)?;
         self.add(copy);
         Ok(())
     }
@@ -118,9 +128,8 @@ impl Work {
         let Some(front) = self.line.first() else {
             return Ok(None);
         };
-        let key = front.try_copy(alloc)?;
-        let copy = front.try_copy(alloc)?;
         self.processing.reserve(1)?;
+        let (key, copy) = two_copies(alloc, front)?;
         put(&mut self.processing, copy);
         self.line.drop_first();
         Ok(Some(key))

@@ -9,12 +9,12 @@ pub returns-clause-agree : goal.returns-clause-agree
 returns-clause-agree c =
     let h : is_err c.insert.result ≡ false = cc (c.is_err.ensures.value, c.if-is_err.false) in
     let there : time_of c.args.times.now c.in_ok-first.first ≡ Some c.args.before =
-    ap (time_of c.args.times.now) c.in_ok-first.ensures.ok ∙ c.requires.waits in
+    ap (time_of c.args.times.now) c.in_ok-first.ensures.one ∙ c.requires.waits in
     let e : is_err c.insert-2.result ≡ false = ok_since c.insert-2.result _ c.args.before c.insert-2.ensures.absent
     there in
-    let sets = subst (λ k. SetsTime c.args.times.now c.insert-2.new.self k c.args.at) c.in_ok-first.ensures.ok
+    let sets = subst (λ k. SetsTime c.args.times.now c.insert-2.new.self k c.args.at) c.in_ok-first.ensures.one
     (ok_of c.insert-2.result _ e c.insert-2.ensures.updates).0 in
-    let adds = subst (λ k. SetsOrder c.args.order.now c.insert.new.self c.args.at k (Some tt)) c.in_ok-second.ensures.ok
+    let adds = subst (λ k. SetsOrder c.args.order.now c.insert.new.self c.args.at k (Some tt)) c.in_ok-first.ensures.other
     (ok_of c.insert.result _ h c.insert.ensures.updates).0 in
     let drops = subst (λ k. SetsOrder c.insert.new.self c.remove.new.self c.args.before k None)
     c.in_ok-try_copy.ensures.ok c.remove.ensures.updates.0 in

@@ -8,7 +8,7 @@ use Rattle.cj_queue.proofs.waits.put_new.Goals as goal
 pub returns-then-is_err-2-clause-err : goal.returns-then-is_err-2-clause-err
 returns-then-is_err-2-clause-err c =
     let h : is_err c.insert.result ≡ false = cc (c.is_err.ensures.value, c.if-is_err.false) in
-    let sets = subst (λ k. SetsTime c.args.times.now c.insert.new.self k c.args.at) c.in_ok-first.ensures.ok
+    let sets = subst (λ k. SetsTime c.args.times.now c.insert.new.self k c.args.at) c.in_ok-first.ensures.one
     (ok_of c.insert.result _ h c.insert.ensures.updates).0 in
     taken_back c.args.times.now c.insert.new.self c.remove.new.self c.args.key.now c.args.at c.requires.absent sets
     c.remove.ensures.updates.0
@@ -25,9 +25,9 @@ pub returns-clause-agree : goal.returns-clause-agree
 returns-clause-agree c =
     let h : is_err c.insert.result ≡ false = cc (c.is_err.ensures.value, c.if-is_err.false) in
     let e : is_err c.insert-2.result ≡ false = cc (c.is_err-2.ensures.value, c.if-is_err-2.false) in
-    let sets = subst (λ k. SetsTime c.args.times.now c.insert.new.self k c.args.at) c.in_ok-first.ensures.ok
+    let sets = subst (λ k. SetsTime c.args.times.now c.insert.new.self k c.args.at) c.in_ok-first.ensures.one
     (ok_of c.insert.result _ h c.insert.ensures.updates).0 in
     let orders = subst (λ k. SetsOrder c.args.order.now c.insert-2.new.self c.args.at k (Some tt))
-    c.in_ok-second.ensures.ok (ok_of c.insert-2.result _ e c.insert-2.ensures.updates).0 in
+    c.in_ok-first.ensures.other (ok_of c.insert-2.result _ e c.insert-2.ensures.updates).0 in
     agrees_new c.args.times.now c.insert.new.self c.args.order.now c.insert-2.new.self c.args.key.now c.args.at
     c.requires.agree c.requires.absent sets orders
