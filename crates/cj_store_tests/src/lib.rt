@@ -22,6 +22,3 @@ mod random;
 mod rows;
 #[cfg(test)]
 mod told;
-mod turns;
-
-pub use turns::{make_both, update_both};
