@@ -72,8 +72,3 @@ module _ {K X : Type 0} {R : K → K → Ordering} (o : IsTotalOrder R) (exact :
       let same : map.from_entries {R = R} es ≡ map.from_sorted es = map.same_map o exact _ _
       (λ q. map.get-from_entries o es q ∙ sym (map.get-from_sorted R es q s)) in
       ap (λ (m : map.FinMap R X). map.entries m) same ∙ map.entries-from_sorted R es s
-
-  -- The values of sorted entries are those of their map, in the same order.
-  pub rows_values : (es : List (K × X)) → IsStrictlySortedBy R (map_list (λ e. e.0) es)
-      → map_list (λ e. e.1) es ≡ map.values (map.from_entries {R = R} es)
-  rows_values es h = ap (map_list (λ (e : K × X). e.1)) (sym (rows_entries es h))

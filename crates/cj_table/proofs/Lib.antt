@@ -3,3 +3,4 @@ pub mod Gets
 pub mod Puts
 pub mod Apart
 pub mod Rows
+pub mod Sorted

@@ -2,15 +2,16 @@ ghost use Rattle.std.specs.Prelude.{◌≡◌, IfOk, IfErr, OnOk, OnErr, IsOk, I
 ghost use Rattle.std.specs.FinMap as map;
 ghost use Rattle.cj_base.specs.declared.refusal.Refusal.TheVariants.{OutOfMemory};
 
+use crate::in_order::ordered_rows;
 use cj_types::{Key, Refusal, TryCopy};
 use std::alloc::Global;
-use std::collections::BTreeMap;
+use std::collections::HashMap;
 use std::marker::Model;
 
 /// A value for each of some keys, in the order of keys. Contracts see a finite map.
 #[derive(Drop)]
 pub struct Table<X> {
-    rows: BTreeMap<Key, X>,
+    rows: HashMap<Key, X>,
 }
 
 impl<X> Model for Table<X> {
@@ -30,7 +31,7 @@ impl<X> Table<X> {
         ensures { result ≡ map.empty }
     {
         Table {
-            rows: BTreeMap::new(alloc),
+            rows: HashMap::new(alloc),
         }
     }
 
@@ -81,8 +82,9 @@ impl<X: TryCopy + Drop> Table<X> {
         ensures ok { IfOk result (λ v. v.items ≡ map.values self.now) }
         ensures memory { IfErr result (λ e. e ≡ OutOfMemory) }
     {
+        let rows = ordered_rows(alloc, &self.rows)?;
         let mut values = Vec::new(alloc);
-        for value in self.rows.values() {
+        for (_, value) in &rows {
             values
                 .push(value.try_copy(alloc)?)
                 .map_err(|_| Refusal::OutOfMemory)?;

@@ -1,0 +1,12 @@
+-- ordered_rows: its clause ok, as the rows that are found are all and then stand in the order of keys.
+use Rattle.std.proofs.Common.{rules, ◌≡◌, map}
+use Rattle.std.specs.Map.Iter.{deref_pair}
+use Rattle.std.proofs.lemmas.List.Sorted.{answers_always}
+use Rattle.cj_table.proofs.Sorted.{ordered}
+use Rattle.cj_table.proofs.in_order.ordered_rows.Goals as goal
+
+pub returns-clause-ok : goal.returns-clause-ok
+returns-clause-ok g c =
+    let all : map deref_pair c.in_ok-found.found.items ≡ c.args.rows.now.entries = search rules in
+    let sorted = c.sort_unstable_by_key.ensures.sorted (λ r. r.0) (answers_always _ _ _ (λ f a r n h. search rules)) in
+    ordered _ _ _ all c.iter.ensures.unique c.sort_unstable_by_key.ensures.permutation sorted
