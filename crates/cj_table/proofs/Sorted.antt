@@ -1,5 +1,5 @@
 -- What stands in the entries of a map by hash once they are in the order of keys.
-use Rattle.std.proofs.Common.{◌≡◌, ◌<◌, ◌≤◌, ◌+◌, ℕ, List, [], ◌∷◌, Option, Some, None, Bool, true, false, length, get_or, take, refl, sym, ap, ◌∙◌, subst, arith, Bor, map as map_list}
+use Rattle.std.proofs.Common.{◌≡◌, ◌<◌, ◌≤◌, ◌+◌, ℕ, List, [], ◌∷◌, Option, Some, None, false, length, get_or, take, refl, sym, ap, ◌∙◌, subst, arith, Bor, map as map_list}
 use Rattle.std.specs.Ordering.{eq_by_cmp, is_lt, is_eq, ordering_reverse}
 use Rattle.std.specs.declared.cmp.Ordering.{Ordering}
 use Rattle.std.specs.declared.cmp.Ordering.TheVariants.{Less, Equal, Greater}
@@ -40,7 +40,6 @@ strict {R = R} o (k ∷ ks) h s = sorted_from_all_adjacent o (k ∷ ks) k (λ i 
     (apart_from_distinct (eq_by_cmp R) (k ∷ ks) i (i + 1) k h (omega arith) l) (o.antisymm _ _))
 
 module _ {K X : Type 0} {R : K → K → Ordering} (o : IsTotalOrder R) (exact : map.IsAntisymmetric R) where
-
   -- For kept_rows: what a look-up finds it finds after the entries change places.
   still_found : (es fs : List (K × X)) → IsDistinct (eq_by_cmp R) (keys_of fs) → IsPermutation es fs → (q : K) (v : X)
       → lookup (eq_by_cmp R q) es ≡ Some v → lookup (eq_by_cmp R q) fs ≡ Some v

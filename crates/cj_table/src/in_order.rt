@@ -17,7 +17,10 @@ pub(crate) fn ordered_rows<'a, X>(
         finite.entries (finite.from_entries {R = place_cmp} rows.now.entries)) }
     ensures memory { IfErr result (λ e. e ≡ OutOfMemory) }
 {
-    let mut found: Vec<(&Key, &X)> = rows.iter().collect(alloc).map_err(|_| Refusal::OutOfMemory)?;
+    let mut found: Vec<(&Key, &X)> = rows
+        .iter()
+        .collect(alloc)
+        .map_err(|_| Refusal::OutOfMemory)?;
     found.sort_unstable_by_key(|row| row.0);
     Ok(found)
 }
