@@ -20,6 +20,7 @@ use crate::spec_fields::{
     template_metadata,
 };
 use crate::values::present;
+use cj_base::{all_four, all_three};
 use cj_types::{
     CronJobDraft, CronKey, CronSpec, DraftMeta, HistoryLimit, JobDraft, JobTemplate, Key, Labels,
     OwnerRefs, Policy, Refusal, Shared, SpecText, Text,
@@ -61,11 +62,17 @@ fn meta(alloc: Global, metadata: &Value) -> Result<DraftMeta, Refusal>
     ensures ok { IfOk result (λ m. m ≡ said.meta_of (view metadata.now)) }
     ensures err { IfErr result (λ e. e ≡ OutOfMemory) }
 {
+    let (uid, version, labels, annotations) = all_four(
+        uid_in(alloc, metadata),
+        version_in(alloc, metadata),
+        labels_in(alloc, metadata),
+        annotations_in(alloc, metadata),
+    )?;
     Ok(DraftMeta {
-        uid: uid_in(alloc, metadata)?,
-        version: version_in(alloc, metadata)?,
-        labels: labels_in(alloc, metadata)?,
-        annotations: annotations_in(alloc, metadata)?,
+        uid,
+        version,
+        labels,
+        annotations,
     })
 }
 
@@ -140,10 +147,15 @@ fn template(alloc: Global, template: &Value, job_spec: &Value) -> Result<JobTemp
     ensures err { IfErr result (λ e. e ≡ OutOfMemory) }
 {
     let metadata = template_metadata(template).unwrap_or(None);
+    let (labels, annotations, spec) = all_three(
+        template_labels(alloc, metadata),
+        template_annotations(alloc, metadata),
+        kept(alloc, job_spec),
+    )?;
     Ok(JobTemplate {
-        labels: template_labels(alloc, metadata)?,
-        annotations: template_annotations(alloc, metadata)?,
-        spec: kept(alloc, job_spec)?,
+        labels,
+        annotations,
+        spec,
     })
 }
 
@@ -180,16 +192,37 @@ fn cron_spec(
         (said.template_of (view job_template.now) (view job_spec.now))) }
     ensures err { IfErr result (λ e. e ≡ OutOfMemory) }
 {
+    let (schedule, time_zone, template) = all_three(
+        schedule_text(alloc, spec),
+        zone_name(alloc, spec),
+        template(alloc, job_template, job_spec),
+    )?;
     Ok(CronSpec {
-        schedule: schedule_text(alloc, spec)?,
-        time_zone: zone_name(alloc, spec)?,
+        schedule,
+        time_zone,
         policy: policy(spec).unwrap_or(Policy::Allow),
         suspend: suspend(spec).unwrap_or(false),
         starting_deadline_seconds: deadline(spec).unwrap_or(None),
         successful_limit: successful_limit(spec).unwrap_or(HistoryLimit::from(0)),
         failed_limit: failed_limit(spec).unwrap_or(HistoryLimit::from(0)),
-        template: template(alloc, job_template, job_spec)?,
+        template,
     })
+}
+
+fn shared_spec(
+    alloc: Global,
+    spec: &Value,
+    job_template: &Value,
+    job_spec: &Value,
+) -> Result<Shared<CronSpec>, Refusal>
+    requires plain { has_float (view job_spec.now) ≡ false }
+    requires flat { depth (view job_spec.now) ≤ max_depth }
+    ensures kept { IfOk result (λ s. IsKept s.template.spec) }
+    ensures ok { IfOk result (λ s. s ≡ said.cron_spec_of (view spec.now)
+        (said.template_of (view job_template.now) (view job_spec.now))) }
+    ensures err { IfErr result (λ e. e ≡ OutOfMemory) }
+{
+    Shared::new(alloc, cron_spec(alloc, spec, job_template, job_spec)?)
 }
 
 // ---- drafts
@@ -215,11 +248,12 @@ pub(crate) fn cron_draft(alloc: Global, value: &Value) -> Result<Option<CronJobD
     let Ok(job_spec) = job_spec(template) else {
         return Ok(None);
     };
-    Ok(Some(CronJobDraft {
-        key: cron_key(alloc, metadata)?,
-        meta: meta(alloc, metadata)?,
-        spec: Shared::new(alloc, cron_spec(alloc, spec, template, job_spec)?)?,
-    }))
+    let (key, meta, spec) = all_three(
+        cron_key(alloc, metadata),
+        meta(alloc, metadata),
+        shared_spec(alloc, spec, template, job_spec),
+    )?;
+    Ok(Some(CronJobDraft { key, meta, spec }))
 }
 
 /// The draft of a Job's manifest, where the objects in it are there.
@@ -237,10 +271,16 @@ pub(crate) fn job_draft(alloc: Global, value: &Value) -> Result<Option<JobDraft>
     let Ok(spec) = spec(value) else {
         return Ok(None);
     };
+    let (key, meta, owners, spec) = all_four(
+        job_key(alloc, metadata),
+        meta(alloc, metadata),
+        owner_refs(alloc, metadata),
+        kept(alloc, spec),
+    )?;
     Ok(Some(JobDraft {
-        key: job_key(alloc, metadata)?,
-        meta: meta(alloc, metadata)?,
-        owners: owner_refs(alloc, metadata)?,
-        spec: kept(alloc, spec)?,
+        key,
+        meta,
+        owners,
+        spec,
     }))
 }

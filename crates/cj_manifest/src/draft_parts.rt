@@ -1,5 +1,5 @@
 // Labels, texts and owner references of a draft.
-ghost use Rattle.std.specs.Prelude.{◌≡◌, ◌++◌, [], option_map, IfOk, IfErr, OnOk};
+ghost use Rattle.std.specs.Prelude.{◌≡◌, ◌++◌, [], Some, option_map, IfOk, IfErr, OnOk};
 ghost use Rattle.cj_base.specs.declared.refusal.Refusal.TheVariants.{OutOfMemory};
 ghost use Rattle.serde_json.specs.Find.{as_str};
 ghost use Rattle.serde_json.specs.View.{view, items_view, members_view};
@@ -8,6 +8,7 @@ ghost use Rattle.cj_manifest.specs.OwnerTexts.{owner_view};
 ghost use Rattle.cj_manifest.specs.Owners.{owner as owner_row, onto, owner_list as owners_said};
 
 use crate::owner::{OwnerTexts, owner};
+use cj_base::{all_four, both};
 use cj_types::{Labels, OwnerRef, OwnerRefs, Refusal, Text};
 use serde_json::{Map, Value};
 use std::alloc::Global;
@@ -26,13 +27,21 @@ pub(crate) fn given_text(alloc: Global, text: Option<&str>) -> Result<Option<Tex
     Ok(Some(Text::new(alloc, found)?))
 }
 
+fn put_text(labels: &mut Labels, alloc: Global, key: &str, value: &str) -> Result<(), Refusal>
+    ensures ok { OnOk result (labels.new ≡ said.with_label key.now (Some value.now) labels.old) }
+    ensures err { IfErr result (λ e. e ≡ OutOfMemory) }
+{
+    let (key, value) = both(Text::new(alloc, key), Text::new(alloc, value))?;
+    labels.put(key, value)
+}
+
 fn put_member(labels: &mut Labels, alloc: Global, key: &str, member: &Value) -> Result<(), Refusal>
     ensures ok { OnOk result (labels.new ≡ said.with_label key.now (as_str (view member.now))
         labels.old) }
     ensures err { IfErr result (λ e. e ≡ OutOfMemory) }
 {
     match member.as_str() {
-        Some(value) => labels.put(Text::new(alloc, key)?, Text::new(alloc, value)?),
+        Some(value) => put_text(labels, alloc, key, value),
         None => Ok(()),
     }
 }
@@ -67,11 +76,17 @@ fn copied(alloc: Global, owner: OwnerTexts) -> Result<OwnerRef, Refusal>
     ensures ok { IfOk result (λ o. o ≡ owner_view owner.entry) }
     ensures err { IfErr result (λ e. e ≡ OutOfMemory) }
 {
+    let (api_version, kind, name, uid) = all_four(
+        Text::new(alloc, owner.api_version),
+        Text::new(alloc, owner.kind),
+        Text::new(alloc, owner.name),
+        Text::new(alloc, owner.uid),
+    )?;
     Ok(OwnerRef {
-        api_version: Text::new(alloc, owner.api_version)?,
-        kind: Text::new(alloc, owner.kind)?,
-        name: Text::new(alloc, owner.name)?,
-        uid: Text::new(alloc, owner.uid)?,
+        api_version,
+        kind,
+        name,
+        uid,
         controller: owner.controller,
         block_owner_deletion: owner.block_owner_deletion,
     })

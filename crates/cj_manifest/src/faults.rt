@@ -1,5 +1,6 @@
 // The faults of a manifest, in the order of the table.
 ghost use Rattle.std.specs.Prelude.{◌≡◌, ◌++◌, IfOk, OnOk};
+ghost use Rattle.std.specs.Result.{result_err};
 ghost use Rattle.serde_json.specs.View.{view};
 ghost use Rattle.cj_types.specs.Keys.{fault_of};
 ghost use Rattle.cj_zone.specs.Table.{zones_of};
@@ -32,6 +33,16 @@ fn note(faults: &mut FieldFaults, field: Field, cause: Option<Cause>) -> Result<
     Ok(())
 }
 
+fn note_read<T: Drop>(
+    faults: &mut FieldFaults,
+    field: Field,
+    read: Result<T, Cause>,
+) -> Result<(), AllocError>
+    ensures { OnOk result (faults.new ≡ faults.old ++ fault_of field (result_err read)) }
+{
+    note(faults, field, read.err())
+}
+
 // ---- metadata
 
 fn owner_faults(
@@ -43,7 +54,7 @@ fn owner_faults(
 {
     match kind {
         ObjectKind::Cron => Ok(()),
-        ObjectKind::Job => note(faults, Field::OwnerReferences, owners(metadata).err()),
+        ObjectKind::Job => note_read(faults, Field::OwnerReferences, owners(metadata)),
     }
 }
 
@@ -55,16 +66,12 @@ fn metadata_faults(
     ensures { OnOk result (faults.new ≡ faults.old
         ++ table.metadata_faults kind (view metadata.now)) }
 {
-    note(faults, Field::Name, name(kind, metadata).err())?;
-    note(faults, Field::Namespace, namespace(metadata).err())?;
-    note(faults, Field::Labels, labels(metadata).err())?;
-    note(faults, Field::Annotations, annotations(metadata).err())?;
-    note(faults, Field::Uid, uid(metadata).err())?;
-    note(
-        faults,
-        Field::ResourceVersion,
-        resource_version(metadata).err(),
-    )?;
+    note_read(faults, Field::Name, name(kind, metadata))?;
+    note_read(faults, Field::Namespace, namespace(metadata))?;
+    note_read(faults, Field::Labels, labels(metadata))?;
+    note_read(faults, Field::Annotations, annotations(metadata))?;
+    note_read(faults, Field::Uid, uid(metadata))?;
+    note_read(faults, Field::ResourceVersion, resource_version(metadata))?;
     owner_faults(faults, kind, metadata)
 }
 
@@ -89,7 +96,7 @@ fn pods_faults(faults: &mut FieldFaults, named: PodFields, pods: &Value) -> Resu
     ensures { OnOk result (faults.new ≡ faults.old ++ table.pods_faults named (view pods.now)) }
 {
     match pod_spec(pods) {
-        Ok(found) => note(faults, named.restart_policy, restart_policy(found).err()),
+        Ok(found) => note_read(faults, named.restart_policy, restart_policy(found)),
         Err(cause) => note(faults, named.spec, Some(cause)),
     }
 }
@@ -125,12 +132,8 @@ fn template_metadata_faults(faults: &mut FieldFaults, metadata: &Value) -> Resul
     ensures { OnOk result (faults.new ≡ faults.old
         ++ table.template_metadata_faults (view metadata.now)) }
 {
-    note(faults, Field::JobTemplateLabels, labels(metadata).err())?;
-    note(
-        faults,
-        Field::JobTemplateAnnotations,
-        annotations(metadata).err(),
-    )
+    note_read(faults, Field::JobTemplateLabels, labels(metadata))?;
+    note_read(faults, Field::JobTemplateAnnotations, annotations(metadata))
 }
 
 fn note_template_metadata(faults: &mut FieldFaults, template: &Value) -> Result<(), AllocError>
@@ -182,26 +185,22 @@ fn timing_faults(
     ensures { OnOk result (faults.new ≡ faults.old
         ++ table.timing_faults (zones_of zones.now) (view spec.now)) }
 {
-    note(faults, Field::ScheduleText, schedule(spec).err())?;
-    note(faults, Field::TimeZone, time_zone(spec, zones).err())?;
-    note(faults, Field::ConcurrencyPolicy, policy(spec).err())?;
-    note(faults, Field::Suspend, suspend(spec).err())
+    note_read(faults, Field::ScheduleText, schedule(spec))?;
+    note_read(faults, Field::TimeZone, time_zone(spec, zones))?;
+    note_read(faults, Field::ConcurrencyPolicy, policy(spec))?;
+    note_read(faults, Field::Suspend, suspend(spec))
 }
 
 fn limit_faults(faults: &mut FieldFaults, spec: &Value) -> Result<(), AllocError>
     ensures { OnOk result (faults.new ≡ faults.old ++ table.limit_faults (view spec.now)) }
 {
-    note(faults, Field::StartingDeadlineSeconds, deadline(spec).err())?;
-    note(
+    note_read(faults, Field::StartingDeadlineSeconds, deadline(spec))?;
+    note_read(
         faults,
         Field::SuccessfulJobsHistoryLimit,
-        successful_limit(spec).err(),
+        successful_limit(spec),
     )?;
-    note(
-        faults,
-        Field::FailedJobsHistoryLimit,
-        failed_limit(spec).err(),
-    )
+    note_read(faults, Field::FailedJobsHistoryLimit, failed_limit(spec))
 }
 
 fn cron_spec_faults(
@@ -237,8 +236,8 @@ fn note_cron_spec(
 fn top_faults(faults: &mut FieldFaults, kind: ObjectKind, value: &Value) -> Result<(), AllocError>
     ensures { OnOk result (faults.new ≡ faults.old ++ table.top_faults kind (view value.now)) }
 {
-    note(faults, Field::ApiVersion, api_version(kind, value).err())?;
-    note(faults, Field::Kind, kind_field(kind, value).err())?;
+    note_read(faults, Field::ApiVersion, api_version(kind, value))?;
+    note_read(faults, Field::Kind, kind_field(kind, value))?;
     note_metadata(faults, kind, value)
 }
 
@@ -268,10 +267,11 @@ pub(crate) fn cron_faults(
     ensures { IfOk result (λ f. f ≡ table.cron_faults (zones_of zones.now) (view value.now)) }
 {
     let mut faults = FieldFaults::new(alloc);
-    match whole(value) {
-        Ok(found) => note_cron(&mut faults, zones, found)?,
-        Err(cause) => note(&mut faults, Field::Whole, Some(cause))?,
-    }
+    let noted = match whole(value) {
+        Ok(found) => note_cron(&mut faults, zones, found),
+        Err(cause) => note(&mut faults, Field::Whole, Some(cause)),
+    };
+    noted?;
     Ok(faults)
 }
 
@@ -280,10 +280,11 @@ pub(crate) fn head_faults(alloc: Global, value: &Value) -> Result<FieldFaults, A
     ensures { IfOk result (λ f. f ≡ table.head_faults (view value.now)) }
 {
     let mut faults = FieldFaults::new(alloc);
-    match whole(value) {
-        Ok(found) => top_faults(&mut faults, ObjectKind::Job, found)?,
-        Err(cause) => note(&mut faults, Field::Whole, Some(cause))?,
-    }
+    let noted = match whole(value) {
+        Ok(found) => top_faults(&mut faults, ObjectKind::Job, found),
+        Err(cause) => note(&mut faults, Field::Whole, Some(cause)),
+    };
+    noted?;
     Ok(faults)
 }
 
@@ -292,9 +293,10 @@ pub(crate) fn job_faults(alloc: Global, value: &Value) -> Result<FieldFaults, Al
     ensures { IfOk result (λ f. f ≡ table.job_faults (view value.now)) }
 {
     let mut faults = FieldFaults::new(alloc);
-    match whole(value) {
-        Ok(found) => note_job(&mut faults, found)?,
-        Err(cause) => note(&mut faults, Field::Whole, Some(cause))?,
-    }
+    let noted = match whole(value) {
+        Ok(found) => note_job(&mut faults, found),
+        Err(cause) => note(&mut faults, Field::Whole, Some(cause)),
+    };
+    noted?;
     Ok(faults)
 }

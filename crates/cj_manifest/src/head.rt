@@ -11,6 +11,7 @@ use crate::draft::{job_key, owner_refs};
 use crate::faults::head_faults;
 use crate::metadata_fields::metadata;
 use crate::read::refuse;
+use cj_base::both;
 use cj_types::{Key, OwnerRefs, Refusal};
 use serde_json::Value;
 use std::alloc::Global;
@@ -27,10 +28,8 @@ fn head_in(alloc: Global, metadata: &Value) -> Result<JobHead, Refusal>
     ensures ok { IfOk result (λ h. h ≡ said.head_in (view metadata.now)) }
     ensures err { IfErr result (λ e. e ≡ OutOfMemory) }
 {
-    Ok(JobHead {
-        key: job_key(alloc, metadata)?,
-        owners: owner_refs(alloc, metadata)?,
-    })
+    let (key, owners) = both(job_key(alloc, metadata), owner_refs(alloc, metadata))?;
+    Ok(JobHead { key, owners })
 }
 
 /// The key and the owners of a Job's JSON value, or `Invalid` with every fault of its top and its metadata, in

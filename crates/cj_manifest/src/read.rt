@@ -22,7 +22,7 @@ use crate::manifest::Manifest;
 use crate::metadata_fields::kind_field;
 use crate::warned::{cron_warnings, job_warnings};
 use crate::warning::Warning;
-use cj_base::FieldFaults;
+use cj_base::{FieldFaults, both};
 use cj_types::{CronJobDraft, JobDraft, Refusal};
 use cj_zone::ZoneTable;
 use serde_json::Value;
@@ -70,8 +70,8 @@ pub fn cron_of(
         (table.cron_faults (zones_of zones.now) (view value.now))) }
 {
     refuse(cron_faults(alloc, zones, value)?)?;
-    let warnings = cron_warnings(alloc, value)?;
-    match cron_draft(alloc, value)? {
+    let (draft, warnings) = both(cron_draft(alloc, value), cron_warnings(alloc, value))?;
+    match draft {
         Some(draft) => Ok((draft, warnings)),
         None => unreachable!(),
     }
@@ -87,8 +87,8 @@ pub fn job_of(alloc: Global, value: &Value) -> Result<(JobDraft, Vec<Warning>), 
     ensures refused { IfErr result (HasFaults (table.job_faults (view value.now))) }
 {
     refuse(job_faults(alloc, value)?)?;
-    let warnings = job_warnings(alloc, value)?;
-    match job_draft(alloc, value)? {
+    let (draft, warnings) = both(job_draft(alloc, value), job_warnings(alloc, value))?;
+    match draft {
         Some(draft) => Ok((draft, warnings)),
         None => unreachable!(),
     }

@@ -1,6 +1,7 @@
 // One function for each kind of read.
 ghost use Rattle.std.specs.Prelude.{◌≡◌, ◌≤◌, IfOk, option_map};
 ghost use Rattle.std.specs.Result.{result_ok, result_err};
+ghost use Rattle.std.specs.Str.{bytes_eq};
 ghost use Rattle.serde_json.specs.View.{view, members_view};
 ghost use Rattle.cj_zone.specs.Table.{zones_of};
 ghost use Rattle.cj_manifest.specs.Members.{present as member_at};
@@ -10,6 +11,13 @@ use cj_schedule::Schedule;
 use cj_types::{Cause, Policy, name_cause, namespace_cause};
 use cj_zone::ZoneTable;
 use serde_json::{Map, Value};
+
+/// Whether the texts are the same.
+pub(crate) fn same_text(one: &str, other: &str) -> bool
+    ensures { result ≡ bytes_eq one.now other.now }
+{
+    one == other
+}
 
 /// A member, where null counts as absent.
 pub fn present<'v>(value: &'v Value, name: &str) -> Option<&'v Value>
@@ -76,7 +84,7 @@ pub(crate) fn choice<'v>(value: &'v Value, only: &str) -> Result<&'v str, Cause>
         ≡ result_ok (read.choice only.now (view value.now)) }
 {
     let found = text(value)?;
-    if found == only {
+    if same_text(found, only) {
         Ok(found)
     } else {
         Err(Cause::NotSupported)
@@ -91,7 +99,7 @@ pub(crate) fn either<'v>(value: &'v Value, one: &str, other: &str) -> Result<&'v
         ≡ result_ok (read.either one.now other.now (view value.now)) }
 {
     let found = text(value)?;
-    if found == one || found == other {
+    if same_text(found, one) || same_text(found, other) {
         Ok(found)
     } else {
         Err(Cause::NotSupported)
@@ -101,11 +109,11 @@ pub(crate) fn either<'v>(value: &'v Value, one: &str, other: &str) -> Result<&'v
 fn policy_named(name: &str) -> Result<Policy, Cause>
     ensures { result ≡ read.policy_named name.now }
 {
-    if name.is_empty() || name == "Allow" {
+    if name.is_empty() || same_text(name, "Allow") {
         Ok(Policy::Allow)
-    } else if name == "Forbid" {
+    } else if same_text(name, "Forbid") {
         Ok(Policy::Forbid)
-    } else if name == "Replace" {
+    } else if same_text(name, "Replace") {
         Ok(Policy::Replace)
     } else {
         Err(Cause::NotSupported)

@@ -1,5 +1,5 @@
 // What a manifest is warned of: the older version of the API, and the members that are dropped.
-ghost use Rattle.std.specs.Prelude.{◌≡◌, ◌++◌, option_map, IfOk, IfErr, OnOk};
+ghost use Rattle.std.specs.Prelude.{◌≡◌, ◌++◌, ◌∷◌, [], option_map, IfOk, IfErr, OnOk};
 ghost use Rattle.cj_base.specs.declared.refusal.Refusal.TheVariants.{OutOfMemory};
 ghost use Rattle.serde_json.specs.View.{view, members_view};
 ghost use Rattle.cj_manifest.specs.Warnings as table;
@@ -8,10 +8,27 @@ use crate::kind::ObjectKind;
 use crate::level::Level;
 use crate::metadata_fields::{api_version, metadata, spec};
 use crate::spec_fields::{job_template, template_metadata};
+use crate::values::same_text;
 use crate::warning::Warning;
+use cj_base::{all_three, both};
 use cj_types::Refusal;
 use serde_json::{Map, Value};
 use std::alloc::Global;
+
+// A warning of the member of that name in the object whose members' paths begin so.
+fn push_warning(
+    warnings: &mut Vec<Warning>,
+    alloc: Global,
+    prefix: &str,
+    key: &str,
+) -> Result<(), Refusal>
+    ensures ok { OnOk result (warnings.new.items
+        ≡ warnings.old.items ++ (prefix.now ++ key.now) ∷ []) }
+    ensures err { IfErr result (λ e. e ≡ OutOfMemory) }
+{
+    let warning = Warning::new(alloc, prefix, key)?;
+    warnings.push(warning).map_err(|_| Refusal::OutOfMemory)
+}
 
 fn note_unknown(
     warnings: &mut Vec<Warning>,
@@ -25,8 +42,7 @@ fn note_unknown(
 {
     for (key, member) in members.iter() {
         if !level.knows(key.as_str()) && !member.is_null() {
-            let warning = Warning::new(alloc, level.prefix(), key.as_str())?;
-            warnings.push(warning).map_err(|_| Refusal::OutOfMemory)?;
+            push_warning(warnings, alloc, level.prefix(), key.as_str())?;
         }
     }
     Ok(())
@@ -69,7 +85,7 @@ fn is_beta(version: Option<&str>) -> bool
     ensures { result ≡ table.is_beta (option_map (λ s. s.now) version.entry) }
 {
     match version {
-        Some(version) => version == "batch/v1beta1",
+        Some(version) => same_text(version, "batch/v1beta1"),
         None => false,
     }
 }
@@ -81,8 +97,7 @@ fn note_version(warnings: &mut Vec<Warning>, alloc: Global, value: &Value) -> Re
     ensures err { IfErr result (λ e. e ≡ OutOfMemory) }
 {
     if is_beta(api_version(ObjectKind::Cron, value).ok()) {
-        let warning = Warning::new(alloc, "", "apiVersion")?;
-        warnings.push(warning).map_err(|_| Refusal::OutOfMemory)?;
+        push_warning(warnings, alloc, "", "apiVersion")?;
     }
     Ok(())
 }
@@ -94,16 +109,21 @@ pub fn cron_warnings(alloc: Global, value: &Value) -> Result<Vec<Warning>, Refus
     ensures err { IfErr result (λ e. e ≡ OutOfMemory) }
 {
     let mut found = Vec::new(alloc);
-    note_version(&mut found, alloc, value)?;
-    note_dropped(&mut found, alloc, Level::Top, Some(value))?;
-    note_dropped(&mut found, alloc, Level::CronMetadata, metadata(value).ok())?;
-    note_dropped(&mut found, alloc, Level::CronSpec, spec(value).ok())?;
-    note_dropped(&mut found, alloc, Level::Template, template_in(value))?;
-    note_dropped(
+    let version = note_version(&mut found, alloc, value);
+    let top = note_dropped(&mut found, alloc, Level::Top, Some(value));
+    let metadata = note_dropped(&mut found, alloc, Level::CronMetadata, metadata(value).ok());
+    let spec = note_dropped(&mut found, alloc, Level::CronSpec, spec(value).ok());
+    let template = note_dropped(&mut found, alloc, Level::Template, template_in(value));
+    let inner = note_dropped(
         &mut found,
         alloc,
         Level::TemplateMetadata,
         template_metadata_in(value),
+    );
+    all_three(
+        both(version, top),
+        both(metadata, spec),
+        both(template, inner),
     )?;
     Ok(found)
 }
@@ -114,7 +134,8 @@ pub(crate) fn job_warnings(alloc: Global, value: &Value) -> Result<Vec<Warning>,
     ensures err { IfErr result (λ e. e ≡ OutOfMemory) }
 {
     let mut found = Vec::new(alloc);
-    note_dropped(&mut found, alloc, Level::Top, Some(value))?;
-    note_dropped(&mut found, alloc, Level::JobMetadata, metadata(value).ok())?;
+    let top = note_dropped(&mut found, alloc, Level::Top, Some(value));
+    let metadata = note_dropped(&mut found, alloc, Level::JobMetadata, metadata(value).ok());
+    both(top, metadata)?;
     Ok(found)
 }

@@ -1,4 +1,4 @@
--- cron_draft: its call of cron_spec, whose requires plain and flat hold of the Job's spec.
+-- cron_draft: its call of shared_spec, whose requires plain and flat hold of the Job's spec.
 use Rattle.std.proofs.Common.{codes}
 use Rattle.serde_json.specs.Read.{max_depth}
 use Rattle.serde_json.specs.View.{view}
@@ -6,8 +6,8 @@ use Rattle.cj_manifest.proofs.DepthLemmas.{depth-object}
 use Rattle.cj_manifest.proofs.FloatLemmas.{no_float-object}
 use Rattle.cj_manifest.proofs.draft.cron_draft.Goals as goal
 
-pub cron_spec-requires : goal.cron_spec-requires
-cron_spec-requires c =
+pub shared_spec-requires : goal.shared_spec-requires
+shared_spec-requires c =
     let whole = view c.args.value.now in
     let spec = view c.in-Ok-spec.spec.now in
     let template = view c.in-Ok-job_template.template.now in

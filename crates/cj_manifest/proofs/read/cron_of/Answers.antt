@@ -19,4 +19,4 @@ unreachable-requires c =
     let zones = zones_of c.args.zones.now in
     let d = view c.args.value.now in
     let sound : cron_faults zones d ≡ [] = search rules in
-    cron_there zones d sound (sym c.in_ok-draft.ensures.ok ∙ c.in-None.is)
+    cron_there zones d sound (search rules)

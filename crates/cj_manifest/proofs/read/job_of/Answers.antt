@@ -16,4 +16,4 @@ pub unreachable-requires : goal.unreachable-requires
 unreachable-requires c =
     let d = view c.args.value.now in
     let sound : job_faults d ≡ [] = search rules in
-    job_there d sound (sym c.in_ok-draft.ensures.ok ∙ c.in-None.is)
+    job_there d sound (search rules)
