@@ -6,6 +6,7 @@ ghost use Rattle.cj_cluster.specs.Content.{nothing, with_cron, with_job};
 
 use crate::cron::ClusterCron;
 use crate::times::JobTimes;
+use cj_base::both;
 use cj_jobs::Jobs;
 use cj_table::Table;
 use cj_types::{Job, Key, Listing, Refusal, Shared, TryCopy};
@@ -120,8 +121,7 @@ impl Cluster {
         ensures err { OnErr result (self.new ≡ self.old) }
         ensures memory { IfErr result (λ e. e ≡ OutOfMemory) }
     {
-        let key = job.key.try_copy(alloc)?;
-        let undone = job.key.try_copy(alloc)?;
+        let (key, undone) = both(job.key.try_copy(alloc), job.key.try_copy(alloc))?;
         self.times.insert(key, times)?;
         match self.jobs.add(alloc, job) {
             Ok(()) => Ok(()),

@@ -3,6 +3,7 @@ ghost use Rattle.cj_types.specs.Owners.{controller_of};
 ghost use Rattle.cj_jobs.specs.Owners.{is_job_of};
 ghost use Rattle.cj_cluster.specs.Content.{has_uid, is_of};
 
+use cj_base::both;
 use cj_types::{CronJob, Job, Refusal, Shared, Text, TryCopy};
 use std::alloc::Global;
 
@@ -17,10 +18,8 @@ pub struct ClusterCron {
 
 impl TryCopy for ClusterCron {
     fn try_copy(&self, alloc: Global) -> Result<ClusterCron, Refusal> {
-        Ok(ClusterCron {
-            uid: self.uid.try_copy(alloc)?,
-            cron: self.cron.share()?,
-        })
+        let (uid, cron) = both(self.uid.try_copy(alloc), self.cron.share())?;
+        Ok(ClusterCron { uid, cron })
     }
 }
 
