@@ -25,13 +25,19 @@ pub enum Form {
 fn is_list(kind: &str) -> bool
     ensures { result ≡ is_list kind.now }
 {
-    kind == "List" || kind == "CronJobList" || kind == "JobList"
+    match kind {
+        "List" | "CronJobList" | "JobList" => true,
+        _ => false,
+    }
 }
 
 fn is_object(kind: &str) -> bool
     ensures { result ≡ is_object kind.now }
 {
-    kind == "CronJob" || kind == "Job"
+    match kind {
+        "CronJob" | "Job" => true,
+        _ => false,
+    }
 }
 
 fn form_by_kind(kind: &str) -> Form
@@ -117,29 +123,18 @@ impl Form {
         ensures { result ≡ knows self key.now }
     {
         match self {
-            Form::Scenario => {
-                key == "manifest"
-                    || key == "created"
-                    || key == "last"
-                    || key == "jobs"
-                    || key == "zones"
-            }
-            Form::Script => {
-                key == "callers"
-                    || key == "steps"
-                    || key == "zones"
-                    || key == "history"
-                    || key == "window"
-            }
-            Form::Course => {
-                key == "start"
-                    || key == "end"
-                    || key == "stepSeconds"
-                    || key == "cronJobs"
-                    || key == "runs"
-                    || key == "edits"
-                    || key == "zones"
-            }
+            Form::Scenario => match key {
+                "manifest" | "created" | "last" | "jobs" | "zones" => true,
+                _ => false,
+            },
+            Form::Script => match key {
+                "callers" | "steps" | "zones" | "history" | "window" => true,
+                _ => false,
+            },
+            Form::Course => match key {
+                "start" | "end" | "stepSeconds" | "cronJobs" | "runs" | "edits" | "zones" => true,
+                _ => false,
+            },
             _ => true,
         }
     }
