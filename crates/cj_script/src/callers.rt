@@ -21,16 +21,12 @@ pub struct Named {
 fn role_named(word: &str) -> Option<Role>
     ensures { result ≡ said.role_named word.now }
 {
-    if word == "User" {
-        Some(Role::User)
-    } else if word == "Runner" {
-        Some(Role::Runner)
-    } else if word == "Informer" {
-        Some(Role::Informer)
-    } else if word == "Worker" {
-        Some(Role::Worker)
-    } else {
-        None
+    match word {
+        "User" => Some(Role::User),
+        "Runner" => Some(Role::Runner),
+        "Informer" => Some(Role::Informer),
+        "Worker" => Some(Role::Worker),
+        _ => None,
     }
 }
 

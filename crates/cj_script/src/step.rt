@@ -94,9 +94,10 @@ pub(crate) fn step_of(
     let Some(named) = who_at(callers, value) else {
         return Err(SceneFault::Form);
     };
+    let who = named.name.share()?;
     let Deed { verb, act } = deed_of(alloc, zones, value)?;
     Ok(Step {
-        who: named.name.share()?,
+        who,
         caller: named.caller,
         verb,
         act,
