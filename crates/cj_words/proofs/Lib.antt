@@ -1,4 +1,3 @@
 pub mod Refused
 pub mod Texts
-pub mod Commands
 pub mod Simple

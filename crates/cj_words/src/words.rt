@@ -216,6 +216,29 @@ fn audit_request<'a>(alloc: Global, found: &ArgMatches<'a>) -> Result<AuditReque
     })
 }
 
+// What the words behind the name of a command ask for.
+fn request_named<'a>(
+    alloc: Global,
+    name: &str,
+    found: &ArgMatches<'a>,
+) -> Result<Request<'a>, WordFault>
+    ensures stated { IfOk result (IsOfRows (Some (name.now, rows_of (found_of found.now)))) }
+    ensures refused { IfErr result (λ e. (e ≡ Incomplete) ⊎ (e ≡ OutOfMemory)) }
+    ensures only { IfErr result (λ e. e ≡ Incomplete → (r : Request) →
+        ¬ (IsOfRows (Some (name.now, rows_of (found_of found.now))) r)) }
+{
+    match name {
+        "next" => next_request(found).map(Request::Next),
+        "check" => check_request(alloc, found).map(Request::Check),
+        "plan" => plan_request(alloc, found).map(Request::Plan),
+        "replay" => replay_request(alloc, found).map(Request::Replay),
+        "run" => run_request(alloc, found).map(Request::Run),
+        "why" => why_request(alloc, found).map(Request::Why),
+        "audit" => audit_request(alloc, found).map(Request::Audit),
+        _ => Err(WordFault::Incomplete),
+    }
+}
+
 fn request_of<'a>(alloc: Global, matches: &ArgMatches<'a>) -> Result<Request<'a>, WordFault>
     ensures stated { IfOk result (IsOfRows (subcommand_rows_of matches.now)) }
     ensures refused { IfErr result (λ e. (e ≡ Incomplete) ⊎ (e ≡ OutOfMemory)) }
@@ -223,14 +246,8 @@ fn request_of<'a>(alloc: Global, matches: &ArgMatches<'a>) -> Result<Request<'a>
         ¬ (IsOfRows (subcommand_rows_of matches.now) r)) }
 {
     match matches.subcommand() {
-        Some(("next", found)) => Ok(Request::Next(next_request(found)?)),
-        Some(("check", found)) => Ok(Request::Check(check_request(alloc, found)?)),
-        Some(("plan", found)) => Ok(Request::Plan(plan_request(alloc, found)?)),
-        Some(("replay", found)) => Ok(Request::Replay(replay_request(alloc, found)?)),
-        Some(("run", found)) => Ok(Request::Run(run_request(alloc, found)?)),
-        Some(("why", found)) => Ok(Request::Why(why_request(alloc, found)?)),
-        Some(("audit", found)) => Ok(Request::Audit(audit_request(alloc, found)?)),
-        _ => Err(WordFault::Incomplete),
+        Some((name, found)) => request_named(alloc, name, found),
+        None => Err(WordFault::Incomplete),
     }
 }
 
