@@ -6,7 +6,7 @@ ghost use Rattle.cj_state.specs.Readings.{if_mine, active_job, active_of};
 
 use cj_store::Store;
 use cj_types::{CronJob, Job, Key, Listing, ObjectName, Refusal, Shared, TryCopy};
-use std::alloc::Global;
+use std::alloc::{AllocError, Global};
 
 // Whether the Job's controller has the uid, which is given as a text.
 fn is_mine(uid: &str, job: &Job) -> bool
@@ -60,7 +60,7 @@ fn active_jobs(
     let mut jobs = Vec::new(alloc);
     for name in names {
         jobs.push(active_job(alloc, store, uid, cron, name)?)
-            .map_err(|_| Refusal::OutOfMemory)?;
+            .map_err(AllocError::from)?;
     }
     Ok(jobs)
 }

@@ -6,6 +6,7 @@ ghost use Rattle.cj_seats.specs.declared.seat.Phase.TheVariants.{Works};
 ghost use Rattle.cj_state.specs.Sound.{IsSound};
 ghost use Rattle.cj_state.specs.Moves.{claim, claims, claim_where, seen_version, moved};
 
+use cj_base::both;
 use cj_calls::{Answered, Reply};
 use cj_decide::{Claim, Plan};
 use cj_seats::{Phase, Seat, Work, rests_on};
@@ -69,9 +70,11 @@ fn claim_time(
     {
         Ok(change) => {
             let version = change.event().version();
-            let seat = at_work(alloc, key, plan, version)?;
             let reply = Reply::Claimed(Some((claim.time, version)));
-            let answer = Answered::new(alloc, Ok(reply))?;
+            let (seat, answer) = both(
+                at_work(alloc, key, plan, version),
+                Answered::new(alloc, Ok(reply)),
+            )?;
             state.write_seated(alloc, worker, change, answer, seat)
         }
         Err(refusal) => refused(alloc, refusal),
@@ -98,8 +101,10 @@ fn claim_where(
         (Some(claim), Some(cron)) => claim_time(alloc, state, worker, key, plan, claim, cron.get()),
         (Some(_), None) => refused(alloc, Refusal::Stale),
         (None, cron) => {
-            let seat = at_work(alloc, key, plan, seen_version(cron))?;
-            let answer = Answered::new(alloc, Ok(Reply::Claimed(None)))?;
+            let (seat, answer) = both(
+                at_work(alloc, key, plan, seen_version(cron)),
+                Answered::new(alloc, Ok(Reply::Claimed(None))),
+            )?;
             state.put_seat(worker, seat);
             Ok(answer)
         }

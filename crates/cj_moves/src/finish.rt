@@ -69,9 +69,11 @@ pub fn finish(alloc: Global, state: &mut State, worker: u64, end: End) -> Result
     let Some(seat) = state.seats.get(worker) else {
         return refused(alloc, Refusal::OutOfPhase);
     };
-    let key = seat.key.try_copy(alloc)?;
     match end {
-        End::Again(now) => leave_badly(alloc, state, worker, &key, now),
+        End::Again(now) => {
+            let key = seat.key.try_copy(alloc)?;
+            leave_badly(alloc, state, worker, &key, now)
+        }
         End::Well => {
             let Phase::Works(work) = &seat.phase else {
                 return refused(alloc, Refusal::OutOfPhase);
@@ -81,6 +83,7 @@ pub fn finish(alloc: Global, state: &mut State, worker: u64, end: End) -> Result
                 return refused(alloc, Refusal::OutOfPhase);
             }
             let at = next_ms(steps.next);
+            let key = seat.key.try_copy(alloc)?;
             leave_well(alloc, state, worker, &key, at)
         }
     }

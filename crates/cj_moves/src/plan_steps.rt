@@ -8,6 +8,7 @@ ghost use Rattle.cj_store.specs.Jobs.{job_made, job_deleted};
 ghost use Rattle.cj_state.specs.Sound.{IsSound};
 ghost use Rattle.cj_state.specs.Moves.{drop_next, drops_it, make_next, set_status, steps_on, event_reply, version_reply, next_seat, moved};
 
+use cj_base::both;
 use cj_calls::{Answered, Reply};
 use cj_seats::{Phase, Seat, Work, drop_at, make_at, status_at};
 use cj_state::{State, event_answer, refused, seat_in};
@@ -136,8 +137,7 @@ pub fn drop_next(alloc: Global, state: &mut State, worker: u64) -> Result<Answer
     let Some(job) = drop_at(work.plan.get().steps(), work.place) else {
         return refused(alloc, Refusal::OutOfPhase);
     };
-    let next = further(alloc, &seat.key, work)?;
-    let name = job.key.try_copy(alloc)?;
+    let (next, name) = both(further(alloc, &seat.key, work), job.key.try_copy(alloc))?;
     let uid = job.uid;
     drop_job(alloc, state, worker, name, uid, next)
 }
@@ -160,8 +160,7 @@ pub fn make_next(alloc: Global, state: &mut State, worker: u64) -> Result<Answer
     let Some(draft) = make_at(work.plan.get().steps(), work.place) else {
         return refused(alloc, Refusal::OutOfPhase);
     };
-    let next = further(alloc, &seat.key, work)?;
-    let draft = draft.try_copy(alloc)?;
+    let (next, draft) = both(further(alloc, &seat.key, work), draft.try_copy(alloc))?;
     let now = work.plan.get().moment();
     make_job(alloc, state, worker, draft, now, next)
 }
@@ -187,8 +186,7 @@ pub fn set_status(alloc: Global, state: &mut State, worker: u64) -> Result<Answe
     let Some(cron) = work.plan.get().cron() else {
         return refused(alloc, Refusal::OutOfPhase);
     };
-    let next = further(alloc, &seat.key, work)?;
-    let status = status.try_copy(alloc)?;
+    let (next, status) = both(further(alloc, &seat.key, work), status.try_copy(alloc))?;
     let uid = cron.get().meta.uid;
     let version = work.version;
     put_status(alloc, state, worker, uid, version, status, next)

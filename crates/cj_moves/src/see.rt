@@ -7,6 +7,7 @@ ghost use Rattle.cj_state.specs.Readings.{active_of};
 ghost use Rattle.cj_state.specs.Moves.{see_cron, see_jobs, see_active, moved};
 
 use crate::active::active_of;
+use cj_base::{all_three, both};
 use cj_calls::{Answered, Reply};
 use cj_mirror::Mirror;
 use cj_seats::{Phase, Seat};
@@ -36,9 +37,7 @@ fn shown(
     ensures answer { IfOk result (λ p. p.1 ≡ Ok reply) }
     ensures err { IfErr result (λ e. e ≡ OutOfMemory) }
 {
-    let answer = Answered::new(alloc, Ok(reply))?;
-    let seat = seat_in(alloc, key, phase)?;
-    Ok((seat, answer))
+    both(seat_in(alloc, key, phase), Answered::new(alloc, Ok(reply)))
 }
 
 fn shown_cron(alloc: Global, store: &Store, key: &Key) -> Result<(Heap<Seat>, Answered), Refusal>
@@ -71,7 +70,8 @@ fn shown_jobs(
     ensures err { IfErr result (λ e. e ≡ OutOfMemory) }
 {
     let jobs = mirror.owned(key)?;
-    let phase = Phase::Listed(cron.try_copy(alloc)?, jobs.try_copy(alloc)?);
+    let (cron, listed) = both(cron.try_copy(alloc), jobs.try_copy(alloc))?;
+    let phase = Phase::Listed(cron, listed);
     shown(alloc, key, phase, Reply::SeenJobs(jobs))
 }
 
@@ -90,11 +90,12 @@ fn shown_active(
     ensures err { IfErr result (λ e. e ≡ OutOfMemory) }
 {
     let active = active_of(alloc, store, cron)?;
-    let phase = Phase::Checked(
-        cron.try_copy(alloc)?,
-        jobs.try_copy(alloc)?,
-        active.try_copy(alloc)?,
-    );
+    let (cron, jobs, found) = all_three(
+        cron.try_copy(alloc),
+        jobs.try_copy(alloc),
+        active.try_copy(alloc),
+    )?;
+    let phase = Phase::Checked(cron, jobs, found);
     shown(alloc, key, phase, Reply::SeenActive(active))
 }
 

@@ -22,6 +22,14 @@ fn why_empty(shut: bool) -> Refusal
     }
 }
 
+fn key_answer(alloc: Global, key: &Key) -> Result<Answered, Refusal>
+    ensures ok { IfOk result (λ t. t ≡ Ok (Reply.Key key.now)) }
+    ensures err { IfErr result (λ e. e ≡ OutOfMemory) }
+{
+    let key = key.try_copy(alloc)?;
+    Answered::new(alloc, Ok(Reply::Key(key)))
+}
+
 #[tactic(auto, using(crate::proofs::Undone::undone))]
 fn take_key(alloc: Global, state: &mut State, worker: u64, key: Key) -> Result<Answered, Refusal>
     requires free { map.get state.old.seats worker ≡ None }
@@ -32,7 +40,7 @@ fn take_key(alloc: Global, state: &mut State, worker: u64, key: Key) -> Result<A
     ensures err { OnErr result (state.new ≡ state.old) }
     ensures memory { IfErr result (λ e. e ≡ OutOfMemory) }
 {
-    let answer = Answered::new(alloc, Ok(Reply::Key(key.try_copy(alloc)?)))?;
+    let answer = key_answer(alloc, &key)?;
     let seat = Seat {
         key,
         phase: Phase::Held,
