@@ -7,8 +7,9 @@ ghost use Rattle.cj_state.specs.Sound.{IsSound};
 ghost use Rattle.cj_state.specs.Moves.{moved, event_reply, version_reply};
 ghost use Rattle.cj_state.specs.Step.{writes};
 
-use cj_calls::{Answered, Reply};
-use cj_state::{State, event_answer, refused};
+use crate::writing::{write_deletion, write_object};
+use cj_calls::Answered;
+use cj_state::{State, refused};
 use cj_types::{JobDraft, Key, Outcome, Refusal, Seconds, TryCopy, Uid};
 use std::alloc::Global;
 
@@ -31,10 +32,7 @@ pub fn create_job(
         .store
         .plan_create_job(alloc, draft.try_copy(alloc)?, now)
     {
-        Ok(change) => {
-            let answer = event_answer(alloc, change.event())?;
-            state.write_answered(alloc, change, answer)
-        }
+        Ok(change) => write_object(alloc, state, change),
         Err(refusal) => refused(alloc, refusal),
     }
 }
@@ -50,10 +48,7 @@ pub fn update_job(alloc: Global, state: &mut State, draft: &JobDraft) -> Result<
     ensures memory { IfErr result (λ e. e ≡ OutOfMemory) }
 {
     match state.store.plan_update_job(alloc, draft.try_copy(alloc)?) {
-        Ok(change) => {
-            let answer = event_answer(alloc, change.event())?;
-            state.write_answered(alloc, change, answer)
-        }
+        Ok(change) => write_object(alloc, state, change),
         Err(refusal) => refused(alloc, refusal),
     }
 }
@@ -69,11 +64,7 @@ pub fn delete_job(alloc: Global, state: &mut State, key: &Key) -> Result<Answere
     ensures memory { IfErr result (λ e. e ≡ OutOfMemory) }
 {
     match state.store.plan_delete_job(alloc, key, None) {
-        Ok(change) => {
-            let reply = Reply::Version(change.event().version());
-            let answer = Answered::new(alloc, Ok(reply))?;
-            state.write_answered(alloc, change, answer)
-        }
+        Ok(change) => write_deletion(alloc, state, change),
         Err(refusal) => refused(alloc, refusal),
     }
 }
@@ -97,10 +88,7 @@ pub fn end_job(
     ensures memory { IfErr result (λ e. e ≡ OutOfMemory) }
 {
     match state.store.plan_end_job(alloc, key, uid, outcome, now) {
-        Ok(change) => {
-            let answer = event_answer(alloc, change.event())?;
-            state.write_answered(alloc, change, answer)
-        }
+        Ok(change) => write_object(alloc, state, change),
         Err(refusal) => refused(alloc, refusal),
     }
 }

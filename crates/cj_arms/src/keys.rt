@@ -5,16 +5,18 @@ ghost use Rattle.cj_types.specs.declared.event.Event.{Event};
 ghost use Rattle.cj_calls.specs.declared.reply.Reply.TheVariants.{Version};
 ghost use Rattle.cj_watch.specs.Numbers.{IsNumbered};
 ghost use Rattle.cj_watch.specs.Log.{since};
+ghost use Rattle.cj_mirror.specs.Lagging.{fed_with, reset_to};
 ghost use Rattle.cj_mirror.specs.Laws.{caught_up};
 ghost use Rattle.cj_state.specs.Sound.{IsSound};
 ghost use Rattle.cj_state.specs.Moves.{moved};
 ghost use Rattle.cj_state.specs.Step.{add, tick, shut, feed};
 
+use cj_base::both;
 use cj_calls::{Answered, Reply};
 use cj_mirror::Mirror;
 use cj_state::State;
 use cj_store::Store;
-use cj_types::{Key, Max, Millis, Refusal};
+use cj_types::{Event, Job, Key, Listing, Max, Millis, Refusal, Shared};
 use cj_watch::WatchLog;
 use std::alloc::Global;
 
@@ -51,6 +53,43 @@ pub fn shut(alloc: Global, state: &mut State) -> Result<Answered, Refusal>
     Ok(answer)
 }
 
+// The mirror learns these events. The answer, of how many writes it knows then, is made before.
+fn feed_with(alloc: Global, mirror: &mut Mirror, events: &[Event]) -> Result<Answered, Refusal>
+    requires next { IsNumbered mirror.old.fed events.now }
+    ensures ok { OnOk result (mirror.new ≡ fed_with mirror.old events.now) }
+    ensures answer { IfOk result (λ t. t ≡ Ok (Version mirror.new.fed)) }
+    ensures err { OnErr result (mirror.new ≡ mirror.old) }
+    ensures memory { IfErr result (λ e. e ≡ OutOfMemory) }
+{
+    let reply = Reply::Version(mirror.version_with(events));
+    let answer = Answered::new(alloc, Ok(reply))?;
+    mirror.feed(events)?;
+    Ok(answer)
+}
+
+// The answer of the store's version, and all its Jobs.
+fn current(alloc: Global, store: &Store) -> Result<(Answered, Listing<Shared<Job>>), Refusal>
+    ensures answer { IfOk result (λ p. p.0 ≡ Ok (Version store.now.version)) }
+    ensures jobs { IfOk result (λ p. p.1 ≡ map.values store.now.jobs) }
+    ensures err { IfErr result (λ e. e ≡ OutOfMemory) }
+{
+    let reply = Reply::Version(store.version());
+    both(Answered::new(alloc, Ok(reply)), store.list_jobs(alloc))
+}
+
+// The mirror learns all current Jobs. The answer, of how many writes it knows then, is made before.
+fn reset(alloc: Global, mirror: &mut Mirror, store: &Store) -> Result<Answered, Refusal>
+    ensures ok { OnOk result (mirror.new
+        ≡ reset_to (map.values store.now.jobs) store.now.version) }
+    ensures answer { IfOk result (λ t. t ≡ Ok (Version mirror.new.fed)) }
+    ensures err { OnErr result (mirror.new ≡ mirror.old) }
+    ensures memory { IfErr result (λ e. e ≡ OutOfMemory) }
+{
+    let (answer, jobs) = current(alloc, store)?;
+    mirror.reset(jobs.as_slice(), store.version())?;
+    Ok(answer)
+}
+
 // The mirror learns what the watch tells, or all current Jobs where events are gone. The answer, of how many
 // writes it knows then, is made before.
 fn catch_up(
@@ -69,19 +108,8 @@ fn catch_up(
     ensures memory { IfErr result (λ e. e ≡ OutOfMemory) }
 {
     match watch.since(alloc, mirror.version(), max) {
-        Ok(events) => {
-            let reply = Reply::Version(mirror.version_with(events.as_slice()));
-            let answer = Answered::new(alloc, Ok(reply))?;
-            mirror.feed(events.as_slice())?;
-            Ok(answer)
-        }
-        Err(Refusal::Expired(_)) => {
-            let reply = Reply::Version(store.version());
-            let answer = Answered::new(alloc, Ok(reply))?;
-            let jobs = store.list_jobs(alloc)?;
-            mirror.reset(jobs.as_slice(), store.version())?;
-            Ok(answer)
-        }
+        Ok(events) => feed_with(alloc, mirror, events.as_slice()),
+        Err(Refusal::Expired(_)) => reset(alloc, mirror, store),
         Err(_) => Err(Refusal::OutOfMemory),
     }
 }

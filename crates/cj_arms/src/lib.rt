@@ -6,5 +6,6 @@ mod jobs;
 mod keys;
 mod readings;
 mod roles;
+mod writing;
 
 pub use roles::{by_informer, by_runner, by_user};
