@@ -14,9 +14,16 @@ pub struct FieldFault {
 }
 
 /// The faults of a manifest or a call, in the order of the manifest's table. Contracts see the list.
-#[derive(Debug, Drop)]
+#[derive(Debug)]
 pub struct FieldFaults {
     items: Vec<FieldFault>,
+}
+
+// A function of its own, so that whoever gives one up makes one call and not one for each part.
+impl Drop for FieldFaults {
+    fn drop(self) {
+        let FieldFaults { items: _ } = self;
+    }
 }
 
 impl Model for FieldFaults {

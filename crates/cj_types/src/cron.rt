@@ -3,11 +3,22 @@ use cj_base::{Refusal, Same, Seconds, Shared, Text, TryCopy, all_four, all_three
 use std::alloc::Global;
 
 /// What each Job of a CronJob is made with (batch/v1, `JobTemplateSpec`).
-#[derive(Debug, Drop)]
+#[derive(Debug)]
 pub struct JobTemplate {
     pub labels: Labels,
     pub annotations: Labels,
     pub spec: SpecText,
+}
+
+// A function of its own, so that whoever gives one up makes one call and not one for each part.
+impl Drop for JobTemplate {
+    fn drop(self) {
+        let JobTemplate {
+            labels: _,
+            annotations: _,
+            spec: _,
+        } = self;
+    }
 }
 
 impl TryCopy for JobTemplate {
@@ -35,7 +46,7 @@ impl Same for JobTemplate {
 }
 
 /// What a CronJob asks for (batch/v1, `CronJobSpec`).
-#[derive(Debug, Drop)]
+#[derive(Debug)]
 pub struct CronSpec {
     /// The schedule as it was given.
     pub schedule: Text,
@@ -50,6 +61,22 @@ pub struct CronSpec {
     /// How many failed Jobs are kept.
     pub failed_limit: HistoryLimit,
     pub template: JobTemplate,
+}
+
+// A function of its own, so that whoever gives one up makes one call and not one for each part.
+impl Drop for CronSpec {
+    fn drop(self) {
+        let CronSpec {
+            schedule: _,
+            time_zone: _,
+            policy: _,
+            suspend: _,
+            starting_deadline_seconds: _,
+            successful_limit: _,
+            failed_limit: _,
+            template: _,
+        } = self;
+    }
 }
 
 impl TryCopy for CronSpec {
@@ -87,12 +114,23 @@ impl Same for CronSpec {
 }
 
 /// What the controller wrote of a CronJob (batch/v1, `CronJobStatus`).
-#[derive(Debug, Drop)]
+#[derive(Debug)]
 pub struct CronStatus {
     /// The names of the Jobs that run.
     pub active: Names,
     pub last_schedule_time: Option<Seconds>,
     pub last_successful_time: Option<Seconds>,
+}
+
+// A function of its own, so that whoever gives one up makes one call and not one for each part.
+impl Drop for CronStatus {
+    fn drop(self) {
+        let CronStatus {
+            active: _,
+            last_schedule_time: _,
+            last_successful_time: _,
+        } = self;
+    }
 }
 
 impl TryCopy for CronStatus {

@@ -6,7 +6,7 @@ use cj_base::{Refusal, Same, Text, TryCopy, all_four};
 use std::alloc::Global;
 
 /// A Job as it is stored.
-#[derive(Debug, Drop)]
+#[derive(Debug)]
 pub struct Job {
     pub key: Key,
     pub meta: Meta,
@@ -14,6 +14,19 @@ pub struct Job {
     pub spec: SpecText,
     /// How it ended, if it did.
     pub outcome: Option<Outcome>,
+}
+
+// A function of its own, so that whoever gives one up makes one call and not one for each part.
+impl Drop for Job {
+    fn drop(self) {
+        let Job {
+            key: _,
+            meta: _,
+            owners: _,
+            spec: _,
+            outcome: _,
+        } = self;
+    }
 }
 
 impl Job {

@@ -10,9 +10,16 @@ use std::marker::Model;
 /// Labels or annotations: a value for each of some names.
 ///
 /// Contracts see the entries in the order of the names' bytes, each name once.
-#[derive(Debug, Drop)]
+#[derive(Debug)]
 pub struct Labels {
     items: Vec<(Text, Text)>,
+}
+
+// A function of its own, so that whoever gives one up makes one call and not one for each part.
+impl Drop for Labels {
+    fn drop(self) {
+        let Labels { items: _ } = self;
+    }
 }
 
 impl Model for Labels {

@@ -7,7 +7,7 @@ use std::alloc::Global;
 use std::marker::Model;
 
 /// An object to which another belongs (Kubernetes' `metadata.ownerReferences`).
-#[derive(Debug, Drop)]
+#[derive(Debug)]
 pub struct OwnerRef {
     pub api_version: Text,
     pub kind: Text,
@@ -17,6 +17,20 @@ pub struct OwnerRef {
     /// Whether the owner is the one that manages the object.
     pub controller: bool,
     pub block_owner_deletion: bool,
+}
+
+// A function of its own, so that whoever gives one up makes one call and not one for each part.
+impl Drop for OwnerRef {
+    fn drop(self) {
+        let OwnerRef {
+            api_version: _,
+            kind: _,
+            name: _,
+            uid: _,
+            controller: _,
+            block_owner_deletion: _,
+        } = self;
+    }
 }
 
 impl OwnerRef {
@@ -61,9 +75,16 @@ impl Same for OwnerRef {
 }
 
 /// The owner references of an object, which contracts see as a list.
-#[derive(Debug, Drop)]
+#[derive(Debug)]
 pub struct OwnerRefs {
     items: Vec<OwnerRef>,
+}
+
+// A function of its own, so that whoever gives one up makes one call and not one for each part.
+impl Drop for OwnerRefs {
+    fn drop(self) {
+        let OwnerRefs { items: _ } = self;
+    }
 }
 
 impl Model for OwnerRefs {

@@ -7,9 +7,16 @@ use std::alloc::Global;
 use std::marker::Model;
 
 /// Reasons, which contracts see as a list.
-#[derive(Debug, Drop)]
+#[derive(Debug)]
 pub struct Reasons {
     items: Vec<Reason>,
+}
+
+// A function of its own, so that whoever gives one up makes one call and not one for each part.
+impl Drop for Reasons {
+    fn drop(self) {
+        let Reasons { items: _ } = self;
+    }
 }
 
 impl Model for Reasons {
