@@ -1,4 +1,4 @@
--- What the entries of an ordered map are as a finite map.
+-- What a list of entries is as a finite map.
 use Rattle.std.proofs.Common.{◌≡◌, List, [], ◌∷◌, Some, None, cond, refl, sym, ap, ◌∙◌}
 use Rattle.std.proofs.Common.{Bool, true, false, ◌&&◌, subst, map as map_list}
 use Rattle.std.specs.Prelude.{T}

@@ -1,5 +1,6 @@
 -- What stands in the entries of a map by hash once they are in the order of keys.
-use Rattle.std.proofs.Common.{◌≡◌, ◌<◌, ◌≤◌, ◌+◌, ℕ, List, [], ◌∷◌, Option, Some, None, false, length, get_or, take, refl, sym, ap, ◌∙◌, subst, arith, Bor, map as map_list}
+use Rattle.std.proofs.Common.{◌≡◌, ◌<◌, ◌≤◌, ◌+◌, ℕ, List, [], ◌∷◌, Option, Some, None, false, Bor, map as map_list}
+use Rattle.std.proofs.Common.{length, get_or, take, refl, sym, ap, ◌∙◌, subst, arith}
 use Rattle.std.specs.Ordering.{eq_by_cmp, is_lt, is_eq, ordering_reverse}
 use Rattle.std.specs.declared.cmp.Ordering.{Ordering}
 use Rattle.std.specs.declared.cmp.Ordering.TheVariants.{Less, Equal, Greater}
@@ -25,7 +26,8 @@ less o Equal h e r = absurd (cc (sym e ∙ ap is_eq r))
 less o Greater h e r = r
 
 -- For kept_rows: two look-ups of which each finds what the other does find the same.
-same_found : {X : Type 0} (a b : Option X) → ((v : X) → a ≡ Some v → b ≡ Some v) → ((v : X) → b ≡ Some v → a ≡ Some v) → b ≡ a
+same_found : {X : Type 0} (a b : Option X) → ((v : X) → a ≡ Some v → b ≡ Some v)
+    → ((v : X) → b ≡ Some v → a ≡ Some v) → b ≡ a
 same_found None None f g = refl
 same_found (Some v) b f g = f v refl
 same_found None (Some w) f g = sym (g w refl)
@@ -40,6 +42,12 @@ strict {R = R} o (k ∷ ks) h s = sorted_from_all_adjacent o (k ∷ ks) k (λ i 
     (apart_from_distinct (eq_by_cmp R) (k ∷ ks) i (i + 1) k h (omega arith) l) (o.antisymm _ _))
 
 module _ {K X : Type 0} {R : K → K → Ordering} (o : IsTotalOrder R) (exact : map.IsAntisymmetric R) where
+  -- Keys that differ still do after the entries change places.
+  still_distinct : (es fs : List (K × X)) → IsPermutation es fs → IsDistinct (eq_by_cmp R) (keys_of es)
+      → IsDistinct (eq_by_cmp R) (keys_of fs)
+  still_distinct es fs p d = IsDistinct-IsPermutation _ (eq_by_cmp_equiv o).symm _ _
+      (IsPermutation-map (λ (e : K × X). e.0) es fs p) d
+
   -- For kept_rows: what a look-up finds it finds after the entries change places.
   still_found : (es fs : List (K × X)) → IsDistinct (eq_by_cmp R) (keys_of fs) → IsPermutation es fs → (q : K) (v : X)
       → lookup (eq_by_cmp R q) es ≡ Some v → lookup (eq_by_cmp R q) fs ≡ Some v
@@ -50,15 +58,14 @@ module _ {K X : Type 0} {R : K → K → Ordering} (o : IsTotalOrder R) (exact :
   kept_rows : (es fs : List (K × X)) → IsDistinct (eq_by_cmp R) (keys_of es) → IsPermutation es fs → (q : K)
       → lookup (eq_by_cmp R q) fs ≡ lookup (eq_by_cmp R q) es
   kept_rows es fs d p q = same_found _ _
-      (still_found es fs (IsDistinct-IsPermutation _ (eq_by_cmp_equiv o).symm _ _ (IsPermutation-map (λ e. e.0) es fs p) d) p q)
+      (still_found es fs (still_distinct es fs p d) p q)
       (still_found fs es d (IsPermutation-sym es fs p) q)
 
   -- Where the keys of entries differ, the same entries in the order of keys are those of their map.
   pub sorted_entries : (es fs : List (K × X)) → IsDistinct (eq_by_cmp R) (keys_of es) → IsPermutation es fs
       → IsSorted R (keys_of fs) → fs ≡ map.entries (map.from_entries {R = R} es)
   sorted_entries es fs d p s =
-      let e = IsDistinct-IsPermutation _ (eq_by_cmp_equiv o).symm _ _ (IsPermutation-map (λ (e : K × X). e.0) es fs p) d in
-      sym (rows_entries o exact fs (strict o (keys_of fs) e s))
+      sym (rows_entries o exact fs (strict o (keys_of fs) (still_distinct es fs p d) s))
       ∙ ap (λ (m : map.FinMap R X). map.entries m) (same_rows o exact es fs (kept_rows es fs d p))
 
 -- Elements in the order of what g and then key gives are, by g, in the order of key.

@@ -1,4 +1,4 @@
-//! A map by key, which contracts see as a finite map and which is listed in the order of keys, and the laws of such maps.
+//! A map by key, listed in the order of keys, which contracts see as a finite map, and the laws of such maps.
 #![tactic(auto)]
 
 mod in_order;

@@ -8,7 +8,7 @@ use std::alloc::Global;
 use std::collections::HashMap;
 use std::marker::Model;
 
-/// A value for each of some keys, in the order of keys. Contracts see a finite map.
+/// A value for each of some keys, which are found by hash and listed in their order. Contracts see a finite map.
 #[derive(Drop)]
 pub struct Table<X> {
     rows: HashMap<Key, X>,
