@@ -5,6 +5,7 @@ ghost use Rattle.cj_types.specs.Keys.{fault_of};
 ghost use Rattle.cj_kubectl.specs.Faults.{cron_faults_by, job_faults_by, uid_cause};
 
 use crate::times::{CronTimes, RunTimes};
+use cj_base::{all_four, all_three, both};
 use cj_types::{Cause, Field, FieldFault, FieldFaults, Refusal, Text};
 use std::alloc::Global;
 
@@ -50,12 +51,17 @@ pub(crate) fn cron_faults(
     ensures err { IfErr result (λ e. e ≡ OutOfMemory) }
 {
     let mut faults = FieldFaults::new(alloc);
-    note(&mut faults, Field::Uid, uid)?;
-    note(&mut faults, Field::CreationTimestamp, times.created.err())?;
-    note(&mut faults, Field::Status, status)?;
-    note(&mut faults, Field::Active, active)?;
-    note(&mut faults, Field::LastScheduleTime, times.last.err())?;
-    note(&mut faults, Field::LastSuccessfulTime, times.success.err())?;
+    let uid = note(&mut faults, Field::Uid, uid);
+    let created = note(&mut faults, Field::CreationTimestamp, times.created.err());
+    let status = note(&mut faults, Field::Status, status);
+    let active = note(&mut faults, Field::Active, active);
+    let last = note(&mut faults, Field::LastScheduleTime, times.last.err());
+    let success = note(&mut faults, Field::LastSuccessfulTime, times.success.err());
+    all_three(
+        both(uid, created),
+        both(status, active),
+        both(last, success),
+    )?;
     Ok(faults)
 }
 
@@ -70,14 +76,15 @@ pub(crate) fn job_faults(
     ensures err { IfErr result (λ e. e ≡ OutOfMemory) }
 {
     let mut faults = FieldFaults::new(alloc);
-    note(&mut faults, Field::CreationTimestamp, times.created.err())?;
-    note(
+    let created = note(&mut faults, Field::CreationTimestamp, times.created.err());
+    let scheduled = note(
         &mut faults,
         Field::ScheduledTimestamp,
         times.scheduled.err(),
-    )?;
-    note(&mut faults, Field::Status, status)?;
-    note(&mut faults, Field::Conditions, conditions)?;
-    note(&mut faults, Field::CompletionTime, times.ended.err())?;
+    );
+    let status = note(&mut faults, Field::Status, status);
+    let conditions = note(&mut faults, Field::Conditions, conditions);
+    let ended = note(&mut faults, Field::CompletionTime, times.ended.err());
+    both(created, all_four(scheduled, status, conditions, ended))?;
     Ok(faults)
 }

@@ -1,11 +1,13 @@
 // What is read of one item of a list.
-ghost use Rattle.std.specs.Prelude.{◌≡◌, ◌≤◌, IfOk, IfErr, option_map};
+ghost use Rattle.std.specs.Prelude.{◌≡◌, ◌≤◌, Some, IfOk, IfErr, option_map};
 ghost use Rattle.std.specs.Result.{result_ok, result_err};
 ghost use Rattle.serde_json.specs.Data.{depth};
 ghost use Rattle.serde_json.specs.Read.{max_depth};
 ghost use Rattle.serde_json.specs.View.{view};
 ghost use Rattle.cj_base.specs.declared.refusal.Refusal.TheVariants.{OutOfMemory};
 ghost use Rattle.cj_zone.specs.Table.{zones_of};
+ghost use Rattle.cj_types.specs.Keys.{fault_of};
+ghost use Rattle.cj_kubectl.specs.declared.item.Item.TheVariants as Read;
 ghost use Rattle.cj_kubectl.specs.Reading.{IsItem, IsKindItem, kind_field};
 
 use crate::crons::cron_item;
@@ -42,6 +44,20 @@ fn kind_of(value: &Value) -> Result<&str, Cause>
     }
 }
 
+fn faulty(alloc: Global, field: Field, cause: Cause) -> Result<Item, Refusal>
+    ensures ok { IfOk result (λ i. i ≡ Read.Faulty (fault_of field (Some cause))) }
+    ensures err { IfErr result (λ e. e ≡ OutOfMemory) }
+{
+    Ok(Item::Faulty(fault(alloc, field, cause)?))
+}
+
+fn other(alloc: Global, kind: &str) -> Result<Item, Refusal>
+    ensures ok { IfOk result (λ i. i ≡ Read.Other kind.now) }
+    ensures err { IfErr result (λ e. e ≡ OutOfMemory) }
+{
+    Ok(Item::Other(Text::new(alloc, kind)?))
+}
+
 // What is read of an object, by its kind.
 fn kind_item(alloc: Global, place: Uid, value: &Value, zones: &ZoneTable) -> Result<Item, Refusal>
     requires flat { depth (view value.now) ≤ max_depth }
@@ -50,14 +66,14 @@ fn kind_item(alloc: Global, place: Uid, value: &Value, zones: &ZoneTable) -> Res
     ensures err { IfErr result (λ e. e ≡ OutOfMemory) }
 {
     match kind_of(value) {
-        Err(cause) => Ok(Item::Faulty(fault(alloc, Field::Kind, cause)?)),
+        Err(cause) => faulty(alloc, Field::Kind, cause),
         Ok(kind) => {
             if kind == "CronJob" {
                 cron_item(alloc, place, value, zones)
             } else if kind == "Job" {
                 job_item(alloc, place, value)
             } else {
-                Ok(Item::Other(Text::new(alloc, kind)?))
+                other(alloc, kind)
             }
         }
     }
@@ -77,6 +93,6 @@ pub(crate) fn read_item(
     if value.is_object() {
         kind_item(alloc, place, value, zones)
     } else {
-        Ok(Item::Faulty(fault(alloc, Field::Whole, Cause::WrongType)?))
+        faulty(alloc, Field::Whole, Cause::WrongType)
     }
 }

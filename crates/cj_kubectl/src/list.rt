@@ -46,6 +46,14 @@ fn taken_name(alloc: Global) -> Result<Said, Refusal>
     Ok(Said::Refused(faults))
 }
 
+fn note_taken(alloc: Global, list: &mut ClusterList, place: u64) -> Result<(), Refusal>
+    ensures ok { OnOk result (list.new ≡ noted place taken list.old) }
+    ensures err { OnErr result (list.new ≡ list.old) }
+    ensures memory { IfErr result (λ e. e ≡ OutOfMemory) }
+{
+    note(list, place, taken_name(alloc)?)
+}
+
 fn add_cron(
     alloc: Global,
     list: &mut ClusterList,
@@ -58,7 +66,7 @@ fn add_cron(
     ensures memory { IfErr result (λ e. e ≡ OutOfMemory) }
 {
     if list.cluster.cron(cron.cron.key.key()).is_some() {
-        note(list, place, taken_name(alloc)?)
+        note_taken(alloc, list, place)
     } else {
         list.cluster.add_cron(alloc, cron)
     }
@@ -77,7 +85,7 @@ fn add_job(
     ensures memory { IfErr result (λ e. e ≡ OutOfMemory) }
 {
     if list.cluster.job(&job.key).is_some() {
-        note(list, place, taken_name(alloc)?)
+        note_taken(alloc, list, place)
     } else {
         list.cluster.add_job(alloc, job, times)
     }

@@ -1,5 +1,5 @@
 // The objects that are made of what is read.
-ghost use Rattle.std.specs.Prelude.{◌≡◌, IsOk, IsSome, IfOk, IfErr, unwrap_or, option_map, ℕ, List, []};
+ghost use Rattle.std.specs.Prelude.{◌≡◌, IsOk, IsSome, IfOk, IfErr, unwrap_or, option_map, codes, ℕ, List, []};
 ghost use Rattle.cj_base.specs.declared.refusal.Refusal.TheVariants.{OutOfMemory};
 ghost use Rattle.cj_manifest.specs.Drafts.{given, value_or};
 ghost use Rattle.cj_kubectl.specs.Finishes.{finish_of};
@@ -86,6 +86,14 @@ pub(crate) fn outcome(finish: Option<FinishAt>, ended: Option<Seconds>) -> Optio
     Some(outcome_at(finish.ending, time))
 }
 
+// The spec of a Job that nobody looks at.
+fn no_spec(alloc: Global) -> Result<SpecText, Refusal>
+    ensures ok { IfOk result (λ s. s ≡ codes "{}") }
+    ensures err { IfErr result (λ e. e ≡ OutOfMemory) }
+{
+    SpecText::new(alloc, Text::new(alloc, "{}")?)
+}
+
 /// The Job of a head at a place of the list.
 pub(crate) fn job(
     alloc: Global,
@@ -97,7 +105,7 @@ pub(crate) fn job(
     ensures ok { IfOk result (λ j. j ≡ job_made place head created outcome) }
     ensures err { IfErr result (λ e. e ≡ OutOfMemory) }
 {
-    let spec = SpecText::new(alloc, Text::new(alloc, "{}")?)?;
+    let spec = no_spec(alloc)?;
     let JobHead { key, owners } = head;
     let meta = meta(place, created, Labels::new(alloc), Labels::new(alloc));
     Shared::new(

@@ -4,6 +4,7 @@ ghost use Rattle.serde_json.specs.View.{view};
 ghost use Rattle.cj_base.specs.declared.refusal.Refusal.TheVariants.{OutOfMemory};
 ghost use Rattle.cj_manifest.specs.Drafts.{job_head};
 ghost use Rattle.cj_kubectl.specs.Faults.{job_server_faults};
+ghost use Rattle.cj_kubectl.specs.declared.item.Item.TheVariants as Read;
 ghost use Rattle.cj_kubectl.specs.Reading.{IsJobItem, IsSoundJob, job_at, times_of};
 
 use crate::conditions::finish_row;
@@ -12,6 +13,7 @@ use crate::item::Item;
 use crate::made;
 use crate::status::status_row;
 use crate::times::{RunTimes, given_finish, run_times};
+use cj_base::both;
 use cj_cluster::JobTimes;
 use cj_manifest::{JobHead, head_of};
 use cj_types::{FieldFaults, Job, Refusal, Shared, Uid};
@@ -54,6 +56,26 @@ fn job_times(alloc: Global, times: &RunTimes) -> Result<Shared<JobTimes>, Refusa
     Shared::new(alloc, JobTimes { scheduled, ended })
 }
 
+// The same Job with its times.
+fn run_of(
+    alloc: Global,
+    place: Uid,
+    value: &Value,
+    head: JobHead,
+    times: &RunTimes,
+) -> Result<Item, Refusal>
+    requires created { IsOk times.now.created }
+    ensures ok { IfOk result (λ i. i ≡ Read.Run (job_at place (view value.now) head times.now)
+        (times_of times.now)) }
+    ensures err { IfErr result (λ e. e ≡ OutOfMemory) }
+{
+    let (job, times) = both(
+        job_of(alloc, place, value, head, times),
+        job_times(alloc, times),
+    )?;
+    Ok(Item::Run(job, times))
+}
+
 // The Job of a head, or the faults of what the server says of it.
 fn sound_job(alloc: Global, place: Uid, value: &Value, head: JobHead) -> Result<Item, Refusal>
     requires headed { job_head (view value.now) ≡ Some head }
@@ -65,9 +87,7 @@ fn sound_job(alloc: Global, place: Uid, value: &Value, head: JobHead) -> Result<
     if !faults.as_slice().is_empty() {
         return Ok(Item::Faulty(faults));
     }
-    let job = job_of(alloc, place, value, head, &times)?;
-    let times = job_times(alloc, &times)?;
-    Ok(Item::Run(job, times))
+    run_of(alloc, place, value, head, &times)
 }
 
 /// What is read of a Job at a place of the list.
