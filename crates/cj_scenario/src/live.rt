@@ -1,12 +1,13 @@
 // What a live read of a scenario finds.
-ghost use Rattle.std.specs.Prelude.{◌≡◌, Some, filter, map, IfOk, IfErr, OnOk};
+ghost use Rattle.std.specs.Prelude.{◌≡◌, ◌++◌, ◌∷◌, [], Some, filter, map, IfOk, IfErr, OnOk};
+ghost use Rattle.cj_base.specs.declared.refusal.Refusal.TheVariants.{OutOfMemory};
 ghost use Rattle.cj_types.specs.Objects.{is_unfinished};
 ghost use Rattle.cj_status.specs.Order.{in_order};
 ghost use Rattle.cj_scenario.specs.Live.{is_before, live_jobs, name_cmp, names_of};
 ghost use Rattle.cj_scenario.specs.declared.fault.SceneFault.TheVariants.{Memory};
 
 use crate::fault::SceneFault;
-use cj_types::{Job, Names, ObjectName, Shared};
+use cj_types::{Job, Key, Names, ObjectName, Refusal, Shared};
 use std::alloc::Global;
 use std::cmp::Ordering;
 
@@ -49,14 +50,22 @@ pub(crate) fn live_jobs(alloc: Global, jobs: &[Shared<Job>]) -> Result<Vec<Share
     Ok(live)
 }
 
+// The name in a key at the end.
+fn push_name(alloc: Global, names: &mut Names, key: &Key) -> Result<(), Refusal>
+    ensures ok { OnOk result (names.new ≡ names.old ++ key.now.name ∷ []) }
+    ensures err { IfErr result (λ e. e ≡ OutOfMemory) }
+{
+    names.push(ObjectName::of_key(alloc, key)?)
+}
+
 /// Their names.
-pub(crate) fn names_of(alloc: Global, live: &[Shared<Job>]) -> Result<Names, SceneFault>
+pub(crate) fn names_of(alloc: Global, live: &[Shared<Job>]) -> Result<Names, Refusal>
     ensures ok { IfOk result (λ n. n ≡ names_of live.now) }
-    ensures err { IfErr result (λ e. e ≡ Memory) }
+    ensures err { IfErr result (λ e. e ≡ OutOfMemory) }
 {
     let mut names = Names::new(alloc);
     for job in live {
-        names.push(ObjectName::of_key(alloc, &job.get().key)?)?;
+        push_name(alloc, &mut names, &job.get().key)?;
     }
     Ok(names)
 }

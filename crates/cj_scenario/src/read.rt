@@ -17,8 +17,9 @@ use crate::form::parts_of;
 use crate::live::{found_of, live_jobs, names_of};
 use crate::made::{scene_cron, scene_jobs, with_active};
 use crate::scene::Scene;
+use cj_base::both;
 use cj_manifest::cron_of;
-use cj_types::{CronJob, CronJobDraft, Job, Listing, Refusal, Shared};
+use cj_types::{CronJob, CronJobDraft, Job, Listing, Names, Refusal, Shared};
 use cj_zone::ZoneTable;
 use cj_zoneinfo::GivenZones;
 use serde_json::Value;
@@ -69,6 +70,21 @@ pub fn draft_of(
     }
 }
 
+// The names of those of the Jobs that run, and what a live read finds for each.
+fn active_among(
+    alloc: Global,
+    jobs: &[Shared<Job>],
+) -> Result<(Names, Listing<Option<Shared<Job>>>), SceneFault>
+    ensures names { IfOk result (λ r. r.0 ≡ names_of (live_jobs jobs.now)) }
+    ensures active { IfOk result (λ r. r.1 ≡ map (λ job. Some job) (live_jobs jobs.now)) }
+    ensures err { IfErr result (λ e. e ≡ Memory) }
+{
+    let live = live_jobs(alloc, jobs)?;
+    let found = found_of(alloc, live.as_slice())?;
+    let (names, active) = both(names_of(alloc, live.as_slice()), Listing::new(alloc, found))?;
+    Ok((names, active))
+}
+
 // The scene of a CronJob that names none of its Jobs yet, and these Jobs.
 fn scene_with(
     alloc: Global,
@@ -82,12 +98,11 @@ fn scene_with(
     ensures active { IfOk result (λ s. s.active ≡ map (λ job. Some job) (live_jobs jobs.items)) }
     ensures err { IfErr result (λ e. e ≡ Memory) }
 {
-    let live = live_jobs(alloc, jobs.as_slice())?;
-    let names = names_of(alloc, live.as_slice())?;
-    let found = found_of(alloc, live.as_slice())?;
-    let cron = Shared::new(alloc, with_active(cron, names))?;
-    let active = Listing::new(alloc, found)?;
-    let jobs = Listing::new(alloc, jobs)?;
+    let (names, active) = active_among(alloc, jobs.as_slice())?;
+    let (cron, jobs) = both(
+        Shared::new(alloc, with_active(cron, names)),
+        Listing::new(alloc, jobs),
+    )?;
     Ok(Scene {
         zones,
         cron,
