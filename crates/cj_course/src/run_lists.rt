@@ -17,12 +17,10 @@ use std::alloc::Global;
 fn end_named(word: &str) -> Option<RunEnd>
     ensures { result ≡ said.end_named word.now }
 {
-    if word == "Complete" {
-        Some(RunEnd::Complete)
-    } else if word == "Failed" {
-        Some(RunEnd::Failed)
-    } else {
-        None
+    match word {
+        "Complete" => Some(RunEnd::Complete),
+        "Failed" => Some(RunEnd::Failed),
+        _ => None,
     }
 }
 
