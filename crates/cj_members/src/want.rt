@@ -86,19 +86,28 @@ impl Range {
 fn is_end(text: &str) -> bool
     ensures { result ≡ want.is_end text.now }
 {
-    text == "Complete" || text == "Failed"
+    match text {
+        "Complete" | "Failed" => true,
+        _ => false,
+    }
 }
 
 fn is_state(text: &str) -> bool
     ensures { result ≡ want.is_state text.now }
 {
-    text == "Running" || is_end(text)
+    match text {
+        "Running" => true,
+        _ => is_end(text),
+    }
 }
 
 fn is_role(text: &str) -> bool
     ensures { result ≡ want.is_role text.now }
 {
-    text == "User" || text == "Runner" || text == "Informer" || text == "Worker"
+    match text {
+        "User" | "Runner" | "Informer" | "Worker" => true,
+        _ => false,
+    }
 }
 
 /// Whether the text is a key, NAMESPACE/NAME.
@@ -147,12 +156,10 @@ fn is_reason(item: &Value) -> bool
 {
     match item.as_str() {
         None => false,
-        Some(text) => {
-            text == "UnknownTimeZone"
-                || text == "TooManyMissedTimes"
-                || text == "JobAlreadyActive"
-                || text == "FailedCreate"
-        }
+        Some(text) => match text {
+            "UnknownTimeZone" | "TooManyMissedTimes" | "JobAlreadyActive" | "FailedCreate" => true,
+            _ => false,
+        },
     }
 }
 
