@@ -7,6 +7,7 @@ ghost use Rattle.cj_legal.specs.Answers.{is_empty};
 ghost use Rattle.cj_world.specs.Worlds.{Advanced, receipts_of, told};
 
 use crate::step::step;
+use cj_base::both;
 use cj_calls::{Answer, Call, Caller, Entry};
 use cj_state::State;
 use cj_types::{Refusal, Shared, TryCopy};
@@ -33,8 +34,7 @@ fn thrice(alloc: Global, call: &Call) -> Result<Calls, Refusal>
     ensures err { IfErr result (λ e. e ≡ OutOfMemory) }
 {
     let entered = Shared::new(alloc, call.try_copy(alloc)?)?;
-    let first = entered.try_copy(alloc)?;
-    let second = entered.try_copy(alloc)?;
+    let (first, second) = both(entered.try_copy(alloc), entered.try_copy(alloc))?;
     Ok(Calls {
         entered,
         first,

@@ -10,6 +10,7 @@ ghost use Rattle.cj_once.specs.Times.{Timely};
 ghost use Rattle.cj_world.specs.Worlds.{Applied, Entered, IsAtRest, receipts_of, state_in};
 
 use crate::advance::{Made, advance};
+use cj_base::both;
 use cj_calls::{Answer, Call, Caller, Entry};
 use cj_legal::exclusive_law;
 use cj_mirror::Mirror;
@@ -27,7 +28,6 @@ use std::marker::Model;
 ///
 /// Contracts see the limits and the history, the newest entry first. Its type keeps that the history is
 /// within its limit and legal, and that all that it holds is what the history leaves.
-#[derive(Drop)]
 pub struct World {
     alloc: Global,
     limits: Limits,
@@ -44,6 +44,18 @@ impl Model for World {
     ghost view = { λ w. record { limits = w.limits; history = reverse w.entries.items } };
 
     ghost invariant = { λ w. Stands w.limits (reverse w.entries.items) w.state };
+}
+
+// A function of its own, so that whoever gives up a world makes one call and not one for each part.
+impl Drop for World {
+    fn drop(self) {
+        let World {
+            alloc: _,
+            limits: _,
+            state: _,
+            entries: _,
+        } = self;
+    }
 }
 
 // How many events are kept.
@@ -68,9 +80,10 @@ impl World {
         ensures ok { IfOk result (λ w. w ≡ record { limits = limits; history = [] }) }
         ensures err { IfErr result (λ e. e ≡ OutOfMemory) }
     {
+        let watch = WatchLog::new(alloc, window_of(limits))?;
         let state = State {
             store: Store::new(alloc),
-            watch: WatchLog::new(alloc, window_of(limits))?,
+            watch,
             mirror: Mirror::new(alloc),
             queue: Queue::new(alloc),
             seats: Seats::new(alloc),
@@ -167,9 +180,10 @@ impl World {
         ensures jobs { IfOk result (λ p. p.1 ≡ map.values (state_in self.now).store.jobs) }
         ensures err { IfErr result (λ e. e ≡ OutOfMemory) }
     {
-        let crons = self.state.store.list_crons(self.alloc)?;
-        let jobs = self.state.store.list_jobs(self.alloc)?;
-        Ok((crons, jobs))
+        both(
+            self.state.store.list_crons(self.alloc),
+            self.state.store.list_jobs(self.alloc),
+        )
     }
 
     /// The Job that stands at the key. It isn't copied.
