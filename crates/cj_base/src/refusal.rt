@@ -5,7 +5,7 @@ use std::alloc::{AllocError, Global};
 use thiserror::Error;
 
 /// Why a call is refused. Each leaves what it was asked of as it was.
-#[derive(Debug, Error)]
+#[derive(Debug, Drop, Error)]
 pub enum Refusal {
     /// The bytes aren't JSON (HTTP status 400).
     #[error("Syntax")]
@@ -52,29 +52,6 @@ pub enum Refusal {
     /// The end of a Job that has ended.
     #[error("AlreadyFinished")]
     AlreadyFinished,
-}
-
-// A function of its own, so that whoever gives one up makes one call and not one for each part.
-impl Drop for Refusal {
-    fn drop(self) {
-        match self {
-            Refusal::Syntax => {}
-            Refusal::Invalid(_) => {}
-            Refusal::NotPermitted => {}
-            Refusal::NotFound => {}
-            Refusal::AlreadyExists => {}
-            Refusal::Conflict(_) => {}
-            Refusal::Expired(_) => {}
-            Refusal::OutOfPhase => {}
-            Refusal::Stale => {}
-            Refusal::Empty => {}
-            Refusal::ShutDown => {}
-            Refusal::HistoryFull => {}
-            Refusal::Estranged => {}
-            Refusal::OutOfMemory => {}
-            Refusal::AlreadyFinished => {}
-        }
-    }
 }
 
 impl From<AllocError> for Refusal {
