@@ -1,5 +1,5 @@
 // The faults of a manifest, in the order of the table.
-ghost use Rattle.std.specs.Prelude.{◌≡◌, ◌++◌, IfOk, OnOk};
+ghost use Rattle.std.specs.Prelude.{◌≡◌, ◌++◌, Ok, IfOk, OnOk};
 ghost use Rattle.std.specs.Result.{result_err};
 ghost use Rattle.serde_json.specs.View.{view};
 ghost use Rattle.cj_types.specs.Keys.{fault_of};
@@ -43,6 +43,16 @@ fn note_read<T: Drop>(
     note(faults, field, read.err())
 }
 
+// Both notes were made.
+fn noted(first: Result<(), AllocError>, second: Result<(), AllocError>) -> Result<(), AllocError>
+    ensures { OnOk result ((first ≡ Ok tt) × (second ≡ Ok tt)) }
+{
+    match first {
+        Ok(()) => second,
+        Err(error) => Err(error),
+    }
+}
+
 // ---- metadata
 
 fn owner_faults(
@@ -66,13 +76,15 @@ fn metadata_faults(
     ensures { OnOk result (faults.new ≡ faults.old
         ++ table.metadata_faults kind (view metadata.now)) }
 {
-    note_read(faults, Field::Name, name(kind, metadata))?;
-    note_read(faults, Field::Namespace, namespace(metadata))?;
-    note_read(faults, Field::Labels, labels(metadata))?;
-    note_read(faults, Field::Annotations, annotations(metadata))?;
-    note_read(faults, Field::Uid, uid(metadata))?;
-    note_read(faults, Field::ResourceVersion, resource_version(metadata))?;
-    owner_faults(faults, kind, metadata)
+    let name = note_read(faults, Field::Name, name(kind, metadata));
+    let namespace = note_read(faults, Field::Namespace, namespace(metadata));
+    let labels = note_read(faults, Field::Labels, labels(metadata));
+    let annotations = note_read(faults, Field::Annotations, annotations(metadata));
+    let uid = note_read(faults, Field::Uid, uid(metadata));
+    let version = note_read(faults, Field::ResourceVersion, resource_version(metadata));
+    let owners = owner_faults(faults, kind, metadata);
+    let named = noted(name, noted(namespace, noted(labels, annotations)));
+    noted(named, noted(uid, noted(version, owners)))
 }
 
 fn note_metadata(
@@ -132,8 +144,9 @@ fn template_metadata_faults(faults: &mut FieldFaults, metadata: &Value) -> Resul
     ensures { OnOk result (faults.new ≡ faults.old
         ++ table.template_metadata_faults (view metadata.now)) }
 {
-    note_read(faults, Field::JobTemplateLabels, labels(metadata))?;
-    note_read(faults, Field::JobTemplateAnnotations, annotations(metadata))
+    let labels = note_read(faults, Field::JobTemplateLabels, labels(metadata));
+    let annotations = note_read(faults, Field::JobTemplateAnnotations, annotations(metadata));
+    noted(labels, annotations)
 }
 
 fn note_template_metadata(faults: &mut FieldFaults, template: &Value) -> Result<(), AllocError>
@@ -162,8 +175,9 @@ fn note_template_spec(faults: &mut FieldFaults, template: &Value) -> Result<(), 
 fn template_faults(faults: &mut FieldFaults, template: &Value) -> Result<(), AllocError>
     ensures { OnOk result (faults.new ≡ faults.old ++ table.template_faults (view template.now)) }
 {
-    note_template_metadata(faults, template)?;
-    note_template_spec(faults, template)
+    let metadata = note_template_metadata(faults, template);
+    let spec = note_template_spec(faults, template);
+    noted(metadata, spec)
 }
 
 fn note_template(faults: &mut FieldFaults, spec: &Value) -> Result<(), AllocError>
@@ -185,22 +199,24 @@ fn timing_faults(
     ensures { OnOk result (faults.new ≡ faults.old
         ++ table.timing_faults (zones_of zones.now) (view spec.now)) }
 {
-    note_read(faults, Field::ScheduleText, schedule(spec))?;
-    note_read(faults, Field::TimeZone, time_zone(spec, zones))?;
-    note_read(faults, Field::ConcurrencyPolicy, policy(spec))?;
-    note_read(faults, Field::Suspend, suspend(spec))
+    let schedule = note_read(faults, Field::ScheduleText, schedule(spec));
+    let zone = note_read(faults, Field::TimeZone, time_zone(spec, zones));
+    let policy = note_read(faults, Field::ConcurrencyPolicy, policy(spec));
+    let suspend = note_read(faults, Field::Suspend, suspend(spec));
+    noted(noted(schedule, zone), noted(policy, suspend))
 }
 
 fn limit_faults(faults: &mut FieldFaults, spec: &Value) -> Result<(), AllocError>
     ensures { OnOk result (faults.new ≡ faults.old ++ table.limit_faults (view spec.now)) }
 {
-    note_read(faults, Field::StartingDeadlineSeconds, deadline(spec))?;
-    note_read(
+    let deadline = note_read(faults, Field::StartingDeadlineSeconds, deadline(spec));
+    let successful = note_read(
         faults,
         Field::SuccessfulJobsHistoryLimit,
         successful_limit(spec),
-    )?;
-    note_read(faults, Field::FailedJobsHistoryLimit, failed_limit(spec))
+    );
+    let failed = note_read(faults, Field::FailedJobsHistoryLimit, failed_limit(spec));
+    noted(deadline, noted(successful, failed))
 }
 
 fn cron_spec_faults(
@@ -211,9 +227,10 @@ fn cron_spec_faults(
     ensures { OnOk result (faults.new ≡ faults.old
         ++ table.cron_spec_faults (zones_of zones.now) (view spec.now)) }
 {
-    timing_faults(faults, zones, spec)?;
-    limit_faults(faults, spec)?;
-    note_template(faults, spec)
+    let timing = timing_faults(faults, zones, spec);
+    let limits = limit_faults(faults, spec);
+    let template = note_template(faults, spec);
+    noted(timing, noted(limits, template))
 }
 
 fn note_cron_spec(
@@ -236,9 +253,10 @@ fn note_cron_spec(
 fn top_faults(faults: &mut FieldFaults, kind: ObjectKind, value: &Value) -> Result<(), AllocError>
     ensures { OnOk result (faults.new ≡ faults.old ++ table.top_faults kind (view value.now)) }
 {
-    note_read(faults, Field::ApiVersion, api_version(kind, value))?;
-    note_read(faults, Field::Kind, kind_field(kind, value))?;
-    note_metadata(faults, kind, value)
+    let version = note_read(faults, Field::ApiVersion, api_version(kind, value));
+    let named = note_read(faults, Field::Kind, kind_field(kind, value));
+    let metadata = note_metadata(faults, kind, value);
+    noted(version, noted(named, metadata))
 }
 
 fn note_cron(faults: &mut FieldFaults, zones: &ZoneTable, value: &Value) -> Result<(), AllocError>
@@ -246,16 +264,18 @@ fn note_cron(faults: &mut FieldFaults, zones: &ZoneTable, value: &Value) -> Resu
         ++ table.object_faults Of.Cron (table.cron_spec_faults (zones_of zones.now))
         (view value.now)) }
 {
-    top_faults(faults, ObjectKind::Cron, value)?;
-    note_cron_spec(faults, zones, value)
+    let top = top_faults(faults, ObjectKind::Cron, value);
+    let spec = note_cron_spec(faults, zones, value);
+    noted(top, spec)
 }
 
 fn note_job(faults: &mut FieldFaults, value: &Value) -> Result<(), AllocError>
     ensures { OnOk result (faults.new ≡ faults.old
         ++ table.object_faults Of.Job (table.job_spec_faults table.job_fields) (view value.now)) }
 {
-    top_faults(faults, ObjectKind::Job, value)?;
-    note_job_spec(faults, value)
+    let top = top_faults(faults, ObjectKind::Job, value);
+    let spec = note_job_spec(faults, value);
+    noted(top, spec)
 }
 
 /// The faults of a CronJob's manifest.

@@ -2,7 +2,10 @@
 ghost use Rattle.std.specs.Prelude.{◌≡◌, option_map};
 ghost use Rattle.std.specs.Result.{result_ok, result_err};
 ghost use Rattle.serde_json.specs.View.{view, items_view, members_view};
+ghost use Rattle.cj_manifest.specs.Members.{present as member_at};
 ghost use Rattle.cj_manifest.specs.Table as fields;
+ghost use Rattle.cj_manifest.specs.Values as read;
+ghost use Rattle.cj_manifest.specs.Values.{optional};
 
 use crate::kind::ObjectKind;
 use crate::values::{choice, either, object, present, required_object, text, texts};
@@ -96,15 +99,36 @@ pub(crate) fn namespace(metadata: &Value) -> Result<&str, Cause>
     }
 }
 
+fn texts_at<'v>(value: &'v Value, name: &str) -> Result<Option<&'v Map<String, Value>>, Cause>
+    ensures fault { result_err result
+        ≡ result_err (optional read.texts (member_at name.now (view value.now))) }
+    ensures value { option_map (option_map (λ m. members_view m.now.entries)) (result_ok result)
+        ≡ result_ok (optional read.texts (member_at name.now (view value.now))) }
+{
+    match present(value, name) {
+        Some(found) => Ok(Some(texts(found)?)),
+        None => Ok(None),
+    }
+}
+
+fn text_at<'v>(value: &'v Value, name: &str) -> Result<Option<&'v str>, Cause>
+    ensures fault { result_err result
+        ≡ result_err (optional read.text (member_at name.now (view value.now))) }
+    ensures value { option_map (option_map (λ s. s.now)) (result_ok result)
+        ≡ result_ok (optional read.text (member_at name.now (view value.now))) }
+{
+    match present(value, name) {
+        Some(found) => Ok(Some(text(found)?)),
+        None => Ok(None),
+    }
+}
+
 pub(crate) fn labels(metadata: &Value) -> Result<Option<&Map<String, Value>>, Cause>
     ensures fault { result_err result ≡ result_err (fields.labels (view metadata.now)) }
     ensures value { option_map (option_map (λ m. members_view m.now.entries)) (result_ok result)
         ≡ result_ok (fields.labels (view metadata.now)) }
 {
-    match present(metadata, "labels") {
-        Some(found) => Ok(Some(texts(found)?)),
-        None => Ok(None),
-    }
+    texts_at(metadata, "labels")
 }
 
 pub(crate) fn annotations(metadata: &Value) -> Result<Option<&Map<String, Value>>, Cause>
@@ -112,10 +136,7 @@ pub(crate) fn annotations(metadata: &Value) -> Result<Option<&Map<String, Value>
     ensures value { option_map (option_map (λ m. members_view m.now.entries)) (result_ok result)
         ≡ result_ok (fields.annotations (view metadata.now)) }
 {
-    match present(metadata, "annotations") {
-        Some(found) => Ok(Some(texts(found)?)),
-        None => Ok(None),
-    }
+    texts_at(metadata, "annotations")
 }
 
 pub(crate) fn uid(metadata: &Value) -> Result<Option<&str>, Cause>
@@ -123,10 +144,7 @@ pub(crate) fn uid(metadata: &Value) -> Result<Option<&str>, Cause>
     ensures value { option_map (option_map (λ s. s.now)) (result_ok result)
         ≡ result_ok (fields.uid (view metadata.now)) }
 {
-    match present(metadata, "uid") {
-        Some(found) => Ok(Some(text(found)?)),
-        None => Ok(None),
-    }
+    text_at(metadata, "uid")
 }
 
 pub(crate) fn resource_version(metadata: &Value) -> Result<Option<&str>, Cause>
@@ -134,10 +152,7 @@ pub(crate) fn resource_version(metadata: &Value) -> Result<Option<&str>, Cause>
     ensures value { option_map (option_map (λ s. s.now)) (result_ok result)
         ≡ result_ok (fields.resource_version (view metadata.now)) }
 {
-    match present(metadata, "resourceVersion") {
-        Some(found) => Ok(Some(text(found)?)),
-        None => Ok(None),
-    }
+    text_at(metadata, "resourceVersion")
 }
 
 pub(crate) fn owners(metadata: &Value) -> Result<Option<&Vec<Value>>, Cause>

@@ -39,13 +39,31 @@ fn flag_at(value: &Value, name: &str) -> Option<bool>
 pub(crate) fn owner(value: &Value) -> Option<OwnerTexts<'_>>
     ensures { option_map owner_view result ≡ said.owner (view value.now) }
 {
+    let Some(api_version) = text_at(value, "apiVersion") else {
+        return None;
+    };
+    let Some(kind) = text_at(value, "kind") else {
+        return None;
+    };
+    let Some(name) = text_at(value, "name") else {
+        return None;
+    };
+    let Some(uid) = text_at(value, "uid") else {
+        return None;
+    };
+    let Some(controller) = flag_at(value, "controller") else {
+        return None;
+    };
+    let Some(block_owner_deletion) = flag_at(value, "blockOwnerDeletion") else {
+        return None;
+    };
     Some(OwnerTexts {
-        api_version: text_at(value, "apiVersion")?,
-        kind: text_at(value, "kind")?,
-        name: text_at(value, "name")?,
-        uid: text_at(value, "uid")?,
-        controller: flag_at(value, "controller")?,
-        block_owner_deletion: flag_at(value, "blockOwnerDeletion")?,
+        api_version,
+        kind,
+        name,
+        uid,
+        controller,
+        block_owner_deletion,
     })
 }
 
