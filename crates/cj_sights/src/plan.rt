@@ -3,6 +3,7 @@ ghost use Rattle.cj_base.specs.declared.refusal.Refusal.TheVariants.{OutOfMemory
 ghost use Rattle.cj_sights.specs.Plans.{IsPlanFor, inputs_of, no_inputs, reasons_of, zone_named_by, zone_of};
 
 use crate::sight::Sight;
+use cj_base::{all_four, both};
 use cj_decide::{Plan, decide};
 use cj_types::{CronJob, Job, Listing, Reasons, Refusal, Seconds, Shared, Text, TryCopy};
 use cj_zone::{Zone, ZoneTable};
@@ -62,10 +63,12 @@ fn plan_of(
     }) at) }
     ensures err { IfErr result (λ e. e ≡ OutOfMemory) }
 {
-    let zone = zone_of_cron(alloc, zones, cron)?;
-    let cron = cron.try_copy(alloc)?;
-    let jobs = jobs.try_copy(alloc)?;
-    let active = active.try_copy(alloc)?;
+    let (zone, cron, jobs, active) = all_four(
+        zone_of_cron(alloc, zones, cron),
+        cron.try_copy(alloc),
+        jobs.try_copy(alloc),
+        active.try_copy(alloc),
+    )?;
     decide(alloc, cron, jobs, active, at, zone)
 }
 
@@ -74,8 +77,10 @@ fn empty_plan(alloc: Global, zones: &ZoneTable, at: Seconds) -> Result<Plan, Ref
     ensures ok { IfOk result (IsPlanFor zones.now no_inputs at) }
     ensures err { IfErr result (λ e. e ≡ OutOfMemory) }
 {
-    let jobs = Listing::new(alloc, Vec::new(alloc))?;
-    let active = Listing::new(alloc, Vec::new(alloc))?;
+    let (jobs, active) = both(
+        Listing::new(alloc, Vec::new(alloc)),
+        Listing::new(alloc, Vec::new(alloc)),
+    )?;
     plan_of(alloc, zones, &None, &jobs, &active, at)
 }
 

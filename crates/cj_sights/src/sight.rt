@@ -2,13 +2,13 @@ ghost use Rattle.std.specs.Prelude.{◌≡◌, None, Some, IfOk, IfErr, option_m
 ghost use Rattle.cj_base.specs.declared.refusal.Refusal.TheVariants.{OutOfMemory};
 ghost use Rattle.cj_sights.specs.Sights as told;
 
+use cj_base::all_four;
 use cj_calls::{Call, Reply};
 use cj_decide::Plan;
 use cj_types::{CronJob, Job, Listing, Refusal, Shared, TryCopy};
 use std::alloc::Global;
 
 /// What a worker has seen in its sync so far, and the plan that it claimed.
-#[derive(Drop)]
 pub struct Sight {
     /// The CronJob, or that there is none.
     pub cron: Option<Option<Shared<CronJob>>>,
@@ -20,13 +20,31 @@ pub struct Sight {
     pub plan: Option<Shared<Plan>>,
 }
 
+// A function of its own, so that whoever gives up a sight makes one call and not one for each part.
+impl Drop for Sight {
+    fn drop(self) {
+        let Sight {
+            cron: _,
+            jobs: _,
+            active: _,
+            plan: _,
+        } = self;
+    }
+}
+
 impl TryCopy for Sight {
     fn try_copy(&self, alloc: Global) -> Result<Sight, Refusal> {
+        let (cron, jobs, active, plan) = all_four(
+            self.cron.try_copy(alloc),
+            self.jobs.try_copy(alloc),
+            self.active.try_copy(alloc),
+            self.plan.try_copy(alloc),
+        )?;
         Ok(Sight {
-            cron: self.cron.try_copy(alloc)?,
-            jobs: self.jobs.try_copy(alloc)?,
-            active: self.active.try_copy(alloc)?,
-            plan: self.plan.try_copy(alloc)?,
+            cron,
+            jobs,
+            active,
+            plan,
         })
     }
 }
@@ -50,11 +68,17 @@ fn with_cron(alloc: Global, sight: &Sight, cron: &Option<Shared<CronJob>>) -> Re
     ensures ok { IfOk result (λ s. s ≡ record sight.now { cron = Some cron.now }) }
     ensures err { IfErr result (λ e. e ≡ OutOfMemory) }
 {
+    let (cron, jobs, active, plan) = all_four(
+        cron.try_copy(alloc),
+        sight.jobs.try_copy(alloc),
+        sight.active.try_copy(alloc),
+        sight.plan.try_copy(alloc),
+    )?;
     Ok(Sight {
-        cron: Some(cron.try_copy(alloc)?),
-        jobs: sight.jobs.try_copy(alloc)?,
-        active: sight.active.try_copy(alloc)?,
-        plan: sight.plan.try_copy(alloc)?,
+        cron: Some(cron),
+        jobs,
+        active,
+        plan,
     })
 }
 
@@ -62,11 +86,17 @@ fn with_jobs(alloc: Global, sight: &Sight, jobs: &Listing<Shared<Job>>) -> Resul
     ensures ok { IfOk result (λ s. s ≡ record sight.now { jobs = Some jobs.now }) }
     ensures err { IfErr result (λ e. e ≡ OutOfMemory) }
 {
+    let (cron, jobs, active, plan) = all_four(
+        sight.cron.try_copy(alloc),
+        jobs.try_copy(alloc),
+        sight.active.try_copy(alloc),
+        sight.plan.try_copy(alloc),
+    )?;
     Ok(Sight {
-        cron: sight.cron.try_copy(alloc)?,
-        jobs: Some(jobs.try_copy(alloc)?),
-        active: sight.active.try_copy(alloc)?,
-        plan: sight.plan.try_copy(alloc)?,
+        cron,
+        jobs: Some(jobs),
+        active,
+        plan,
     })
 }
 
@@ -78,11 +108,17 @@ fn with_active(
     ensures ok { IfOk result (λ s. s ≡ record sight.now { active = Some active.now }) }
     ensures err { IfErr result (λ e. e ≡ OutOfMemory) }
 {
+    let (cron, jobs, active, plan) = all_four(
+        sight.cron.try_copy(alloc),
+        sight.jobs.try_copy(alloc),
+        active.try_copy(alloc),
+        sight.plan.try_copy(alloc),
+    )?;
     Ok(Sight {
-        cron: sight.cron.try_copy(alloc)?,
-        jobs: sight.jobs.try_copy(alloc)?,
-        active: Some(active.try_copy(alloc)?),
-        plan: sight.plan.try_copy(alloc)?,
+        cron,
+        jobs,
+        active: Some(active),
+        plan,
     })
 }
 
@@ -101,11 +137,17 @@ fn with_plan(alloc: Global, sight: &Sight, call: &Call) -> Result<Sight, Refusal
     ensures ok { IfOk result (λ s. s ≡ record sight.now { plan = told.plan_in call.now }) }
     ensures err { IfErr result (λ e. e ≡ OutOfMemory) }
 {
+    let (cron, jobs, active, plan) = all_four(
+        sight.cron.try_copy(alloc),
+        sight.jobs.try_copy(alloc),
+        sight.active.try_copy(alloc),
+        plan_in(alloc, call),
+    )?;
     Ok(Sight {
-        cron: sight.cron.try_copy(alloc)?,
-        jobs: sight.jobs.try_copy(alloc)?,
-        active: sight.active.try_copy(alloc)?,
-        plan: plan_in(alloc, call)?,
+        cron,
+        jobs,
+        active,
+        plan,
     })
 }
 

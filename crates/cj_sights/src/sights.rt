@@ -13,7 +13,6 @@ use std::collections::BTreeMap;
 use std::marker::Model;
 
 /// What each worker has seen in its sync so far, by the worker's number. Contracts see a finite map.
-#[derive(Drop)]
 pub struct Sights {
     rows: BTreeMap<u64, Sight>,
 }
@@ -30,6 +29,13 @@ impl Model for Sights {
     ghost coded = { map.code coded_ℕ sight.coded };
 
     ghost view = { λ s. map.from_entries s.rows.entries };
+}
+
+// A function of its own, so that whoever gives up the sights makes one call and not one for each part.
+impl Drop for Sights {
+    fn drop(self) {
+        let Sights { rows: _ } = self;
+    }
 }
 
 // What a worker has seen with one reply more; of one that isn't known nothing was seen.
