@@ -63,7 +63,9 @@ impl Answered {
         ensures ok { IfOk result (λ a. a ≡ answer) }
         ensures err { IfErr result (λ e. e ≡ OutOfMemory) }
     {
-        let (entered, first, second) = copies(alloc, &answer)?;
+        let copies = copies(alloc, &answer);
+        let (copies, answer) = both(copies, Ok(answer))?;
+        let (entered, first, second) = copies;
         let parts = Parts {
             answer,
             entered,
