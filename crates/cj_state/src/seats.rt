@@ -1,6 +1,7 @@
 ghost use Rattle.std.specs.Prelude.{◌≡◌, IfOk, IfErr};
 ghost use Rattle.cj_base.specs.declared.refusal.Refusal.TheVariants.{OutOfMemory};
 
+use cj_base::both;
 use cj_seats::{Phase, Seat};
 use cj_types::{Heap, Key, Refusal, TryCopy};
 use std::alloc::Global;
@@ -10,6 +11,6 @@ pub fn seat_in(alloc: Global, key: &Key, phase: Phase) -> Result<Heap<Seat>, Ref
     ensures ok { IfOk result (λ s. s ≡ record { key = key.now; phase = phase }) }
     ensures err { IfErr result (λ e. e ≡ OutOfMemory) }
 {
-    let key = key.try_copy(alloc)?;
+    let (key, phase) = both(key.try_copy(alloc), Ok(phase))?;
     Heap::new(alloc, Seat { key, phase })
 }
