@@ -26,7 +26,6 @@ use std::marker::Model;
 ///
 /// Contracts see its limits, its history with the newest entry first, the role of each pass by its number, and whether
 /// work on it was given up. Its type keeps that it counts each pass's entries.
-#[derive(Drop)]
 pub struct Book {
     alloc: Global,
     limits: Limits,
@@ -63,6 +62,19 @@ fn count_one(seats: &mut Vec<Seat>, number: usize)
     seats[number].count += 1;
 }
 
+// A function of its own, so that whoever gives up a book makes one call and not one for each part.
+impl Drop for Book {
+    fn drop(self) {
+        let Book {
+            alloc: _,
+            limits: _,
+            world: _,
+            seats: _,
+            given_up: _,
+        } = self;
+    }
+}
+
 impl Book {
     /// A book with an empty history, in which nobody is enrolled. It takes its memory from `alloc`.
     pub fn new(alloc: Global, limits: Limits) -> Result<Book, Refusal>
@@ -74,10 +86,11 @@ impl Book {
         }) }
         ensures err { IfErr result (λ e. e ≡ OutOfMemory) }
     {
+        let world = World::new(alloc, limits)?;
         Ok(Book {
             alloc,
             limits,
-            world: World::new(alloc, limits)?,
+            world,
             seats: Vec::new(alloc),
             given_up: false,
         })
@@ -198,7 +211,13 @@ impl Book {
     {
         if self.all_fit(passes.as_slice()) {
             self.world.history();
-            let Book { world, .. } = self;
+            let Book {
+                alloc: _,
+                limits: _,
+                world,
+                seats: _,
+                given_up: _,
+            } = self;
             Ok(Closed::new(world))
         } else {
             Err(NotClosed {

@@ -74,7 +74,6 @@ impl<'a, R: Wait> Desk for HubDesk<'a, R> {
 }
 
 /// A book of one's own, which waits for nobody.
-#[derive(Drop)]
 pub struct PlainDesk {
     book: Book,
 }
@@ -83,6 +82,13 @@ impl Model for PlainDesk {
     ghost Value = { BookView };
 
     ghost view = { λ d. d.book };
+}
+
+// A function of its own, so that whoever gives up a desk makes one call and not one for each part.
+impl Drop for PlainDesk {
+    fn drop(self) {
+        let PlainDesk { book: _ } = self;
+    }
 }
 
 impl PlainDesk {
@@ -117,7 +123,8 @@ impl PlainDesk {
     pub fn into_book(self) -> Book
         ensures { result ≡ self }
     {
-        self.book
+        let PlainDesk { book } = self;
+        book
     }
 }
 

@@ -8,7 +8,6 @@ use std::marker::Model;
 /// The token of a caller, with the receipts that it got, in order. It can't be copied.
 ///
 /// Contracts see its number, its role and its receipts.
-#[derive(Drop)]
 pub struct Pass {
     pub(crate) number: u64,
     pub(crate) role: Role,
@@ -21,6 +20,17 @@ impl Model for Pass {
     ghost Value = { PassView };
 
     ghost view = { λ p. record { number = p.number; role = p.role; receipts = p.receipts.items } };
+}
+
+// A function of its own, so that whoever gives up a pass makes one call and not one for each part.
+impl Drop for Pass {
+    fn drop(self) {
+        let Pass {
+            number: _,
+            role: _,
+            receipts: _,
+        } = self;
+    }
 }
 
 impl Pass {
