@@ -2,7 +2,8 @@ ghost use Rattle.std.specs.Prelude.{◌≡◌, ◌⊎◌, Ok, Err, IfOk, IfErr};
 
 use crate::Refusal;
 
-/// Both values, or the first refusal. What is made of several parts takes them so: one exit gives up nothing.
+/// Both values, or the refusal of one of them. What is made of several parts takes them so: nothing is given up
+/// where it leaves.
 pub fn both<A: Drop, B: Drop>(
     first: Result<A, Refusal>,
     second: Result<B, Refusal>,
@@ -17,7 +18,7 @@ pub fn both<A: Drop, B: Drop>(
     }
 }
 
-/// All three values, or the first refusal.
+/// All three values, or the refusal of one of them.
 pub fn all_three<A: Drop, B: Drop, C: Drop>(
     first: Result<A, Refusal>,
     second: Result<B, Refusal>,
@@ -31,7 +32,7 @@ pub fn all_three<A: Drop, B: Drop, C: Drop>(
     Ok((first, second, third?))
 }
 
-/// All four values, or the first refusal.
+/// All four values, or the refusal of one of them.
 pub fn all_four<A: Drop, B: Drop, C: Drop, D: Drop>(
     first: Result<A, Refusal>,
     second: Result<B, Refusal>,
