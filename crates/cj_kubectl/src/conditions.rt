@@ -41,8 +41,12 @@ fn ending_named(name: &str) -> Option<Ending>
 fn ending_in(condition: &Value) -> Option<Ending>
     ensures { result ≡ row.ending_in (view condition.now) }
 {
-    let holds = text_at(condition, "status")?;
-    let name = text_at(condition, "type")?;
+    let Some(holds) = text_at(condition, "status") else {
+        return None;
+    };
+    let Some(name) = text_at(condition, "type") else {
+        return None;
+    };
     if holds == "True" {
         ending_named(name)
     } else {

@@ -29,8 +29,12 @@ fn distance(text: &[u8]) -> Option<u64>
     let [h1, h2, b':', m1, m2] = text else {
         return None;
     };
-    let hours = two_digits(*h1, *h2)?;
-    let minutes = two_digits(*m1, *m2)?;
+    let Some(hours) = two_digits(*h1, *h2) else {
+        return None;
+    };
+    let Some(minutes) = two_digits(*m1, *m2) else {
+        return None;
+    };
     if hours > 23 || minutes > 59 {
         return None;
     }
