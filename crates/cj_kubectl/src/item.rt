@@ -44,6 +44,7 @@ fn kind_of(value: &Value) -> Result<&str, Cause>
     }
 }
 
+// An item with one fault.
 fn faulty(alloc: Global, field: Field, cause: Cause) -> Result<Item, Refusal>
     ensures ok { IfOk result (λ i. i ≡ Read.Faulty (fault_of field (Some cause))) }
     ensures err { IfErr result (λ e. e ≡ OutOfMemory) }
@@ -51,6 +52,7 @@ fn faulty(alloc: Global, field: Field, cause: Cause) -> Result<Item, Refusal>
     Ok(Item::Faulty(fault(alloc, field, cause)?))
 }
 
+// An item of another kind.
 fn other(alloc: Global, kind: &str) -> Result<Item, Refusal>
     ensures ok { IfOk result (λ i. i ≡ Read.Other kind.now) }
     ensures err { IfErr result (λ e. e ≡ OutOfMemory) }

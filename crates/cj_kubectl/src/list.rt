@@ -46,6 +46,7 @@ fn taken_name(alloc: Global) -> Result<Said, Refusal>
     Ok(Said::Refused(faults))
 }
 
+// A note of an object whose name is taken.
 fn note_taken(alloc: Global, list: &mut ClusterList, place: u64) -> Result<(), Refusal>
     ensures ok { OnOk result (list.new ≡ noted place taken list.old) }
     ensures err { OnErr result (list.new ≡ list.old) }

@@ -209,6 +209,7 @@ fn cron_spec(
     })
 }
 
+// The same spec on a place of its own.
 fn shared_spec(
     alloc: Global,
     spec: &Value,

@@ -27,6 +27,7 @@ pub(crate) fn given_text(alloc: Global, text: Option<&str>) -> Result<Option<Tex
     Ok(Some(Text::new(alloc, found)?))
 }
 
+// One label more, of these texts.
 fn put_text(labels: &mut Labels, alloc: Global, key: &str, value: &str) -> Result<(), Refusal>
     ensures ok { OnOk result (labels.new ≡ said.with_label key.now (Some value.now) labels.old) }
     ensures err { IfErr result (λ e. e ≡ OutOfMemory) }

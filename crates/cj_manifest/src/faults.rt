@@ -33,6 +33,7 @@ fn note(faults: &mut FieldFaults, field: Field, cause: Option<Cause>) -> Result<
     Ok(())
 }
 
+// The fault of a field that was read, if it has one.
 fn note_read<T: Drop>(
     faults: &mut FieldFaults,
     field: Field,

@@ -99,6 +99,7 @@ pub(crate) fn namespace(metadata: &Value) -> Result<&str, Cause>
     }
 }
 
+// An object of texts, where there is one.
 fn texts_at<'v>(value: &'v Value, name: &str) -> Result<Option<&'v Map<String, Value>>, Cause>
     ensures fault { result_err result
         ≡ result_err (optional read.texts (member_at name.now (view value.now))) }
@@ -111,6 +112,7 @@ fn texts_at<'v>(value: &'v Value, name: &str) -> Result<Option<&'v Map<String, V
     }
 }
 
+// A text, where there is one.
 fn text_at<'v>(value: &'v Value, name: &str) -> Result<Option<&'v str>, Cause>
     ensures fault { result_err result
         ≡ result_err (optional read.text (member_at name.now (view value.now))) }
