@@ -46,15 +46,17 @@ impl Model for World {
     ghost invariant = { λ w. Stands w.limits (reverse w.entries.items) w.state };
 }
 
-// A function of its own, so that whoever gives up a world makes one call and not one for each part.
+// A function of its own, so that whoever gives up a world makes one call and not one for each part. What the state
+// has within is given up by another.
 impl Drop for World {
     fn drop(self) {
         let World {
             alloc: _,
             limits: _,
-            state: _,
+            state,
             entries: _,
         } = self;
+        drop(state);
     }
 }
 
