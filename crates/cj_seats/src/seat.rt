@@ -33,10 +33,12 @@ pub struct Seat {
     pub phase: Phase,
 }
 
-// A function of its own, so that whoever gives up a seat makes one call and not one for each part.
+// A function of its own, so that whoever gives up a seat makes one call and not one for each part. What the phase has
+// within is given up by another.
 impl Drop for Seat {
     fn drop(self) {
-        let Seat { key: _, phase: _ } = self;
+        let Seat { key: _, phase } = self;
+        drop(phase);
     }
 }
 
