@@ -51,13 +51,15 @@ impl Model for Plan {
 impl Drop for Plan {
     fn drop(self) {
         let Plan {
-            cron: _,
+            cron,
             jobs: _,
             active: _,
             at: _,
-            zone: _,
+            zone,
             steps: _,
         } = self;
+        drop(cron);
+        drop(zone);
     }
 }
 
