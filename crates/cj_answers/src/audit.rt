@@ -1,6 +1,9 @@
 // What `audit` answers of a cluster.
-ghost use Rattle.std.specs.Prelude.{◌≡◌, ◌++◌, IfOk, string_bytes};
+ghost use Rattle.std.specs.Prelude.{◌≡◌, ◌++◌, IfOk, IfErr, length, string_bytes};
+ghost use Rattle.std.specs.FinMap as map;
+ghost use Rattle.cj_base.specs.declared.refusal.Refusal.TheVariants.{OutOfMemory};
 ghost use Rattle.cj_zone.specs.Table.{zones_of};
+ghost use Rattle.cj_audit.specs.Lines.{audit_lines};
 ghost use Rattle.cj_audit.specs.Words.{audit_words};
 ghost use Rattle.cj_kubectl.specs.Reading.{IsClusterList};
 ghost use Rattle.cj_answers.specs.Audit.{AuditsList, IsAuditOutcome, IsAuditedOf, audited, is_clean, ending_by};
@@ -12,6 +15,7 @@ use crate::clusters::{is_read, note_lines, note_words, refused_list};
 use crate::given::{given_zones, refused_pair};
 use crate::why::{MOST_LIST_BYTES, MOST_LIST_READS, joined};
 use cj_audit::{Finding, Findings, audit, audit_text, audit_words};
+use cj_base::{Refusal, both};
 use cj_kubectl::{ClusterList, read_cluster};
 use cj_output::{Failure, read_input};
 use cj_words::AuditRequest;
@@ -36,25 +40,31 @@ fn ending_by(is_well: bool) -> Ending
     }
 }
 
+// The findings and how many there are, and of how many CronJobs and Jobs.
+fn found_text(alloc: Global, list: &ClusterList, findings: &Findings) -> Result<String, Refusal>
+    ensures ok { IfOk result (λ s. string_bytes s
+        ≡ audit_lines (length (map.values list.now.cluster.crons))
+        (length (map.values list.now.cluster.jobs)) findings.now) }
+    ensures err { IfErr result (λ e. e ≡ OutOfMemory) }
+{
+    let (crons, jobs) = both(list.cluster.crons(alloc), list.cluster.jobs(alloc))?;
+    let (crons, jobs) = (crons.as_slice().len(), jobs.as_slice().len());
+    audit_text(alloc, crons, jobs, findings)
+}
+
 // The items that can't be used, then the findings and how many there are.
 fn printed(alloc: Global, list: &ClusterList, findings: &Findings) -> Result<Answer, Failure>
     ensures { IfOk result (λ a. outcome_of a ≡ audited list.now findings.now) }
 {
     let notes = list.notes.as_slice();
     let lines = note_lines(alloc, notes)?;
-    let crons = list.cluster.crons(alloc)?;
-    let jobs = list.cluster.jobs(alloc)?;
-    let found = audit_text(
-        alloc,
-        crons.as_slice().len(),
-        jobs.as_slice().len(),
-        findings,
-    )?;
+    let found = found_text(alloc, list, findings)?;
+    let printed = joined(alloc, lines.as_str(), found.as_str())?;
     let is_clean = is_clean(findings.as_slice());
     let is_read = is_read(notes);
     Ok(Answer {
         ending: ending_by(is_clean && is_read),
-        printed: joined(alloc, lines.as_str(), found.as_str())?,
+        printed,
         said: String::new(alloc),
     })
 }

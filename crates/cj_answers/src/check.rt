@@ -1,7 +1,8 @@
-ghost use Rattle.std.specs.Prelude.{◌≡◌, ◌++◌, IfOk, codes, string_bytes};
+ghost use Rattle.std.specs.Prelude.{◌≡◌, ◌++◌, ℕ, List, IfOk, codes, string_bytes};
 ghost use Rattle.cj_base.specs.declared.refusal.Refusal.TheVariants.{Invalid};
-ghost use Rattle.cj_manifest.specs.Either.{key_of, kind_of, manifest_faults};
-ghost use Rattle.cj_manifest.specs.Reading.{IsRefused};
+ghost use Rattle.cj_manifest.specs.Either.{key_of, kind_of, manifest_draft, manifest_faults, manifest_warnings};
+ghost use Rattle.cj_manifest.specs.Reading.{IsReading, IsRefused};
+ghost use Rattle.cj_manifest.specs.declared.manifest.Manifest.{Manifest as Said};
 ghost use Rattle.cj_zone.specs.Table.{zones_of};
 ghost use Rattle.cj_explain.specs.Faults.{faults_words};
 ghost use Rattle.cj_answers.specs.Json.{yaml_words};
@@ -25,6 +26,21 @@ use cj_zoneinfo::ZoneFile;
 use std::alloc::{AllocError, Global};
 use std::io::Read;
 
+// The lines of a manifest without a fault.
+fn fine_lines(
+    alloc: Global,
+    manifest: &Manifest,
+    warnings: &[Warning],
+) -> Result<String, AllocError>
+    ensures { IfOk result (λ s. string_bytes s
+        ≡ ok_line (kind_of manifest.now) (key_of manifest.now) ++ warning_lines warnings.now) }
+{
+    let mut printed = print_ok(alloc, manifest.kind(), manifest.key())?;
+    let lines = print_warnings(alloc, warnings)?;
+    printed.push_str(lines.as_str())?;
+    Ok(printed)
+}
+
 // A manifest without a fault, and the members of it that are dropped.
 fn fine(
     alloc: Global,
@@ -38,11 +54,9 @@ fn fine(
         (done (ok_line (kind_of manifest.now) (key_of manifest.now)
         ++ warning_lines warnings.now))) }
 {
-    let mut printed = print_ok(alloc, manifest.kind(), manifest.key())?;
-    let lines = print_warnings(alloc, warnings)?;
-    printed.push_str(lines.as_str())?;
     let mut dropped = all_dropped_words(alloc, warnings)?;
     dropped.push_str(words)?;
+    let printed = fine_lines(alloc, manifest, warnings)?;
     let answer = Answer {
         ending: Ending::Done,
         printed,
@@ -117,6 +131,42 @@ fn refused_manifest(
     Ok(with_faults(alloc, explain, faults, seen.as_str())?)
 }
 
+// What a manifest without a fault is answered.
+fn fine_answer(
+    alloc: Global,
+    explain: bool,
+    zones: &ZoneTable,
+    manifest: &Manifest,
+    warnings: &[Warning],
+) -> Result<Answer, Failure>
+    ensures { (bytes : List ℕ) → IsReading Said (manifest_faults (zones_of zones.now))
+        manifest_draft manifest_warnings bytes manifest.now warnings.now →
+        IfOk result (λ a. IsChecked explain (zones_of zones.now) bytes (outcome_of a)) }
+{
+    let words = advice(alloc, zones, manifest)?;
+    fine(alloc, explain, manifest, warnings, words.as_str())
+}
+
+// What bytes are answered that are refused.
+fn refused_answer(
+    alloc: Global,
+    explain: bool,
+    zones: &ZoneTable,
+    bytes: &[u8],
+    refusal: &Refusal,
+) -> Result<Answer, Failure>
+    requires { IsRefused (manifest_faults (zones_of zones.now)) bytes.now refusal.now }
+    ensures { IfOk result (λ a. IsChecked explain (zones_of zones.now) bytes.now (outcome_of a)) }
+{
+    match refusal {
+        Refusal::Syntax => no_json(alloc, explain, bytes),
+        Refusal::Invalid(faults) => {
+            refused_manifest(alloc, explain, zones, bytes, faults.as_slice())
+        }
+        _ => Err(Failure::Memory),
+    }
+}
+
 // What a manifest is answered under these zones.
 fn manifest_answer(
     alloc: Global,
@@ -128,20 +178,9 @@ fn manifest_answer(
 {
     match read_manifest(alloc, bytes, zones) {
         Ok((manifest, warnings)) => {
-            let words = advice(alloc, zones, &manifest)?;
-            fine(
-                alloc,
-                explain,
-                &manifest,
-                warnings.as_slice(),
-                words.as_str(),
-            )
+            fine_answer(alloc, explain, zones, &manifest, warnings.as_slice())
         }
-        Err(Refusal::Syntax) => no_json(alloc, explain, bytes),
-        Err(Refusal::Invalid(faults)) => {
-            refused_manifest(alloc, explain, zones, bytes, faults.as_slice())
-        }
-        Err(_) => Err(Failure::Memory),
+        Err(refusal) => refused_answer(alloc, explain, zones, bytes, &refusal),
     }
 }
 

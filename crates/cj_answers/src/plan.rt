@@ -37,13 +37,13 @@ fn plan_of(alloc: Global, scene: Scene, now: Seconds) -> Result<Plan, Failure>
     ensures { IfOk result (λ p. IsPlan (Some scene.cron) scene.jobs scene.active now
         (zone_for scene.cron.spec.time_zone (zones_of scene.zones)) p.steps) }
 {
+    let zone = zone_copy(alloc, &scene.zones, scene.cron.get())?;
     let Scene {
-        zones,
+        zones: _,
         cron,
         jobs,
         active,
     } = scene;
-    let zone = zone_copy(alloc, &zones, cron.get())?;
     Ok(decide(alloc, Some(cron), jobs, active, now, zone)?)
 }
 

@@ -63,6 +63,19 @@ fn named(
     Ok(meant)
 }
 
+// Those of a list.
+fn meant_in(
+    alloc: Global,
+    text: &str,
+    list: &ClusterList,
+) -> Result<Vec<Shared<ClusterCron>>, Refusal>
+    ensures { IfOk result (λ v. v.items
+        ≡ chosen (Some text.now) (map.values list.now.cluster.crons)) }
+{
+    let all = list.cluster.crons(alloc)?;
+    named(alloc, text, all.as_slice())
+}
+
 fn refused_cron(alloc: Global, explain: bool) -> Result<Answer, AllocError>
     ensures { IfOk result (λ a. outcome_of a ≡ explained explain cron_words
         (refusal (codes "cronsim: cron\n"))) }
@@ -90,12 +103,13 @@ fn printed(
         (told.note_words notes.now ++ string_bytes reviewed.now.said)
         (done (told.note_lines notes.now ++ string_bytes reviewed.now.printed))) }
 {
-    let lines = note_lines(alloc, notes)?;
-    let words = note_words(alloc, notes)?;
-    let said = joined(alloc, words.as_str(), reviewed.said.as_str())?;
+    let mut said = note_words(alloc, notes)?;
+    said.push_str(reviewed.said.as_str())?;
+    let mut printed = note_lines(alloc, notes)?;
+    printed.push_str(reviewed.printed.as_str())?;
     let answer = Answer {
         ending: Ending::Done,
-        printed: joined(alloc, lines.as_str(), reviewed.printed.as_str())?,
+        printed,
         said: String::new(alloc),
     };
     answer.explained(explain, said.as_str())
@@ -134,8 +148,7 @@ fn one_reviewed(
     ensures { IfOk result (λ a. RefusesCron why.now (map.values list.now.cluster.crons)
         (outcome_of a) ⊎ PrintsReview why.now (zones_of zones.now) now list.now (outcome_of a)) }
 {
-    let all = list.cluster.crons(alloc)?;
-    let meant = named(alloc, text, all.as_slice())?;
+    let meant = meant_in(alloc, text, list)?;
     if meant.as_slice().is_empty() {
         return Ok(refused_cron(alloc, why.explain)?);
     }
