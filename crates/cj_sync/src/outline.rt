@@ -1,8 +1,10 @@
 ghost use Rattle.std.specs.Prelude.{◌≡◌, ◌++◌, ◌∷◌, [], map, IfOk, IfErr, OnOk};
 ghost use Rattle.cj_base.specs.declared.refusal.Refusal.TheVariants.{OutOfMemory};
 ghost use Rattle.cj_seats.specs.Steps.{all_steps};
+ghost use Rattle.cj_types.specs.declared.policy.Reason.TheVariants.{FailedCreate};
 ghost use Rattle.cj_sync.specs.Outlines.{IsOutline, drops_of, next_of, one_if};
 
+use cj_base::all_four;
 use cj_decide::{JobRef, Plan, Steps};
 use cj_types::{Reason, Reasons, Refusal, TryCopy};
 use std::alloc::Global;
@@ -71,6 +73,16 @@ fn steps_of(alloc: Global, plan: &Steps) -> Result<Vec<Next>, Refusal>
     Ok(steps)
 }
 
+// The reasons where the Job could not be made.
+fn failed_with(alloc: Global, reasons: &Reasons) -> Result<Reasons, Refusal>
+    ensures ok { IfOk result (λ r. r ≡ reasons.now ++ FailedCreate ∷ []) }
+    ensures memory { IfErr result (λ e. e ≡ OutOfMemory) }
+{
+    let mut failed = reasons.try_copy(alloc)?;
+    failed.push(Reason::FailedCreate)?;
+    Ok(failed)
+}
+
 impl Outline {
     /// The outline of a plan.
     pub(crate) fn of(alloc: Global, plan: &Plan) -> Result<Outline, Refusal>
@@ -78,12 +90,16 @@ impl Outline {
         ensures memory { IfErr result (λ e. e ≡ OutOfMemory) }
     {
         let reasons = &plan.steps().reasons;
-        let mut failed = reasons.try_copy(alloc)?;
-        failed.push(Reason::FailedCreate)?;
+        let (steps, done, retry, failed) = all_four(
+            steps_of(alloc, plan.steps()),
+            reasons.try_copy(alloc),
+            reasons.try_copy(alloc),
+            failed_with(alloc, reasons),
+        )?;
         Ok(Outline {
-            steps: steps_of(alloc, plan.steps())?,
-            done: reasons.try_copy(alloc)?,
-            retry: reasons.try_copy(alloc)?,
+            steps,
+            done,
+            retry,
             failed,
         })
     }

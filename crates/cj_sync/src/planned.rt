@@ -7,6 +7,7 @@ ghost use Rattle.cj_sync.specs.Syncs.{IsTimely};
 use crate::gate::Clock;
 use crate::outline::Outline;
 use crate::zones::zone_for;
+use cj_base::both;
 use cj_decide::{Plan, decide};
 use cj_types::{CronJob, Job, Listing, Refusal, Shared};
 use cj_zone::ZoneTable;
@@ -17,6 +18,17 @@ use std::alloc::Global;
 pub(crate) struct Decided {
     pub(crate) plan: Shared<Plan>,
     pub(crate) outline: Outline,
+}
+
+// The plan to be shared, with its outline.
+fn with_outline(alloc: Global, plan: Plan) -> Result<Decided, Refusal>
+    ensures plan { IfOk result (λ d. d.plan ≡ plan) }
+    ensures outline { IfOk result (λ d. IsOutline plan d.outline) }
+    ensures memory { IfErr result (λ e. e ≡ OutOfMemory) }
+{
+    let outline = Outline::of(alloc, &plan);
+    let (outline, plan) = both(outline, Shared::new(alloc, plan))?;
+    Ok(Decided { plan, outline })
 }
 
 /// The decision on what was seen, at one reading of the clock.
@@ -34,9 +46,9 @@ pub(crate) fn decide_now<C: Clock>(
     ensures memory { IfErr result (λ e. e ≡ OutOfMemory) }
 {
     let reading = clock.now();
-    let zone = zone_for(alloc, zones, &cron)?;
+    let zone = zone_for(alloc, zones, &cron);
+    let (zone, seen) = both(zone, Ok((cron, jobs, active)))?;
+    let (cron, jobs, active) = seen;
     let plan = decide(alloc, cron, jobs, active, reading.seconds, zone)?;
-    let outline = Outline::of(alloc, &plan)?;
-    let plan = Shared::new(alloc, plan)?;
-    Ok(Decided { plan, outline })
+    with_outline(alloc, plan)
 }
