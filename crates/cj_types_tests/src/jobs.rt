@@ -76,10 +76,9 @@ fn read_owners(alloc: Global, text: &str) -> Result<OwnerRefs, Refusal> {
 }
 
 fn owned(owners: OwnerRefs, job: Heap<Job>) -> Job {
-    Job {
-        owners,
-        ..job.into_inner()
-    }
+    let mut job = job.into_inner();
+    job.owners = owners;
+    job
 }
 
 fn job(alloc: Global, owners: &str) -> Result<Job, Refusal> {
