@@ -6,6 +6,7 @@ use crate::ask::Ask;
 use crate::drafts::{cron_draft, job_draft, key, seconds, status, uid};
 use crate::plain::Kind;
 use crate::told::{Answer, change_answer, cron_answer, gone_answer, job_answer, refused};
+use cj_base::both;
 use cj_store::{Change, Store};
 use cj_types::{Key, Outcome, Refusal, Seconds, Uid, Version};
 use std::alloc::Global;
@@ -58,8 +59,7 @@ fn set_status(store: &mut Store, alloc: Global, ask: &Ask) -> Result<Answer, Ref
     requires { HasRoom store.old }
 {
     let (uid, version) = given(ask)?;
-    let key = key(alloc, ask)?;
-    let status = status(alloc, ask.now)?;
+    let (key, status) = both(key(alloc, ask), status(alloc, ask.now))?;
     if ask.is_planned {
         let plan = store.plan_set_status(alloc, &key, uid, version, status);
         return Ok(commit(store, alloc, plan));

@@ -1,8 +1,9 @@
 use crate::ask::{Ask, name_at, spec_at};
+use cj_base::{all_four, all_three, both};
 use cj_types::{
-    CronJobDraft, CronKey, CronSpec, CronStatus, DraftMeta, Heap, HistoryLimit, JobDraft,
-    JobTemplate, Key, Labels, Names, OwnerRef, OwnerRefs, Policy, Refusal, Seconds, Shared,
-    SpecText, Text, Uid, Version, version_text,
+    CronJobDraft, CronKey, CronSpec, CronStatus, DraftMeta, HistoryLimit, JobDraft, JobTemplate,
+    Key, Labels, Names, OwnerRef, OwnerRefs, Policy, Refusal, Seconds, Shared, SpecText, Text, Uid,
+    Version, version_text,
 };
 use std::alloc::Global;
 
@@ -33,8 +34,7 @@ fn uid_given(alloc: Global, count: Option<u64>) -> Result<Option<Text>, Refusal>
 }
 
 fn meta(alloc: Global, ask: &Ask) -> Result<DraftMeta, Refusal> {
-    let uid = uid_given(alloc, ask.uid)?;
-    let version = version_given(alloc, ask.version)?;
+    let (uid, version) = both(uid_given(alloc, ask.uid), version_given(alloc, ask.version))?;
     Ok(DraftMeta {
         uid,
         version,
@@ -43,8 +43,12 @@ fn meta(alloc: Global, ask: &Ask) -> Result<DraftMeta, Refusal> {
     })
 }
 
+fn spec_text(alloc: Global, text: &str) -> Result<SpecText, Refusal> {
+    SpecText::new(alloc, Text::new(alloc, text)?)
+}
+
 fn template(alloc: Global) -> Result<JobTemplate, Refusal> {
-    let spec = SpecText::new(alloc, Text::new(alloc, "{}")?)?;
+    let spec = spec_text(alloc, "{}")?;
     Ok(JobTemplate {
         labels: Labels::new(alloc),
         annotations: Labels::new(alloc),
@@ -53,22 +57,29 @@ fn template(alloc: Global) -> Result<JobTemplate, Refusal> {
 }
 
 fn cron_spec(alloc: Global, schedule: &str) -> Result<CronSpec, Refusal> {
+    let (schedule, template) = both(Text::new(alloc, schedule), template(alloc))?;
     Ok(CronSpec {
-        schedule: Text::new(alloc, schedule)?,
+        schedule,
         time_zone: None,
         policy: Policy::Forbid,
         suspend: false,
         starting_deadline_seconds: None,
         successful_limit: HistoryLimit::from(3),
         failed_limit: HistoryLimit::from(1),
-        template: template(alloc)?,
+        template,
     })
 }
 
+fn shared_spec(alloc: Global, schedule: &str) -> Result<Shared<CronSpec>, Refusal> {
+    Shared::new(alloc, cron_spec(alloc, schedule)?)
+}
+
 pub fn cron_draft(alloc: Global, ask: &Ask) -> Result<CronJobDraft, Refusal> {
-    let spec = Shared::new(alloc, cron_spec(alloc, spec_at(ask.spec))?)?;
-    let key = CronKey::new(alloc, "default", name_at(ask.name))?;
-    let meta = meta(alloc, ask)?;
+    let (key, meta, spec) = all_three(
+        CronKey::new(alloc, "default", name_at(ask.name)),
+        meta(alloc, ask),
+        shared_spec(alloc, spec_at(ask.spec)),
+    )?;
     Ok(CronJobDraft { key, meta, spec })
 }
 
@@ -81,16 +92,13 @@ pub fn status(alloc: Global, time: u64) -> Result<CronStatus, Refusal> {
     })
 }
 
-fn texts(alloc: Global, one: &str, other: &str) -> Result<Heap<(Text, Text)>, Refusal> {
-    let one = Text::new(alloc, one)?;
-    Heap::new(alloc, (one, Text::new(alloc, other)?))
-}
-
 fn owner(alloc: Global, name: &str, uid: &str, is_controller: bool) -> Result<OwnerRef, Refusal> {
-    let group = texts(alloc, "batch/v1", "CronJob")?;
-    let owner = texts(alloc, name, uid)?;
-    let (api_version, kind) = group.into_inner();
-    let (name, uid) = owner.into_inner();
+    let (api_version, kind, name, uid) = all_four(
+        Text::new(alloc, "batch/v1"),
+        Text::new(alloc, "CronJob"),
+        Text::new(alloc, name),
+        Text::new(alloc, uid),
+    )?;
     Ok(OwnerRef {
         api_version,
         kind,
@@ -120,22 +128,17 @@ fn owners(alloc: Global, place: usize) -> Result<OwnerRefs, Refusal> {
     }
 }
 
-// The parts of a draft of a Job that aren't of its metadata.
-fn job_parts(alloc: Global, name: &str, spec: &str) -> Result<Heap<(Key, SpecText)>, Refusal> {
-    let key = Key::new(alloc, "default", name)?;
-    let spec = SpecText::new(alloc, Text::new(alloc, spec)?)?;
-    Heap::new(alloc, (key, spec))
-}
-
 pub fn job_draft(alloc: Global, ask: &Ask) -> Result<JobDraft, Refusal> {
-    let parts = job_parts(alloc, name_at(ask.name), spec_at(ask.spec))?;
-    let owners = Heap::new(alloc, owners(alloc, ask.owner)?)?;
-    let meta = meta(alloc, ask)?;
-    let (key, spec) = parts.into_inner();
+    let (key, meta, owners, spec) = all_four(
+        key(alloc, ask),
+        meta(alloc, ask),
+        owners(alloc, ask.owner),
+        spec_text(alloc, spec_at(ask.spec)),
+    )?;
     Ok(JobDraft {
         key,
         meta,
-        owners: owners.into_inner(),
+        owners,
         spec,
     })
 }
@@ -151,9 +154,11 @@ fn no_meta(alloc: Global) -> DraftMeta {
 
 // A Job that a CronJob of this name and uid controls.
 pub fn owned_draft(alloc: Global, name: &str, cron: &str, uid: &str) -> Result<JobDraft, Refusal> {
-    let parts = job_parts(alloc, name, "{}")?;
-    let owners = one_owner(alloc, cron, uid, true)?;
-    let (key, spec) = parts.into_inner();
+    let (key, owners, spec) = all_three(
+        Key::new(alloc, "default", name),
+        one_owner(alloc, cron, uid, true),
+        spec_text(alloc, "{}"),
+    )?;
     Ok(JobDraft {
         key,
         meta: no_meta(alloc),

@@ -1,3 +1,4 @@
+use cj_base::{all_four, all_three};
 use cj_types::{
     Cause, CronJob, CronJobDraft, CronKey, CronSpec, CronStatus, Deadline, DraftMeta, Event, Field,
     FieldFault, FieldFaults, Heap, HistoryLimit, Job, JobDraft, JobTemplate, Key, Labels, Meta,
@@ -147,11 +148,17 @@ impl Sample for Reasons {
 
 impl Sample for OwnerRef {
     fn sample(alloc: Global, change: u8) -> Result<OwnerRef, Refusal> {
+        let (api_version, kind, name, uid) = all_four(
+            text(alloc, change == 1),
+            text(alloc, change == 2),
+            text(alloc, change == 3),
+            text(alloc, change == 4),
+        )?;
         Ok(OwnerRef {
-            api_version: text(alloc, change == 1)?,
-            kind: text(alloc, change == 2)?,
-            name: text(alloc, change == 3)?,
-            uid: text(alloc, change == 4)?,
+            api_version,
+            kind,
+            name,
+            uid,
             controller: change == 5,
             block_owner_deletion: change == 6,
         })
@@ -183,34 +190,51 @@ impl Sample for OwnerRefs {
 
 impl Sample for Meta {
     fn sample(alloc: Global, change: u8) -> Result<Meta, Refusal> {
+        let (uid, created, labels, annotations) = all_four(
+            uid(change == 1),
+            Seconds::new(if change == 4 { 61 } else { 60 }).ok_or(Refusal::Syntax),
+            Labels::sample(alloc, within(change, 4, 6)),
+            Labels::sample(alloc, within(change, 10, 6)),
+        )?;
         Ok(Meta {
-            uid: uid(change == 1)?,
+            uid,
             version: Version::new(if change == 2 { 5 } else { 4 }),
             generation: if change == 3 { 2 } else { 1 },
-            created: Seconds::new(if change == 4 { 61 } else { 60 }).ok_or(Refusal::Syntax)?,
-            labels: Labels::sample(alloc, within(change, 4, 6))?,
-            annotations: Labels::sample(alloc, within(change, 10, 6))?,
+            created,
+            labels,
+            annotations,
         })
     }
 }
 
 impl Sample for DraftMeta {
     fn sample(alloc: Global, change: u8) -> Result<DraftMeta, Refusal> {
+        let (uid, version, labels, annotations) = all_four(
+            perhaps_text(alloc, change != 2, change == 1),
+            perhaps_text(alloc, change != 4, change == 3),
+            Labels::sample(alloc, within(change, 4, 1)),
+            Labels::sample(alloc, within(change, 5, 1)),
+        )?;
         Ok(DraftMeta {
-            uid: perhaps_text(alloc, change != 2, change == 1)?,
-            version: perhaps_text(alloc, change != 4, change == 3)?,
-            labels: Labels::sample(alloc, within(change, 4, 1))?,
-            annotations: Labels::sample(alloc, within(change, 5, 1))?,
+            uid,
+            version,
+            labels,
+            annotations,
         })
     }
 }
 
 impl Sample for JobTemplate {
     fn sample(alloc: Global, change: u8) -> Result<JobTemplate, Refusal> {
+        let (labels, annotations, spec) = all_three(
+            Labels::sample(alloc, within(change, 0, 1)),
+            Labels::sample(alloc, within(change, 1, 1)),
+            SpecText::sample(alloc, within(change, 2, 3)),
+        )?;
         Ok(JobTemplate {
-            labels: Labels::sample(alloc, within(change, 0, 1))?,
-            annotations: Labels::sample(alloc, within(change, 1, 1))?,
-            spec: SpecText::sample(alloc, within(change, 2, 3))?,
+            labels,
+            annotations,
+            spec,
         })
     }
 }
@@ -237,8 +261,11 @@ pub fn spec_with(
     change: u8,
     template: Heap<JobTemplate>,
 ) -> Result<CronSpec, Refusal> {
-    let schedule = text(alloc, change == 1)?;
-    let time_zone = perhaps_text(alloc, change != 9, change == 2)?;
+    let (schedule, time_zone, template) = all_three(
+        text(alloc, change == 1),
+        perhaps_text(alloc, change != 9, change == 2),
+        Ok(template),
+    )?;
     Ok(CronSpec {
         schedule,
         time_zone,
@@ -286,17 +313,14 @@ impl Sample for CronStatus {
     }
 }
 
-fn head(alloc: Global, change: u8) -> Result<Heap<(CronKey, Meta)>, Refusal> {
-    let key = CronKey::sample(alloc, within(change, 0, 3))?;
-    let meta = Meta::sample(alloc, within(change, 3, 16))?;
-    Heap::new(alloc, (key, meta))
-}
-
 /// The CronJob with this spec.
 pub fn cron_with(alloc: Global, change: u8, spec: Shared<CronSpec>) -> Result<CronJob, Refusal> {
-    let head = head(alloc, change)?;
-    let status = CronStatus::sample(alloc, within(change, 34, 10))?;
-    let (key, meta) = head.into_inner();
+    let (key, meta, spec, status) = all_four(
+        CronKey::sample(alloc, within(change, 0, 3)),
+        Meta::sample(alloc, within(change, 3, 16)),
+        Ok(spec),
+        CronStatus::sample(alloc, within(change, 34, 10)),
+    )?;
     Ok(CronJob {
         key,
         meta,
@@ -314,9 +338,11 @@ impl Sample for CronJob {
 
 impl Sample for CronJobDraft {
     fn sample(alloc: Global, change: u8) -> Result<CronJobDraft, Refusal> {
-        let spec = Shared::sample(alloc, within(change, 7, 1))?;
-        let key = CronKey::sample(alloc, within(change, 0, 1))?;
-        let meta = DraftMeta::sample(alloc, within(change, 1, 6))?;
+        let (key, meta, spec) = all_three(
+            CronKey::sample(alloc, within(change, 0, 1)),
+            DraftMeta::sample(alloc, within(change, 1, 6)),
+            Shared::sample(alloc, within(change, 7, 1)),
+        )?;
         Ok(CronJobDraft { key, meta, spec })
     }
 }
@@ -330,20 +356,14 @@ fn outcome(change: u8) -> Option<Outcome> {
     }
 }
 
-type Parts<M> = Heap<(Key, M)>;
-
-fn job_head(alloc: Global, change: u8) -> Result<Parts<Meta>, Refusal> {
-    let key = Key::sample(alloc, within(change, 7, 3))?;
-    let meta = Meta::sample(alloc, within(change, 0, 1))?;
-    Heap::new(alloc, (key, meta))
-}
-
 impl Sample for Job {
     fn sample(alloc: Global, change: u8) -> Result<Job, Refusal> {
-        let head = job_head(alloc, change)?;
-        let spec = SpecText::sample(alloc, within(change, 1, 3))?;
-        let owners = OwnerRefs::sample(alloc, within(change, 10, 6))?;
-        let (key, meta) = head.into_inner();
+        let (key, meta, owners, spec) = all_four(
+            Key::sample(alloc, within(change, 7, 3)),
+            Meta::sample(alloc, within(change, 0, 1)),
+            OwnerRefs::sample(alloc, within(change, 10, 6)),
+            SpecText::sample(alloc, within(change, 1, 3)),
+        )?;
         Ok(Job {
             key,
             meta,
@@ -354,18 +374,14 @@ impl Sample for Job {
     }
 }
 
-fn draft_head(alloc: Global, change: u8) -> Result<Parts<DraftMeta>, Refusal> {
-    let key = Key::sample(alloc, within(change, 0, 1))?;
-    let meta = DraftMeta::sample(alloc, within(change, 1, 1))?;
-    Heap::new(alloc, (key, meta))
-}
-
 impl Sample for JobDraft {
     fn sample(alloc: Global, change: u8) -> Result<JobDraft, Refusal> {
-        let head = draft_head(alloc, change)?;
-        let spec = SpecText::sample(alloc, within(change, 3, 1))?;
-        let owners = OwnerRefs::sample(alloc, within(change, 2, 1))?;
-        let (key, meta) = head.into_inner();
+        let (key, meta, owners, spec) = all_four(
+            Key::sample(alloc, within(change, 0, 1)),
+            DraftMeta::sample(alloc, within(change, 1, 1)),
+            OwnerRefs::sample(alloc, within(change, 2, 1)),
+            SpecText::sample(alloc, within(change, 3, 1)),
+        )?;
         Ok(JobDraft {
             key,
             meta,
