@@ -6,9 +6,15 @@ use std::alloc::{AllocError, Global};
 use std::marker::Model;
 
 /// A value on the heap, so that whoever holds it holds one pointer, and gives up one. Contracts see the value.
-#[derive(Drop)]
 pub struct Heap<T> {
     value: Box<T, Global>,
+}
+
+// A function of its own, so that whoever gives one up makes one call and not one for each part.
+impl<T: Drop> Drop for Heap<T> {
+    fn drop(self) {
+        let Heap { value: _ } = self;
+    }
 }
 
 impl<T> Model for Heap<T> {
@@ -40,6 +46,7 @@ impl<T> Heap<T> {
     pub fn into_inner(self) -> T
         ensures { result ≡ self }
     {
-        Box::into_inner(self.value)
+        let Heap { value } = self;
+        Box::into_inner(value)
     }
 }

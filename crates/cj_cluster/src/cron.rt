@@ -8,12 +8,21 @@ use cj_types::{CronJob, Job, Refusal, Shared, Text, TryCopy};
 use std::alloc::Global;
 
 /// A CronJob as a cluster has it.
-#[derive(Debug, Drop)]
+#[derive(Debug)]
 pub struct ClusterCron {
     /// The uid that the server gave it: any text.
     pub uid: Text,
     /// The CronJob, with a number for its uid.
     pub cron: Shared<CronJob>,
+}
+
+// A function of its own, so that whoever gives one up makes one call and not one for each part.
+impl Drop for ClusterCron {
+    fn drop(self) {
+        let ClusterCron { uid, cron } = self;
+        drop(uid);
+        drop(cron);
+    }
 }
 
 impl TryCopy for ClusterCron {

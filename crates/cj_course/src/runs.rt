@@ -12,9 +12,16 @@ use std::marker::Model;
 
 /// The runs of CronJobs' Jobs by the CronJob's key, in the order in which Jobs take them. Contracts see the
 /// list of each key.
-#[derive(Drop)]
 pub struct Runs {
     lists: Table<Listing<Run>>,
+}
+
+// A function of its own, so that whoever gives one up makes one call and not one for each part.
+impl Drop for Runs {
+    fn drop(self) {
+        let Runs { lists } = self;
+        drop(lists);
+    }
 }
 
 impl Model for Runs {

@@ -9,10 +9,18 @@ use cj_zone::time_text;
 use std::alloc::Global;
 
 /// The scheduled time that is claimed, and the status that says so.
-#[derive(Debug, Drop)]
+#[derive(Debug)]
 pub struct Claim {
     pub time: Seconds,
     pub status: CronStatus,
+}
+
+// A function of its own, so that whoever gives one up makes one call and not one for each part.
+impl Drop for Claim {
+    fn drop(self) {
+        let Claim { time: _, status } = self;
+        drop(status);
+    }
 }
 
 impl TryCopy for Claim {

@@ -17,7 +17,7 @@ use cj_zone::Zone;
 use std::alloc::Global;
 
 /// What a sync does, in the order of the fields; each step may be missing.
-#[derive(Debug, Drop)]
+#[derive(Debug)]
 pub struct Steps {
     /// The conditional update of the CronJob's status.
     pub claim: Option<Claim>,
@@ -32,6 +32,24 @@ pub struct Steps {
     pub reasons: Reasons,
     /// When to look again.
     pub next: Option<Seconds>,
+}
+
+// A function of its own, so that whoever gives one up makes one call and not one for each part.
+impl Drop for Steps {
+    fn drop(self) {
+        let Steps {
+            claim: _,
+            drop_first,
+            make: _,
+            cleanup,
+            status: _,
+            reasons,
+            next: _,
+        } = self;
+        drop(drop_first);
+        drop(cleanup);
+        drop(reasons);
+    }
 }
 
 impl TryCopy for Steps {

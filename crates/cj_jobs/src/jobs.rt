@@ -20,10 +20,18 @@ fn key_of(alloc: Global, job: &Shared<Job>) -> Result<Key, Refusal>
 }
 
 /// Jobs by key, each at its own, with an index from CronJobs to the Jobs that they own. Contracts see the Jobs alone.
-#[derive(Drop)]
 pub struct Jobs {
     table: Table<Shared<Job>>,
     index: BTreeSet<Owned>,
+}
+
+// A function of its own, so that whoever gives up Jobs makes one call and not one for each part.
+impl Drop for Jobs {
+    fn drop(self) {
+        let Jobs { table, index } = self;
+        drop(table);
+        drop(index);
+    }
 }
 
 impl Model for Jobs {

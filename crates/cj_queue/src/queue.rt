@@ -18,7 +18,6 @@ use std::marker::Model;
 /// worked on comes back into the line when that work is done. Contracts see the line, the dirty keys and
 /// those that are being worked on, the times for which keys wait, the failures, the greatest tick, and
 /// whether the queue is shut.
-#[derive(Drop)]
 pub struct Queue {
     alloc: Global,
     work: Work,
@@ -26,6 +25,23 @@ pub struct Queue {
     failures: Failures,
     tick: u64,
     shut: bool,
+}
+
+// A function of its own, so that whoever gives one up makes one call and not one for each part.
+impl Drop for Queue {
+    fn drop(self) {
+        let Queue {
+            alloc: _,
+            work,
+            waits,
+            failures,
+            tick: _,
+            shut: _,
+        } = self;
+        drop(work);
+        drop(waits);
+        drop(failures);
+    }
 }
 
 impl Model for Queue {

@@ -14,7 +14,6 @@ use std::marker::Model;
 /// The keys that want work, and those that are being worked on.
 ///
 /// Contracts see the line, the dirty keys and those that are being worked on, and for how many adds there is room.
-#[derive(Drop)]
 pub struct Work {
     // The keys that want work and that nobody works on.
     line: Line,
@@ -22,6 +21,18 @@ pub struct Work {
     again: IndexSet<Key>,
     // The keys that are being worked on.
     processing: IndexSet<Key>,
+}
+
+// A function of its own, so that whoever gives one up makes one call and not one for each part.
+impl Drop for Work {
+    fn drop(self) {
+        let Work {
+            line,
+            again: _,
+            processing: _,
+        } = self;
+        drop(line);
+    }
 }
 
 impl Model for Work {

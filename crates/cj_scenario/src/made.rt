@@ -102,25 +102,3 @@ pub(crate) fn scene_jobs(
     }
     Ok(jobs)
 }
-
-/// The CronJob with these names of Jobs that run.
-pub(crate) fn with_active(cron: CronJob, active: Names) -> CronJob
-    ensures { result ≡ made.with_active cron active }
-{
-    let CronJob {
-        key,
-        meta,
-        spec,
-        status,
-    } = cron;
-    CronJob {
-        key,
-        meta,
-        spec,
-        status: CronStatus {
-            active,
-            last_schedule_time: status.last_schedule_time,
-            last_successful_time: status.last_successful_time,
-        },
-    }
-}

@@ -15,7 +15,7 @@ ghost use Rattle.cj_scenario.specs.declared.fault.SceneFault.TheVariants.{Memory
 use crate::fault::SceneFault;
 use crate::form::parts_of;
 use crate::live::{found_of, live_jobs, names_of};
-use crate::made::{scene_cron, scene_jobs, with_active};
+use crate::made::{scene_cron, scene_jobs};
 use crate::scene::Scene;
 use cj_base::both;
 use cj_manifest::cron_of;
@@ -100,7 +100,7 @@ fn scene_with(
 {
     let (names, active) = active_among(alloc, jobs.as_slice())?;
     let (cron, jobs) = both(
-        Shared::new(alloc, with_active(cron, names)),
+        Shared::new(alloc, cron.with_active(names)),
         Listing::new(alloc, jobs),
     )?;
     Ok(Scene {

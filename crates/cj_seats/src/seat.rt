@@ -3,7 +3,6 @@ use cj_types::{CronJob, Job, Key, Listing, Refusal, Shared, TryCopy, Version};
 use std::alloc::Global;
 
 /// A plan that was claimed, and how far it has come.
-#[derive(Drop)]
 pub struct Work {
     pub plan: Shared<Plan>,
     /// The version that the claim wrote, or the one that was seen where nothing was claimed.
@@ -12,8 +11,19 @@ pub struct Work {
     pub place: usize,
 }
 
+// A function of its own, so that whoever gives one up makes one call and not one for each part.
+impl Drop for Work {
+    fn drop(self) {
+        let Work {
+            plan,
+            version: _,
+            place: _,
+        } = self;
+        drop(plan);
+    }
+}
+
 /// How far a worker's sync has come, with the answers that it got.
-#[derive(Drop)]
 pub enum Phase {
     /// The key is taken.
     Held,
@@ -25,6 +35,22 @@ pub enum Phase {
     Checked(Option<Shared<CronJob>>, Listing<Shared<Job>>, Listing<Option<Shared<Job>>>),
     /// A plan that rests on the three is claimed.
     Works(Work),
+}
+
+// A function of its own, so that whoever gives one up makes one call and not one for each part.
+impl Drop for Phase {
+    fn drop(self) {
+        match self {
+            Phase::Held => {}
+            Phase::Seen(_) => {}
+            Phase::Listed(_, jobs) => drop(jobs),
+            Phase::Checked(_, jobs, active) => {
+                drop(jobs);
+                drop(active);
+            }
+            Phase::Works(work) => drop(work),
+        }
+    }
 }
 
 /// The key that a worker holds, and how far its sync has come. A worker that holds none has no seat.

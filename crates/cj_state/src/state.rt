@@ -16,13 +16,30 @@ use std::alloc::Global;
 
 /// What a world holds beside its history: the objects, the events of the latest writes, the Jobs as lists
 /// have them, the queue of keys, and how far each worker's sync has come.
-#[derive(Drop)]
 pub struct State {
     pub store: Store,
     pub watch: WatchLog,
     pub mirror: Mirror,
     pub queue: Queue,
     pub seats: Seats,
+}
+
+// A function of its own, so that whoever gives one up makes one call and not one for each part.
+impl Drop for State {
+    fn drop(self) {
+        let State {
+            store,
+            watch,
+            mirror,
+            queue,
+            seats,
+        } = self;
+        drop(store);
+        drop(watch);
+        drop(mirror);
+        drop(queue);
+        drop(seats);
+    }
 }
 
 impl State {

@@ -7,11 +7,23 @@ use std::alloc::Global;
 use std::marker::Model;
 
 /// A Job as a step of a plan names it.
-#[derive(Debug, Drop)]
+#[derive(Debug)]
 pub struct JobRef {
     pub key: Key,
     pub uid: Uid,
     pub created: Seconds,
+}
+
+// A function of its own, so that whoever gives one up makes one call and not one for each part.
+impl Drop for JobRef {
+    fn drop(self) {
+        let JobRef {
+            key,
+            uid: _,
+            created: _,
+        } = self;
+        drop(key);
+    }
 }
 
 impl JobRef {
@@ -48,9 +60,16 @@ impl Same for JobRef {
 }
 
 /// Jobs that a plan names, which contracts see as a list.
-#[derive(Debug, Drop)]
+#[derive(Debug)]
 pub struct JobRefs {
     items: Vec<JobRef>,
+}
+
+// A function of its own, so that whoever gives one up makes one call and not one for each part.
+impl Drop for JobRefs {
+    fn drop(self) {
+        let JobRefs { items: _ } = self;
+    }
 }
 
 impl Model for JobRefs {
@@ -98,7 +117,7 @@ impl JobRefs {
         ensures ok { OnOk result (self.new ≡ self.old ++ others) }
         ensures err { IfErr result (λ e. e ≡ OutOfMemory) }
     {
-        let mut items = others.items;
+        let JobRefs { mut items } = others;
         self.items
             .append(&mut items)
             .map_err(|_| Refusal::OutOfMemory)

@@ -9,9 +9,16 @@ use std::marker::Model;
 ///
 /// Contracts see the event that a watch gives of the write: the object as the write leaves it, or the last
 /// object with the deletion's version.
-#[derive(Drop)]
 pub struct Change {
     event: Heap<Event>,
+}
+
+// A function of its own, so that whoever gives one up makes one call and not one for each part.
+impl Drop for Change {
+    fn drop(self) {
+        let Change { event } = self;
+        drop(event);
+    }
 }
 
 impl Model for Change {
@@ -91,6 +98,7 @@ impl Change {
     pub(crate) fn into_event(self) -> Event
         ensures { result ≡ self }
     {
-        self.event.into_inner()
+        let Change { event } = self;
+        event.into_inner()
     }
 }

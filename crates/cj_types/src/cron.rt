@@ -1,3 +1,5 @@
+ghost use Rattle.std.specs.Prelude.{◌≡◌};
+
 use crate::{CronKey, Deadline, DraftMeta, HistoryLimit, Labels, Meta, Names, Policy, SpecText};
 use cj_base::{Refusal, Same, Seconds, Shared, Text, TryCopy, all_four, all_three};
 use std::alloc::Global;
@@ -153,13 +155,62 @@ impl Same for CronStatus {
 }
 
 /// A CronJob as it is stored.
-#[derive(Debug, Drop)]
+#[derive(Debug)]
 pub struct CronJob {
     pub key: CronKey,
     pub meta: Meta,
     /// Shared, so that a write that leaves it alone copies none of it.
     pub spec: Shared<CronSpec>,
     pub status: CronStatus,
+}
+
+// A function of its own, so that whoever gives one up makes one call and not one for each part.
+impl Drop for CronJob {
+    fn drop(self) {
+        let CronJob {
+            key,
+            meta,
+            spec,
+            status,
+        } = self;
+        drop(key);
+        drop(meta);
+        drop(spec);
+        drop(status);
+    }
+}
+
+impl CronJob {
+    /// The CronJob with these names of Jobs that run in place of its own.
+    pub fn with_active(self, active: Names) -> CronJob
+        ensures { result ≡ record {
+          key = self.key;
+          meta = self.meta;
+          spec = self.spec;
+          status = record {
+            active = active;
+            last_schedule_time = self.status.last_schedule_time;
+            last_successful_time = self.status.last_successful_time;
+          };
+        } }
+    {
+        let CronJob {
+            key,
+            meta,
+            spec,
+            status,
+        } = self;
+        CronJob {
+            key,
+            meta,
+            spec,
+            status: CronStatus {
+                active,
+                last_schedule_time: status.last_schedule_time,
+                last_successful_time: status.last_successful_time,
+            },
+        }
+    }
 }
 
 impl TryCopy for CronJob {

@@ -12,9 +12,17 @@ use std::marker::Model;
 /// The key of a CronJob, whose name has at most 52 characters, so that the names of its Jobs have at most 63.
 ///
 /// Contracts see what they see of its `Key`.
-#[derive(Debug, Drop)]
+#[derive(Debug)]
 pub struct CronKey {
     key: Key,
+}
+
+// A function of its own, so that whoever gives one up makes one call and not one for each part.
+impl Drop for CronKey {
+    fn drop(self) {
+        let CronKey { key } = self;
+        drop(key);
+    }
 }
 
 impl Model for CronKey {

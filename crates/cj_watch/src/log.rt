@@ -12,10 +12,19 @@ use std::marker::Model;
 /// The latest events, as many as fit in a window, each with the count of the events up to it as its version.
 ///
 /// Contracts see the events that are kept, the count of all events so far, and the window.
-#[derive(Drop)]
 pub struct WatchLog {
     events: HeapCircularBuffer<Event>,
     count: u64,
+}
+
+// A function of its own, so that whoever gives one up makes one call and not one for each part.
+impl Drop for WatchLog {
+    fn drop(self) {
+        let WatchLog {
+            events: _,
+            count: _,
+        } = self;
+    }
 }
 
 impl Model for WatchLog {
