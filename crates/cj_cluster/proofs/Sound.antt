@@ -1,10 +1,9 @@
 -- The objects of a cluster stay as they have to be: each CronJob at its key, each Job with its times.
-use Rattle.std.proofs.Common.{rules, ◌≡◌, ◌≢◌, ◌⊎◌, inl, inr, Bool, true, false, cond, Option, Some, None, is_some, refl, sym, ap, ◌∙◌, subst}
+use Rattle.std.proofs.Common.{◌≡◌, ◌≢◌, ◌⊎◌, inl, inr, Bool, true, false, cond, Option, Some, None, is_some, refl, sym, ap, ◌∙◌, subst}
 use Rattle.std.specs.FinMap as map
 use Rattle.std.specs.Ordering.{eq_by_cmp}
 use Rattle.cj_types.specs.Keys.{Place, place_cmp}
 use Rattle.cj_types.specs.declared.job.Job.{Job}
-use Rattle.cj_table.specs.Apart.{PlacesApart}
 use Rattle.cj_table.proofs.Apart.{places_apart}
 use Rattle.cj_table.proofs.Order.{places_total}
 use Rattle.cj_table.proofs.Puts.{remove-insert}

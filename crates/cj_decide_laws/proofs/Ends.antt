@@ -1,10 +1,9 @@
 -- What is cleaned up, and what the final status names.
-use Rattle.std.proofs.Common.{◌≡◌, ◌∙◌, ◌⊎◌, inl, inr, ap, sym, subst, refl, ℕ, Bool, true, false, not, ◌&&◌, cond, List, [], ◌∷◌, ◌++◌, map, filter, Option, None, Some, option_map, is_none}
+use Rattle.std.proofs.Common.{◌≡◌, ◌∙◌, ◌⊎◌, inl, inr, ap, sym, subst, refl, ℕ, Bool, true, false, not, ◌&&◌, cond, List, [], ◌++◌, Option, None, Some, option_map, is_none}
 use Rattle.cj_types.specs.declared.cron.CronJob.{CronJob}
 use Rattle.cj_types.specs.declared.cron.CronStatus.{CronStatus}
 use Rattle.cj_types.specs.declared.job.Job.{Job}
 use Rattle.cj_types.specs.declared.policy.Outcome.{Outcome}
-use Rattle.cj_types.specs.declared.policy.Outcome.TheVariants.{Complete, Failed}
 use Rattle.cj_types.specs.Made.{made_name}
 use Rattle.cj_types.specs.Objects.{is_unfinished}
 use Rattle.cj_types.specs.Uids.{uid_text}
@@ -14,17 +13,15 @@ use Rattle.cj_status.specs.declared.listing.Pick.TheVariants as Meant
 use Rattle.cj_status.specs.declared.order.Sorting.TheVariants.{ByName, ByAge}
 use Rattle.cj_status.specs.declared.refs.JobRef.{JobRef}
 use Rattle.cj_status.specs.Active.{names_with, still_active}
-use Rattle.cj_status.specs.Mine.{is_mine, is_running, is_complete, is_failed, ended_well, ended_badly}
+use Rattle.cj_status.specs.Mine.{is_mine, is_running, ended_well, ended_badly}
 use Rattle.cj_status.specs.Picked.{picks, picked, gathered}
-use Rattle.cj_status.specs.Refs.{ref, precedes, has_any}
+use Rattle.cj_status.specs.Refs.{precedes, has_any}
 use Rattle.cj_status.specs.Surplus.{is_kept, surplus_by}
-use Rattle.cj_decide.specs.declared.start.Claim.{Claim}
 use Rattle.cj_decide.specs.declared.steps.Steps.{Steps}
-use Rattle.cj_decide.specs.declared.verdict.Verdict.{Verdict}
 use Rattle.cj_decide.specs.Start.{claim_of}
 use Rattle.cj_decide.specs.Finally.{with_made, active_after, final, standing, IsStatusStep, cleanup_of}
 use Rattle.cj_decide.specs.Decision.{running_of, claim_by, IsDecision}
-use Rattle.cj_decide_laws.specs.Laws.{IsIn, IsCleaned, CleansFinished, IsFoundOf, IsMadeName, IsNamed, is_replacing, Names, NamesAtEnd}
+use Rattle.cj_decide_laws.specs.Laws.{IsIn, IsCleaned, CleansFinished, IsFoundOf, IsMadeName, IsNamed, is_replacing, NamesAtEnd}
 use Rattle.cj_decide_laws.proofs.Members.{in_parts, in_filtered, in_ordered, in_gathered, with_has, with_one, with_others, still_has, has_still}
 use Rattle.cj_decide_laws.proofs.Verdicts.{verdict_replaces}
 

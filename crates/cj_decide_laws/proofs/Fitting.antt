@@ -1,5 +1,5 @@
 -- Every plan is what a history of syncs needs.
-use Rattle.std.proofs.Common.{◌≡◌, ◌∙◌, ◌⊎◌, inl, inr, ap, sym, subst, refl, ℕ, suc, ◌<◌, ◌≤◌, max, unwrap_or, Bool, true, false, ◌&&◌, cond, List, [], ◌∷◌, ◌++◌, Option, None, Some, option_map, arith}
+use Rattle.std.proofs.Common.{◌≡◌, ◌∙◌, ◌⊎◌, inl, inr, ap, sym, subst, refl, ℕ, ◌<◌, ◌≤◌, max, unwrap_or, Bool, true, false, ◌&&◌, List, [], ◌∷◌, Option, None, Some, arith}
 use Rattle.std.specs.Str.{bytes_eq}
 use Rattle.std.proofs.lemmas.Slice.Eq.{bytes_eq-Decides}
 use Rattle.cj_types.specs.Keys.{Place, place}
@@ -9,25 +9,24 @@ use Rattle.cj_types.specs.Uids.{uid_text}
 use Rattle.cj_types.specs.declared.cron.CronJob.{CronJob}
 use Rattle.cj_types.specs.declared.cron.CronStatus.{CronStatus}
 use Rattle.cj_types.specs.declared.job.Job.{Job}
-use Rattle.cj_types.specs.declared.job.JobDraft.{JobDraft}
 use Rattle.cj_types.specs.declared.policy.Policy.{Policy}
 use Rattle.cj_types.specs.declared.policy.Policy.TheVariants.{Allow, Forbid, Replace}
 use Rattle.cj_due.specs.Window.{deadline_start}
 use Rattle.cj_status.specs.declared.refs.JobRef.{JobRef}
-use Rattle.cj_status.specs.Active.{is_found, names_with}
+use Rattle.cj_status.specs.Active.{names_with}
 use Rattle.cj_status.specs.Mine.{is_running, present}
 use Rattle.cj_status.specs.Picked.{gathered}
 use Rattle.cj_status.specs.Refs.{ref, is_older}
 use Rattle.cj_decide.specs.declared.start.Claim.{Claim}
 use Rattle.cj_decide.specs.declared.steps.Steps.{Steps}
-use Rattle.cj_decide.specs.Start.{claim_of, draft_of, claimed}
+use Rattle.cj_decide.specs.Start.{draft_of, claimed}
 use Rattle.cj_decide.specs.Finally.{standing}
-use Rattle.cj_decide.specs.Decision.{Planned, IsPlan, IsDecision, IsDecided, running_of, claim_by}
-use Rattle.cj_decide_laws.specs.Laws.{IsIn, IsFoundOf, IsAllowed, IsNamed, IsMadeName, is_replacing, Starts as StartsBy}
-use Rattle.cj_decide_laws.specs.Fits.{runs, is_strict, IsAt, IsAmong, IsHere, IsFoundIn, IsFound, upto, IsMade, Starts, Waits, FitsWith, Keeps, Clears, FitsFor, Fits, DecidedFits}
+use Rattle.cj_decide.specs.Decision.{Planned, IsPlan, IsDecision, running_of}
+use Rattle.cj_decide_laws.specs.Laws.{IsIn, IsFoundOf, IsAllowed, IsMadeName, is_replacing, Starts as StartsBy}
+use Rattle.cj_decide_laws.specs.Fits.{runs, is_strict, IsAt, IsAmong, IsFoundIn, IsFound, upto, IsMade, Starts, Waits, FitsWith, Keeps, FitsFor, DecidedFits}
 use Rattle.cj_decide_laws.proofs.Members.{ordered_in, gathered_in, with_one, with_others}
-use Rattle.cj_decide_laws.proofs.Claims.{claims_latest, no_claim, no_start}
-use Rattle.cj_decide_laws.proofs.Ends.{final_is, names_at_end, replaces_is}
+use Rattle.cj_decide_laws.proofs.Claims.{claims_latest, no_claim}
+use Rattle.cj_decide_laws.proofs.Ends.{final_is, names_at_end}
 
 -- A Job that runs for a uid is an unfinished one whose controller has the text of that uid.
 runs_is : (u : ℕ) (job : Job) → runs u job ≡ true → is_running (uid_text u) job ≡ true

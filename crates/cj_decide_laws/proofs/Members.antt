@@ -1,5 +1,5 @@
 -- What stands in a list in order, in a part of it, and in names with one more.
-use Rattle.std.proofs.Common.{◌≡◌, ◌∙◌, ◌⊎◌, inl, inr, ap, sym, subst, refl, ℕ, Bool, true, false, cond, List, [], ◌∷◌, ◌++◌, map, filter, Option, None, Some}
+use Rattle.std.proofs.Common.{◌≡◌, ◌∙◌, ◌⊎◌, inl, inr, ap, sym, refl, ℕ, Bool, true, false, cond, List, [], ◌∷◌, ◌++◌, map, filter, Option}
 use Rattle.std.specs.declared.cmp.Ordering.{Ordering}
 use Rattle.std.specs.declared.cmp.Ordering.TheVariants.{Less, Equal, Greater}
 use Rattle.std.specs.Ordering.{nat_cmp}

@@ -1,12 +1,12 @@
 -- What runs comes in order, and is all that runs.
-use Rattle.std.proofs.Common.{◌≡◌, sym, subst, refl, ℕ, Bool, true, false, cond, List, [], ◌∷◌, map, filter}
+use Rattle.std.proofs.Common.{Bool, true, false, cond, List, [], ◌∷◌}
 use Rattle.std.specs.List.Sorted.{IsPermutation}
 use Rattle.std.proofs.lemmas.List.Sorted.{IsPermutation-refl, IsPermutation-sym, IsPermutation-cons, IsPermutation-trans, IsPermutation-middle}
 use Rattle.cj_status.specs.declared.order.Sorting.TheVariants.{ByAge}
 use Rattle.cj_status.specs.Mine.{is_running}
 use Rattle.cj_status.specs.Order.{put_in, in_order}
 use Rattle.cj_status.specs.Picked.{gathered}
-use Rattle.cj_status.specs.Refs.{ref, is_older}
+use Rattle.cj_status.specs.Refs.{is_older}
 use Rattle.cj_status.proofs.Orders.{by_sorting}
 use Rattle.cj_status.proofs.Sorts.{rising_in_order}
 use Rattle.cj_decide_laws.specs.Laws.{OldestFirst, AllRunning}

@@ -1,5 +1,5 @@
 -- A verdict takes the place of what runs just where the policy says so and a time is claimed.
-use Rattle.std.proofs.Common.{◌≡◌, ◌∙◌, ap, sym, subst, refl, ℕ, Bool, true, false, List, Option, None, Some, inl, inr}
+use Rattle.std.proofs.Common.{◌≡◌, sym, subst, refl, ℕ, Bool, true, false, Option, None, Some, inl, inr}
 use Rattle.cj_types.specs.declared.cron.CronJob.{CronJob}
 use Rattle.cj_types.specs.declared.policy.Policy.{Policy}
 use Rattle.cj_types.specs.declared.policy.Policy.TheVariants.{Allow, Forbid, Replace}
@@ -7,7 +7,7 @@ use Rattle.cj_zone.specs.declared.zone.Zone.{Zone}
 use Rattle.cj_due.specs.declared.answer.Missed.{Missed}
 use Rattle.cj_due.specs.declared.answer.Missed.TheVariants as Kind
 use Rattle.cj_decide.specs.declared.verdict.Verdict.{Verdict}
-use Rattle.cj_decide.specs.Verdicts.{rests, by_policy, by_missed, IsByText, IsByZone, IsUnlessSuspended, IsVerdict}
+use Rattle.cj_decide.specs.Verdicts.{by_policy, by_missed, IsByZone, IsUnlessSuspended, IsVerdict}
 use Rattle.cj_decide.specs.Decision.{claim_by}
 use Rattle.cj_decide_laws.specs.Laws.{is_replacing}
 

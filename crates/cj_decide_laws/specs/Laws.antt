@@ -1,6 +1,5 @@
 -- What every plan keeps.
-use Rattle.std.specs.Prelude.{◌≡◌, ◌⊎◌, ◌↔◌, ℕ, ◌<◌, ◌≤◌, Bool, true, false, not, ◌&&◌, List, [], ◌∷◌, map, filter, Option, Some, None, unwrap_or}
-use Rattle.std.specs.List.{AllByRecursion}
+use Rattle.std.specs.Prelude.{◌≡◌, ◌⊎◌, ℕ, ◌<◌, ◌≤◌, Bool, true, false, List, [], ◌∷◌, map, filter, Option, Some, None, unwrap_or}
 use Rattle.std.specs.List.Sorted.{IsPermutation}
 use Rattle.cj_types.specs.declared.cron.CronJob.{CronJob}
 use Rattle.cj_types.specs.declared.cron.CronStatus.{CronStatus}
@@ -16,7 +15,7 @@ use Rattle.cj_due.specs.Due.{IsLatestDue}
 use Rattle.cj_due.specs.Window.{window_of}
 use Rattle.cj_status.specs.declared.refs.JobRef.{JobRef}
 use Rattle.cj_status.specs.Active.{is_found}
-use Rattle.cj_status.specs.Mine.{is_running, present}
+use Rattle.cj_status.specs.Mine.{is_running}
 use Rattle.cj_status.specs.Order.{IsRising}
 use Rattle.cj_status.specs.Picked.{running}
 use Rattle.cj_status.specs.Refs.{ref, is_older}
