@@ -1,4 +1,6 @@
 pub mod Holds
-pub mod Ties
+pub mod Rows
+pub mod Owning
+pub mod Stored
 pub mod Writes
 pub mod Found

@@ -3,12 +3,12 @@ ghost use Rattle.std.specs.FinMap as map;
 ghost use Rattle.cj_base.specs.declared.refusal.Refusal.TheVariants.{OutOfMemory};
 ghost use Rattle.cj_jobs.specs.Owners.{owned_by, owners_of};
 
-use crate::entries::{found_jobs, insert_entry, remove_entry};
-use crate::owned::{Owned, Position};
+use crate::by_owner::ByOwner;
+use crate::owner::Owner;
+use cj_base::{all_three, both};
 use cj_table::Table;
 use cj_types::{Job, Key, Listing, Refusal, Shared, TryCopy};
 use std::alloc::Global;
-use std::collections::BTreeSet;
 use std::marker::Model;
 
 // A copy of the Job's key.
@@ -19,19 +19,11 @@ fn key_of(alloc: Global, job: &Shared<Job>) -> Result<Key, Refusal>
     job.key.try_copy(alloc)
 }
 
-/// Jobs by key, each at its own, with an index from CronJobs to the Jobs that they own. Contracts see the Jobs alone.
+/// Jobs by key, each at its own, with an index that has under each CronJob the Jobs that it owns. Contracts see the
+/// Jobs by key alone.
 pub struct Jobs {
     table: Table<Shared<Job>>,
-    index: BTreeSet<Owned>,
-}
-
-// A function of its own, so that whoever gives up Jobs makes one call and not one for each part.
-impl Drop for Jobs {
-    fn drop(self) {
-        let Jobs { table, index } = self;
-        drop(table);
-        drop(index);
-    }
+    index: ByOwner,
 }
 
 impl Model for Jobs {
@@ -50,6 +42,15 @@ impl Model for Jobs {
     ghost invariant = { λ s. IsIndex s.table s.index };
 }
 
+// A function of its own, so that whoever gives up Jobs makes one call and not one for each part.
+impl Drop for Jobs {
+    fn drop(self) {
+        let Jobs { table, index } = self;
+        drop(table);
+        drop(index);
+    }
+}
+
 impl Jobs {
     /// No Job.
     pub fn new(alloc: Global) -> Jobs
@@ -57,7 +58,7 @@ impl Jobs {
     {
         Jobs {
             table: Table::new(alloc),
-            index: BTreeSet::new(alloc),
+            index: ByOwner::new(alloc),
         }
     }
 
@@ -83,9 +84,8 @@ impl Jobs {
         ensures ok { IfOk result (λ l. l ≡ owned_by self.now key.now) }
         ensures memory { IfErr result (λ e. e ≡ OutOfMemory) }
     {
-        let first = Owned::beside(alloc, key, Position::Before)?;
-        let last = Owned::beside(alloc, key, Position::After)?;
-        found_jobs(&self.table, &self.index, alloc, first, last)
+        let owner = Owner::at(alloc, key)?;
+        self.index.list(alloc, &owner)
     }
 
     /// Puts a Job at its key, where none stands. Where there is no memory the Jobs are as they were.
@@ -95,12 +95,14 @@ impl Jobs {
         ensures err { OnErr result (self.new ≡ self.old) }
         ensures memory { IfErr result (λ e. e ≡ OutOfMemory) }
     {
-        let entry = Owned::of(alloc, &job)?;
-        let key = key_of(alloc, &job)?;
-        let again = key_of(alloc, &job)?;
-        self.table.insert(key, job)?;
-        if let Err(refusal) = insert_entry(&mut self.index, entry) {
-            self.table.remove(&again);
+        let (owner, key, shared) = all_three(
+            Owner::of(alloc, &job),
+            key_of(alloc, &job),
+            job.share(),
+        )?;
+        self.table.insert(key, shared)?;
+        if let Err(refusal) = self.index.put(alloc, owner, &job) {
+            self.table.remove(&job.key);
             return Err(refusal);
         }
         Ok(())
@@ -114,8 +116,10 @@ impl Jobs {
         ensures err { OnErr result (self.new ≡ self.old) }
         ensures memory { IfErr result (λ e. e ≡ OutOfMemory) }
     {
-        let key = key_of(alloc, &job)?;
-        self.table.insert(key, job)?;
+        let (owner, key) = both(Owner::of(alloc, &job), key_of(alloc, &job))?;
+        self.index.put(alloc, owner, &job)?;
+        // A Job stands at the key, so this needs no memory.
+        let _ = self.table.insert(key, job);
         Ok(())
     }
 
@@ -125,8 +129,8 @@ impl Jobs {
         ensures err { OnErr result (self.new ≡ self.old) }
         ensures memory { IfErr result (λ e. e ≡ OutOfMemory) }
     {
-        let entry = Owned::standing(alloc, &self.table, key)?;
-        remove_entry(&mut self.index, entry);
+        let owner = Owner::standing(alloc, &self.table, key)?;
+        self.index.take(owner, key);
         self.table.remove(key);
         Ok(())
     }

@@ -1,8 +1,10 @@
-//! The Jobs by key, with an index by which the Jobs of a CronJob are found without a walk over all of them.
+//! The Jobs by key, with an index that has the Jobs of each CronJob, so that a list of them walks over these alone and
+//! looks none up.
 #![tactic(auto)]
 
-mod entries;
+mod by_owner;
 mod jobs;
-mod owned;
+mod own_jobs;
+mod owner;
 
 pub use jobs::Jobs;
