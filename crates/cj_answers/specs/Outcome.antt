@@ -1,7 +1,7 @@
 -- What the program answers to a request.
 use Rattle.std.specs.Prelude.{◌≡◌, ◌≢◌, ◌⊎◌, ℕ, ◌≤◌, List, [], ◌++◌, Option, None, Some, IsNone, Bool, true, false, bytes_eq, codes, decimal, string_bytes}
 use Rattle.std.specs.Borrow.{Bor}
-use Rattle.jiff.specs.Words.{read_whole}
+use Rattle.jiff_tz.specs.PosixReader.{read_whole}
 use Rattle.cj_base.specs.Instant.{last_second}
 use Rattle.cj_base.specs.ScheduleCause.{cause_name}
 use Rattle.cj_base.specs.declared.schedule_fault.ScheduleFault.{ScheduleFault}

@@ -1,5 +1,5 @@
 ghost use Rattle.std.specs.Prelude.{◌≡◌, ◌⊎◌, IfOk, IfErr, IsNone, None, Some, codes, string_bytes};
-ghost use Rattle.jiff.specs.Words.{read_whole};
+ghost use Rattle.jiff_tz.specs.PosixReader.{read_whole};
 ghost use Rattle.cj_base.specs.declared.refusal.Refusal.TheVariants.{OutOfMemory};
 ghost use Rattle.cj_zone.specs.declared.source.Source.TheVariants.{Rule};
 ghost use Rattle.cj_zone.specs.declared.zone.Zone.{Zone};

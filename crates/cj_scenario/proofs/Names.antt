@@ -5,16 +5,11 @@ use Rattle.std.specs.declared.alloc.Global.{Global}
 use Rattle.serde_json.specs.View.{members_view, view}
 use Rattle.serde_json.specs.declared.value.Value.{Value}
 use Rattle.std.specs.Cmp.Lexicographic.{pointwise}
-use Rattle.jiff.specs.Words.{plain_zone, read_whole}
-use Rattle.jiff.specs.Placed.{IsPosixZone}
-use Rattle.jiff_tz.specs.declared.timezone.TimeZone.{TimeZone}
-use Rattle.jiff_tz.specs.declared.timezone.TimeZone.TheVariants as Kind
 use Rattle.serde_json.specs.Data.{Data, Members, member}
 use Rattle.serde_json.specs.Find.{as_str}
-use Rattle.cj_zone.specs.declared.rules.Rules.{Rules}
-use Rattle.cj_zone.specs.declared.rules.Rules.TheVariants as By
+use Rattle.jiff_tz.specs.PosixReader.{read_whole}
 use Rattle.cj_zone.specs.declared.zone.Zone.{Zone}
-use Rattle.cj_zone.specs.Made.{IsRuleClock}
+use Rattle.cj_zone.proofs.ClockLemmas.{clock_read}
 use Rattle.cj_zone.specs.Zones.{is_refused_name, zone_named}
 use Rattle.cj_manifest.specs.Members.{unless_null}
 use Rattle.cj_scenario.specs.Scenes.{AddsMember, AddsMembers, AddsRule, AddsText, names_of}
@@ -37,19 +32,6 @@ refused_alike : (name : List ℕ) (zones others : List Zone) → names_of others
 refused_alike name zones others e =
     ap (λ b. (length name == 0) || pointwise ◌==◌ name (codes "Local") || b)
     (found_by_name name others ∙ ap (λ ns. list_any (λ n. pointwise ◌==◌ n name) ns) e ∙ sym (found_by_name name zones))
-
--- A rule of which a POSIX zone is made can be read.
-posix_read : (rule : List ℕ) (tz : TimeZone) → IsPosixZone rule tz → IsNone (read_whole rule) → ⊥
-posix_read rule (Kind.Posix r) h none = absurd (cc (h, none))
-posix_read rule (Kind.UTC) h none = h
-posix_read rule (Kind.Unknown) h none = h
-posix_read rule (Kind.Fixed o) h none = h
-posix_read rule (Kind.Tzif f) h none = h
-
--- A rule of which a clock is made can be read.
-clock_read : (rule : List ℕ) (rules : Rules) → IsRuleClock rule rules → IsNone (read_whole rule) → ⊥
-clock_read rule (By.Fixed zone) h none = posix_read rule (plain_zone zone) h none
-clock_read rule (By.Table file) h none = h
 
 -- a rule that a table refuses is added to no zones of these names
 pub no_rule : (zones others more : List Zone) (name rule : List ℕ) → names_of others ≡ names_of zones

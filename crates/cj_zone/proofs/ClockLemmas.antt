@@ -1,12 +1,12 @@
 -- A clock goes by what `jiff` makes of its zone's source.
-use Rattle.std.proofs.Common.{◌≡◌, ℕ, zero, suc, ◌+◌, ◌-◌, ◌≤◌, ◌==◌, ℤ, pos, ◌*ℤ◌, int_le, Bool, true, false, if◌then◌else◌, refl, sym, ap, ◌∙◌, arith, List, [], ◌∷◌, length, map, get_or, vec_len, Option, None, Some, option_map}
+use Rattle.std.proofs.Common.{◌≡◌, ℕ, zero, suc, ◌+◌, ◌-◌, ◌≤◌, ◌==◌, ℤ, pos, ◌*ℤ◌, int_le, Bool, true, false, if◌then◌else◌, refl, sym, ap, ◌∙◌, arith, List, [], ◌∷◌, length, map, get_or, vec_len, Option, None, Some, IsNone, option_map}
 use Rattle.std.specs.List.{prefix_len}
 use Rattle.std.proofs.lemmas.List.{get_or-map, length-map}
 use Rattle.std.proofs.lemmas.List.Sums.{prefix_len-le-length}
 use Rattle.std.proofs.lemmas.Bool.Decides.{nat_tests}
-use Rattle.jiff.specs.Words.{offset_at, plain_zone, read_whole, IsOffsetSeconds}
-use Rattle.jiff.specs.Placed.{IsPosixZone}
+use Rattle.jiff_core.specs.Timestamp.{IsOffsetSeconds}
 use Rattle.jiff_core.specs.declared.Offset.{Offset}
+use Rattle.jiff_tz.specs.PosixReader.{read_whole}
 use Rattle.jiff_tz.specs.PosixRule as Posix
 use Rattle.jiff_tz.specs.PosixRule.{match_some, rule_nanos, utc_window, in_window, dst_at_by}
 use Rattle.jiff_tz.specs.PosixText.{tz_view, dst_view, day_time_view}
@@ -19,21 +19,19 @@ use Rattle.jiff_tz.specs.declared.posix.Dst.{Dst}
 use Rattle.jiff_tz.specs.declared.posix.TimeZone.{TimeZone as PosixRule}
 use Rattle.jiff_tz.specs.declared.tzif.Tzif.{Tzif}
 use Rattle.jiff_tz.specs.declared.tzif.transition.Transition.{Transition}
-use Rattle.jiff_tz.specs.declared.timezone.TimeZone.{TimeZone}
-use Rattle.jiff_tz.specs.declared.timezone.TimeZone.TheVariants as Kind
 use Rattle.cj_zone.specs.declared.rules.Rules.{Rules}
 use Rattle.cj_zone.specs.declared.rules.Rules.TheVariants as Own
 use Rattle.cj_zone.specs.declared.source.Source.{Source}
 use Rattle.cj_zone.specs.declared.source.Source.TheVariants.{Utc, Rule, File}
 use Rattle.cj_zone.specs.Clock.{rules_offset}
-use Rattle.cj_zone.specs.Made.{IsClockOf}
+use Rattle.cj_zone.specs.Made.{IsClockOf, IsRuleClock}
 use Rattle.cj_zone.specs.NamedSource.{NamedSource}
-use Rattle.cj_zone.specs.Offset.{change_in, daylight_window, daylight_offset, rule_offset, rows_until, offset_after, file_offset, read_rule_offset, source_offset, zone_offset}
-use Rattle.cj_zone.proofs.ZoneLemmas.{offset_at-range}
+use Rattle.cj_zone.specs.Offset.{change_in, daylight_window, daylight_offset, rule_offset, rows_until, offset_after, file_offset, source_offset, zone_offset}
 
 -- What a clock goes by gives an offset in range at each instant.
 pub rules_offset-range : (rules : Rules) (t : ℕ) → IsOffsetSeconds (rules_offset rules t)
-rules_offset-range (Own.Fixed zone) t = offset_at-range (plain_zone zone) _
+rules_offset-range Own.Utc t = (Prim.search, Prim.search)
+rules_offset-range (Own.Posix rule) t = (Posix.offset_at rule (pos t *ℤ pos 1_000_000_000)).in_range
 rules_offset-range (Own.Table table) t = (Table.offset_at table (pos t *ℤ pos 1_000_000_000)).in_range
 
 -- a rule by its text
@@ -119,30 +117,24 @@ file_offset-view z n =
     ap (λ count. offset_after (tzif_view z) count n) (rows_until-view z.transitions.items (floor_second n))
     ∙ offset_after-view z (count_at z (floor_second n)) n (omega arith)
 
--- For source_offset-clock: the text of a rule states what its clock does.
-by_posix : (text : List ℕ) (tz : TimeZone) (n : ℤ) → IsPosixZone text tz
-    → read_rule_offset (read_whole text) n ≡ offset_at tz n
-unfolding offset_at
-by_posix text Kind.UTC n h = absurd h
-by_posix text Kind.Unknown n h = absurd h
-by_posix text (Kind.Fixed offset) n h = absurd h
-by_posix text (Kind.Tzif z) n h = absurd h
-by_posix text (Kind.Posix rule) n h = rw h (rule_offset-view rule n)
-
--- For source_offset-clock: the clock of UTC is 0 ahead.
-by_utc : (tz : TimeZone) (n : ℤ) → tz ≡ Kind.UTC → pos 0 ≡ offset_at tz n
-unfolding offset_at
-by_utc tz n e = rw e refl
+-- A rule of which a clock is made can be read.
+pub clock_read : (rule : List ℕ) (rules : Rules) → IsRuleClock rule rules → IsNone (read_whole rule) → ⊥
+clock_read rule Own.Utc h none = h
+clock_read rule (Own.Posix posix) h none = absurd (cc (h, none))
+clock_read rule (Own.Table table) h none = h
 
 -- so the source states what the clock does
 pub source_offset-clock : (source : Source) (rules : Rules) (t : ℕ) → IsClockOf source rules
     → source_offset source (pos t *ℤ pos 1_000_000_000) ≡ rules_offset rules t
 unfolding source_offset
-source_offset-clock Utc (Own.Fixed zone) t h = by_utc (plain_zone zone) (pos t *ℤ pos 1_000_000_000) h
+source_offset-clock Utc Own.Utc t h = refl
+source_offset-clock Utc (Own.Posix rule) t h = absurd h
 source_offset-clock Utc (Own.Table table) t h = absurd h
-source_offset-clock (Rule text) (Own.Fixed zone) t h = by_posix text (plain_zone zone) (pos t *ℤ pos 1_000_000_000) h
+source_offset-clock (Rule text) Own.Utc t h = absurd h
+source_offset-clock (Rule text) (Own.Posix rule) t h = rw h (rule_offset-view rule (pos t *ℤ pos 1_000_000_000))
 source_offset-clock (Rule text) (Own.Table table) t h = absurd h
-source_offset-clock (File bytes) (Own.Fixed zone) t h = absurd h
+source_offset-clock (File bytes) Own.Utc t h = absurd h
+source_offset-clock (File bytes) (Own.Posix rule) t h = absurd h
 source_offset-clock (File bytes) (Own.Table table) t h = rw h.0 (file_offset-view table (pos t *ℤ pos 1_000_000_000))
 
 -- The offset of a zone, by what it was made of, is that of its clock.

@@ -21,9 +21,6 @@ use Rattle.jiff_tz.proofs.YearLemmas.{year_of_day-date}
 use Rattle.jiff_tz.specs.PosixText.{tz_view}
 use Rattle.jiff_tz.specs.Tzif as Table
 use Rattle.jiff_tz.specs.Tzif.{count_at, type_after}
-use Rattle.jiff_tz.specs.Zone.{offset_at}
-use Rattle.jiff_tz.specs.declared.timezone.TimeZone.{TimeZone}
-use Rattle.jiff_tz.specs.declared.timezone.TimeZone.TheVariants as Kind
 use Rattle.jiff_tz.specs.declared.tzif.Tzif.{Tzif}
 use Rattle.cj_zone.specs.Offset.{rule_offset}
 use Rattle.cj_zone.specs.Steady.{IsSteady}
@@ -197,12 +194,6 @@ pub past_is_rule : (z : Tzif) (from t : ℕ) (r : Rule) → count_at z (pos from
 past_is_rule z from t r all le e =
     ap (λ (o : Offset). o.seconds) (offset_of_past z from t all le) ∙ by_view z.posix_tz r
     (type_after z (vec_len z.transitions)).offset (pos t *ℤ pos 1_000_000_000) e
-
--- A zone that is a rule is as far ahead as the rule says.
-pub plain_is_rule : (tz : TimeZone) (r : Rule) (n : ℤ) → tz ≡ Kind.Posix r
-    → offset_at tz n ≡ (Posix.offset_at r n).seconds
-unfolding offset_at
-plain_is_rule tz r n e = rw e refl
 
 -- a second before that of an instant lies before the instant, with the second as the code has it
 pub second_before : (f n : ℤ) (at g t : ℕ) → f ≡ int_div_euclid n (pos 1_000_000_000) → IsTimestampNanos n → g ≡ at

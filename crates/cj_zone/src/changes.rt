@@ -1,5 +1,5 @@
 ghost use Rattle.std.specs.Prelude.{◌≡◌, ◌<◌, ◌≤◌, ◌+◌, ℕ, true, false, pos, ◌*ℤ◌, ◌<ℤ◌, ◌≤ℤ◌, vec_len};
-ghost use Rattle.jiff.specs.Words.{IsOffsetSeconds};
+ghost use Rattle.jiff_core.specs.Timestamp.{IsOffsetSeconds};
 ghost use Rattle.jiff_tz.specs.Tzif as Table;
 
 use cj_base::Seconds;
@@ -19,8 +19,8 @@ pub(crate) fn is_past(tables: &Tzif, from: Seconds) -> bool
     }
 }
 
-/// The same instant, in `jiff`'s plain form.
-pub(crate) fn plain_timestamp(at: Seconds) -> Timestamp
+/// The same instant in `jiff`.
+pub(crate) fn timestamp(at: Seconds) -> Timestamp
     ensures { result.nanosecond ≡ pos at *ℤ pos 1_000_000_000 }
 {
     Timestamp {
@@ -63,7 +63,7 @@ pub(crate) fn offset_of(tables: &Tzif, at: Seconds) -> i64
     ensures value { result ≡ (Table.offset_at tables.now (pos at *ℤ pos 1_000_000_000)).seconds }
     ensures in_range { IsOffsetSeconds result }
 {
-    tables.to_offset(plain_timestamp(at)).seconds as i64
+    tables.to_offset(timestamp(at)).seconds as i64
 }
 
 /// The last second before the next transition.
@@ -73,7 +73,7 @@ pub(crate) fn last_before_next(tables: &Tzif, from: Seconds) -> u64
         (Table.count_at tables.now (pos from))).second }
     ensures low { from ≤ result }
 {
-    match tables.next_transition(plain_timestamp(from)) {
+    match tables.next_transition(timestamp(from)) {
         Some(next) => next.timestamp.floor_second() as u64 - 1,
         None => unreachable!(),
     }

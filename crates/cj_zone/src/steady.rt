@@ -1,5 +1,4 @@
 ghost use Rattle.std.specs.Prelude.{◌≡◌, ◌≤◌, ◌+◌, ℕ, pos, ◌*ℤ◌, vec_len};
-ghost use Rattle.jiff.specs.Words.{offset_at, plain_zone, IsOffsetSeconds};
 ghost use Rattle.jiff_tz.specs.PosixRule as Posix;
 ghost use Rattle.jiff_tz.specs.Tzif as Table;
 ghost use Rattle.cj_zone.specs.Clock.{rules_offset};
@@ -8,11 +7,10 @@ ghost use Rattle.cj_zone.specs.Steady.{IsSteady, IsSameYear};
 ghost use Rattle.cj_zone.specs.Stretch.{IsStretch};
 
 use crate::Zone;
-use crate::changes::{is_past, last_before_next, offset_of, plain_timestamp};
+use crate::changes::{is_past, last_before_next, timestamp};
 use crate::rules::Rules;
 use crate::stretch::Stretch;
 use cj_base::Seconds;
-use jiff::tz::TimeZone;
 use jiff_core::civil::{Date, days_in_month};
 use jiff_tz::{Tzif, posix};
 
@@ -38,7 +36,7 @@ fn of_rule(rule: posix::TimeZone, at: Seconds) -> u64
     ensures steady { IsSteady (λ t. (Posix.offset_at rule (pos t *ℤ pos 1_000_000_000)).seconds) at
         result }
 {
-    let Some(change) = rule.next_transition(plain_timestamp(at)) else {
+    let Some(change) = rule.next_transition(timestamp(at)) else {
         return at.get();
     };
     let second = change.timestamp.floor_second();
@@ -62,34 +60,14 @@ fn of_tables(tables: &Tzif, at: Seconds) -> u64
     }
 }
 
-fn of_fixed(zone: &TimeZone<'static>, at: Seconds) -> u64
-    ensures low { at ≤ result }
-    ensures steady { IsSteady (λ t. offset_at (plain_zone zone.now) (pos t *ℤ pos 1_000_000_000)) at
-        result }
-{
-    match zone.to_plain() {
-        jiff_tz::TimeZone::Posix(rule) => of_rule(rule, at),
-        _ => at.get(),
-    }
-}
-
 fn of_rules(rules: &Rules, at: Seconds) -> u64
     ensures low { at ≤ result }
     ensures steady { IsSteady (rules_offset rules.now) at result }
 {
     match rules {
-        Rules::Fixed(fixed) => of_fixed(fixed, at),
+        Rules::Utc => at.get(),
+        Rules::Posix(rule) => of_rule(*rule, at),
         Rules::Table(file) => of_tables(file.tables(), at),
-    }
-}
-
-fn offset_by(rules: &Rules, at: Seconds) -> i64
-    ensures value { result ≡ rules_offset rules.now at }
-    ensures in_range { IsOffsetSeconds result }
-{
-    match rules {
-        Rules::Fixed(fixed) => fixed.to_plain().to_offset(plain_timestamp(at)).seconds as i64,
-        Rules::Table(file) => offset_of(file.tables(), at),
     }
 }
 
@@ -99,7 +77,7 @@ fn from_rules(rules: &Rules, at: Seconds) -> Stretch
     ensures begins { result.first ≡ at }
     ensures steady { result.other ≡ result.one }
 {
-    let offset = offset_by(rules, at);
+    let offset = rules.offset(at).seconds as i64;
     Stretch {
         one: offset,
         other: offset,

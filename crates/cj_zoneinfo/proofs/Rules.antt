@@ -1,29 +1,10 @@
 -- The zones of rules, one after another.
 use Rattle.std.proofs.Common.{◌≡◌, ◌+◌, ◌∙◌, ◌<◌, ℕ, List, ◌∷◌, Bor, drop, get_or, length, map, IsNone, Result, Ok, Err, IfErr, IsErrAnd, ap, subst, inl, inr, rules, arith}
 use Rattle.std.proofs.lemmas.List.{drop_more}
-use Rattle.jiff.specs.Words.{plain_zone, read_whole}
-use Rattle.jiff.specs.Placed.{IsPosixZone}
-use Rattle.jiff_tz.specs.declared.timezone.TimeZone.{TimeZone}
-use Rattle.jiff_tz.specs.declared.timezone.TimeZone.TheVariants as Kind
-use Rattle.cj_zone.specs.declared.rules.Rules.{Rules}
-use Rattle.cj_zone.specs.declared.rules.Rules.TheVariants as By
 use Rattle.cj_zone.specs.declared.zone.Zone.{Zone}
-use Rattle.cj_zone.specs.Made.{IsRuleClock}
+use Rattle.cj_zone.proofs.ClockLemmas.{clock_read}
 use Rattle.cj_zoneinfo.specs.declared.refused.Refused.{Refused}
 use Rattle.cj_zoneinfo.specs.Rules.{AddsRule, AddsRules, IsNoRule, Refuses, rule_in}
-
--- A rule of which a POSIX zone is made can be read.
-posix_read : (rule : List ℕ) (tz : TimeZone) → IsPosixZone rule tz → IsNone (read_whole rule) → ⊥
-posix_read rule (Kind.Posix r) h none = absurd (cc (h, none))
-posix_read rule (Kind.UTC) h none = h
-posix_read rule (Kind.Unknown) h none = h
-posix_read rule (Kind.Fixed o) h none = h
-posix_read rule (Kind.Tzif f) h none = h
-
--- A rule of which a clock is made can be read.
-clock_read : (rule : List ℕ) (rules : Rules) → IsRuleClock rule rules → IsNone (read_whole rule) → ⊥
-clock_read rule (By.Fixed zone) h none = posix_read rule (plain_zone zone) h none
-clock_read rule (By.Table file) h none = h
 
 -- A rule that is refused adds nothing.
 no_rule : (zones more : List Zone) (pair : List ℕ) → IsNoRule zones pair → AddsRule zones pair more → ⊥

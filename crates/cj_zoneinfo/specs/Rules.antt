@@ -1,7 +1,7 @@
 -- Zones that are given by rules, each NAME=RULE.
 use Rattle.std.specs.Prelude.{◌≡◌, ◌⊎◌, ℕ, ◌==◌, ◌<◌, List, [], ◌∷◌, ◌++◌, length, IsNone, Bool, false, true, codes}
 use Rattle.std.specs.List.{before_first, after_first, position_or_len}
-use Rattle.jiff.specs.Words.{read_whole}
+use Rattle.jiff_tz.specs.PosixReader.{read_whole}
 use Rattle.cj_zone.specs.declared.source.Source.{Source}
 use Rattle.cj_zone.specs.declared.source.Source.TheVariants.{Rule}
 use Rattle.cj_zone.specs.declared.zone.Zone.{Zone}

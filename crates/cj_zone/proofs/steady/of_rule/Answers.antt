@@ -18,5 +18,5 @@ returns-clause-steady c = record {
       rule_steady c.args.rule (pos c.args.at *ℤ pos 1_000_000_000) (pos t *ℤ pos 1_000_000_000)
       (transition_view c.in-Some.change) (omega (arith, signed_arith)) before
       ((c.end_of_month.ensures.year t above (omega arith)).same)
-      (c.in-Some.ensures ∙ ap (Posix.next_at c.args.rule) c.plain_timestamp.ensures);
+      (c.in-Some.ensures ∙ ap (Posix.next_at c.args.rule) c.timestamp.ensures);
 }
