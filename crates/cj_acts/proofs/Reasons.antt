@@ -1,8 +1,8 @@
 -- The reasons of a list, one after another.
-use Rattle.std.proofs.Common.{◌≡◌, ◌+◌, ◌<◌, ◌∙◌, ℕ, List, [], ◌∷◌, ◌++◌, length, drop, get_or, Option, Some, None, option_and_then, sym, ap}
+use Rattle.std.proofs.Common.{◌≡◌, ◌+◌, ◌<◌, ◌∙◌, ℕ, List, [], ◌∷◌, ◌++◌, length, drop, get_or, Option, Some, None, option_and_then, ap}
 use Rattle.serde_json.specs.View.{items_view, view}
 use Rattle.serde_json.specs.declared.value.Value.{Value}
-use Rattle.serde_json.specs.Data.{Data, Items, item}
+use Rattle.serde_json.specs.Data.{Items}
 use Rattle.cj_types.specs.declared.policy.Reason.{Reason}
 use Rattle.cj_acts.specs.Finishes.{reason_in, with_reasons}
 use Rattle.cj_acts.proofs.Rest.{rest_at}

@@ -1,5 +1,5 @@
 -- The key of a text that is split at its first slash.
-use Rattle.std.proofs.Common.{◌≡◌, ◌<◌, ◌==◌, eqb, ℕ, List, length, Bool, true, false, if◌then◌else◌, Option, Some, None, Result, Ok, Err, IfOk, refl, sym, ap, ◌∙◌, arith}
+use Rattle.std.proofs.Common.{◌≡◌, ◌<◌, ◌==◌, ℕ, List, length, if◌then◌else◌, Option, None, Result, Ok, Err, IfOk, sym, ap, ◌∙◌, arith}
 use Rattle.std.specs.List.{before_first, after_first, position_or_len}
 use Rattle.std.proofs.lemmas.Bool.Decides.{nat_tests}
 use Rattle.cj_base.specs.declared.refusal.Refusal.{Refusal}

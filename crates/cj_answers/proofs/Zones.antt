@@ -1,5 +1,5 @@
 -- What a table of zones that is refused says.
-use Rattle.std.proofs.Common.{◌≡◌, ◌⊎◌, inl, inr}
+use Rattle.std.proofs.Common.{◌≡◌, inl, inr}
 use Rattle.cj_zoneinfo.specs.declared.refused.Refused.{Refused}
 use Rattle.cj_zoneinfo.specs.declared.refused.Refused.TheVariants as Why
 use Rattle.cj_zoneinfo.specs.Rules.{Refuses}

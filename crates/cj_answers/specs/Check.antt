@@ -1,5 +1,5 @@
 -- What `check` answers of a manifest.
-use Rattle.std.specs.Prelude.{◌≡◌, ◌⊎◌, ℕ, ◌==◌, ◌≤◌, List, [], ◌∷◌, ◌++◌, length, Option, None, Some, IsNone, IfSome, Bool, false, true, codes, decimal}
+use Rattle.std.specs.Prelude.{◌≡◌, ◌⊎◌, ℕ, ◌≤◌, List, [], ◌∷◌, ◌++◌, length, Option, IfSome, Bool, codes, decimal}
 use Rattle.cj_base.specs.declared.cause.Cause.{Cause}
 use Rattle.cj_base.specs.declared.cause.Cause.TheVariants as Why
 use Rattle.cj_base.specs.declared.faults.FieldFault.{FieldFault}

@@ -1,15 +1,9 @@
 -- What `plan` answers of a scenario.
-use Rattle.std.specs.Prelude.{◌≡◌, ◌≢◌, ◌⊎◌, ℕ, ◌≤◌, List, [], ◌∷◌, ◌++◌, length, Option, None, Some, IfSome, option_map, codes, Bool, true, false}
+use Rattle.std.specs.Prelude.{◌≡◌, ◌≢◌, ◌⊎◌, ℕ, ◌≤◌, List, [], ◌++◌, length, Option, Some, IfSome, codes, Bool, true, false}
 use Rattle.cj_types.specs.declared.cron.CronJob.{CronJob}
 use Rattle.cj_types.specs.declared.job.Job.{Job}
-use Rattle.cj_types.specs.declared.job.JobDraft.{JobDraft}
-use Rattle.cj_types.specs.declared.policy.Reason.{Reason}
-use Rattle.cj_types.specs.Printed.{reason_name}
 use Rattle.cj_zone.specs.declared.zone.Zone.{Zone}
 use Rattle.cj_zone.specs.Table.{zones_of}
-use Rattle.cj_zone.specs.TimeText.{time_text_of}
-use Rattle.cj_zone.specs.Zones.{utc_zone, zone_named}
-use Rattle.cj_status.specs.declared.refs.JobRef.{JobRef}
 use Rattle.cj_decide.specs.declared.steps.Steps.{Steps}
 use Rattle.cj_decide.specs.Decision.{IsPlan, running_of}
 use Rattle.cj_glance.specs.declared.form.Form.{Form}

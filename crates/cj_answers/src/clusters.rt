@@ -1,9 +1,8 @@
 // What is told of a list of a cluster's objects.
-ghost use Rattle.std.specs.Prelude.{◌≡◌, ◌≢◌, ◌++◌, IfOk, OnOk, codes, string_bytes};
+ghost use Rattle.std.specs.Prelude.{◌≡◌, ◌++◌, IfOk, OnOk, codes, string_bytes};
 ghost use Rattle.cj_kubectl.specs.Reading.{IsRefusedList};
 ghost use Rattle.cj_kubectl.specs.declared.fault.ListFault.TheVariants as Fault;
 ghost use Rattle.cj_answers.specs.Clusters as told;
-ghost use Rattle.cj_answers.specs.Json.{IsJsonWords};
 ghost use Rattle.cj_answers.specs.Outcome.{explained, outcome_of, refusal};
 
 use crate::answer::Answer;

@@ -1,4 +1,4 @@
-ghost use Rattle.std.specs.Prelude.{◌≡◌, IfOk, map, string_bytes};
+ghost use Rattle.std.specs.Prelude.{◌≡◌, IfOk, string_bytes};
 ghost use Rattle.cj_answers.specs.Check.{cause_text, fault_line, fault_lines, ok_line, schedule_cause, warning_line, warning_lines};
 
 use cj_base::{Cause, FieldFault, ScheduleFault};

@@ -5,7 +5,6 @@ ghost use Rattle.cj_zone.specs.Table.{local_zone, zones_of};
 ghost use Rattle.cj_zone.specs.Zones.{utc_zone};
 ghost use Rattle.cj_answers.specs.Clusters as told;
 ghost use Rattle.cj_answers.specs.Outcome.{done, explained, outcome_of, refusal};
-ghost use Rattle.cj_answers.specs.Plan.{now_words};
 ghost use Rattle.cj_answers.specs.Why.{IsReviewed, IsWhyOutcome, PrintsReview, RefusesCron, chosen, cron_words, is_meant, key_text};
 
 use crate::answer::{Answer, Ending};

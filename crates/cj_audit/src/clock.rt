@@ -1,4 +1,4 @@
-ghost use Rattle.std.specs.Prelude.{◌≡◌, ◌≤◌, Some, codes, option_copied};
+ghost use Rattle.std.specs.Prelude.{◌≡◌, Some, option_copied};
 ghost use Rattle.cj_schedule.specs.Grammar.{IsSchedule};
 ghost use Rattle.cj_schedule.specs.Matches.{Sets};
 ghost use Rattle.cj_due.specs.Due.{due};

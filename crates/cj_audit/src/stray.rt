@@ -1,8 +1,6 @@
-ghost use Rattle.std.specs.Prelude.{◌≡◌, Some, Ok, IsTrue, IfOk, IfErr, OnOk, All};
+ghost use Rattle.std.specs.Prelude.{◌≡◌, Some, Ok, IfOk, IfErr, OnOk};
 ghost use Rattle.std.specs.FinMap as map;
 ghost use Rattle.cj_base.specs.declared.refusal.Refusal.TheVariants.{OutOfMemory};
-ghost use Rattle.cj_types.specs.Names.{longest, longest_cron};
-ghost use Rattle.cj_types.specs.Keys.{is_place, place};
 ghost use Rattle.cj_types.specs.Objects.{cron_of};
 ghost use Rattle.cj_audit.specs.Notes.{Notes, AnyOf};
 ghost use Rattle.cj_audit.specs.Findings.{has_cron, stray_finding, IsStrayJob};

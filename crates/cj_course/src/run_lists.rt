@@ -1,5 +1,5 @@
 // The runs that a scenario says.
-ghost use Rattle.std.specs.Prelude.{◌≡◌, [], option_map, IfOk, IfErr, OnOk};
+ghost use Rattle.std.specs.Prelude.{◌≡◌, [], option_map, IfOk, IfErr};
 ghost use Rattle.std.specs.FinMap as map;
 ghost use Rattle.serde_json.specs.View.{view, items_view, members_view};
 ghost use Rattle.cj_manifest.specs.Members.{unless_null};

@@ -1,4 +1,3 @@
-ghost use Rattle.std.specs.Prelude.{◌≡◌};
 ghost use Rattle.cj_due.specs.Missed.{IsMissed};
 ghost use Rattle.cj_due.specs.Window.{window_of};
 ghost use Rattle.cj_decide.specs.Verdicts.{IsNext};

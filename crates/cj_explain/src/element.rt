@@ -1,7 +1,7 @@
 // What stands in a schedule's text.
 ghost use Rattle.std.specs.Prelude.{◌≡◌, ◌≤◌, ◌<◌, length, get_or};
 ghost use Rattle.std.specs.List.{position_or_len};
-ghost use Rattle.cj_explain.specs.Elements.{IsShown, count_from, element_of, field_count, is_blank, is_end};
+ghost use Rattle.cj_explain.specs.Elements.{IsShown, element_of, field_count, is_blank, is_end};
 
 fn is_blank(byte: u8) -> bool
     ensures { result ≡ is_blank byte }

@@ -1,5 +1,5 @@
 -- Empty is answered to a Take alone, where the line is empty and the queue isn't shut.
-use Rattle.std.proofs.Common.{◌≡◌, ℕ, Bool, true, false, List, [], ◌∷◌, refl, sym, ap, subst, ◌∙◌}
+use Rattle.std.proofs.Common.{◌≡◌, ℕ, Bool, true, false, List, [], ◌∷◌, refl, sym, ap, subst}
 use Rattle.std.specs.Prelude.{Option, Some, None, Result, Ok, Err, ◌==◌, if◌then◌else◌}
 use Rattle.std.specs.FinMap as map
 use Rattle.cj_base.specs.declared.refusal.Refusal.{Refusal}
@@ -16,7 +16,7 @@ use Rattle.cj_store.specs.Content.{Content}
 use Rattle.cj_store.specs.Metadata.{version_not_allowed}
 use Rattle.cj_store.specs.Change.{map_ok, cron_added, cron_modified, cron_gone, job_added, job_modified, job_gone}
 use Rattle.cj_store.specs.Crons.{new_cron, updated_cron, cron_updated_from, cron_deleted_from, status_set, status_set_from, with_status}
-use Rattle.cj_store.specs.Jobs.{job_made, new_job, updated_job, job_updated_from, job_deleted, job_deleted_from, ended_job, job_ended_from}
+use Rattle.cj_store.specs.Jobs.{new_job, updated_job, job_updated_from, job_deleted_from, ended_job, job_ended_from}
 use Rattle.cj_queue.specs.Queue.{first}
 use Rattle.cj_decide.specs.Decision.{Planned}
 use Rattle.cj_status.specs.declared.refs.JobRef.{JobRef}
@@ -28,7 +28,6 @@ use Rattle.cj_calls.specs.declared.call.Call.{Call}
 use Rattle.cj_calls.specs.declared.call.Call.TheVariants as Of
 use Rattle.cj_calls.specs.declared.end.End.{End}
 use Rattle.cj_calls.specs.declared.end.End.TheVariants.{Well, Again}
-use Rattle.cj_calls.specs.declared.reply.Reply.{Reply}
 use Rattle.cj_calls.specs.declared.reply.Reply.TheVariants as Say
 use Rattle.cj_types.specs.declared.policy.Reason.{Reason}
 use Rattle.cj_types.specs.Events.{version_of}
@@ -39,7 +38,7 @@ use Rattle.cj_seats.specs.declared.seat.Phase.{Phase}
 use Rattle.cj_seats.specs.declared.seat.Phase.TheVariants.{Held, Seen, Listed, Checked, Works}
 use Rattle.cj_seats.specs.declared.seat.Seat.{Seat}
 use Rattle.cj_state.specs.declared.state.State.{State}
-use Rattle.cj_state.specs.Moves.{Moved, moved, refused, by_seat, seat_of, take, take_by, take_first, see_cron, see_cron_in, see_jobs, see_jobs_in, see_active, see_active_in, claim, claim_in, claim_where, claims, wrote, works, drop_next, drop_in, drop_where, drops_it, next_seat, make_next, make_in, make_where, steps_on, event_reply, version_reply, set_status, status_in, status_where, sets_it, finish, finish_in, finish_well, finish_work}
+use Rattle.cj_state.specs.Moves.{Moved, refused, by_seat, seat_of, take, take_by, take_first, see_cron, see_cron_in, see_jobs, see_jobs_in, see_active, see_active_in, claim, claim_in, claim_where, claims, wrote, works, drop_next, drop_in, drop_where, drops_it, make_next, make_in, make_where, steps_on, event_reply, version_reply, set_status, status_in, status_where, sets_it, finish, finish_in, finish_work}
 use Rattle.cj_state.specs.Step.{writes, found_cron, found_job, told_events, step_of, by_role, by_reader, by_user, by_runner, by_worker, by_informer}
 use Rattle.cj_legal.specs.Answers.{is_empty}
 use Rattle.cj_hub.specs.Books.{FindsNothing}

@@ -2,7 +2,7 @@
 use Rattle.std.proofs.Common.{◌≡◌, ◌+◌, ◌-◌, ◌<◌, ◌≤◌, ℕ, suc, List, [], ◌∷◌, ◌++◌, length, map, ◌^◌, IsTrue, refl, sym, ap, subst, ◌∙◌, arith, Bool, true, false, length-append}
 use Rattle.std.specs.Prelude.{◌==◌, ◌↔◌, if◌then◌else◌, slice_get, slice_index_or, Option, Some, None, IfSome}
 use Rattle.std.proofs.lemmas.Option.{slice_get_within}
-use Rattle.std.proofs.lemmas.Grind.{common_steps, reverse_onto}
+use Rattle.std.proofs.lemmas.Grind.{reverse_onto}
 use Rattle.std.proofs.lemmas.List.{reverse-reverse, length-reverse, append-nil}
 use mathlib.Core.List.{reverse}
 use Rattle.cj_calls.specs.Rows.{Told}

@@ -1,5 +1,5 @@
 -- The book under the lock: a world, and the passes that it enrolled.
-use Rattle.std.specs.Prelude.{◌≡◌, ℕ, ◌+◌, ◌<◌, ◌≤◌, Bool, true, false, List, [], ◌∷◌, Result, Ok, Err, Some, IfSome, slice_get, slice_index_or, length}
+use Rattle.std.specs.Prelude.{◌≡◌, ℕ, ◌+◌, ◌<◌, ◌≤◌, Bool, true, false, List, [], ◌∷◌, Result, Some, IfSome, slice_get, slice_index_or, length}
 use Rattle.cj_base.specs.declared.refusal.Refusal.{Refusal}
 use Rattle.cj_base.specs.declared.refusal.Refusal.TheVariants.{Empty, HistoryFull, Estranged, OutOfMemory}
 use Rattle.cj_types.specs.WorldLimits.{Kept}
@@ -12,7 +12,7 @@ use Rattle.cj_calls.specs.declared.caller.Role.TheVariants.{User}
 use Rattle.cj_calls.specs.declared.reply.Reply.{Reply}
 use Rattle.cj_state.specs.declared.state.State.{State}
 use Rattle.cj_state.specs.Legal.{state_of, answer_of, is_entered}
-use Rattle.cj_world.specs.Worlds.{Ledger, told}
+use Rattle.cj_world.specs.Worlds.{told}
 use Rattle.cj_hub.specs.declared.receipt.Receipt.{Receipt}
 use Rattle.cj_hub.specs.declared.seat.Seat.{Seat}
 use Rattle.cj_hub.specs.Receipts.{PassView, caller_of, with_receipt, placed, Stands, last_of, IsExact}

@@ -1,8 +1,6 @@
 ghost use Rattle.std.specs.Prelude.{◌≡◌, ◌↔◌, ◌+◌, ◌<◌, ◌^◌, ◌==◌, if◌then◌else◌, ℕ, [], ◌∷◌, ◌++◌, true, false, Some, length, All, IfOk, OnOk, OnErr, IfErr, IsTrue, IsOk, slice_get, slice_index_or, map, vec_len};
 ghost use mathlib.Core.List.{reverse};
 ghost use Rattle.cj_base.specs.declared.refusal.Refusal.TheVariants.{Estranged, OutOfMemory};
-ghost use Rattle.cj_types.specs.WorldLimits.{last_history};
-ghost use Rattle.cj_calls.specs.Rows.{is_in_row};
 ghost use Rattle.cj_state.specs.Legal.{IsLegal};
 ghost use Rattle.cj_legal.specs.Exclusive.{Exclusive};
 ghost use Rattle.cj_once.specs.Once.{Once, Alone};

@@ -2,7 +2,7 @@
 ghost use Rattle.std.specs.Prelude.{◌≡◌, ◌↔◌, true, Err, IsTrue, IfOk, IfErr, OnErr};
 ghost use Rattle.cj_base.specs.declared.refusal.Refusal.TheVariants.{Estranged, HistoryFull};
 ghost use Rattle.cj_calls.specs.Rows.{is_in_row};
-ghost use Rattle.cj_hub.specs.Receipts.{caller_of, Follows};
+ghost use Rattle.cj_hub.specs.Receipts.{Follows};
 ghost use Rattle.cj_hub.specs.Books.{state_in, IsFull, IsHubRefusal, IsStep, Knows};
 ghost use Rattle.cj_hub.specs.States.{IsState};
 

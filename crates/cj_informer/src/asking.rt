@@ -1,5 +1,5 @@
 //! The calls of an informer, each with what is kept of its reply.
-ghost use Rattle.std.specs.Prelude.{◌≡◌, true, IfErr, ◌⊎◌};
+ghost use Rattle.std.specs.Prelude.{◌≡◌, true, IfErr};
 ghost use Rattle.cj_base.specs.declared.refusal.Refusal.TheVariants.{Expired};
 ghost use Rattle.cj_calls.specs.declared.call.Call.TheVariants as Of;
 ghost use Rattle.cj_calls.specs.declared.reply.Reply.TheVariants as Is;

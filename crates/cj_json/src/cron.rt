@@ -1,5 +1,5 @@
 // A CronJob's spec and status.
-ghost use Rattle.std.specs.Prelude.{◌≡◌, map, IfOk, IfErr, OnOk};
+ghost use Rattle.std.specs.Prelude.{◌≡◌, map, IfOk, IfErr};
 ghost use Rattle.cj_base.specs.declared.refusal.Refusal.TheVariants.{OutOfMemory};
 ghost use Rattle.serde_json.specs.View.{view, members_view};
 ghost use Rattle.cj_json.specs.Objects as object;

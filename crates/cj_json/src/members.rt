@@ -1,7 +1,7 @@
 // Members of an object, each put in at its place by name.
-ghost use Rattle.std.specs.Prelude.{◌≡◌, [], ◌∷◌, ◌++◌, map, option_map, IfOk, IfErr, OnOk};
+ghost use Rattle.std.specs.Prelude.{◌≡◌, [], ◌∷◌, ◌++◌, map, IfOk, IfErr, OnOk};
 ghost use Rattle.cj_base.specs.declared.refusal.Refusal.TheVariants.{OutOfMemory};
-ghost use Rattle.serde_json.specs.Data.{boolean, number, string, object, unsigned, put as with_member, no_members};
+ghost use Rattle.serde_json.specs.Data.{boolean, number, string, unsigned, put as with_member, no_members};
 ghost use Rattle.serde_json.specs.View.{view, members_view};
 ghost use Rattle.cj_json.specs.Parts as part;
 

@@ -1,10 +1,10 @@
 // Judging the lines of a file.
-ghost use Rattle.std.specs.Prelude.{◌≡◌, ◌+◌, ◌⊎◌, map, length, false, IfOk, IfErr, OnOk};
+ghost use Rattle.std.specs.Prelude.{◌≡◌, ◌+◌, map, length, IfOk, IfErr, OnOk};
 ghost use Rattle.std.specs.Str.Lines.{lines as lines_in};
 ghost use Rattle.serde_json.specs.View.{view};
 ghost use Rattle.serde_json.specs.Read.{read as read_text};
 ghost use Rattle.cj_judge.specs.Judged.{AddsLine, AddsLines, AddsRow, count_of};
-ghost use Rattle.cj_judge.specs.Row.{IsRowLine, Refuses, Stated, is_comment, rows_in};
+ghost use Rattle.cj_judge.specs.Row.{Refuses, is_comment, rows_in};
 
 use crate::fault::{Fault, Misread};
 use crate::row::row_of;

@@ -1,5 +1,5 @@
 // Judging and counting.
-ghost use Rattle.std.specs.Prelude.{◌≡◌, ◌+◌, ◌++◌, ◌↔◌, IsTrue, IfOk, OnOk, codes, string_bytes};
+ghost use Rattle.std.specs.Prelude.{◌≡◌, ◌+◌, ◌++◌, ◌↔◌, IsTrue, IfOk, OnOk, string_bytes};
 ghost use Rattle.cj_judge.specs.Judged.{AddsRun, IsWanted, count_of, place_line as line_at, reported, side};
 ghost use Rattle.cj_judge.specs.Row.{stated_of};
 ghost use Rattle.cj_judge.specs.Run.{given_of};

@@ -1,5 +1,5 @@
 // The objects that are made of what is read.
-ghost use Rattle.std.specs.Prelude.{◌≡◌, IsOk, IsSome, IfOk, IfErr, unwrap_or, option_map, codes, ℕ, List, []};
+ghost use Rattle.std.specs.Prelude.{◌≡◌, IsOk, IsSome, IfOk, IfErr, unwrap_or, option_map, codes, []};
 ghost use Rattle.cj_base.specs.declared.refusal.Refusal.TheVariants.{OutOfMemory};
 ghost use Rattle.cj_manifest.specs.Drafts.{given, value_or};
 ghost use Rattle.cj_kubectl.specs.Finishes.{finish_of};

@@ -1,9 +1,9 @@
 -- Each answer is one of its call's row, or nothing was there to take.
-use Rattle.std.proofs.Common.{◌≡◌, ◌≢◌, ◌⊎◌, inl, inr, ℕ, ◌+◌, Bool, true, false, List, [], ◌∷◌, refl, sym, ap, subst, ◌∙◌, arith, rules, IsTrue}
+use Rattle.std.proofs.Common.{◌≡◌, inl, inr, ℕ, Bool, true, false, List, refl, sym, subst}
 use Rattle.std.specs.Prelude.{Option, Some, None, Result, Ok, Err, ◌==◌, if◌then◌else◌}
 use Rattle.std.specs.FinMap as map
 use Rattle.cj_base.specs.declared.refusal.Refusal.{Refusal}
-use Rattle.cj_base.specs.declared.refusal.Refusal.TheVariants.{Empty, NotFound, Conflict, AlreadyExists, AlreadyFinished, NotPermitted, Expired, Stale}
+use Rattle.cj_base.specs.declared.refusal.Refusal.TheVariants.{NotFound, Conflict, AlreadyExists, AlreadyFinished, NotPermitted, Expired, Stale}
 use Rattle.cj_types.specs.Keys.{Place}
 use Rattle.cj_types.specs.declared.cron.CronJob.{CronJob}
 use Rattle.cj_types.specs.declared.cron.CronJobDraft.{CronJobDraft}
@@ -16,8 +16,7 @@ use Rattle.cj_store.specs.Content.{Content}
 use Rattle.cj_store.specs.Metadata.{version_not_allowed}
 use Rattle.cj_store.specs.Change.{map_ok, cron_added, cron_modified, cron_gone, job_added, job_modified, job_gone}
 use Rattle.cj_store.specs.Crons.{new_cron, updated_cron, cron_updated_from, cron_deleted_from, status_set, status_set_from, with_status}
-use Rattle.cj_store.specs.Jobs.{job_made, new_job, updated_job, job_updated_from, job_deleted, job_deleted_from, ended_job, job_ended_from}
-use Rattle.cj_queue.specs.Queue.{first}
+use Rattle.cj_store.specs.Jobs.{new_job, updated_job, job_updated_from, job_deleted_from, ended_job, job_ended_from}
 use Rattle.cj_decide.specs.Decision.{Planned}
 use Rattle.cj_status.specs.declared.refs.JobRef.{JobRef}
 use Rattle.cj_decide.specs.declared.start.Claim.{Claim}
@@ -28,7 +27,6 @@ use Rattle.cj_calls.specs.declared.call.Call.{Call}
 use Rattle.cj_calls.specs.declared.call.Call.TheVariants as Of
 use Rattle.cj_calls.specs.declared.end.End.{End}
 use Rattle.cj_calls.specs.declared.end.End.TheVariants.{Well, Again}
-use Rattle.cj_calls.specs.declared.reply.Reply.{Reply}
 use Rattle.cj_calls.specs.declared.reply.Reply.TheVariants as Say
 use Rattle.cj_types.specs.declared.policy.Reason.{Reason}
 use Rattle.cj_types.specs.Events.{version_of}
@@ -40,10 +38,9 @@ use Rattle.cj_seats.specs.declared.seat.Phase.{Phase}
 use Rattle.cj_seats.specs.declared.seat.Phase.TheVariants.{Held, Seen, Listed, Checked, Works}
 use Rattle.cj_seats.specs.declared.seat.Seat.{Seat}
 use Rattle.cj_state.specs.declared.state.State.{State}
-use Rattle.cj_state.specs.Moves.{Moved, moved, refused, by_seat, seat_of, take, take_by, take_first, see_cron, see_cron_in, see_jobs, see_jobs_in, see_active, see_active_in, claim, claim_in, claim_where, claims, wrote, works, drop_next, drop_in, drop_where, drops_it, next_seat, make_next, make_in, make_where, steps_on, event_reply, version_reply, set_status, status_in, status_where, sets_it, finish, finish_in, finish_well, finish_work}
+use Rattle.cj_state.specs.Moves.{Moved, refused, by_seat, seat_of, take, take_by, take_first, see_cron, see_cron_in, see_jobs, see_jobs_in, see_active, see_active_in, claim, claim_in, claim_where, claims, wrote, works, drop_next, drop_in, drop_where, drops_it, make_next, make_in, make_where, steps_on, event_reply, version_reply, set_status, status_in, status_where, sets_it, finish, finish_in, finish_work}
 use Rattle.cj_state.specs.Step.{writes, found_cron, found_job, told_events, step_of, by_role, by_reader, by_user, by_runner, by_worker, by_informer}
-use Rattle.cj_state.specs.Legal.{is_entered}
-use Rattle.cj_legal.specs.Answers.{is_empty, Fine}
+use Rattle.cj_legal.specs.Answers.{Fine}
 
 -- in every phase and without a seat
 seat_fine : (s : State) (call : Call) (f : Place → Phase → Moved) (o : Option Seat) → Fine s call (by_seat s f None)

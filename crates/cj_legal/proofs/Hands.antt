@@ -1,8 +1,7 @@
 -- A key that was taken stays in the taker's hands until the end of its sync, and a key that is in somebody's
 -- hands isn't taken.
-use Rattle.std.proofs.Common.{◌≡◌, ◌≢◌, ◌⊎◌, inl, inr, ℕ, ◌==◌, Bool, true, false, List, [], ◌∷◌, ◌++◌, refl, sym, ap, subst, ◌∙◌, arith}
+use Rattle.std.proofs.Common.{◌≡◌, ◌⊎◌, inl, inr, ℕ, ◌==◌, Bool, true, false, List, [], ◌∷◌, ◌++◌, refl, sym, ap, subst, ◌∙◌, arith}
 use Rattle.std.specs.Prelude.{Option, Some, None, Result, Ok, Err, if◌then◌else◌}
-use Rattle.std.specs.FinMap as map
 use Rattle.std.proofs.lemmas.Bool.Decides.{nat_tests}
 use Rattle.cj_base.specs.declared.refusal.Refusal.{Refusal}
 use Rattle.cj_types.specs.Keys.{Place}
@@ -19,11 +18,11 @@ use Rattle.cj_calls.specs.declared.reply.Reply.{Reply}
 use Rattle.cj_calls.specs.declared.reply.Reply.TheVariants as Is
 use Rattle.cj_seats.specs.declared.seat.Seat.{Seat}
 use Rattle.cj_state.specs.declared.state.State.{State}
-use Rattle.cj_state.specs.Moves.{Moved, seat_of, take, take_by, take_first}
+use Rattle.cj_state.specs.Moves.{seat_of, take, take_by, take_first}
 use Rattle.cj_state.specs.Step.{step_of, by_role}
 use Rattle.cj_state.specs.Legal.{IsLegal, state_of}
 use Rattle.cj_legal.specs.Seats.{accepted, seat_after, seat}
-use Rattle.cj_legal.specs.Exclusive.{IsTake, IsFinish, SomeFinish, here, later, Exclusive, AlwaysExclusive}
+use Rattle.cj_legal.specs.Exclusive.{IsTake, IsFinish, SomeFinish, here, later, AlwaysExclusive}
 use Rattle.cj_legal.proofs.Rows.{first_free}
 use Rattle.cj_legal.proofs.Sound.{Whole, whole_of}
 use Rattle.cj_legal.proofs.Seated.{seats_agree}

@@ -1,9 +1,9 @@
 -- What each move does to its caller's seat, by its answer.
-use Rattle.std.proofs.Common.{◌≡◌, ◌⊎◌, inl, inr, ℕ, ◌+◌, Bool, true, false, List, [], ◌∷◌, refl, sym, ap, subst, ◌∙◌}
+use Rattle.std.proofs.Common.{◌≡◌, ℕ, Bool, true, false, List, refl, ap}
 use Rattle.std.specs.Prelude.{Option, Some, None, Result, Ok, Err, if◌then◌else◌}
 use Rattle.std.specs.FinMap as map
 use Rattle.cj_base.specs.declared.refusal.Refusal.{Refusal}
-use Rattle.cj_base.specs.declared.refusal.Refusal.TheVariants.{OutOfPhase, Stale, NotPermitted, AlreadyExists}
+use Rattle.cj_base.specs.declared.refusal.Refusal.TheVariants.{Stale, AlreadyExists}
 use Rattle.cj_types.specs.Keys.{Place}
 use Rattle.cj_types.specs.declared.cron.CronJob.{CronJob}
 use Rattle.cj_types.specs.declared.cron.CronStatus.{CronStatus}
@@ -33,12 +33,11 @@ use Rattle.cj_seats.specs.declared.seat.Phase.{Phase}
 use Rattle.cj_seats.specs.declared.seat.Phase.TheVariants.{Held, Seen, Listed, Checked, Works}
 use Rattle.cj_seats.specs.declared.seat.Seat.{Seat}
 use Rattle.cj_state.specs.declared.state.State.{State}
-use Rattle.cj_state.specs.Moves.{Moved, moved, refused, by_seat, seat_of, seated, written, take, take_by, take_first, see_cron, see_cron_in, see_jobs, see_jobs_in, see_active, see_active_in, claim, claim_in, claim_where, claims, wrote, works, seen_version, drop_next, drop_in, drop_where, drops_it, next_seat, further, make_next, make_in, make_where, steps_on, event_reply, version_reply, set_status, status_in, status_where, sets_it, finish, finish_in, finish_well, finish_work}
+use Rattle.cj_state.specs.Moves.{Moved, refused, by_seat, seat_of, take, take_by, take_first, see_cron, see_cron_in, see_jobs, see_jobs_in, see_active, see_active_in, claim, claim_in, claim_where, claims, wrote, works, seen_version, drop_next, drop_in, drop_where, drops_it, next_seat, make_next, make_in, make_where, steps_on, event_reply, version_reply, set_status, status_in, status_where, sets_it, finish, finish_in, finish_work}
 use Rattle.cj_store.specs.Change.{cron_added, cron_modified, cron_gone, job_modified, job_gone}
 use Rattle.cj_store.specs.Crons.{cron_created, cron_updated, cron_deleted}
 use Rattle.cj_store.specs.Jobs.{job_created, job_updated, job_deleted, job_ended}
-use Rattle.cj_watch.specs.Log.{since}
-use Rattle.cj_state.specs.Step.{writes, found_cron, found_job, told_events, step_of, by_role, by_reader, by_user, by_runner, by_worker, by_informer}
+use Rattle.cj_state.specs.Step.{writes, step_of, by_role, by_reader, by_user, by_runner, by_worker, by_informer}
 use Rattle.cj_legal.proofs.Shapes.{reader_same}
 use Rattle.cj_legal.specs.Seats.{accepted, seat_after}
 

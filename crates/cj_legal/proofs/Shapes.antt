@@ -1,17 +1,16 @@
 -- What a move can do to the state: nothing, another seat, a write, a take, an end, adds, other lists.
-use Rattle.std.proofs.Common.{◌≡◌, ◌≢◌, ◌⊎◌, inl, inr, ℕ, ◌+◌, Bool, true, false, List, [], ◌∷◌, refl, sym, ap, subst, ◌∙◌}
+use Rattle.std.proofs.Common.{◌≡◌, ◌⊎◌, inl, inr, ℕ, ◌+◌, Bool, true, false, List, [], ◌∷◌, refl}
 use Rattle.std.specs.Prelude.{Option, Some, None, Result, Ok, Err, if◌then◌else◌, nat_le}
 use Rattle.std.specs.FinMap as map
 use Rattle.cj_base.specs.declared.refusal.Refusal.{Refusal}
-use Rattle.cj_base.specs.declared.refusal.Refusal.TheVariants.{OutOfPhase, Stale}
+use Rattle.cj_base.specs.declared.refusal.Refusal.TheVariants.{Stale}
 use Rattle.cj_types.specs.Keys.{Place}
 use Rattle.cj_types.specs.declared.cron.CronJob.{CronJob}
 use Rattle.cj_types.specs.declared.cron.CronStatus.{CronStatus}
 use Rattle.cj_types.specs.declared.job.Job.{Job}
 use Rattle.cj_types.specs.declared.job.JobDraft.{JobDraft}
 use Rattle.cj_types.specs.declared.event.Event.{Event}
-use Rattle.cj_types.specs.declared.policy.Reason.{Reason}
-use Rattle.cj_queue.specs.Queue.{Queue, Row, first, row_add, row_adds, row_end, taken, ended, added, added_after, added_where, ticked, closed, forgotten, finished_ok, finished_retry, delay, failures_of}
+use Rattle.cj_queue.specs.Queue.{Queue, first, row_add, row_adds, row_end, taken, ended, added, added_after, added_where, ticked, closed, forgotten, finished_ok, finished_retry, delay, failures_of}
 use Rattle.cj_queue.specs.Times.{ready}
 use Rattle.cj_decide.specs.Decision.{Planned}
 use Rattle.cj_status.specs.declared.refs.JobRef.{JobRef}
@@ -31,8 +30,7 @@ use Rattle.cj_seats.specs.declared.seat.Phase.{Phase}
 use Rattle.cj_seats.specs.declared.seat.Phase.TheVariants.{Held, Seen, Listed, Checked, Works}
 use Rattle.cj_seats.specs.declared.seat.Seat.{Seat}
 use Rattle.cj_state.specs.declared.state.State.{State}
-use Rattle.cj_state.specs.Moves.{Moved, moved, refused, by_seat, seat_of, seated, written, take, take_by, take_first, see_cron, see_cron_in, see_jobs, see_jobs_in, see_active, see_active_in, claim, claim_in, claim_where, claims, wrote, works, drop_next, drop_in, drop_where, drops_it, next_seat, make_next, make_in, make_where, steps_on, event_reply, version_reply, set_status, status_in, status_where, sets_it, finish, finish_in, finish_well, finish_work, next_ms}
-use Rattle.cj_mirror.specs.Lagging.{Mirror}
+use Rattle.cj_state.specs.Moves.{Moved, refused, by_seat, seat_of, seated, written, take, take_by, take_first, see_cron, see_cron_in, see_jobs, see_jobs_in, see_active, see_active_in, claim, claim_in, claim_where, claims, wrote, drop_next, drop_in, drop_where, drops_it, next_seat, make_next, make_in, make_where, steps_on, set_status, status_in, status_where, sets_it, finish, finish_in, finish_work, next_ms}
 use Rattle.cj_store.specs.Change.{map_ok, cron_added, cron_modified, cron_gone, job_added, job_modified, job_gone}
 use Rattle.cj_store.specs.Crons.{cron_created, cron_updated, cron_deleted}
 use Rattle.cj_store.specs.Jobs.{job_created, job_updated, job_deleted, job_ended}
@@ -40,7 +38,7 @@ use Rattle.cj_types.specs.Events.{version_of}
 use Rattle.cj_watch.specs.Log.{since}
 use Rattle.cj_state.proofs.Numbers.{status_version, made_version, gone_version, created_version, updated_version, deleted_version, job_version, changed_version, ended_version}
 use Rattle.cj_state.specs.Readings.{fed_up}
-use Rattle.cj_state.specs.Step.{writes, found_cron, found_job, told_events, add, tick, shut, feed, step_of, by_role, by_reader, by_user, by_runner, by_worker, by_informer}
+use Rattle.cj_state.specs.Step.{writes, found_cron, found_job, told_events, tick, shut, step_of, by_role, by_reader, by_user, by_runner, by_worker, by_informer}
 
 -- the end of the work on a key, with an add of it or none
 abbrev pub Ends : Queue → Place → Queue → Type 0

@@ -1,6 +1,6 @@
 -- What every state of a history keeps.
 use Rattle.std.proofs.Common.{◌≡◌, ◌≢◌, ◌⊎◌, inl, inr, ⊎_elim, ℕ, ◌+◌, ◌≤◌, Bool, true, false, cond, List, [], ◌∷◌, length, refl, sym, ap, subst, ◌∙◌, arith}
-use Rattle.std.specs.Prelude.{Option, Some, None, ◌==◌}
+use Rattle.std.specs.Prelude.{Option, Some, None}
 use Rattle.std.specs.Ordering.{nat_cmp, eq_by_cmp}
 use Rattle.std.specs.Cmp.{nat_cmp_total, eq_by_cmp_equiv}
 use Rattle.std.specs.FinMap as map
@@ -11,20 +11,15 @@ use Rattle.cj_types.specs.declared.event.Event.TheVariants.{Added, Modified, Del
 use Rattle.cj_types.specs.declared.event.Object.TheVariants as Kind
 use Rattle.cj_store.specs.Content.{Content}
 use Rattle.cj_store.specs.Change.{after}
-use Rattle.cj_queue.specs.Queue.{Keys, Queue, has, Row, row_add, row_adds, row_take, row_end, first}
-use Rattle.cj_calls.specs.declared.caller.Caller.{Caller}
-use Rattle.cj_calls.specs.declared.call.Call.{Call}
+use Rattle.cj_queue.specs.Queue.{Keys, has, Row, row_add, row_end}
 use Rattle.cj_calls.specs.Rows.{Told}
 use Rattle.cj_seats.specs.declared.seat.Phase.{Phase}
 use Rattle.cj_seats.specs.declared.seat.Phase.TheVariants.{Held}
 use Rattle.cj_seats.specs.declared.seat.Seat.{Seat}
 use Rattle.cj_state.specs.declared.state.State.{State}
-use Rattle.cj_state.specs.Moves.{Moved, seat_of, seated, written}
 use Rattle.cj_state.specs.Sound.{IsSound}
-use Rattle.cj_state.specs.Readings.{fed_up}
-use Rattle.cj_state.specs.Step.{step_of}
 use Rattle.cj_state.specs.Legal.{state_of}
-use Rattle.cj_legal.proofs.Shapes.{Shape, Ends, same, sat, wrote_it, took, left_it, stored, listed, queued, shape}
+use Rattle.cj_legal.proofs.Shapes.{Shape, same, sat, wrote_it, took, left_it, stored, listed, queued, shape}
 use Rattle.cj_legal.proofs.Follows.{Follows, told_of, follows_start, follows_shape}
 use Rattle.cj_legal.proofs.Rows.{RowOk, put_has, put_keeps, removal_other, add_ok, adds_ok, end_ok, take_ok, add_works, adds_works, take_works, first_free}
 

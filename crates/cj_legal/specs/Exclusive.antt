@@ -1,6 +1,6 @@
 -- A key is in one worker's hands at a time: client-go, package workqueue ("a single item will not be
 -- processed multiple times concurrently").
-use Rattle.std.specs.Prelude.{◌≡◌, ℕ, List, [], ◌∷◌, ◌++◌, Ok}
+use Rattle.std.specs.Prelude.{◌≡◌, ℕ, List, ◌∷◌, ◌++◌, Ok}
 use Rattle.cj_types.specs.Keys.{Place}
 use Rattle.cj_types.specs.declared.policy.Reason.{Reason}
 use Rattle.cj_calls.specs.Rows.{Told}

@@ -14,7 +14,7 @@ use Rattle.cj_schedule.specs.Reading as schedules
 use Rattle.cj_zone.specs.declared.zone.Zone.{Zone}
 use Rattle.cj_zone.specs.Zones.{zone_named}
 use Rattle.cj_manifest.specs.Drafts.{given, value_or}
-use Rattle.cj_manifest.specs.Values.{or_wrong_type, when, unless, and_then, text, up_to, range, required, optional, or_default}
+use Rattle.cj_manifest.specs.Values.{or_wrong_type, when, unless, and_then, text, up_to, required, optional, or_default}
 use Rattle.cj_manifest.specs.Values as read
 use Rattle.cj_manifest.specs.Table as fields
 use Rattle.cj_manifest.proofs.CronParts.{number_data}

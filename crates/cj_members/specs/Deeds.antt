@@ -1,5 +1,5 @@
 -- What a step says that is done, `do`, and the members that this needs.
-use Rattle.std.specs.Prelude.{List, ℕ, codes, Bool, true, false, if◌then◌else◌, Option, Some, None, Ok, is_some, option_and_then}
+use Rattle.std.specs.Prelude.{List, ℕ, codes, Bool, false, if◌then◌else◌, Option, Some, None, Ok, is_some, option_and_then}
 use Rattle.serde_json.specs.Data.{Data}
 use Rattle.serde_json.specs.Find.{as_bool, as_str}
 use Rattle.cj_manifest.specs.Members.{present}

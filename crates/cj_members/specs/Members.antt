@@ -1,5 +1,5 @@
 -- Members by their paths: one that must be there, and one that may be. Members that are null are missing.
-use Rattle.std.specs.Prelude.{ℕ, List, [], ◌∷◌, ◌++◌, codes, Bool, Option, Some, None, Result, Ok, Err, if◌then◌else◌}
+use Rattle.std.specs.Prelude.{ℕ, List, [], ◌∷◌, ◌++◌, codes, Option, Some, None, Result, Ok, Err, if◌then◌else◌}
 use Rattle.serde_json.specs.Data.{Data}
 use Rattle.cj_manifest.specs.Members.{present}
 use Rattle.cj_members.specs.declared.want.Want.{Want}

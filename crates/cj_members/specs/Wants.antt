@@ -1,7 +1,7 @@
 -- What the members of a scenario, a script and a run's scenario have to be: JSON values (RFC 8259).
-use Rattle.std.specs.Prelude.{ℕ, List, codes, bytes_eq, Bool, true, false, ◌&&◌, ◌||◌, nat_le, Option, Some, None, is_some, option_and_then}
+use Rattle.std.specs.Prelude.{ℕ, List, codes, bytes_eq, Bool, true, false, ◌&&◌, ◌||◌, nat_le, Option, Some, None, is_some}
 use Rattle.serde_json.specs.Data.{Data, Items, no_items, item}
-use Rattle.serde_json.specs.Find.{as_array, as_bool, as_number, as_object, as_str, as_u64}
+use Rattle.serde_json.specs.Find.{as_array, as_bool, as_object, as_str}
 use Rattle.cj_types.specs.WorldLimits.{last_history, last_window}
 use Rattle.cj_acts.specs.Acts.{key_of, number_in}
 use Rattle.cj_acts.specs.Instants.{instant_of}

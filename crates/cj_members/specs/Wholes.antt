@@ -1,5 +1,5 @@
 -- The members of a scenario for a plan, of a script and of a run's scenario, in the order in which they are looked at.
-use Rattle.std.specs.Prelude.{ℕ, List, [], codes, Ok}
+use Rattle.std.specs.Prelude.{List, [], codes, Ok}
 use Rattle.serde_json.specs.Data.{Data}
 use Rattle.cj_glance.specs.declared.form.Form.{Form}
 use Rattle.cj_glance.specs.declared.form.Form.TheVariants as A

@@ -1,5 +1,5 @@
 // The items of lists.
-ghost use Rattle.std.specs.Prelude.{◌≡◌, ◌≢◌, ◌++◌, Ok, Err, IfOk, IfErr, OnOk, string_bytes, option_map};
+ghost use Rattle.std.specs.Prelude.{◌≡◌, ◌≢◌, Ok, Err, IfOk, IfErr, string_bytes};
 ghost use Rattle.serde_json.specs.View.{view, items_view};
 ghost use Rattle.cj_manifest.specs.Members.{unless_null};
 ghost use Rattle.cj_members.specs.declared.wrong.Wrong.TheVariants.{Memory};

@@ -1,5 +1,5 @@
 // What is said of a text of JSON that hasn't the form that is wanted.
-ghost use Rattle.std.specs.Prelude.{◌≡◌, ◌++◌, IfOk, IfErr, string_bytes};
+ghost use Rattle.std.specs.Prelude.{◌≡◌, IfOk, IfErr, string_bytes};
 ghost use Rattle.cj_base.specs.declared.refusal.Refusal.TheVariants.{OutOfMemory};
 ghost use Rattle.serde_json.specs.View.{view};
 ghost use Rattle.cj_members.specs.Looks.{IsLook, is_near, look_words, member_words, rest, wrong_words};

@@ -1,6 +1,5 @@
 ghost use Rattle.std.specs.Prelude.{◌≡◌, IfOk, IfErr, option_copied, map};
 ghost use Rattle.cj_base.specs.declared.refusal.Refusal.TheVariants.{OutOfMemory};
-ghost use Rattle.cj_types.specs.Uids.{uid_text};
 ghost use Rattle.cj_status.specs.Mine.{is_mine};
 ghost use Rattle.cj_state.specs.Readings.{if_mine, active_job, active_of};
 

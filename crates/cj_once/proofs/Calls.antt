@@ -1,50 +1,39 @@
 -- Each call but Claim and MakeNext keeps the facts.
-use Rattle.std.proofs.Common.{◌≡◌, ◌≢◌, ◌⊎◌, inl, inr, ℕ, ◌+◌, ◌<◌, ◌≤◌, ◌==◌, Bool, true, false, cond, List, [], ◌∷◌, map as map_list, Option, None, Some, refl, ap, sym, subst, ◌∙◌, arith}
+use Rattle.std.proofs.Common.{◌≡◌, inl, inr, ℕ, ◌+◌, ◌≤◌, Bool, true, false, List, [], ◌∷◌, map as map_list, Option, None, Some, refl, ap, sym, subst, ◌∙◌, arith}
 use Rattle.std.specs.Prelude.{IfSome, Result, Ok, Err, if◌then◌else◌}
-use Rattle.std.proofs.lemmas.Bool.Decides.{nat_tests}
 use Rattle.std.specs.FinMap as map
 use Rattle.cj_base.specs.declared.refusal.Refusal.{Refusal}
 use Rattle.cj_base.specs.declared.refusal.Refusal.TheVariants.{NotPermitted, OutOfPhase, NotFound}
-use Rattle.cj_types.specs.Keys.{Place, new_key}
-use Rattle.cj_types.specs.Names.{longest}
+use Rattle.cj_types.specs.Keys.{Place}
 use Rattle.cj_types.specs.Uids.{last_uid, uid_text}
 use Rattle.cj_types.specs.declared.cron.CronJob.{CronJob}
-use Rattle.cj_types.specs.declared.cron.CronStatus.{CronStatus}
 use Rattle.cj_types.specs.declared.job.Job.{Job}
-use Rattle.cj_types.specs.declared.job.JobDraft.{JobDraft}
 use Rattle.cj_types.specs.declared.event.Event.{Event}
 use Rattle.cj_watch.specs.Log.{since}
 use Rattle.cj_store.specs.Content.{Content}
-use Rattle.cj_store.specs.Change.{after, map_ok, cron_added, cron_modified, cron_gone, job_added, job_modified, job_gone}
-use Rattle.cj_store.specs.Crons.{with_status, status_set, status_set_from}
-use Rattle.cj_store.specs.Jobs.{job_deleted, job_deleted_from}
-use Rattle.cj_queue.specs.Queue.{Queue, Row, first, take_in, row_take, row_end, has, added, ticked, closed, finished_ok, finished_retry}
+use Rattle.cj_store.specs.Change.{after}
+use Rattle.cj_queue.specs.Queue.{Queue, first, take_in, row_end, added, ticked, closed, finished_ok, finished_retry}
 use Rattle.cj_status.specs.Mine.{is_mine}
-use Rattle.cj_status.specs.declared.refs.JobRef.{JobRef}
-use Rattle.cj_calls.specs.declared.caller.Caller.{Caller}
 use Rattle.cj_calls.specs.declared.end.End.{End}
 use Rattle.cj_calls.specs.declared.end.End.TheVariants.{Well, Again}
 use Rattle.cj_calls.specs.declared.call.Call.{Call}
 use Rattle.cj_calls.specs.declared.call.Call.TheVariants as Of
 use Rattle.cj_calls.specs.declared.reply.Reply.{Reply}
 use Rattle.cj_calls.specs.declared.reply.Reply.TheVariants as Say
-use Rattle.cj_seats.specs.Steps.{Step, drops, makes, sets, step_at, left, as_drop, as_make, as_status, is_over}
-use Rattle.cj_seats.proofs.Places.{steps_left}
+use Rattle.cj_seats.specs.Steps.{step_at, is_over}
 use Rattle.cj_seats.specs.declared.seat.Work.{Work}
 use Rattle.cj_seats.specs.declared.seat.Seat.{Seat}
 use Rattle.cj_seats.specs.declared.seat.Phase.{Phase}
 use Rattle.cj_seats.specs.declared.seat.Phase.TheVariants.{Held, Seen, Listed, Checked, Works}
 use Rattle.cj_state.specs.declared.state.State.{State}
 use Rattle.cj_state.specs.Readings.{listed_of, if_mine, active_job, active_of}
-use Rattle.cj_state.specs.Moves.{Moved, moved, refused, seat_of, seated, written, by_seat, take_first, take_by, take, see_cron_in, see_cron, see_jobs_in, see_jobs, see_active_in, see_active, next_seat, sits, steps_on, drops_it, drop_where, drop_in, drop_next, sets_it, status_where, status_in, set_status, version_reply, leaves, next_ms, finish_work, finish_well, finish_in, finish}
-use Rattle.cj_state.specs.Step.{writes, found_cron, found_job, told_events, by_reader, by_user, by_runner, by_informer, add, tick, shut}
-use Rattle.cj_decide_laws.specs.Fits.{IsAt, IsHere, IsFoundIn, runs, upto}
+use Rattle.cj_state.specs.Moves.{Moved, moved, seat_of, seated, by_seat, take_first, take_by, take, see_cron_in, see_cron, see_jobs_in, see_jobs, see_active_in, see_active, leaves, next_ms, finish_work, finish_in, finish}
+use Rattle.cj_state.specs.Step.{writes, found_cron, found_job, told_events, by_reader, by_user, by_runner, by_informer}
+use Rattle.cj_decide_laws.specs.Fits.{IsAt, IsHere, IsFoundIn, runs}
 use Rattle.cj_once.specs.Once.{Claimed}
-use Rattle.cj_once.proofs.Maps.{removal_at}
-use Rattle.cj_once.proofs.Lists.{IsIn, Before, Ordered, Rest, runs_mine}
-use Rattle.cj_once.proofs.Facts.{Homes, Named, StoreFact, SeenFact, CheckedFact, MakeFact, StatusFact, PlanFact, SeatFact, IsLine, Inv}
-use Rattle.cj_once.proofs.Grows.{Grows, plan_kept, last_of}
-use Rattle.cj_once.proofs.Writes.{Grown, mapped, IsSet, set_is, not_deleted, deleted_key, grows_same, grows_put, grows_removal_job, create_grows, update_grows, delete_grows, create_job_grows, update_job_grows, delete_job_grows, end_job_grows}
+use Rattle.cj_once.proofs.Lists.{runs_mine}
+use Rattle.cj_once.proofs.Facts.{Homes, SeenFact, CheckedFact, SeatFact, IsLine, Inv}
+use Rattle.cj_once.proofs.Writes.{Grown, grows_same, create_grows, update_grows, delete_grows, create_job_grows, update_job_grows, delete_job_grows, end_job_grows}
 use Rattle.cj_once.proofs.Rows.{Lined, lined_same, lined_added, lined_ticked, lined_ok, lined_retry}
 use Rattle.cj_once.proofs.Frames.{Claims, seat, all_grown, row_changed, seat_changed, taken_by, ended_by}
 

@@ -34,7 +34,7 @@ use Rattle.cj_state.specs.Moves.{refused, seat_of, by_seat, works, wrote, claims
 use Rattle.cj_state.specs.Step.{by_role, step_of}
 use Rattle.cj_state.specs.Legal.{state_of, IsLegal, IsPlanned, ArePlanned}
 use Rattle.cj_once.specs.Once.{Claimed}
-use Rattle.cj_once.specs.Times.{IsClaim, IsLatestMissed, IsTimely, Timely, AlwaysTimely}
+use Rattle.cj_once.specs.Times.{IsClaim, IsLatestMissed, IsTimely, AlwaysTimely}
 use Rattle.cj_once.proofs.Facts.{Homes, SeenFact, CheckedFact}
 use Rattle.cj_once.proofs.Frames.{Claims}
 use Rattle.cj_once.proofs.Writes.{mapped, set_is}

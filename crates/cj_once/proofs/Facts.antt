@@ -1,5 +1,5 @@
 -- What holds of the store, the queue's row and all seats at once.
-use Rattle.std.proofs.Common.{◌≡◌, ◌⊎◌, ℕ, ◌<◌, ◌≤◌, true, false, List, [], ◌∷◌, Option, Some, None}
+use Rattle.std.proofs.Common.{◌≡◌, ◌⊎◌, ℕ, ◌<◌, ◌≤◌, true, false, List, [], ◌∷◌, Option, Some}
 use Rattle.std.specs.Prelude.{IfSome}
 use Rattle.std.specs.List.{AllByRecursion}
 use Rattle.std.specs.Ordering.{nat_cmp}
@@ -14,8 +14,7 @@ use Rattle.cj_types.specs.declared.job.Job.{Job}
 use Rattle.cj_types.specs.declared.job.JobDraft.{JobDraft}
 use Rattle.cj_store.specs.Content.{Content}
 use Rattle.cj_queue.specs.Queue.{Row, has}
-use Rattle.cj_seats.specs.Steps.{Step, drops, makes, sets, left}
-use Rattle.cj_seats.specs.declared.seat.Work.{Work}
+use Rattle.cj_seats.specs.Steps.{Step, makes, sets, left}
 use Rattle.cj_seats.specs.declared.seat.Seat.{Seat}
 use Rattle.cj_seats.specs.declared.seat.Phase.{Phase}
 use Rattle.cj_seats.specs.declared.seat.Phase.TheVariants.{Held, Seen, Listed, Checked, Works}

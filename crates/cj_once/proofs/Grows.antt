@@ -1,9 +1,9 @@
 -- What every call but MakeNext does to the store, and that it keeps each fact.
-use Rattle.std.proofs.Common.{◌≡◌, ◌≢◌, ◌⊎◌, inl, inr, ℕ, ◌+◌, ◌<◌, ◌≤◌, Bool, true, false, List, [], ◌∷◌, Option, None, Some, refl, ap, sym, subst, ◌∙◌, arith}
+use Rattle.std.proofs.Common.{◌≡◌, ◌≢◌, ◌⊎◌, inl, inr, ℕ, ◌<◌, ◌≤◌, true, List, Option, None, Some, refl, ap, sym, subst, ◌∙◌, arith}
 use Rattle.std.specs.Prelude.{IfSome}
 use Rattle.std.specs.FinMap as map
 use Rattle.cj_types.specs.Keys.{Place}
-use Rattle.cj_types.specs.Uids.{uid_text, last_uid}
+use Rattle.cj_types.specs.Uids.{last_uid}
 use Rattle.cj_types.specs.Owners.{controller_of}
 use Rattle.cj_types.specs.Objects.{is_unfinished}
 use Rattle.cj_types.specs.declared.owners.OwnerRef.{OwnerRef}
@@ -12,12 +12,12 @@ use Rattle.cj_types.specs.declared.cron.CronStatus.{CronStatus}
 use Rattle.cj_types.specs.declared.job.Job.{Job}
 use Rattle.cj_types.specs.declared.job.JobDraft.{JobDraft}
 use Rattle.cj_store.specs.Content.{Content}
-use Rattle.cj_seats.specs.Steps.{Step, drops, makes, sets, left}
+use Rattle.cj_seats.specs.Steps.{Step, left}
 use Rattle.cj_seats.specs.declared.seat.Phase.{Phase}
 use Rattle.cj_seats.specs.declared.seat.Phase.TheVariants.{Held, Seen, Listed, Checked, Works}
-use Rattle.cj_decide_laws.specs.Fits.{IsAt, IsFound, runs, is_strict, upto}
+use Rattle.cj_decide_laws.specs.Fits.{IsAt, runs, upto}
 use Rattle.cj_once.specs.Once.{Claimed}
-use Rattle.cj_once.proofs.Lists.{IsIn, Rest, weaker, runs_was, runs_free, runs_owned}
+use Rattle.cj_once.proofs.Lists.{Rest, weaker, runs_was, runs_free, runs_owned}
 use Rattle.cj_once.proofs.Facts.{Homes, Named, CronFact, IsOwned, StoreFact, SeenFact, CheckedFact, MakeFact, StatusFact, PlanFact, SeatFact}
 
 abbrev pub last_of : CronJob → ℕ

@@ -1,9 +1,8 @@
 -- Elements of lists, steps that are left, and unfinished Jobs of an owner.
-use Rattle.std.proofs.Common.{◌≡◌, ◌⊎◌, inl, inr, ℕ, ◌≤◌, Bool, true, false, ◌&&◌, List, [], ◌∷◌, ◌++◌, map, Option, Some, None, refl, sym, ap, ◌∙◌, subst, arith}
+use Rattle.std.proofs.Common.{◌≡◌, ◌⊎◌, inl, inr, ℕ, ◌≤◌, Bool, true, false, ◌&&◌, List, [], ◌∷◌, ◌++◌, map, Option, Some, None, refl, sym, ap, ◌∙◌, arith}
 use Rattle.std.specs.List.{AllByRecursion}
 use Rattle.std.specs.Str.{bytes_eq}
 use Rattle.std.proofs.lemmas.Slice.Eq.{bytes_eq-Decides}
-use Rattle.std.proofs.lemmas.Bool.Decides.{nat_tests}
 use Rattle.std.specs.FinMap as fin
 use Rattle.cj_types.specs.Keys.{Place, place_cmp}
 use Rattle.cj_types.specs.Uids.{uid_text, last_uid}
@@ -15,7 +14,7 @@ use Rattle.cj_types.specs.declared.job.JobDraft.{JobDraft}
 use Rattle.cj_types.specs.declared.cron.CronStatus.{CronStatus}
 use Rattle.cj_status.specs.declared.refs.JobRef.{JobRef}
 use Rattle.cj_decide.specs.declared.steps.Steps.{Steps}
-use Rattle.cj_status.specs.Mine.{is_mine, is_running, has_uid}
+use Rattle.cj_status.specs.Mine.{is_mine, has_uid}
 use Rattle.cj_seats.specs.Steps.{Step, drops, makes, sets, makings, settings, all_steps}
 use Rattle.cj_decide_laws.specs.Fits.{IsAmong, runs}
 use Rattle.cj_once.proofs.Uids.{uid_same}

@@ -1,6 +1,6 @@
 -- MakeNext keeps the facts, and what it makes rests on a claim.
-use Rattle.std.proofs.Common.{◌≡◌, ◌≢◌, ◌⊎◌, inl, inr, ℕ, ◌+◌, ◌<◌, ◌≤◌, ◌==◌, Bool, true, false, cond, List, [], ◌∷◌, Option, None, Some, refl, ap, sym, subst, ◌∙◌, arith}
-use Rattle.std.specs.Prelude.{IfSome, Result, Ok, Err}
+use Rattle.std.proofs.Common.{◌≡◌, ◌≢◌, ◌⊎◌, inl, inr, ℕ, ◌+◌, ◌<◌, ◌≤◌, true, List, ◌∷◌, Option, None, Some, refl, ap, sym, subst, ◌∙◌, arith}
+use Rattle.std.specs.Prelude.{Result, Ok, Err}
 use Rattle.std.specs.FinMap as map
 use Rattle.std.specs.List.{AllByRecursion}
 use Rattle.cj_queue.specs.Queue.{has}
@@ -18,24 +18,23 @@ use Rattle.cj_types.specs.declared.event.Event.{Event}
 use Rattle.cj_store.specs.Content.{Content}
 use Rattle.cj_store.specs.Change.{after, map_ok, job_added}
 use Rattle.cj_store.specs.Jobs.{job_made, new_job}
-use Rattle.cj_calls.specs.declared.reply.Reply.{Reply}
 use Rattle.cj_seats.specs.Steps.{Step, drops, makes, sets, step_at, left, as_make}
 use Rattle.cj_seats.specs.declared.seat.Work.{Work}
 use Rattle.cj_seats.specs.declared.seat.Seat.{Seat}
 use Rattle.cj_seats.specs.declared.seat.Phase.{Phase}
 use Rattle.cj_seats.specs.declared.seat.Phase.TheVariants.{Held, Seen, Listed, Checked, Works}
 use Rattle.cj_state.specs.declared.state.State.{State}
-use Rattle.cj_state.specs.Moves.{Moved, moved, refused, seat_of, by_seat, further, next_seat, steps_on, event_reply, make_where, make_in, make_next}
-use Rattle.cj_decide_laws.specs.Fits.{IsAt, IsFound, runs, upto, is_strict}
+use Rattle.cj_state.specs.Moves.{Moved, refused, seat_of, by_seat, next_seat, steps_on, event_reply, make_where, make_in, make_next}
+use Rattle.cj_decide_laws.specs.Fits.{IsAt, runs, upto, is_strict}
 use Rattle.cj_once.specs.Once.{Claimed, is_ok, with_made}
 use Rattle.cj_once.proofs.Maps.{put_at, seat_put}
-use Rattle.cj_once.proofs.Lists.{IsIn, Before, Ordered, NoMakes, none_made, Rest, runs_owned, weaker}
-use Rattle.cj_once.proofs.Facts.{Homes, CronFact, IsOwned, StoreFact, SeenFact, CheckedFact, MakeFact, StatusFact, PlanFact, SeatFact, Inv}
+use Rattle.cj_once.proofs.Lists.{none_made, Rest, runs_owned, weaker}
+use Rattle.cj_once.proofs.Facts.{Homes, CronFact, IsOwned, StoreFact, SeenFact, CheckedFact, MakeFact, StatusFact, SeatFact, Inv}
 use Rattle.cj_once.proofs.Grows.{if_kept}
 use Rattle.cj_once.proofs.Writes.{mapped, made_is}
-use Rattle.cj_once.proofs.Frames.{Seats, Claims, seat, same_claims}
+use Rattle.cj_once.proofs.Frames.{Claims}
 use Rattle.cj_once.proofs.Calls.{Now}
-use Rattle.cj_once.proofs.Steps.{LeftFact, work_fact, same_branches}
+use Rattle.cj_once.proofs.Steps.{LeftFact, work_fact}
 
 -- a Job that is made for a claim
 pub record Making (home : Homes) (s : Content) (k : Place) (m : Claimed) (j : Job) : Type 0 where

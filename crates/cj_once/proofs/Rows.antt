@@ -1,12 +1,12 @@
 -- What the queue's calls keep of its row.
-use Rattle.std.proofs.Common.{◌≡◌, ◌≢◌, ◌⊎◌, inl, inr, ℕ, Bool, true, false, cond, nat_le, List, [], ◌∷◌, ◌++◌, Option, None, Some, is_some, refl, ap, sym, subst, ◌∙◌, arith}
+use Rattle.std.proofs.Common.{◌≡◌, ◌≢◌, ◌⊎◌, inl, inr, ℕ, Bool, true, false, nat_le, List, [], ◌∷◌, ◌++◌, Option, None, Some, is_some, refl, ap, sym, subst, ◌∙◌}
 use Rattle.std.specs.Prelude.{if◌then◌else◌, ◌+◌}
 use Rattle.std.specs.FinMap as map
-use Rattle.cj_types.specs.Keys.{Place, place_cmp}
+use Rattle.cj_types.specs.Keys.{Place}
 use Rattle.cj_table.proofs.Puts.{put_split, removal_split, removal_there}
 use Rattle.cj_queue.specs.Times.{ready}
 use Rattle.cj_once.proofs.Lists.{IsIn}
-use Rattle.cj_queue.specs.Queue.{Keys, Row, Queue, has, row_add, row_adds, take_in, row_take, row_end, first, added, taken, ended, added_after, ticked, closed, delay, failures_of, failed, forgotten, added_where, finished_ok, finished_retry}
+use Rattle.cj_queue.specs.Queue.{Keys, Row, Queue, has, row_add, row_adds, take_in, row_end, added, ended, added_after, ticked, delay, failures_of, forgotten, added_where, finished_ok, finished_retry}
 use Rattle.cj_once.proofs.Maps.{removal_other, put_other, put_here}
 use Rattle.cj_once.proofs.Facts.{IsLine}
 

@@ -1,21 +1,20 @@
 -- DropNext, SetStatus and Claim keep the facts.
-use Rattle.std.proofs.Common.{◌≡◌, ◌≢◌, ◌⊎◌, inl, inr, ℕ, ◌+◌, ◌<◌, ◌≤◌, ◌==◌, Bool, true, false, cond, ◌&&◌, List, [], ◌∷◌, Option, None, Some, refl, ap, sym, subst, ◌∙◌, arith}
+use Rattle.std.proofs.Common.{◌≡◌, ◌≢◌, ◌⊎◌, inl, inr, ℕ, ◌+◌, ◌≤◌, ◌==◌, Bool, true, false, cond, ◌&&◌, List, [], ◌∷◌, Option, None, Some, refl, ap, sym, subst, ◌∙◌, arith}
 use Rattle.std.specs.Prelude.{IfSome, Result, Ok, Err, if◌then◌else◌}
 use Rattle.std.proofs.lemmas.Bool.Decides.{nat_tests}
 use Rattle.std.specs.FinMap as map
 use Rattle.cj_base.specs.declared.refusal.Refusal.{Refusal}
 use Rattle.cj_base.specs.declared.refusal.Refusal.TheVariants.{OutOfPhase, Stale}
 use Rattle.cj_types.specs.Keys.{Place}
-use Rattle.cj_types.specs.Uids.{last_uid, uid_text}
+use Rattle.cj_types.specs.Uids.{last_uid}
 use Rattle.cj_types.specs.declared.cron.CronJob.{CronJob}
 use Rattle.cj_types.specs.declared.cron.CronStatus.{CronStatus}
 use Rattle.cj_types.specs.declared.job.Job.{Job}
-use Rattle.cj_types.specs.declared.job.JobDraft.{JobDraft}
 use Rattle.cj_types.specs.declared.event.Event.{Event}
 use Rattle.cj_store.specs.Content.{Content}
 use Rattle.cj_store.specs.Change.{after, map_ok, cron_modified, job_gone}
-use Rattle.cj_store.specs.Crons.{with_status, status_set, status_set_from}
-use Rattle.cj_store.specs.Jobs.{job_deleted, job_deleted_from}
+use Rattle.cj_store.specs.Crons.{with_status, status_set}
+use Rattle.cj_store.specs.Jobs.{job_deleted}
 use Rattle.cj_store.proofs.Codes.{is_same-equal}
 use Rattle.cj_types.specs.Events.{version_of}
 use Rattle.cj_decide.specs.Decision.{Planned}
@@ -23,23 +22,23 @@ use Rattle.cj_status.specs.declared.refs.JobRef.{JobRef}
 use Rattle.cj_decide.specs.declared.start.Claim.{Claim}
 use Rattle.cj_calls.specs.declared.reply.Reply.{Reply}
 use Rattle.cj_calls.specs.declared.reply.Reply.TheVariants as Say
-use Rattle.cj_seats.specs.Inputs.{rests_on, RestsOnThree, same_cron, same_jobs, same_active}
-use Rattle.cj_seats.specs.Steps.{Step, drops, makes, sets, step_at, left, all_steps, as_drop, as_make, as_status}
+use Rattle.cj_seats.specs.Inputs.{rests_on, same_cron, same_jobs, same_active}
+use Rattle.cj_seats.specs.Steps.{Step, drops, makes, sets, step_at, left, all_steps, as_drop, as_status}
 use Rattle.cj_seats.proofs.Places.{steps_left}
 use Rattle.cj_seats.specs.declared.seat.Work.{Work}
 use Rattle.cj_seats.specs.declared.seat.Seat.{Seat}
 use Rattle.cj_seats.specs.declared.seat.Phase.{Phase}
-use Rattle.cj_seats.specs.declared.seat.Phase.TheVariants.{Held, Seen, Listed, Checked, Works}
+use Rattle.cj_seats.specs.declared.seat.Phase.TheVariants.{Checked, Works}
 use Rattle.cj_state.specs.declared.state.State.{State}
-use Rattle.cj_state.specs.Moves.{Moved, moved, refused, seat_of, seated, by_seat, works, seen_version, wrote, claims, claim_where, claim_in, claim, further, next_seat, sits, steps_on, drops_it, drop_where, drop_in, drop_next, sets_it, status_where, status_in, set_status, version_reply}
-use Rattle.cj_decide_laws.specs.Fits.{IsAt, IsAmong, IsFound, runs, upto, is_strict, Starts, Waits, FitsWith, FitsFor, Fits, Keeps, IsMade}
+use Rattle.cj_state.specs.Moves.{Moved, refused, seat_of, by_seat, works, seen_version, wrote, claims, claim_where, claim_in, claim, further, next_seat, steps_on, drops_it, drop_where, drop_in, drop_next, sets_it, status_where, status_in, set_status, version_reply}
+use Rattle.cj_decide_laws.specs.Fits.{IsAt, IsAmong, IsFound, upto, Starts, Waits, FitsWith, FitsFor, Fits, Keeps}
 use Rattle.cj_once.specs.Once.{Claimed, claimed_under, claimed_of, claim_answered}
 use Rattle.cj_once.proofs.Maps.{removal_at, put_at}
-use Rattle.cj_once.proofs.Lists.{IsIn, Before, Ordered, Rest, before_all, in_all_makes, in_all_sets, all_ordered, both_true, weaker}
-use Rattle.cj_once.proofs.Facts.{Homes, Named, StoreFact, SeenFact, CheckedFact, MakeFact, StatusFact, PlanFact, SeatFact, Inv}
+use Rattle.cj_once.proofs.Lists.{Before, Rest, before_all, in_all_makes, in_all_sets, all_ordered, both_true, weaker}
+use Rattle.cj_once.proofs.Facts.{Homes, Named, StoreFact, CheckedFact, StatusFact, PlanFact, SeatFact, Inv}
 use Rattle.cj_once.proofs.Grows.{Grows, plan_kept, last_of}
-use Rattle.cj_once.proofs.Writes.{mapped, IsSet, set_is, not_deleted, deleted_key, grows_same, grows_put, grows_removal_job}
-use Rattle.cj_once.proofs.Frames.{Claims, seat, seat_changed, same_claims}
+use Rattle.cj_once.proofs.Writes.{mapped, set_is, not_deleted, deleted_key, grows_same, grows_put, grows_removal_job}
+use Rattle.cj_once.proofs.Frames.{Claims, seat_changed, same_claims}
 use Rattle.cj_once.proofs.Calls.{Now, Plain, stays, by_seat_plain, fact_of}
 
 -- ---- DropNext

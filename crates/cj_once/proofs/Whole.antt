@@ -1,18 +1,12 @@
 -- Each legal history has each time once, and what is made under Forbid or Replace is made alone.
-use Rattle.std.proofs.Common.{◌≡◌, ◌⊎◌, inl, inr, ℕ, suc, ◌+◌, ◌<◌, ◌≤◌, ◌==◌, Bool, true, false, cond, List, [], ◌∷◌, length, Option, None, Some, refl, ap, sym, subst, ◌∙◌, arith}
-use Rattle.std.specs.Prelude.{Result, Ok, Err}
+use Rattle.std.proofs.Common.{◌≡◌, ℕ, ◌+◌, ◌≤◌, ◌==◌, Bool, true, false, cond, List, [], ◌∷◌, length, Option, None, refl, ap, sym, subst, ◌∙◌, arith}
+use Rattle.std.specs.Prelude.{Result, Err}
 use Rattle.std.specs.FinMap as map
 use Rattle.std.specs.Ordering.{nat_cmp}
-use Rattle.std.specs.Cmp.{nat_cmp_total}
-use Rattle.cj_table.proofs.Order.{places_total}
 use Rattle.cj_base.specs.declared.refusal.Refusal.{Refusal}
 use Rattle.cj_base.specs.declared.refusal.Refusal.TheVariants.{NotPermitted}
-use Rattle.cj_types.specs.Keys.{Place, place_cmp}
+use Rattle.cj_types.specs.Keys.{place_cmp}
 use Rattle.cj_types.specs.Uids.{last_uid}
-use Rattle.cj_types.specs.declared.cron.CronJob.{CronJob}
-use Rattle.cj_types.specs.declared.job.Job.{Job}
-use Rattle.cj_store.specs.Content.{Content}
-use Rattle.cj_queue.specs.Queue.{Row}
 use Rattle.cj_calls.specs.Rows.{Told}
 use Rattle.cj_calls.specs.declared.caller.Caller.{Caller}
 use Rattle.cj_calls.specs.declared.caller.Role.{Role}
@@ -20,20 +14,19 @@ use Rattle.cj_calls.specs.declared.caller.Role.TheVariants.{User, Runner, Inform
 use Rattle.cj_calls.specs.declared.call.Call.{Call}
 use Rattle.cj_calls.specs.declared.call.Call.TheVariants as Of
 use Rattle.cj_calls.specs.declared.reply.Reply.{Reply}
-use Rattle.cj_seats.specs.declared.seat.Seat.{Seat}
 use Rattle.cj_state.specs.declared.state.State.{State}
-use Rattle.cj_state.specs.Moves.{Moved, refused, make_next, claim}
+use Rattle.cj_state.specs.Moves.{Moved, refused, make_next}
 use Rattle.cj_state.specs.Step.{by_user, by_runner, by_informer, by_worker, by_role, step_of, start}
 use Rattle.cj_state.specs.Legal.{state_of, IsLegal, IsPlanned, ArePlanned}
 use Rattle.cj_decide_laws.specs.Fits.{runs, is_strict, Fits}
 use Rattle.cj_decide_laws.proofs.Fitting.{decided_fits}
 use Rattle.std.specs.List.{AllByRecursion}
-use Rattle.cj_once.specs.Once.{Claimed, claim_after, claim_answered, claim_of, is_ok, makes_with, is_making, with_made, makes, IsNew, Once, Alone, NoneRuns, OnceAndAlone}
+use Rattle.cj_once.specs.Once.{Claimed, claim_after, claim_of, is_ok, makes_with, is_making, with_made, makes, Once, Alone, OnceAndAlone}
 use Rattle.cj_once.proofs.Lists.{weaker}
 use Rattle.cj_once.proofs.Facts.{Homes, Inv}
-use Rattle.cj_once.proofs.Frames.{Claims, Seats, same_claims}
+use Rattle.cj_once.proofs.Frames.{Claims, same_claims}
 use Rattle.cj_once.proofs.Calls.{Now, Plain, stays, user_plain, runner_plain, informer_plain, take_plain, see_cron_plain, see_jobs_plain, see_active_plain, finish_plain}
-use Rattle.cj_once.proofs.Steps.{same_branches, ClaimKept, claim_kept, drop_plain, status_plain}
+use Rattle.cj_once.proofs.Steps.{same_branches, claim_kept, drop_plain, status_plain}
 use Rattle.cj_once.proofs.Make.{MakeKept, make_kept, Rests, make_rests}
 
 -- each plan that comes in is such as the laws ask for

@@ -1,5 +1,5 @@
 -- What each write of the store leaves, and that the store grows by it.
-use Rattle.std.proofs.Common.{◌≡◌, ◌≢◌, ◌⊎◌, inl, inr, ℕ, ◌+◌, ◌<◌, ◌≤◌, ◌==◌, Bool, true, false, cond, List, [], ◌∷◌, Option, None, Some, is_some, refl, ap, sym, subst, ◌∙◌, arith}
+use Rattle.std.proofs.Common.{◌≡◌, ◌≢◌, ◌⊎◌, inl, inr, ℕ, ◌+◌, ◌≤◌, ◌==◌, Bool, true, false, cond, List, Option, None, Some, is_some, refl, ap, sym, subst, ◌∙◌, arith}
 use Rattle.std.specs.Prelude.{Result, Ok, Err, if◌then◌else◌}
 use Rattle.std.proofs.lemmas.Bool.Decides.{nat_tests}
 use Rattle.std.specs.FinMap as map
@@ -16,20 +16,17 @@ use Rattle.cj_types.specs.declared.cron.CronStatus.{CronStatus}
 use Rattle.cj_types.specs.declared.job.Job.{Job}
 use Rattle.cj_types.specs.declared.job.JobDraft.{JobDraft}
 use Rattle.cj_types.specs.declared.policy.Outcome.{Outcome}
-use Rattle.cj_types.specs.declared.owners.OwnerRef.{OwnerRef}
 use Rattle.cj_types.specs.declared.event.Event.{Event}
 use Rattle.cj_store.specs.Content.{Content}
 use Rattle.cj_store.specs.Metadata.{version_not_allowed}
 use Rattle.cj_store.specs.Equal.{same_owners}
 use Rattle.cj_store.specs.Change.{after, map_ok, cron_added, cron_modified, cron_gone, job_added, job_modified, job_gone}
-use Rattle.cj_store.specs.Crons.{new_cron, cron_created, updated_cron, cron_updated_from, cron_updated, with_status, status_set_from, status_set, last_cron, cron_deleted_from, cron_deleted}
+use Rattle.cj_store.specs.Crons.{new_cron, cron_created, updated_cron, cron_updated_from, cron_updated, with_status, status_set_from, last_cron, cron_deleted_from, cron_deleted}
 use Rattle.cj_store.specs.Jobs.{new_job, job_made, job_created, updated_job, job_updated_from, job_updated, is_asked, last_job, job_deleted_from, job_deleted, ended_job, job_ended_from, job_ended}
-use Rattle.cj_decide_laws.specs.Fits.{IsAt, upto}
 use Rattle.cj_once.specs.Once.{Claimed}
 use Rattle.cj_once.proofs.Maps.{put_at, removal_at}
-use Rattle.cj_once.proofs.Lists.{Rest}
-use Rattle.cj_once.proofs.Facts.{Homes, Named, CronFact, StoreFact}
-use Rattle.cj_once.proofs.Grows.{last_of, IsOlder, IsFresh, WasJob, IsFree, Cronic, Jobbed, Grows}
+use Rattle.cj_once.proofs.Facts.{Homes, Named, StoreFact}
+use Rattle.cj_once.proofs.Grows.{last_of, Cronic, Jobbed, Grows}
 
 -- ---- answers
 

@@ -1,8 +1,8 @@
 ghost use Rattle.std.specs.Prelude.{◌≡◌, ◌≤◌, ◌<◌, ◌+◌, ◌++◌, ◌∷◌, [], OnOk, IfErr, false, drop, length, option_copied};
-ghost use Rattle.indexmap.specs.IndexSet.{spare, Updates, insert_key};
+ghost use Rattle.indexmap.specs.IndexSet.{spare};
 ghost use Rattle.cj_base.specs.declared.refusal.Refusal.TheVariants.{OutOfMemory};
 ghost use Rattle.cj_queue.specs.Queue.{first};
-ghost use Rattle.cj_queue.specs.Parts.{key_eq, stands_in};
+ghost use Rattle.cj_queue.specs.Parts.{stands_in};
 
 use cj_types::{Key, Refusal};
 use indexmap::IndexSet;

@@ -1,5 +1,5 @@
 -- One step, of its call, its answer and its line.
-use Rattle.std.proofs.Common.{◌≡◌, ◌+◌, ◌∙◌, ℕ, Bool, true, false, List, ◌∷◌, length, refl, ap, subst, arith}
+use Rattle.std.proofs.Common.{◌≡◌, ◌+◌, ◌∙◌, ℕ, Bool, true, false, List, ◌∷◌, length, refl, ap, arith}
 use Rattle.std.specs.Prelude.{Option, Some, None, Result, if◌then◌else◌}
 use Rattle.cj_base.specs.declared.refusal.Refusal.{Refusal}
 use Rattle.cj_types.specs.WorldLimits.{Kept}
@@ -13,7 +13,7 @@ use Rattle.cj_lines.specs.Lines.{step_line}
 use Rattle.cj_script.specs.declared.step.Step.{Step}
 use Rattle.cj_sights.specs.Sights.{seen_of}
 use Rattle.cj_replay.specs.Calls.{IsCallOf}
-use Rattle.cj_replay.specs.Runs.{Plays, after, answered, is_full, job_at, place_after}
+use Rattle.cj_replay.specs.Runs.{Plays, after, answered, is_full, job_at}
 
 -- For plays: an entry that was added stands at the place after those before it.
 place_by : (t : Told) (h : List Told) (b : Bool) → (if b then Some (length (if b then t ∷ h else h)) else None)

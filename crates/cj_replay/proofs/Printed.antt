@@ -11,7 +11,7 @@ use Rattle.cj_output.proofs.Written.{appends_both, appends_nothing, nothing_prin
 use Rattle.cj_script.specs.declared.script.Script.{Script}
 use Rattle.cj_script.specs.declared.step.Step.{Step}
 use Rattle.cj_replay.specs.Runs.{AllPlay, Plays}
-use Rattle.cj_replay.specs.Replays.{IsBegun, IsPartOf, IsReplayed, KeepsPromise, report_of}
+use Rattle.cj_replay.specs.Replays.{IsPartOf, IsReplayed, KeepsPromise, report_of}
 use Rattle.cj_replay.specs.Printing.{BreaksOff, CutsReport, HasPlayed, PrintsPart, PrintsReport, PrintsStep}
 use Rattle.cj_replay.proofs.Replayed.{plays_more}
 

@@ -1,11 +1,11 @@
 -- Steps one after the other.
-use Rattle.std.proofs.Common.{◌≡◌, ◌≤◌, ◌<◌, ◌+◌, ◌∙◌, ℕ, suc, Bool, true, false, List, [], ◌∷◌, ◌++◌, take, drop, length, refl, sym, ap, subst, append_assoc, append-nil}
-use Rattle.std.specs.Prelude.{◌||◌, Option}
+use Rattle.std.proofs.Common.{◌≡◌, ◌+◌, ◌∙◌, ℕ, Bool, true, false, List, [], ◌∷◌, ◌++◌, refl, sym, ap, subst, append_assoc, append-nil}
+use Rattle.std.specs.Prelude.{◌||◌}
 use Rattle.cj_types.specs.WorldLimits.{Kept}
 use Rattle.cj_zone.specs.declared.table.ZoneTable.{ZoneTable}
 use Rattle.cj_calls.specs.Rows.{Told}
 use Rattle.cj_script.specs.declared.step.Step.{Step}
-use Rattle.cj_replay.specs.Runs.{AllPlay, Plays, PlaysFirst}
+use Rattle.cj_replay.specs.Runs.{AllPlay, Plays}
 
 -- A test or what is false is the test.
 or_nothing : (a : Bool) → (a || false) ≡ a

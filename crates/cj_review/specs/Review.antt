@@ -1,5 +1,5 @@
 -- What is printed of each CronJob of a cluster at a moment: how many times it missed, and what its next sync does.
-use Rattle.std.specs.Prelude.{◌≡◌, ◌⊎◌, ℕ, ◌<◌, ◌≤◌, List, [], ◌∷◌, ◌++◌, codes, decimal, Option, None, Some}
+use Rattle.std.specs.Prelude.{◌≡◌, ◌⊎◌, ℕ, ◌<◌, ◌≤◌, List, ◌++◌, codes, decimal, Option, None, Some}
 use Rattle.cj_types.specs.declared.cron.CronJob.{CronJob}
 use Rattle.cj_types.specs.Keys.{Place}
 use Rattle.cj_schedule.specs.Grammar.{IsSchedule}

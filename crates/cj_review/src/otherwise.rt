@@ -1,7 +1,7 @@
 // What Kubernetes' own controller does otherwise.
-ghost use Rattle.std.specs.Prelude.{◌≡◌, ◌++◌, IfOk, IfErr, option_copied, string_bytes};
+ghost use Rattle.std.specs.Prelude.{◌≡◌, IfOk, IfErr, option_copied, string_bytes};
 ghost use Rattle.cj_base.specs.declared.refusal.Refusal.TheVariants.{OutOfMemory};
-ghost use Rattle.cj_review.specs.Otherwise.{clock_words, count_words, deadline_words, otherwise_words};
+ghost use Rattle.cj_review.specs.Otherwise.{clock_words, deadline_words, otherwise_words};
 
 use cj_types::{CronJob, Deadline, Refusal, Text};
 use cj_zone::Zone;

@@ -1,8 +1,7 @@
 // How many times a CronJob missed, and since when.
-ghost use Rattle.std.specs.Prelude.{◌≡◌, ◌⊎◌, ◌≤◌, IfOk, IfErr, option_copied, string_bytes};
+ghost use Rattle.std.specs.Prelude.{◌≡◌, ◌⊎◌, IfOk, IfErr, option_copied, string_bytes};
 ghost use Rattle.cj_base.specs.declared.refusal.Refusal.TheVariants.{OutOfMemory};
 ghost use Rattle.cj_due.specs.Window.{window_of};
-ghost use Rattle.cj_schedule.specs.Grammar.{IsSchedule};
 ghost use Rattle.cj_review.specs.Review.{IsCount, IsCountBefore, IsCountSince, IsTextCount, count_text, head_line};
 
 use cj_due::{Missed, missed, window};

@@ -1,5 +1,5 @@
 // The lines of a plan.
-ghost use Rattle.std.specs.Prelude.{◌≡◌, ◌++◌, codes, option_map, IfErr, IfOk, OnOk, string_bytes};
+ghost use Rattle.std.specs.Prelude.{◌≡◌, ◌++◌, option_map, IfErr, IfOk, OnOk, string_bytes};
 ghost use Rattle.cj_base.specs.declared.refusal.Refusal.TheVariants.{OutOfMemory};
 ghost use Rattle.cj_review.specs.PlanLines.{job_lines, name_value, plan_lines, reason_lines, time_value, word_line};
 

@@ -1,5 +1,5 @@
 // What the user of a run does.
-ghost use Rattle.std.specs.Prelude.{◌≡◌, OnOk, [], ◌∷◌};
+ghost use Rattle.std.specs.Prelude.{OnOk, [], ◌∷◌};
 ghost use Rattle.cj_run.specs.Courses.{creation, creations, edits_at};
 ghost use Rattle.cj_run.specs.Deeds.{Called, Does};
 

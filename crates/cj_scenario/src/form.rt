@@ -1,5 +1,5 @@
 // The form of a scenario.
-ghost use Rattle.std.specs.Prelude.{◌≡◌, codes, Some, IfOk, IfErr};
+ghost use Rattle.std.specs.Prelude.{◌≡◌, Some, IfOk, IfErr};
 ghost use Rattle.serde_json.specs.View.{view};
 ghost use Rattle.cj_zone.specs.Table.{local_zone};
 ghost use Rattle.cj_scenario.specs.Parts.{form_of};

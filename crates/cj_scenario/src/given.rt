@@ -1,10 +1,10 @@
 // The Jobs of a scenario.
-ghost use Rattle.std.specs.Prelude.{◌≡◌, ◌/◌, List, [], false, Some, IfOk, IfErr, IfSome, OnOk, option_map};
+ghost use Rattle.std.specs.Prelude.{◌≡◌, ◌/◌, List, [], false, Some, IfOk, IfErr, IfSome, option_map};
 ghost use Rattle.std.specs.BTreeSet.{contains};
 ghost use Rattle.std.specs.Ordering.{nat_cmp};
 ghost use Rattle.serde_json.specs.View.{view, items_view};
 ghost use Rattle.cj_manifest.specs.Members.{present as member_at};
-ghost use Rattle.cj_scenario.specs.Minutes.{AddsMinute, AreMinutesOf};
+ghost use Rattle.cj_scenario.specs.Minutes.{AddsMinute};
 ghost use Rattle.cj_scenario.specs.Scenes as form;
 ghost use Rattle.cj_scenario.specs.declared.given.GivenJob.{GivenJob};
 

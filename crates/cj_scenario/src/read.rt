@@ -1,5 +1,5 @@
 // Reading a scenario's bytes.
-ghost use Rattle.std.specs.Prelude.{◌≡◌, ◌⊎◌, ◌≤◌, [], ◌∷◌, IfOk, IfErr, Some, List, map};
+ghost use Rattle.std.specs.Prelude.{◌≡◌, ◌⊎◌, ◌≤◌, [], IfOk, IfErr, Some, List, map};
 ghost use Rattle.serde_json.specs.Data.{depth};
 ghost use Rattle.serde_json.specs.Read.{max_depth};
 ghost use Rattle.serde_json.specs.View.{view};

@@ -1,9 +1,9 @@
 // Reading a script's bytes.
-ghost use Rattle.std.specs.Prelude.{◌≡◌, ◌≢◌, ◌≤◌, Ok, Err, Some, codes, IfOk, IfErr};
+ghost use Rattle.std.specs.Prelude.{◌≡◌, ◌≢◌, ◌≤◌, Ok, Err, Some, IfOk, IfErr};
 ghost use Rattle.serde_json.specs.Data.{depth};
 ghost use Rattle.serde_json.specs.Read.{max_depth};
 ghost use Rattle.serde_json.specs.View.{view};
-ghost use Rattle.cj_zone.specs.Table.{zones_of, local_zone};
+ghost use Rattle.cj_zone.specs.Table.{zones_of};
 ghost use Rattle.cj_scenario.specs.declared.fault.SceneFault.TheVariants.{Memory};
 ghost use Rattle.cj_script.specs.Scripts.{IsScript, IsRefusedScript, IsRefusedValue, Says, told_in};
 

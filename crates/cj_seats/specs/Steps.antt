@@ -1,5 +1,5 @@
 -- The steps of a plan in their order, and the one that comes next.
-use Rattle.std.specs.Prelude.{◌≡◌, ℕ, zero, suc, ◌+◌, Bool, true, false, List, [], ◌∷◌, ◌++◌, map, drop, Option, Some, None}
+use Rattle.std.specs.Prelude.{◌≡◌, ℕ, ◌+◌, Bool, true, false, List, [], ◌∷◌, ◌++◌, map, drop, Option, Some, None}
 use Rattle.std.specs.List.{slice_get}
 use Rattle.cj_types.specs.declared.cron.CronStatus.{CronStatus}
 use Rattle.cj_types.specs.declared.job.JobDraft.{JobDraft}

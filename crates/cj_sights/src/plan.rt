@@ -1,4 +1,4 @@
-ghost use Rattle.std.specs.Prelude.{◌≡◌, None, [], IfOk, IfErr, option_copied};
+ghost use Rattle.std.specs.Prelude.{◌≡◌, None, IfOk, IfErr, option_copied};
 ghost use Rattle.cj_base.specs.declared.refusal.Refusal.TheVariants.{OutOfMemory};
 ghost use Rattle.cj_sights.specs.Plans.{IsPlanFor, inputs_of, no_inputs, reasons_of, zone_named_by, zone_of};
 

@@ -1,7 +1,7 @@
 -- Histories: who called what and what was answered, the newest entry first. The state that a history leaves
 -- is what its calls leave one after the other, so that a legal history is one of a single store and a single
 -- queue, which take one call at a time.
-use Rattle.std.specs.Prelude.{◌≡◌, ℕ, Bool, true, false, List, [], ◌∷◌, Result, Ok, Err}
+use Rattle.std.specs.Prelude.{◌≡◌, ℕ, Bool, true, false, List, [], ◌∷◌, Result, Err}
 use Rattle.std.specs.List.{AllByRecursion}
 use Rattle.cj_base.specs.declared.refusal.Refusal.{Refusal}
 use Rattle.cj_base.specs.declared.refusal.Refusal.TheVariants.{Empty, HistoryFull, OutOfMemory}

@@ -1,8 +1,7 @@
 -- What each call of a worker answers, and what it leaves: one sync of a CronJob, split into the calls that a
 -- controller makes of the API server (Kubernetes API concepts, "Efficient detection of changes"; conventions,
 -- "Concurrency Control and Consistency") and of its work queue (client-go, package workqueue).
-use Rattle.std.specs.Prelude.{◌≡◌, ℕ, ◌+◌, ◌*◌, Bool, true, false, List, [], ◌∷◌, Option, Some, None, option_map, Result, Ok, Err, if◌then◌else◌}
-use Rattle.std.specs.Ordering.{nat_cmp}
+use Rattle.std.specs.Prelude.{ℕ, ◌+◌, ◌*◌, Bool, true, false, Option, Some, None, option_map, Result, Ok, Err, if◌then◌else◌}
 use Rattle.std.specs.FinMap as map
 use Rattle.cj_base.specs.declared.refusal.Refusal.{Refusal}
 use Rattle.cj_base.specs.declared.refusal.Refusal.TheVariants.{OutOfPhase, Stale, Empty, ShutDown}
@@ -15,13 +14,12 @@ use Rattle.cj_types.specs.declared.event.Event.{Event}
 use Rattle.cj_types.specs.declared.event.Event.TheVariants.{Added, Modified, Deleted}
 use Rattle.cj_types.specs.declared.event.Object.{Object}
 use Rattle.cj_types.specs.declared.event.Object.TheVariants as Kind
-use Rattle.cj_store.specs.Content.{Content}
 use Rattle.cj_store.specs.Change.{after, map_ok, cron_modified, job_added, job_gone}
 use Rattle.cj_store.specs.Crons.{status_set}
 use Rattle.cj_store.specs.Jobs.{job_made, job_deleted}
 use Rattle.cj_watch.specs.Log.{pushed}
 use Rattle.cj_types.specs.Events.{version_of}
-use Rattle.cj_queue.specs.Queue.{Queue, first, taken, has, finished_ok, finished_retry}
+use Rattle.cj_queue.specs.Queue.{Queue, first, taken, finished_ok, finished_retry}
 use Rattle.cj_decide.specs.Decision.{Planned}
 use Rattle.cj_status.specs.declared.refs.JobRef.{JobRef}
 use Rattle.cj_decide.specs.declared.start.Claim.{Claim}

@@ -1,8 +1,7 @@
-ghost use Rattle.std.specs.Prelude.{◌≡◌, ◌+◌, ◌≤◌, IfErr, OnOk, OnErr, None, Some};
-ghost use Rattle.std.specs.FinMap as map;
+ghost use Rattle.std.specs.Prelude.{◌≡◌, ◌+◌, IfErr, OnOk, OnErr};
 ghost use Rattle.cj_base.specs.declared.refusal.Refusal.TheVariants.{OutOfMemory};
 ghost use Rattle.cj_store.specs.Content.{HasRoom};
-ghost use Rattle.cj_store.specs.Change.{after, IsFor, owners_at, cron_added, cron_modified, cron_gone, job_added, job_modified, job_gone};
+ghost use Rattle.cj_store.specs.Change.{after, IsFor, cron_added, cron_modified, cron_gone, job_added, job_modified, job_gone};
 
 use crate::{Change, Store};
 use cj_types::{CronJob, Event, Job, Key, Object, Refusal, Shared, TryCopy};

@@ -5,7 +5,7 @@ ghost use Rattle.cj_types.specs.Owners.{controller_of};
 ghost use Rattle.cj_store.specs.Equal.{same_owners};
 ghost use Rattle.cj_base.specs.declared.refusal.Refusal.TheVariants.{OutOfMemory};
 ghost use Rattle.cj_store.specs.Content.{Content, HasRoom};
-ghost use Rattle.cj_store.specs.Jobs.{new_job, job_made, job_created, job_updated, is_asked, last_job, job_deleted, ended_at, ended_job, job_ended};
+ghost use Rattle.cj_store.specs.Jobs.{new_job, job_made, job_created, job_updated, is_asked, last_job, job_deleted, ended_at, job_ended};
 ghost use Rattle.cj_store.specs.Change.{IsFor, job_added, job_modified, job_gone};
 
 use crate::Store;

@@ -1,8 +1,7 @@
 -- The steps of a plan, told by their kinds.
-use Rattle.std.proofs.Common.{◌≡◌, ◌∙◌, ◌<◌, ◌+◌, ℕ, List, [], ◌∷◌, ◌++◌, Bool, Option, Some, None, is_some, map, take, length, refl, ap, sym, append_assoc, add-one, arith}
+use Rattle.std.proofs.Common.{◌≡◌, ◌∙◌, ◌<◌, ◌+◌, ℕ, List, [], ◌∷◌, ◌++◌, Bool, Option, Some, None, is_some, map, take, length, refl, ap, sym, append_assoc, add-one}
 use Rattle.std.proofs.Math.Seq.{take-suc}
-use Rattle.std.proofs.lemmas.List.{append-nil, map_push, map-append}
-use Rattle.cj_calls.specs.declared.call.Call.{Call}
+use Rattle.std.proofs.lemmas.List.{map_push, map-append}
 use Rattle.cj_decide.specs.declared.steps.Steps.{Steps}
 use Rattle.cj_seats.specs.Steps.{Step, drops, makes, sets, makings, settings, all_steps}
 use Rattle.cj_status.specs.declared.refs.JobRef.{JobRef}

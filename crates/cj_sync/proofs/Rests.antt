@@ -1,5 +1,5 @@
 -- Entries joined to those that come after them.
-use Rattle.std.proofs.Common.{◌≡◌, ◌≢◌, ℕ, List, [], ◌∷◌, ◌++◌, Option, Some, None, Result, Ok, Err, IsOk, IsTrue, IfSome, ◌+◌, ◌<◌, map, take, drop, length, get_or, add-one, refl, ap, sym, subst, ◌∙◌, inl, inr, ◌⊎◌, append_assoc}
+use Rattle.std.proofs.Common.{◌≡◌, ◌≢◌, ℕ, List, [], ◌∷◌, ◌++◌, Option, Some, None, Result, Ok, Err, IsOk, IsTrue, IfSome, ◌+◌, ◌<◌, map, take, drop, length, get_or, add-one, refl, ap, sym, subst, ◌∙◌, inl, inr, append_assoc}
 use Rattle.std.proofs.Math.Seq.{take-suc}
 use Rattle.std.proofs.lemmas.List.{append-nil, map_push, map-append, take-append-drop}
 use Rattle.cj_base.specs.declared.refusal.Refusal.{Refusal}
@@ -19,7 +19,7 @@ use Rattle.cj_calls.specs.Rows.{Told, is_in_row, is_refused}
 use Rattle.cj_decide.specs.Decision.{Planned}
 use Rattle.cj_hub.specs.Runs.{IsOne}
 use Rattle.cj_sync.specs.declared.gate.Point.{Point}
-use Rattle.cj_sync.specs.declared.gate.Point.TheVariants.{Taken, Seen, Listed, Claimed, Made}
+use Rattle.cj_sync.specs.declared.gate.Point.TheVariants.{Claimed, Made}
 use Rattle.cj_sync.specs.declared.gate.Reading.{Reading}
 use Rattle.cj_sync.specs.declared.gate.Turn.{Turn}
 use Rattle.cj_sync.specs.declared.gate.Turn.TheVariants.{Go, Stop}
@@ -32,7 +32,7 @@ use Rattle.cj_sync.specs.declared.outline.Next.TheVariants as Kind
 use Rattle.cj_sync.specs.declared.outline.Outline.{Outline}
 use Rattle.cj_sync.specs.Outlines.{IsOutline, call_by, step_calls}
 use Rattle.cj_sync.specs.Sequences.{IsFinish, AllAccepted, Begun, FirstRefused, StopsAt, EndsWith, IsDone, IsWell}
-use Rattle.cj_sync.specs.Syncs.{IsLost, IsUnentered, IsUnfit, IsRetry, IsEarly, IsHalted, IsRetried, IsRest, IsFrom, IsTimely, IsRun, IsSync, SeesActive, SeesJobs, SeesCron, SeesAll, then_plan, calls_of, reasons_by, reasons_with, reasons_of, opening, is_key, key_in}
+use Rattle.cj_sync.specs.Syncs.{IsLost, IsUnentered, IsUnfit, IsEarly, IsHalted, IsRetried, IsRest, IsFrom, IsRun, IsSync, SeesActive, SeesJobs, SeesCron, SeesAll, then_plan, calls_of, reasons_by, reasons_with, reasons_of, opening, is_key, key_in}
 use Rattle.cj_sync.specs.Hitches.{IsHitched, HaltedBy, HasFailed, HasStepped, reasons_at, why_of}
 
 -- none of the calls ends the sync

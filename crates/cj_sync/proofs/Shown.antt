@@ -1,5 +1,5 @@
 -- The end of a sync, as the last receipt shows it.
-use Rattle.std.proofs.Common.{◌≡◌, List, [], ◌∷◌, ◌++◌, Bool, map, IsOk, refl, ap, sym, subst, ◌∙◌, inl, inr, ◌⊎◌}
+use Rattle.std.proofs.Common.{◌≡◌, List, [], ◌∷◌, ◌++◌, Bool, map, IsOk, refl, ap, sym, subst, ◌∙◌, inl, inr}
 use Rattle.std.proofs.lemmas.List.{append-nil}
 use Rattle.cj_base.specs.declared.refusal.Refusal.{Refusal}
 use Rattle.cj_base.specs.declared.refusal.Refusal.TheVariants as No
@@ -19,7 +19,7 @@ use Rattle.cj_sync.specs.declared.gate.Reading.{Reading}
 use Rattle.cj_sync.specs.declared.ending.SyncEnd.{SyncEnd}
 use Rattle.cj_sync.specs.declared.ending.SyncEnd.TheVariants.{Idle, ShutDown, Done, Retried, Broken, Stopped}
 use Rattle.cj_sync.specs.Sequences.{FirstRefused, StopsAt, EndsWith, IsDone, IsPutOff, IsShut, IsAt, IsAgain, Names}
-use Rattle.cj_sync.specs.Syncs.{IsLost, IsUnentered, IsUnfit, IsRetry, IsEarly, IsRetried, IsRest, IsRun, IsSync}
+use Rattle.cj_sync.specs.Syncs.{IsLost, IsUnentered, IsUnfit, IsEarly, IsRetried, IsRest, IsSync}
 use Rattle.cj_sync.specs.Ends.{EndsBy, IsBreaking, IsShown}
 use Rattle.cj_sync.proofs.Rests.{EndsWith-after}
 

@@ -12,7 +12,6 @@ use Rattle.cj_calls.specs.declared.call.Call.TheVariants as Of
 use Rattle.cj_calls.specs.declared.reply.Reply.{Reply}
 use Rattle.cj_calls.specs.declared.reply.Reply.TheVariants as Is
 use Rattle.cj_calls.specs.Rows.{Told}
-use Rattle.cj_decide.specs.Decision.{Planned}
 use Rattle.cj_hub.specs.declared.asking.Halt.{Halt}
 use Rattle.cj_hub.specs.declared.asking.Halt.TheVariants as At
 use Rattle.cj_hub.specs.declared.receipt.Receipt.{Receipt}

@@ -1,5 +1,5 @@
 -- What a caller adds to a history that makes calls one after the other, and stops at the first that is refused.
-use Rattle.std.specs.Prelude.{◌≡◌, ◌⊎◌, IsOk, List, [], ◌∷◌, Result, Err}
+use Rattle.std.specs.Prelude.{◌≡◌, ◌⊎◌, IsOk, List, [], ◌∷◌, Err}
 use Rattle.cj_base.specs.declared.refusal.Refusal.{Refusal}
 use Rattle.cj_base.specs.declared.refusal.Refusal.TheVariants as No
 use Rattle.cj_calls.specs.declared.call.Call.{Call}

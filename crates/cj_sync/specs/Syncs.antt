@@ -1,12 +1,10 @@
 -- One sync of one key: what it adds to a history, by how it ends. The CronJob controller of Kubernetes takes
 -- a key of its work queue, looks at the CronJob and its Jobs, and acts (client-go, workqueue; Kubernetes
 -- CronJob documentation); the calls and their order are the project's choice.
-use Rattle.std.specs.Prelude.{◌≡◌, ◌⊎◌, ℕ, IsOk, IsTrue, Bool, true, false, List, [], ◌∷◌, ◌++◌, Option, Some, None, IfSome, Result, Ok, Err, codes}
+use Rattle.std.specs.Prelude.{◌≡◌, ◌⊎◌, IsOk, Bool, true, false, List, [], ◌∷◌, ◌++◌, Option, Some, None, IfSome, Result, Ok, Err}
 use Rattle.cj_base.specs.declared.refusal.Refusal.{Refusal}
 use Rattle.cj_base.specs.declared.refusal.Refusal.TheVariants as No
 use Rattle.cj_types.specs.Keys.{Place, place}
-use Rattle.cj_types.specs.declared.cron.CronJob.{CronJob}
-use Rattle.cj_types.specs.declared.job.Job.{Job}
 use Rattle.cj_types.specs.declared.policy.Reason.{Reason}
 use Rattle.cj_types.specs.declared.policy.Reason.TheVariants.{FailedCreate}
 use Rattle.cj_zone.specs.declared.table.ZoneTable.{ZoneTable}

@@ -1,5 +1,5 @@
 //! The steps of a claimed plan.
-ghost use Rattle.std.specs.Prelude.{◌≡◌, [], ◌∷◌, map};
+ghost use Rattle.std.specs.Prelude.{[], ◌∷◌, map};
 ghost use Rattle.cj_hub.specs.Runs.{Adds};
 ghost use Rattle.cj_sync.specs.Outlines.{call_by};
 ghost use Rattle.cj_sync.specs.Hitches.{HasStepped};

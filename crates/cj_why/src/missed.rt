@@ -1,7 +1,6 @@
 // How many times were missed, and since when.
 ghost use Rattle.std.specs.Prelude.{◌≡◌, IfOk, IfErr, string_bytes};
 ghost use Rattle.cj_base.specs.declared.refusal.Refusal.TheVariants.{OutOfMemory};
-ghost use Rattle.cj_due.specs.Window.{window_of};
 ghost use Rattle.cj_zone.specs.TimeText.{time_text_of};
 ghost use Rattle.cj_why.specs.Missed.{few_words, many_words, missed_words, no_window, none_words};
 

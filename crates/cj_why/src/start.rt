@@ -1,7 +1,6 @@
 // Why a Job is started at a moment, or why not.
-ghost use Rattle.std.specs.Prelude.{◌≡◌, ◌++◌, IfOk, IfErr, option_copied, string_bytes};
+ghost use Rattle.std.specs.Prelude.{◌≡◌, IfOk, IfErr, option_copied, string_bytes};
 ghost use Rattle.cj_base.specs.declared.refusal.Refusal.TheVariants.{OutOfMemory};
-ghost use Rattle.cj_types.specs.Uids.{uid_text};
 ghost use Rattle.cj_decide.specs.Decision.{running_of};
 ghost use Rattle.cj_why.specs.Why.{IsTimesWhy, IsTextWhy, IsWhy, IsZoneWhy, start_by, start_words, told};
 ghost use Rattle.cj_why.specs.Running.{running_lines};

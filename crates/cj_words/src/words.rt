@@ -1,5 +1,5 @@
 // The words of a command line, read as what they ask for.
-ghost use Rattle.std.specs.Prelude.{◌≡◌, ◌⊎◌, ℕ, ◌≤◌, map, option_map, IfOk, IfErr, IfSome, None, Some};
+ghost use Rattle.std.specs.Prelude.{◌≡◌, ◌⊎◌, ℕ, ◌≤◌, map, option_map, IfOk, IfErr, None, Some};
 ghost use Rattle.clap.specs.Words.{first_of, found_of, rows_of, subcommand_rows_of};
 ghost use Rattle.cj_words.specs.Command.{AreZones, IsAudit, IsCheck, IsDecimal, IsNext, IsOf, IsOfRows, IsPlan, IsReplay, IsRunOf, IsWhy, RefusesWords, is_given, texts_of};
 ghost use Rattle.cj_words.specs.declared.request.AuditRequest.{AuditRequest};

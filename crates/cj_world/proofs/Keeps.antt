@@ -1,10 +1,10 @@
 -- What a world keeps, and what one call adds.
-use Rattle.std.proofs.Common.{◌≡◌, ◌≢◌, ◌⊎◌, inl, inr, ℕ, ◌+◌, ◌≤◌, ◌<◌, Bool, true, false, List, [], ◌∷◌, length, refl, sym, ap, subst, ◌∙◌, arith, IsTrue}
+use Rattle.std.proofs.Common.{◌≡◌, inl, inr, ℕ, ◌≤◌, ◌<◌, Bool, true, false, List, ◌∷◌, length, refl, sym, ap, subst, ◌∙◌, arith, IsTrue}
 use Rattle.std.proofs.lemmas.Bool.Decides.{nat_tests}
-use Rattle.std.specs.Prelude.{◌↔◌, nat_lt, Result, Ok, Err, Option, Some, None, if◌then◌else◌}
+use Rattle.std.specs.Prelude.{◌↔◌, nat_lt, Result, Ok, Err, Some, None, if◌then◌else◌}
 use Rattle.cj_base.specs.declared.refusal.Refusal.{Refusal}
 use Rattle.cj_base.specs.declared.refusal.Refusal.TheVariants.{Empty, HistoryFull, OutOfMemory}
-use Rattle.cj_types.specs.WorldLimits.{Kept, last_history}
+use Rattle.cj_types.specs.WorldLimits.{Kept}
 use Rattle.cj_store.specs.Content.{HasRoom}
 use Rattle.cj_calls.specs.declared.caller.Caller.{Caller}
 use Rattle.cj_calls.specs.declared.call.Call.{Call}
@@ -14,7 +14,7 @@ use Rattle.cj_state.specs.declared.state.State.{State}
 use Rattle.cj_state.specs.Moves.{Moved, moved}
 use Rattle.cj_state.specs.Sound.{IsSound}
 use Rattle.cj_state.specs.Step.{step_of}
-use Rattle.cj_state.specs.Legal.{state_of, answer_of, is_entered, IsLegal, IsPlanned}
+use Rattle.cj_state.specs.Legal.{answer_of, is_entered, IsPlanned}
 use Rattle.cj_legal.specs.Answers.{is_empty, Fine}
 use Rattle.cj_legal.proofs.Fine.{fine}
 use Rattle.cj_legal.proofs.Sound.{sound_of, version_of_history}

@@ -1,15 +1,15 @@
 -- A world as its callers see it, and what one call adds to it.
-use Rattle.std.specs.Prelude.{◌≡◌, ◌≢◌, ◌↔◌, ℕ, ◌≤◌, Bool, true, false, List, [], ◌∷◌, length, Result, Ok, Err, Option, Some, None, if◌then◌else◌}
+use Rattle.std.specs.Prelude.{◌≡◌, ◌≢◌, ◌↔◌, ◌≤◌, true, false, List, [], ◌∷◌, length, Result, Err, Option, Some, None, if◌then◌else◌}
 use Rattle.std.specs.FinMap as map
 use Rattle.cj_base.specs.declared.refusal.Refusal.{Refusal}
-use Rattle.cj_base.specs.declared.refusal.Refusal.TheVariants.{Empty, HistoryFull, OutOfMemory}
+use Rattle.cj_base.specs.declared.refusal.Refusal.TheVariants.{Empty, HistoryFull}
 use Rattle.cj_types.specs.WorldLimits.{Kept, last_history}
 use Rattle.cj_calls.specs.declared.caller.Caller.{Caller}
 use Rattle.cj_calls.specs.declared.call.Call.{Call}
 use Rattle.cj_calls.specs.declared.reply.Reply.{Reply}
 use Rattle.cj_calls.specs.Rows.{Told}
 use Rattle.cj_state.specs.declared.state.State.{State}
-use Rattle.cj_state.specs.Moves.{Moved, moved}
+use Rattle.cj_state.specs.Moves.{moved}
 use Rattle.cj_state.specs.Step.{step_of}
 use Rattle.cj_state.specs.Legal.{state_of, answer_of, is_entered, IsLegal, ArePlanned}
 

@@ -4,7 +4,7 @@ ghost use Rattle.cj_store.specs.Content.{HasRoom};
 ghost use Rattle.cj_base.specs.declared.refusal.Refusal.TheVariants.{OutOfMemory};
 ghost use Rattle.cj_state.specs.Sound.{IsSound};
 ghost use Rattle.cj_legal.specs.Answers.{is_empty};
-ghost use Rattle.cj_world.specs.Worlds.{Advanced, receipts_of, told};
+ghost use Rattle.cj_world.specs.Worlds.{Advanced, receipts_of};
 
 use crate::step::step;
 use cj_base::both;

@@ -11,7 +11,7 @@ use Rattle.jiff_tz.specs.PosixRule as Posix
 use Rattle.jiff_tz.specs.PosixRule.{match_some, rule_nanos, utc_window, in_window, dst_at_by}
 use Rattle.jiff_tz.specs.PosixText.{tz_view, dst_view, day_time_view}
 use Rattle.jiff_tz.specs.Tzif as Table
-use Rattle.jiff_tz.specs.Tzif.{tzif_view, count_at, floor_second, no_transition, transition_at, type_after}
+use Rattle.jiff_tz.specs.Tzif.{tzif_view, count_at, floor_second, no_transition, type_after}
 use Rattle.jiff_tz.specs.TzifText.{transition_text, no_row}
 use Rattle.jiff_tz.specs.Year.{year_of_nanos}
 use Rattle.jiff_tz.specs.declared.posix.DayTime.{DayTime}

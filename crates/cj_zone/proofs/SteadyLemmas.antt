@@ -13,7 +13,7 @@ use Rattle.jiff_core.proofs.SignedLemmas.{signed_arith, signed_casts}
 use Rattle.jiff_tz.specs.declared.info.OffsetInfo.{OffsetInfo}
 use Rattle.jiff_tz.specs.declared.posix.Dst.{Dst}
 use Rattle.jiff_tz.specs.declared.posix.TimeZone.{TimeZone as Rule}
-use Rattle.jiff_tz.specs.PosixRule.{match_some, in_window, ordered, transition_of, utc_window, next_by, next_year, dst_at_by}
+use Rattle.jiff_tz.specs.PosixRule.{match_some, in_window, transition_of, utc_window, next_by, next_year, dst_at_by}
 use Rattle.jiff_tz.specs.PosixRule as Posix
 use Rattle.jiff_tz.specs.Year.{year_of_day, year_of_nanos}
 use Rattle.jiff_tz.proofs.TzifLemmas.{le_yes, le_no}

@@ -1,4 +1,4 @@
-ghost use Rattle.std.specs.Prelude.{◌≡◌, ◌≤◌, ◌+◌, ℕ, pos, ◌*ℤ◌, vec_len};
+ghost use Rattle.std.specs.Prelude.{◌≡◌, ◌≤◌, ◌+◌, ℕ, pos, ◌*ℤ◌};
 ghost use Rattle.jiff_tz.specs.PosixRule as Posix;
 ghost use Rattle.jiff_tz.specs.Tzif as Table;
 ghost use Rattle.cj_zone.specs.Clock.{rules_offset};

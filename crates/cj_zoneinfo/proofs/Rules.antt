@@ -1,5 +1,5 @@
 -- The zones of rules, one after another.
-use Rattle.std.proofs.Common.{◌≡◌, ◌+◌, ◌∙◌, ◌<◌, ℕ, List, ◌∷◌, Bor, drop, get_or, length, map, IsNone, Result, Ok, Err, IfErr, IsErrAnd, ap, subst, inl, inr, rules, arith}
+use Rattle.std.proofs.Common.{◌≡◌, ◌+◌, ◌∙◌, ◌<◌, ℕ, List, ◌∷◌, Bor, drop, get_or, length, map, Result, Ok, Err, IfErr, IsErrAnd, ap, subst, inl, inr, rules, arith}
 use Rattle.std.proofs.lemmas.List.{drop_more}
 use Rattle.cj_zone.specs.declared.zone.Zone.{Zone}
 use Rattle.cj_zone.proofs.ClockLemmas.{clock_read}

@@ -1,6 +1,6 @@
 // The names of zones that may be looked up in a folder.
 ghost use Rattle.std.specs.Prelude.{◌≡◌, ◌==◌};
-ghost use Rattle.std.specs.List.{list_all, slice_split};
+ghost use Rattle.std.specs.List.{list_all};
 ghost use Rattle.cj_zoneinfo.specs.FileName.{StayBelow, has_parts_alone, is_file_name, is_name_byte, is_part};
 
 fn is_name_byte(b: u8) -> bool

@@ -1,5 +1,5 @@
 // A rule as it is given, NAME=RULE.
-ghost use Rattle.std.specs.Prelude.{◌≡◌, MatchOption};
+ghost use Rattle.std.specs.Prelude.{MatchOption};
 ghost use Rattle.cj_zoneinfo.specs.Rules.{HasNoSign, IsPair};
 
 /// The name and the rule, split at the first `=`; none where there is no `=`.

@@ -4,7 +4,6 @@ ghost use Rattle.cj_base.specs.declared.refusal.Refusal.TheVariants.{OutOfMemory
 ghost use Rattle.cj_zone.specs.declared.zone.Zone.{Zone};
 ghost use Rattle.cj_zone.specs.Table.{local_zone, zones_of};
 ghost use Rattle.cj_zone.specs.Zones.{utc_zone};
-ghost use Rattle.cj_zoneinfo.specs.declared.refused.Refused.TheVariants as Why;
 ghost use Rattle.cj_zoneinfo.specs.Rules.{AddsRule, AddsRules, IsNoRule, Refuses};
 ghost use Rattle.cj_zoneinfo.specs.Files.{AddsFile, AddsFiles, IsTableWith};
 

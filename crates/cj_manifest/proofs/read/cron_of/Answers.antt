@@ -1,6 +1,6 @@
 -- cron_of: its call of cron_draft, whose requires plain, flat and named hold where there is no
 -- fault; and its unreachable!, as such a manifest has a draft.
-use Rattle.std.proofs.Common.{◌≡◌, [], rules, sym, ◌∙◌}
+use Rattle.std.proofs.Common.{◌≡◌, [], rules}
 use Rattle.serde_json.specs.View.{view}
 use Rattle.cj_zone.specs.Table.{zones_of}
 use Rattle.cj_manifest.specs.Faults.{cron_faults}

@@ -1,6 +1,6 @@
 -- job_of: its call of job_draft, whose requires plain, flat and named hold where there is no
 -- fault; and its unreachable!, as such a manifest has a draft.
-use Rattle.std.proofs.Common.{◌≡◌, [], rules, sym, ◌∙◌}
+use Rattle.std.proofs.Common.{◌≡◌, [], rules}
 use Rattle.serde_json.specs.View.{view}
 use Rattle.cj_manifest.specs.Faults.{job_faults}
 use Rattle.cj_manifest.proofs.Sound.{job_plain, job_named, job_there}

@@ -1,5 +1,5 @@
 -- serve_replay: its clauses served and failed where a rule of the words is refused.
-use Rattle.std.proofs.Common.{◌≡◌, subst}
+use Rattle.std.proofs.Common.{subst}
 use Rattle.std.specs.Prelude.{MatchOption, []}
 use Rattle.cj_answers.specs.Given.{IsNoneGiven, IsReadUnder}
 use Rattle.cj_program.proofs.Runs.{rule_failed, rule_served}

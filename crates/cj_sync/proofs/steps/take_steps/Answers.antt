@@ -1,5 +1,5 @@
 -- take_steps: its clause, where the gate stops and where a step fails, and its loop's invariant.
-use Rattle.std.proofs.Common.{Ok, Err, ◌≡◌, Result, arith}
+use Rattle.std.proofs.Common.{Ok, Err, arith}
 use Rattle.cj_hub.proofs.Runs.{adds-then}
 use Rattle.cj_sync.proofs.Rests.{step_more, step_last}
 use Rattle.cj_sync.specs.declared.gate.Turn.TheVariants.{Go, Stop}

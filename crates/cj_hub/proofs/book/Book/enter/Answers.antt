@@ -1,6 +1,6 @@
 -- Book::enter: what count_one requires (seated, fits), and the type's invariant, that the book has
 -- the world's limits and counts each pass's entries.
-use Rattle.std.proofs.Common.{◌≡◌, ap, sym, subst, ◌∙◌, arith, List, ◌<◌}
+use Rattle.std.proofs.Common.{ap, sym, subst, ◌∙◌, arith, List}
 use Rattle.cj_calls.specs.Rows.{Told}
 use Rattle.cj_hub.specs.Books.{IsCounted}
 use Rattle.cj_hub.proofs.Placed.{counted_more, counts_fit, seat_within}

@@ -1,5 +1,5 @@
 -- Claimed::go_on: its clause, where all steps are made, where the gate stops, where a step fails.
-use Rattle.std.proofs.Common.{List, ◌∷◌, [], ◌++◌, map}
+use Rattle.std.proofs.Common.{◌∷◌, [], ◌++◌, map}
 use Rattle.cj_calls.specs.declared.call.Call.TheVariants.{Finish}
 use Rattle.cj_calls.specs.declared.end.End.TheVariants.{Well}
 use Rattle.cj_hub.proofs.Runs.{adds-then, adds-weaker}

@@ -1,5 +1,5 @@
 -- Listed::go_on: its clause, where SeeActive is accepted and where it fails.
-use Rattle.std.proofs.Common.{◌≡◌, ◌∷◌, []}
+use Rattle.std.proofs.Common.{◌≡◌, []}
 use Rattle.cj_calls.specs.declared.call.Call.TheVariants.{SeeActive}
 use Rattle.cj_hub.proofs.Runs.{adds-then}
 use Rattle.cj_sync.specs.Syncs.{SeesActive}
