@@ -1,10 +1,9 @@
--- The Jobs that the index has under an owner are the owner's Jobs, in the order of their keys.
-use Rattle.std.proofs.Common.{◌≡◌, Bool, true, false, ◌&&◌, cond, List, [], ◌∷◌, Option, Some, None, refl, sym, ap, ◌∙◌, map as map_list}
+-- The Jobs at the slots that the index has under an owner are the owner's Jobs, in the order of their keys.
+use Rattle.std.proofs.Common.{◌≡◌, ℕ, Bool, true, false, cond, List, [], ◌∷◌, Option, Some, None, refl, sym, ap, ◌∙◌, map as map_list}
 use Rattle.std.specs.Prelude.{T}
-use Rattle.std.specs.declared.cmp.Ordering.{Ordering}
-use Rattle.std.specs.declared.cmp.Ordering.TheVariants.{Less, Equal, Greater}
-use Rattle.std.specs.List.{filter, IsDistinct, AllByRecursion}
-use Rattle.std.specs.Ordering.{is_eq, is_lt, eq_by_cmp}
+use Rattle.std.specs.List.{filter, filter_map, IsDistinct, AllByRecursion}
+use Rattle.std.specs.Option.{option_and_then}
+use Rattle.std.specs.Ordering.{eq_by_cmp}
 use Rattle.std.specs.Cmp.{eq_by_cmp_equiv}
 use Rattle.std.specs.Map.{keys_of}
 use Rattle.std.specs.FinMap as map
@@ -16,33 +15,11 @@ use Rattle.cj_types.specs.declared.job.Job.{Job}
 use Rattle.cj_table.proofs.Order.{places_total, places_exact}
 use Rattle.cj_table.proofs.Gets.{find-lookup}
 use Rattle.cj_jobs.specs.Owners.{is_job_of, owned_by}
-use Rattle.cj_jobs.specs.Index.{Index, own_jobs, owned_job, IsIndex}
-
-abbrev Table : Type 0
-Table = map.FinMap place_cmp Job
-
--- Where each of two tests holds, both hold together.
-both : (a b : Bool) → T a → T b → T (a && b)
-both true b p q = q
-both false b p q = p
-
--- Of two tests that hold together, the first holds.
-first : (a b : Bool) → T (a && b) → T a
-first true b p = tt
-first false b p = p
-
--- Of two tests that hold together, the second holds.
-second : (a b : Bool) → T (a && b) → T b
-second true b p = p
-second false b p = absurd p
+use Rattle.cj_jobs.specs.Slots.{Slots, Table, job_at, jobs_of}
+use Rattle.cj_jobs.specs.Index.{Index, own_slots, is_owned, owned_slot, IsIndex}
+use Rattle.cj_jobs.proofs.Standing.{both, first, second, less_apart, get_jobs, values_jobs}
 
 -- ---- the Jobs that pass a test
-
--- What is less is no tie.
-less_apart : (r : Ordering) → T (is_lt r) → is_eq r ≡ false
-less_apart Less p = refl
-less_apart Equal p = absurd p
-less_apart Greater p = absurd p
 
 -- A key that is below all keys of some entries differs from each of them.
 apart : (x : Place) (es : List (Place × Job)) → T (below_all place_cmp x es)
@@ -97,21 +74,39 @@ module _ (p : Job → Bool) where
 
 -- ---- both are one
 
--- A Job is under an owner just where it passes the test for that CronJob's Jobs.
-kept : (o : Place) (x : Option Job) → owned_job o x ≡ option_filter (is_job_of o) x
-kept o None = refl
-kept o (Some job) = refl
+-- For kept: the Job at a slot that is kept is the Job, where it passes the test.
+kept_slot : (slots : Slots) (o : Place) (slot : ℕ) (there : Option Job) → job_at slots slot ≡ there
+    → option_and_then (job_at slots) (cond (is_owned o there) (Some slot) None) ≡ option_filter (is_job_of o) there
+kept_slot slots o slot None is = refl
+kept_slot slots o slot (Some job) is =
+    elim (is_job_of o job) as (λ b. option_and_then (job_at slots) (cond b (Some slot) None) ≡ cond b (Some job) None)
+    [ true ↦ is | false ↦ refl ]
 
--- For Jobs::owned_by: the Jobs that the index has under a CronJob are the CronJob's Jobs.
-pub found_owned : (m : Table) (s : Index) (o : Place) → IsIndex m s → map.values (own_jobs s o) ≡ owned_by m o
-found_owned m s o index =
-    let same : map.entries (own_jobs s o) ≡ filter (λ e. is_job_of o e.1) (map.entries m) =
-    same_entries place_cmp places_total places_exact _ _ (map.entries_sorted (own_jobs s o))
-    (sorted_filter (is_job_of o) (map.entries m) (map.entries_sorted m)) (λ k.
-    sym (map.get-entries (own_jobs s o) k)
-    ∙ index.exact o k
-    ∙ kept o (map.get m k)
-    ∙ ap (option_filter (is_job_of o)) (map.get-entries m k)
-    ∙ sym (find_filter (is_job_of o) k (map.entries m) (map.entries_sorted m))) in
-    ap (λ (es : List (Place × Job)). map_list (λ e. e.1) es) same
-    ∙ values_filter (is_job_of o) (map.entries m)
+-- The Job at an owner's slot is the Job at the slot, where it passes the test for that CronJob's Jobs.
+kept : (slots : Slots) (o : Place) (x : Option ℕ) → option_and_then (job_at slots) (owned_slot slots o x)
+    ≡ option_filter (is_job_of o) (option_and_then (job_at slots) x)
+kept slots o None = refl
+kept slots o (Some slot) = kept_slot slots o slot (job_at slots slot) refl
+
+-- For found_owned: the Jobs at the slots that the index has under a CronJob are the Jobs that pass its test.
+own_entries : (m : Table) (slots : Slots) (s : Index) (o : Place) → IsIndex m slots s
+    → map.entries (jobs_of (own_slots s o) slots) ≡ filter (λ e. is_job_of o e.1) (map.entries (jobs_of m slots))
+own_entries m slots s o index =
+    let own = jobs_of (own_slots s o) slots in
+    let all = jobs_of m slots in
+    same_entries place_cmp places_total places_exact _ _ (map.entries_sorted own)
+    (sorted_filter (is_job_of o) (map.entries all) (map.entries_sorted all)) (λ k.
+    sym (map.get-entries own k)
+    ∙ get_jobs (own_slots s o) slots k
+    ∙ ap (option_and_then (job_at slots)) (index.exact o k)
+    ∙ kept slots o (map.get m k)
+    ∙ ap (option_filter (is_job_of o)) (sym (get_jobs m slots k) ∙ map.get-entries all k)
+    ∙ sym (find_filter (is_job_of o) k (map.entries all) (map.entries_sorted all)))
+
+-- For Jobs::owned_by: the Jobs at the slots that the index has under a CronJob are the CronJob's Jobs.
+pub found_owned : (m : Table) (slots : Slots) (s : Index) (o : Place) → IsIndex m slots s
+    → filter_map (job_at slots) (map.values (own_slots s o)) ≡ owned_by (jobs_of m slots) o
+found_owned m slots s o index =
+    sym (values_jobs (own_slots s o) slots)
+    ∙ ap (λ (es : List (Place × Job)). map_list (λ e. e.1) es) (own_entries m slots s o index)
+    ∙ values_filter (is_job_of o) (map.entries (jobs_of m slots))

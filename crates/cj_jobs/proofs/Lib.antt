@@ -1,6 +1,10 @@
 pub mod Holds
 pub mod Rows
+pub mod Standing
 pub mod Owning
 pub mod Stored
-pub mod Writes
 pub mod Found
+pub mod Whose
+pub mod Writes
+pub mod Updates
+pub mod Kept

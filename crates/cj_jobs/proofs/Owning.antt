@@ -1,5 +1,5 @@
 -- What a write to the index changes under each owner.
-use Rattle.std.proofs.Common.{◌≡◌, Bool, true, false, ◌&&◌, cond, Option, Some, None, refl, sym, ap, ◌∙◌}
+use Rattle.std.proofs.Common.{◌≡◌, ℕ, Bool, true, false, ◌&&◌, cond, Option, Some, None, refl, sym, ap, ◌∙◌}
 use Rattle.std.specs.declared.cmp.Ordering.{Ordering}
 use Rattle.std.specs.declared.cmp.Ordering.TheVariants.{Less, Equal, Greater}
 use Rattle.std.specs.Ordering.{is_eq}
@@ -7,13 +7,10 @@ use Rattle.std.specs.Cmp.{eq_by_cmp_equiv}
 use Rattle.std.specs.BTreeMap.{is_at}
 use Rattle.std.specs.FinMap as map
 use Rattle.cj_types.specs.Keys.{Place, place_cmp}
-use Rattle.cj_types.specs.declared.job.Job.{Job}
 use Rattle.cj_table.proofs.Order.{places_total, places_exact}
 use Rattle.cj_table.proofs.Puts.{alike}
-use Rattle.cj_jobs.specs.Index.{Index, or_none, own_jobs, Sets}
-
-abbrev Own : Type 0
-Own = map.FinMap place_cmp Job
+use Rattle.cj_jobs.specs.Slots.{Table}
+use Rattle.cj_jobs.specs.Index.{Index, or_none, own_slots, Sets}
 
 -- An order that ties is Equal.
 tie : (o : Ordering) → is_eq o ≡ true → o ≡ Equal
@@ -49,90 +46,90 @@ module _ {X : Type 0} where
       ∙ either (is_at (place_cmp k) q) v (map.get m q) (λ t. ap (map.get m) (sym (one k q t)) ∙ e))
 
 -- For own_put: what is put is the owner's, and the others keep theirs.
-put_or : (b : Bool) (w : Own) (old : Option Own) → or_none (cond b (Some w) old) ≡ cond b w (or_none old)
+put_or : (b : Bool) (w : Table) (old : Option Table) → or_none (cond b (Some w) old) ≡ cond b w (or_none old)
 put_or true w old = refl
 put_or false w old = refl
 
 -- For own_removal: nothing is the owner's, and the others keep theirs.
-removal_or : (b : Bool) (old : Option Own) → or_none (cond b None old) ≡ cond b map.empty (or_none old)
+removal_or : (b : Bool) (old : Option Table) → or_none (cond b None old) ≡ cond b map.empty (or_none old)
 removal_or true old = refl
 removal_or false old = refl
 
 -- After w is put at an owner, w is what it has, and each other has what it had.
-pub own_put : (s : Index) (owner : Place) (w : Own) (o : Place) → own_jobs (map.insert s owner w) o
-    ≡ cond (is_at (place_cmp owner) o) w (own_jobs s o)
+pub own_put : (s : Index) (owner : Place) (w : Table) (o : Place) → own_slots (map.insert s owner w) o
+    ≡ cond (is_at (place_cmp owner) o) w (own_slots s o)
 own_put s owner w o = ap or_none (get_put s owner w o) ∙ put_or (is_at (place_cmp owner) o) w (map.get s o)
 
 -- After an owner is taken out it has nothing, and each other has what it had.
-pub own_removal : (s : Index) (owner o : Place) → own_jobs (map.remove s owner) o
-    ≡ cond (is_at (place_cmp owner) o) map.empty (own_jobs s o)
+pub own_removal : (s : Index) (owner o : Place) → own_slots (map.remove s owner) o
+    ≡ cond (is_at (place_cmp owner) o) map.empty (own_slots s o)
 own_removal s owner o = ap or_none (get_removal s owner o) ∙ removal_or (is_at (place_cmp owner) o) (map.get s o)
 
 -- For sets_put: at one owner.
-put_step : (b : Bool) (was old : Own) (key k : Place) (job : Job) → (b ≡ true → was ≡ old)
-    → map.get (cond b (map.insert was key job) old) k
-    ≡ cond (b && is_at (place_cmp key) k) (Some job) (map.get old k)
-put_step true was old key k job h = get_put was key job k
-    ∙ ap (λ (m : Own). cond (is_at (place_cmp key) k) (Some job) (map.get m k)) (h refl)
-put_step false was old key k job h = refl
+put_step : (b : Bool) (was old : Table) (key k : Place) (slot : ℕ) → (b ≡ true → was ≡ old)
+    → map.get (cond b (map.insert was key slot) old) k
+    ≡ cond (b && is_at (place_cmp key) k) (Some slot) (map.get old k)
+put_step true was old key k slot h = get_put was key slot k
+    ∙ ap (λ (m : Table). cond (is_at (place_cmp key) k) (Some slot) (map.get m k)) (h refl)
+put_step false was old key k slot h = refl
 
 -- For sets_taken: at one owner.
-taken_step : (b : Bool) (was old : Own) (key k : Place) → (b ≡ true → was ≡ old)
+taken_step : (b : Bool) (was old : Table) (key k : Place) → (b ≡ true → was ≡ old)
     → map.get (cond b (map.remove was key) old) k ≡ cond (b && is_at (place_cmp key) k) None (map.get old k)
 taken_step true was old key k h = get_removal was key k
-    ∙ ap (λ (m : Own). cond (is_at (place_cmp key) k) None (map.get m k)) (h refl)
+    ∙ ap (λ (m : Table). cond (is_at (place_cmp key) k) None (map.get m k)) (h refl)
 taken_step false was old key k h = refl
 
 -- For sets_absent: at one owner.
-absent_step : (b c : Bool) (old : Own) (k : Place) → (b ≡ true → old ≡ map.empty)
+absent_step : (b c : Bool) (old : Table) (k : Place) → (b ≡ true → old ≡ map.empty)
     → map.get old k ≡ cond (b && c) None (map.get old k)
-absent_step true true old k h = ap (λ (m : Own). map.get m k) (h refl) ∙ map.get-empty place_cmp k
+absent_step true true old k h = ap (λ (m : Table). map.get m k) (h refl) ∙ map.get-empty place_cmp k
 absent_step true false old k h = refl
 absent_step false c old k h = refl
 
--- For ByOwner::put: the owner's Jobs with one more, or with another in place of one, put at the owner.
-pub sets_put : (s t : Index) (owner key : Place) (w : Own) (job : Job) → t ≡ map.insert s owner w
-    → w ≡ map.insert (own_jobs s owner) key job → Sets (Some job) s t (Some owner) key
-sets_put s t owner key w job e f = λ o k.
-    ap (λ (x : Index). map.get (own_jobs x o) k) e
-    ∙ ap (λ (m : Own). map.get m k) (own_put s owner w o)
-    ∙ ap (λ (m : Own). map.get (cond (is_at (place_cmp owner) o) m (own_jobs s o)) k) f
-    ∙ put_step (is_at (place_cmp owner) o) (own_jobs s owner) (own_jobs s o) key k job
-    (λ t. ap (own_jobs s) (one owner o t))
+-- For ByOwner::put: the owner's slots with one more, or with another in place of one, put at the owner.
+pub sets_put : (s t : Index) (owner key : Place) (w : Table) (slot : ℕ) → t ≡ map.insert s owner w
+    → w ≡ map.insert (own_slots s owner) key slot → Sets (Some slot) s t (Some owner) key
+sets_put s t owner key w slot e f = λ o k.
+    ap (λ (x : Index). map.get (own_slots x o) k) e
+    ∙ ap (λ (m : Table). map.get m k) (own_put s owner w o)
+    ∙ ap (λ (m : Table). map.get (cond (is_at (place_cmp owner) o) m (own_slots s o)) k) f
+    ∙ put_step (is_at (place_cmp owner) o) (own_slots s owner) (own_slots s o) key k slot
+    (λ t. ap (own_slots s) (one owner o t))
 
 -- For taken_kept and taken_last: each owner but this one has what it had, and this one not the key.
-sets_taken : (s t : Index) (owner key : Place) (w : Own) → w ≡ map.remove (own_jobs s owner) key
-    → ((o : Place) → own_jobs t o ≡ cond (is_at (place_cmp owner) o) w (own_jobs s o)) → Sets None s t (Some owner) key
+sets_taken : (s t : Index) (owner key : Place) (w : Table) → w ≡ map.remove (own_slots s owner) key
+    → ((o : Place) → own_slots t o ≡ cond (is_at (place_cmp owner) o) w (own_slots s o)) → Sets None s t (Some owner) key
 sets_taken s t owner key w f h = λ o k.
-    ap (λ (m : Own). map.get m k) (h o)
-    ∙ ap (λ (m : Own). map.get (cond (is_at (place_cmp owner) o) m (own_jobs s o)) k) f
-    ∙ taken_step (is_at (place_cmp owner) o) (own_jobs s owner) (own_jobs s o) key k
-    (λ t. ap (own_jobs s) (one owner o t))
+    ap (λ (m : Table). map.get m k) (h o)
+    ∙ ap (λ (m : Table). map.get (cond (is_at (place_cmp owner) o) m (own_slots s o)) k) f
+    ∙ taken_step (is_at (place_cmp owner) o) (own_slots s owner) (own_slots s o) key k
+    (λ t. ap (own_slots s) (one owner o t))
 
--- For ByOwner::take: the owner's Jobs without one, put at the owner.
-pub taken_kept : (s t : Index) (owner key : Place) (w : Own) → w ≡ map.remove (own_jobs s owner) key
+-- For ByOwner::take: the owner's slots without one, put at the owner.
+pub taken_kept : (s t : Index) (owner key : Place) (w : Table) → w ≡ map.remove (own_slots s owner) key
     → t ≡ map.insert s owner w → Sets None s t (Some owner) key
 taken_kept s t owner key w f e = sets_taken s t owner key w f
-    (λ o. ap (λ (x : Index). own_jobs x o) e ∙ own_put s owner w o)
+    (λ o. ap (λ (x : Index). own_slots x o) e ∙ own_put s owner w o)
 
 -- For taken_last: nothing is chosen for the owner once more.
-twice : (b : Bool) (w old : Own) → w ≡ map.empty → cond b map.empty (cond b w old) ≡ cond b w old
+twice : (b : Bool) (w old : Table) → w ≡ map.empty → cond b map.empty (cond b w old) ≡ cond b w old
 twice true w old e = sym e
 twice false w old e = refl
 
--- For ByOwner::take: the owner taken out, where without the key it has no Job.
-pub taken_last : (s t u : Index) (owner key : Place) (w : Own) → w ≡ map.remove (own_jobs s owner) key
+-- For ByOwner::take: the owner taken out, where without the key it has no slot.
+pub taken_last : (s t u : Index) (owner key : Place) (w : Table) → w ≡ map.remove (own_slots s owner) key
     → t ≡ map.insert s owner w → w ≡ map.empty → u ≡ map.remove t owner → Sets None s u (Some owner) key
 taken_last s t u owner key w f e none g = sets_taken s u owner key w f (λ o.
-    ap (λ (x : Index). own_jobs x o) g
+    ap (λ (x : Index). own_slots x o) g
     ∙ own_removal t owner o
-    ∙ ap (λ (x : Index). cond (is_at (place_cmp owner) o) map.empty (own_jobs x o)) e
+    ∙ ap (λ (x : Index). cond (is_at (place_cmp owner) o) map.empty (own_slots x o)) e
     ∙ ap (cond (is_at (place_cmp owner) o) map.empty) (own_put s owner w o)
-    ∙ twice (is_at (place_cmp owner) o) w (own_jobs s o) none)
+    ∙ twice (is_at (place_cmp owner) o) w (own_slots s o) none)
 
--- For ByOwner::take: an owner that has no Jobs.
+-- For ByOwner::take: an owner that has no slots.
 pub sets_absent : (s t : Index) (owner key : Place) → map.get s owner ≡ None → t ≡ s → Sets None s t (Some owner) key
 sets_absent s t owner key none e = λ o k.
-    ap (λ (x : Index). map.get (own_jobs x o) k) e
-    ∙ absent_step (is_at (place_cmp owner) o) (is_at (place_cmp key) k) (own_jobs s o) k
-    (λ t. ap (own_jobs s) (sym (one owner o t)) ∙ ap or_none none)
+    ap (λ (x : Index). map.get (own_slots x o) k) e
+    ∙ absent_step (is_at (place_cmp owner) o) (is_at (place_cmp key) k) (own_slots s o) k
+    (λ t. ap (own_slots s) (sym (one owner o t)) ∙ ap or_none none)

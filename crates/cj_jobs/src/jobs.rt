@@ -5,7 +5,9 @@ ghost use Rattle.cj_jobs.specs.Owners.{owned_by, owners_of};
 
 use crate::by_owner::ByOwner;
 use crate::owner::Owner;
-use cj_base::{all_three, both};
+use crate::slot::Slot;
+use crate::slots::Slots;
+use cj_base::all_three;
 use cj_table::Table;
 use cj_types::{Job, Key, Listing, Refusal, Shared, TryCopy};
 use std::alloc::Global;
@@ -22,7 +24,10 @@ fn key_of(alloc: Global, job: &Shared<Job>) -> Result<Key, Refusal>
 /// Jobs by key, each at its own, with an index that has under each CronJob the Jobs that it owns. Contracts see the
 /// Jobs by key alone.
 pub struct Jobs {
-    table: Table<Shared<Job>>,
+    // The Jobs themselves.
+    slots: Slots,
+    // For each key the slot of its Job.
+    table: Table<Slot>,
     index: ByOwner,
 }
 
@@ -31,21 +36,27 @@ impl Model for Jobs {
     ghost use Rattle.cj_types.specs.Keys.{place_cmp, coded_place};
     ghost use Rattle.cj_types.specs.declared.job.Job.{Job};
     ghost use Rattle.cj_types.specs.contracts.job.Job.{the_row as job};
+    ghost use Rattle.cj_jobs.specs.Slots.{jobs_of};
     ghost use Rattle.cj_jobs.specs.Index.{IsIndex};
 
     ghost Value = { map.FinMap place_cmp Job };
 
     ghost coded = { map.code coded_place job.coded };
 
-    ghost view = { λ s. s.table };
+    ghost view = { λ s. jobs_of s.table s.slots };
 
-    ghost invariant = { λ s. IsIndex s.table s.index };
+    ghost invariant = { λ s. IsIndex s.table s.slots s.index };
 }
 
 // A function of its own, so that whoever gives up Jobs makes one call and not one for each part.
 impl Drop for Jobs {
     fn drop(self) {
-        let Jobs { table, index } = self;
+        let Jobs {
+            slots,
+            table,
+            index,
+        } = self;
+        drop(slots);
         drop(table);
         drop(index);
     }
@@ -57,6 +68,7 @@ impl Jobs {
         ensures { result ≡ map.empty }
     {
         Jobs {
+            slots: Slots::new(alloc),
             table: Table::new(alloc),
             index: ByOwner::new(alloc),
         }
@@ -67,7 +79,8 @@ impl Jobs {
         ensures value { option_copied result ≡ map.get self.now key.now }
         ensures keyed { IfSome result (λ j. j.now.key ≡ key.now) }
     {
-        self.table.get(key)
+        let slot = self.table.get(key)?;
+        self.slots.get(*slot)
     }
 
     /// The Jobs in the order of their keys. No Job is copied.
@@ -75,7 +88,11 @@ impl Jobs {
         ensures ok { IfOk result (λ l. l ≡ map.values self.now) }
         ensures memory { IfErr result (λ e. e ≡ OutOfMemory) }
     {
-        Listing::new(alloc, self.table.list(alloc)?)
+        let mut jobs = Vec::new(alloc);
+        for slot in self.table.list(alloc)? {
+            self.slots.push_shared(&mut jobs, slot)?;
+        }
+        Listing::new(alloc, jobs)
     }
 
     /// The Jobs of the key's namespace whose controller reference names a CronJob of `batch/v1` of the key's
@@ -85,7 +102,7 @@ impl Jobs {
         ensures memory { IfErr result (λ e. e ≡ OutOfMemory) }
     {
         let owner = Owner::at(alloc, key)?;
-        self.index.list(alloc, &owner)
+        self.index.list(alloc, &self.slots, &owner)
     }
 
     /// Puts a Job at its key, where none stands. Where there is no memory the Jobs are as they were.
@@ -100,9 +117,14 @@ impl Jobs {
             key_of(alloc, &job),
             job.share(),
         )?;
-        self.table.insert(key, shared)?;
-        if let Err(refusal) = self.index.put(alloc, owner, &job) {
+        let slot = self.slots.put(shared)?;
+        if let Err(refusal) = self.table.insert(key, slot) {
+            self.slots.clear(slot);
+            return Err(refusal);
+        }
+        if let Err(refusal) = self.index.put(alloc, owner, &job.key, slot) {
             self.table.remove(&job.key);
+            self.slots.clear(slot);
             return Err(refusal);
         }
         Ok(())
@@ -116,10 +138,11 @@ impl Jobs {
         ensures err { OnErr result (self.new ≡ self.old) }
         ensures memory { IfErr result (λ e. e ≡ OutOfMemory) }
     {
-        let (owner, key) = both(Owner::of(alloc, &job), key_of(alloc, &job))?;
-        self.index.put(alloc, owner, &job)?;
-        // A Job stands at the key, so this needs no memory.
-        let _ = self.table.insert(key, job);
+        // The slot is the same, and so is the owner: the table and the index stay as they are.
+        match self.table.get(&job.key) {
+            Some(slot) => self.slots.set(*slot, job),
+            None => unreachable!(),
+        }
         Ok(())
     }
 
@@ -129,9 +152,13 @@ impl Jobs {
         ensures err { OnErr result (self.new ≡ self.old) }
         ensures memory { IfErr result (λ e. e ≡ OutOfMemory) }
     {
-        let owner = Owner::standing(alloc, &self.table, key)?;
+        let Some(slot) = self.table.get(key).copied() else {
+            return Ok(());
+        };
+        let owner = Owner::standing(alloc, &self.slots, slot)?;
         self.index.take(owner, key);
         self.table.remove(key);
+        self.slots.clear(slot);
         Ok(())
     }
 }

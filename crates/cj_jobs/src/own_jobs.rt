@@ -1,27 +1,31 @@
-ghost use Rattle.std.specs.Prelude.{◌≡◌, ◌++◌, ◌∷◌, [], IfOk, IfErr, OnOk, OnErr, IsTrue};
+ghost use Rattle.std.specs.Prelude.{◌≡◌, IfOk, IfErr, OnOk, OnErr, IsTrue};
+ghost use Rattle.std.specs.List.{filter_map};
 ghost use Rattle.std.specs.FinMap as map;
 ghost use Rattle.cj_base.specs.declared.refusal.Refusal.TheVariants.{OutOfMemory};
+ghost use Rattle.cj_jobs.specs.Slots.{job_at};
 
+use crate::slot::Slot;
+use crate::slots::Slots;
 use cj_types::{Job, Key, Listing, Refusal, Shared};
 use std::alloc::Global;
 use std::collections::BTreeMap;
 use std::marker::Model;
 
-// The Jobs of one owner, by key and in the order of keys.
+// The slots of one owner's Jobs, by key and in the order of keys.
 #[derive(Drop)]
 pub(crate) struct OwnJobs {
-    rows: BTreeMap<Key, Shared<Job>>,
+    rows: BTreeMap<Key, Slot>,
 }
 
 impl Model for OwnJobs {
+    ghost use Rattle.std.specs.Prelude.{ℕ};
+    ghost use Rattle.std.specs.Coded.{coded_ℕ};
     ghost use Rattle.std.specs.FinMap as map;
     ghost use Rattle.cj_types.specs.Keys.{place_cmp, coded_place};
-    ghost use Rattle.cj_types.specs.declared.job.Job.{Job};
-    ghost use Rattle.cj_types.specs.contracts.job.Job.{the_row as job};
 
-    ghost Value = { map.FinMap place_cmp Job };
+    ghost Value = { map.FinMap place_cmp ℕ };
 
-    ghost coded = { map.code coded_place job.coded };
+    ghost coded = { map.code coded_place coded_ℕ };
 
     ghost view = { λ o. map.from_entries o.rows.entries };
 }
@@ -44,20 +48,20 @@ impl OwnJobs {
         self.rows.is_empty()
     }
 
-    // Puts the Job at the key, in place of the one that stood there.
+    // Puts the slot at the key, in place of the one that stood there.
     #[tactic(auto, using(crate::proofs::Rows::inserted_row))]
-    pub(crate) fn insert(&mut self, key: Key, job: Shared<Job>) -> Result<(), Refusal>
-        ensures ok { OnOk result (self.new ≡ map.insert self.old key job) }
+    pub(crate) fn insert(&mut self, key: Key, slot: Slot) -> Result<(), Refusal>
+        ensures ok { OnOk result (self.new ≡ map.insert self.old key slot) }
         ensures err { OnErr result (self.new ≡ self.old) }
         ensures memory { IfErr result (λ e. e ≡ OutOfMemory) }
     {
-        match self.rows.insert(key, job) {
+        match self.rows.insert(key, slot) {
             Ok(_) => Ok(()),
             Err(_) => Err(Refusal::OutOfMemory),
         }
     }
 
-    // Takes the key and its Job out, if they are there.
+    // Takes the key and its slot out, if they are there.
     #[tactic(auto, using(crate::proofs::Rows::removed_row))]
     pub(crate) fn remove(&mut self, key: &Key)
         ensures { self.new ≡ map.remove self.old key.now }
@@ -65,23 +69,15 @@ impl OwnJobs {
         self.rows.remove(key);
     }
 
-    // The Jobs in the order of their keys.
-    pub(crate) fn list(&self, alloc: Global) -> Result<Listing<Shared<Job>>, Refusal>
-        ensures ok { IfOk result (λ l. l ≡ map.values self.now) }
+    // The Jobs at the slots, in the order of their keys.
+    pub(crate) fn list(&self, alloc: Global, slots: &Slots) -> Result<Listing<Shared<Job>>, Refusal>
+        ensures ok { IfOk result (λ l. l ≡ filter_map (job_at slots.now) (map.values self.now)) }
         ensures memory { IfErr result (λ e. e ≡ OutOfMemory) }
     {
         let mut jobs = Vec::new(alloc);
-        for job in self.rows.values() {
-            push_shared(&mut jobs, job)?;
+        for slot in self.rows.values() {
+            slots.push_shared(&mut jobs, *slot)?;
         }
         Listing::new(alloc, jobs)
     }
-}
-
-// The Job once more, behind those that were found before.
-fn push_shared(jobs: &mut Vec<Shared<Job>>, job: &Shared<Job>) -> Result<(), Refusal>
-    ensures ok { OnOk result (jobs.new.items ≡ jobs.old.items ++ job.now ∷ []) }
-    ensures memory { IfErr result (λ e. e ≡ OutOfMemory) }
-{
-    jobs.push(job.share()?).map_err(|_| Refusal::OutOfMemory)
 }

@@ -4,12 +4,13 @@ ghost use Rattle.std.specs.Cmp.Rules.{comparing, hashing};
 ghost use Rattle.std.specs.Hash as fed;
 ghost use Rattle.std.specs.Cmp.Lexicographic.{pointwise};
 ghost use Rattle.std.specs.Ordering.{on, eq_of_both};
-ghost use Rattle.std.specs.FinMap as map;
 ghost use Rattle.cj_base.specs.declared.refusal.Refusal.TheVariants.{OutOfMemory};
+ghost use Rattle.cj_jobs.specs.Slots.{job_at};
 ghost use Rattle.cj_jobs.specs.Index.{owner_of, owner_at};
 
+use crate::slot::Slot;
+use crate::slots::Slots;
 use cj_base::both;
-use cj_table::Table;
 use cj_types::{Job, Key, Refusal, Shared, Text, TryCopy};
 use std::alloc::Global;
 use std::hash::{Hash, Hasher};
@@ -45,16 +46,16 @@ impl Owner {
         Ok(Some(Owner { namespace, name }))
     }
 
-    // The CronJob that the Job at the key names, if one stands there and names one.
+    // The CronJob that the Job at the slot names, if one stands there and names one.
     pub(crate) fn standing(
         alloc: Global,
-        table: &Table<Shared<Job>>,
-        key: &Key,
+        slots: &Slots,
+        slot: Slot,
     ) -> Result<Option<Owner>, Refusal>
-        ensures ok { IfOk result (λ o. o ≡ owner_at (map.get table.now key.now)) }
+        ensures ok { IfOk result (λ o. o ≡ owner_at (job_at slots.now slot)) }
         ensures err { IfErr result (λ e. e ≡ OutOfMemory) }
     {
-        match table.get(key) {
+        match slots.get(slot) {
             Some(job) => Owner::of(alloc, job),
             None => Ok(None),
         }

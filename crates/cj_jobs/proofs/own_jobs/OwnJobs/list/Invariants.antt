@@ -1,6 +1,9 @@
--- OwnJobs::list: its loop; at each turn the Jobs pushed and those to come are all.
+-- OwnJobs::list: its loop; at each turn the Jobs pushed and those at the slots to come are the Jobs at all slots.
 use Rattle.std.proofs.Common.{◌≡◌, ◌++◌}
+use Rattle.std.specs.List.{filter_map}
+use Rattle.cj_jobs.specs.Slots.{job_at}
 use Rattle.cj_jobs.proofs.own_jobs.OwnJobs.list.Given as goal
 
-abbrev pub invariant-loop-job : goal.invariant-loop-job
-invariant-loop-job l = l.jobs.items ++ l.job-iterator ≡ l.initial.job-iterator
+abbrev pub invariant-loop-slot : goal.invariant-loop-slot
+invariant-loop-slot l = l.jobs.items ++ filter_map (job_at l.slots) l.slot-iterator
+    ≡ filter_map (job_at l.slots) l.initial.slot-iterator
