@@ -130,20 +130,16 @@ impl Jobs {
         Ok(())
     }
 
-    /// Puts a Job in place of the one at its key, which has the same owner references. Where there is no
-    /// memory the Jobs are as they were.
-    pub fn replace(&mut self, alloc: Global, job: Shared<Job>) -> Result<(), Refusal>
+    /// Puts a Job in place of the one at its key, which has the same owner references. This takes no memory.
+    pub fn replace(&mut self, job: Shared<Job>)
         requires { owners_of self.old job.key ≡ Some job.owners }
-        ensures ok { OnOk result (self.new ≡ map.insert self.old job.key job) }
-        ensures err { OnErr result (self.new ≡ self.old) }
-        ensures memory { IfErr result (λ e. e ≡ OutOfMemory) }
+        ensures { self.new ≡ map.insert self.old job.key job }
     {
         // The slot is the same, and so is the owner: the table and the index stay as they are.
         match self.table.get(&job.key) {
             Some(slot) => self.slots.set(*slot, job),
             None => unreachable!(),
         }
-        Ok(())
     }
 
     /// Takes the Job at the key out, if there is one. Where there is no memory the Jobs are as they were.

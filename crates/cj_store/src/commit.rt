@@ -41,7 +41,10 @@ impl Store {
                 Ok(())
             }
             Event::Added(Object::Job(job)) => self.add_job(alloc, job),
-            Event::Modified(Object::Job(job)) => self.put_job(alloc, job),
+            Event::Modified(Object::Job(job)) => {
+                self.put_job(job);
+                Ok(())
+            }
             Event::Deleted(Object::Job(job)) => self.remove_job(alloc, job),
         }
     }
@@ -81,16 +84,13 @@ impl Store {
         self.writes += 1;
     }
 
-    fn put_job(&mut self, alloc: Global, job: Shared<Job>) -> Result<(), Refusal>
+    fn put_job(&mut self, job: Shared<Job>)
         requires room { HasRoom self.old }
         requires planned { IsFor self.old (job_modified job) }
-        ensures ok { OnOk result (self.new ≡ after self.old (job_modified job)) }
-        ensures err { OnErr result (self.new ≡ self.old) }
-        ensures memory { IfErr result (λ e. e ≡ OutOfMemory) }
+        ensures { self.new ≡ after self.old (job_modified job) }
     {
-        self.jobs.replace(alloc, job)?;
+        self.jobs.replace(job);
         self.writes += 1;
-        Ok(())
     }
 
     fn add_job(&mut self, alloc: Global, job: Shared<Job>) -> Result<(), Refusal>

@@ -1,5 +1,5 @@
 -- Jobs::replace: that its key has a slot where a Job stands, the type's invariant, that the index and the table agree
--- with the slots with the Job in place of the old one, and its clause ok.
+-- with the slots with the Job in place of the old one, and its one clause.
 use Rattle.std.proofs.Common.{◌≡◌, Some, ap, ◌∙◌}
 use Rattle.std.specs.FinMap as map
 use Rattle.cj_types.specs.Keys.{place_cmp}
@@ -29,8 +29,8 @@ unreachable-requires c =
     replaced_stands c.self.inside.table c.self.inside.slots c.args.job owners
     (c.in-None.ensures ∙ ap (λ (j : Job). map.get c.self.inside.table j.key) c.deref.ensures)
 
-pub returns-clause-ok : goal.returns-clause-ok
-returns-clause-ok c =
+pub returns : goal.returns
+returns c =
     let is = c.in-Some.ensures ∙ ap (λ (j : Job). map.get c.self.inside.table j.key) c.deref.ensures in
     jobs_replaced c.self.inside.table c.self.inside.slots c.set.new.self c.self.inside.index c.args.job
     c.in-Some.slot.now c.self.invariant is c.set.ensures

@@ -4,8 +4,8 @@ use Rattle.cj_store.specs.Content.{JobAt}
 use Rattle.cj_store.proofs.Kept.{put_job_sound, standing_uid}
 use Rattle.cj_store.proofs.store.Store.put_job.Goals as goal
 
-pub invariant_of-self-2 : goal.invariant_of-self-2
-invariant_of-self-2 c =
+pub invariant_of-self : goal.invariant_of-self
+invariant_of-self c =
     let planned = rw (← c.self.view_is) at c.requires.planned in
     let version : c.args.job.meta.version ≡ c.self.inside.writes + 1 = planned.0 in
     let generation : c.args.job.meta.generation ≤ c.self.inside.writes + 1 = planned.1.2 in
@@ -23,5 +23,5 @@ invariant_of-self-2 c =
       jobs = c.self.inside.jobs;
       version = c.self.inside.writes;
       uids = c.self.inside.creations;
-    }) _ _ c.args.job _ c.self.invariant c.in_ok-replace.ensures.ok refl generation
+    }) _ _ c.args.job _ c.self.invariant c.replace.ensures refl generation
     version (omega arith) uid (omega arith) (inr planned.1.1)
