@@ -1,83 +1,68 @@
-use crate::rows::{Question, first_wrong, halves};
-use crate::samples::read_labels;
-use cj_types::{Labels, Refusal};
+use crate::rows::{Row, first_wrong, none_wrong};
+use crate::samples::{labels, take};
+use cj_types::Labels;
 use std::alloc::Global;
 
-// Entries in the order in which they are put, and as they then stand: each name once, by its bytes, with its
-// last value.
-const PUT: &str = "\
-|
-k=v|k=v
-b=1 a=2|a=2 b=1
-a=1 b=2|a=1 b=2
-k=old app=c k=new|app=c k=new
-a=1 a=2 a=3|a=3
-c=1 b=2 a=3 b=4|a=3 b=4 c=1
-aa=1 a=2 ab=3 b=4|a=2 aa=1 ab=3 b=4
-a=1 B=2 _=3 é=4 -=5 0=6|-=5 0=6 B=2 _=3 a=1 é=4
-a/b=1 a.b=2 a-b=3|a-b=3 a.b=2 a/b=1
-a= =b|=b a=";
+// Entries in the order in which they are put, and as they then stand; a name, and the value that is found there.
+struct Put(&'static str, &'static str, &'static str, &'static str);
 
-/// Writes the entries, as the table has them.
-pub fn write_labels(labels: &Labels, text: &mut String) -> Result<(), Refusal> {
-    let mut gap = "";
+// Each name stands once, by its bytes, with its last value.
+const PUT: [Put; 16] = [
+    Put("", "", "", "none"),
+    Put("k=v", "k=v", "k", "v"),
+    Put("b=1 a=2", "a=2 b=1", "a", "2"),
+    Put("a=1 b=2", "a=1 b=2", "a", "1"),
+    Put("k=old app=c k=new", "app=c k=new", "k", "new"),
+    Put("k=old app=c k=new", "app=c k=new", "app", "c"),
+    Put("k=old app=c k=new", "app=c k=new", "j", "none"),
+    Put("k=old app=c k=new", "app=c k=new", "", "none"),
+    Put("k=old app=c k=new", "app=c k=new", "kk", "none"),
+    Put("k=old app=c k=new", "app=c k=new", "ap", "none"),
+    Put("a=1 a=2 a=3", "a=3", "a", "3"),
+    Put("c=1 b=2 a=3 b=4", "a=3 b=4 c=1", "b", "4"),
+    Put("aa=1 a=2 ab=3 b=4", "a=2 aa=1 ab=3 b=4", "ab", "3"),
+    Put(
+        "a=1 B=2 _=3 é=4 -=5 0=6",
+        "-=5 0=6 B=2 _=3 a=1 é=4",
+        "é",
+        "4",
+    ),
+    Put("a/b=1 a.b=2 a-b=3", "a-b=3 a.b=2 a/b=1", "a/b", "1"),
+    Put("a= =b", "=b a=", "", "b"),
+];
+
+// Whether just the entries of the words stand, in this order.
+fn stand(labels: &Labels, words: &str) -> bool {
+    let mut words = words;
     for (name, value) in labels.as_slice() {
-        text.push_str(gap)?;
-        text.push_str(name.as_str())?;
-        text.push('=')?;
-        text.push_str(value.as_str())?;
-        gap = " ";
-    }
-    Ok(())
-}
-
-struct Entries;
-
-impl Question for Entries {
-    fn answer(alloc: Global, words: &str, text: &mut String) -> Result<(), Refusal> {
-        let labels = read_labels(alloc, words)?;
-        if labels.is_empty() && words != "" {
-            return Err(Refusal::Empty);
+        let is_named = words != "" && take(&mut words, '=') == name.as_str();
+        if !is_named || take(&mut words, ' ') != value.as_str() {
+            return false;
         }
-        write_labels(&labels, text)
     }
+    words == ""
 }
 
-#[test]
-fn keeps_entries_by_name(rt: HostRuntime) {
-    let wrong = first_wrong::<Entries>(rt.alloc(), PUT);
-    assert_eq!(rt; wrong, "");
-}
-
-// Entries, a name behind a `?`, and its value.
-const FOUND: &str = "\
-k=old app=c k=new?k|new
-k=old app=c k=new?app|c
-k=old app=c k=new?j|none
-k=old app=c k=new?|none
-k=old app=c k=new?kk|none
-k=old app=c k=new?ap|none";
-
-fn write_value(labels: &Labels, name: &str, text: &mut String) -> Result<(), Refusal> {
+fn value<'a>(labels: &'a Labels, name: &str) -> &'a str {
     match labels.get(name) {
-        Some(value) => text.push_str(value.as_str())?,
-        None => text.push_str("none")?,
+        Some(value) => value.as_str(),
+        None => "none",
     }
-    Ok(())
 }
 
-struct Value;
-
-impl Question for Value {
-    fn answer(alloc: Global, words: &str, text: &mut String) -> Result<(), Refusal> {
-        let (words, name) = halves(words, '?')?;
-        let labels = read_labels(alloc, words)?;
-        write_value(&labels, name, text)
+impl Row for Put {
+    fn is_right(&self, alloc: Global) -> bool {
+        match labels(alloc, self.0) {
+            Ok(labels) => {
+                let is_empty = labels.is_empty() == (self.1 == "");
+                is_empty && stand(&labels, self.1) && value(&labels, self.2) == self.3
+            }
+            Err(_) => false,
+        }
     }
 }
 
 #[test]
-fn finds_entries(rt: HostRuntime) {
-    let wrong = first_wrong::<Value>(rt.alloc(), FOUND);
-    assert_eq!(rt; wrong, "");
+fn keeps_and_finds_entries(rt: HostRuntime) {
+    none_wrong(&rt, first_wrong(rt.alloc(), &PUT));
 }

@@ -1,105 +1,118 @@
-use crate::rows::{Question, first_wrong, halves, number};
-use cj_types::{Deadline, HistoryLimit, Max, Refusal, Uid, Version, version_text};
+use crate::rows::{Row, first_wrong, none_wrong};
+use cj_types::{Deadline, HistoryLimit, Max, Refusal, Text, Uid, Version, version_text};
 use std::alloc::Global;
 
 // A count, and the texts of the uid and of the version of that count.
-const TEXTS: &str = "\
-0|none 0
-1|00000000-0000-0000-0000-000000000001 1
-2|00000000-0000-0000-0000-000000000002 2
-9|00000000-0000-0000-0000-000000000009 9
-10|00000000-0000-0000-0000-00000000000a 10
-15|00000000-0000-0000-0000-00000000000f 15
-16|00000000-0000-0000-0000-000000000010 16
-255|00000000-0000-0000-0000-0000000000ff 255
-256|00000000-0000-0000-0000-000000000100 256
-3735928559|00000000-0000-0000-0000-0000deadbeef 3735928559
-1099511627775|00000000-0000-0000-0000-00ffffffffff 1099511627775
-1099511627776|00000000-0000-0000-0000-010000000000 1099511627776
-1099511627777|none 1099511627777";
+struct Printed(u64, &'static str, &'static str);
 
-struct Texts;
+const PRINTED: [Printed; 13] = [
+    Printed(0, "none", "0"),
+    Printed(1, "00000000-0000-0000-0000-000000000001", "1"),
+    Printed(2, "00000000-0000-0000-0000-000000000002", "2"),
+    Printed(9, "00000000-0000-0000-0000-000000000009", "9"),
+    Printed(10, "00000000-0000-0000-0000-00000000000a", "10"),
+    Printed(15, "00000000-0000-0000-0000-00000000000f", "15"),
+    Printed(16, "00000000-0000-0000-0000-000000000010", "16"),
+    Printed(255, "00000000-0000-0000-0000-0000000000ff", "255"),
+    Printed(256, "00000000-0000-0000-0000-000000000100", "256"),
+    Printed(
+        3735928559,
+        "00000000-0000-0000-0000-0000deadbeef",
+        "3735928559",
+    ),
+    Printed(
+        1099511627775,
+        "00000000-0000-0000-0000-00ffffffffff",
+        "1099511627775",
+    ),
+    Printed(
+        1099511627776,
+        "00000000-0000-0000-0000-010000000000",
+        "1099511627776",
+    ),
+    Printed(1099511627777, "none", "1099511627777"),
+];
 
-fn write_uid(alloc: Global, count: u64, text: &mut String) -> Result<(), Refusal> {
+fn uid_text(alloc: Global, count: u64) -> Result<Text, Refusal> {
     match Uid::new(count) {
-        Some(uid) => text.push_str(uid.text(alloc)?.as_str())?,
-        None => text.push_str("none")?,
+        Some(uid) => uid.text(alloc),
+        None => Text::new(alloc, "none"),
     }
-    Ok(())
 }
 
-impl Question for Texts {
-    fn answer(alloc: Global, words: &str, text: &mut String) -> Result<(), Refusal> {
-        let count = number(words)?;
-        write_uid(alloc, count, text)?;
-        text.push(' ')?;
-        text.push_str(version_text(alloc, Version::new(count))?.as_str())?;
-        Ok(())
+fn is_text(text: Result<Text, Refusal>, wanted: &str) -> bool {
+    match text {
+        Ok(text) => text.as_str() == wanted,
+        Err(_) => false,
+    }
+}
+
+impl Row for Printed {
+    fn is_right(&self, alloc: Global) -> bool {
+        let uid = is_text(uid_text(alloc, self.0), self.1);
+        let version = is_text(version_text(alloc, Version::new(self.0)), self.2);
+        uid && version
     }
 }
 
 #[test]
 fn prints_uids_and_versions(rt: HostRuntime) {
-    let wrong = first_wrong::<Texts>(rt.alloc(), TEXTS);
-    assert_eq!(rt; wrong, "");
+    none_wrong(&rt, first_wrong(rt.alloc(), &PRINTED));
 }
 
-// A limit, a count, and whether the limit holds it.
-const LIMITS: &str = "\
-max 0|none
-max 1|1
-max 500|500
-max 501|none
-max 65535|none
-history 0|0
-history 3|3
-history 2147483647|2147483647
-history 2147483648|none
-history 4294967296|none
-history 18446744073709551615|none
-deadline 0|0
-deadline 200|200
-deadline 9223372036854775807|9223372036854775807
-deadline 9223372036854775808|none
-deadline 18446744073709551615|none
-uid 7|7";
-
-struct Limits;
-
-fn max(count: u64) -> Option<u64> {
-    let count = u16::try_from(count).ok()?;
-    Some(u64::from(Max::new(count)?.get()))
+// A limit, with a count that it may hold.
+enum Limit {
+    Max(u16),
+    History(u64),
+    Deadline(u64),
+    Uid(u64),
 }
 
-// The count, where the limit of that name holds it.
-fn held(name: &str, count: u64) -> Option<u64> {
-    match name {
-        "max" => max(count),
-        "history" => Some(u64::from(HistoryLimit::new(count)?.get())),
-        "deadline" => Some(Deadline::new(count)?.get()),
-        _ => Some(Uid::new(count)?.get()),
+// A limit, and the count that it holds.
+struct Held(Limit, Option<u64>);
+
+const HELD: [Held; 17] = [
+    Held(Limit::Max(0), None),
+    Held(Limit::Max(1), Some(1)),
+    Held(Limit::Max(500), Some(500)),
+    Held(Limit::Max(501), None),
+    Held(Limit::Max(65535), None),
+    Held(Limit::History(0), Some(0)),
+    Held(Limit::History(3), Some(3)),
+    Held(Limit::History(2147483647), Some(2147483647)),
+    Held(Limit::History(2147483648), None),
+    Held(Limit::History(4294967296), None),
+    Held(Limit::History(18446744073709551615), None),
+    Held(Limit::Deadline(0), Some(0)),
+    Held(Limit::Deadline(200), Some(200)),
+    Held(
+        Limit::Deadline(9223372036854775807),
+        Some(9223372036854775807),
+    ),
+    Held(Limit::Deadline(9223372036854775808), None),
+    Held(Limit::Deadline(18446744073709551615), None),
+    Held(Limit::Uid(7), Some(7)),
+];
+
+// The count, where the limit holds it.
+fn count(limit: &Limit) -> Option<u64> {
+    match limit {
+        Limit::Max(count) => Some(u64::from(Max::new(*count)?.get())),
+        Limit::History(count) => Some(u64::from(HistoryLimit::new(*count)?.get())),
+        Limit::Deadline(count) => Some(Deadline::new(*count)?.get()),
+        Limit::Uid(count) => Some(Uid::new(*count)?.get()),
     }
 }
 
-fn write_held(count: Option<u64>, text: &mut String) -> Result<(), Refusal> {
-    match count {
-        Some(count) => write!(text, "{count}")?,
-        None => text.push_str("none")?,
-    }
-    Ok(())
-}
-
-impl Question for Limits {
-    fn answer(_alloc: Global, words: &str, text: &mut String) -> Result<(), Refusal> {
-        let (name, word) = halves(words, ' ')?;
-        write_held(held(name, number(word)?), text)
+impl Row for Held {
+    fn is_right(&self, _alloc: Global) -> bool {
+        count(&self.0) == self.1
     }
 }
 
 #[test]
 fn limits_keep_their_range(rt: HostRuntime) {
-    let wrong = first_wrong::<Limits>(rt.alloc(), LIMITS);
-    assert_eq!(rt; wrong, "");
+    none_wrong(&rt, first_wrong(rt.alloc(), &HELD));
 }
 
 fn are_the_same() -> bool {

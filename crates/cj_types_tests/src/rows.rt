@@ -1,41 +1,66 @@
-use cj_types::Refusal;
+use cj_base::both;
+use cj_types::{Refusal, Same, TryCopy};
 use std::alloc::Global;
+use std::cmp::Ordering;
+use std::process::Abort;
 
-/// A question that the left side of a row asks, before its last `|`; the answer is the right side.
-pub trait Question {
-    /// Writes the answer.
-    fn answer(alloc: Global, words: &str, text: &mut String) -> Result<(), Refusal>;
+/// A row of a table: what is asked, and the answer.
+pub trait Row {
+    /// Whether what the row asks is answered so.
+    fn is_right(&self, alloc: Global) -> bool;
 }
 
-fn is_right<Q: Question>(alloc: Global, row: &str) -> Result<bool, Refusal> {
-    let (words, wanted) = row.rsplit_once('|').ok_or(Refusal::Syntax)?;
-    let mut text = String::new(alloc);
-    Q::answer(alloc, words, &mut text)?;
-    Ok(text.as_str() == wanted)
-}
-
-/// The first row that isn't answered so, nothing where there is none.
-pub fn first_wrong<Q: Question>(alloc: Global, rows: &'static str) -> &'static str {
-    for row in rows.lines() {
-        if !is_right::<Q>(alloc, row).unwrap_or(false) {
-            return row;
+/// The place of the first row that isn't answered so.
+pub fn first_wrong<T: Row>(alloc: Global, rows: &[T]) -> Option<usize> {
+    for (place, row) in rows.iter().enumerate() {
+        if !row.is_right(alloc) {
+            return Some(place);
         }
     }
-    ""
+    None
 }
 
-/// The two sides of a sign.
-pub fn halves(words: &str, sign: char) -> Result<(&str, &str), Refusal> {
-    words.split_once(sign).ok_or(Refusal::Syntax)
+/// A value, and others from which copies and comparisons tell it.
+pub trait Sample: TryCopy + Same + Drop {
+    /// The value of this number.
+    fn sample(alloc: Global, number: u8) -> Result<Self, Refusal>;
+
+    /// Whether all comparisons with the value whose number stands so to this one's say so.
+    fn compares(&self, other: &Self, order: Ordering) -> bool {
+        self.same(other) == order.is_eq()
+    }
 }
 
-/// Writes whether it is so.
-pub fn write_truth(is_so: bool, text: &mut String) -> Result<(), Refusal> {
-    text.push_str(if is_so { "true" } else { "false" })?;
-    Ok(())
+// Whether the copy and the value compare so with the other value.
+fn compare<T: Sample>(value: &T, copy: Result<T, Refusal>, other: &T, order: Ordering) -> bool {
+    match copy {
+        Ok(copy) => copy.compares(other, order) && other.compares(value, order.reverse()),
+        Err(_) => false,
+    }
 }
 
-/// The number that the word is.
-pub fn number(word: &str) -> Result<u64, Refusal> {
-    word.parse::<u64>().ok().ok_or(Refusal::Syntax)
+// Whether the copy of one value and another value compare as their numbers do.
+fn is_told<T: Sample>(alloc: Global, number: u8, other_number: u8) -> bool {
+    let order = number.cmp(&other_number);
+    match both(T::sample(alloc, number), T::sample(alloc, other_number)) {
+        Ok((value, other)) => compare(&value, value.try_copy(alloc), &other, order),
+        Err(_) => false,
+    }
+}
+
+/// The first of so many numbers whose value doesn't compare with the value of each as the numbers do.
+pub fn first_untold<T: Sample>(alloc: Global, count: u8) -> Option<usize> {
+    for number in 0..count {
+        for other in 0..count {
+            if !is_told::<T>(alloc, number, other) {
+                return Some(usize::from(number));
+            }
+        }
+    }
+    None
+}
+
+/// Asserts that none is wrong.
+pub fn none_wrong<R: Abort>(rt: &R, wrong: Option<usize>) {
+    assert_eq!(*rt; wrong, None);
 }

@@ -1,23 +1,13 @@
-use cj_base::{all_four, all_three};
+use cj_base::{all_four, all_three, both};
 use cj_types::{
-    Cause, CronJob, CronJobDraft, CronKey, CronSpec, CronStatus, Deadline, DraftMeta, Event, Field,
-    FieldFault, FieldFaults, Heap, HistoryLimit, Job, JobDraft, JobTemplate, Key, Labels, Meta,
-    Names, Object, ObjectName, Outcome, OwnerRef, OwnerRefs, Policy, Reason, Reasons, Refusal,
-    Seconds, Shared, SpecText, Text, Uid, Version,
+    CronJob, CronJobDraft, CronKey, CronSpec, CronStatus, Deadline, DraftMeta, HistoryLimit, Job,
+    JobDraft, JobTemplate, Key, Labels, Meta, Names, ObjectName, Outcome, OwnerRef, OwnerRefs,
+    Policy, Refusal, Seconds, Shared, SpecText, Text, Uid, Version,
 };
 use std::alloc::Global;
 
-/// A value, and others that differ from it in one place each.
-pub trait Sample {
-    /// The value with the change of this number; as it is for 0, and for a number that names none.
-    fn sample(alloc: Global, change: u8) -> Result<Self, Refusal>;
-}
-
-// One of two texts.
-fn text(alloc: Global, is_changed: bool) -> Result<Text, Refusal> {
-    let text = if is_changed { "other" } else { "this" };
-    Text::new(alloc, text)
-}
+// Each value here is made for the number of a change: as it is for 0 and for a number that names no change, and else
+// different in one place.
 
 // The change of a part where its own changes begin after this number and are so many; 0 elsewhere.
 fn within(change: u8, after: u8, changes: u8) -> u8 {
@@ -25,218 +15,183 @@ fn within(change: u8, after: u8, changes: u8) -> u8 {
     if number <= changes { number } else { 0 }
 }
 
-fn uid(is_changed: bool) -> Result<Uid, Refusal> {
-    Uid::new(if is_changed { 9 } else { 8 }).ok_or(Refusal::Syntax)
+// One of two texts.
+fn word(is_changed: bool) -> &'static str {
+    if is_changed { "other" } else { "this" }
 }
 
-// One of two texts, or none.
-fn perhaps_text(alloc: Global, is_there: bool, is_changed: bool) -> Result<Option<Text>, Refusal> {
-    if is_there {
-        Ok(Some(text(alloc, is_changed)?))
-    } else {
-        Ok(None)
+// One of two texts, or none where the number is the one after that of the change.
+fn perhaps(change: u8, changed: u8) -> &'static str {
+    match change.saturating_sub(changed) {
+        1 => "-",
+        _ => word(change == changed),
     }
 }
 
-impl Sample for Key {
-    fn sample(alloc: Global, change: u8) -> Result<Key, Refusal> {
-        let (namespace, name) = match change {
-            1 => ("up", "right"),
-            2 => ("left", "down"),
-            3 => ("right", "left"),
-            _ => ("left", "right"),
-        };
-        Key::new(alloc, namespace, name)
+// The text; none for `-`.
+fn perhaps_text(alloc: Global, text: &str) -> Result<Option<Text>, Refusal> {
+    match text {
+        "-" => Ok(None),
+        _ => Ok(Some(Text::new(alloc, text)?)),
     }
 }
 
-impl Sample for CronKey {
-    fn sample(alloc: Global, change: u8) -> Result<CronKey, Refusal> {
-        let (namespace, name) = match change {
-            1 => ("up", "right"),
-            2 => ("left", "down"),
-            3 => ("right", "left"),
-            _ => ("left", "right"),
-        };
-        CronKey::new(alloc, namespace, name)
+fn namespace(change: u8) -> &'static str {
+    match change {
+        1 => "up",
+        3 => "right",
+        _ => "left",
     }
 }
 
-// Puts the entry that the word `NAME=VALUE` is.
-fn put_word(labels: &mut Labels, alloc: Global, word: &str) -> Result<(), Refusal> {
-    match word.split_once('=') {
-        Some((name, value)) => labels.put(Text::new(alloc, name)?, Text::new(alloc, value)?),
-        None => Ok(()),
+fn name(change: u8) -> &'static str {
+    match change {
+        2 => "down",
+        3 => "left",
+        _ => "right",
+    }
+}
+
+/// The text before the sign, which is taken away with it; all of the words where there is none.
+pub fn take<'a>(words: &mut &'a str, sign: char) -> &'a str {
+    let (word, rest) = words.split_once(sign).unwrap_or((*words, ""));
+    *words = rest;
+    word
+}
+
+// A list that is read from words.
+trait List: Drop {
+    // Takes in what the words say.
+    fn take_in(&mut self, alloc: Global, words: &str) -> Result<(), Refusal>;
+}
+
+// The list with what the words between the signs say.
+fn read<T: List>(alloc: Global, list: T, words: &str, sign: char) -> Result<T, Refusal> {
+    let mut list = list;
+    for words in words.split_terminator(sign) {
+        list.take_in(alloc, words)?;
+    }
+    Ok(list)
+}
+
+impl List for Labels {
+    fn take_in(&mut self, alloc: Global, words: &str) -> Result<(), Refusal> {
+        let (name, value) = words.split_once('=').ok_or(Refusal::Syntax)?;
+        let (name, value) = both(Text::new(alloc, name), Text::new(alloc, value))?;
+        self.put(name, value)
+    }
+}
+
+impl List for Names {
+    fn take_in(&mut self, alloc: Global, words: &str) -> Result<(), Refusal> {
+        self.push(ObjectName::new(alloc, words)?)
+    }
+}
+
+impl List for OwnerRefs {
+    fn take_in(&mut self, alloc: Global, words: &str) -> Result<(), Refusal> {
+        self.push(owner(alloc, words)?)
     }
 }
 
 /// The labels that come of putting an entry for each word `NAME=VALUE`.
-pub fn read_labels(alloc: Global, words: &str) -> Result<Labels, Refusal> {
-    let mut labels = Labels::new(alloc);
-    for word in words.split(' ') {
-        put_word(&mut labels, alloc, word)?;
-    }
-    Ok(labels)
+pub fn labels(alloc: Global, words: &str) -> Result<Labels, Refusal> {
+    read(alloc, Labels::new(alloc), words, ' ')
 }
 
-impl Sample for Labels {
-    fn sample(alloc: Global, change: u8) -> Result<Labels, Refusal> {
-        let words = match change {
-            1 => "app=web tier=front",
-            2 => "app=web part=back",
-            3 => "app=web tier=back zone=a",
-            4 => "app=web",
-            5 => "",
-            6 => "app=back tier=web",
-            _ => "app=web tier=back",
-        };
-        read_labels(alloc, words)
+/// The words of labels or of annotations.
+pub fn entries(change: u8) -> &'static str {
+    match change {
+        1 => "app=web tier=front",
+        2 => "app=web part=back",
+        3 => "app=web tier=back zone=a",
+        4 => "app=web",
+        5 => "",
+        6 => "app=back tier=web",
+        _ => "app=web tier=back",
     }
 }
 
-impl Sample for SpecText {
-    fn sample(alloc: Global, change: u8) -> Result<SpecText, Refusal> {
-        let text = match change {
-            1 => "{\"a\":2}",
-            2 => "{\"a\":1,\"b\":1}",
-            3 => "",
-            _ => "{\"a\":1}",
-        };
-        SpecText::new(alloc, Text::new(alloc, text)?)
-    }
-}
-
-fn push_name(names: &mut Names, alloc: Global, word: &str) -> Result<(), Refusal> {
-    names.push(ObjectName::new(alloc, word)?)
-}
-
-impl Sample for Names {
-    fn sample(alloc: Global, change: u8) -> Result<Names, Refusal> {
-        let words = match change {
-            1 => "a other",
-            2 => "b a",
-            3 => "a b c",
-            4 => "a",
-            5 => "a b b",
-            6 => "ab",
-            _ => "a b",
-        };
-        let mut names = Names::new(alloc);
-        for word in words.split(' ') {
-            push_name(&mut names, alloc, word)?;
-        }
-        Ok(names)
-    }
-}
-
-impl Sample for Reasons {
-    fn sample(alloc: Global, change: u8) -> Result<Reasons, Refusal> {
-        let list = match change {
-            1 => [Reason::UnknownTimeZone, Reason::TooManyMissedTimes],
-            2 => [Reason::JobAlreadyActive, Reason::UnknownTimeZone],
-            3 => [Reason::UnknownTimeZone, Reason::UnknownTimeZone],
-            4 => [Reason::UnknownTimeZone, Reason::FailedCreate],
-            _ => [Reason::UnknownTimeZone, Reason::JobAlreadyActive],
-        };
-        let mut reasons = Reasons::new(alloc);
-        for reason in list {
-            reasons.push(reason)?;
-        }
-        Ok(reasons)
-    }
-}
-
-impl Sample for OwnerRef {
-    fn sample(alloc: Global, change: u8) -> Result<OwnerRef, Refusal> {
-        let (api_version, kind, name, uid) = all_four(
-            text(alloc, change == 1),
-            text(alloc, change == 2),
-            text(alloc, change == 3),
-            text(alloc, change == 4),
-        )?;
-        Ok(OwnerRef {
-            api_version,
-            kind,
-            name,
-            uid,
-            controller: change == 5,
-            block_owner_deletion: change == 6,
+/// What the store keeps of an object; for 17, an object whose numbers differ from each other.
+pub fn meta(alloc: Global, change: u8) -> Result<Meta, Refusal> {
+    let (uid, created, labels, annotations) = all_four(
+        Uid::new(match change {
+            1 => 9,
+            17 => 10,
+            _ => 8,
         })
-    }
+        .ok_or(Refusal::Syntax),
+        Seconds::new(if change == 4 { 61 } else { 60 }).ok_or(Refusal::Syntax),
+        labels(alloc, entries(within(change, 4, 6))),
+        labels(alloc, entries(within(change, 10, 6))),
+    )?;
+    Ok(Meta {
+        uid,
+        version: Version::new(match change {
+            2 => 5,
+            17 => 12,
+            _ => 4,
+        }),
+        generation: match change {
+            3 => 2,
+            17 => 11,
+            _ => 1,
+        },
+        created,
+        labels,
+        annotations,
+    })
 }
 
-fn push_owner(owners: &mut OwnerRefs, alloc: Global, change: u8) -> Result<(), Refusal> {
-    owners.push(OwnerRef::sample(alloc, change)?)
+/// What a draft gives: a uid and a version, each none for `-`, and the words of labels and annotations.
+pub fn given(
+    alloc: Global,
+    uid: &str,
+    version: &str,
+    words: (&str, &str),
+) -> Result<DraftMeta, Refusal> {
+    let (uid, version, labels, annotations) = all_four(
+        perhaps_text(alloc, uid),
+        perhaps_text(alloc, version),
+        labels(alloc, words.0),
+        labels(alloc, words.1),
+    )?;
+    Ok(DraftMeta {
+        uid,
+        version,
+        labels,
+        annotations,
+    })
 }
 
-impl Sample for OwnerRefs {
-    fn sample(alloc: Global, change: u8) -> Result<OwnerRefs, Refusal> {
-        let changes = match change {
-            1 => "03",
-            2 => "02",
-            3 => "30",
-            4 => "011",
-            5 => "0",
-            6 => "456",
-            _ => "01",
-        };
-        let mut owners = OwnerRefs::new(alloc);
-        for digit in changes.bytes() {
-            push_owner(&mut owners, alloc, digit.saturating_sub(b'0'))?;
-        }
-        Ok(owners)
-    }
+fn draft_meta(alloc: Global, change: u8) -> Result<DraftMeta, Refusal> {
+    let words = (entries(within(change, 4, 1)), entries(within(change, 5, 1)));
+    given(alloc, perhaps(change, 1), perhaps(change, 3), words)
 }
 
-impl Sample for Meta {
-    fn sample(alloc: Global, change: u8) -> Result<Meta, Refusal> {
-        let (uid, created, labels, annotations) = all_four(
-            uid(change == 1),
-            Seconds::new(if change == 4 { 61 } else { 60 }).ok_or(Refusal::Syntax),
-            Labels::sample(alloc, within(change, 4, 6)),
-            Labels::sample(alloc, within(change, 10, 6)),
-        )?;
-        Ok(Meta {
-            uid,
-            version: Version::new(if change == 2 { 5 } else { 4 }),
-            generation: if change == 3 { 2 } else { 1 },
-            created,
-            labels,
-            annotations,
-        })
-    }
+/// The text of a template's or a Job's spec.
+pub fn spec_text(alloc: Global, change: u8) -> Result<SpecText, Refusal> {
+    let text = match change {
+        1 => "{\"a\":2}",
+        2 => "{\"a\":1,\"b\":1}",
+        3 => "",
+        _ => "{\"a\":1}",
+    };
+    SpecText::new(alloc, Text::new(alloc, text)?)
 }
 
-impl Sample for DraftMeta {
-    fn sample(alloc: Global, change: u8) -> Result<DraftMeta, Refusal> {
-        let (uid, version, labels, annotations) = all_four(
-            perhaps_text(alloc, change != 2, change == 1),
-            perhaps_text(alloc, change != 4, change == 3),
-            Labels::sample(alloc, within(change, 4, 1)),
-            Labels::sample(alloc, within(change, 5, 1)),
-        )?;
-        Ok(DraftMeta {
-            uid,
-            version,
-            labels,
-            annotations,
-        })
-    }
-}
-
-impl Sample for JobTemplate {
-    fn sample(alloc: Global, change: u8) -> Result<JobTemplate, Refusal> {
-        let (labels, annotations, spec) = all_three(
-            Labels::sample(alloc, within(change, 0, 1)),
-            Labels::sample(alloc, within(change, 1, 1)),
-            SpecText::sample(alloc, within(change, 2, 3)),
-        )?;
-        Ok(JobTemplate {
-            labels,
-            annotations,
-            spec,
-        })
-    }
+// The template with these annotations.
+fn template(alloc: Global, change: u8, annotations: &str) -> Result<JobTemplate, Refusal> {
+    let (labels, annotations, spec) = all_three(
+        labels(alloc, entries(within(change, 0, 1))),
+        labels(alloc, annotations),
+        spec_text(alloc, within(change, 1, 2)),
+    )?;
+    Ok(JobTemplate {
+        labels,
+        annotations,
+        spec,
+    })
 }
 
 fn policy(change: u8) -> Policy {
@@ -255,16 +210,20 @@ fn deadline(change: u8) -> Option<Deadline> {
     }
 }
 
-/// The spec with this template.
-pub fn spec_with(
-    alloc: Global,
-    change: u8,
-    template: Heap<JobTemplate>,
-) -> Result<CronSpec, Refusal> {
+fn zone(change: u8) -> &'static str {
+    match change {
+        2 => "other",
+        9 => "-",
+        _ => "this",
+    }
+}
+
+// The spec whose template has these annotations.
+fn spec(alloc: Global, change: u8, annotations: &str) -> Result<CronSpec, Refusal> {
     let (schedule, time_zone, template) = all_three(
-        text(alloc, change == 1),
-        perhaps_text(alloc, change != 9, change == 2),
-        Ok(template),
+        Text::new(alloc, word(change == 1)),
+        perhaps_text(alloc, zone(change)),
+        template(alloc, within(change, 11, 3), annotations),
     )?;
     Ok(CronSpec {
         schedule,
@@ -278,48 +237,51 @@ pub fn spec_with(
             _ => 3,
         }),
         failed_limit: HistoryLimit::from(if change == 7 { 4 } else { 3 }),
-        template: template.into_inner(),
+        template,
     })
 }
 
-impl Sample for CronSpec {
-    fn sample(alloc: Global, change: u8) -> Result<CronSpec, Refusal> {
-        let template = JobTemplate::sample(alloc, within(change, 11, 5))?;
-        spec_with(alloc, change, Heap::new(alloc, template)?)
+/// The value on the heap, for sharing.
+pub fn shared<T: Drop>(alloc: Global, value: Result<T, Refusal>) -> Result<Shared<T>, Refusal> {
+    Shared::new(alloc, value?)
+}
+
+fn active(change: u8) -> &'static str {
+    match change {
+        1 => "a other",
+        2 => "b a",
+        3 => "a b c",
+        4 => "a",
+        5 => "a b b",
+        6 => "ab",
+        _ => "a b",
     }
 }
 
-impl<T: Sample + Drop> Sample for Shared<T> {
-    fn sample(alloc: Global, change: u8) -> Result<Shared<T>, Refusal> {
-        Shared::new(alloc, T::sample(alloc, change)?)
-    }
+fn status(alloc: Global, change: u8) -> Result<CronStatus, Refusal> {
+    Ok(CronStatus {
+        active: read(alloc, Names::new(alloc), active(within(change, 4, 6)), ' ')?,
+        last_schedule_time: match change {
+            1 => None,
+            2 => Seconds::new(120),
+            _ => Seconds::new(60),
+        },
+        last_successful_time: match change {
+            3 => None,
+            4 => Seconds::new(120),
+            _ => Seconds::new(60),
+        },
+    })
 }
 
-impl Sample for CronStatus {
-    fn sample(alloc: Global, change: u8) -> Result<CronStatus, Refusal> {
-        Ok(CronStatus {
-            active: Names::sample(alloc, within(change, 4, 6))?,
-            last_schedule_time: match change {
-                1 => None,
-                2 => Seconds::new(120),
-                _ => Seconds::new(60),
-            },
-            last_successful_time: match change {
-                3 => None,
-                4 => Seconds::new(120),
-                _ => Seconds::new(60),
-            },
-        })
-    }
-}
-
-/// The CronJob with this spec.
-pub fn cron_with(alloc: Global, change: u8, spec: Shared<CronSpec>) -> Result<CronJob, Refusal> {
+/// The CronJob whose template has these annotations.
+pub fn cron(alloc: Global, change: u8, annotations: &str) -> Result<CronJob, Refusal> {
+    let key = within(change, 0, 3);
     let (key, meta, spec, status) = all_four(
-        CronKey::sample(alloc, within(change, 0, 3)),
-        Meta::sample(alloc, within(change, 3, 16)),
-        Ok(spec),
-        CronStatus::sample(alloc, within(change, 34, 10)),
+        CronKey::new(alloc, namespace(key), name(key)),
+        meta(alloc, within(change, 3, 16)),
+        shared(alloc, spec(alloc, within(change, 19, 14), annotations)),
+        status(alloc, within(change, 34, 10)),
     )?;
     Ok(CronJob {
         key,
@@ -329,21 +291,51 @@ pub fn cron_with(alloc: Global, change: u8, spec: Shared<CronSpec>) -> Result<Cr
     })
 }
 
-impl Sample for CronJob {
-    fn sample(alloc: Global, change: u8) -> Result<CronJob, Refusal> {
-        let spec = Shared::sample(alloc, within(change, 19, 15))?;
-        cron_with(alloc, change, spec)
-    }
+/// The draft of a CronJob.
+pub fn cron_draft(alloc: Global, change: u8) -> Result<CronJobDraft, Refusal> {
+    let key = within(change, 0, 1);
+    let (key, meta, spec) = all_three(
+        CronKey::new(alloc, namespace(key), name(key)),
+        draft_meta(alloc, within(change, 1, 6)),
+        shared(alloc, spec(alloc, within(change, 7, 1), entries(0))),
+    )?;
+    Ok(CronJobDraft { key, meta, spec })
 }
 
-impl Sample for CronJobDraft {
-    fn sample(alloc: Global, change: u8) -> Result<CronJobDraft, Refusal> {
-        let (key, meta, spec) = all_three(
-            CronKey::sample(alloc, within(change, 0, 1)),
-            DraftMeta::sample(alloc, within(change, 1, 6)),
-            Shared::sample(alloc, within(change, 7, 1)),
-        )?;
-        Ok(CronJobDraft { key, meta, spec })
+// The owner of the words `VERSION KIND NAME UID MARKS`: `*` for the controller, `!` for one that blocks the deletion.
+fn owner(alloc: Global, words: &str) -> Result<OwnerRef, Refusal> {
+    let mut words = words;
+    let (api_version, kind, name, uid) = all_four(
+        Text::new(alloc, take(&mut words, ' ')),
+        Text::new(alloc, take(&mut words, ' ')),
+        Text::new(alloc, take(&mut words, ' ')),
+        Text::new(alloc, take(&mut words, ' ')),
+    )?;
+    Ok(OwnerRef {
+        api_version,
+        kind,
+        name,
+        uid,
+        controller: words.starts_with('*'),
+        block_owner_deletion: words.ends_with('!'),
+    })
+}
+
+/// The owners of the words, between commas.
+pub fn owners(alloc: Global, words: &str) -> Result<OwnerRefs, Refusal> {
+    read(alloc, OwnerRefs::new(alloc), words, ',')
+}
+
+// The words of a Job's owners.
+fn owner_words(change: u8) -> &'static str {
+    match change {
+        1 => "this this this this -,this this other this -",
+        2 => "this this this this -,this other this this -",
+        3 => "this this other this -,this this this this -",
+        4 => "this this this this -,other this this this -,other this this this -",
+        5 => "this this this this -",
+        6 => "this this this other -,this this this this *,this this this this !",
+        _ => "this this this this -,other this this this -",
     }
 }
 
@@ -351,99 +343,47 @@ fn outcome(change: u8) -> Option<Outcome> {
     match change {
         5 => None,
         6 => Some(Outcome::Failed),
-        7 => Seconds::new(120).map(Outcome::Complete),
-        _ => Seconds::new(60).map(Outcome::Complete),
+        7 => Some(Outcome::Complete(Seconds::new(120)?)),
+        _ => Some(Outcome::Complete(Seconds::new(60)?)),
     }
 }
 
-impl Sample for Job {
-    fn sample(alloc: Global, change: u8) -> Result<Job, Refusal> {
-        let (key, meta, owners, spec) = all_four(
-            Key::sample(alloc, within(change, 7, 3)),
-            Meta::sample(alloc, within(change, 0, 1)),
-            OwnerRefs::sample(alloc, within(change, 10, 6)),
-            SpecText::sample(alloc, within(change, 1, 3)),
-        )?;
-        Ok(Job {
-            key,
-            meta,
-            owners,
-            spec,
-            outcome: outcome(change),
-        })
-    }
+/// The Job of these owners.
+pub fn owned(alloc: Global, change: u8, words: &str) -> Result<Job, Refusal> {
+    let key = within(change, 7, 3);
+    let (key, meta, owners, spec) = all_four(
+        Key::new(alloc, namespace(key), name(key)),
+        meta(alloc, within(change, 0, 1)),
+        owners(alloc, words),
+        spec_text(alloc, within(change, 1, 3)),
+    )?;
+    Ok(Job {
+        key,
+        meta,
+        owners,
+        spec,
+        outcome: outcome(change),
+    })
 }
 
-impl Sample for JobDraft {
-    fn sample(alloc: Global, change: u8) -> Result<JobDraft, Refusal> {
-        let (key, meta, owners, spec) = all_four(
-            Key::sample(alloc, within(change, 0, 1)),
-            DraftMeta::sample(alloc, within(change, 1, 1)),
-            OwnerRefs::sample(alloc, within(change, 2, 1)),
-            SpecText::sample(alloc, within(change, 3, 1)),
-        )?;
-        Ok(JobDraft {
-            key,
-            meta,
-            owners,
-            spec,
-        })
-    }
+/// The Job.
+pub fn job(alloc: Global, change: u8) -> Result<Job, Refusal> {
+    owned(alloc, change, owner_words(within(change, 10, 6)))
 }
 
-impl Sample for Object {
-    fn sample(alloc: Global, change: u8) -> Result<Object, Refusal> {
-        match change {
-            45..=61 => Ok(Object::Job(Shared::sample(alloc, change.saturating_sub(45))?)),
-            _ => Ok(Object::Cron(Shared::sample(alloc, change)?)),
-        }
-    }
-}
-
-impl Sample for Event {
-    fn sample(alloc: Global, change: u8) -> Result<Event, Refusal> {
-        match change {
-            62 => Ok(Event::Modified(Object::sample(alloc, 0)?)),
-            63 => Ok(Event::Deleted(Object::sample(alloc, 0)?)),
-            64 => Ok(Event::Deleted(Object::sample(alloc, 45)?)),
-            _ => Ok(Event::Added(Object::sample(alloc, change)?)),
-        }
-    }
-}
-
-// A name's fault, and perhaps a namespace's.
-fn faults(alloc: Global, cause: Cause, is_longer: bool) -> Result<FieldFaults, Refusal> {
-    let field = Field::Name;
-    let mut faults = FieldFaults::one(alloc, FieldFault { field, cause })?;
-    if is_longer {
-        let field = Field::Namespace;
-        faults.push(FieldFault { field, cause })?;
-    }
-    Ok(faults)
-}
-
-impl Sample for Refusal {
-    fn sample(alloc: Global, change: u8) -> Result<Refusal, Refusal> {
-        Ok(match change {
-            1 => Refusal::Syntax,
-            2 => Refusal::NotPermitted,
-            3 => Refusal::NotFound,
-            4 => Refusal::AlreadyExists,
-            5 => Refusal::Conflict(Version::new(6)),
-            6 => Refusal::Conflict(Version::new(7)),
-            7 => Refusal::Expired(Version::new(6)),
-            8 => Refusal::Expired(Version::new(7)),
-            9 => Refusal::OutOfPhase,
-            10 => Refusal::Stale,
-            11 => Refusal::Empty,
-            12 => Refusal::ShutDown,
-            13 => Refusal::HistoryFull,
-            14 => Refusal::Estranged,
-            15 => Refusal::OutOfMemory,
-            16 => Refusal::AlreadyFinished,
-            17 => Refusal::Invalid(faults(alloc, Cause::Format, false)?),
-            18 => Refusal::Invalid(faults(alloc, Cause::Format, true)?),
-            _ => Refusal::Invalid(faults(alloc, Cause::TooLong, false)?),
-        })
-    }
+/// The draft of a Job.
+pub fn job_draft(alloc: Global, change: u8) -> Result<JobDraft, Refusal> {
+    let key = within(change, 0, 1);
+    let (key, meta, owners, spec) = all_four(
+        Key::new(alloc, namespace(key), name(key)),
+        draft_meta(alloc, within(change, 1, 1)),
+        owners(alloc, owner_words(within(change, 2, 1))),
+        spec_text(alloc, within(change, 3, 1)),
+    )?;
+    Ok(JobDraft {
+        key,
+        meta,
+        owners,
+        spec,
+    })
 }
