@@ -1,4 +1,5 @@
 use crate::rows::{Sample, first_untold, none_wrong};
+use crate::samples::take;
 use cj_types::{Key, Refusal, Same};
 use std::alloc::Global;
 use std::cmp::Ordering;
@@ -26,7 +27,8 @@ fn texts(place: u8) -> &'static str {
 
 impl Sample for Key {
     fn sample(alloc: Global, place: u8) -> Result<Key, Refusal> {
-        let (namespace, name) = texts(place).split_once('/').ok_or(Refusal::Syntax)?;
+        let mut name = texts(place);
+        let namespace = take(&mut name, '/');
         Key::new(alloc, namespace, name)
     }
 

@@ -31,8 +31,8 @@ pub trait Sample: TryCopy + Same + Drop {
     }
 }
 
-// Whether the copy and the value compare so with the other value.
-fn compare<T: Sample>(value: &T, copy: Result<T, Refusal>, other: &T, order: Ordering) -> bool {
+/// Whether the copy and the value compare so with the other value.
+pub fn compare<T: Sample>(value: &T, copy: Result<T, Refusal>, other: &T, order: Ordering) -> bool {
     match copy {
         Ok(copy) => copy.compares(other, order) && other.compares(value, order.reverse()),
         Err(_) => false,

@@ -1,3 +1,4 @@
+use crate::rows::Sample;
 use cj_base::{all_four, all_three, both};
 use cj_types::{
     CronJob, CronJobDraft, CronKey, CronSpec, CronStatus, Deadline, DraftMeta, HistoryLimit, Job,
@@ -76,7 +77,8 @@ fn read<T: List>(alloc: Global, list: T, words: &str, sign: char) -> Result<T, R
 
 impl List for Labels {
     fn take_in(&mut self, alloc: Global, words: &str) -> Result<(), Refusal> {
-        let (name, value) = words.split_once('=').ok_or(Refusal::Syntax)?;
+        let mut value = words;
+        let name = take(&mut value, '=');
         let (name, value) = both(Text::new(alloc, name), Text::new(alloc, value))?;
         self.put(name, value)
     }
@@ -291,15 +293,16 @@ pub fn cron(alloc: Global, change: u8, annotations: &str) -> Result<CronJob, Ref
     })
 }
 
-/// The draft of a CronJob.
-pub fn cron_draft(alloc: Global, change: u8) -> Result<CronJobDraft, Refusal> {
-    let key = within(change, 0, 1);
-    let (key, meta, spec) = all_three(
-        CronKey::new(alloc, namespace(key), name(key)),
-        draft_meta(alloc, within(change, 1, 6)),
-        shared(alloc, spec(alloc, within(change, 7, 1), entries(0))),
-    )?;
-    Ok(CronJobDraft { key, meta, spec })
+impl Sample for CronJobDraft {
+    fn sample(alloc: Global, change: u8) -> Result<CronJobDraft, Refusal> {
+        let key = within(change, 0, 1);
+        let (key, meta, spec) = all_three(
+            CronKey::new(alloc, namespace(key), name(key)),
+            draft_meta(alloc, within(change, 1, 6)),
+            shared(alloc, spec(alloc, within(change, 7, 1), entries(0))),
+        )?;
+        Ok(CronJobDraft { key, meta, spec })
+    }
 }
 
 // The owner of the words `VERSION KIND NAME UID MARKS`: `*` for the controller, `!` for one that blocks the deletion.
@@ -335,6 +338,9 @@ fn owner_words(change: u8) -> &'static str {
         4 => "this this this this -,other this this this -,other this this this -",
         5 => "this this this this -",
         6 => "this this this other -,this this this this *,this this this this !",
+        7 => "this this this other -,other this this this -",
+        8 => "this this this this *,other this this this -",
+        9 => "this this this this !,other this this this -",
         _ => "this this this this -,other this this this -",
     }
 }
@@ -368,22 +374,23 @@ pub fn owned(alloc: Global, change: u8, words: &str) -> Result<Job, Refusal> {
 
 /// The Job.
 pub fn job(alloc: Global, change: u8) -> Result<Job, Refusal> {
-    owned(alloc, change, owner_words(within(change, 10, 6)))
+    owned(alloc, change, owner_words(within(change, 10, 9)))
 }
 
-/// The draft of a Job.
-pub fn job_draft(alloc: Global, change: u8) -> Result<JobDraft, Refusal> {
-    let key = within(change, 0, 1);
-    let (key, meta, owners, spec) = all_four(
-        Key::new(alloc, namespace(key), name(key)),
-        draft_meta(alloc, within(change, 1, 1)),
-        owners(alloc, owner_words(within(change, 2, 1))),
-        spec_text(alloc, within(change, 3, 1)),
-    )?;
-    Ok(JobDraft {
-        key,
-        meta,
-        owners,
-        spec,
-    })
+impl Sample for JobDraft {
+    fn sample(alloc: Global, change: u8) -> Result<JobDraft, Refusal> {
+        let key = within(change, 0, 1);
+        let (key, meta, owners, spec) = all_four(
+            Key::new(alloc, namespace(key), name(key)),
+            draft_meta(alloc, within(change, 1, 1)),
+            owners(alloc, owner_words(within(change, 2, 1))),
+            spec_text(alloc, within(change, 3, 1)),
+        )?;
+        Ok(JobDraft {
+            key,
+            meta,
+            owners,
+            spec,
+        })
+    }
 }
