@@ -1,8 +1,10 @@
 use cj_types::Refusal;
-use std::alloc::{AllocError, Global};
+use std::alloc::Global;
 
 /// The value on the heap, so that whoever holds it gives up one pointer.
 pub fn boxed<T: Drop>(alloc: Global, value: T) -> Result<Box<T, Global>, Refusal> {
-    let value = Box::new(alloc, value).map_err(AllocError::from)?;
-    Ok(value)
+    match Box::new(alloc, value) {
+        Ok(value) => Ok(value),
+        Err(_) => Err(Refusal::OutOfMemory),
+    }
 }

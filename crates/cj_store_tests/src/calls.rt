@@ -2,11 +2,10 @@ ghost use Rattle.std.specs.Prelude.{IfOk};
 ghost use Rattle.cj_store.specs.Content.{HasRoom};
 ghost use Rattle.cj_store.specs.Change.{IsFor};
 
-use crate::ask::Ask;
-use crate::drafts::{cron_draft, job_draft, key, seconds, status, uid};
+use crate::ask::{Ask, name_at};
+use crate::drafts::{cron_draft, job_draft, status};
 use crate::plain::Kind;
-use crate::told::{Answer, change_answer, cron_answer, gone_answer, job_answer, refused};
-use cj_base::both;
+use crate::told::{Answer, change_answer, done, gone, refused};
 use cj_store::{Change, Store};
 use cj_types::{Key, Outcome, Refusal, Seconds, Uid, Version};
 use std::alloc::Global;
@@ -27,151 +26,178 @@ fn commit(store: &mut Store, alloc: Global, plan: Result<Change, Refusal>) -> An
     }
 }
 
-fn create_cron(store: &mut Store, alloc: Global, ask: &Ask) -> Result<Answer, Refusal>
-    requires { HasRoom store.old }
-{
-    let now = seconds(ask.now)?;
-    let draft = cron_draft(alloc, ask)?;
-    if ask.is_planned {
-        let plan = store.plan_create_cron(alloc, draft, now);
-        return Ok(commit(store, alloc, plan));
-    }
-    Ok(cron_answer(store.create_cron(alloc, draft, now)))
-}
-
-fn update_cron(store: &mut Store, alloc: Global, ask: &Ask) -> Result<Answer, Refusal>
+fn draft_cron(
+    store: &mut Store,
+    alloc: Global,
+    kind: Kind,
+    ask: &Ask,
+    now: Seconds,
+) -> Result<Answer, Refusal>
     requires { HasRoom store.old }
 {
     let draft = cron_draft(alloc, ask)?;
-    if ask.is_planned {
-        let plan = store.plan_update_cron(alloc, draft);
-        return Ok(commit(store, alloc, plan));
-    }
-    Ok(cron_answer(store.update_cron(alloc, draft)))
+    Ok(match (kind, ask.is_planned) {
+        (Kind::CreateCron, false) => done(store.create_cron(alloc, draft, now)),
+        (Kind::CreateCron, true) => {
+            let plan = store.plan_create_cron(alloc, draft, now);
+            commit(store, alloc, plan)
+        }
+        (_, false) => done(store.update_cron(alloc, draft)),
+        (_, true) => {
+            let plan = store.plan_update_cron(alloc, draft);
+            commit(store, alloc, plan)
+        }
+    })
 }
 
-fn given(ask: &Ask) -> Result<(Uid, Version), Refusal> {
-    let uid = uid(ask.uid.unwrap_or(1))?;
-    Ok((uid, Version::new(ask.version.unwrap_or(0))))
-}
-
-fn set_status(store: &mut Store, alloc: Global, ask: &Ask) -> Result<Answer, Refusal>
-    requires { HasRoom store.old }
-{
-    let (uid, version) = given(ask)?;
-    let (key, status) = both(key(alloc, ask), status(alloc, ask.now))?;
-    if ask.is_planned {
-        let plan = store.plan_set_status(alloc, &key, uid, version, status);
-        return Ok(commit(store, alloc, plan));
-    }
-    Ok(cron_answer(store.set_status(alloc, &key, uid, version, status)))
-}
-
-fn delete_cron(store: &mut Store, alloc: Global, ask: &Ask) -> Result<Answer, Refusal>
-    requires { HasRoom store.old }
-{
-    let key = key(alloc, ask)?;
-    if ask.is_planned {
-        let plan = store.plan_delete_cron(alloc, &key);
-        return Ok(commit(store, alloc, plan));
-    }
-    Ok(gone_answer(store.delete_cron(alloc, &key)))
-}
-
-fn create_job(store: &mut Store, alloc: Global, ask: &Ask) -> Result<Answer, Refusal>
-    requires { HasRoom store.old }
-{
-    let now = seconds(ask.now)?;
-    let draft = job_draft(alloc, ask)?;
-    if ask.is_planned {
-        let plan = store.plan_create_job(alloc, draft, now);
-        return Ok(commit(store, alloc, plan));
-    }
-    Ok(job_answer(store.create_job(alloc, draft, now)))
-}
-
-fn make_job(store: &mut Store, alloc: Global, ask: &Ask) -> Result<Answer, Refusal>
-    requires { HasRoom store.old }
-{
-    let now = seconds(ask.now)?;
-    let draft = job_draft(alloc, ask)?;
-    if ask.is_planned {
-        let plan = store.plan_make_job(alloc, draft, now);
-        return Ok(commit(store, alloc, plan));
-    }
-    Ok(job_answer(store.make_job(alloc, draft, now)))
-}
-
-fn update_job(store: &mut Store, alloc: Global, ask: &Ask) -> Result<Answer, Refusal>
+fn draft_job(
+    store: &mut Store,
+    alloc: Global,
+    kind: Kind,
+    ask: &Ask,
+    now: Seconds,
+) -> Result<Answer, Refusal>
     requires { HasRoom store.old }
 {
     let draft = job_draft(alloc, ask)?;
+    Ok(match (kind, ask.is_planned) {
+        (Kind::CreateJob, false) => done(store.create_job(alloc, draft, now)),
+        (Kind::CreateJob, true) => {
+            let plan = store.plan_create_job(alloc, draft, now);
+            commit(store, alloc, plan)
+        }
+        (Kind::MakeJob, false) => done(store.make_job(alloc, draft, now)),
+        (Kind::MakeJob, true) => {
+            let plan = store.plan_make_job(alloc, draft, now);
+            commit(store, alloc, plan)
+        }
+        (_, false) => done(store.update_job(alloc, draft)),
+        (_, true) => {
+            let plan = store.plan_update_job(alloc, draft);
+            commit(store, alloc, plan)
+        }
+    })
+}
+
+fn set_status(
+    store: &mut Store,
+    alloc: Global,
+    ask: &Ask,
+    key: &Key,
+    uid: Uid,
+) -> Result<Answer, Refusal>
+    requires { HasRoom store.old }
+{
+    let version = Version::new(ask.version.unwrap_or(0));
+    let status = status(alloc, ask.now)?;
+    Ok(if ask.is_planned {
+        let plan = store.plan_set_status(alloc, key, uid, version, status);
+        commit(store, alloc, plan)
+    } else {
+        done(store.set_status(alloc, key, uid, version, status))
+    })
+}
+
+fn delete_cron(store: &mut Store, alloc: Global, ask: &Ask, key: &Key) -> Answer
+    requires { HasRoom store.old }
+{
     if ask.is_planned {
-        let plan = store.plan_update_job(alloc, draft);
-        return Ok(commit(store, alloc, plan));
+        let plan = store.plan_delete_cron(alloc, key);
+        commit(store, alloc, plan)
+    } else {
+        gone(store.delete_cron(alloc, key))
     }
-    Ok(job_answer(store.update_job(alloc, draft)))
 }
 
 fn asked(ask: &Ask) -> Option<Uid> {
     Uid::new(ask.uid?)
 }
 
-fn delete_job(store: &mut Store, alloc: Global, ask: &Ask) -> Result<Answer, Refusal>
+fn delete_job(store: &mut Store, alloc: Global, ask: &Ask, key: &Key) -> Answer
     requires { HasRoom store.old }
 {
     let uid = asked(ask);
-    let key = key(alloc, ask)?;
     if ask.is_planned {
-        let plan = store.plan_delete_job(alloc, &key, uid);
-        return Ok(commit(store, alloc, plan));
+        let plan = store.plan_delete_job(alloc, key, uid);
+        commit(store, alloc, plan)
+    } else {
+        gone(store.delete_job(alloc, key, uid))
     }
-    Ok(gone_answer(store.delete_job(alloc, &key, uid)))
 }
 
 // The outcome that a caller gives; the store puts its own moment in.
-fn outcome(ask: &Ask) -> Result<Outcome, Refusal> {
+fn outcome(ask: &Ask) -> Option<Outcome> {
     if ask.is_complete {
-        Ok(Outcome::Complete(seconds(7)?))
+        Some(Outcome::Complete(Seconds::new(7)?))
     } else {
-        Ok(Outcome::Failed)
+        Some(Outcome::Failed)
     }
 }
 
-fn end_key(store: &mut Store, alloc: Global, ask: &Ask, key: &Key) -> Result<Answer, Refusal>
+fn end_job(
+    store: &mut Store,
+    alloc: Global,
+    ask: &Ask,
+    key: &Key,
+    uid: Uid,
+    now: Seconds,
+) -> Result<Answer, Refusal>
     requires { HasRoom store.old }
 {
-    let (uid, _) = given(ask)?;
-    let outcome = outcome(ask)?;
-    let now = seconds(ask.now)?;
-    if ask.is_planned {
+    let outcome = outcome(ask).ok_or(Refusal::Syntax)?;
+    Ok(if ask.is_planned {
         let plan = store.plan_end_job(alloc, key, uid, outcome, now);
-        return Ok(commit(store, alloc, plan));
-    }
-    Ok(job_answer(store.end_job(alloc, key, uid, outcome, now)))
+        commit(store, alloc, plan)
+    } else {
+        done(store.end_job(alloc, key, uid, outcome, now))
+    })
 }
 
-fn end_job(store: &mut Store, alloc: Global, ask: &Ask) -> Result<Answer, Refusal>
+// A call to the object at a key.
+fn call_key(
+    store: &mut Store,
+    alloc: Global,
+    kind: Kind,
+    ask: &Ask,
+    now: Seconds,
+) -> Result<Answer, Refusal>
     requires { HasRoom store.old }
 {
-    let key = key(alloc, ask)?;
-    end_key(store, alloc, ask, &key)
+    let uid = Uid::new(ask.uid.unwrap_or(1)).ok_or(Refusal::Syntax)?;
+    let key = Key::new(alloc, "default", name_at(ask.name))?;
+    match kind {
+        Kind::SetStatus => set_status(store, alloc, ask, &key, uid),
+        Kind::DeleteCron => Ok(delete_cron(store, alloc, ask, &key)),
+        Kind::DeleteJob => Ok(delete_job(store, alloc, ask, &key)),
+        _ => end_job(store, alloc, ask, &key, uid, now),
+    }
 }
 
 // One call, by its own function or as a plan that is committed.
-pub fn call(store: &mut Store, alloc: Global, kind: Kind, ask: &Ask) -> Result<Answer, Refusal> {
+fn call(store: &mut Store, alloc: Global, kind: Kind, ask: &Ask) -> Result<Answer, Refusal> {
     if !store.has_room() {
         return Err(Refusal::HistoryFull);
     }
+    let now = Seconds::new(ask.now).ok_or(Refusal::Syntax)?;
     match kind {
-        Kind::CreateCron => create_cron(store, alloc, ask),
-        Kind::UpdateCron => update_cron(store, alloc, ask),
-        Kind::SetStatus => set_status(store, alloc, ask),
-        Kind::DeleteCron => delete_cron(store, alloc, ask),
-        Kind::CreateJob => create_job(store, alloc, ask),
-        Kind::MakeJob => make_job(store, alloc, ask),
-        Kind::UpdateJob => update_job(store, alloc, ask),
-        Kind::DeleteJob => delete_job(store, alloc, ask),
-        Kind::EndJob => end_job(store, alloc, ask),
+        Kind::CreateCron | Kind::UpdateCron => draft_cron(store, alloc, kind, ask, now),
+        Kind::CreateJob | Kind::MakeJob | Kind::UpdateJob => {
+            draft_job(store, alloc, kind, ask, now)
+        }
+        _ => call_key(store, alloc, kind, ask, now),
+    }
+}
+
+// Whether the call is answered so.
+pub fn is_answered(
+    store: &mut Store,
+    alloc: Global,
+    kind: Kind,
+    ask: &Ask,
+    wanted: Answer,
+) -> bool {
+    match call(store, alloc, kind, ask) {
+        Ok(answer) => answer == wanted,
+        Err(_) => false,
     }
 }

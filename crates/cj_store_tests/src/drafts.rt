@@ -11,12 +11,8 @@ pub fn seconds(count: u64) -> Result<Seconds, Refusal> {
     Seconds::new(count).ok_or(Refusal::Syntax)
 }
 
-pub fn uid(count: u64) -> Result<Uid, Refusal> {
+fn uid(count: u64) -> Result<Uid, Refusal> {
     Uid::new(count).ok_or(Refusal::Syntax)
-}
-
-pub fn key(alloc: Global, ask: &Ask) -> Result<Key, Refusal> {
-    Key::new(alloc, "default", name_at(ask.name))
 }
 
 fn version_given(alloc: Global, version: Option<u64>) -> Result<Option<Text>, Refusal> {
@@ -130,7 +126,7 @@ fn owners(alloc: Global, place: usize) -> Result<OwnerRefs, Refusal> {
 
 pub fn job_draft(alloc: Global, ask: &Ask) -> Result<JobDraft, Refusal> {
     let (key, meta, owners, spec) = all_four(
-        key(alloc, ask),
+        Key::new(alloc, "default", name_at(ask.name)),
         meta(alloc, ask),
         owners(alloc, ask.owner),
         spec_text(alloc, spec_at(ask.spec)),

@@ -1,11 +1,12 @@
 use crate::boxed::boxed;
 use crate::drafts::{owned_draft, seconds};
+use cj_base::both;
 use cj_store::Store;
 use cj_types::{Job, JobDraft, Key, Refusal, Shared};
-use std::alloc::{AllocError, Global};
+use std::alloc::Global;
 
-fn numbered(alloc: Global, prefix: &str, number: u64) -> Result<String, AllocError> {
-    format!(in alloc; "{prefix}-{number:04}")
+fn numbered(alloc: Global, prefix: &str, number: u64) -> Result<String, Refusal> {
+    Ok(format!(in alloc; "{prefix}-{number:04}")?)
 }
 
 fn key(alloc: Global, prefix: &str, number: u64) -> Result<Key, Refusal> {
@@ -15,8 +16,10 @@ fn key(alloc: Global, prefix: &str, number: u64) -> Result<Key, Refusal> {
 
 // The Job of this number, of the CronJob of the number modulo 40, under one of two uids.
 fn draft(alloc: Global, number: u64) -> Result<JobDraft, Refusal> {
-    let name = numbered(alloc, "job", number)?;
-    let cron = numbered(alloc, "cron", number % 40)?;
+    let (name, cron) = both(
+        numbered(alloc, "job", number),
+        numbered(alloc, "cron", number % 40),
+    )?;
     let uid = if number < 1_000 { "old" } else { "new" };
     owned_draft(alloc, name.as_str(), cron.as_str(), uid)
 }
@@ -42,17 +45,26 @@ pub fn rise(jobs: &[Shared<Job>]) -> bool {
     jobs.windows(2).all(|pair| pair[0].key < pair[1].key)
 }
 
-// Whether so many Jobs of the CronJob of this number are listed, by name.
-fn lists(store: &Store, alloc: Global, number: u64, count: usize) -> Result<bool, Refusal> {
-    let jobs = store.jobs_of(alloc, &key(alloc, "cron", number)?)?;
-    Ok(jobs.as_slice().len() == count && rise(jobs.as_slice()))
+// Whether so many Jobs of the CronJob at the key are listed, by name.
+fn lists_at(store: &Store, alloc: Global, key: &Key, count: usize) -> bool {
+    match store.jobs_of(alloc, key) {
+        Ok(jobs) => jobs.as_slice().len() == count && rise(jobs.as_slice()),
+        Err(_) => false,
+    }
+}
+
+fn lists(store: &Store, alloc: Global, number: u64, count: usize) -> bool {
+    match key(alloc, "cron", number) {
+        Ok(key) => lists_at(store, alloc, &key, count),
+        Err(_) => false,
+    }
 }
 
 // Whether so many Jobs of the first CronJob are listed, and 50 of each other.
-fn lists_all(store: &Store, alloc: Global, count: usize) -> Result<bool, Refusal> {
+fn lists_all(store: &Store, alloc: Global, count: usize) -> bool {
     for number in 1..40 {
-        if !lists(store, alloc, number, 50)? {
-            return Ok(false);
+        if !lists(store, alloc, number, 50) {
+            return false;
         }
     }
     lists(store, alloc, 0, count)
@@ -76,10 +88,9 @@ fn delete_half(store: &mut Store, alloc: Global) -> Result<(), Refusal> {
 
 fn is_right(store: &mut Store, alloc: Global) -> Result<bool, Refusal> {
     make_all(store, alloc)?;
-    let before = lists_all(store, alloc, 50)?;
+    let before = lists_all(store, alloc, 50);
     delete_half(store, alloc)?;
-    let after = lists_all(store, alloc, 25)?;
-    Ok(before && after)
+    Ok(before && lists_all(store, alloc, 25))
 }
 
 fn are_listed(alloc: Global) -> Result<bool, Refusal> {

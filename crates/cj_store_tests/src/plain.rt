@@ -58,10 +58,21 @@ impl Model {
     }
 
     pub fn find(&self, is_job: bool, name: usize) -> Option<Plain> {
-        self.rows
-            .iter()
-            .copied()
-            .find(|row| row.is_job == is_job && row.name == name)
+        for row in self.rows.as_slice() {
+            if row.is_job == is_job && row.name == name {
+                return Some(*row);
+            }
+        }
+        None
+    }
+
+    // How many objects have this owner.
+    pub fn count_owned(&self, owner: usize) -> usize {
+        let mut count: usize = 0;
+        for row in self.rows.as_slice() {
+            count = count.saturating_add(usize::from(row.owner == owner));
+        }
+        count
     }
 
     fn created(&self, is_job: bool, ask: &Ask) -> Answer {

@@ -1,11 +1,12 @@
 use crate::ask::Ask;
 use crate::boxed::boxed;
-use crate::calls::call;
+use crate::calls::is_answered;
 use crate::plain::Kind;
 use crate::told::{Answer, Plain};
 use cj_store::Store;
 use cj_types::Refusal;
 use std::alloc::Global;
+use std::process::Abort;
 
 const NOW: u64 = 1_704_067_200;
 
@@ -40,7 +41,7 @@ fn rows() -> [Row; 9] {
     ]
 }
 
-fn is_right(store: &mut Store, alloc: Global, row: &Row) -> Result<bool, Refusal> {
+fn is_right(store: &mut Store, alloc: Global, row: &Row) -> bool {
     let (kind, name, spec, version, answer) = *row;
     let asked = Ask {
         name,
@@ -52,23 +53,26 @@ fn is_right(store: &mut Store, alloc: Global, row: &Row) -> Result<bool, Refusal
         is_planned: false,
         now: NOW,
     };
-    Ok(call(store, alloc, kind, &asked)? == answer)
+    is_answered(store, alloc, kind, &asked, answer)
 }
 
 // The first row of calls to a new store that isn't answered so.
 fn first_wrong(alloc: Global, rows: &[Row]) -> Result<Option<usize>, Refusal> {
     let mut store = boxed(alloc, Store::new(alloc))?;
     for (place, row) in rows.iter().enumerate() {
-        if !is_right(&mut store, alloc, row)? {
+        if !is_right(&mut store, alloc, row) {
             return Ok(Some(place));
         }
     }
     Ok(None)
 }
 
+/// Asserts that none was found wrong.
+pub fn none_wrong<R: Abort>(rt: &R, wrong: Result<Option<usize>, Refusal>) {
+    assert_eq!(*rt; wrong.unwrap_or(Some(99_999)), None);
+}
+
 #[test]
 fn answers_a_row_of_calls(rt: HostRuntime) {
-    let rows = rows();
-    let wrong = first_wrong(rt.alloc(), &rows).unwrap_or(Some(99));
-    assert_eq!(rt; wrong, None);
+    none_wrong(&rt, first_wrong(rt.alloc(), &rows()));
 }

@@ -32,17 +32,24 @@ fn time(time: Option<Seconds>) -> u64 {
     }
 }
 
-pub fn plain_cron(cron: &CronJob) -> Plain {
-    Plain {
-        is_job: false,
-        name: place_of(cron.key.key().name()),
-        uid: cron.meta.uid.get(),
-        version: cron.meta.version.get(),
-        generation: cron.meta.generation,
-        created: cron.meta.created.get(),
-        spec: place_of(cron.spec.schedule.as_str()),
-        owner: 0,
-        state: time(cron.status.last_schedule_time),
+// What has a form in numbers.
+pub trait Told {
+    fn plain(&self) -> Plain;
+}
+
+impl Told for CronJob {
+    fn plain(&self) -> Plain {
+        Plain {
+            is_job: false,
+            name: place_of(self.key.key().name()),
+            uid: self.meta.uid.get(),
+            version: self.meta.version.get(),
+            generation: self.meta.generation,
+            created: self.meta.created.get(),
+            spec: place_of(self.spec.schedule.as_str()),
+            owner: 0,
+            state: time(self.status.last_schedule_time),
+        }
     }
 }
 
@@ -61,17 +68,19 @@ fn end(outcome: &Option<Outcome>) -> u64 {
     }
 }
 
-pub fn plain_job(job: &Job) -> Plain {
-    Plain {
-        is_job: true,
-        name: place_of(job.key.name()),
-        uid: job.meta.uid.get(),
-        version: job.meta.version.get(),
-        generation: job.meta.generation,
-        created: job.meta.created.get(),
-        spec: place_of(job.spec.as_str()),
-        owner: owner_place(job),
-        state: end(&job.outcome),
+impl Told for Job {
+    fn plain(&self) -> Plain {
+        Plain {
+            is_job: true,
+            name: place_of(self.key.name()),
+            uid: self.meta.uid.get(),
+            version: self.meta.version.get(),
+            generation: self.meta.generation,
+            created: self.meta.created.get(),
+            spec: place_of(self.spec.as_str()),
+            owner: owner_place(self),
+            state: end(&self.outcome),
+        }
     }
 }
 
@@ -87,21 +96,14 @@ pub fn refused(refusal: &Refusal) -> Answer {
     }
 }
 
-pub fn cron_answer(answer: Result<Shared<CronJob>, Refusal>) -> Answer {
+pub fn done<T: Told + Drop>(answer: Result<Shared<T>, Refusal>) -> Answer {
     match answer {
-        Ok(cron) => Answer::Done(plain_cron(&cron)),
+        Ok(object) => Answer::Done(object.get().plain()),
         Err(refusal) => refused(&refusal),
     }
 }
 
-pub fn job_answer(answer: Result<Shared<Job>, Refusal>) -> Answer {
-    match answer {
-        Ok(job) => Answer::Done(plain_job(&job)),
-        Err(refusal) => refused(&refusal),
-    }
-}
-
-pub fn gone_answer(answer: Result<Version, Refusal>) -> Answer {
+pub fn gone(answer: Result<Version, Refusal>) -> Answer {
     match answer {
         Ok(version) => Answer::Gone(version.get()),
         Err(refusal) => refused(&refusal),
@@ -110,8 +112,8 @@ pub fn gone_answer(answer: Result<Version, Refusal>) -> Answer {
 
 fn plain_object(object: &Object) -> Plain {
     match object {
-        Object::Cron(cron) => plain_cron(cron),
-        Object::Job(job) => plain_job(job),
+        Object::Cron(cron) => cron.get().plain(),
+        Object::Job(job) => job.get().plain(),
     }
 }
 
