@@ -98,39 +98,24 @@ fn set_status(
     })
 }
 
-fn delete_cron(store: &mut Store, alloc: Global, ask: &Ask, key: &Key) -> Answer
-    requires { HasRoom store.old }
-{
-    if ask.is_planned {
-        let plan = store.plan_delete_cron(alloc, key);
-        commit(store, alloc, plan)
-    } else {
-        gone(store.delete_cron(alloc, key))
-    }
-}
-
 fn asked(ask: &Ask) -> Option<Uid> {
     Uid::new(ask.uid?)
 }
 
-fn delete_job(store: &mut Store, alloc: Global, ask: &Ask, key: &Key) -> Answer
+fn delete(store: &mut Store, alloc: Global, kind: Kind, ask: &Ask, key: &Key) -> Answer
     requires { HasRoom store.old }
 {
-    let uid = asked(ask);
-    if ask.is_planned {
-        let plan = store.plan_delete_job(alloc, key, uid);
-        commit(store, alloc, plan)
-    } else {
-        gone(store.delete_job(alloc, key, uid))
-    }
-}
-
-// The outcome that a caller gives; the store puts its own moment in.
-fn outcome(ask: &Ask) -> Option<Outcome> {
-    if ask.is_complete {
-        Some(Outcome::Complete(Seconds::new(7)?))
-    } else {
-        Some(Outcome::Failed)
+    match (kind, ask.is_planned) {
+        (Kind::DeleteCron, false) => gone(store.delete_cron(alloc, key)),
+        (Kind::DeleteCron, true) => {
+            let plan = store.plan_delete_cron(alloc, key);
+            commit(store, alloc, plan)
+        }
+        (_, false) => gone(store.delete_job(alloc, key, asked(ask))),
+        (_, true) => {
+            let plan = store.plan_delete_job(alloc, key, asked(ask));
+            commit(store, alloc, plan)
+        }
     }
 }
 
@@ -144,7 +129,13 @@ fn end_job(
 ) -> Result<Answer, Refusal>
     requires { HasRoom store.old }
 {
-    let outcome = outcome(ask).ok_or(Refusal::Syntax)?;
+    // The store puts its own moment in.
+    let given = Seconds::new(7).ok_or(Refusal::Syntax)?;
+    let outcome = if ask.is_complete {
+        Outcome::Complete(given)
+    } else {
+        Outcome::Failed
+    };
     Ok(if ask.is_planned {
         let plan = store.plan_end_job(alloc, key, uid, outcome, now);
         commit(store, alloc, plan)
@@ -167,8 +158,7 @@ fn call_key(
     let key = Key::new(alloc, "default", name_at(ask.name))?;
     match kind {
         Kind::SetStatus => set_status(store, alloc, ask, &key, uid),
-        Kind::DeleteCron => Ok(delete_cron(store, alloc, ask, &key)),
-        Kind::DeleteJob => Ok(delete_job(store, alloc, ask, &key)),
+        Kind::DeleteCron | Kind::DeleteJob => Ok(delete(store, alloc, kind, ask, &key)),
         _ => end_job(store, alloc, ask, &key, uid, now),
     }
 }

@@ -11,10 +11,6 @@ pub fn seconds(count: u64) -> Result<Seconds, Refusal> {
     Seconds::new(count).ok_or(Refusal::Syntax)
 }
 
-fn uid(count: u64) -> Result<Uid, Refusal> {
-    Uid::new(count).ok_or(Refusal::Syntax)
-}
-
 fn version_given(alloc: Global, version: Option<u64>) -> Result<Option<Text>, Refusal> {
     match version {
         Some(count) => Ok(Some(version_text(alloc, Version::new(count))?)),
@@ -24,7 +20,10 @@ fn version_given(alloc: Global, version: Option<u64>) -> Result<Option<Text>, Re
 
 fn uid_given(alloc: Global, count: Option<u64>) -> Result<Option<Text>, Refusal> {
     match count {
-        Some(count) => Ok(Some(uid(count)?.text(alloc)?)),
+        Some(count) => {
+            let uid = Uid::new(count).ok_or(Refusal::Syntax)?;
+            Ok(Some(uid.text(alloc)?))
+        }
         None => Ok(None),
     }
 }
@@ -43,17 +42,8 @@ fn spec_text(alloc: Global, text: &str) -> Result<SpecText, Refusal> {
     SpecText::new(alloc, Text::new(alloc, text)?)
 }
 
-fn template(alloc: Global) -> Result<JobTemplate, Refusal> {
-    let spec = spec_text(alloc, "{}")?;
-    Ok(JobTemplate {
-        labels: Labels::new(alloc),
-        annotations: Labels::new(alloc),
-        spec,
-    })
-}
-
 fn cron_spec(alloc: Global, schedule: &str) -> Result<CronSpec, Refusal> {
-    let (schedule, template) = both(Text::new(alloc, schedule), template(alloc))?;
+    let (schedule, spec) = both(Text::new(alloc, schedule), spec_text(alloc, "{}"))?;
     Ok(CronSpec {
         schedule,
         time_zone: None,
@@ -62,7 +52,11 @@ fn cron_spec(alloc: Global, schedule: &str) -> Result<CronSpec, Refusal> {
         starting_deadline_seconds: None,
         successful_limit: HistoryLimit::from(3),
         failed_limit: HistoryLimit::from(1),
-        template,
+        template: JobTemplate {
+            labels: Labels::new(alloc),
+            annotations: Labels::new(alloc),
+            spec,
+        },
     })
 }
 
@@ -88,31 +82,27 @@ pub fn status(alloc: Global, time: u64) -> Result<CronStatus, Refusal> {
     })
 }
 
-fn owner(alloc: Global, name: &str, uid: &str, is_controller: bool) -> Result<OwnerRef, Refusal> {
-    let (api_version, kind, name, uid) = all_four(
-        Text::new(alloc, "batch/v1"),
-        Text::new(alloc, "CronJob"),
-        Text::new(alloc, name),
-        Text::new(alloc, uid),
-    )?;
-    Ok(OwnerRef {
-        api_version,
-        kind,
-        name,
-        uid,
-        controller: is_controller,
-        block_owner_deletion: true,
-    })
-}
-
 fn one_owner(
     alloc: Global,
     name: &str,
     uid: &str,
     is_controller: bool,
 ) -> Result<OwnerRefs, Refusal> {
+    let (api_version, kind, name, uid) = all_four(
+        Text::new(alloc, "batch/v1"),
+        Text::new(alloc, "CronJob"),
+        Text::new(alloc, name),
+        Text::new(alloc, uid),
+    )?;
     let mut owners = OwnerRefs::new(alloc);
-    owners.push(owner(alloc, name, uid, is_controller)?)?;
+    owners.push(OwnerRef {
+        api_version,
+        kind,
+        name,
+        uid,
+        controller: is_controller,
+        block_owner_deletion: true,
+    })?;
     Ok(owners)
 }
 
@@ -139,15 +129,6 @@ pub fn job_draft(alloc: Global, ask: &Ask) -> Result<JobDraft, Refusal> {
     })
 }
 
-fn no_meta(alloc: Global) -> DraftMeta {
-    DraftMeta {
-        uid: None,
-        version: None,
-        labels: Labels::new(alloc),
-        annotations: Labels::new(alloc),
-    }
-}
-
 // A Job that a CronJob of this name and uid controls.
 pub fn owned_draft(alloc: Global, name: &str, cron: &str, uid: &str) -> Result<JobDraft, Refusal> {
     let (key, owners, spec) = all_three(
@@ -157,7 +138,12 @@ pub fn owned_draft(alloc: Global, name: &str, cron: &str, uid: &str) -> Result<J
     )?;
     Ok(JobDraft {
         key,
-        meta: no_meta(alloc),
+        meta: DraftMeta {
+            uid: None,
+            version: None,
+            labels: Labels::new(alloc),
+            annotations: Labels::new(alloc),
+        },
         owners,
         spec,
     })

@@ -24,25 +24,30 @@ fn draft(alloc: Global, number: u64) -> Result<JobDraft, Refusal> {
     owned_draft(alloc, name.as_str(), cron.as_str(), uid)
 }
 
-fn make(store: &mut Store, alloc: Global, number: u64) -> Result<(), Refusal> {
+// Makes the Job of this number, or deletes it.
+fn change(store: &mut Store, alloc: Global, number: u64, is_made: bool) -> Result<(), Refusal> {
     if !store.has_room() {
         return Err(Refusal::HistoryFull);
     }
-    let now = seconds(1_704_067_200)?;
-    let _ = store.make_job(alloc, draft(alloc, number)?, now)?;
-    Ok(())
-}
-
-fn delete(store: &mut Store, alloc: Global, number: u64) -> Result<(), Refusal> {
-    if !store.has_room() {
-        return Err(Refusal::HistoryFull);
+    if is_made {
+        let now = seconds(1_704_067_200)?;
+        let _ = store.make_job(alloc, draft(alloc, number)?, now)?;
+    } else {
+        let _ = store.delete_job(alloc, &key(alloc, "job", number)?, None)?;
     }
-    let _ = store.delete_job(alloc, &key(alloc, "job", number)?, None)?;
     Ok(())
 }
 
-pub fn rise(jobs: &[Shared<Job>]) -> bool {
-    jobs.windows(2).all(|pair| pair[0].key < pair[1].key)
+// Whether each name is above the one before.
+fn rise(jobs: &[Shared<Job>]) -> bool {
+    let mut last = "";
+    for job in jobs {
+        if job.key.name().cmp(last).is_le() {
+            return false;
+        }
+        last = job.key.name();
+    }
+    true
 }
 
 // Whether so many Jobs of the CronJob at the key are listed, by name.
@@ -70,32 +75,28 @@ fn lists_all(store: &Store, alloc: Global, count: usize) -> bool {
     lists(store, alloc, 0, count)
 }
 
-// Two thousand Jobs in falling order of name.
+// Makes two thousand Jobs in falling order of name.
 fn make_all(store: &mut Store, alloc: Global) -> Result<(), Refusal> {
     for number in (0..2_000).rev() {
-        make(store, alloc, number)?;
+        change(store, alloc, number, true)?;
     }
     Ok(())
 }
 
-// Every second Job of the first CronJob.
+// Deletes every second Job of the first CronJob.
 fn delete_half(store: &mut Store, alloc: Global) -> Result<(), Refusal> {
     for turn in 0..25 {
-        delete(store, alloc, turn * 80)?;
+        change(store, alloc, turn * 80, false)?;
     }
     Ok(())
-}
-
-fn is_right(store: &mut Store, alloc: Global) -> Result<bool, Refusal> {
-    make_all(store, alloc)?;
-    let before = lists_all(store, alloc, 50);
-    delete_half(store, alloc)?;
-    Ok(before && lists_all(store, alloc, 25))
 }
 
 fn are_listed(alloc: Global) -> Result<bool, Refusal> {
     let mut store = boxed(alloc, Store::new(alloc))?;
-    is_right(&mut store, alloc)
+    make_all(&mut store, alloc)?;
+    let made = lists_all(&store, alloc, 50);
+    delete_half(&mut store, alloc)?;
+    Ok(made && lists_all(&store, alloc, 25))
 }
 
 #[test]

@@ -1,6 +1,5 @@
 use crate::ask::Ask;
 use crate::told::{Answer, Plain};
-use std::alloc::{AllocError, Global};
 
 // The calls of the random test.
 #[derive(Clone, Copy, PartialEq, Eq)]
@@ -25,18 +24,37 @@ impl Kind {
     }
 }
 
-// The objects in no order, with the two counts.
+// The object of each kind and name, with the two counts.
 #[derive(Drop)]
 pub struct Model {
-    pub rows: Vec<Plain>,
+    rows: [Option<Plain>; 12],
     pub version: u64,
-    pub uids: u64,
+    uids: u64,
+}
+
+// The place of the objects of the kind and the name.
+fn place(is_job: bool, name: usize) -> usize {
+    if is_job { name % 6 + 6 } else { name % 6 }
 }
 
 fn is(given: Option<u64>, current: u64) -> bool {
     match given {
         Some(given) => given == current,
         None => true,
+    }
+}
+
+fn is_owned(row: &Plain, owner: Option<usize>) -> bool {
+    match owner {
+        Some(owner) => row.owner == owner,
+        None => true,
+    }
+}
+
+fn uid_of(row: Option<Plain>) -> u64 {
+    match row {
+        Some(row) => row.uid,
+        None => 0,
     }
 }
 
@@ -49,28 +67,26 @@ fn end_of(ask: &Ask) -> u64 {
 }
 
 impl Model {
-    pub fn new(alloc: Global) -> Model {
+    pub fn new() -> Model {
         Model {
-            rows: Vec::new(alloc),
+            rows: [None; 12],
             version: 0,
             uids: 0,
         }
     }
 
     pub fn find(&self, is_job: bool, name: usize) -> Option<Plain> {
-        for row in self.rows.as_slice() {
-            if row.is_job == is_job && row.name == name {
-                return Some(*row);
-            }
-        }
-        None
+        self.rows[place(is_job, name) % 12]
     }
 
-    // How many objects have this owner.
-    pub fn count_owned(&self, owner: usize) -> usize {
+    // How many objects of the kind there are, of this owner where one is given.
+    pub fn count(&self, is_job: bool, owner: Option<usize>) -> usize {
         let mut count: usize = 0;
-        for row in self.rows.as_slice() {
-            count = count.saturating_add(usize::from(row.owner == owner));
+        for row in &self.rows {
+            if let Some(row) = row {
+                let is_owned = is_owned(row, owner);
+                count = count.saturating_add(usize::from(row.is_job == is_job && is_owned));
+            }
         }
         count
     }
@@ -154,19 +170,14 @@ impl Model {
     }
 
     // The list after the answer.
-    pub fn take_in(&mut self, kind: Kind, ask: &Ask, answer: Answer) -> Result<(), AllocError> {
-        if let Answer::Refused(_, _) = answer {
-            return Ok(());
-        }
-        let is_job = kind.is_of_jobs();
-        let name = ask.name;
-        self.rows
-            .retain(|row| row.is_job != is_job || row.name != name);
+    pub fn take_in(&mut self, kind: Kind, ask: &Ask, answer: Answer) {
+        let row = match answer {
+            Answer::Refused(_, _) => return,
+            Answer::Gone(_) => None,
+            Answer::Done(row) => Some(row),
+        };
         self.version = self.version.saturating_add(1);
-        if let Answer::Done(row) = answer {
-            self.uids = self.uids.max(row.uid);
-            self.rows.push(row)?;
-        }
-        Ok(())
+        self.uids = self.uids.max(uid_of(row));
+        self.rows[place(kind.is_of_jobs(), ask.name) % 12] = row;
     }
 }

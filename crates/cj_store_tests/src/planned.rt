@@ -2,21 +2,17 @@ use crate::boxed::boxed;
 use crate::drafts::{owned_draft, seconds};
 use cj_store::{Store, equality_laws};
 use cj_store_laws::{answer_laws, event_laws, make_both, sound_laws, update_both};
-use cj_types::{Heap, Job, JobDraft, Key, Refusal, Shared};
+use cj_types::{Heap, JobDraft, Key, Refusal};
 use std::alloc::Global;
 
 // Whether a Job of that name has this uid and this version.
 fn stands(store: &Store, alloc: Global, name: &str, uid: u64, version: u64) -> bool {
     match Key::new(alloc, "default", name) {
-        Ok(key) => has(store.get_job(&key), uid, version),
+        Ok(key) => match store.get_job(&key) {
+            Some(job) => job.meta.uid.get() == uid && job.meta.version.get() == version,
+            None => false,
+        },
         Err(_) => false,
-    }
-}
-
-fn has(job: Option<&Shared<Job>>, uid: u64, version: u64) -> bool {
-    match job {
-        Some(job) => job.meta.uid.get() == uid && job.meta.version.get() == version,
-        None => false,
     }
 }
 
@@ -38,23 +34,19 @@ fn update(store: &mut Store, alloc: Global) -> Result<(), Refusal> {
 }
 
 // Whether two Jobs stand once they were made, and the second once it was updated twice.
-fn are_planned(store: &mut Store, alloc: Global) -> Result<bool, Refusal> {
-    make(store, alloc)?;
-    let first = stands(store, alloc, "a", 1, 1);
-    let second = stands(store, alloc, "b", 2, 2);
-    update(store, alloc)?;
-    Ok(first && second && stands(store, alloc, "b", 2, 4))
-}
-
-fn planned(alloc: Global) -> Result<bool, Refusal> {
+fn are_planned(alloc: Global) -> Result<bool, Refusal> {
     let mut store = boxed(alloc, Store::new(alloc))?;
-    are_planned(&mut store, alloc)
+    make(&mut store, alloc)?;
+    let first = stands(&store, alloc, "a", 1, 1);
+    let second = stands(&store, alloc, "b", 2, 2);
+    update(&mut store, alloc)?;
+    Ok(first && second && stands(&store, alloc, "b", 2, 4))
 }
 
 // rule: planned-change
 #[test]
 fn makes_plans_in_turn(rt: HostRuntime) {
-    let planned = planned(rt.alloc()).unwrap_or(false);
+    let planned = are_planned(rt.alloc()).unwrap_or(false);
     assert!(rt; planned);
 }
 

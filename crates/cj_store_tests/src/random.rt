@@ -1,11 +1,10 @@
 use crate::ask::{Ask, name_at};
 use crate::boxed::boxed;
 use crate::calls::is_answered;
-use crate::listed::rise;
 use crate::plain::{Kind, Model};
 use crate::rows::none_wrong;
 use crate::told::{Plain, Told};
-use cj_base::both;
+use cj_base::Listing;
 use cj_store::Store;
 use cj_types::{Key, Refusal, Shared};
 use std::alloc::Global;
@@ -66,37 +65,27 @@ fn random_ask(model: &Model, kind: Kind, seed: u64) -> Ask {
     }
 }
 
-// Whether the model has each of the objects.
+// Whether the model has each of the objects, and their names rise.
 fn has_all<T: Told>(model: &Model, objects: &[Shared<T>]) -> bool {
+    let mut next = 0;
     for object in objects {
         let row = object.get().plain();
-        if model.find(row.is_job, row.name) != Some(row) {
+        if model.find(row.is_job, row.name) != Some(row) || row.name < next {
             return false;
         }
+        next = row.name.saturating_add(1);
     }
     true
 }
 
-// Whether the store lists just the rows of the model.
-fn lists_agree(store: &Store, alloc: Global, model: &Model) -> bool {
-    match both(store.list_crons(alloc), store.list_jobs(alloc)) {
-        Ok((crons, jobs)) => {
-            let count = crons.as_slice().len().saturating_add(jobs.as_slice().len());
-            let crons = has_all(model, crons.as_slice());
-            crons && has_all(model, jobs.as_slice()) && count == model.rows.len()
-        }
-        Err(_) => false,
-    }
-}
-
-// Whether the Jobs of the CronJob at the key of that place are those of the model.
-fn owned_agree(store: &Store, alloc: Global, model: &Model, place: usize, key: &Key) -> bool {
-    match store.jobs_of(alloc, key) {
-        Ok(jobs) => {
-            let jobs = jobs.as_slice();
-            let count = model.count_owned(place.saturating_add(2));
-            has_all(model, jobs) && jobs.len() == count && rise(jobs)
-        }
+// Whether just so many objects are listed, each as the model has it, by name.
+fn lists<T: Told + Drop>(
+    model: &Model,
+    listed: Result<Listing<Shared<T>>, Refusal>,
+    count: usize,
+) -> bool {
+    match listed {
+        Ok(objects) => objects.as_slice().len() == count && has_all(model, objects.as_slice()),
         Err(_) => false,
     }
 }
@@ -108,20 +97,21 @@ fn read<T: Told>(found: Option<&Shared<T>>) -> Option<Plain> {
     }
 }
 
-// Whether the objects at the key of that place are those of the model.
-fn reads_agree(store: &Store, model: &Model, place: usize, key: &Key) -> bool {
+// Whether the objects at the key of that place, and the Jobs of the CronJob at that key, are those of the model.
+fn agrees_at(store: &Store, alloc: Global, model: &Model, place: usize, key: &Key) -> bool {
     let cron = read(store.get_cron(key)) == model.find(false, place);
-    cron && read(store.get_job(key)) == model.find(true, place)
+    let job = read(store.get_job(key)) == model.find(true, place);
+    let count = model.count(true, Some(place.saturating_add(2)));
+    cron && job && lists(model, store.jobs_of(alloc, key), count)
 }
 
+// Whether the store lists just the objects of the model, and agrees with it at the key of that place.
 fn agrees(store: &Store, alloc: Global, model: &Model, place: usize) -> bool {
+    let crons = lists(model, store.list_crons(alloc), model.count(false, None));
+    let jobs = lists(model, store.list_jobs(alloc), model.count(true, None));
+    let listed = crons && jobs && store.version().get() == model.version;
     match Key::new(alloc, "default", name_at(place)) {
-        Ok(key) => {
-            let listed = lists_agree(store, alloc, model);
-            let owned = owned_agree(store, alloc, model, place, &key);
-            let read = reads_agree(store, model, place, &key);
-            listed && owned && read && store.version().get() == model.version
-        }
+        Ok(key) => listed && agrees_at(store, alloc, model, place, &key),
         Err(_) => false,
     }
 }
@@ -132,8 +122,8 @@ fn is_right(store: &mut Store, alloc: Global, model: &mut Model, seed: u64) -> b
     let asked = random_ask(model, kind, seed);
     let wanted = model.answer(kind, &asked);
     let answered = is_answered(store, alloc, kind, &asked, wanted);
-    let kept = model.take_in(kind, &asked, wanted).is_ok();
-    answered && kept && agrees(store, alloc, model, pick(seed, 20, 6))
+    model.take_in(kind, &asked, wanted);
+    answered && agrees(store, alloc, model, pick(seed, 20, 6))
 }
 
 // The first of 10,000 calls that isn't right.
@@ -150,7 +140,7 @@ fn first_wrong(store: &mut Store, alloc: Global, model: &mut Model) -> Option<us
 
 fn wrong(alloc: Global) -> Result<Option<usize>, Refusal> {
     let mut store = boxed(alloc, Store::new(alloc))?;
-    let mut model = boxed(alloc, Model::new(alloc))?;
+    let mut model = Model::new();
     Ok(first_wrong(&mut store, alloc, &mut model))
 }
 
