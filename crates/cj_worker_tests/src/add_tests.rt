@@ -1,7 +1,8 @@
 use crate::calls::{FIRST, add, tick};
 use crate::deeds::{Deed, Sought, counts};
 use crate::disturbed::disturbed;
-use crate::stages::{Stage, made, pass_of, stage_of};
+use crate::hubs::pass_of;
+use crate::stages::{Stage, made, stage_of};
 use crate::syncs::synced;
 use cj_calls::{Call, Role};
 use cj_worker::{OpenGate, Point};

@@ -62,6 +62,11 @@ pub fn create(rt: &impl Abort, alloc: Global, name: &str) -> Call {
     Call::CreateCron(cron(rt, alloc, name, Policy::Allow), now)
 }
 
+/// The call that reads it.
+pub fn read(rt: &impl Abort, alloc: Global, name: &str) -> Call {
+    Call::GetCron(key(rt, alloc, name))
+}
+
 /// The call that changes its policy.
 pub fn edit(rt: &impl Abort, alloc: Global, name: &str) -> Call {
     Call::UpdateCron(cron(rt, alloc, name, Policy::Replace))

@@ -1,6 +1,7 @@
 use crate::calls::{FIRST, create_job, tick};
 use crate::deeds::{Deed, Sought, counts};
-use crate::stages::{Stage, made, pass_of, stage_of};
+use crate::hubs::pass_of;
+use crate::stages::{Stage, made, stage_of};
 use crate::syncs::synced;
 use cj_calls::{Call, Role};
 use cj_hub::{Hub, Pass};

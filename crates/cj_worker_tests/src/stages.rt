@@ -1,8 +1,8 @@
-// Hubs, passes, and calls through them.
+// A hub with callers, and calls through it.
 use crate::calls::{add, create};
+use crate::hubs::{hub_of, pass_of};
 use cj_calls::{Call, Role};
 use cj_hub::{Hub, Pass};
-use cj_types::Limits;
 use std::alloc::Global;
 use std::mem;
 use std::process::Abort;
@@ -13,16 +13,6 @@ pub struct Stage {
     pub hub: Hub,
     pub user: Pass,
     pub informer: Pass,
-}
-
-fn empty_hub(rt: &impl Abort, alloc: Global) -> Hub {
-    let limits = Limits::new(1_000, 100).expect(rt, "limits");
-    Hub::new(alloc, limits).expect(rt, "memory")
-}
-
-/// A pass of the role.
-pub fn pass_of(rt: &(impl Wait + Abort), hub: &Hub, role: Role) -> Pass {
-    hub.enroll(rt, role).expect(rt, "memory")
 }
 
 /// Makes a call of the pass, which is accepted.
@@ -38,7 +28,7 @@ pub fn made(rt: &(impl Wait + Abort), hub: &Hub, pass: &mut Pass, call: Call) {
 
 /// A hub with a CronJob of every minute by each of the names, whose keys are in the queue in this order.
 pub fn stage_of(rt: &(impl Wait + Abort), alloc: Global, names: &[&str]) -> Stage {
-    let hub = empty_hub(rt, alloc);
+    let hub = hub_of(rt, alloc, 1_000);
     let mut user = pass_of(rt, &hub, Role::User);
     let mut informer = pass_of(rt, &hub, Role::Informer);
     for name in names {

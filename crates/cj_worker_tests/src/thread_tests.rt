@@ -1,7 +1,8 @@
 use crate::calls::FIRST;
 use crate::clocks::clock_at;
 use crate::deeds::{Deed, Sought, counts};
-use crate::stages::{Stage, made, pass_of, stage_of};
+use crate::hubs::pass_of;
+use crate::stages::{Stage, made, stage_of};
 use crate::syncs::word;
 use crate::two_keys::TwoKeys;
 use cj_calls::{Call, Role};
