@@ -1,1 +1,4 @@
+pub mod Outlines
+pub mod Rests
+pub mod Shown
 pub mod Passes

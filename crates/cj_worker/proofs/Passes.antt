@@ -6,11 +6,11 @@ use Rattle.cj_world.specs.Worlds.{Ledger}
 use Rattle.cj_hub.specs.Receipts.{PassView}
 use Rattle.cj_hub.specs.Runs.{Adds}
 use Rattle.cj_hub.specs.declared.receipt.Receipt.{Receipt}
-use Rattle.cj_sync.specs.Ends.{EndsBy, IsShown}
-use Rattle.cj_sync.specs.Sequences.{IsShut, IsAt}
-use Rattle.cj_sync.specs.declared.ending.SyncEnd.{SyncEnd}
-use Rattle.cj_sync.specs.declared.ending.SyncEnd.TheVariants.{Idle, ShutDown, Done, Retried, Broken, Stopped}
-use Rattle.cj_worker.specs.Ends.{Extends, HasEnd, Went, IsPart, last_end}
+use Rattle.cj_worker.specs.Ends.{EndsBy, IsShown}
+use Rattle.cj_worker.specs.Sequences.{IsShut, IsAt}
+use Rattle.cj_worker.specs.declared.ending.SyncEnd.{SyncEnd}
+use Rattle.cj_worker.specs.declared.ending.SyncEnd.TheVariants.{Idle, ShutDown, Done, Retried, Broken, Stopped}
+use Rattle.cj_worker.specs.Workers.{Extends, HasEnd, Went, IsPart, last_end}
 use Rattle.cj_worker.specs.declared.workers.WorkerEnd.{WorkerEnd}
 
 -- For sync_on: a pass through which entries were added is as it was with new receipts behind.

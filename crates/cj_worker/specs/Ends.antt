@@ -1,50 +1,38 @@
--- How workers come back from their threads.
-use Rattle.std.specs.Prelude.{◌≡◌, ◌⊎◌, List, [], ◌∷◌, ◌++◌, Option, Some, None}
-use Rattle.std.specs.List.{AllZip}
+-- What the end of a sync tells of the pass, at whatever desk.
+use Rattle.std.specs.Prelude.{◌≡◌, List, [], ◌∷◌, ◌++◌}
+use Rattle.cj_base.specs.declared.refusal.Refusal.{Refusal}
+use Rattle.cj_base.specs.declared.refusal.Refusal.TheVariants as No
+use Rattle.cj_calls.specs.Rows.{Told}
 use Rattle.cj_hub.specs.Receipts.{PassView}
 use Rattle.cj_hub.specs.declared.receipt.Receipt.{Receipt}
-use Rattle.cj_sync.specs.Ends.{EndsBy, IsBreaking}
-use Rattle.cj_sync.specs.Sequences.{IsShut, IsAt}
-use Rattle.cj_sync.specs.declared.ending.SyncEnd.{SyncEnd}
-use Rattle.cj_sync.specs.declared.ending.SyncEnd.TheVariants.{ShutDown, Broken, Stopped}
-use Rattle.cj_worker.specs.declared.workers.WorkerEnd.{WorkerEnd}
+use Rattle.cj_worker.specs.declared.ending.SyncEnd.{SyncEnd}
+use Rattle.cj_worker.specs.declared.ending.SyncEnd.TheVariants.{Idle, ShutDown, Done, Retried, Broken, Stopped}
+use Rattle.cj_worker.specs.Sequences.{IsDone, IsPutOff, IsShut, IsAt}
 
--- the pass with new receipts after those that it had
--- rule: worker-passes
-abbrev pub Extends : PassView → PassView → Type 0
-Extends p q = (news : List Receipt) × (q ≡ record p { receipts = p.receipts ++ news })
+-- the pass has new receipts, and the entry of the last one meets P
+-- rule: sync-ends
+pub record EndsBy (p q : PassView) (P : Told → Type 0) : Type 0 where
+  pub news : List Receipt
+  pub last : Receipt
+  pub kept : q ≡ record p { receipts = p.receipts ++ (news ++ last ∷ []) }
+  pub meets : P last.entry
 
--- the end of a sync after which a worker makes no other one
--- rule: worker-ends
-abbrev pub last_end : SyncEnd → Option SyncEnd
-last_end ShutDown = Some ShutDown
-last_end (Broken r) = Some (Broken r)
-last_end (Stopped point) = Some (Stopped point)
-last_end _ = None
+-- what keeps a sync from beginning or from ending
+-- rule: sync-ends
+abbrev pub IsBreaking : Refusal → Type 0
+IsBreaking No.NotPermitted = Unit {0}
+IsBreaking No.OutOfPhase = Unit {0}
+IsBreaking No.HistoryFull = Unit {0}
+IsBreaking No.Estranged = Unit {0}
+IsBreaking No.OutOfMemory = Unit {0}
+IsBreaking _ = ⊥
 
--- what such an end says: the last receipt is a new one, of a Take from a shut queue, or of the call after
--- which the gate stopped the sync
--- rule: worker-ends
-abbrev pub HasEnd : SyncEnd → PassView → PassView → Type 0
-HasEnd ShutDown p q = EndsBy p q IsShut
-HasEnd (Broken r) p q = IsBreaking r
-HasEnd (Stopped point) p q = EndsBy p q (IsAt point)
-HasEnd _ p q = ⊥
-
--- a worker that was given the pass hands it back so
--- rule: worker-passes
-pub record Went (p : PassView) (e : WorkerEnd) : Type 0 where
-  pub longer : Extends p e.pass
-  pub ended : HasEnd e.end p e.pass
-
--- the first list is the second without some of its members
--- rule: worker-passes
-abbrev pub IsPart : List PassView → List PassView → Type 0
-IsPart [] ys = Unit {0}
-IsPart (x ∷ xs) [] = ⊥
-IsPart (x ∷ xs) (y ∷ ys) = ((x ≡ y) × IsPart xs ys) ⊎ IsPart (x ∷ xs) ys
-
--- the ends are those of the passes, in order, without those that were lost
--- rule: worker-passes
-abbrev pub WentSome : List PassView → List WorkerEnd → Type 0
-WentSome passes ends = (kept : List PassView) × IsPart kept passes × AllZip Went kept ends
+-- the last receipt shows the end; an idle sync leaves the pass as it was
+-- rule: sync-ends
+abbrev pub IsShown : PassView → PassView → SyncEnd → Type 0
+IsShown p q Idle = q ≡ p
+IsShown p q ShutDown = EndsBy p q IsShut
+IsShown p q Done = EndsBy p q IsDone
+IsShown p q (Retried r) = EndsBy p q IsPutOff
+IsShown p q (Broken r) = IsBreaking r
+IsShown p q (Stopped point) = EndsBy p q (IsAt point)

@@ -1,1 +1,7 @@
+pub mod Sequences
+pub mod Zoned
+pub mod Syncs
+pub mod Outlines
+pub mod Hitches
 pub mod Ends
+pub mod Workers

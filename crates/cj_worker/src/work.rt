@@ -1,9 +1,11 @@
 ghost use Rattle.std.specs.Prelude.{◌≡◌, IfSome};
-ghost use Rattle.cj_worker.specs.Ends.{Extends, HasEnd, Went, last_end};
+ghost use Rattle.cj_worker.specs.Workers.{Extends, HasEnd, Went, last_end};
 
+use crate::ending::SyncEnd;
+use crate::gate::{Clock, Gate};
+use crate::sync::sync_once;
 use crate::workers::WorkerEnd;
 use cj_hub::{Hub, HubDesk, Pass};
-use cj_sync::{Clock, Gate, SyncEnd, sync_once};
 use cj_types::Refusal;
 use cj_zone::ZoneTable;
 use std::alloc::Global;

@@ -1,10 +1,11 @@
 ghost use Rattle.std.specs.Prelude.{◌≡◌, IfOk, IfErr};
 ghost use Rattle.cj_base.specs.declared.refusal.Refusal.TheVariants.{OutOfMemory};
-ghost use Rattle.cj_worker.specs.Ends.{Went, WentSome};
+ghost use Rattle.cj_worker.specs.Workers.{Went, WentSome};
 
+use crate::ending::SyncEnd;
+use crate::gate::{Clock, Gate};
 use crate::work::work;
 use cj_hub::{Hub, Pass};
-use cj_sync::{Clock, Gate, SyncEnd};
 use cj_types::Refusal;
 use cj_zone::ZoneTable;
 use std::alloc::{AllocError, Global};

@@ -1,5 +1,5 @@
 -- work, its loop: it can go on, and the pass is the one given with new receipts behind.
-use Rattle.cj_worker.specs.Ends.{Extends}
+use Rattle.cj_worker.specs.Workers.{Extends}
 use Rattle.cj_worker.proofs.work.work.Given as goal
 
 abbrev pub invariant-loop : goal.invariant-loop

@@ -2,7 +2,7 @@
 -- through; and the ends are those of the threads joined so far, in their order.
 use Rattle.std.proofs.Common.{map}
 use Rattle.std.specs.List.{AllZip}
-use Rattle.cj_worker.specs.Ends.{IsPart, Went}
+use Rattle.cj_worker.specs.Workers.{IsPart, Went}
 use Rattle.cj_worker.proofs.workers.fn.run_scoped.scope.Given as goal
 
 abbrev pub invariant-loop-pass : goal.invariant-loop-pass

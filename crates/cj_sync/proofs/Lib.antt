@@ -1,3 +1,0 @@
-pub mod Outlines
-pub mod Rests
-pub mod Shown

@@ -1,6 +1,0 @@
-pub mod Sequences
-pub mod Zoned
-pub mod Syncs
-pub mod Outlines
-pub mod Hitches
-pub mod Ends

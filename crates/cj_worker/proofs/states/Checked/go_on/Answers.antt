@@ -1,0 +1,22 @@
+-- Checked::go_on: its clause, where a plan was made and where memory for it was lacking.
+use Rattle.std.proofs.Common.{◌≡◌, Some}
+use Rattle.cj_hub.proofs.Runs.{adds-weaker}
+use Rattle.cj_worker.proofs.Rests.{From-early}
+use Rattle.cj_worker.proofs.states.Checked.go_on.Goals as goal
+
+pub returns-in-Ok : goal.returns-in-Ok
+returns-in-Ok g c =
+    adds-weaker c.claim.ensures (λ es h. record {
+      plan = Some c.in-Ok.decided.plan;
+      timely = c.in-Ok.ensures.timely;
+      seen = c.in-Ok.ensures.inputs;
+      rest = h;
+    })
+
+pub returns-in-Err : goal.returns-in-Err
+returns-in-Err g c =
+    let none = c.new.ensures in
+    adds-weaker c.retry.ensures (λ es h. From-early (g.C.Clock.gives c.args.clock.now)
+    (λ point. g.G.Gate.may_stop c.args.gate.now point c.args.self.held) c.args.zones.now
+    (λ p xs. (p.cron ≡ c.args.self.cron) × (p.jobs ≡ c.args.self.jobs) × (p.active ≡ c.args.self.active)) es
+    c.in-Err.why _ c.in-Err.ensures.memory (rw none at h))

@@ -1,0 +1,19 @@
+-- Held::go_on: its clause, where SeeCron is accepted and the gate goes on, and where it fails.
+use Rattle.std.proofs.Common.{◌∷◌, []}
+use Rattle.cj_calls.specs.declared.call.Call.TheVariants.{SeeCron, SeeJobs, SeeActive}
+use Rattle.cj_hub.proofs.Runs.{adds-then}
+use Rattle.cj_worker.specs.Syncs.{SeesCron}
+use Rattle.cj_worker.proofs.Rests.{held_more, From-failed}
+use Rattle.cj_worker.proofs.states.Held.go_on.Goals as goal
+
+pub returns-in-Go : goal.returns-in-Go
+returns-in-Go g c =
+    adds-then c.in-Ok.ensures c.go_on.ensures (λ es fs h k. held_more (g.C.Clock.gives c.args.clock.now)
+    (λ point. g.G.Gate.may_stop c.args.gate.now point c.args.self) c.args.zones.now c.in-Ok.cron es fs _ h k)
+
+pub returns-in-Err : goal.returns-in-Err
+returns-in-Err g c =
+    let none = c.new.ensures in
+    adds-then c.in-Err.ensures c.fail.ensures (λ es fs h k. From-failed (g.C.Clock.gives c.args.clock.now)
+    (λ point. g.G.Gate.may_stop c.args.gate.now point c.args.self) c.args.zones.now SeesCron SeeCron
+    (SeeJobs ∷ SeeActive ∷ []) es fs c.in-Err.hitch _ h (rw none at k))

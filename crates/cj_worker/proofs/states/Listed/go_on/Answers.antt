@@ -1,0 +1,21 @@
+-- Listed::go_on: its clause, where SeeActive is accepted and where it fails.
+use Rattle.std.proofs.Common.{◌≡◌, []}
+use Rattle.cj_calls.specs.declared.call.Call.TheVariants.{SeeActive}
+use Rattle.cj_hub.proofs.Runs.{adds-then}
+use Rattle.cj_worker.specs.Syncs.{SeesActive}
+use Rattle.cj_worker.proofs.Rests.{listed_more, From-failed}
+use Rattle.cj_worker.proofs.states.Listed.go_on.Goals as goal
+
+pub returns-in-Ok : goal.returns-in-Ok
+returns-in-Ok g c =
+    adds-then c.in-Ok.ensures c.go_on.ensures (λ es fs h k. listed_more (g.C.Clock.gives c.args.clock.now)
+    (λ point. g.G.Gate.may_stop c.args.gate.now point c.args.self.held) c.args.zones.now c.args.self.cron
+    c.args.self.jobs c.in-Ok.active es fs _ h k)
+
+pub returns-in-Err : goal.returns-in-Err
+returns-in-Err g c =
+    let none = c.new.ensures in
+    adds-then c.in-Err.ensures c.fail.ensures (λ es fs h k. From-failed (g.C.Clock.gives c.args.clock.now)
+    (λ point. g.G.Gate.may_stop c.args.gate.now point c.args.self.held) c.args.zones.now
+    (λ p xs. (p.cron ≡ c.args.self.cron) × (p.jobs ≡ c.args.self.jobs) × SeesActive p xs) SeeActive [] es fs
+    c.in-Err.hitch _ h (rw none at k))

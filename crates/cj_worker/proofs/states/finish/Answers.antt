@@ -1,0 +1,19 @@
+-- finish: its clause, where the last Finish wasn't accepted.
+use Rattle.std.proofs.Common.{[], ◌∷◌}
+use Rattle.cj_calls.specs.declared.call.Call.TheVariants.{Finish}
+use Rattle.cj_calls.specs.declared.end.End.TheVariants.{Well}
+use Rattle.cj_hub.proofs.Runs.{adds-then}
+use Rattle.cj_worker.specs.Syncs.{reasons_by}
+use Rattle.cj_worker.specs.Hitches.{reasons_at}
+use Rattle.cj_worker.proofs.Rests.{IsRest-failed, Suits-by, hitched_first}
+use Rattle.cj_worker.proofs.states.finish.Goals as goal
+
+pub returns : goal.returns
+returns g c =
+    let o = c.args.outline in
+    let k = rw c.reasons_for-reasons.ensures at c.fail.ensures in
+    adds-then c.in-Err.ensures k (λ es fs h k.
+    IsRest-failed (g.C.Clock.gives c.args.clock.now) (λ point. g.G.Gate.may_stop c.args._gate.now point c.args.held)
+    (reasons_by o.retry o.failed) (Finish Well o.done ∷ []) es fs (reasons_at o.retry o.failed c.in-Err.hitch)
+    c.in-Err.hitch _ (Suits-by o.retry o.failed c.in-Err.hitch)
+    (hitched_first (Finish Well o.done) [] es c.in-Err.hitch h) k)
