@@ -8,7 +8,7 @@
 
 mod backoff;
 mod failures;
-mod line;
+mod key_set;
 mod queue;
 mod waits;
 mod work;
