@@ -1,3 +1,4 @@
 pub mod Refused
 pub mod Texts
 pub mod Simple
+pub mod Building

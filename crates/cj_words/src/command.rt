@@ -1,12 +1,11 @@
 // The commands, each with its arguments, and the program's command line.
-ghost use Rattle.std.specs.Prelude.{◌≡◌, IfOk, false};
-ghost use Rattle.clap.specs.Words.{App, Rule, app_of, new_app, rule_of, with_rule, with_subcommand};
-ghost use Rattle.clap.specs.declared.builder.command.Command.TheViews.{out-Command};
-ghost use Rattle.cj_words.specs.Command.{acting_app, audit_app, check_app, cronsim_app, deciding_app, next_app, plan_app, reading_app, replay_app, run_app, why_app, with_folder, with_zones};
+ghost use Rattle.std.specs.Prelude.{◌≡◌, IfOk};
+ghost use Rattle.clap.specs.Words.{App, Rule, app_of, new_app, with_rule, with_subcommand};
+ghost use Rattle.cj_words.specs.Building.{IsArg, IsCommand, bare_app};
+ghost use Rattle.cj_words.specs.Command.{acting_app, audit_app, check_app, cronsim_app, deciding_app, file_rule, next_app, plan_app, reading_app, replay_app, run_app, why_app, with_folder, with_zones};
 
 use crate::arguments::{
-    after_arg, count_arg, cron_arg, explain_arg, file_arg, folder_arg, now_arg, schedule_arg,
-    time_zone_arg, workers_arg, zone_arg, zones_arg,
+    count_arg, explain_arg, option_arg, positional_arg, required_arg, workers_arg, zones_arg,
 };
 use crate::help;
 use clap::{Arg, Command};
@@ -14,8 +13,7 @@ use std::alloc::{AllocError, Global};
 
 // A command with no arguments, and what help says of it.
 fn new_command<'a>(alloc: Global, name: &'a str, about: &'a str, after: &'a str) -> Command<'a>
-    ensures app { app_of result ≡ new_app name.entry.now }
-    ensures local { (out-Command result).has_globals ≡ false }
+    ensures { IsCommand (new_app name.entry.now) result }
 {
     Command::new(alloc, name).about(about).after_help(after)
 }
@@ -25,12 +23,8 @@ fn with_arg<'a>(
     command: Result<Command<'a>, AllocError>,
     arg: Arg<'a>,
 ) -> Result<Command<'a>, AllocError>
-    ensures app { (a : App) (r : Rule) → IfOk command.entry (λ c. app_of c ≡ a)
-        → rule_of arg.entry ≡ r → arg.entry.global ≡ false
-        → IfOk result (λ c. app_of c ≡ with_rule a r) }
-    ensures local { IfOk command.entry (λ c. (out-Command c).has_globals ≡ false)
-        → arg.entry.global ≡ false
-        → IfOk result (λ c. (out-Command c).has_globals ≡ false) }
+    ensures { (a : App) (r : Rule) → IfOk command.entry (IsCommand a) → IsArg r arg.entry
+        → IfOk result (IsCommand (with_rule a r)) }
 {
     command?.arg(arg)
 }
@@ -40,16 +34,10 @@ fn with_command<'a>(
     command: Result<Command<'a>, AllocError>,
     below: Result<Command<'a>, AllocError>,
 ) -> Result<Command<'a>, AllocError>
-    ensures { (a b : App) → IfOk command.entry (λ c. app_of c ≡ a)
-        → IfOk below.entry (λ c. app_of c ≡ b)
-        → IfOk below.entry (λ c. (out-Command c).has_globals ≡ false)
-        → IfOk result (λ c. app_of c ≡ with_subcommand a b.top) }
+    ensures { (a b : App) → IfOk command.entry (IsCommand a) → IfOk below.entry (IsCommand b)
+        → IfOk result (IsCommand (with_subcommand a b.top)) }
 {
-    match (command, below) {
-        (Ok(command), Ok(below)) => command.subcommand(below),
-        (Err(error), _) => Err(error),
-        (_, Err(error)) => Err(error),
-    }
+    command?.subcommand(below?)
 }
 
 // The command with the folder of zone files, and the flag that every command has.
@@ -57,12 +45,10 @@ fn with_folder<'a>(
     alloc: Global,
     command: Result<Command<'a>, AllocError>,
 ) -> Result<Command<'a>, AllocError>
-    ensures app { (a : App) → IfOk command.entry (λ c. app_of c ≡ a)
-        → IfOk result (λ c. app_of c ≡ with_folder a) }
-    ensures local { IfOk command.entry (λ c. (out-Command c).has_globals ≡ false)
-        → IfOk result (λ c. (out-Command c).has_globals ≡ false) }
+    ensures { (a : App) → IfOk command.entry (IsCommand a)
+        → IfOk result (IsCommand (with_folder a)) }
 {
-    let command = with_arg(command, folder_arg(alloc));
+    let command = with_arg(command, option_arg(alloc, "zoneinfo", "DIR", help::FOLDER));
     with_arg(command, explain_arg(alloc))
 }
 
@@ -71,18 +57,28 @@ fn with_zones<'a>(
     alloc: Global,
     command: Result<Command<'a>, AllocError>,
 ) -> Result<Command<'a>, AllocError>
-    ensures app { (a : App) → IfOk command.entry (λ c. app_of c ≡ a)
-        → IfOk result (λ c. app_of c ≡ with_zones a) }
-    ensures local { IfOk command.entry (λ c. (out-Command c).has_globals ≡ false)
-        → IfOk result (λ c. (out-Command c).has_globals ≡ false) }
+    ensures { (a : App) → IfOk command.entry (IsCommand a)
+        → IfOk result (IsCommand (with_zones a)) }
 {
-    let command = with_arg(command, zones_arg(alloc));
-    with_folder(alloc, command)
+    with_folder(alloc, with_arg(command, zones_arg(alloc)))
+}
+
+// A command that reads a file, with no other argument yet.
+fn file_command<'a>(
+    alloc: Global,
+    name: &'a str,
+    about: &'a str,
+    after: &'a str,
+    file: &'a str,
+) -> Result<Command<'a>, AllocError>
+    ensures { IfOk result (IsCommand (with_rule (new_app name.entry.now) file_rule)) }
+{
+    let command = new_command(alloc, name, about, after);
+    with_arg(Ok(command), positional_arg(alloc, "file", "FILE", file))
 }
 
 fn next_command<'a>(alloc: Global) -> Result<Command<'a>, AllocError>
-    ensures app { IfOk result (λ c. app_of c ≡ next_app) }
-    ensures local { IfOk result (λ c. (out-Command c).has_globals ≡ false) }
+    ensures { IfOk result (IsCommand next_app) }
 {
     let command = new_command(
         alloc,
@@ -90,127 +86,133 @@ fn next_command<'a>(alloc: Global) -> Result<Command<'a>, AllocError>
         "Print the next due times of a schedule, one UTC time a line",
         help::NEXT,
     );
-    let command = with_arg(Ok(command), schedule_arg(alloc));
-    let command = with_arg(command, after_arg(alloc));
+    let command = with_arg(
+        Ok(command),
+        positional_arg(alloc, "schedule", "SCHEDULE", help::SCHEDULE),
+    );
+    let command = with_arg(command, required_arg(alloc, "after", "TIME", help::AFTER));
     let command = with_arg(command, count_arg(alloc));
-    let command = with_arg(command, zone_arg(alloc));
-    let command = with_arg(command, time_zone_arg(alloc));
+    let command = with_arg(command, option_arg(alloc, "zone", "RULE", help::ZONE));
+    let command = with_arg(
+        command,
+        option_arg(alloc, "time-zone", "NAME", help::TIME_ZONE),
+    );
     with_folder(alloc, command)
 }
 
 fn check_command<'a>(alloc: Global) -> Result<Command<'a>, AllocError>
-    ensures app { IfOk result (λ c. app_of c ≡ check_app) }
-    ensures local { IfOk result (λ c. (out-Command c).has_globals ≡ false) }
+    ensures { IfOk result (IsCommand check_app) }
 {
-    let command = new_command(
+    let command = file_command(
         alloc,
         "check",
         "Check the manifest of a CronJob or a Job, and name every fault in it",
         help::CHECK,
-    );
-    let command = with_arg(
-        Ok(command),
-        file_arg(alloc, "File with a manifest in JSON; - is standard input"),
+        "File with a manifest in JSON; - is standard input",
     );
     with_zones(alloc, command)
 }
 
 fn plan_command<'a>(alloc: Global) -> Result<Command<'a>, AllocError>
-    ensures app { IfOk result (λ c. app_of c ≡ plan_app) }
-    ensures local { IfOk result (λ c. (out-Command c).has_globals ≡ false) }
+    ensures { IfOk result (IsCommand plan_app) }
 {
-    let command = new_command(
+    let command = file_command(
         alloc,
         "plan",
         "Print what the next sync of a CronJob does",
         help::PLAN,
+        help::SCENARIO,
     );
-    let command = with_arg(Ok(command), file_arg(alloc, help::SCENARIO));
-    let command = with_arg(command, now_arg(alloc, help::MOMENT));
+    let command = with_arg(command, required_arg(alloc, "now", "TIME", help::MOMENT));
     with_zones(alloc, command)
 }
 
 fn replay_command<'a>(alloc: Global) -> Result<Command<'a>, AllocError>
-    ensures app { IfOk result (λ c. app_of c ≡ replay_app) }
-    ensures local { IfOk result (λ c. (out-Command c).has_globals ≡ false) }
+    ensures { IfOk result (IsCommand replay_app) }
 {
-    let command = new_command(
+    let command = file_command(
         alloc,
         "replay",
         "Make the steps of a script on an empty world, and print what each is answered",
         help::REPLAY,
+        help::SCRIPT,
     );
-    let command = with_arg(Ok(command), file_arg(alloc, help::SCRIPT));
     with_zones(alloc, command)
 }
 
 fn run_command<'a>(alloc: Global) -> Result<Command<'a>, AllocError>
-    ensures app { IfOk result (λ c. app_of c ≡ run_app) }
-    ensures local { IfOk result (λ c. (out-Command c).has_globals ≡ false) }
+    ensures { IfOk result (IsCommand run_app) }
 {
-    let command = new_command(
+    let command = file_command(
         alloc,
         "run",
         "Run the whole controller under a simulated clock, and print what it leaves",
         help::RUN,
+        help::COURSE,
     );
-    let command = with_arg(Ok(command), file_arg(alloc, help::COURSE));
     let command = with_arg(command, workers_arg(alloc));
     with_zones(alloc, command)
 }
 
 fn why_command<'a>(alloc: Global) -> Result<Command<'a>, AllocError>
-    ensures app { IfOk result (λ c. app_of c ≡ why_app) }
-    ensures local { IfOk result (λ c. (out-Command c).has_globals ≡ false) }
+    ensures { IfOk result (IsCommand why_app) }
 {
-    let command = new_command(
+    let command = file_command(
         alloc,
         "why",
         "Say of each CronJob of a cluster what was missed and what its next sync does",
         help::WHY,
+        help::CLUSTER,
     );
-    let command = with_arg(Ok(command), file_arg(alloc, help::CLUSTER));
-    let command = with_arg(command, now_arg(alloc, help::NOW));
-    let command = with_arg(command, cron_arg(alloc));
+    let command = with_arg(command, required_arg(alloc, "now", "TIME", help::NOW));
+    let command = with_arg(
+        command,
+        option_arg(alloc, "cron", "NAMESPACE/NAME", help::CRON),
+    );
     with_zones(alloc, command)
 }
 
 fn audit_command<'a>(alloc: Global) -> Result<Command<'a>, AllocError>
-    ensures app { IfOk result (λ c. app_of c ≡ audit_app) }
-    ensures local { IfOk result (λ c. (out-Command c).has_globals ≡ false) }
+    ensures { IfOk result (IsCommand audit_app) }
 {
-    let command = new_command(
+    let command = file_command(
         alloc,
         "audit",
         "Look in a cluster for times with two Jobs, Jobs beside others, and Jobs that weren't due",
         help::AUDIT,
+        help::CLUSTER,
     );
-    let command = with_arg(Ok(command), file_arg(alloc, help::CLUSTER));
     with_zones(alloc, command)
+}
+
+// The program's command line with no command yet.
+fn bare_command<'a>(alloc: Global) -> Command<'a>
+    ensures { IsCommand bare_app result }
+{
+    Command::new(alloc, "cronsim")
+        .about("A CronJob controller that is proved: schedules, plans and runs")
+        .version("0.1.0")
+        .subcommand_required(true)
 }
 
 // The commands on a schedule and on a manifest.
 fn reading_command<'a>(alloc: Global) -> Result<Command<'a>, AllocError>
-    ensures { IfOk result (λ c. app_of c ≡ reading_app) }
+    ensures { IfOk result (IsCommand reading_app) }
 {
-    let command = Command::new(alloc, "cronsim")
-        .about("A CronJob controller that is proved: schedules, plans and runs")
-        .version("0.1.0")
-        .subcommand_required(true);
-    let command = with_command(Ok(command), next_command(alloc));
+    let command = with_command(Ok(bare_command(alloc)), next_command(alloc));
     with_command(command, check_command(alloc))
 }
 
 // Those and the command on a decision.
 fn deciding_command<'a>(alloc: Global) -> Result<Command<'a>, AllocError>
-    ensures { IfOk result (λ c. app_of c ≡ deciding_app) }
+    ensures { IfOk result (IsCommand deciding_app) }
 {
     with_command(reading_command(alloc), plan_command(alloc))
 }
 
 // Those and the commands that run the controller.
 fn acting_command<'a>(alloc: Global) -> Result<Command<'a>, AllocError>
-    ensures { IfOk result (λ c. app_of c ≡ acting_app) }
+    ensures { IfOk result (IsCommand acting_app) }
 {
     let command = with_command(deciding_command(alloc), replay_command(alloc));
     with_command(command, run_command(alloc))

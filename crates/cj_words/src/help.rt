@@ -1,5 +1,23 @@
-// What `--help` says of the arguments whose text depends on the command, and after its options: an example, and the
-// exit statuses.
+// What `--help` says of the arguments, and after a command's options: an example, and the exit statuses.
+
+/// The schedule of `next`.
+pub(crate) const SCHEDULE: &str =
+    "Crontab schedule of five fields or a macro, as '*/15 9-17 * * mon-fri' or @daily";
+
+/// The start of its search.
+pub(crate) const AFTER: &str = "Start, itself excluded: a UTC time, as 2024-01-01T00:00:00Z";
+
+/// The rule of its zone.
+pub(crate) const ZONE: &str =
+    "POSIX rule of the time zone, as CET-1CEST,M3.5.0,M10.5.0/3; UTC where none is given";
+
+/// The name of its zone.
+pub(crate) const TIME_ZONE: &str =
+    "Name of the time zone, as Europe/Berlin, whose file is in the folder of --zoneinfo";
+
+/// The folder of zone files.
+pub(crate) const FOLDER: &str =
+    "Folder with compiled zone files, as /usr/share/zoneinfo, where zones are looked up by name";
 
 /// The file of `plan`.
 pub(crate) const SCENARIO: &str =
@@ -23,6 +41,9 @@ pub(crate) const MOMENT: &str =
 
 /// The time of `why`.
 pub(crate) const NOW: &str = "The moment that is asked about: a UTC time, as 2024-01-01T00:00:00Z";
+
+/// One CronJob of a cluster.
+pub(crate) const CRON: &str = "Only this CronJob, as default/report";
 
 /// After the options of `next`.
 pub(crate) const NEXT: &str = "Example:

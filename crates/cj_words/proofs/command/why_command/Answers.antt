@@ -1,10 +1,7 @@
--- why_command: its clause app, from the rules of its own three arguments and the options behind them.
+-- why_command: its ensures, from the file, its own two arguments and the options behind them.
 use Rattle.cj_words.proofs.command.why_command.Goals as goal
 
-pub returns-clause-app : goal.returns-clause-app
-returns-clause-app c =
-    let none = c.new_command-command.ensures.app in
-    let one = c.with_arg-command.ensures.app _ _ none c.file_arg.ensures.rule c.file_arg.ensures.local in
-    let two = c.with_arg-command-2.ensures.app _ _ one c.now_arg.ensures.rule c.now_arg.ensures.local in
-    let three = c.with_arg-command-3.ensures.app _ _ two c.cron_arg.ensures.rule c.cron_arg.ensures.local in
-    c.with_zones.ensures.app _ three
+pub returns : goal.returns
+returns c =
+    let one = c.with_arg-command.ensures _ _ c.file_command-command.ensures c.required_arg.ensures in
+    c.with_zones.ensures _ (c.with_arg-command-2.ensures _ _ one c.option_arg.ensures)
