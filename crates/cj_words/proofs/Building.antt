@@ -24,6 +24,7 @@ help_is r old new text is at = record {
   local = ap (λ (a : Arg). a.global) is ∙ at.local;
 }
 
+-- a long name is one
 pub long_is : (r : Rule) (old new : Arg) (name : Bor Text) → new ≡ record old { long = Some name } → IsArg r old
     → IsArg (record r { long = Some name.now }) new
 long_is r old new name is at = record {
@@ -31,6 +32,7 @@ long_is r old new name is at = record {
   local = ap (λ (a : Arg). a.global) is ∙ at.local;
 }
 
+-- so is the name of its value
 pub value_name_is : (r : Rule) (old new : Arg) (name : Bor Text) → new ≡ record old { val_names = One name } → IsArg r old
     → IsArg (record r { value_names = 1 }) new
 value_name_is r old new name is at = record {
@@ -38,6 +40,7 @@ value_name_is r old new name is at = record {
   local = ap (λ (a : Arg). a.global) is ∙ at.local;
 }
 
+-- so is whether it has to be given
 pub required_is : (r : Rule) (old new : Arg) (needed : Bool) → new ≡ record old { required = needed } → IsArg r old
     → IsArg (record r { required = needed }) new
 required_is r old new needed is at = record {
@@ -45,6 +48,7 @@ required_is r old new needed is at = record {
   local = ap (λ (a : Arg). a.global) is ∙ at.local;
 }
 
+-- so is what is done where it is given
 pub action_is : (r : Rule) (old new : Arg) (action : ArgAction) → new ≡ record old { action = Some action } → IsArg r old
     → IsArg (record r { action = Some action }) new
 action_is r old new action is at = record {
@@ -52,6 +56,7 @@ action_is r old new action is at = record {
   local = ap (λ (a : Arg). a.global) is ∙ at.local;
 }
 
+-- so is the value that it has where it is not given
 pub default_is : (r : Rule) (old new : Arg) (value : Bor Text) → new ≡ record old { default_vals = One value } → IsArg r old
     → IsArg (record r { defaults = value.now ∷ [] }) new
 default_is r old new value is at = record {
@@ -59,6 +64,7 @@ default_is r old new value is at = record {
   local = ap (λ (a : Arg). a.global) is ∙ at.local;
 }
 
+-- so is the reader of its value
 pub parser_is : (r : Rule) (old new : Arg) (p q : ValueParser) → new ≡ record old { value_parser = new.value_parser }
     → new.value_parser ≡ Some q → q ≡ p → IsArg r old → IsArg (record r { parser = Some p }) new
 parser_is r old new p q is given same at = record {
@@ -80,6 +86,7 @@ about_is a old new text is at = record {
   local = ap (λ (f : Command-F Command). f.has_globals) is ∙ at.local;
 }
 
+-- nor is what help says after its options
 pub after_help_is : (a : App) (old new : Command) (text : Bor Text)
     → out-Command new ≡ record (out-Command old) { after_help = Some text } → IsCommand a old → IsCommand a new
 after_help_is a old new text is at = record {
@@ -87,6 +94,7 @@ after_help_is a old new text is at = record {
   local = ap (λ (f : Command-F Command). f.has_globals) is ∙ at.local;
 }
 
+-- a version is one, whatever it says
 pub version_is : (a : App) (old new : Command) (text : Bor Text)
     → out-Command new ≡ record (out-Command old) { version = Some text } → IsCommand a old
     → IsCommand (record a { top = record a.top { has_version = true } }) new
@@ -95,6 +103,7 @@ version_is a old new text is at = record {
   local = ap (λ (f : Command-F Command). f.has_globals) is ∙ at.local;
 }
 
+-- so is whether a subcommand has to follow
 pub subcommand_required_is : (a : App) (old new : Command) (needed : Bool)
     → out-Command new ≡ record (out-Command old) { subcommand_required = needed } → IsCommand a old
     → IsCommand (record a { top = record a.top { subcommand_required = needed } }) new
