@@ -1,30 +1,18 @@
-//! Tests of the world: each way in which it refuses a call, by `apply` and by `enter`, and what it tells
-//! after each call; and ten thousand calls of several callers, looked over by plain lists.
+//! Tests over the world, which cost the gate most of what they cost but once: of the world, of the hub, and of syncs and
+//! workers.
+//!
+//! A test's process ends with it, so what is slow to drop (a hub, a closing, an answer, passes) is let go of by
+//! `mem::forget`, and where memory is refused a test fails by `expect`: each drop at each exit of a function
+//! would be proved.
 #![tactic(auto)]
 
 #[cfg(test)]
-mod ask;
-#[cfg(test)]
-mod boxed;
-#[cfg(test)]
 mod calls;
 #[cfg(test)]
-mod checker;
+mod hub;
 #[cfg(test)]
-mod drafts;
+mod hubs;
 #[cfg(test)]
-mod hands;
+mod worker;
 #[cfg(test)]
-mod plan;
-#[cfg(test)]
-mod random;
-#[cfg(test)]
-mod random_tests;
-#[cfg(test)]
-mod refusal_tests;
-#[cfg(test)]
-mod script;
-#[cfg(test)]
-mod stage;
-#[cfg(test)]
-mod told;
+mod world;

@@ -1,5 +1,5 @@
-use crate::answers::{called, waited};
 use crate::calls::add;
+use crate::hub::answers::{called, waited};
 use crate::hubs::{hub_of, pass_of};
 use cj_calls::{Call, Role};
 use std::alloc::Global;

@@ -1,5 +1,5 @@
-use crate::answers::called;
 use crate::calls::{add, create};
+use crate::hub::answers::called;
 use crate::hubs::{hub_of, pass_of};
 use cj_calls::{Call, Role};
 use cj_hub::{Hub, HubState, Pass};

@@ -1,6 +1,6 @@
 // What users give for their CronJobs: each name under each policy and each schedule, by its manifest.
-use crate::boxed::boxed;
-use crate::checker::{NAMES, POLICIES};
+use crate::world::boxed::boxed;
+use crate::world::checker::{NAMES, POLICIES};
 use cj_manifest::read_cronjob;
 use cj_types::{CronJobDraft, Refusal, Shared};
 use cj_zone::ZoneTable;

@@ -1,7 +1,7 @@
-use crate::checker::Fault;
-use crate::random::Random;
-use crate::stage::Stage;
-use crate::told::Told;
+use crate::world::checker::Fault;
+use crate::world::random::Random;
+use crate::world::stage::Stage;
+use crate::world::told::Told;
 use cj_types::{Job, Policy, Refusal, Shared};
 use std::alloc::Global;
 

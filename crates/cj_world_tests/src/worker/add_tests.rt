@@ -1,9 +1,9 @@
 use crate::calls::{FIRST, add, tick};
-use crate::deeds::{Deed, Sought, counts};
-use crate::disturbed::disturbed;
 use crate::hubs::pass_of;
-use crate::stages::{Stage, made, stage_of};
-use crate::syncs::synced;
+use crate::worker::deeds::{Deed, Sought, counts};
+use crate::worker::disturbed::disturbed;
+use crate::worker::stages::{Stage, made, stage_of};
+use crate::worker::syncs::synced;
 use cj_calls::{Call, Role};
 use cj_worker::{OpenGate, Point};
 use std::alloc::Global;

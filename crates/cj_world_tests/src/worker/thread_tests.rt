@@ -1,10 +1,10 @@
 use crate::calls::FIRST;
-use crate::clocks::clock_at;
-use crate::deeds::{Deed, Sought, counts};
 use crate::hubs::pass_of;
-use crate::stages::{Stage, made, stage_of};
-use crate::syncs::word;
-use crate::two_keys::TwoKeys;
+use crate::worker::clocks::clock_at;
+use crate::worker::deeds::{Deed, Sought, counts};
+use crate::worker::stages::{Stage, made, stage_of};
+use crate::worker::syncs::word;
+use crate::worker::two_keys::TwoKeys;
 use cj_calls::{Call, Role};
 use cj_hub::{Hub, Pass};
 use cj_worker::{WorkerEnd, run_workers};

@@ -1,5 +1,5 @@
-use crate::answers::{called, waited};
-use crate::closings::{Counts, counts};
+use crate::hub::answers::{called, waited};
+use crate::hub::closings::{Counts, counts};
 use crate::hubs::{hub_of, pass_of};
 use cj_calls::{Call, Role};
 use cj_hub::{Hub, Pass};

@@ -1,11 +1,11 @@
 // A world with its callers, and a checker beside it.
-use crate::ask::{Ask, Kind, START};
-use crate::boxed::boxed;
-use crate::checker::{Checker, Made, NAMES};
-use crate::drafts::drafts;
-use crate::hands::Hands;
-use crate::plan::{plan, reply_at};
-use crate::told::{Told, told_of};
+use crate::world::ask::{Ask, Kind, START};
+use crate::world::boxed::boxed;
+use crate::world::checker::{Checker, Made, NAMES};
+use crate::world::drafts::drafts;
+use crate::world::hands::Hands;
+use crate::world::plan::{plan, reply_at};
+use crate::world::told::{Told, told_of};
 use cj_calls::{Answer, Call, Caller, End, Reply};
 use cj_types::{
     CronJobDraft, Key, Limits, Max, Millis, Outcome, Reasons, Refusal, Seconds, Shared, TryCopy,

@@ -1,7 +1,7 @@
-use crate::answers::{called, word_of};
-use crate::closings::{Counts, counts};
+use crate::hub::answers::{called, word_of};
+use crate::hub::closings::{Counts, counts};
+use crate::hub::users::{each_has, four_users};
 use crate::hubs::{hub_of, pass_of};
-use crate::users::{each_has, four_users};
 use cj_calls::{Call, Role};
 use cj_hub::{NotClosed, Pass, Receipt};
 use std::alloc::Global;

@@ -1,6 +1,6 @@
-use crate::boxed::boxed;
-use crate::calls::call_of;
-use crate::script::{SCRIPT, WANTED};
+use crate::world::boxed::boxed;
+use crate::world::calls::call_of;
+use crate::world::script::{SCRIPT, WANTED};
 use cj_calls::{Answer, Call, Entry, same_answer};
 use cj_decide_laws::{fits_law, plan_laws};
 use cj_lines::step_line;

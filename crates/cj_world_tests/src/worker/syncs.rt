@@ -1,5 +1,5 @@
 // Syncs, by how they end.
-use crate::clocks::clock_at;
+use crate::worker::clocks::clock_at;
 use cj_hub::{Desk, Hub, HubDesk, Pass};
 use cj_types::Refusal;
 use cj_worker::{Gate, Point, SyncEnd, sync_once};

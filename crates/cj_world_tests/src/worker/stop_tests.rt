@@ -1,9 +1,9 @@
 use crate::calls::{FIRST, SECOND, add};
-use crate::deeds::{Deed, Sought, counts};
-use crate::gates::StopsAt;
 use crate::hubs::pass_of;
-use crate::stages::{Stage, made, stage_of};
-use crate::syncs::synced;
+use crate::worker::deeds::{Deed, Sought, counts};
+use crate::worker::gates::StopsAt;
+use crate::worker::stages::{Stage, made, stage_of};
+use crate::worker::syncs::synced;
 use cj_calls::{Call, Role};
 use cj_hub::{Hub, Pass};
 use cj_worker::{OpenGate, Point};

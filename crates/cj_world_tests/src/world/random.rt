@@ -1,7 +1,7 @@
 // Calls at random: of users, who create, change and delete CronJobs and delete Jobs; an informer, whose feeds
 // lag; a runner; and three workers, who mostly make the next call of a sync and now and then any other, with
 // plans of their own, of others, and of old.
-use crate::ask::{Ask, Kind};
+use crate::world::ask::{Ask, Kind};
 use cj_calls::{Caller, Role};
 
 const USER: [Kind; 10] = [

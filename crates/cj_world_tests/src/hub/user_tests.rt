@@ -1,6 +1,6 @@
-use crate::closings::{Counts, counts};
+use crate::hub::closings::{Counts, counts};
+use crate::hub::users::{each_has, four_users};
 use crate::hubs::hub_of;
-use crate::users::{each_has, four_users};
 use std::alloc::Global;
 use std::mem;
 use std::process::Abort;

@@ -1,7 +1,7 @@
 // A sync that another's calls disturb.
 use crate::calls::FIRST;
-use crate::gates::Disturbs;
-use crate::syncs::synced;
+use crate::worker::gates::Disturbs;
+use crate::worker::syncs::synced;
 use cj_calls::Call;
 use cj_hub::{Hub, Pass};
 use cj_worker::Point;

@@ -1,6 +1,6 @@
 // How far three workers' syncs have come, and where the history has what they saw.
-use crate::ask::{Ask, Kind};
-use crate::told::Told;
+use crate::world::ask::{Ask, Kind};
+use crate::world::told::Told;
 use std::alloc::{AllocError, Global};
 
 #[derive(Drop)]

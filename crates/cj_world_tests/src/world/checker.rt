@@ -1,7 +1,7 @@
 // What is promised of the calls, kept by plain lists of what was answered: who holds which key, which
 // CronJobs stand, which Jobs run, and which were made.
-use crate::ask::{Ask, Kind, START};
-use crate::told::Told;
+use crate::world::ask::{Ask, Kind, START};
+use crate::world::told::Told;
 use cj_types::Policy;
 use std::alloc::{AllocError, Global};
 

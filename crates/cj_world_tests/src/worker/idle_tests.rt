@@ -1,5 +1,5 @@
 use crate::calls::FIRST;
-use crate::syncs::synced_at;
+use crate::worker::syncs::synced_at;
 use cj_calls::{Call, Role};
 use cj_hub::{Desk, Pass, PlainDesk};
 use cj_types::Limits;

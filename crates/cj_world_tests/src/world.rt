@@ -1,0 +1,15 @@
+// Tests of the world: each way in which it refuses a call, by `apply` and by `enter`, and what it tells
+// after each call; and ten thousand calls of several callers, looked over by plain lists.
+mod ask;
+mod boxed;
+mod calls;
+mod checker;
+mod drafts;
+mod hands;
+mod plan;
+mod random;
+mod random_tests;
+mod refusal_tests;
+mod script;
+mod stage;
+mod told;
