@@ -1,6 +1,6 @@
 -- That nothing is changed: where a Job that was put in a slot is taken back, where nothing stood at a removed key, and
 -- where there is no Job at all.
-use Rattle.std.proofs.Common.{◌≡◌, ℕ, Bool, true, false, cond, Option, Some, None, refl, sym, ap, ◌∙◌, eqb-true}
+use Rattle.std.proofs.Common.{◌≡◌, ℕ, Bool, true, false, cond, [], Option, Some, None, refl, sym, ap, ◌∙◌, eqb-true}
 use Rattle.std.specs.Prelude.{◌==◌}
 use Rattle.std.specs.Option.{option_map, option_and_then}
 use Rattle.std.specs.BTreeMap.{is_at}
@@ -9,7 +9,7 @@ use Rattle.cj_types.specs.Keys.{Place, place_cmp}
 use Rattle.cj_types.specs.declared.job.Job.{Job}
 use Rattle.cj_table.proofs.Puts.{alike, remove-insert}
 use Rattle.cj_jobs.specs.Slots.{Slots, Table, job_at, Writes, jobs_of}
-use Rattle.cj_jobs.specs.Index.{Index, or_none, own_slots, is_owned, owned_slot, IsIndex}
+use Rattle.cj_jobs.specs.Index.{Index, or_none, own_slots, is_owned, owned_slot, key_at, IsIndex}
 use Rattle.cj_jobs.proofs.Owning.{one, get_removal}
 use Rattle.cj_jobs.proofs.Standing.{get_jobs}
 
@@ -46,6 +46,8 @@ pub index_kept : (m n : Table) (s u : Slots) (x y : Index) → IsIndex m s x →
 index_kept m n s u x y index table same kept = record {
   keyed = λ k l is. ap (option_map (λ (j : Job). j.key)) (same l)
       ∙ index.keyed k l (ap (λ (z : Table). map.get z k) (sym table) ∙ is);
+  held = λ k l is. ap (λ (z : Table). map.get z k) table
+      ∙ index.held k l (ap (option_map (λ (j : Job). j.key)) (sym (same l)) ∙ is);
   exact = λ q k.
       ap (λ (z : Index). map.get (own_slots z q) k) kept
       ∙ index.exact q k
@@ -87,10 +89,11 @@ jobs_empty m s e = alike _ _ (λ k.
     ∙ ap (option_and_then (job_at s)) (map.get-empty place_cmp k)
     ∙ sym (map.get-empty place_cmp k))
 
--- For Jobs::new: an index without owners agrees with a table without keys.
-pub index_empty : (m : Table) (s : Slots) (x : Index) → m ≡ map.empty → x ≡ map.empty → IsIndex m s x
-index_empty m s x e f = record {
+-- For Jobs::new: an index without owners and no slots agree with a table without keys.
+pub index_empty : (m : Table) (s : Slots) (x : Index) → m ≡ map.empty → s ≡ [] → x ≡ map.empty → IsIndex m s x
+index_empty m s x e none f = record {
   keyed = λ k l is. absurd (cc (sym (ap (λ (z : Table). map.get z k) e ∙ map.get-empty place_cmp k) ∙ is));
+  held = λ k l is. absurd (cc (ap (λ (z : Slots). key_at z l) (sym none) ∙ is));
   exact = λ q k.
       ap (λ (z : Index). map.get (own_slots z q) k) f
       ∙ ap (λ o. map.get (or_none o) k) (map.get-empty place_cmp q)

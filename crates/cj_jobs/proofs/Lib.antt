@@ -1,4 +1,3 @@
-pub mod Holds
 pub mod Rows
 pub mod Standing
 pub mod Owning

@@ -14,7 +14,7 @@ use Rattle.cj_jobs.specs.Index.{Index, own_slots, owner_of, owner_at, is_owned, 
 use Rattle.cj_jobs.proofs.Owning.{one, get_put, get_removal, put_again}
 use Rattle.cj_jobs.proofs.Standing.{get_jobs}
 use Rattle.cj_jobs.proofs.Whose.{owner_is, owned_is, owned_from}
-use Rattle.cj_jobs.proofs.Writes.{IsAlone, Turns, get_written, index_written}
+use Rattle.cj_jobs.proofs.Writes.{IsAlone, Turns, tied, get_written, index_written}
 
 -- ---- what stands at a key's slot
 
@@ -82,6 +82,13 @@ key_put s t slot job writes l e =
     subst (λ l. key_at t l ≡ Some job.key) same
     (ap (option_map (λ (j : Job). j.key)) (written (Some job) s t slot writes))
 
+-- For a Job that is added and one that is put in place of another: the table has the slot at its key.
+held_put : (m n : Table) (slot : ℕ) (job : Job) → Turns (Some slot) m n job.key → (k : Place) → Some job.key ≡ Some k
+    → map.get n k ≡ Some slot
+held_put m n slot job turns k e =
+    let same : k ≡ job.key = cc e in
+    turns k ∙ ap (λ b. cond b (Some slot) (map.get m k)) (tied job.key k same)
+
 -- For owned_put: what is chosen where the test fails is nothing.
 chosen : (b : Bool) (slot : ℕ) (old : Option ℕ) → (b ≡ false → old ≡ None) → cond b (Some slot) old ≡ cond b (Some slot) None
 chosen true slot old none = refl
@@ -110,6 +117,8 @@ pub index_added : (m n : Table) (s t : Slots) (x y : Index) (job : Job) (slot : 
 index_added m n s t x y job slot index none free writes put sets =
     index_written m n s t job.key slot (Some slot) (Some job) (turns_put m n job.key slot put) writes
     (unused m s x job.key slot index free) x y (owner_of job) index sets (key_put s t slot job writes)
+    (λ l is. absurd (cc (sym (absent m s x job.key index none) ∙ is)))
+    (held_put m n slot job (turns_put m n job.key slot put))
     (λ q. owned_put s t slot job (owned_slot s q (map.get m job.key)) q writes
     (λ f. ap (owned_slot s q) (absent m s x job.key index none)))
 
@@ -121,6 +130,10 @@ jobs_added m n s t x job slot index free writes put =
     jobs_put m n s t slot job (turns_put m n job.key slot put) writes (unused m s x job.key slot index free)
 
 -- ---- Jobs::replace
+
+-- For a Job that is put in place of another and one that is taken out: a key has no other slot than its slot.
+only : (m : Table) (key : Place) (slot l : ℕ) → Some slot ≡ map.get m key → map.get m key ≡ Some l → l ≡ slot
+only m key slot l is other = let e : Some slot ≡ Some l = is ∙ other in cc e
 
 -- Where the owner references of a Job at a key are told the key has a slot.
 pub replaced_stands : (m : Table) (s : Slots) (job : Job) → owners_of (jobs_of m s) job.key ≡ Some job.owners
@@ -172,6 +185,7 @@ index_replaced m s t x job slot index owners is writes =
     index_written m m s t job.key slot (Some slot) (Some job) (turns_same m job.key slot (sym is)) writes
     (alone m s x job.key slot index (sym is)) x x (owner_of job) index
     (sets_same m s x job slot index owners (sym is)) (key_put s t slot job writes)
+    (λ l. only m job.key slot l is) (held_put m m slot job (turns_same m job.key slot (sym is)))
     (λ q. owned_put s t slot job (owned_slot s q (map.get m job.key)) q writes
     (λ f. ap (owned_slot s q) (sym is)
     ∙ ap (λ b. cond b (Some slot) None) (same_owned m s x job slot index owners (sym is) q ∙ f)))
@@ -195,13 +209,15 @@ gone true slot = refl
 gone false slot = refl
 
 -- The index without the slot agrees with the table and the slots after the key and the Job in its slot are taken out.
-pub index_removed : (m n : Table) (s t : Slots) (x y : Index) (key : Place) (slot : ℕ) → IsIndex m s x
-    → Some slot ≡ map.get m key → n ≡ map.remove m key → Writes None s t slot
-    → Sets None x y (owner_at (job_at s slot)) key → IsIndex n t y
-index_removed m n s t x y key slot index is removal writes sets =
+pub index_removed : (m n : Table) (s t : Slots) (x y : Index) (key : Place) (slot : ℕ) (owner : Option Place)
+    → IsIndex m s x → Some slot ≡ map.get m key → owner ≡ owner_at (job_at s slot) → Sets None x y owner key
+    → n ≡ map.remove m key → Writes None s t slot → IsIndex n t y
+index_removed m n s t x y key slot owner index is owned sets removal writes =
     index_written m n s t key slot None None (turns_removal m n key removal) writes
-    (alone m s x key slot index (sym is)) x y (owner_at (job_at s slot)) index sets (λ l e. absurd (cc e))
-    (λ q. ap (λ b. cond b None (owned_slot s q (map.get m key))) (owned_is (job_at s slot) q)
+    (alone m s x key slot index (sym is)) x y owner index sets (λ l e. absurd (cc e))
+    (λ l. only m key slot l is) (λ k e. absurd (cc e))
+    (λ q. ap (λ o. cond (is_owner o q) None (owned_slot s q (map.get m key))) owned
+    ∙ ap (λ b. cond b None (owned_slot s q (map.get m key))) (owned_is (job_at s slot) q)
     ∙ ap (λ o. cond (is_owned q (job_at s slot)) None (owned_slot s q o)) (sym is)
     ∙ gone (is_owned q (job_at s slot)) slot)
 

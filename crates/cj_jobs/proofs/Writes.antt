@@ -1,5 +1,6 @@
 -- What one write to the table, to the slots and to the index does to their agreement, and to the Jobs.
-use Rattle.std.proofs.Common.{◌≡◌, ℕ, Bool, true, false, ◌&&◌, cond, Option, Some, None, refl, sym, ap, ◌∙◌, ne_eqb}
+use Rattle.std.proofs.Common.{◌≡◌, ℕ, Bool, true, false, ◌&&◌, cond, Option, Some, None, refl, sym, ap, ◌∙◌, eqb-true, eq-eqb, ne_eqb}
+use Rattle.std.specs.Prelude.{◌==◌}
 use Rattle.std.specs.Option.{option_map, option_and_then}
 use Rattle.std.specs.BTreeMap.{is_at}
 use Rattle.std.specs.Cmp.{eq_by_cmp_equiv}
@@ -22,7 +23,7 @@ abbrev pub IsAlone : Table → Place → ℕ → Type 0
 IsAlone table key slot = (k : Place) → map.get table k ≡ Some slot → k ≡ key
 
 -- A key ties with itself.
-tied : (key k : Place) → k ≡ key → is_at (place_cmp key) k ≡ true
+pub tied : (key k : Place) → k ≡ key → is_at (place_cmp key) k ≡ true
 tied key k e = ap (is_at (place_cmp key)) e ∙ (eq_by_cmp_equiv places_total).refl key
 
 -- A test together with what is true is the test.
@@ -71,12 +72,25 @@ module _ (m n : Table) (s t : Slots) (key : Place) (slot : ℕ) (w : Option ℕ)
       ∙ written_at k (is_at (place_cmp key) k) refl
       ∙ ap (cond (is_at (place_cmp key) k) (option_and_then (job_at t) w)) (sym (get_jobs m s k))
 
-  module _ (x y : Index) (owner : Option Place) (index : IsIndex m s x) (sets : Sets w x y owner key) (keyed : (l : ℕ) → w ≡ Some l → key_at t l ≡ Some key) (here : (q : Place) → cond (is_owner owner q) w (owned_slot s q (map.get m key)) ≡ owned_slot t q w) where
+  module _ (x y : Index) (owner : Option Place) (index : IsIndex m s x) (sets : Sets w x y owner key) (keyed : (l : ℕ) → w ≡ Some l → key_at t l ≡ Some key) (own : (l : ℕ) → map.get m key ≡ Some l → l ≡ slot) (held : (k : Place) → option_map (λ (job : Job). job.key) j ≡ Some k → map.get n k ≡ Some slot) (here : (q : Place) → cond (is_owner owner q) w (owned_slot s q (map.get m key)) ≡ owned_slot t q w) where
     -- For index_written: at a key's slot stands a Job of that key, by whether it is the key that is written.
     keyed_at : (k : Place) (l : ℕ) (b : Bool) → is_at (place_cmp key) k ≡ b → cond b w (map.get m k) ≡ Some l
         → key_at t l ≡ Some k
     keyed_at k l true tie is = keyed l is ∙ ap Some (one key k tie)
     keyed_at k l false tie is = ap (option_map (λ (job : Job). job.key)) (kept_at k l is tie) ∙ index.keyed k l is
+
+    -- For held_at: another slot that a key had it still has, by whether it is the key that is written.
+    held_apart : (k : Place) (l : ℕ) (b : Bool) → (l ≡ slot → ⊥) → is_at (place_cmp key) k ≡ b → map.get m k ≡ Some l
+        → cond b w (map.get m k) ≡ Some l
+    held_apart k l true apart tie is = absurd (apart (own l (ap (map.get m) (one key k tie) ∙ is)))
+    held_apart k l false apart tie is = is
+
+    -- For index_written: the table has a Job's slot for its key, by whether it is the slot that is written.
+    held_at : (k : Place) (l : ℕ) (b : Bool) → (l == slot) ≡ b
+        → option_map (λ (job : Job). job.key) (cond b j (job_at s l)) ≡ Some k → map.get n k ≡ Some l
+    held_at k l true e is = held k is ∙ ap Some (sym (eqb-true l slot e))
+    held_at k l false e is = turns k
+        ∙ held_apart k l (is_at (place_cmp key) k) (λ same. both_ways _ e (eq-eqb l slot same)) refl (index.held k l is)
 
     -- For index_written: an owner has at a key the slot of its Job, by whether it is the key that is written.
     exact_at : (q k : Place) (b : Bool) → is_at (place_cmp key) k ≡ b
@@ -92,6 +106,7 @@ module _ (m n : Table) (s t : Slots) (key : Place) (slot : ℕ) (w : Option ℕ)
     pub index_written : IsIndex n t y
     index_written = record {
       keyed = λ k l is. keyed_at k l (is_at (place_cmp key) k) refl (sym (turns k) ∙ is);
+      held = λ k l is. held_at k l (l == slot) refl (sym (ap (option_map (λ (job : Job). job.key)) (writes l)) ∙ is);
       exact = λ q k.
           sets q k
           ∙ ap (cond (is_owner owner q && is_at (place_cmp key) k) w) (index.exact q k)

@@ -45,11 +45,14 @@ owned_slot slots owner (Some slot) = cond (is_owned owner (job_at slots slot)) (
 abbrev pub key_at : Slots → ℕ → Option Place
 key_at slots slot = option_map (λ job. job.key) (job_at slots slot)
 
--- each key of the table has a slot with a Job of that key, so that no two have the same; and the index has under each
--- owner at each key the slot that the table has for the key if the Job there is one of the owner's, and else nothing
+-- each key of the table has a slot with a Job of that key, so that no two have the same; whatever Job stands in a slot,
+-- the table has this slot for the Job's key, so that no Job stands anywhere that isn't among the Jobs; and the index has
+-- under each owner at each key the slot that the table has for the key if the Job there is one of the owner's, and else
+-- nothing
 -- rule: jobs-of
 pub record IsIndex (table : Table) (slots : Slots) (index : Index) : Type 0 where
   pub keyed : (key : Place) (slot : ℕ) → map.get table key ≡ Some slot → key_at slots slot ≡ Some key
+  pub held : (key : Place) (slot : ℕ) → key_at slots slot ≡ Some key → map.get table key ≡ Some slot
   pub exact : (owner key : Place) → map.get (own_slots index owner) key ≡ owned_slot slots owner (map.get table key)
 
 -- whether the owner, if there is one, is this one

@@ -143,6 +143,7 @@ impl Jobs {
     }
 
     /// Takes the Job at the key out, if there is one. Where there is no memory the Jobs are as they were.
+    #[tactic(auto, using(crate::proofs::Updates::stands, crate::proofs::Updates::jobs_removed))]
     pub fn remove(&mut self, alloc: Global, key: &Key) -> Result<(), Refusal>
         ensures ok { OnOk result (self.new ≡ map.remove self.old key.now) }
         ensures err { OnErr result (self.new ≡ self.old) }

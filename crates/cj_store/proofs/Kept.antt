@@ -7,8 +7,8 @@ use Rattle.cj_types.specs.declared.cron.CronJob.{CronJob}
 use Rattle.cj_types.specs.declared.job.Job.{Job}
 use Rattle.cj_types.specs.declared.meta.Meta.{Meta}
 use Rattle.cj_types.specs.declared.meta.DraftMeta.{DraftMeta}
-use Rattle.cj_jobs.proofs.Holds.{Holds, put_holds, removal_holds, empty_holds}
 use Rattle.cj_store.specs.Content.{Content, IsSound, IsCounted, Home, CronAt, JobAt, meta_at, uid_at}
+use Rattle.cj_store.proofs.Holds.{Holds, put_holds, removal_holds, empty_holds}
 use Rattle.cj_store.proofs.Homes.{Given, cron_put, cron_removal, job_put, job_removal, counted_put, counted_removal, own_put, own_removal, no_home, with_crons, with_jobs}
 use Rattle.cj_store.specs.Metadata.{updated}
 use Rattle.cj_store.specs.Change.{owners_at}

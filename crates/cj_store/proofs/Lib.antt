@@ -1,3 +1,4 @@
 pub mod Codes
+pub mod Holds
 pub mod Homes
 pub mod Kept
