@@ -100,6 +100,10 @@ get_keys ks q = map.get-from_entries places_total (map_list (λ k. (k, tt)) ks) 
 pub has_keys : (ks : List Place) (q : Place) → has (keys_of ks) q ≡ stands_in ks q
 has_keys ks q = ap is_some (get_keys ks q) ∙ flag_is (stands_in ks q)
 
+-- a test that holds of a key, or fails, does so of each key that is equal to it
+pub at_equal : (f : Place → Bool) (k q : Place) (b : Bool) → f k ≡ b → key_eq k q ≡ true → f q ≡ b
+at_equal f k q b e t = ap f (sym (eq_true k q t)) ∙ e
+
 -- Two lists in which the same keys stand have the same set.
 pub same_keys : (old new : List Place) → ((q : Place) → stands_in new q ≡ stands_in old q) → keys_of new ≡ keys_of old
 same_keys old new h = alike _ _ (λ q. get_keys new q ∙ ap flag (h q) ∙ sym (get_keys old q))

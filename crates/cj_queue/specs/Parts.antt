@@ -1,11 +1,10 @@
--- What contracts see of the queue's parts.
-use Rattle.std.specs.Prelude.{ℕ, Bool, ◌==◌, List, [], ◌∷◌, map, refl}
+-- What contracts see of the queue's parts, and what their types keep.
+use Rattle.std.specs.Prelude.{◌≡◌, ℕ, Bool, true, false, not, ◌&&◌, ◌==◌, List, [], ◌∷◌, map, refl}
 use Rattle.std.specs.Ordering.{eq_of_both, on}
 use Rattle.std.specs.Cmp.Lexicographic.{pointwise}
 use Rattle.std.specs.List.{list_any}
 use Rattle.std.specs.FinMap.{FinMap, from_entries, code}
-use Rattle.std.specs.Coded.{Coded, code_by, coded×, coded_ℕ}
-use base.Stored.{coded_unit}
+use Rattle.std.specs.Coded.{Coded, code_by, coded×, coded_list, coded_ℕ}
 use Rattle.cj_types.specs.Keys.{Place, place_cmp, coded_place}
 use Rattle.cj_queue.specs.Queue.{Keys, Row, row_code}
 
@@ -16,26 +15,22 @@ key_eq = eq_of_both (on (λ k. k.namespace) (pointwise ◌==◌)) (on (λ k. k.n
 abbrev pub stands_in : List Place → Place → Bool
 stands_in ks k = list_any (key_eq k) ks
 
+-- no key stands twice
+abbrev pub are_distinct : List Place → Bool
+are_distinct [] = true
+are_distinct (k ∷ ks) = not (stands_in ks k) && are_distinct ks
+
 -- the list as a set
 abbrev pub keys_of : List Place → Keys
 keys_of ks = from_entries (map (λ k. (k, tt)) ks)
 
--- of keys, two copies of each, as an add takes them
-abbrev pub twice : List Place → List (Place × Place)
-twice [] = []
-twice (k ∷ ks) = (k, k) ∷ twice ks
-
--- of pairs of keys, the first of each
-abbrev pub firsts : List (Place × Place) → List Place
-firsts = map (λ p. p.0)
-
--- of `KeySet`: the keys, and for how many more there is room
-pub record KeySet : Type 0 where
-  pub keys : Keys
+-- of `Line`: the keys, and for how many more there is room
+pub record Line : Type 0 where
+  pub keys : List Place
   pub room : ℕ
 
-abbrev pub key_set_code : Coded KeySet
-key_set_code = code_by (Keys × ℕ) (coded× (code coded_place coded_unit) coded_ℕ) (λ s. (s.keys, s.room)) (λ p. record { keys = p.0; room = p.1 }) (λ _. refl)
+abbrev pub line_code : Coded Line
+line_code = code_by (List Place × ℕ) (coded× (coded_list coded_place) coded_ℕ) (λ l. (l.keys, l.room)) (λ p. record { keys = p.0; room = p.1 }) (λ _. refl)
 
 -- of `Work`: the row, and for how many adds there is room
 pub record Work : Type 0 where
@@ -44,6 +39,13 @@ pub record Work : Type 0 where
 
 abbrev pub work_code : Coded Work
 work_code = code_by (Row × ℕ) (coded× row_code coded_ℕ) (λ r. (r.row, r.room)) (λ p. record { row = p.0; room = p.1 }) (λ _. refl)
+
+-- no key of the line is being worked on, each of those that were added again is, and no key stands twice in the line
+-- rule: queue-line
+pub record IsLined (line again processing : List Place) : Type 0 where
+  pub free : (k : Place) → stands_in line k ≡ true → stands_in processing k ≡ false
+  pub held : (k : Place) → stands_in again k ≡ true → stands_in processing k ≡ true
+  pub once : are_distinct line ≡ true
 
 -- of `Failures`: the counts, and for how many keys more there is room
 pub record Failures : Type 0 where

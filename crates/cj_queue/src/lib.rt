@@ -8,7 +8,7 @@
 
 mod backoff;
 mod failures;
-mod key_set;
+mod line;
 mod queue;
 mod waits;
 mod work;

@@ -1,12 +1,14 @@
-ghost use Rattle.std.specs.Prelude.{◌≡◌, ◌≤◌, ◌<◌, ◌+◌, IfErr, IfOk, OnOk, OnErr, IsTrue, drop, option_copied};
+ghost use Rattle.std.specs.Prelude.{◌≡◌, ◌≤◌, ◌<◌, ◌+◌, IfErr, IfOk, OnOk, OnErr, IsTrue, true, option_copied};
+ghost use Rattle.indexmap.specs.IndexSet.{spare, Updates};
 ghost use Rattle.cj_base.specs.declared.refusal.Refusal.TheVariants.{OutOfMemory};
 ghost use Rattle.cj_queue.specs.Queue.{new_row, row_add, row_take, row_end, first, has};
+ghost use Rattle.cj_queue.specs.Parts.{key_eq};
 
-use crate::key_set::KeySet;
+use crate::line::Line;
 use cj_base::both;
 use cj_types::{Key, Refusal, TryCopy};
+use indexmap::IndexSet;
 use std::alloc::Global;
-use std::collections::VecDeque;
 use std::marker::Model;
 
 /// The keys that want work, and those that are being worked on.
@@ -14,39 +16,53 @@ use std::marker::Model;
 /// Contracts see the line, the dirty keys and those that are being worked on, and for how many adds there is room.
 pub struct Work {
     // The keys that want work and that nobody works on.
-    line: VecDeque<Key>,
-    // The keys that want work: those of the line, and those that were added while they were worked on.
-    dirty: KeySet,
+    line: Line,
+    // Those of the keys being worked on that were added meanwhile.
+    again: IndexSet<Key>,
     // The keys that are being worked on.
-    processing: KeySet,
+    processing: IndexSet<Key>,
 }
 
 // A function of its own, so that whoever gives one up makes one call and not one for each part.
 impl Drop for Work {
     fn drop(self) {
         let Work {
-            line: _,
-            dirty,
-            processing,
+            line,
+            again: _,
+            processing: _,
         } = self;
-        drop(dirty);
-        drop(processing);
+        drop(line);
     }
 }
 
 impl Model for Work {
-    ghost use Rattle.std.specs.Prelude.{◌-◌, min};
-    ghost use Rattle.std.specs.VecDeque.{deque_len, deque_capacity};
-    ghost use Rattle.cj_queue.specs.Parts.{Work, work_code};
+    ghost use Rattle.indexmap.specs.IndexSet.{spare};
+    ghost use Rattle.std.specs.Prelude.{◌++◌, min};
+    ghost use Rattle.cj_queue.specs.Parts.{Work, work_code, keys_of, IsLined};
 
     ghost Value = { Work };
 
     ghost coded = { work_code };
 
-    ghost view = { λ w. record {
-      row = record { line = w.line.items; dirty = w.dirty.keys; processing = w.processing.keys };
-      room = min (deque_capacity w.line - deque_len w.line) w.dirty.room;
+    ghost view = { λ r. record {
+      row = record {
+        line = r.line.keys;
+        dirty = keys_of (r.line.keys ++ r.again.keys);
+        processing = keys_of r.processing.keys;
+      };
+      room = min r.line.room (spare r.again);
     } };
+
+    ghost invariant = { λ r. IsLined r.line.keys r.again.keys r.processing.keys };
+}
+
+// Puts a key into a set that has room.
+fn put(set: &mut IndexSet<Key>, key: Key)
+    requires { 0 < spare set.old }
+    ensures updates { Updates key_eq set.old set.new key true }
+    ensures spare { spare set.old ≤ spare set.new + 1 }
+{
+    let _ = set.insert(key);
 }
 
 // Two copies of the key.
@@ -58,24 +74,15 @@ pub(crate) fn two_copies(alloc: Global, key: &Key) -> Result<(Key, Key), Refusal
     both(key.try_copy(alloc), key.try_copy(alloc))
 }
 
-// Takes the first of the line, if there is one.
-#[tactic(auto, using(crate::proofs::LineLemmas::popped))]
-fn take_first(line: &mut VecDeque<Key>) -> Option<Key>
-    ensures first { result ≡ first line.old.items }
-    ensures rest { line.new.items ≡ drop 1 line.old.items }
-{
-    line.pop_front()
-}
-
 impl Work {
     /// No key.
     pub fn new(alloc: Global) -> Work
         ensures { result.row ≡ new_row }
     {
         Work {
-            line: VecDeque::new(alloc),
-            dirty: KeySet::new(alloc),
-            processing: KeySet::new(alloc),
+            line: Line::new(alloc),
+            again: IndexSet::new(alloc),
+            processing: IndexSet::new(alloc),
         }
     }
 
@@ -86,24 +93,21 @@ impl Work {
         ensures memory { IfErr result (λ e. e ≡ OutOfMemory) }
     {
         self.line.reserve(count)?;
-        self.dirty.reserve(count)
+        self.again.reserve(count)?;
+        Ok(())
     }
 
-    /// The key, of which there are two copies, is dirty, and goes last in the line unless it was dirty or is being
-    /// worked on.
-    pub fn add(&mut self, key: Key, copy: Key)
-        requires room { 0 < self.old.room }
-        requires copy { copy ≡ key }
+    /// The key is dirty, and goes last in the line unless it was dirty or is being worked on.
+    pub fn add(&mut self, key: Key)
+        requires { 0 < self.old.room }
         ensures row { self.new.row ≡ row_add self.old.row key }
         ensures room { self.old.room ≤ self.new.room + 1 }
     {
-        if self.dirty.contains(&key) {
-            return;
+        if self.processing.contains(&key) {
+            put(&mut self.again, key);
+        } else if !self.line.contains(&key) {
+            self.line.push(key);
         }
-        if !self.processing.contains(&key) {
-            self.line.push_back_reserved(copy);
-        }
-        self.dirty.put(key);
     }
 
     /// Adds the key, with the memory that it needs.
@@ -113,36 +117,33 @@ impl Work {
         ensures memory { IfErr result (λ e. e ≡ OutOfMemory) }
     {
         self.reserve(1)?;
-        let (one, other) = two_copies(alloc, key)?;
-        self.add(one, other);
+        let copy = key.try_copy(alloc)?;
+        self.add(copy);
         Ok(())
     }
 
     /// The first of the line.
-    #[tactic(auto, using(crate::proofs::LineLemmas::front_is))]
     pub fn front(&self) -> Option<&Key>
         ensures { option_copied result ≡ first self.now.row.line }
     {
-        self.line.front()
+        self.line.first()
     }
 
     /// Moves the first of the line to those that are being worked on.
-    #[tactic(auto, using(crate::proofs::LineLemmas::taken_row))]
     pub fn take(&mut self, alloc: Global) -> Result<Option<Key>, Refusal>
         ensures answer { IfOk result (λ k. k ≡ first self.old.row.line) }
         ensures ok { OnOk result (self.new.row ≡ row_take self.old.row) }
         ensures err { OnErr result (self.new.row ≡ self.old.row) }
         ensures memory { IfErr result (λ e. e ≡ OutOfMemory) }
     {
-        let Some(front) = self.front() else {
+        let Some(front) = self.line.first() else {
             return Ok(None);
         };
-        let copy = front.try_copy(alloc)?;
         self.processing.reserve(1)?;
-        let key = take_first(&mut self.line);
-        let _ = self.dirty.take(&copy);
-        self.processing.put(copy);
-        Ok(key)
+        let (key, copy) = two_copies(alloc, front)?;
+        put(&mut self.processing, copy);
+        self.line.drop_first();
+        Ok(Some(key))
     }
 
     /// Whether the key is being worked on.
@@ -159,9 +160,9 @@ impl Work {
         ensures row { self.new.row ≡ row_end self.old.row key.now }
         ensures room { self.old.room ≤ self.new.room + 1 }
     {
-        let held = self.processing.take(key).unwrap();
-        if self.dirty.contains(key) {
-            self.line.push_back_reserved(held);
+        self.processing.swap_remove(key);
+        if let Some(again) = self.again.swap_take(key) {
+            self.line.push(again);
         }
     }
 }

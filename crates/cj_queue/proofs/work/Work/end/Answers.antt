@@ -1,0 +1,58 @@
+-- Work::end: its clause row and the type's invariant, where the key was added again and where not,
+-- and that a key that goes last doesn't stand in the line.
+use Rattle.std.proofs.Common.{◌≡◌, ◌++◌, ◌∷◌, [], true, false, sym, ap, ◌∙◌, subst, is_some}
+use Rattle.cj_queue.specs.Queue.{row_end, has}
+use Rattle.cj_queue.specs.Parts.{stands_in}
+use Rattle.cj_queue.proofs.Sets.{has_keys}
+use Rattle.cj_queue.proofs.RowLemmas.{row, end_again, end_clean, out_of_line, found_is, lined_off, lined_push}
+use Rattle.cj_queue.proofs.work.Work.end.Goals as goal
+
+pub push-requires-clause-absent : goal.push-requires-clause-absent
+push-requires-clause-absent c =
+    let held = sym (has_keys c.self.inside.processing.keys c.args.key.now)
+    ∙ ap (λ r. has r.row.processing c.args.key.now) c.self.view_is ∙ c.requires.held in
+    let same = found_is c.self.inside.again.keys c.args.key.now c.in-Some.again (sym c.in-Some.ensures.key) in
+    ap (stands_in c.self.inside.line.keys) same ∙ out_of_line c.self.inside.line.keys c.self.inside.again.keys
+    c.self.inside.processing.keys c.args.key.now c.self.invariant held
+
+pub invariant_of-self : goal.invariant_of-self
+invariant_of-self c =
+    let held = sym (has_keys c.self.inside.processing.keys c.args.key.now)
+    ∙ ap (λ r. has r.row.processing c.args.key.now) c.self.view_is ∙ c.requires.held in
+    let same = found_is c.self.inside.again.keys c.args.key.now c.in-Some.again (sym c.in-Some.ensures.key) in
+    let pushed = subst (λ k. c.push.new.self.keys ≡ c.self.inside.line.keys ++ k ∷ []) same c.push.ensures.keys in
+    let lined = lined_off c.self.inside.line.keys c.self.inside.again.keys c.swap_take.new.self.keys
+    c.self.inside.processing.keys c.swap_remove.new.self.keys c.args.key.now c.self.invariant
+    c.swap_take.ensures.updates.0 c.swap_remove.ensures.updates.0 in
+    lined_push c.self.inside.line.keys c.push.new.self.keys c.swap_take.new.self.keys c.swap_remove.new.self.keys
+    c.args.key.now lined
+    c.swap_remove.ensures.updates.1
+    (out_of_line c.self.inside.line.keys c.self.inside.again.keys c.self.inside.processing.keys c.args.key.now
+    c.self.invariant held) pushed
+
+pub invariant_of-self-in_default : goal.invariant_of-self-in_default
+invariant_of-self-in_default c =
+    lined_off c.self.inside.line.keys c.self.inside.again.keys c.swap_take.new.self.keys c.self.inside.processing.keys
+    c.swap_remove.new.self.keys c.args.key.now c.self.invariant c.swap_take.ensures.updates.0
+    c.swap_remove.ensures.updates.0
+
+pub returns-in-Some-clause-row : goal.returns-in-Some-clause-row
+returns-in-Some-clause-row c =
+    let same = found_is c.self.inside.again.keys c.args.key.now c.in-Some.again (sym c.in-Some.ensures.key) in
+    let pushed = subst (λ k. c.push.new.self.keys ≡ c.self.inside.line.keys ++ k ∷ []) same c.push.ensures.keys in
+    let added : stands_in c.self.inside.again.keys c.args.key.now ≡ true = sym c.in-Some.ensures.found in
+    sym (end_again c.self.inside.line.keys c.push.new.self.keys c.self.inside.again.keys c.swap_take.new.self.keys
+    c.self.inside.processing.keys c.swap_remove.new.self.keys c.args.key.now added pushed
+    c.swap_take.ensures.updates.0 c.swap_remove.ensures.updates.0)
+    ∙ ap (λ v. row_end v.row c.args.key.now) c.self.view_is
+
+pub returns-in_default-clause-row : goal.returns-in_default-clause-row
+returns-in_default-clause-row c =
+    let held = sym (has_keys c.self.inside.processing.keys c.args.key.now)
+    ∙ ap (λ r. has r.row.processing c.args.key.now) c.self.view_is ∙ c.requires.held in
+    let clean : stands_in c.self.inside.again.keys c.args.key.now ≡ false =
+    sym c.swap_take.ensures.found ∙ ap is_some c.in_default.is in
+    ap (λ a. row c.self.inside.line.keys a c.swap_remove.new.self.keys) c.in_default.ensures.unchanged
+    ∙ sym (end_clean c.self.inside.line.keys c.self.inside.again.keys c.self.inside.processing.keys
+    c.swap_remove.new.self.keys c.args.key.now c.self.invariant held clean c.swap_remove.ensures.updates.0)
+    ∙ ap (λ v. row_end v.row c.args.key.now) c.self.view_is
