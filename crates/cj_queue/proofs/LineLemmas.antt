@@ -1,13 +1,12 @@
 -- A line of keys as two lists, of the first of which some are gone; and lines in which no key stands twice.
-use Rattle.std.proofs.Common.{◌≡◌, ◌≤◌, ◌<◌, ◌+◌, ℕ, zero, suc, Bool, true, false, not, cond, nat_le, ◌&&◌, ◌||◌, List, [], ◌∷◌, ◌++◌, length, drop, slice_get, position, Option, Some, None, refl, sym, ap, ◌∙◌, subst, arith}
-use Rattle.std.specs.List.{list_any, position_from, IsDistinct, AllByRecursion}
+use Rattle.std.proofs.Common.{◌≡◌, ◌≤◌, ◌<◌, ◌+◌, ℕ, zero, suc, Bool, true, false, not, cond, nat_le, ◌&&◌, ◌||◌, List, [], ◌∷◌, ◌++◌, length, drop, slice_get, Option, Some, None, refl, sym, ap, ◌∙◌, subst, arith}
+use Rattle.std.specs.List.{list_any, position_from}
+use Rattle.std.specs.Map.{lookup}
 use Rattle.std.proofs.lemmas.Bool.{le-leb, lt-leb}
 use Rattle.std.proofs.lemmas.List.Folds.{list_any-append}
-use Rattle.std.proofs.lemmas.Iterator.Adapters.{position_from-zero}
-use Rattle.std.proofs.lemmas.Map.Keys.{IsDistinct-head, IsDistinct-tail}
 use Rattle.cj_types.specs.Keys.{Place}
 use Rattle.cj_queue.specs.Queue.{first}
-use Rattle.cj_queue.specs.Parts.{key_eq, stands_in, are_distinct}
+use Rattle.cj_queue.specs.Parts.{key_eq, stands_in, are_distinct, IsPlaced}
 use Rattle.cj_queue.proofs.Sets.{at_equal, eq_true, eq_turned}
 
 -- ---- the front, of which so many are gone
@@ -144,41 +143,73 @@ gone_out zero ks k e = e
 gone_out (suc n) [] k e = refl
 gone_out (suc n) (x ∷ ks) k e = gone_out n ks k (or_right (key_eq k x) (stands_in ks k) e)
 
--- Where two tests fail, it is false that one of them holds.
-out_of_both : (a b : Bool) → a ≡ false → b ≡ false → (a || b) ≡ false
-out_of_both true b p q = absurd (cc p)
-out_of_both false b p q = q
-
--- A key that differs from each of a list doesn't stand in the list.
-not_again : (x : Place) (ks : List Place) → AllByRecursion (λ y. key_eq x y ≡ false) ks → stands_in ks x ≡ false
-not_again x [] a = refl
-not_again x (y ∷ ks) a = out_of_both (key_eq x y) (stands_in ks x) a.0 (not_again x ks a.1)
-
 -- one that stands at the first place is none of the later ones
-past_first : (n i : ℕ) (x : Place) (ks : List Place) (k : Place) → IsDistinct key_eq (x ∷ ks) → (b : Bool)
+past_first : (n i : ℕ) (x : Place) (ks : List Place) (k : Place) → are_distinct (x ∷ ks) ≡ true → (b : Bool)
     → key_eq k x ≡ b
     → stands_in (drop n ks) k ≡ is_from (suc n + i) (position_from (key_eq k) (i + 1) ks)
     → stands_in (drop n ks) k ≡ is_from (suc n + i) (cond b (Some i) (position_from (key_eq k) (i + 1) ks))
 past_first n i x ks k once true e h =
     let out : stands_in ks k ≡ false = subst (λ j. stands_in ks j ≡ false) (sym (eq_true k x e))
-    (not_again x ks (IsDistinct-head key_eq x ks once)) in
+    (head_once x ks once) in
     gone_out n ks k out ∙ sym (lt-leb (suc n + i) i (search arith))
 past_first n i x ks k once false e h = h
 
 -- For found_at: what it says, of a look-up that counts its places from i.
-found_from : (n i : ℕ) (ks : List Place) (k : Place) → IsDistinct key_eq ks
+found_from : (n i : ℕ) (ks : List Place) (k : Place) → are_distinct ks ≡ true
     → stands_in (drop n ks) k ≡ is_from (n + i) (position_from (key_eq k) i ks)
 found_from zero i ks k once = sym (not_before (key_eq k) (0 + i) i ks (search arith))
 found_from (suc n) i [] k once = refl
 found_from (suc n) i (x ∷ ks) k once =
     past_first n i x ks k once (key_eq k x) refl
-    (found_from n (i + 1) ks k (IsDistinct-tail key_eq x ks once)
+    (found_from n (i + 1) ks k (tail_once x ks once)
     ∙ ap (λ m. is_from m (position_from (key_eq k) (i + 1) ks)) (omega arith))
 
--- For holds_from: a key stands in a set without its first n just where its place is from n on.
-pub found_at : (n : ℕ) (ks : List Place) (k : Place) → IsDistinct key_eq ks
-    → stands_in (drop n ks) k ≡ is_from n (position (key_eq k) ks)
+-- For holds_from: a key stands in a list without its first n just where its place is from n on.
+pub found_at : (n : ℕ) (ks : List Place) (k : Place) → are_distinct ks ≡ true
+    → stands_in (drop n ks) k ≡ is_from n (position_from (key_eq k) 0 ks)
 found_at n ks k once =
     found_from n 0 ks k once
-    ∙ ap (is_from (n + 0)) (sym (position_from-zero (key_eq k) ks))
-    ∙ ap (λ m. is_from m (position (key_eq k) ks)) (omega arith)
+    ∙ ap (λ m. is_from m (position_from (key_eq k) 0 ks)) (omega arith)
+
+-- ---- a key put last
+
+-- For Line::push: a key that stands in no part of the line doesn't stand in the back.
+pub absent_behind : (l m : List Place) (k : Place) → stands_in (l ++ m) k ≡ false → stands_in m k ≡ false
+absent_behind l m k e = or_right (stands_in l k) (stands_in m k) (sym (in_line l m k) ∙ e)
+
+-- For placed_push: what placed_push says of one key, by a look-up that counts its places from i.
+push_from : (ks : List Place) (k q : Place) (i : ℕ) (b : Bool) → key_eq q k ≡ b → (b ≡ true → stands_in ks q ≡ false)
+    → position_from (key_eq q) i (ks ++ k ∷ []) ≡ cond b (Some (i + length ks)) (position_from (key_eq q) i ks)
+push_from [] k q i b e absent = ap (λ t. cond t (Some i) None) e ∙ ap (λ n. cond b (Some n) None) (omega arith)
+push_from (x ∷ ks) k q i true e absent =
+    (λ j. cond (or_left (key_eq q x) (stands_in ks q) (absent refl) j) (Some i)
+    (position_from (key_eq q) (i + 1) (ks ++ k ∷ [])))
+    ∙ push_from ks k q (i + 1) true e (λ _. or_right (key_eq q x) (stands_in ks q) (absent refl))
+    ∙ ap Some (omega arith)
+push_from (x ∷ ks) k q i false e absent = ap (cond (key_eq q x) (Some i))
+    (push_from ks k q (i + 1) false e (λ t. absurd (cc t)))
+
+-- For placed_push: a count from 0 is the count.
+from_none : (n : ℕ) → n ≡ 0 + n
+from_none n = omega arith
+
+-- For KeyList::push: with a key put last and its place noted, each key has its place.
+pub placed_push : (ks : List Place) (es fs : List (Place × ℕ)) (k : Place) → IsPlaced ks es → stands_in ks k ≡ false
+    → ((q : Place) → lookup (key_eq q) fs ≡ cond (key_eq k q) (Some (length ks)) (lookup (key_eq q) es))
+    → IsPlaced (ks ++ k ∷ []) fs
+placed_push ks es fs k placed absent h = record {
+  at = λ q. h q ∙ ap (λ t. cond t (Some (length ks)) (lookup (key_eq q) es)) (eq_turned k q)
+      ∙ ap (cond (key_eq q k) (Some (length ks))) (placed.at q)
+      ∙ ap (λ n. cond (key_eq q k) (Some n) (position_from (key_eq q) 0 ks)) (from_none (length ks))
+      ∙ sym (push_from ks k q 0 (key_eq q k) refl (λ t. ap (stands_in ks) (eq_true q k t) ∙ absent));
+  once = push_once ks k placed.once absent;
+}
+
+-- For KeyList::reserve: where a look-up finds what it did, each key still has its place.
+pub placed_same : (ks : List Place) (es fs : List (Place × ℕ)) → IsPlaced ks es
+    → ((q : Place) → lookup (key_eq q) fs ≡ lookup (key_eq q) es) → IsPlaced ks fs
+placed_same ks es fs placed h = record { at = λ q. h q ∙ placed.at q; once = placed.once }
+
+-- For KeyList::new and clear: no key has a place.
+pub none_placed : IsPlaced [] []
+none_placed = record { at = λ _. refl; once = refl }

@@ -273,3 +273,18 @@ lined_take (x ∷ l) m a p o k lined h removal sets = subst (λ y. IsLined y a o
     other : (q : Place) → stands_in l q ≡ true → key_eq k q ≡ false
     other q t =
         let same : x ≡ k = cc h in behind k q l (subst (λ j. stands_in l j ≡ false) same (head_once x l lined.once)) t
+
+-- ---- room
+
+-- For Work::reserve: with the same keys added again, the same keys are dirty.
+pub same_dirty : (l a b : List Place) → ((q : Place) → stands_in b q ≡ stands_in a q) → keys_of (l ++ b) ≡ keys_of (l ++ a)
+same_dirty l a b h = same_keys (l ++ a) (l ++ b) (λ q. list_any-append (key_eq q) l b
+    ∙ ap (λ t. stands_in l q || t) (h q) ∙ sym (list_any-append (key_eq q) l a))
+
+-- IsLined stays when the same keys are those that were added again.
+pub lined_same : (l a b p : List Place) → IsLined l a p → ((q : Place) → stands_in b q ≡ stands_in a q) → IsLined l b p
+lined_same l a b p lined h = record {
+  free = lined.free;
+  held = λ q t. lined.held q (sym (h q) ∙ t);
+  once = lined.once;
+}

@@ -1,17 +1,15 @@
-ghost use Rattle.std.specs.Prelude.{◌≡◌, ◌≤◌, ◌<◌, IfErr, OnOk, unwrap_or, Some};
+ghost use Rattle.std.specs.Prelude.{◌≡◌, ◌≤◌, ◌<◌, IfErr, OnOk, unwrap_or};
 ghost use Rattle.std.specs.FinMap as map;
-ghost use Rattle.indexmap.specs.IndexMap.{spare, Updates};
-ghost use Rattle.cj_queue.specs.Parts.{key_eq};
 ghost use Rattle.cj_base.specs.declared.refusal.Refusal.TheVariants.{OutOfMemory};
 
 use cj_types::{Key, Refusal};
-use indexmap::IndexMap;
 use std::alloc::Global;
+use std::collections::HashMap;
 use std::marker::Model;
 
 /// How often in a row the work on each key failed. Contracts see the counts, and for how many keys more there is room.
 pub struct Failures {
-    counts: IndexMap<Key, u64>,
+    counts: HashMap<Key, u64>,
 }
 
 // A function of its own, so that whoever gives one up makes one call and not one for each part.
@@ -23,7 +21,7 @@ impl Drop for Failures {
 
 impl Model for Failures {
     ghost use Rattle.std.specs.FinMap as map;
-    ghost use Rattle.indexmap.specs.IndexMap.{spare};
+    ghost use Rattle.std.specs.HashMap.{spare};
     ghost use Rattle.cj_types.specs.Keys.{place_cmp};
     ghost use Rattle.cj_queue.specs.Parts.{Failures, failures_code};
 
@@ -37,25 +35,18 @@ impl Model for Failures {
     } };
 }
 
-// Writes into a map that has room.
-fn put(counts: &mut IndexMap<Key, u64>, key: Key, count: u64)
-    requires { 0 < spare counts.old }
-    ensures { Updates key_eq counts.old counts.new key (Some count) }
-{
-    let _ = counts.insert(key, count);
-}
-
 impl Failures {
     /// No failure.
     pub fn new(alloc: Global) -> Failures
         ensures { result.counts ≡ map.empty }
     {
         Failures {
-            counts: IndexMap::new(alloc),
+            counts: HashMap::new(alloc),
         }
     }
 
     /// The key's count, 0 where none is kept.
+    #[tactic(auto, using(cj_table::proofs::Rows::place_rows))]
     pub fn get(&self, key: &Key) -> u64
         ensures { result ≡ unwrap_or (map.get self.now.counts key.now) 0 }
     {
@@ -63,6 +54,7 @@ impl Failures {
     }
 
     /// Makes room for so many keys more.
+    #[tactic(auto, using(crate::proofs::Counts::same_counts))]
     pub fn reserve(&mut self, count: usize) -> Result<(), Refusal>
         ensures counts { self.new.counts ≡ self.old.counts }
         ensures ok { OnOk result (count ≤ self.new.room) }
@@ -73,17 +65,19 @@ impl Failures {
     }
 
     /// Gives the key this count.
+    #[tactic(auto, using(cj_table::proofs::Rows::inserted_row))]
     pub fn put(&mut self, key: Key, count: u64)
         requires { 0 < self.old.room }
         ensures { self.new.counts ≡ map.insert self.old.counts key count }
     {
-        put(&mut self.counts, key, count);
+        let _ = self.counts.insert(key, count);
     }
 
     /// Keeps no count of the key.
+    #[tactic(auto, using(cj_table::proofs::Rows::removed_row))]
     pub fn remove(&mut self, key: &Key)
         ensures { self.new.counts ≡ map.remove self.old.counts key.now }
     {
-        self.counts.swap_remove(key);
+        let _ = self.counts.remove(key);
     }
 }

@@ -8,6 +8,7 @@
 
 mod backoff;
 mod failures;
+mod key_list;
 mod line;
 mod queue;
 mod waits;

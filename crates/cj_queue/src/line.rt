@@ -1,11 +1,10 @@
 ghost use Rattle.std.specs.Prelude.{◌≡◌, ◌≤◌, ◌<◌, ◌+◌, ◌++◌, ◌∷◌, [], OnOk, IfErr, false, drop, length, option_copied};
-ghost use Rattle.indexmap.specs.IndexSet.{spare};
 ghost use Rattle.cj_base.specs.declared.refusal.Refusal.TheVariants.{OutOfMemory};
 ghost use Rattle.cj_queue.specs.Queue.{first};
 ghost use Rattle.cj_queue.specs.Parts.{stands_in};
 
+use crate::key_list::KeyList;
 use cj_types::{Key, Refusal};
-use indexmap::IndexSet;
 use std::alloc::Global;
 use std::marker::Model;
 use std::mem::swap;
@@ -15,27 +14,28 @@ use std::mem::swap;
 /// Contracts see the keys, and for how many more there is room.
 pub struct Line {
     // The first keys in their order, behind those that are gone.
-    front: IndexSet<Key>,
+    front: KeyList,
     // How many of the front are gone.
     gone: usize,
     // The keys behind the front.
-    back: IndexSet<Key>,
+    back: KeyList,
 }
 
 // A function of its own, so that whoever gives one up makes one call and not one for each part.
 impl Drop for Line {
     fn drop(self) {
         let Line {
-            front: _,
+            front,
             gone: _,
-            back: _,
+            back,
         } = self;
+        drop(front);
+        drop(back);
     }
 }
 
 impl Model for Line {
     ghost use Rattle.std.specs.Prelude.{◌++◌, drop};
-    ghost use Rattle.indexmap.specs.IndexSet.{spare};
     ghost use Rattle.cj_queue.specs.Parts.{Line, line_code};
 
     ghost Value = { Line };
@@ -44,7 +44,7 @@ impl Model for Line {
 
     ghost view = { λ l. record {
       keys = drop l.gone l.front.keys ++ l.back.keys;
-      room = spare l.back;
+      room = l.back.room;
     } };
 }
 
@@ -54,9 +54,9 @@ impl Line {
         ensures { result.keys ≡ [] }
     {
         Line {
-            front: IndexSet::new(alloc),
+            front: KeyList::new(alloc),
             gone: 0,
-            back: IndexSet::new(alloc),
+            back: KeyList::new(alloc),
         }
     }
 
@@ -66,18 +66,19 @@ impl Line {
         ensures ok { OnOk result (count ≤ self.new.room) }
         ensures memory { IfErr result (λ e. e ≡ OutOfMemory) }
     {
-        self.back.reserve(count)?;
-        Ok(())
+        self.back.reserve(count)
     }
 
-    /// The key goes last.
-    pub fn push(&mut self, key: Key)
+    /// The key, of which there are two copies, goes last.
+    #[tactic(auto, using(crate::proofs::LineLemmas::absent_behind))]
+    pub fn push(&mut self, key: Key, copy: Key)
         requires room { 0 < self.old.room }
+        requires copy { copy ≡ key }
         requires absent { stands_in self.old.keys key ≡ false }
         ensures keys { self.new.keys ≡ self.old.keys ++ key ∷ [] }
         ensures room { self.old.room ≤ self.new.room + 1 }
     {
-        let _ = self.back.insert(key);
+        self.back.push(key, copy);
     }
 
     /// Whether the key stands in the line.
@@ -95,9 +96,9 @@ impl Line {
     pub fn first(&self) -> Option<&Key>
         ensures { option_copied result ≡ first self.now.keys }
     {
-        match self.front.get_index(self.gone) {
+        match self.front.get(self.gone) {
             Some(key) => Some(key),
-            None => self.back.first(),
+            None => self.back.get(0),
         }
     }
 
@@ -113,22 +114,22 @@ impl Line {
     }
 }
 
-// Whether the set has the key at the place `first` or behind. Where none stands there it isn't looked up, as
-// the set may have a large table.
-fn holds_from(set: &IndexSet<Key>, first: usize, key: &Key) -> bool
-    ensures { result ≡ stands_in (drop first set.now.keys) key.now }
+// Whether the list has the key at the place `first` or behind. Where none stands there it isn't looked up, as
+// the list may have a large table.
+fn holds_from(list: &KeyList, first: usize, key: &Key) -> bool
+    ensures { result ≡ stands_in (drop first list.now.keys) key.now }
 {
-    if first >= set.len() {
+    if first >= list.len() {
         return false;
     }
-    match set.get_index_of(key) {
+    match list.place_of(key) {
         Some(place) => first <= place,
         None => false,
     }
 }
 
 // Where the whole front is gone, the back takes its place. The line stays the same.
-fn turn(front: &mut IndexSet<Key>, gone: &mut usize, back: &mut IndexSet<Key>)
+fn turn(front: &mut KeyList, gone: &mut usize, back: &mut KeyList)
     ensures line { drop gone.new front.new.keys ++ back.new.keys
         ≡ drop gone.old front.old.keys ++ back.old.keys }
     ensures used_up { length front.new.keys ≤ gone.new → back.new.keys ≡ [] }

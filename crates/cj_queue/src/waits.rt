@@ -3,6 +3,7 @@ ghost use Rattle.std.specs.FinMap as map;
 ghost use Rattle.cj_base.specs.declared.refusal.Refusal.TheVariants.{OutOfMemory};
 ghost use Rattle.std.specs.BTreeMap.{keys, IsOrdered};
 ghost use Rattle.cj_queue.specs.Times.{ready, ready_in, waits_for, earlier, timed_cmp, Agrees, SetsTime, SameTimes, Leaves, time_of};
+ghost use Rattle.cj_queue.specs.Parts.{twice};
 
 use crate::work::two_copies;
 use cj_types::{Key, Refusal, TryCopy};
@@ -84,9 +85,9 @@ impl Waits {
         self.order.clear();
     }
 
-    /// The keys whose time is not above `now`, by time, then key.
-    pub fn ready(&self, alloc: Global, now: u64) -> Result<Vec<Key>, Refusal>
-        ensures ok { IfOk result (λ v. v.items ≡ ready self.now now) }
+    /// Two copies of each key whose time is not above `now`, by time, then key.
+    pub fn ready(&self, alloc: Global, now: u64) -> Result<Vec<(Key, Key)>, Refusal>
+        ensures ok { IfOk result (λ v. v.items ≡ twice (ready self.now now)) }
         ensures memory { IfErr result (λ e. e ≡ OutOfMemory) }
     {
         let found = first_ready(&self.order, alloc, now)?;
@@ -104,13 +105,13 @@ fn kept_time(before: Option<u64>, at: u64) -> u64
     }
 }
 
-// The keys of the entries whose time is not above `now`.
+// Two copies of the key of each entry whose time is not above `now`.
 fn first_ready(
     order: &BTreeMap<(u64, Key), ()>,
     alloc: Global,
     now: u64,
-) -> Result<Vec<Key>, Refusal>
-    ensures ok { IfOk result (λ v. v.items ≡ ready_in (keys order.now) now) }
+) -> Result<Vec<(Key, Key)>, Refusal>
+    ensures ok { IfOk result (λ v. v.items ≡ twice (ready_in (keys order.now) now)) }
     ensures sorted { IsOrdered timed_cmp order.now }
     ensures memory { IfErr result (λ e. e ≡ OutOfMemory) }
 {
@@ -119,17 +120,20 @@ fn first_ready(
         if *at > now {
             return Ok(found);
         }
-        push_copy(&mut found, alloc, key)?;
+        push_copies(&mut found, alloc, key)?;
     }
     Ok(found)
 }
 
-fn push_copy(found: &mut Vec<Key>, alloc: Global, key: &Key) -> Result<(), Refusal>
-    ensures ok { OnOk result (found.new.items ≡ found.old.items ++ key.now ∷ []) }
+fn push_copies(found: &mut Vec<(Key, Key)>, alloc: Global, key: &Key) -> Result<(), Refusal>
+    ensures ok { OnOk result (found.new.items ≡ found.old.items ++ (key.now, key.now) ∷ []) }
     ensures memory { IfErr result (λ e. e ≡ OutOfMemory) }
 {
-    let copy = key.try_copy(alloc)?;
-    found.push(copy).map_err(|_| Refusal::OutOfMemory)
+    let copies = two_copies(alloc, key)?;
+    if found.push(copies).is_err() {
+        return Err(Refusal::OutOfMemory);
+    }
+    Ok(())
 }
 
 // Lets a key wait that did not.

@@ -1,14 +1,15 @@
 ghost use Rattle.std.specs.Prelude.{◌≡◌, ◌≤◌, ◌<◌, ◌+◌, IfErr, IfOk, OnOk, OnErr, IsTrue, true, option_copied};
-ghost use Rattle.indexmap.specs.IndexSet.{spare, Updates};
+ghost use Rattle.std.specs.HashSet.{spare, Updates};
 ghost use Rattle.cj_base.specs.declared.refusal.Refusal.TheVariants.{OutOfMemory};
 ghost use Rattle.cj_queue.specs.Queue.{new_row, row_add, row_take, row_end, first, has};
-ghost use Rattle.cj_queue.specs.Parts.{key_eq};
+ghost use Rattle.cj_types.specs.Keys.{Place};
+ghost use Rattle.cj_queue.specs.Parts.{key_eq, stands_in};
 
 use crate::line::Line;
 use cj_base::both;
 use cj_types::{Key, Refusal, TryCopy};
-use indexmap::IndexSet;
 use std::alloc::Global;
+use std::collections::HashSet;
 use std::marker::Model;
 
 /// The keys that want work, and those that are being worked on.
@@ -18,9 +19,9 @@ pub struct Work {
     // The keys that want work and that nobody works on.
     line: Line,
     // Those of the keys being worked on that were added meanwhile.
-    again: IndexSet<Key>,
+    again: HashSet<Key>,
     // The keys that are being worked on.
-    processing: IndexSet<Key>,
+    processing: HashSet<Key>,
 }
 
 // A function of its own, so that whoever gives one up makes one call and not one for each part.
@@ -36,7 +37,7 @@ impl Drop for Work {
 }
 
 impl Model for Work {
-    ghost use Rattle.indexmap.specs.IndexSet.{spare};
+    ghost use Rattle.std.specs.HashSet.{spare};
     ghost use Rattle.std.specs.Prelude.{◌++◌, min};
     ghost use Rattle.cj_queue.specs.Parts.{Work, work_code, keys_of, IsLined};
 
@@ -57,12 +58,23 @@ impl Model for Work {
 }
 
 // Puts a key into a set that has room.
-fn put(set: &mut IndexSet<Key>, key: Key)
+fn put(set: &mut HashSet<Key>, key: Key)
     requires { 0 < spare set.old }
     ensures updates { Updates key_eq set.old set.new key true }
     ensures spare { spare set.old ≤ spare set.new + 1 }
 {
     let _ = set.insert(key);
+}
+
+// Makes room in a set for so many keys more.
+fn make_room(set: &mut HashSet<Key>, count: usize) -> Result<(), Refusal>
+    ensures same { (q : Place) → stands_in set.new.keys q ≡ stands_in set.old.keys q }
+    ensures ok { OnOk result (count ≤ spare set.new) }
+    ensures err { OnErr result (set.new.keys ≡ set.old.keys) }
+    ensures memory { IfErr result (λ e. e ≡ OutOfMemory) }
+{
+    set.reserve(count)?;
+    Ok(())
 }
 
 // Two copies of the key.
@@ -81,32 +93,34 @@ impl Work {
     {
         Work {
             line: Line::new(alloc),
-            again: IndexSet::new(alloc),
-            processing: IndexSet::new(alloc),
+            again: HashSet::new(alloc),
+            processing: HashSet::new(alloc),
         }
     }
 
     /// Makes room for so many adds.
+    #[tactic(auto, using(crate::proofs::RowLemmas::same_dirty, crate::proofs::RowLemmas::lined_same))]
     pub fn reserve(&mut self, count: usize) -> Result<(), Refusal>
         ensures row { self.new.row ≡ self.old.row }
         ensures ok { OnOk result (count ≤ self.new.room) }
         ensures memory { IfErr result (λ e. e ≡ OutOfMemory) }
     {
-        self.line.reserve(count)?;
-        self.again.reserve(count)?;
-        Ok(())
+        make_room(&mut self.again, count)?;
+        self.line.reserve(count)
     }
 
-    /// The key is dirty, and goes last in the line unless it was dirty or is being worked on.
-    pub fn add(&mut self, key: Key)
-        requires { 0 < self.old.room }
+    /// The key, of which there are two copies, is dirty, and goes last in the line unless it was dirty or is being
+    /// worked on.
+    pub fn add(&mut self, key: Key, copy: Key)
+        requires room { 0 < self.old.room }
+        requires copy { copy ≡ key }
         ensures row { self.new.row ≡ row_add self.old.row key }
         ensures room { self.old.room ≤ self.new.room + 1 }
     {
         if self.processing.contains(&key) {
             put(&mut self.again, key);
         } else if !self.line.contains(&key) {
-            self.line.push(key);
+            self.line.push(key, copy);
         }
     }
 
@@ -117,8 +131,8 @@ impl Work {
         ensures memory { IfErr result (λ e. e ≡ OutOfMemory) }
     {
         self.reserve(1)?;
-        let copy = key.try_copy(alloc)?;
-        self.add(copy);
+        let (one, other) = two_copies(alloc, key)?;
+        self.add(one, other);
         Ok(())
     }
 
@@ -139,8 +153,8 @@ impl Work {
         let Some(front) = self.line.first() else {
             return Ok(None);
         };
-        self.processing.reserve(1)?;
         let (key, copy) = two_copies(alloc, front)?;
+        make_room(&mut self.processing, 1)?;
         put(&mut self.processing, copy);
         self.line.drop_first();
         Ok(Some(key))
@@ -160,9 +174,9 @@ impl Work {
         ensures row { self.new.row ≡ row_end self.old.row key.now }
         ensures room { self.old.room ≤ self.new.room + 1 }
     {
-        self.processing.swap_remove(key);
-        if let Some(again) = self.again.swap_take(key) {
-            self.line.push(again);
+        let held = self.processing.take(key).unwrap();
+        if let Some(again) = self.again.take(key) {
+            self.line.push(again, held);
         }
     }
 }
