@@ -87,7 +87,6 @@ impl KeyList {
     }
 
     /// Makes room for so many keys more.
-    #[tactic(auto, using(crate::proofs::LineLemmas::placed_same))]
     pub fn reserve(&mut self, count: usize) -> Result<(), Refusal>
         ensures keys { self.new.keys ≡ self.old.keys }
         ensures ok { OnOk result (count ≤ self.new.room) }
@@ -99,7 +98,6 @@ impl KeyList {
     }
 
     /// The key, of which there are two copies, goes last.
-    #[tactic(auto, using(crate::proofs::LineLemmas::placed_push))]
     pub fn push(&mut self, key: Key, copy: Key)
         requires room { 0 < self.old.room }
         requires copy { copy ≡ key }

@@ -1,5 +1,5 @@
 -- KeyList::push: the type's invariant, with the key put last and its place noted.
-use Rattle.std.proofs.Common.{rules, ◌≡◌, ◌∙◌, ◌++◌, ◌∷◌, [], cond, length, Some, sym, ap, subst}
+use Rattle.std.proofs.Common.{rules, ◌≡◌, ◌∙◌, cond, length, Some, sym, subst}
 use Rattle.std.specs.Map.{lookup}
 use Rattle.cj_queue.specs.Parts.{IsPlaced, key_eq}
 use Rattle.cj_queue.proofs.LineLemmas.{placed_push}

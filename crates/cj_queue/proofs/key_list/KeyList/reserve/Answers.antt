@@ -1,5 +1,5 @@
 -- KeyList::reserve: the type's invariant, where both have made room.
-use Rattle.std.proofs.Common.{◌≡◌, ◌∙◌, sym, ap, subst}
+use Rattle.std.proofs.Common.{sym, subst}
 use Rattle.cj_queue.specs.Parts.{IsPlaced}
 use Rattle.cj_queue.proofs.LineLemmas.{placed_same}
 use Rattle.cj_queue.proofs.key_list.KeyList.reserve.Goals as goal
