@@ -7,4 +7,4 @@ mod keys;
 mod made;
 mod numbers;
 mod rows;
-mod samples;
+pub mod samples;

@@ -1,11 +1,11 @@
+use crate::types::samples::{labels, names, owners, shared};
+use cj_base::{all_four, all_three, both};
 use cj_json::Written;
 use cj_types::{
     CronJob, CronKey, CronSpec, CronStatus, Deadline, HistoryLimit, Job, JobTemplate, Key, Labels,
-    Meta, Names, ObjectName, Outcome, OwnerRef, OwnerRefs, Policy, Refusal, Seconds, Shared,
-    SpecText, Text, Uid, Version,
+    Meta, Names, Outcome, Policy, Refusal, Seconds, SpecText, Text, Uid, Version,
 };
 use std::alloc::Global;
-use std::test::Fail;
 
 const KEPT: &str = r#"{"a":null,"b":[1,-2],"template":{}}"#;
 
@@ -22,69 +22,69 @@ const FAILED_JOB: &str =
     r#"{"apiVersion":"batch/v1","kind":"Job","metadata":{"creationTimestamp":"2024-01-01T00:00:00Z","generation":1,"name":"hello","namespace":"ns","resourceVersion":"7","uid":"00000000-0000-0000-0000-00000000000b"},"spec":{"a":null,"b":[1,-2],"template":{}},"status":{"conditions":[{"status":"True","type":"Failed"}]}}"#;
 
 // A moment so many minutes after 2024-01-01T00:00:00Z.
-fn minute(count: u64) -> Option<Seconds> {
-    if count < 100 {
-        Seconds::new(1_704_067_200 + 60 * count)
-    } else {
-        None
-    }
+fn minute(count: u64) -> Result<Seconds, Refusal> {
+    let moment = 1_704_067_200u64.saturating_add(count.saturating_mul(60));
+    Seconds::new(moment).ok_or(Refusal::Syntax)
 }
 
-// One label, or one annotation.
-fn one(alloc: Global, name: &str, value: &str) -> Result<Labels, Refusal> {
-    let mut labels = Labels::new(alloc);
-    labels.put(Text::new(alloc, name)?, Text::new(alloc, value)?)?;
-    Ok(labels)
-}
-
-fn meta(labels: Labels, annotations: Labels) -> Result<Meta, Fail> {
+fn meta(alloc: Global, label: &str, annotation: &str) -> Result<Meta, Refusal> {
+    let (uid, created, labels, annotations) = all_four(
+        Uid::new(11).ok_or(Refusal::Syntax),
+        minute(0),
+        labels(alloc, label),
+        labels(alloc, annotation),
+    )?;
     Ok(Meta {
-        uid: Uid::new(11).ok_or("no uid")?,
+        uid,
         version: Version::new(7),
         generation: 1,
-        created: minute(0).ok_or("no time")?,
+        created,
         labels,
         annotations,
     })
-}
-
-fn plain_meta(alloc: Global) -> Result<Meta, Fail> {
-    meta(Labels::new(alloc), Labels::new(alloc))
 }
 
 fn spec_text(alloc: Global, text: &str) -> Result<SpecText, Refusal> {
     SpecText::new(alloc, Text::new(alloc, text)?)
 }
 
-fn template(alloc: Global, labels: Labels, kept: &str) -> Result<JobTemplate, Refusal> {
+fn template(alloc: Global, label: &str, kept: &str) -> Result<JobTemplate, Refusal> {
+    let (labels, spec) = both(labels(alloc, label), spec_text(alloc, kept))?;
     Ok(JobTemplate {
         labels,
         annotations: Labels::new(alloc),
-        spec: spec_text(alloc, kept)?,
+        spec,
     })
 }
 
 fn plain_spec(alloc: Global, kept: &str) -> Result<CronSpec, Refusal> {
+    let (schedule, template) = both(Text::new(alloc, "@hourly"), template(alloc, "", kept))?;
     Ok(CronSpec {
-        schedule: Text::new(alloc, "@hourly")?,
+        schedule,
         time_zone: None,
         policy: Policy::Allow,
         suspend: false,
         starting_deadline_seconds: None,
         successful_limit: HistoryLimit::from(3),
         failed_limit: HistoryLimit::from(1),
-        template: template(alloc, Labels::new(alloc), kept)?,
+        template,
     })
 }
 
-fn full_spec(alloc: Global, template: JobTemplate) -> Result<CronSpec, Fail> {
+fn full_spec(alloc: Global) -> Result<CronSpec, Refusal> {
+    let (schedule, time_zone, successful_limit, template) = all_four(
+        Text::new(alloc, "@hourly"),
+        Text::new(alloc, "UTC"),
+        HistoryLimit::new(2_147_483_647).ok_or(Refusal::Syntax),
+        template(alloc, "c=\"d", KEPT),
+    )?;
     Ok(CronSpec {
-        schedule: Text::new(alloc, "@hourly")?,
-        time_zone: Some(Text::new(alloc, "UTC")?),
+        schedule,
+        time_zone: Some(time_zone),
         policy: Policy::Replace,
         suspend: true,
         starting_deadline_seconds: Some(Deadline::from(9)),
-        successful_limit: HistoryLimit::new(2_147_483_647).ok_or("no limit")?,
+        successful_limit,
         failed_limit: HistoryLimit::from(0),
         template,
     })
@@ -99,127 +99,132 @@ fn plain_status(alloc: Global) -> CronStatus {
 }
 
 fn full_status(alloc: Global) -> Result<CronStatus, Refusal> {
-    let mut active = Names::new(alloc);
-    active.push(ObjectName::new(alloc, "x")?)?;
+    let (active, scheduled, successful) = all_three(names(alloc, "x"), minute(1), minute(2))?;
     Ok(CronStatus {
         active,
-        last_schedule_time: minute(1),
-        last_successful_time: minute(2),
+        last_schedule_time: Some(scheduled),
+        last_successful_time: Some(successful),
     })
 }
 
-fn cron(alloc: Global, meta: Meta, spec: CronSpec, status: CronStatus) -> Result<CronJob, Fail> {
-    Ok(CronJob {
-        key: CronKey::new(alloc, "ns", "hello")?,
+fn cron(
+    alloc: Global,
+    meta: Result<Meta, Refusal>,
+    spec: Result<CronSpec, Refusal>,
+    status: Result<CronStatus, Refusal>,
+) -> Result<CronJob, Refusal> {
+    let (key, meta, spec, status) = all_four(
+        CronKey::new(alloc, "ns", "hello"),
         meta,
-        spec: Shared::new(alloc, spec)?,
+        shared(alloc, spec),
+        status,
+    )?;
+    Ok(CronJob {
+        key,
+        meta,
+        spec,
         status,
     })
 }
 
-fn plain_cron(alloc: Global, kept: &str) -> Result<CronJob, Fail> {
-    let meta = plain_meta(alloc)?;
-    cron(alloc, meta, plain_spec(alloc, kept)?, plain_status(alloc))
+fn plain_cron(alloc: Global, kept: &str) -> Result<CronJob, Refusal> {
+    let meta = meta(alloc, "", "");
+    cron(
+        alloc,
+        meta,
+        plain_spec(alloc, kept),
+        Ok(plain_status(alloc)),
+    )
 }
 
-fn owner(alloc: Global) -> Result<OwnerRef, Refusal> {
-    Ok(OwnerRef {
-        api_version: Text::new(alloc, "v1")?,
-        kind: Text::new(alloc, "Node")?,
-        name: Text::new(alloc, "n")?,
-        uid: Text::new(alloc, "u")?,
-        controller: true,
-        block_owner_deletion: false,
-    })
+fn full_cron(alloc: Global) -> Result<CronJob, Refusal> {
+    let meta = meta(alloc, "a=b", "e=f");
+    cron(alloc, meta, full_spec(alloc), full_status(alloc))
 }
 
-fn one_owner(alloc: Global) -> Result<OwnerRefs, Refusal> {
-    let mut owners = OwnerRefs::new(alloc);
-    owners.push(owner(alloc)?)?;
-    Ok(owners)
-}
-
-fn job(
-    alloc: Global,
-    owners: OwnerRefs,
-    spec: SpecText,
-    outcome: Option<Outcome>,
-) -> Result<Job, Fail> {
+// The Job with the owners of these words.
+fn job(alloc: Global, words: &str, kept: &str, outcome: Option<Outcome>) -> Result<Job, Refusal> {
+    let (key, meta, owners, spec) = all_four(
+        Key::new(alloc, "ns", "hello"),
+        meta(alloc, "", ""),
+        owners(alloc, words),
+        spec_text(alloc, kept),
+    )?;
     Ok(Job {
-        key: Key::new(alloc, "ns", "hello")?,
-        meta: plain_meta(alloc)?,
+        key,
+        meta,
         owners,
         spec,
         outcome,
     })
 }
 
-fn failed_job(alloc: Global, kept: &str) -> Result<Job, Fail> {
-    let spec = spec_text(alloc, kept)?;
-    job(alloc, OwnerRefs::new(alloc), spec, Some(Outcome::Failed))
+fn owned_job(alloc: Global) -> Result<Job, Refusal> {
+    let outcome = Outcome::Complete(minute(1)?);
+    job(alloc, "v1 Node n u *", KEPT, Some(outcome))
 }
 
-fn is_written<W: Written>(alloc: Global, object: &W, want: &str) -> bool {
+// Whether this text is written of the object.
+fn is_written<W: Written + Drop>(alloc: Global, object: Result<W, Refusal>, want: &str) -> bool {
+    let Ok(object) = object else {
+        return false;
+    };
     match object.write(alloc) {
         Ok(text) => text.as_str() == want,
         Err(_) => false,
     }
 }
 
-fn is_syntax<W: Written>(alloc: Global, object: &W) -> bool {
+// Whether neither a value nor a text is written of the object.
+fn is_syntax<W: Written + Drop>(alloc: Global, object: Result<W, Refusal>) -> bool {
+    let Ok(object) = object else {
+        return false;
+    };
     let value = matches!(object.to_value(alloc), Err(Refusal::Syntax));
     let text = matches!(object.write(alloc), Err(Refusal::Syntax));
     value && text
 }
 
 #[test]
-fn writes_a_plain_cron_job(rt: HostRuntime) -> Result<(), Fail> {
-    let object = plain_cron(rt.alloc(), KEPT)?;
-    assert!(rt; is_written(rt.alloc(), &object, PLAIN_CRON));
-    Ok(())
-}
-
-fn full_cron(alloc: Global) -> Result<CronJob, Fail> {
-    let meta = meta(one(alloc, "a", "b")?, one(alloc, "e", "f")?)?;
-    let template = template(alloc, one(alloc, "c", "\"d")?, KEPT)?;
-    let spec = full_spec(alloc, template)?;
-    cron(alloc, meta, spec, full_status(alloc)?)
+fn writes_a_plain_cron_job(rt: HostRuntime) {
+    let object = plain_cron(rt.alloc(), KEPT);
+    assert!(rt; is_written(rt.alloc(), object, PLAIN_CRON));
 }
 
 #[test]
-fn writes_a_full_cron_job(rt: HostRuntime) -> Result<(), Fail> {
-    let object = full_cron(rt.alloc())?;
-    assert!(rt; is_written(rt.alloc(), &object, FULL_CRON));
-    Ok(())
+fn writes_a_full_cron_job(rt: HostRuntime) {
+    let object = full_cron(rt.alloc());
+    assert!(rt; is_written(rt.alloc(), object, FULL_CRON));
 }
 
 #[test]
-fn writes_a_failed_job(rt: HostRuntime) -> Result<(), Fail> {
-    let object = failed_job(rt.alloc(), KEPT)?;
-    assert!(rt; is_written(rt.alloc(), &object, FAILED_JOB));
-    Ok(())
-}
-
-fn owned_job(alloc: Global) -> Result<Job, Fail> {
-    let owners = one_owner(alloc)?;
-    let spec = spec_text(alloc, KEPT)?;
-    job(alloc, owners, spec, minute(1).map(Outcome::Complete))
+fn writes_a_failed_job(rt: HostRuntime) {
+    let object = job(rt.alloc(), "", KEPT, Some(Outcome::Failed));
+    assert!(rt; is_written(rt.alloc(), object, FAILED_JOB));
 }
 
 #[test]
-fn writes_a_complete_job(rt: HostRuntime) -> Result<(), Fail> {
-    let object = owned_job(rt.alloc())?;
-    assert!(rt; is_written(rt.alloc(), &object, OWNED_JOB));
-    Ok(())
+fn writes_a_complete_job(rt: HostRuntime) {
+    let object = owned_job(rt.alloc());
+    assert!(rt; is_written(rt.alloc(), object, OWNED_JOB));
 }
 
-#[test]
-fn refuses_what_was_not_kept(rt: HostRuntime) -> Result<(), Fail> {
-    for kept in ["", "{", "{\"a\":1.5}", "[18446744073709551616]", "-0"] {
-        let object = plain_cron(rt.alloc(), kept)?;
-        assert!(rt; is_syntax(rt.alloc(), &object), "at {kept}");
-        let object = failed_job(rt.alloc(), kept)?;
-        assert!(rt; is_syntax(rt.alloc(), &object), "at {kept}");
+// Texts that no manifest leaves in an object.
+const NOT_KEPT: [&str; 5] = ["", "{", "{\"a\":1.5}", "[18446744073709551616]", "-0"];
+
+// The first of those with which something is written.
+fn first_written(alloc: Global) -> Option<&'static str> {
+    for kept in NOT_KEPT {
+        let cron = is_syntax(alloc, plain_cron(alloc, kept));
+        let job = is_syntax(alloc, job(alloc, "", kept, None));
+        if !cron || !job {
+            return Some(kept);
+        }
     }
-    Ok(())
+    None
+}
+
+#[test]
+fn refuses_what_was_not_kept(rt: HostRuntime) {
+    assert_eq!(rt; first_written(rt.alloc()), None);
 }

@@ -2,6 +2,7 @@ use cj_base::{
     Cause, Field, FieldFault, FieldFaults, Millis, Refusal, Same, ScheduleCause, Seconds, Text,
     TryCopy, Version,
 };
+use std::alloc::Global;
 use std::test::Fail;
 
 // rules: instant-range, moment-range
@@ -16,13 +17,17 @@ fn numbers_keep_their_range(rt: HostRuntime) -> Result<(), Fail> {
     Ok(())
 }
 
+fn text_is_copied(alloc: Global) -> Result<bool, Refusal> {
+    let text = Text::new(alloc, "hello")?;
+    match text.try_copy(alloc) {
+        Ok(copy) => Ok(copy.as_str() == "hello" && copy.same(&text)),
+        Err(_) => Ok(false),
+    }
+}
+
 #[test]
-fn texts_are_copied(rt: HostRuntime) -> Result<(), Fail> {
-    let text = Text::new(rt.alloc(), "hello")?;
-    let copy = text.try_copy(rt.alloc())?;
-    assert_eq!(rt; copy.as_str(), "hello");
-    assert!(rt; copy.same(&text));
-    Ok(())
+fn texts_are_copied(rt: HostRuntime) {
+    assert!(rt; text_is_copied(rt.alloc()).unwrap_or(false));
 }
 
 #[test]
@@ -43,17 +48,19 @@ fn faults_are_kept_in_order(rt: HostRuntime) -> Result<(), Fail> {
     Ok(())
 }
 
-#[test]
-fn refusals_are_copied(rt: HostRuntime) -> Result<(), Fail> {
+fn refusal_is_copied(alloc: Global) -> Result<bool, Refusal> {
     let conflict = Refusal::Conflict(Version::new(6));
-    let copy = conflict.try_copy(rt.alloc())?;
-    assert!(rt; copy.same(&conflict));
-    assert!(rt; !copy.same(&Refusal::Expired(Version::new(6))));
-    Ok(())
+    let copy = conflict.try_copy(alloc)?;
+    Ok(copy.same(&conflict) && !copy.same(&Refusal::Expired(Version::new(6))))
+}
+
+#[test]
+fn refusals_are_copied(rt: HostRuntime) {
+    assert!(rt; refusal_is_copied(rt.alloc()).unwrap_or(false));
 }
 
 #[test]
 fn names_are_printed(rt: HostRuntime) {
-    assert_eq!(rt; Field::TimeZone.path(), "spec.timeZone");
-    assert_eq!(rt; ScheduleCause::Macro.name(), "Macro");
+    let field = Field::TimeZone.path() == "spec.timeZone";
+    assert!(rt; field && ScheduleCause::Macro.name() == "Macro");
 }

@@ -101,6 +101,11 @@ pub fn labels(alloc: Global, words: &str) -> Result<Labels, Refusal> {
     read(alloc, Labels::new(alloc), words, ' ')
 }
 
+/// The names of the words, one after the other.
+pub fn names(alloc: Global, words: &str) -> Result<Names, Refusal> {
+    read(alloc, Names::new(alloc), words, ' ')
+}
+
 /// The words of labels or of annotations.
 pub fn entries(change: u8) -> &'static str {
     match change {
@@ -262,7 +267,7 @@ fn active(change: u8) -> &'static str {
 
 fn status(alloc: Global, change: u8) -> Result<CronStatus, Refusal> {
     Ok(CronStatus {
-        active: read(alloc, Names::new(alloc), active(within(change, 4, 6)), ' ')?,
+        active: names(alloc, active(within(change, 4, 6)))?,
         last_schedule_time: match change {
             1 => None,
             2 => Seconds::new(120),

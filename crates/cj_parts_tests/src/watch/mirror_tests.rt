@@ -74,15 +74,12 @@ fn is_named(jobs: &[Shared<Job>], name: &str) -> bool {
     false
 }
 
-// Whether these Jobs of `hello` are in the mirror.
-fn sees(alloc: Global, mirror: &mut Mirror, stands: [bool; 2]) -> Result<bool, Refusal> {
-    let owner = Key::new(alloc, "default", "hello")?;
-    let jobs = mirror.owned(&owner)?;
-    let seen = [
-        is_named(jobs.as_slice(), "a"),
-        is_named(jobs.as_slice(), "b"),
-    ];
-    Ok(seen == stands)
+// Whether these Jobs of the CronJob are in the mirror.
+fn sees(mirror: &mut Mirror, owner: &Key, stands: [bool; 2]) -> Result<bool, Refusal> {
+    let jobs = mirror.owned(owner)?;
+    let a = is_named(jobs.as_slice(), "a");
+    let b = is_named(jobs.as_slice(), "b");
+    Ok(a == stands[0] && b == stands[1])
 }
 
 // What stood after each write.
@@ -113,6 +110,7 @@ fn step(
     log: &mut WatchLog,
     mirror: &mut Mirror,
     stood: &mut Stood,
+    owner: &Key,
     random: u64,
 ) -> Result<bool, Refusal> {
     let tag = ((random >> 33) % 6) as u8;
@@ -121,7 +119,7 @@ fn step(
     if (random >> 40) % 4 == 0 {
         catch_up(alloc, mirror, log, random >> 45, stood.now)?;
     }
-    sees(alloc, mirror, stood.at(mirror.version().get()))
+    sees(mirror, owner, stood.at(mirror.version().get()))
 }
 
 // The first of 2,000 writes after which the mirror has something else.
@@ -130,13 +128,14 @@ fn first_wrong(
     log: &mut WatchLog,
     mirror: &mut Mirror,
     stood: &mut Stood,
+    owner: &Key,
 ) -> Result<Option<u64>, Refusal> {
     let mut random = 1u64;
     for turn in 0..2_000 {
         random = random
             .wrapping_mul(6_364_136_223_846_793_005)
             .wrapping_add(1);
-        if !step(alloc, log, mirror, stood, random)? {
+        if !step(alloc, log, mirror, stood, owner, random)? {
             return Ok(Some(turn));
         }
     }
@@ -145,13 +144,14 @@ fn first_wrong(
 
 fn wrong(alloc: Global) -> Result<Option<u64>, Refusal> {
     let window = Window::new(5).ok_or(Refusal::NotFound)?;
+    let owner = Key::new(alloc, "default", "hello")?;
     let mut log = boxed(alloc, WatchLog::new(alloc, window)?)?;
     let mut mirror = boxed(alloc, Mirror::new(alloc))?;
     let mut stood = Stood {
         all: Vec::new(alloc),
         now: [false; 2],
     };
-    first_wrong(alloc, &mut log, &mut mirror, &mut stood)
+    first_wrong(alloc, &mut log, &mut mirror, &mut stood, &owner)
 }
 
 #[test]
