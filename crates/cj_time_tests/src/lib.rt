@@ -1,0 +1,13 @@
+//! Tests of the values below the stored types, of zones and due times: what no command shows.
+#![tactic(auto)]
+
+#[cfg(test)]
+mod lower_ends;
+#[cfg(test)]
+mod values;
+#[cfg(test)]
+mod windows;
+#[cfg(test)]
+mod zone_files;
+#[cfg(test)]
+mod zones;

@@ -1,0 +1,20 @@
+//! Tests of the stored types: the texts of uids, versions and Jobs' names, the Job that a CronJob makes, that
+//! copies and comparisons see each field, and the order of keys.
+#![tactic(auto)]
+
+#[cfg(test)]
+mod compared;
+#[cfg(test)]
+mod entries;
+#[cfg(test)]
+mod jobs;
+#[cfg(test)]
+mod keys;
+#[cfg(test)]
+mod made;
+#[cfg(test)]
+mod numbers;
+#[cfg(test)]
+mod rows;
+#[cfg(test)]
+mod samples;
