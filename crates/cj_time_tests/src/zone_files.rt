@@ -1,7 +1,8 @@
+use cj_base::{Refusal, Seconds};
 use cj_due::next_after;
 use cj_schedule::Schedule;
-use cj_zone::{ZoneTable, read_time};
-use std::test::Fail;
+use cj_zone::{Zone, ZoneTable, read_time};
+use std::alloc::Global;
 
 // Files as `zic -b slim` makes them of the time zone database, version 2025b.
 const NEW_YORK: &[u8] =
@@ -52,10 +53,8 @@ Pacific/Apia|30 3 * * *|2012-03-31T00:00:00Z|2012-03-31T13:30:00Z 2012-03-31T14:
 Pacific/Apia|30 3 * * *|2012-09-28T12:00:00Z|2012-09-28T14:30:00Z 2012-09-30T13:30:00Z
 ";
 
-// rule: zone-made-by-jiff
-#[test]
-fn due_times_under_zone_files(rt: HostRuntime) -> Result<(), Fail> {
-    let alloc = rt.alloc();
+// The zones of the files.
+fn six_zones(alloc: Global) -> Result<ZoneTable, Refusal> {
     let mut zones = ZoneTable::new(alloc)?;
     zones.add_file("America/New_York", NEW_YORK)?;
     zones.add_file("Europe/Berlin", BERLIN)?;
@@ -63,21 +62,50 @@ fn due_times_under_zone_files(rt: HostRuntime) -> Result<(), Fail> {
     zones.add_file("America/Sao_Paulo", SAO_PAULO)?;
     zones.add_file("Asia/Kathmandu", KATHMANDU)?;
     zones.add_file("Pacific/Apia", APIA)?;
-    let mut rows = 0u32;
-    for line in DUE_TIMES.lines() {
-        let parts: Vec<&str> = line.split('|').collect(alloc)?;
-        if let [name, text, start, wanted] = parts.as_slice() {
-            rows = rows.saturating_add(1);
-            let zone = zones.get(name).ok_or("no such zone")?;
-            let schedule = Schedule::parse(text)?;
-            let mut at = read_time(start).ok_or("not a time")?;
-            for time in wanted.split(' ') {
-                let next = next_after(&schedule, zone, at).ok_or("none is due")?;
-                assert_eq!(rt; Some(next), read_time(time), "{line}");
-                at = next;
-            }
+    Ok(zones)
+}
+
+// Whether these are the next due times from the start on.
+fn are_due(schedule: &Schedule, zone: &Zone, start: Seconds, wanted: &str) -> bool {
+    let mut at = start;
+    for time in wanted.split(' ') {
+        let next = next_after(schedule, zone, at);
+        if next != read_time(time) {
+            return false;
         }
+        at = next.unwrap_or(at);
     }
-    assert_eq!(rt; rows, 25);
-    Ok(())
+    true
+}
+
+fn is_right(zones: &ZoneTable, line: &str) -> bool {
+    let mut parts = line.split('|');
+    let zone = zones.get(parts.next().unwrap_or(""));
+    let schedule = Schedule::parse(parts.next().unwrap_or(""));
+    let start = read_time(parts.next().unwrap_or(""));
+    match (zone, schedule, start) {
+        (Some(zone), Ok(schedule), Some(start)) => {
+            are_due(&schedule, zone, start, parts.next().unwrap_or(""))
+        }
+        _ => false,
+    }
+}
+
+// How many lines are right, up to the first that isn't.
+fn right_lines(alloc: Global) -> Result<u32, Refusal> {
+    let zones = six_zones(alloc)?;
+    let mut count = 0u32;
+    for line in DUE_TIMES.lines() {
+        if !is_right(&zones, line) {
+            return Ok(count);
+        }
+        count = count.saturating_add(1);
+    }
+    Ok(count)
+}
+
+// rule: zone-made-by-jiff
+#[test]
+fn due_times_under_zone_files(rt: HostRuntime) {
+    assert_eq!(rt; right_lines(rt.alloc()).unwrap_or(0), 25);
 }

@@ -1,6 +1,6 @@
 use cj_base::{Cause, Civil, Field, FieldFault, Refusal, Same, TryCopy};
-use cj_zone::{ZoneTable, date_of_day, local, read_time};
-use std::test::Fail;
+use cj_zone::{Zone, ZoneTable, date_of_day, local, read_time};
+use std::alloc::Global;
 
 const MIDDLE_EUROPE: &str = "CET-1CEST,M3.5.0,M10.5.0/3";
 
@@ -34,42 +34,65 @@ fn civil(year: i16, month: u8, day: u8, weekday: u8, hour: u8, minute: u8) -> Ci
     }
 }
 
+// Whether taken names, and what makes no zone, are refused, and leave nothing.
+fn refuses(table: &mut ZoneTable) -> bool {
+    let taken = is_zone_fault(table.add_rule("Europe/Berlin", "UTC0"))
+        && is_zone_fault(table.add_file("UTC", KATHMANDU));
+    let none = is_zone_fault(table.add_rule("Other", "CET"))
+        && is_zone_fault(table.add_file("Other", b"TZif"));
+    let unknown = is_zone_fault(table.set_local("Other")) && table.get("Other").is_none();
+    taken && none && unknown
+}
+
+// Whether a copy of the named zone is the local one, and UTC another.
+fn is_local(alloc: Global, table: &ZoneTable, name: &str) -> Result<bool, Refusal> {
+    let (Some(zone), Some(utc)) = (table.get(name), table.get("UTC")) else {
+        return Ok(false);
+    };
+    let copy = zone.try_copy(alloc)?;
+    Ok(copy.same(table.default_zone()) && !utc.same(zone))
+}
+
+fn keeps_rules_and_names(alloc: Global) -> Result<bool, Refusal> {
+    let mut table = ZoneTable::new(alloc)?;
+    table.add_rule("Europe/Berlin", MIDDLE_EUROPE)?;
+    let is_refused = refuses(&mut table) && table.default_zone().name() == "UTC";
+    table.set_local("Europe/Berlin")?;
+    Ok(is_refused && is_local(alloc, &table, "Europe/Berlin")?)
+}
+
 // rule: zone-table
 #[test]
-fn rules_and_names(rt: HostRuntime) -> Result<(), Fail> {
-    let mut table = ZoneTable::new(rt.alloc())?;
-    table.add_rule("Europe/Berlin", MIDDLE_EUROPE)?;
-    assert!(rt; is_zone_fault(table.add_rule("Europe/Berlin", "UTC0")));
-    assert!(rt; is_zone_fault(table.add_file("UTC", KATHMANDU)));
-    assert!(rt; is_zone_fault(table.add_rule("Other", "CET")));
-    assert!(rt; is_zone_fault(table.add_file("Other", b"TZif")));
-    assert!(rt; is_zone_fault(table.set_local("Other")));
-    assert!(rt; table.get("Other").is_none());
-    assert_eq!(rt; table.default_zone().name(), "UTC");
-    table.set_local("Europe/Berlin")?;
-    let berlin = table.get("Europe/Berlin").ok_or("not there")?;
-    let copy = berlin.try_copy(rt.alloc())?;
-    assert!(rt; copy.same(table.default_zone()));
-    let utc = table.get("UTC").ok_or("not there")?;
-    assert!(rt; !utc.same(berlin));
-    Ok(())
+fn rules_and_names(rt: HostRuntime) {
+    assert!(rt; keeps_rules_and_names(rt.alloc()).unwrap_or(false));
+}
+
+// Whether the zone's clock shows this at the instant.
+fn shows(zone: &Zone, at: &str, wanted: Civil) -> bool {
+    match read_time(at) {
+        Some(instant) => local(zone, instant) == wanted,
+        None => false,
+    }
+}
+
+fn shows_all(zone: &Zone) -> bool {
+    let before = shows(zone, "1985-12-31T18:29:59Z", civil(1985, 12, 31, 2, 23, 59));
+    let behind = shows(zone, "1985-12-31T18:30:00Z", civil(1986, 1, 1, 3, 0, 15));
+    let first = shows(zone, "2024-02-28T18:15:00Z", civil(2024, 2, 29, 4, 0, 0));
+    let last = shows(zone, "2024-02-29T18:14:59Z", civil(2024, 2, 29, 4, 23, 59));
+    let next = shows(zone, "2024-12-31T18:15:00Z", civil(2025, 1, 1, 3, 0, 0));
+    before && behind && first && last && next
+}
+
+fn kathmandu_shows_all(alloc: Global) -> Result<bool, Refusal> {
+    let mut table = ZoneTable::new(alloc)?;
+    table.add_file("Asia/Kathmandu", KATHMANDU)?;
+    table.set_local("Asia/Kathmandu")?;
+    Ok(shows_all(table.default_zone()))
 }
 
 #[test]
-fn times_of_a_file(rt: HostRuntime) -> Result<(), Fail> {
-    let mut table = ZoneTable::new(rt.alloc())?;
-    table.add_file("Asia/Kathmandu", KATHMANDU)?;
-    table.set_local("Asia/Kathmandu")?;
-    for (at, want) in [
-        ("1985-12-31T18:29:59Z", civil(1985, 12, 31, 2, 23, 59)),
-        ("1985-12-31T18:30:00Z", civil(1986, 1, 1, 3, 0, 15)),
-        ("2024-02-28T18:15:00Z", civil(2024, 2, 29, 4, 0, 0)),
-        ("2024-02-29T18:14:59Z", civil(2024, 2, 29, 4, 23, 59)),
-        ("2024-12-31T18:15:00Z", civil(2025, 1, 1, 3, 0, 0)),
-    ] {
-        let instant = read_time(at).ok_or("no time")?;
-        assert_eq!(rt; local(table.default_zone(), instant), want, "{at}");
-    }
-    assert_eq!(rt; date_of_day(19_782), civil(2024, 2, 29, 4, 0, 0));
-    Ok(())
+fn times_of_a_file(rt: HostRuntime) {
+    assert!(rt; kathmandu_shows_all(rt.alloc()).unwrap_or(false));
+    assert!(rt; date_of_day(19_782) == civil(2024, 2, 29, 4, 0, 0));
 }
