@@ -172,6 +172,7 @@ fn is_syntax<W: Written>(alloc: Global, object: &W) -> bool {
     value && text
 }
 
+// rule: written
 #[test]
 fn writes_a_plain_cron_job(rt: HostRuntime) -> Result<(), Fail> {
     let object = plain_cron(rt.alloc(), KEPT)?;
@@ -186,6 +187,7 @@ fn full_cron(alloc: Global) -> Result<CronJob, Fail> {
     cron(alloc, meta, spec, full_status(alloc)?)
 }
 
+// rule: written
 #[test]
 fn writes_a_full_cron_job(rt: HostRuntime) -> Result<(), Fail> {
     let object = full_cron(rt.alloc())?;
@@ -193,6 +195,7 @@ fn writes_a_full_cron_job(rt: HostRuntime) -> Result<(), Fail> {
     Ok(())
 }
 
+// rule: written
 #[test]
 fn writes_a_failed_job(rt: HostRuntime) -> Result<(), Fail> {
     let object = failed_job(rt.alloc(), KEPT)?;
@@ -206,6 +209,7 @@ fn owned_job(alloc: Global) -> Result<Job, Fail> {
     job(alloc, owners, spec, minute(1).map(Outcome::Complete))
 }
 
+// rule: written
 #[test]
 fn writes_a_complete_job(rt: HostRuntime) -> Result<(), Fail> {
     let object = owned_job(rt.alloc())?;
