@@ -6,6 +6,8 @@ use Rattle.std.proofs.lemmas.List.Elements.{filter-append}
 use Rattle.cj_types.specs.declared.cron.CronJobDraft.{CronJobDraft}
 use Rattle.cj_zone.specs.declared.table.ZoneTable.{ZoneTable}
 use Rattle.cj_calls.specs.declared.call.Call.{Call}
+use Rattle.cj_calls.specs.declared.caller.Caller.{Caller}
+use Rattle.cj_calls.specs.declared.caller.Role.{Role}
 use Rattle.cj_acts.specs.declared.act.Act.{Act}
 use Rattle.cj_hub.specs.Receipts.{PassView}
 use Rattle.cj_hub.specs.declared.receipt.Receipt.{Receipt}
@@ -14,7 +16,7 @@ use Rattle.cj_course.specs.declared.course.Course.{Course}
 use Rattle.cj_course.specs.declared.course.Edit.{Edit}
 use Rattle.cj_replay.specs.Calls.{IsUnseenCall}
 use Rattle.cj_run.specs.Courses.{acts_below, creation, creations, edits_at}
-use Rattle.cj_run.specs.Deeds.{Called, Does}
+use Rattle.cj_run.specs.Deeds.{AreOf, Called, Does, IsOf}
 
 -- A pass that stays as it was did no act.
 pub does_nothing : (zones : ZoneTable) (p : PassView) → Does zones [] p p
@@ -31,7 +33,13 @@ pub does_call : (zones : ZoneTable) (act : Act) (call : Call) (p p' : PassView) 
 does_call zones act call p p' is m = record {
   news = m.receipt ∷ [];
   kept = m.is.kept;
-  are = (subst (λ (c : Call). IsUnseenCall zones act c) (sym m.is.call_given) is, tt);
+  are = (
+    (
+      subst (λ (c : Call). IsUnseenCall zones act c) (sym m.is.call_given) is,
+      ap (λ (c : Caller). c.role) m.is.caller,
+    ),
+    tt,
+  );
 }
 
 -- Two lists that match one by one still do with two such lists put behind them.
@@ -41,6 +49,12 @@ zip_append R [] xs' [] ys' h h' = h'
 zip_append R [] xs' (y ∷ ys) ys' h h' = absurd h
 zip_append R (x ∷ xs) xs' [] ys' h h' = absurd h
 zip_append R (x ∷ xs) xs' (y ∷ ys) ys' h h' = (h.0, zip_append R xs xs' ys ys' h.1 h')
+
+-- For does_then: what is of a pass's role is of its role after its receipts.
+same_role : (zones : ZoneTable) (acts : List Act) (p q : PassView) (news rs : List Receipt)
+    → q ≡ record p { receipts = p.receipts ++ news } → AreOf q.role zones acts rs → AreOf p.role zones acts rs
+same_role zones acts p q news rs kept are =
+    subst (λ (role : Role). AreOf role zones acts rs) (ap (λ (x : PassView). x.role) kept) are
 
 -- For does_then: receipts put behind a pass's, and then more behind those, are put behind in order.
 kept_then : (p q r : PassView) (news news' : List Receipt) → q ≡ record p { receipts = p.receipts ++ news }
@@ -56,7 +70,8 @@ pub does_then : (zones : ZoneTable) (acts acts' : List Act) (p q r : PassView) �
 does_then zones acts acts' p q r a b = record {
   news = a.news ++ b.news;
   kept = kept_then p q r a.news b.news a.kept b.kept;
-  are = zip_append (λ act x. IsUnseenCall zones act x.entry.call) acts acts' a.news b.news a.are b.are;
+  are = zip_append (IsOf p.role zones) acts acts' a.news b.news a.are
+      (same_role zones acts' p q a.news b.news a.kept b.are);
 }
 
 -- ---- one more of a list

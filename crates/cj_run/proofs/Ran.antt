@@ -3,6 +3,8 @@ use Rattle.std.proofs.Common.{◌≡◌, ◌∙◌, ℕ, List, [], ◌∷◌, �
 use Rattle.std.specs.Prelude.{All, slice_index_or}
 use Rattle.std.proofs.lemmas.List.{length-append}
 use Rattle.cj_calls.specs.Rows.{Told}
+use Rattle.cj_calls.specs.declared.caller.Role.{Role}
+use Rattle.cj_calls.specs.declared.caller.Role.TheVariants.{User}
 use Rattle.cj_hub.specs.Receipts.{IsExact, PassView, placed}
 use Rattle.cj_hub.specs.declared.receipt.Receipt.{Receipt}
 use Rattle.cj_course.specs.declared.course.Course.{Course}
@@ -19,31 +21,33 @@ last_at (y ∷ xs) x d = last_at xs x d
 last_of_all : {X : Type 0} (P : X → Type 0) (xs : List X) (x : X) → All P (xs ++ x ∷ []) → P x
 last_of_all P xs x all = subst P (last_at xs x x) (all (length xs) x (omega (arith, length-append xs (x ∷ []))))
 
--- the receipts of a pass that had none are the new ones
-news_alone : (c : Course) (h : List Told) (p p' : PassView) (n : ℕ) → p.receipts ≡ []
-    → (d : Does c.zones (acts_below c n) p p') → IsExact h p' → AreOf c.zones (acts_below c n) (placed p'.number h)
-news_alone c h p p' n none d exact =
-    subst (λ (rs : List Receipt). AreOf c.zones (acts_below c n) rs)
+-- The receipts of a user's pass that had none are the new ones.
+news_alone : (c : Course) (h : List Told) (p p' : PassView) (n : ℕ) → p.receipts ≡ [] → p.role ≡ User
+    → (d : Does c.zones (acts_below c n) p p') → IsExact h p'
+    → AreOf User c.zones (acts_below c n) (placed p'.number h)
+news_alone c h p p' n none user d exact =
+    subst (λ (role : Role). AreOf role c.zones (acts_below c n) (placed p'.number h)) user
+    (subst (λ (rs : List Receipt). AreOf p.role c.zones (acts_below c n) rs)
     (ap (λ (rs : List Receipt). rs ++ d.news) (sym none) ∙ ap (λ (q : PassView). q.receipts) (sym d.kept) ∙ exact)
-    d.are
+    d.are)
 
 -- The report of the passes of a run is a run's, where the last is that of a user who did
 -- all that the scenario says.
 pub played_report : (c : Course) (p p' : PassView) (others : List PassView) (text : List ℕ) → p.receipts ≡ []
-    → HasPlayed c p p' → IsReport (others ++ p' ∷ []) text → IsRun c text
-played_report c p p' others text none h r = record {
+    → p.role ≡ User → HasPlayed c p p' → IsReport (others ++ p' ∷ []) text → IsRun c text
+played_report c p p' others text none user h r = record {
   window = r.window;
   history = r.history;
   promise = r.promise;
   instants = h.instants;
   all = h.all;
   user = p'.number;
-  did = news_alone c r.history p p' h.instants none h.did (last_of_all (IsExact r.history) others p' r.exact);
+  did = news_alone c r.history p p' h.instants none user h.did (last_of_all (IsExact r.history) others p' r.exact);
   printed = r.printed;
 }
 
 -- For run_course: the report of passes of which the last is such a user's is that of the run.
 pub done_report : (c : Course) (ps : List PassView) (text : List ℕ) → AreDone c ps → IsReport ps text → IsRun c text
 done_report c ps text done r =
-    played_report c done.3.0 done.1 done.0 text done.3.1 done.3.2
+    played_report c done.3.0 done.1 done.0 text done.3.1 done.3.2 done.3.3
     (subst (λ (qs : List PassView). IsReport qs text) done.2 r)

@@ -3,6 +3,8 @@ use Rattle.std.specs.Prelude.{◌≡◌, ◌<◌, ◌↔◌, ℕ, List, [], ◌�
 use Rattle.std.specs.List.{AllZip}
 use Rattle.cj_zone.specs.declared.table.ZoneTable.{ZoneTable}
 use Rattle.cj_calls.specs.declared.call.Call.{Call}
+use Rattle.cj_calls.specs.declared.caller.Role.{Role}
+use Rattle.cj_calls.specs.declared.caller.Role.TheVariants.{User}
 use Rattle.cj_acts.specs.declared.act.Act.{Act}
 use Rattle.cj_hub.specs.Receipts.{IsReceipt, PassView}
 use Rattle.cj_hub.specs.declared.receipt.Receipt.{Receipt}
@@ -16,16 +18,20 @@ pub record Called (call : Call) (p p' : PassView) : Type 0 where
   pub receipt : Receipt
   pub is : IsReceipt p call receipt p'
 
--- each receipt is of the call of its act
-abbrev pub AreOf : ZoneTable → List Act → List Receipt → Type 0
-AreOf zones acts rs = AllZip (λ act r. IsUnseenCall zones act r.entry.call) acts rs
+-- the receipt is of the act's call, made in the role
+abbrev pub IsOf : Role → ZoneTable → Act → Receipt → Type 0
+IsOf role zones act r = IsUnseenCall zones act r.entry.call × (r.entry.caller.role ≡ role)
 
--- the pass got one receipt for each of the acts, in their order
+-- each receipt is of the call of its act, made in the role
+abbrev pub AreOf : Role → ZoneTable → List Act → List Receipt → Type 0
+AreOf role zones acts rs = AllZip (IsOf role zones) acts rs
+
+-- the pass got one receipt for each of the acts, in their order, made in its role
 -- rule: run-edits
 pub record Does (zones : ZoneTable) (acts : List Act) (p p' : PassView) : Type 0 where
   pub news : List Receipt
   pub kept : p' ≡ record p { receipts = p.receipts ++ news }
-  pub are : AreOf zones acts news
+  pub are : AreOf p.role zones acts news
 
 -- the user did all that the scenario says, up to the clock's last instant
 -- rule: run-edits
@@ -36,7 +42,7 @@ pub record HasPlayed (c : Course) (p p' : PassView) : Type 0 where
 
 -- a user who had done nothing before did so
 abbrev pub HasDone : Course → PassView → Type 0
-HasDone c p' = (p : PassView) × (p.receipts ≡ []) × HasPlayed c p p'
+HasDone c p' = (p : PassView) × (p.receipts ≡ []) × (p.role ≡ User) × HasPlayed c p p'
 
 -- the last of the passes is such a user's
 abbrev pub AreDone : Course → List PassView → Type 0

@@ -1,5 +1,5 @@
 -- Which run each Job takes that a CronJob makes.
-use Rattle.std.specs.Prelude.{ℕ, ◌+◌, ◌^◌, ◌-◌, nat_lt, min, List, [], ◌∷◌, ◌++◌, Option, Some, None, bytes_eq, if◌then◌else◌}
+use Rattle.std.specs.Prelude.{ℕ, ◌+◌, ◌^◌, ◌-◌, nat_lt, max, min, List, [], ◌∷◌, ◌++◌, Option, Some, None, bytes_eq, if◌then◌else◌}
 use Rattle.std.specs.FinMap as map
 use Rattle.cj_types.specs.Keys.{Place, place_cmp}
 use Rattle.cj_types.specs.Owners.{controller_of}
@@ -15,13 +15,18 @@ use Rattle.cj_run.specs.declared.made.Count.{Count}
 abbrev pub Counts : Type 0
 Counts = map.FinMap place_cmp Count
 
--- what was noted of the Jobs that were made: how many of each CronJob, and those that run and will end
+-- what was noted of the Jobs that were made: the last one's uid, 0 before the first; how many of each CronJob, and
+-- those that run and will end
 pub record Notes : Type 0 where
+  pub last : ℕ
   pub counts : Counts
   pub running : List Running
 
-abbrev pub notes : Counts → List Running → Notes
-notes counts running = record { counts = counts; running = running }
+abbrev pub notes : ℕ → Counts → List Running → Notes
+notes last counts running = record { last = last; counts = counts; running = running }
+
+abbrev pub no_notes : Notes
+no_notes = notes 0 map.empty []
 
 -- how many Jobs a CronJob with this uid made before
 -- rule: run-jobs
@@ -48,7 +53,7 @@ with_run rs now job (Some run) = rs ++ running_as now job run ∷ []
 abbrev pub noted_of : RunTable → ℕ → Job → Place → List ℕ → Notes → Notes
 noted_of runs now job key uid n =
     let before = made_before (map.get n.counts key) uid in
-    notes (map.insert n.counts key (counted uid before)) (with_run n.running now job (run_of runs key before))
+    notes n.last (map.insert n.counts key (counted uid before)) (with_run n.running now job (run_of runs key before))
 
 -- a Job is noted that was made at the moment; one that no CronJob made isn't
 abbrev pub noted_by : RunTable → ℕ → Job → Option Place → Option OwnerRef → Notes → Notes
@@ -59,8 +64,15 @@ noted_by runs now job (Some key) None n = n
 abbrev pub noted : RunTable → ℕ → Job → Notes → Notes
 noted runs now job n = noted_by runs now job (key_of_job job) (controller_of job.owners) n
 
--- those of a listing whose uid is above the last that was noted before
+-- a Job of a listing is noted where its uid is above the last that was noted before the listing
+-- rule: run-jobs
+abbrev pub seen : RunTable → ℕ → ℕ → Job → Notes → Notes
+seen runs now before job n =
+    let n' = notes (max n.last job.meta.uid) n.counts n.running in
+    if nat_lt before job.meta.uid then noted runs now job n' else n'
+
+-- so are all of a listing, one after the other
 -- rule: run-jobs
 abbrev pub noted_all : RunTable → ℕ → ℕ → List Job → Notes → Notes
-noted_all runs now last [] n = n
-noted_all runs now last (job ∷ jobs) n = noted_all runs now last jobs (if nat_lt last job.meta.uid then noted runs now job n else n)
+noted_all runs now before [] n = n
+noted_all runs now before (job ∷ jobs) n = noted_all runs now before jobs (seen runs now before job n)

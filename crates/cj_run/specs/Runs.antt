@@ -1,6 +1,7 @@
 -- What a run reports.
 use Rattle.std.specs.Prelude.{◌≡◌, ◌<◌, ◌↔◌, ℕ, List, All}
 use Rattle.cj_calls.specs.Rows.{Told}
+use Rattle.cj_calls.specs.declared.caller.Role.TheVariants.{User}
 use Rattle.cj_hub.specs.Receipts.{IsExact, PassView, placed}
 use Rattle.cj_course.specs.Spans.{IsInstant}
 use Rattle.cj_course.specs.declared.course.Course.{Course}
@@ -22,9 +23,9 @@ pub record IsReport (passes : List PassView) (text : List ℕ) : Type 0 where
   pub exact : All (IsExact history) passes
   pub printed : text ≡ report_of window history
 
--- the text is the report of a history, which keeps what is promised of every history, and in which the user
--- did just what the scenario says: the CronJobs were created, and then each edit was made, in the order of
--- its instants
+-- the text is the report of a history, which keeps what is promised of every history, and in which a user, in
+-- that role, called for just what the scenario says: for each CronJob's creation, and then for each edit, in the
+-- order of their instants
 -- rules: run-edits, run-report
 pub record IsRun (c : Course) (text : List ℕ) : Type 0 where
   pub window : ℕ
@@ -33,5 +34,5 @@ pub record IsRun (c : Course) (text : List ℕ) : Type 0 where
   pub instants : ℕ
   pub all : (n : ℕ) → (n < instants) ↔ IsInstant c.span n
   pub user : ℕ
-  pub did : AreOf c.zones (acts_below c instants) (placed user history)
+  pub did : AreOf User c.zones (acts_below c instants) (placed user history)
   pub printed : text ≡ report_of window history

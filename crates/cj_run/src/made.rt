@@ -1,8 +1,8 @@
 // Which Jobs were made, and how long each of them runs.
-ghost use Rattle.std.specs.Prelude.{◌≡◌, OnOk, IfOk, IfErr, nat_lt, if◌then◌else◌, option_copied};
+ghost use Rattle.std.specs.Prelude.{◌≡◌, OnOk, IfOk, IfErr, option_copied};
 ghost use Rattle.std.specs.FinMap as map;
 ghost use Rattle.cj_base.specs.declared.refusal.Refusal.TheVariants.{OutOfMemory};
-ghost use Rattle.cj_run.specs.Made.{counted, made_before, noted, noted_all, notes, with_run};
+ghost use Rattle.cj_run.specs.Made.{counted, made_before, no_notes, noted, noted_all, notes, seen, with_run};
 
 use cj_base::{Refusal, Text, TryCopy};
 use cj_course::{Run, Runs};
@@ -41,7 +41,9 @@ fn jobs_of(count: Option<&Count>, uid: &Text) -> u64
 
 impl Made {
     /// Nothing was made.
-    pub(crate) fn new(alloc: Global) -> Made {
+    pub(crate) fn new(alloc: Global) -> Made
+        ensures { notes result.last result.counts result.running.items ≡ no_notes }
+    {
         Made {
             last: 0,
             counts: Table::new(alloc),
@@ -55,6 +57,7 @@ impl Made {
         ensures counts { IfOk result (λ n. self.new.counts
             ≡ map.insert self.old.counts key (counted uid.now n)) }
         ensures running { self.new.running ≡ self.old.running }
+        ensures last { self.new.last ≡ self.old.last }
         ensures err { IfErr result (λ e. e ≡ OutOfMemory) }
     {
         let before = jobs_of(self.counts.get(&key), uid);
@@ -77,6 +80,7 @@ impl Made {
         ensures running { OnOk result (self.new.running.items
             ≡ with_run self.old.running.items now job.now run) }
         ensures counts { self.new.counts ≡ self.old.counts }
+        ensures last { self.new.last ≡ self.old.last }
         ensures err { IfErr result (λ e. e ≡ OutOfMemory) }
     {
         let Some(run) = run else {
@@ -94,8 +98,9 @@ impl Made {
 
     // Notes a Job that was made at the moment.
     fn note(&mut self, alloc: Global, runs: &Runs, now: Seconds, job: &Job) -> Result<(), Refusal>
-        ensures ok { OnOk result (notes self.new.counts self.new.running.items
-            ≡ noted runs.now now job.now (notes self.old.counts self.old.running.items)) }
+        ensures ok { OnOk result (notes self.new.last self.new.counts self.new.running.items
+            ≡ noted runs.now now job.now
+            (notes self.old.last self.old.counts self.old.running.items)) }
         ensures err { IfErr result (λ e. e ≡ OutOfMemory) }
     {
         let Some(key) = owner_key(alloc, job)? else {
@@ -118,15 +123,14 @@ impl Made {
         noted_before: u64,
         job: &Job,
     ) -> Result<(), Refusal>
-        ensures ok { OnOk result (notes self.new.counts self.new.running.items
-            ≡ (if nat_lt noted_before job.now.meta.uid then noted runs.now now job.now
-            (notes self.old.counts self.old.running.items) else notes self.old.counts
-            self.old.running.items)) }
+        ensures ok { OnOk result (notes self.new.last self.new.counts self.new.running.items
+            ≡ seen runs.now now noted_before job.now
+            (notes self.old.last self.old.counts self.old.running.items)) }
         ensures err { IfErr result (λ e. e ≡ OutOfMemory) }
     {
         let uid = job.meta.uid.get();
+        self.last = self.last.max(uid);
         if noted_before < uid {
-            self.last = self.last.max(uid);
             self.note(alloc, runs, now, job)
         } else {
             Ok(())
@@ -141,9 +145,9 @@ impl Made {
         now: Seconds,
         jobs: &[Shared<Job>],
     ) -> Result<(), Refusal>
-        ensures ok { OnOk result (notes self.new.counts self.new.running.items
+        ensures ok { OnOk result (notes self.new.last self.new.counts self.new.running.items
             ≡ noted_all runs.now now self.old.last jobs.now
-            (notes self.old.counts self.old.running.items)) }
+            (notes self.old.last self.old.counts self.old.running.items)) }
         ensures err { IfErr result (λ e. e ≡ OutOfMemory) }
     {
         let noted_before = self.last;

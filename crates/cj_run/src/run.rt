@@ -1,6 +1,7 @@
 // A run, from its scenario to its report.
 ghost use Rattle.std.specs.Prelude.{◌≡◌, List, [], ◌∷◌, ◌++◌, IfOk, IsOk, OnOk, string_bytes};
 ghost use Rattle.cj_replay.specs.Replays.{KeepsPromise, report_of};
+ghost use Rattle.cj_calls.specs.declared.caller.Role.TheVariants.{User};
 ghost use Rattle.cj_hub.specs.Receipts.{PassView};
 ghost use Rattle.cj_run.specs.Deeds.{AreDone, HasDone};
 ghost use Rattle.cj_run.specs.Runs.{IsClosed, IsReport, IsRun};
@@ -50,7 +51,8 @@ fn new_follower<R: Wait>(rt: &R, alloc: Global, hub: &Hub) -> Result<Follower, R
 }
 
 fn new_cast<R: Wait>(rt: &R, alloc: Global, hub: &Hub) -> Result<Cast, Refusal>
-    ensures { IfOk result (λ c. c.user.receipts ≡ []) }
+    ensures unused { IfOk result (λ c. c.user.receipts ≡ []) }
+    ensures user { IfOk result (λ c. c.user.role ≡ User) }
 {
     let runners = enroll(rt, alloc, hub, Role::Runner, RUNNERS)?;
     let follower = new_follower(rt, alloc, hub)?;
