@@ -1,13 +1,22 @@
 -- What a run reports.
-use Rattle.std.specs.Prelude.{◌≡◌, ◌<◌, ◌↔◌, ℕ, List, All}
+use Rattle.std.specs.Prelude.{◌≡◌, ◌<◌, ◌↔◌, ℕ, List, [], ◌∷◌, ◌++◌, All, map}
 use Rattle.cj_calls.specs.Rows.{Told}
 use Rattle.cj_calls.specs.declared.caller.Role.TheVariants.{User}
 use Rattle.cj_hub.specs.Receipts.{IsExact, PassView, placed}
+use Rattle.cj_worker.specs.declared.workers.WorkerEnd.{WorkerEnd}
 use Rattle.cj_course.specs.Spans.{IsInstant}
 use Rattle.cj_course.specs.declared.course.Course.{Course}
 use Rattle.cj_replay.specs.Replays.{KeepsPromise, report_of}
 use Rattle.cj_run.specs.Courses.{acts_below}
 use Rattle.cj_run.specs.Deeds.{AreOf}
+
+abbrev pub pass_at : WorkerEnd → PassView
+pass_at end = end.pass
+
+-- all passes of a run: the informer's, the runners', the workers', and the user's last
+-- rule: run-report
+abbrev pub all_passes : PassView → List PassView → List WorkerEnd → PassView → List PassView
+all_passes informer runners ends user = (informer ∷ (runners ++ map pass_at ends)) ++ user ∷ []
 
 -- each pass's entries of the history are its receipts
 abbrev pub IsClosed : List PassView → ℕ → List Told → Type 0

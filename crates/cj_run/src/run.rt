@@ -1,10 +1,10 @@
 // A run, from its scenario to its report.
-ghost use Rattle.std.specs.Prelude.{◌≡◌, List, [], ◌∷◌, ◌++◌, IfOk, IsOk, OnOk, string_bytes};
+ghost use Rattle.std.specs.Prelude.{◌≡◌, List, [], ◌∷◌, ◌++◌, IfOk, IsOk, OnOk, map, string_bytes};
+ghost use Rattle.cj_hub.specs.Receipts.{PassView};
 ghost use Rattle.cj_replay.specs.Replays.{KeepsPromise, report_of};
 ghost use Rattle.cj_calls.specs.declared.caller.Role.TheVariants.{User};
-ghost use Rattle.cj_hub.specs.Receipts.{PassView};
 ghost use Rattle.cj_run.specs.Deeds.{AreDone, HasDone};
-ghost use Rattle.cj_run.specs.Runs.{IsClosed, IsReport, IsRun};
+ghost use Rattle.cj_run.specs.Runs.{IsClosed, IsReport, IsRun, all_passes, pass_at};
 
 use crate::clock::RunClock;
 use crate::drive::Cast;
@@ -98,29 +98,35 @@ fn judge<R: Wait>(rt: &R, hub: &Hub, staged: &Staged) -> Result<(), Failure>
     }
 }
 
-// All passes of a run, the user's last.
-fn passes_of(
-    alloc: Global,
-    cast: Cast,
-    ends: Result<Vec<WorkerEnd>, Refusal>,
-) -> Result<Vec<Pass>, Failure>
-    ensures { IfOk result (λ ps. (others : List PassView) × (ps.items ≡ others ++ cast.user ∷ [])) }
+// The passes that workers handed back.
+fn passes_at(alloc: Global, ends: Vec<WorkerEnd>) -> Result<Vec<Pass>, Failure>
+    ensures { IfOk result (λ ps. ps.items ≡ map pass_at ends.items) }
 {
-    let ends = ends?;
-    let Cast {
-        user,
-        follower,
-        runners,
-        made: _,
-    } = cast;
     let mut passes = Vec::new(alloc);
-    passes.push(follower.pass)?;
-    for runner in runners {
-        passes.push(runner)?;
-    }
     for end in ends {
         passes.push(end.pass)?;
     }
+    Ok(passes)
+}
+
+// All passes of a run: the informer's, the runners', the workers', and the user's last.
+fn passes_of(alloc: Global, cast: Cast, ends: Vec<WorkerEnd>) -> Result<Vec<Pass>, Failure>
+    ensures all { IfOk result (λ ps. ps.items
+        ≡ all_passes cast.follower.pass cast.runners.items ends.items cast.user) }
+    ensures last { IfOk result (λ ps. (others : List PassView)
+        × (ps.items ≡ others ++ cast.user ∷ [])) }
+{
+    let Cast {
+        user,
+        follower,
+        mut runners,
+        made: _,
+    } = cast;
+    let mut workers = passes_at(alloc, ends)?;
+    let mut passes = Vec::new(alloc);
+    passes.push(follower.pass)?;
+    passes.append(&mut runners)?;
+    passes.append(&mut workers)?;
     passes.push(user)?;
     Ok(passes)
 }
@@ -190,7 +196,7 @@ fn played<R: Threads + Wait + Sync>(
     let staged = staged(rt, alloc, hub, course, workers)?;
     judge(rt, hub, staged.get())?;
     let Staged { cast, ends, .. } = staged.into_inner();
-    passes_of(alloc, cast, ends)
+    passes_of(alloc, cast, ends?)
 }
 
 /// Runs a scenario on an empty world with so many workers, and gives the report of the end: a line for each

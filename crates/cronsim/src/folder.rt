@@ -23,14 +23,14 @@ fn file_of(rt: &HostRuntime, folder: &str, name: &str) -> Result<Option<ZoneFile
     }
 }
 
-// The file of a zone more, where the zone's name leads to one in the folder.
+// The file of a zone more, where the zone's name leads to one in the folder. No folder has the empty name.
 fn push_file(
     rt: &HostRuntime,
     files: &mut Vec<ZoneFile>,
     folder: &str,
     name: &str,
 ) -> Result<(), Failure> {
-    if is_file_name(name) {
+    if !folder.is_empty() && is_file_name(name) {
         if let Some(file) = file_of(rt, folder, name)? {
             files.push(file)?;
         }

@@ -15,9 +15,15 @@ use std::process::ExitCode;
 use std::sync::Wait;
 use std::thread::Threads;
 
-// Says to people why the file of a request could not be opened, where they ask for that.
-fn tell_unopened<E: Write>(request: &Request<'_>, input: &Input, err: &mut E) {
-    if let (true, Some(file), Some(cause)) = (request.explains(), request.file(), input.cause()) {
+// The exit status of a failed input or output.
+const FAILED: u8 = 3;
+
+// Says to people why the file of a request that failed could not be opened, where they ask for that.
+fn tell_unopened<E: Write>(request: &Request<'_>, status: u8, input: &Input, err: &mut E) {
+    if status != FAILED || !request.explains() {
+        return;
+    }
+    if let (Some(file), Some(cause)) = (request.file(), input.cause()) {
         let _ = writeln!(err, "{file}: {cause}");
     }
 }
@@ -88,7 +94,7 @@ fn run<T: Threads + Wait + Sync>(threads: &T, rt: &HostRuntime) -> Result<u8, Fa
         Ok(request) => {
             let mut input = Input::open(rt, request.file());
             let status = serve_request(threads, rt, &request, &mut input)?;
-            tell_unopened(&request, &input, &mut rt.stderr());
+            tell_unopened(&request, status, &input, &mut rt.stderr());
             Ok(status)
         }
         Err(fault) => Ok(tell_fault(alloc, &fault, &mut rt.stdout(), &mut rt.stderr())),
