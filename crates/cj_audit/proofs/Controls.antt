@@ -11,7 +11,7 @@ use Rattle.cj_types.specs.Names.{longest, longest_cron, char_len, name_cause, na
 use Rattle.cj_types.specs.Objects.{cron_of}
 use Rattle.cj_types.specs.declared.job.Job.{Job}
 use Rattle.cj_types.specs.Owners.{controller_of}
-use Rattle.cj_jobs.specs.Owners.{is_job_of, names}
+use Rattle.cj_table.specs.jobs.Owners.{is_job_of, names}
 use Rattle.cj_table.proofs.Order.{places_total}
 use Rattle.cj_cluster.specs.declared.cron.ClusterCron.{ClusterCron}
 use Rattle.cj_cluster.specs.Content.{Content, IsSound, has_uid, is_of}

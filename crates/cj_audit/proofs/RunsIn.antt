@@ -6,7 +6,7 @@ use Rattle.std.specs.FinMap as map
 use Rattle.cj_types.specs.Keys.{place_cmp}
 use Rattle.cj_types.specs.declared.job.Job.{Job}
 use Rattle.cj_types.specs.Owners.{controller_of}
-use Rattle.cj_jobs.specs.Owners.{is_job_of, owned_by}
+use Rattle.cj_table.specs.jobs.Owners.{is_job_of, owned_by}
 use Rattle.cj_cluster.specs.declared.cron.ClusterCron.{ClusterCron}
 use Rattle.cj_cluster.specs.declared.times.JobTimes.{JobTimes}
 use Rattle.cj_cluster.specs.Content.{Content, has_uid, is_of}

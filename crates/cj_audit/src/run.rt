@@ -2,7 +2,7 @@ ghost use Rattle.std.specs.Prelude.{◌≡◌, ◌++◌, IfOk, IfErr, OnOk, IsTr
 ghost use Rattle.cj_base.specs.declared.refusal.Refusal.TheVariants.{OutOfMemory};
 ghost use Rattle.cj_types.specs.Names.{longest_cron};
 ghost use Rattle.cj_types.specs.Keys.{is_place};
-ghost use Rattle.cj_jobs.specs.Owners.{owned_by};
+ghost use Rattle.cj_table.specs.jobs.Owners.{owned_by};
 ghost use Rattle.cj_audit.specs.Runs.{run_at, runs_in};
 
 use cj_cluster::{Cluster, ClusterCron, JobTimes};

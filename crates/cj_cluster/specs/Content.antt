@@ -6,7 +6,7 @@ use Rattle.std.specs.FinMap as map
 use Rattle.cj_types.specs.Keys.{Place, place_cmp, coded_place}
 use Rattle.cj_types.specs.declared.job.Job.{Job}
 use Rattle.cj_types.specs.contracts.job.Job.{the_row as job}
-use Rattle.cj_jobs.specs.Owners.{is_job_of}
+use Rattle.cj_table.specs.jobs.Owners.{is_job_of}
 use Rattle.cj_types.specs.Owners.{controller_of}
 use Rattle.cj_types.specs.declared.owners.OwnerRef.{OwnerRef}
 use Rattle.std.specs.Str.{bytes_eq}

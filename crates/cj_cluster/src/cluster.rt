@@ -1,14 +1,13 @@
 ghost use Rattle.std.specs.Prelude.{◌≡◌, None, IfOk, IfErr, IfSome, OnOk, OnErr, option_copied};
 ghost use Rattle.std.specs.FinMap as map;
 ghost use Rattle.cj_base.specs.declared.refusal.Refusal.TheVariants.{OutOfMemory};
-ghost use Rattle.cj_jobs.specs.Owners.{owned_by};
+ghost use Rattle.cj_table.specs.jobs.Owners.{owned_by};
 ghost use Rattle.cj_cluster.specs.Content.{nothing, with_cron, with_job};
 
 use crate::cron::ClusterCron;
 use crate::times::JobTimes;
 use cj_base::both;
-use cj_jobs::Jobs;
-use cj_table::Table;
+use cj_table::{Jobs, Table};
 use cj_types::{Job, Key, Listing, Refusal, Shared, TryCopy};
 use std::alloc::Global;
 use std::marker::Model;

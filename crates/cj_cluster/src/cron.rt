@@ -1,6 +1,6 @@
 ghost use Rattle.std.specs.Prelude.{◌≡◌};
 ghost use Rattle.cj_types.specs.Owners.{controller_of};
-ghost use Rattle.cj_jobs.specs.Owners.{is_job_of};
+ghost use Rattle.cj_table.specs.jobs.Owners.{is_job_of};
 ghost use Rattle.cj_cluster.specs.Content.{has_uid, is_of};
 
 use cj_base::both;

@@ -1,11 +1,11 @@
 ghost use Rattle.std.specs.Prelude.{◌≡◌, ◌+◌, length, IfOk, IfErr, OnOk, OnErr};
 ghost use Rattle.cj_base.specs.declared.refusal.Refusal.TheVariants.{OutOfMemory};
-ghost use Rattle.cj_jobs.specs.Owners.{owned_by};
+ghost use Rattle.cj_table.specs.jobs.Owners.{owned_by};
 ghost use Rattle.cj_watch.specs.Numbers.{IsNumbered};
 ghost use Rattle.cj_mirror.specs.Lagging.{new_mirror, fed_with, reset_to};
 
 use crate::telling::{list_jobs, tell_all};
-use cj_jobs::Jobs;
+use cj_table::Jobs;
 use cj_types::{Event, Job, Key, Listing, Refusal, Shared, Version, copy_all};
 use cj_watch::version_of;
 use std::alloc::Global;

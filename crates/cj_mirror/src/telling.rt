@@ -3,7 +3,7 @@ ghost use Rattle.std.specs.Prelude.{◌≡◌, ◌≤◌, IfOk, IfErr, OnOk, OnE
 ghost use Rattle.cj_base.specs.declared.refusal.Refusal.TheVariants.{OutOfMemory};
 ghost use Rattle.cj_mirror.specs.Lagging as jobs_are;
 
-use cj_jobs::Jobs;
+use cj_table::Jobs;
 use cj_types::{Event, Job, Object, Refusal, Shared};
 use std::alloc::Global;
 

@@ -1,7 +1,7 @@
 ghost use Rattle.std.specs.Prelude.{◌≡◌, IfOk, IfErr, OnErr, Ok};
 ghost use Rattle.std.specs.FinMap as map;
 ghost use Rattle.cj_base.specs.declared.refusal.Refusal.TheVariants.{OutOfMemory};
-ghost use Rattle.cj_jobs.specs.Owners.{owned_by};
+ghost use Rattle.cj_table.specs.jobs.Owners.{owned_by};
 ghost use Rattle.cj_seats.specs.declared.seat.Phase.TheVariants.{Seen, Listed, Checked};
 ghost use Rattle.cj_state.specs.Readings.{active_of};
 ghost use Rattle.cj_state.specs.Moves.{see_cron, see_jobs, see_active, moved};

@@ -6,7 +6,7 @@ use Rattle.cj_types.specs.Keys.{place}
 use Rattle.cj_types.specs.Uids.{uid_text}
 use Rattle.cj_types.specs.declared.job.Job.{Job}
 use Rattle.cj_types.specs.declared.owners.OwnerRef.{OwnerRef}
-use Rattle.cj_jobs.specs.Owners.{owned_by}
+use Rattle.cj_table.specs.jobs.Owners.{owned_by}
 use Rattle.cj_cluster.specs.Content.{Content}
 use Rattle.cj_cluster.specs.declared.cron.ClusterCron.{ClusterCron}
 

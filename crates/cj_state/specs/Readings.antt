@@ -9,7 +9,7 @@ use Rattle.cj_types.specs.declared.cron.CronJob.{CronJob}
 use Rattle.cj_types.specs.declared.job.Job.{Job}
 use Rattle.cj_status.specs.Mine.{is_mine}
 use Rattle.cj_store.specs.Content.{Content}
-use Rattle.cj_jobs.specs.Owners.{owned_by}
+use Rattle.cj_table.specs.jobs.Owners.{owned_by}
 use Rattle.cj_watch.specs.Log.{since}
 use Rattle.cj_mirror.specs.Lagging.{Mirror}
 use Rattle.cj_mirror.specs.Laws.{caught_up}

@@ -12,7 +12,7 @@ use Rattle.cj_types.specs.declared.job.Job.{Job}
 use Rattle.cj_types.specs.declared.job.JobDraft.{JobDraft}
 use Rattle.cj_types.specs.declared.policy.Outcome.{Outcome}
 use Rattle.cj_types.specs.declared.policy.Outcome.TheVariants.{Complete, Failed}
-use Rattle.cj_jobs.specs.Owners.{is_job_of}
+use Rattle.cj_table.specs.jobs.Owners.{is_job_of}
 use Rattle.cj_store.specs.Content.{Content}
 use Rattle.cj_store.specs.Equal.{same_job_spec, same_owners}
 use Rattle.cj_store.specs.Metadata.{new_meta, touched, updated, version_not_allowed}

@@ -3,8 +3,7 @@ ghost use Rattle.std.specs.FinMap as map;
 ghost use Rattle.cj_base.specs.declared.refusal.Refusal.TheVariants.{OutOfMemory};
 ghost use Rattle.cj_store.specs.Content.{HasRoom, nothing, IsSound};
 
-use cj_jobs::Jobs;
-use cj_table::Table;
+use cj_table::{Jobs, Table};
 use cj_types::{CronJob, Job, Key, Listing, Refusal, Shared, Version};
 use std::alloc::Global;
 use std::marker::Model;

@@ -1,3 +1,4 @@
+pub mod JobsLemmas
 pub mod Order
 pub mod Gets
 pub mod Puts

@@ -2,8 +2,10 @@
 #![tactic(auto)]
 
 mod in_order;
+mod jobs;
 mod laws;
 mod table;
 
+pub use jobs::Jobs;
 pub use laws::{apart_laws, table_laws};
 pub use table::Table;
