@@ -1,6 +1,6 @@
 -- fault_laws: its clauses one, faulty and told, by the lemmas that Told has for them.
-use Rattle.cj_schedule_laws.proofs.Told.{no_two_faults, faulty_is_no_schedule, told_is_fault}
-use Rattle.cj_schedule_laws.proofs.faults.fault_laws.Goals as goal
+use Rattle.cj_schedule.proofs.OneFaultLemmas.Told.{no_two_faults, faulty_is_no_schedule, told_is_fault}
+use Rattle.cj_schedule.proofs.one_fault.faults.fault_laws.Goals as goal
 
 pub returns-clause-one : goal.returns-clause-one
 returns-clause-one c = no_two_faults

@@ -5,8 +5,8 @@ use Rattle.cj_base.specs.declared.schedule_fault.ScheduleFault.{ScheduleFault}
 use Rattle.cj_schedule.specs.Grammar.{IsSchedule}
 use Rattle.cj_schedule.specs.Matches.{Sets}
 use Rattle.cj_schedule.specs.Reading.{fault_of}
-use Rattle.cj_schedule_laws.specs.OneFault.{IsFaultOf, NoTwoFaults, FaultyIsNoSchedule, ToldIsFault}
-use Rattle.cj_schedule_laws.proofs.faults.fault_in.Goals as goal
+use Rattle.cj_schedule.specs.one_fault.OneFault.{IsFaultOf, NoTwoFaults, FaultyIsNoSchedule, ToldIsFault}
+use Rattle.cj_schedule.proofs.one_fault.faults.fault_in.Goals as goal
 
 -- For the clause found: what is told of a text as its fault is one that it has.
 found_by : (text : List ℕ) (o : Option ScheduleFault) → ToldIsFault → o ≡ fault_of text

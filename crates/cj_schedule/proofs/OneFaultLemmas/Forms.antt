@@ -14,7 +14,7 @@ use Rattle.cj_schedule.proofs.Causes.{cause_sound}
 use Rattle.cj_schedule.proofs.FirstSplits.{lacks, split_none, split_some}
 use Rattle.cj_schedule.proofs.Names.{is_plain, list_all-weaker, digit_plain, value_plain, value_complete}
 use Rattle.cj_schedule.proofs.Elements.{not_star, not_star_dash, lacks-append, element_sound}
-use Rattle.cj_schedule_laws.proofs.Bases.{Kind, Base, Element, star, single, between, base_cases, star_is, StarForm, BetweenForm, star_form, single_form, between_form, star_right, single_right, between_right}
+use Rattle.cj_schedule.proofs.OneFaultLemmas.Bases.{Kind, Base, Element, star, single, between, base_cases, star_is, StarForm, BetweenForm, star_form, single_form, between_form, star_right, single_right, between_right}
 
 abbrev is_slash : ℕ → Bool
 is_slash b = b == slash

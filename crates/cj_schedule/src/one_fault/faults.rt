@@ -2,10 +2,10 @@ ghost use Rattle.std.specs.Prelude.{◌≡◌, Some, IfSome, IfNone};
 ghost use Rattle.cj_base.specs.declared.schedule_fault.ScheduleFault.{ScheduleFault};
 ghost use Rattle.cj_schedule.specs.Grammar.{IsSchedule};
 ghost use Rattle.cj_schedule.specs.Matches.{Sets};
-ghost use Rattle.cj_schedule_laws.specs.OneFault.{IsFaultOf, NoTwoFaults, FaultyIsNoSchedule, ToldIsFault};
+ghost use Rattle.cj_schedule.specs.one_fault.OneFault.{IsFaultOf, NoTwoFaults, FaultyIsNoSchedule, ToldIsFault};
 
 use cj_base::ScheduleFault;
-use cj_schedule::Schedule;
+use crate::schedule::Schedule;
 
 /// No text has two faults, a text that has one is no schedule, and the fault by which a text is refused is
 /// the one that it has.

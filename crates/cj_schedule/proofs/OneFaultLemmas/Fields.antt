@@ -15,8 +15,8 @@ use Rattle.cj_schedule.proofs.Elements.{is_inner, element_inner, element_complet
 use Rattle.cj_schedule.proofs.Lists.{elements_step, list_complete}
 use Rattle.cj_schedule.proofs.Names.{list_all-weaker}
 use Rattle.cj_schedule.proofs.Pieces.{pieces_split}
-use Rattle.cj_schedule_laws.proofs.Bases.{Kind, Element}
-use Rattle.cj_schedule_laws.proofs.Forms.{cause_read}
+use Rattle.cj_schedule.proofs.OneFaultLemmas.Bases.{Kind, Element}
+use Rattle.cj_schedule.proofs.OneFaultLemmas.Forms.{cause_read}
 
 abbrev is_comma : ℕ → Bool
 is_comma b = b == comma

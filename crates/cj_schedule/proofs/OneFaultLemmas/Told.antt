@@ -13,9 +13,9 @@ use Rattle.cj_schedule.specs.Reading.{five, fault, fields_of, begins, has_zone, 
 use Rattle.cj_schedule.proofs.FaultLemmas.{faulty_by}
 use Rattle.cj_schedule.proofs.Laws.{lists_complete}
 use Rattle.cj_schedule.proofs.Words.{texts, words_at, words_complete}
-use Rattle.cj_schedule_laws.specs.OneFault.{IsWhole, IsFaultOf, NoTwoFaults, FaultyIsNoSchedule, ToldIsFault}
-use Rattle.cj_schedule_laws.proofs.Fields.{first_faulty, first_not_zero}
-use Rattle.cj_schedule_laws.proofs.Placed.{placed_read, placed_words}
+use Rattle.cj_schedule.specs.one_fault.OneFault.{IsWhole, IsFaultOf, NoTwoFaults, FaultyIsNoSchedule, ToldIsFault}
+use Rattle.cj_schedule.proofs.OneFaultLemmas.Fields.{first_faulty, first_not_zero}
+use Rattle.cj_schedule.proofs.OneFaultLemmas.Placed.{placed_read, placed_words}
 
 abbrev failed : ScheduleFault → Result Lists ScheduleFault
 failed f = Err f

@@ -1,5 +1,0 @@
-mod Bases
-mod Fields
-mod Forms
-mod Placed
-mod Told

@@ -1,6 +1,0 @@
-//! The law of a schedule's fault: a text that is no schedule has exactly one, and a schedule's text has none.
-#![tactic(auto)]
-
-mod faults;
-
-pub use faults::{fault_in, fault_laws};
