@@ -1,0 +1,7 @@
+// The next civil minute that a schedule allows, and the one before, on a clock with no zone.
+mod day;
+mod minute;
+mod month;
+mod shown;
+
+pub use shown::{next_shown, previous_shown};
