@@ -4,3 +4,4 @@ pub mod Metadata
 pub mod Crons
 pub mod Jobs
 pub mod Change
+pub mod store_laws

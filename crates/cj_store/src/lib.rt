@@ -15,7 +15,9 @@ mod planned_crons;
 mod planned_jobs;
 mod plans;
 mod store;
+mod store_laws;
 
 pub use change::Change;
 pub use laws::equality_laws;
 pub use store::Store;
+pub use store_laws::{answer_laws, event_laws, make_both, sound_laws, update_both};

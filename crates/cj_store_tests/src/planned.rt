@@ -1,7 +1,6 @@
 use crate::boxed::boxed;
 use crate::drafts::{owned_draft, seconds};
-use cj_store::{Store, equality_laws};
-use cj_store_laws::{answer_laws, event_laws, make_both, sound_laws, update_both};
+use cj_store::{Store, answer_laws, equality_laws, event_laws, make_both, sound_laws, update_both};
 use cj_types::{Heap, JobDraft, Key, Refusal};
 use std::alloc::Global;
 

@@ -18,7 +18,7 @@ use Rattle.cj_store.specs.Metadata.{version_not_allowed}
 use Rattle.cj_store.specs.Equal.{same_owners}
 use Rattle.cj_store.specs.Crons.{new_cron, cron_created, updated_cron, cron_updated_from, with_status, status_set_from, last_cron, cron_deleted_from}
 use Rattle.cj_store.specs.Jobs.{new_job, job_made, job_created, updated_job, job_updated_from, is_asked, last_job, job_deleted_from, ended_job, job_ended_from}
-use Rattle.cj_store_laws.specs.Answers.{IsFrom, CronAnswers, JobAnswers}
+use Rattle.cj_store.specs.store_laws.Answers.{IsFrom, CronAnswers, JobAnswers}
 
 -- Where a call is accepted that is refused unless a test holds, the test holds.
 ok_if : {X : Type 0} (b : Bool) (r : Result X Refusal) (y : Refusal) (x : X) → (if b then r else Err y) ≡ Ok x

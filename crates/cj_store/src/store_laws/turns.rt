@@ -1,7 +1,7 @@
 ghost use Rattle.std.specs.Prelude.{◌≡◌, ◌+◌, OnOk};
 ghost use Rattle.cj_store.specs.Content.{HasRoom};
 
-use cj_store::Store;
+use crate::store::Store;
 use cj_types::{Heap, JobDraft, Refusal, Seconds};
 use std::alloc::Global;
 

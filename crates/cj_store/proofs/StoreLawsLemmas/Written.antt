@@ -12,7 +12,7 @@ use Rattle.cj_types.specs.declared.event.Event.TheVariants.{Added, Modified, Del
 use Rattle.cj_table.proofs.Puts.{put_split, removal_split, put_there, removal_there}
 use Rattle.cj_store.specs.Content.{Content, Home, CronAt, JobAt}
 use Rattle.cj_store.specs.Change.{after}
-use Rattle.cj_store_laws.specs.Events.{object_at, home_of, left_by, Writes, EventsWrite}
+use Rattle.cj_store.specs.store_laws.Events.{object_at, home_of, left_by, Writes, EventsWrite}
 
 -- f makes an object of what a map has, and home gives the place of a key of that map.
 module _ {X : Type 0} (f : X → Object) (home : Place → Home) where

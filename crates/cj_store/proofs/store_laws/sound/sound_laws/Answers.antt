@@ -1,6 +1,6 @@
 -- sound_laws: its clauses begins, stays and planned, of what makes a content sound and keeps it so.
-use Rattle.cj_store_laws.proofs.Planned.{begins_sound, stays_sound, plans_sound}
-use Rattle.cj_store_laws.proofs.sound.sound_laws.Goals as goal
+use Rattle.cj_store.proofs.StoreLawsLemmas.Planned.{begins_sound, stays_sound, plans_sound}
+use Rattle.cj_store.proofs.store_laws.sound.sound_laws.Goals as goal
 
 pub returns-clause-begins : goal.returns-clause-begins
 returns-clause-begins c = begins_sound

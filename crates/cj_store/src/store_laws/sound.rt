@@ -1,4 +1,4 @@
-ghost use Rattle.cj_store_laws.specs.Sound.{BeginsSound, StaysSound, PlansSound};
+ghost use Rattle.cj_store.specs.store_laws.Sound.{BeginsSound, StaysSound, PlansSound};
 
 /// The content keeps that each object stands at its own key, that uids and versions of the current objects
 /// are within the counts, and that no uid stands twice: so it begins, and so it stays after each write that

@@ -19,8 +19,8 @@ use Rattle.cj_store.specs.Crons.{cron_created, cron_updated, status_set, cron_de
 use Rattle.cj_store.specs.Jobs.{job_created, job_made, job_updated, job_deleted, job_ended}
 use Rattle.cj_store.specs.Change.{after, map_ok, IsFor, cron_added, cron_modified, cron_gone, job_added, job_modified, job_gone}
 use Rattle.cj_store.proofs.Kept.{put_cron_sound, remove_cron_sound, put_job_sound, remove_job_sound, new_sound, standing_uid, updated_generation, cron_uid_there, job_uid_there, owners_there}
-use Rattle.cj_store_laws.specs.Sound.{BeginsSound, StaysSound, PlansSound}
-use Rattle.cj_store_laws.proofs.Answered.{cron_answers, job_answers}
+use Rattle.cj_store.specs.store_laws.Sound.{BeginsSound, StaysSound, PlansSound}
+use Rattle.cj_store.proofs.StoreLawsLemmas.Answered.{cron_answers, job_answers}
 
 -- For sound_laws, clause begins: the content before the first write is sound.
 pub begins_sound : BeginsSound

@@ -1,4 +1,4 @@
-ghost use Rattle.cj_store_laws.specs.Answers.{CronAnswers, JobAnswers};
+ghost use Rattle.cj_store.specs.store_laws.Answers.{CronAnswers, JobAnswers};
 
 /// What each call's answer is, where it is accepted: of a create the new object, at whose key nothing stood;
 /// of any other call the object that stood at the key, changed as the call says, with the uid and the version
