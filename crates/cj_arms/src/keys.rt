@@ -5,19 +5,18 @@ ghost use Rattle.cj_types.specs.declared.event.Event.{Event};
 ghost use Rattle.cj_calls.specs.declared.reply.Reply.TheVariants.{Version};
 ghost use Rattle.cj_watch.specs.Numbers.{IsNumbered};
 ghost use Rattle.cj_watch.specs.Log.{since};
-ghost use Rattle.cj_mirror.specs.Lagging.{fed_with, reset_to};
-ghost use Rattle.cj_mirror.specs.Laws.{caught_up};
+ghost use Rattle.cj_watch.specs.mirror.Lagging.{fed_with, reset_to};
+ghost use Rattle.cj_watch.specs.mirror.Laws.{caught_up};
 ghost use Rattle.cj_state.specs.Sound.{IsSound};
 ghost use Rattle.cj_state.specs.Moves.{moved};
 ghost use Rattle.cj_state.specs.Step.{add, tick, shut, feed};
 
 use cj_base::both;
 use cj_calls::{Answered, Reply};
-use cj_mirror::Mirror;
+use cj_watch::{Mirror, WatchLog};
 use cj_state::State;
 use cj_store::Store;
 use cj_types::{Event, Job, Key, Listing, Max, Millis, Refusal, Shared};
-use cj_watch::WatchLog;
 use std::alloc::Global;
 
 /// Adds a key to the queue.

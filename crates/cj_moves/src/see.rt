@@ -9,7 +9,7 @@ ghost use Rattle.cj_state.specs.Moves.{see_cron, see_jobs, see_active, moved};
 use crate::active::active_of;
 use cj_base::{all_three, both};
 use cj_calls::{Answered, Reply};
-use cj_mirror::Mirror;
+use cj_watch::Mirror;
 use cj_seats::{Phase, Seat};
 use cj_state::{State, refused, seat_in};
 use cj_store::Store;

@@ -11,8 +11,8 @@ use Rattle.cj_status.specs.Mine.{is_mine}
 use Rattle.cj_store.specs.Content.{Content}
 use Rattle.cj_table.specs.jobs.Owners.{owned_by}
 use Rattle.cj_watch.specs.Log.{since}
-use Rattle.cj_mirror.specs.Lagging.{Mirror}
-use Rattle.cj_mirror.specs.Laws.{caught_up}
+use Rattle.cj_watch.specs.mirror.Lagging.{Mirror}
+use Rattle.cj_watch.specs.mirror.Laws.{caught_up}
 use Rattle.cj_state.specs.declared.state.State.{State}
 
 -- the Jobs of a CronJob's key as the list has them, in order of name

@@ -13,7 +13,7 @@ use Rattle.cj_store.specs.Change.{map_ok, cron_added, cron_modified, cron_gone, 
 use Rattle.cj_store.specs.Crons.{cron_created, cron_updated, cron_deleted}
 use Rattle.cj_store.specs.Jobs.{job_created, job_updated, job_deleted, job_ended}
 use Rattle.cj_watch.specs.Log.{new_log, since}
-use Rattle.cj_mirror.specs.Lagging.{new_mirror}
+use Rattle.cj_watch.specs.mirror.Lagging.{new_mirror}
 use Rattle.cj_queue.specs.Queue.{new_queue, added, ticked, closed}
 use Rattle.cj_calls.specs.declared.caller.Caller.{Caller}
 use Rattle.cj_calls.specs.declared.caller.Role.{Role}

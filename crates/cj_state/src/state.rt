@@ -6,12 +6,11 @@ ghost use Rattle.cj_store.specs.Change.{IsFor};
 ghost use Rattle.cj_types.specs.Events.{version_of};
 
 use cj_calls::Answered;
-use cj_mirror::Mirror;
+use cj_watch::{Mirror, WatchLog};
 use cj_queue::Queue;
 use cj_seats::{Seat, Seats};
 use cj_store::{Change, Store};
 use cj_types::{Heap, Refusal, TryCopy};
-use cj_watch::WatchLog;
 use std::alloc::Global;
 
 /// What a world holds beside its history: the objects, the events of the latest writes, the Jobs as lists

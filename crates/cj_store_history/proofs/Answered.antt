@@ -16,8 +16,8 @@ use Rattle.cj_types.specs.declared.event.Object.TheVariants as Kind
 use Rattle.cj_queue.specs.Parts.{key_eq}
 use Rattle.cj_queue.proofs.Sets.{eq_true}
 use Rattle.cj_table.specs.jobs.Owners.{is_job_of}
-use Rattle.cj_mirror.specs.Lagging.{Mirror}
-use Rattle.cj_mirror.specs.Laws.{next_fed}
+use Rattle.cj_watch.specs.mirror.Lagging.{Mirror}
+use Rattle.cj_watch.specs.mirror.Laws.{next_fed}
 use Rattle.cj_store.specs.Change.{map_ok, cron_modified, job_added, job_gone}
 use Rattle.cj_store.specs.Crons.{status_set as sets_status}
 use Rattle.cj_store.specs.Jobs.{job_made, job_deleted as deletes_job}

@@ -19,9 +19,9 @@ use Rattle.cj_watch.specs.Numbers.{IsNumbered}
 use Rattle.cj_watch.specs.Log.{Log, new_log, pushed, since}
 use Rattle.cj_watch.specs.Laws.{log_of}
 use Rattle.cj_watch.proofs.Logs.{tells_all}
-use Rattle.cj_mirror.specs.Lagging.{Jobs, Mirror, told, mirror_of}
-use Rattle.cj_mirror.specs.Laws.{jobs_after, mirror_after, caught_up, next_fed}
-use Rattle.cj_mirror.proofs.Following.{mirrors_follow}
+use Rattle.cj_watch.specs.mirror.Lagging.{Jobs, Mirror, told, mirror_of}
+use Rattle.cj_watch.specs.mirror.Laws.{jobs_after, mirror_after, caught_up, next_fed}
+use Rattle.cj_watch.proofs.MirrorLemmas.Following.{mirrors_follow}
 use Rattle.cj_calls.specs.declared.call.Call.{Call}
 use Rattle.cj_calls.specs.declared.call.Call.TheVariants as Of
 use Rattle.cj_calls.specs.declared.reply.Reply.{Reply}

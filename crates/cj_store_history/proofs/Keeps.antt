@@ -22,7 +22,7 @@ use Rattle.cj_store.specs.Change.{after, map_ok, cron_added, cron_modified, cron
 use Rattle.cj_store.specs.Crons.{new_cron, updated_cron, cron_updated_from, cron_deleted_from, status_set_from, with_status, last_cron}
 use Rattle.cj_store.specs.Jobs.{new_job, updated_job, job_updated_from, job_deleted_from, is_asked, last_job, ended_job, job_ended_from}
 use Rattle.cj_watch.specs.Log.{Log, pushed, since}
-use Rattle.cj_mirror.specs.Lagging.{Mirror}
+use Rattle.cj_watch.specs.mirror.Lagging.{Mirror}
 use Rattle.cj_queue.specs.Queue.{first}
 use Rattle.cj_decide.specs.Decision.{Planned}
 use Rattle.cj_decide.specs.declared.start.Claim.{Claim}

@@ -11,7 +11,7 @@ use Rattle.cj_types.specs.declared.job.Job.{Job}
 use Rattle.cj_types.specs.declared.event.Event.{Event}
 use Rattle.cj_store.specs.Change.{map_ok}
 use Rattle.cj_table.specs.jobs.Owners.{is_job_of}
-use Rattle.cj_mirror.specs.Laws.{next_fed}
+use Rattle.cj_watch.specs.mirror.Laws.{next_fed}
 use Rattle.cj_watch.specs.Laws.{answer_in}
 use Rattle.cj_decide.specs.Decision.{Planned}
 use Rattle.cj_decide.specs.declared.start.Claim.{Claim}

@@ -10,8 +10,8 @@ use Rattle.cj_calls.specs.declared.call.Call.{Call}
 use Rattle.cj_calls.specs.declared.call.Call.TheVariants as Of
 use Rattle.cj_calls.specs.declared.reply.Reply.{Reply}
 use Rattle.cj_calls.specs.Rows.{Told}
-use Rattle.cj_mirror.specs.Lagging.{Mirror}
-use Rattle.cj_mirror.specs.Laws.{next_fed}
+use Rattle.cj_watch.specs.mirror.Lagging.{Mirror}
+use Rattle.cj_watch.specs.mirror.Laws.{next_fed}
 use Rattle.cj_state.specs.Legal.{IsLegal, state_of}
 use Rattle.cj_store_history.specs.Written.{version, current_job}
 use Rattle.cj_store_history.specs.Writes.{writes}

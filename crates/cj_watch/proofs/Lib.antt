@@ -1,3 +1,4 @@
+pub mod MirrorLemmas
 pub mod Pieces
 pub mod Numbered
 pub mod Logs

@@ -1,3 +1,4 @@
 pub mod Numbers
 pub mod Log
 pub mod Laws
+pub mod mirror

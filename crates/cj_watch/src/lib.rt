@@ -3,11 +3,13 @@
 
 mod laws;
 mod log;
+mod mirror;
 mod number;
 mod ring;
 mod window;
 
 pub use laws::watch_laws;
 pub use log::WatchLog;
+pub use mirror::{Mirror, mirror_laws};
 pub use number::version_of;
 pub use window::Window;

@@ -1,8 +1,7 @@
 use crate::boxed::boxed;
 use crate::events::{event, job};
-use cj_mirror::Mirror;
+use cj_watch::{Mirror, WatchLog, Window};
 use cj_types::{Job, Key, Max, Refusal, Shared};
-use cj_watch::{WatchLog, Window};
 use std::alloc::Global;
 
 // Which of the two Jobs stand after a write of this tag, by what stood before.

@@ -13,14 +13,13 @@ use crate::advance::{Made, advance};
 use cj_base::both;
 use cj_calls::{Answer, Call, Caller, Entry};
 use cj_legal::exclusive_law;
-use cj_mirror::Mirror;
+use cj_watch::{Mirror, WatchLog, Window};
 use cj_once::{once_law, time_law};
 use cj_queue::Queue;
 use cj_seats::Seats;
 use cj_state::State;
 use cj_store::Store;
 use cj_types::{CronJob, Job, Key, Limits, Listing, Refusal, Shared, Version};
-use cj_watch::{WatchLog, Window};
 use std::alloc::Global;
 use std::marker::Model;
 

@@ -1,8 +1,8 @@
 -- last_version: its clause where there is a last event, whose version is before plus their number.
 use Rattle.std.proofs.Common.{◌≡◌, ◌-◌, length, slice_get, Some, sym, ap, ◌∙◌}
 use Rattle.std.specs.Option.{option_copied}
-use Rattle.cj_mirror.proofs.Numbered.{last_is}
-use Rattle.cj_mirror.proofs.mirror.last_version.Goals as goal
+use Rattle.cj_watch.proofs.MirrorLemmas.Numbered.{last_is}
+use Rattle.cj_watch.proofs.mirror.mirror.last_version.Goals as goal
 
 pub returns-in-Some : goal.returns-in-Some
 returns-in-Some c =

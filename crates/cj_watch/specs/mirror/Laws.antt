@@ -9,7 +9,7 @@ use Rattle.cj_types.specs.declared.job.Job.{Job}
 use Rattle.cj_watch.specs.Log.{since}
 use Rattle.cj_watch.specs.Laws.{log_of}
 use Rattle.cj_watch.specs.Numbers.{IsNumbered}
-use Rattle.cj_mirror.specs.Lagging.{Jobs, Mirror, told_all, mirror_of, fed_with, reset_to}
+use Rattle.cj_watch.specs.mirror.Lagging.{Jobs, Mirror, told_all, mirror_of, fed_with, reset_to}
 
 -- the Jobs that all of these writes leave
 abbrev pub jobs_after : List Event → Jobs

@@ -24,8 +24,8 @@ use Rattle.cj_table.proofs.Puts.{alike, one_key}
 use Rattle.cj_watch.specs.Numbers.{IsNumbered}
 use Rattle.cj_watch.proofs.Logs.{tells_all}
 use Rattle.cj_watch.proofs.Numbered.{numbered_drop, numbered_take}
-use Rattle.cj_mirror.specs.Lagging.{Jobs, with_job, told, told_all, listed, mirror_of, fed_with, reset_to}
-use Rattle.cj_mirror.specs.Laws.{jobs_after, mirror_after, caught_up, MirrorsFollow}
+use Rattle.cj_watch.specs.mirror.Lagging.{Jobs, with_job, told, told_all, listed, mirror_of, fed_with, reset_to}
+use Rattle.cj_watch.specs.mirror.Laws.{jobs_after, mirror_after, caught_up, MirrorsFollow}
 
 -- ---- each Job stands at its own key
 

@@ -2,12 +2,12 @@ ghost use Rattle.std.specs.Prelude.{◌≡◌, ◌+◌, length, IfOk, IfErr, OnO
 ghost use Rattle.cj_base.specs.declared.refusal.Refusal.TheVariants.{OutOfMemory};
 ghost use Rattle.cj_table.specs.jobs.Owners.{owned_by};
 ghost use Rattle.cj_watch.specs.Numbers.{IsNumbered};
-ghost use Rattle.cj_mirror.specs.Lagging.{new_mirror, fed_with, reset_to};
+ghost use Rattle.cj_watch.specs.mirror.Lagging.{new_mirror, fed_with, reset_to};
 
-use crate::telling::{list_jobs, tell_all};
+use crate::mirror::telling::{list_jobs, tell_all};
 use cj_table::Jobs;
 use cj_types::{Event, Job, Key, Listing, Refusal, Shared, Version, copy_all};
-use cj_watch::version_of;
+use crate::number::version_of;
 use std::alloc::Global;
 use std::marker::Model;
 
@@ -39,7 +39,7 @@ impl Drop for Mirror {
 
 impl Model for Mirror {
     ghost use Rattle.std.specs.Prelude.{◌≤◌, drop, length};
-    ghost use Rattle.cj_mirror.specs.Lagging.{Mirror, mirror_code, mirror_of, told_all};
+    ghost use Rattle.cj_watch.specs.mirror.Lagging.{Mirror, mirror_code, mirror_of, told_all};
 
     ghost Value = { Mirror };
 

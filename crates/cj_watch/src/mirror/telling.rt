@@ -1,7 +1,7 @@
 // What events and lists make of the Jobs.
 ghost use Rattle.std.specs.Prelude.{◌≡◌, ◌≤◌, IfOk, IfErr, OnOk, OnErr, length, drop};
 ghost use Rattle.cj_base.specs.declared.refusal.Refusal.TheVariants.{OutOfMemory};
-ghost use Rattle.cj_mirror.specs.Lagging as jobs_are;
+ghost use Rattle.cj_watch.specs.mirror.Lagging as jobs_are;
 
 use cj_table::Jobs;
 use cj_types::{Event, Job, Object, Refusal, Shared};
@@ -9,7 +9,7 @@ use std::alloc::Global;
 
 // Puts the Job at its key, whatever stands there, and copies none. Where there is no memory nothing may stand
 // there, until it is put again.
-#[tactic(auto, using(crate::proofs::Puts::put_removal, crate::proofs::Puts::gone_at))]
+#[tactic(auto, using(crate::proofs::MirrorLemmas::Puts::put_removal, crate::proofs::MirrorLemmas::Puts::gone_at))]
 fn put(jobs: &mut Jobs, alloc: Global, job: &Shared<Job>) -> Result<(), Refusal>
     ensures ok { OnOk result (jobs.new ≡ jobs_are.with_job jobs.old job.now) }
     ensures err { OnErr result (jobs_are.with_job jobs.new job.now
