@@ -1,3 +1,4 @@
+pub mod LawsLemmas
 pub mod TimesLemmas
 pub mod Sets
 pub mod LineLemmas

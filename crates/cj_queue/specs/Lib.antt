@@ -1,3 +1,4 @@
 pub mod Times
 pub mod Queue
 pub mod Parts
+pub mod laws

@@ -9,9 +9,11 @@
 mod backoff;
 mod failures;
 mod key_list;
+mod laws;
 mod line;
 mod queue;
 mod waits;
 mod work;
 
+pub use laws::{queue_laws, row_laws};
 pub use queue::Queue;

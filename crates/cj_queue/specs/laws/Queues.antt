@@ -3,7 +3,7 @@ use Rattle.std.specs.Prelude.{◌≡◌, ℕ, true, Option}
 use Rattle.std.specs.FinMap.{empty}
 use Rattle.cj_types.specs.Keys.{Place}
 use Rattle.cj_queue.specs.Queue.{Queue, has, new_queue, added, taken, ended, added_after, ticked, closed, failed, forgotten, finished_ok, finished_retry}
-use Rattle.cj_queue_laws.specs.Rows.{IsStingy}
+use Rattle.cj_queue.specs.laws.Rows.{IsStingy}
 
 -- some calls leave a new queue so; work that ends is on a key that is being worked on
 pub data IsReached : Queue → Type 0 where

@@ -4,8 +4,8 @@ use Rattle.std.specs.Prelude.{if◌then◌else◌}
 use Rattle.std.specs.FinMap as map
 use Rattle.cj_types.specs.Keys.{Place, place_cmp}
 use Rattle.cj_queue.specs.Queue.{Keys, Row, has, new_row, row_add, row_adds, take_in, row_take, row_end}
-use Rattle.cj_queue_laws.specs.Rows.{IsIn, IsStingy, RowsStayStingy}
-use Rattle.cj_queue_laws.proofs.Lines.{clash, same_or_other, in_pushed, in_before, in_last, once_pushed, has_new, has_apart, has_gone, has_other, has_still, has_no_more}
+use Rattle.cj_queue.specs.laws.Rows.{IsIn, IsStingy, RowsStayStingy}
+use Rattle.cj_queue.proofs.LawsLemmas.Lines.{clash, same_or_other, in_pushed, in_before, in_last, once_pushed, has_new, has_apart, has_gone, has_other, has_still, has_no_more}
 
 -- The row of a line, of the dirty keys and of those that are being worked on.
 abbrev row : List Place → Keys → Keys → Row

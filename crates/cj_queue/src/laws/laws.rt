@@ -1,5 +1,5 @@
-ghost use Rattle.cj_queue_laws.specs.Queues.{QueuesAreStingy};
-ghost use Rattle.cj_queue_laws.specs.Rows.{RowsStayStingy};
+ghost use Rattle.cj_queue.specs.laws.Queues.{QueuesAreStingy};
+ghost use Rattle.cj_queue.specs.laws.Rows.{RowsStayStingy};
 
 /// The law of the line and its two sets: each call keeps that a key of the line wants work, is not being
 /// worked on and stands there once, and that a key that wants work stands in the line unless it is being

@@ -4,10 +4,10 @@ use Rattle.std.specs.Prelude.{if◌then◌else◌}
 use Rattle.cj_types.specs.Keys.{Place}
 use Rattle.cj_queue.specs.Queue.{Row, Queue, has, row_add, added, ended, added_after, added_where, ticked, delay, failures_of, failed, forgotten, with_row}
 use Rattle.cj_queue.specs.Times.{ready}
-use Rattle.cj_queue_laws.specs.Rows.{IsStingy}
-use Rattle.cj_queue_laws.specs.Queues.{IsStingyQueue, QueuesAreStingy, new, add, take, done, add_after, tick, shut, fail, forget, finish_ok, finish_retry}
-use Rattle.cj_queue_laws.proofs.Lines.{clash}
-use Rattle.cj_queue_laws.proofs.Rows.{new_keeps, add_keeps, adds_keep, take_keeps, end_keeps}
+use Rattle.cj_queue.specs.laws.Rows.{IsStingy}
+use Rattle.cj_queue.specs.laws.Queues.{IsStingyQueue, QueuesAreStingy, new, add, take, done, add_after, tick, shut, fail, forget, finish_ok, finish_retry}
+use Rattle.cj_queue.proofs.LawsLemmas.Lines.{clash}
+use Rattle.cj_queue.proofs.LawsLemmas.Rows.{new_keeps, add_keeps, adds_keep, take_keeps, end_keeps}
 
 -- another row, and the rest as it was
 with_its_row : (q : Queue) (r : Row) → IsStingyQueue q → IsStingy r → IsStingyQueue (with_row q r)

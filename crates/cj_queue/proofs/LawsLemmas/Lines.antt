@@ -6,7 +6,7 @@ use Rattle.cj_table.proofs.Apart.{places_apart}
 use Rattle.cj_queue.specs.Parts.{key_eq}
 use Rattle.cj_queue.specs.Queue.{Keys, has}
 use Rattle.cj_queue.proofs.Sets.{eq_true, eq_self}
-use Rattle.cj_queue_laws.specs.Rows.{IsIn, AreOnce}
+use Rattle.cj_queue.specs.laws.Rows.{IsIn, AreOnce}
 
 -- A test that is both true and false: from this, anything follows.
 pub clash : {A : Type 0} (b : Bool) → b ≡ true → b ≡ false → A

@@ -1,6 +1,0 @@
-//! Laws of the work queue, over its calls as `cj_queue` states them.
-#![tactic(auto)]
-
-mod laws;
-
-pub use laws::{queue_laws, row_laws};
