@@ -2,3 +2,4 @@ pub mod Verdicts
 pub mod Start
 pub mod Finally
 pub mod Decision
+pub mod laws

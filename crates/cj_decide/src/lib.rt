@@ -3,6 +3,7 @@
 
 mod existence;
 mod finally;
+mod laws;
 mod plan;
 mod start;
 mod steps;
@@ -11,6 +12,7 @@ mod verdict;
 
 pub use cj_status::{JobRef, JobRefs};
 pub use existence::plan_exists;
+pub use laws::{fits_law, plan_laws};
 pub use plan::{Plan, decide};
 pub use start::Claim;
 pub use steps::Steps;

@@ -29,7 +29,7 @@ use Rattle.cj_state.specs.declared.state.State.{State}
 use Rattle.cj_state.specs.Readings.{listed_of, if_mine, active_job, active_of}
 use Rattle.cj_state.specs.Moves.{Moved, moved, seat_of, seated, by_seat, take_first, take_by, take, see_cron_in, see_cron, see_jobs_in, see_jobs, see_active_in, see_active, leaves, next_ms, finish_work, finish_in, finish}
 use Rattle.cj_state.specs.Step.{writes, found_cron, found_job, told_events, by_reader, by_user, by_runner, by_informer}
-use Rattle.cj_decide_laws.specs.Fits.{IsAt, IsHere, IsFoundIn, runs}
+use Rattle.cj_decide.specs.laws.Fits.{IsAt, IsHere, IsFoundIn, runs}
 use Rattle.cj_once.specs.Once.{Claimed}
 use Rattle.cj_once.proofs.Lists.{runs_mine}
 use Rattle.cj_once.proofs.Facts.{Homes, SeenFact, CheckedFact, SeatFact, IsLine, Inv}

@@ -16,7 +16,7 @@ use Rattle.cj_store.specs.Change.{map_ok, cron_modified}
 use Rattle.cj_store.specs.Crons.{status_set}
 use Rattle.cj_decide.specs.Decision.{Planned, IsPlan, IsDecided}
 use Rattle.cj_decide.specs.declared.start.Claim.{Claim}
-use Rattle.cj_decide_laws.proofs.Claims.{claims_latest}
+use Rattle.cj_decide.proofs.LawsLemmas.Claims.{claims_latest}
 use Rattle.cj_calls.specs.Rows.{Told}
 use Rattle.cj_calls.specs.declared.caller.Caller.{Caller}
 use Rattle.cj_calls.specs.declared.caller.Role.{Role}

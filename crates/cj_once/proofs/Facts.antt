@@ -18,7 +18,7 @@ use Rattle.cj_seats.specs.Steps.{Step, makes, sets, left}
 use Rattle.cj_seats.specs.declared.seat.Seat.{Seat}
 use Rattle.cj_seats.specs.declared.seat.Phase.{Phase}
 use Rattle.cj_seats.specs.declared.seat.Phase.TheVariants.{Held, Seen, Listed, Checked, Works}
-use Rattle.cj_decide_laws.specs.Fits.{IsAt, IsFound, is_strict, upto}
+use Rattle.cj_decide.specs.laws.Fits.{IsAt, IsFound, is_strict, upto}
 use Rattle.cj_once.specs.Once.{Claimed}
 use Rattle.cj_once.proofs.Lists.{IsIn, Before, Ordered, Rest}
 

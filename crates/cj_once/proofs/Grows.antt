@@ -15,7 +15,7 @@ use Rattle.cj_store.specs.Content.{Content}
 use Rattle.cj_seats.specs.Steps.{Step, left}
 use Rattle.cj_seats.specs.declared.seat.Phase.{Phase}
 use Rattle.cj_seats.specs.declared.seat.Phase.TheVariants.{Held, Seen, Listed, Checked, Works}
-use Rattle.cj_decide_laws.specs.Fits.{IsAt, runs, upto}
+use Rattle.cj_decide.specs.laws.Fits.{IsAt, runs, upto}
 use Rattle.cj_once.specs.Once.{Claimed}
 use Rattle.cj_once.proofs.Lists.{Rest, weaker, runs_was, runs_free, runs_owned}
 use Rattle.cj_once.proofs.Facts.{Homes, Named, CronFact, IsOwned, StoreFact, SeenFact, CheckedFact, MakeFact, StatusFact, PlanFact, SeatFact}

@@ -16,7 +16,7 @@ use Rattle.cj_status.specs.declared.refs.JobRef.{JobRef}
 use Rattle.cj_decide.specs.declared.steps.Steps.{Steps}
 use Rattle.cj_status.specs.Mine.{is_mine, has_uid}
 use Rattle.cj_seats.specs.Steps.{Step, drops, makes, sets, makings, settings, all_steps}
-use Rattle.cj_decide_laws.specs.Fits.{IsAmong, runs}
+use Rattle.cj_decide.specs.laws.Fits.{IsAmong, runs}
 use Rattle.cj_once.proofs.Uids.{uid_same}
 
 -- one of these

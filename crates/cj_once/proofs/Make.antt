@@ -25,7 +25,7 @@ use Rattle.cj_seats.specs.declared.seat.Phase.{Phase}
 use Rattle.cj_seats.specs.declared.seat.Phase.TheVariants.{Held, Seen, Listed, Checked, Works}
 use Rattle.cj_state.specs.declared.state.State.{State}
 use Rattle.cj_state.specs.Moves.{Moved, refused, seat_of, by_seat, next_seat, steps_on, event_reply, make_where, make_in, make_next}
-use Rattle.cj_decide_laws.specs.Fits.{IsAt, runs, upto, is_strict}
+use Rattle.cj_decide.specs.laws.Fits.{IsAt, runs, upto, is_strict}
 use Rattle.cj_once.specs.Once.{Claimed, is_ok, with_made}
 use Rattle.cj_once.proofs.Maps.{put_at, seat_put}
 use Rattle.cj_once.proofs.Lists.{none_made, Rest, runs_owned, weaker}

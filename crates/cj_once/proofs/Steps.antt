@@ -31,7 +31,7 @@ use Rattle.cj_seats.specs.declared.seat.Phase.{Phase}
 use Rattle.cj_seats.specs.declared.seat.Phase.TheVariants.{Checked, Works}
 use Rattle.cj_state.specs.declared.state.State.{State}
 use Rattle.cj_state.specs.Moves.{Moved, refused, seat_of, by_seat, works, seen_version, wrote, claims, claim_where, claim_in, claim, further, next_seat, steps_on, drops_it, drop_where, drop_in, drop_next, sets_it, status_where, status_in, set_status, version_reply}
-use Rattle.cj_decide_laws.specs.Fits.{IsAt, IsAmong, IsFound, upto, Starts, Waits, FitsWith, FitsFor, Fits, Keeps}
+use Rattle.cj_decide.specs.laws.Fits.{IsAt, IsAmong, IsFound, upto, Starts, Waits, FitsWith, FitsFor, Fits, Keeps}
 use Rattle.cj_once.specs.Once.{Claimed, claimed_under, claimed_of, claim_answered}
 use Rattle.cj_once.proofs.Maps.{removal_at, put_at}
 use Rattle.cj_once.proofs.Lists.{Before, Rest, before_all, in_all_makes, in_all_sets, all_ordered, both_true, weaker}

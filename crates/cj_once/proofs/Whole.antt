@@ -18,8 +18,8 @@ use Rattle.cj_state.specs.declared.state.State.{State}
 use Rattle.cj_state.specs.Moves.{Moved, refused, make_next}
 use Rattle.cj_state.specs.Step.{by_user, by_runner, by_informer, by_worker, by_role, step_of, start}
 use Rattle.cj_state.specs.Legal.{state_of, IsLegal, IsPlanned, ArePlanned}
-use Rattle.cj_decide_laws.specs.Fits.{runs, is_strict, Fits}
-use Rattle.cj_decide_laws.proofs.Fitting.{decided_fits}
+use Rattle.cj_decide.specs.laws.Fits.{runs, is_strict, Fits}
+use Rattle.cj_decide.proofs.LawsLemmas.Fitting.{decided_fits}
 use Rattle.std.specs.List.{AllByRecursion}
 use Rattle.cj_once.specs.Once.{Claimed, claim_after, claim_of, is_ok, makes_with, is_making, with_made, makes, Once, Alone, OnceAndAlone}
 use Rattle.cj_once.proofs.Lists.{weaker}

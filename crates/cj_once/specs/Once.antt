@@ -18,7 +18,7 @@ use Rattle.cj_calls.specs.declared.call.Call.TheVariants as Of
 use Rattle.cj_calls.specs.declared.reply.Reply.{Reply}
 use Rattle.cj_calls.specs.declared.reply.Reply.TheVariants as Say
 use Rattle.cj_state.specs.Legal.{state_of, IsLegal, ArePlanned}
-use Rattle.cj_decide_laws.specs.Fits.{runs, is_strict}
+use Rattle.cj_decide.specs.laws.Fits.{runs, is_strict}
 
 -- what an accepted claim recorded: for whom, which time, and the policy that stood
 pub record Claimed : Type 0 where

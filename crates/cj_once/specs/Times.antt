@@ -15,7 +15,7 @@ use Rattle.cj_seats.specs.declared.seat.Seat.{Seat}
 use Rattle.cj_state.specs.declared.state.State.{State}
 use Rattle.cj_state.specs.Moves.{seat_of}
 use Rattle.cj_state.specs.Legal.{state_of, IsLegal, ArePlanned}
-use Rattle.cj_decide_laws.specs.Laws.{IsClaimed}
+use Rattle.cj_decide.specs.laws.Laws.{IsClaimed}
 
 -- the entry is an accepted claim of the plan, for the time
 pub record IsClaim (e : Told) (p : Planned) (time : ℕ) : Type 0 where

@@ -9,7 +9,7 @@ use Rattle.cj_status.specs.Picked.{gathered}
 use Rattle.cj_status.specs.Refs.{is_older}
 use Rattle.cj_status.proofs.Orders.{by_sorting}
 use Rattle.cj_status.proofs.Sorts.{rising_in_order}
-use Rattle.cj_decide_laws.specs.Laws.{OldestFirst, AllRunning}
+use Rattle.cj_decide.specs.laws.Laws.{OldestFirst, AllRunning}
 
 -- For plan_laws: the unfinished Jobs of a CronJob come by creation time, then name.
 pub oldest_first : OldestFirst

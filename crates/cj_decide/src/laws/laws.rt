@@ -1,5 +1,5 @@
-ghost use Rattle.cj_decide_laws.specs.Fits.{DecidedFits};
-ghost use Rattle.cj_decide_laws.specs.Laws.{OnePlan, ClaimsLatest, ClaimsInTime, NoClaim, OldestFirst, AllRunning, CleansFinished, NamesAtEnd};
+ghost use Rattle.cj_decide.specs.laws.Fits.{DecidedFits};
+ghost use Rattle.cj_decide.specs.laws.Laws.{OnePlan, ClaimsLatest, ClaimsInTime, NoClaim, OldestFirst, AllRunning, CleansFinished, NamesAtEnd};
 
 /// The laws of plans: each CronJob or none, with the listed Jobs, the live read, the moment and the zone, has
 /// one plan at most; a plan that claims a time claims the latest one missed, which is above the last one and

@@ -11,7 +11,7 @@ use Rattle.cj_status.specs.Active.{placed, names_with, is_found, still_active}
 use Rattle.cj_status.specs.Order.{put_in, in_order}
 use Rattle.cj_status.specs.Picked.{gathered}
 use Rattle.cj_status.specs.Refs.{ref}
-use Rattle.cj_decide_laws.specs.Laws.{IsIn, IsFoundOf}
+use Rattle.cj_decide.specs.laws.Laws.{IsIn, IsFoundOf}
 
 module _ {X : Type 0} where
   -- What stands in a list stands in it with another list behind.

@@ -21,9 +21,9 @@ use Rattle.cj_decide.specs.declared.steps.Steps.{Steps}
 use Rattle.cj_decide.specs.Start.{claim_of}
 use Rattle.cj_decide.specs.Finally.{with_made, active_after, final, standing, IsStatusStep, cleanup_of}
 use Rattle.cj_decide.specs.Decision.{running_of, claim_by, IsDecision}
-use Rattle.cj_decide_laws.specs.Laws.{IsIn, IsCleaned, CleansFinished, IsFoundOf, IsMadeName, IsNamed, is_replacing, NamesAtEnd}
-use Rattle.cj_decide_laws.proofs.Members.{in_parts, in_filtered, in_ordered, in_gathered, with_has, with_one, with_others, still_has, has_still}
-use Rattle.cj_decide_laws.proofs.Verdicts.{verdict_replaces}
+use Rattle.cj_decide.specs.laws.Laws.{IsIn, IsCleaned, CleansFinished, IsFoundOf, IsMadeName, IsNamed, is_replacing, NamesAtEnd}
+use Rattle.cj_decide.proofs.LawsLemmas.Members.{in_parts, in_filtered, in_ordered, in_gathered, with_has, with_one, with_others, still_has, has_still}
+use Rattle.cj_decide.proofs.LawsLemmas.Verdicts.{verdict_replaces}
 
 -- ---- cleanup
 

@@ -9,7 +9,7 @@ use Rattle.cj_due.specs.declared.answer.Missed.TheVariants as Kind
 use Rattle.cj_decide.specs.declared.verdict.Verdict.{Verdict}
 use Rattle.cj_decide.specs.Verdicts.{by_policy, by_missed, IsByZone, IsUnlessSuspended, IsVerdict}
 use Rattle.cj_decide.specs.Decision.{claim_by}
-use Rattle.cj_decide_laws.specs.Laws.{is_replacing}
+use Rattle.cj_decide.specs.laws.Laws.{is_replacing}
 
 module _ (c : CronJob) where
   -- By the policy alone: a verdict replaces just where it gives a claim and the policy is Replace.

@@ -19,7 +19,7 @@ use Rattle.cj_decide.specs.Verdicts.{by_missed, IsNext, IsByTimes, IsByText, IsB
 use Rattle.cj_decide.specs.declared.steps.Steps.{Steps}
 use Rattle.cj_decide.specs.Finally.{standing, final, IsStatusStep}
 use Rattle.cj_decide.specs.Decision.{running_of, claim_by, steps_of, IsDecision}
-use Rattle.cj_decide_laws.specs.Laws.{OnePlan}
+use Rattle.cj_decide.specs.laws.Laws.{OnePlan}
 
 -- No test is both false and true.
 clash : (b : Bool) → b ≡ false → b ≡ true → ⊥

@@ -22,11 +22,11 @@ use Rattle.cj_decide.specs.declared.steps.Steps.{Steps}
 use Rattle.cj_decide.specs.Start.{draft_of, claimed}
 use Rattle.cj_decide.specs.Finally.{standing}
 use Rattle.cj_decide.specs.Decision.{Planned, IsPlan, IsDecision, running_of}
-use Rattle.cj_decide_laws.specs.Laws.{IsIn, IsFoundOf, IsAllowed, IsMadeName, is_replacing, Starts as StartsBy}
-use Rattle.cj_decide_laws.specs.Fits.{runs, is_strict, IsAt, IsAmong, IsFoundIn, IsFound, upto, IsMade, Starts, Waits, FitsWith, Keeps, FitsFor, DecidedFits}
-use Rattle.cj_decide_laws.proofs.Members.{ordered_in, gathered_in, with_one, with_others}
-use Rattle.cj_decide_laws.proofs.Claims.{claims_latest, no_claim}
-use Rattle.cj_decide_laws.proofs.Ends.{final_is, names_at_end}
+use Rattle.cj_decide.specs.laws.Laws.{IsIn, IsFoundOf, IsAllowed, IsMadeName, is_replacing, Starts as StartsBy}
+use Rattle.cj_decide.specs.laws.Fits.{runs, is_strict, IsAt, IsAmong, IsFoundIn, IsFound, upto, IsMade, Starts, Waits, FitsWith, Keeps, FitsFor, DecidedFits}
+use Rattle.cj_decide.proofs.LawsLemmas.Members.{ordered_in, gathered_in, with_one, with_others}
+use Rattle.cj_decide.proofs.LawsLemmas.Claims.{claims_latest, no_claim}
+use Rattle.cj_decide.proofs.LawsLemmas.Ends.{final_is, names_at_end}
 
 -- A Job that runs for a uid is an unfinished one whose controller has the text of that uid.
 runs_is : (u : ℕ) (job : Job) → runs u job ≡ true → is_running (uid_text u) job ≡ true

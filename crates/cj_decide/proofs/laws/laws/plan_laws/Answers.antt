@@ -1,9 +1,9 @@
 -- plan_laws: its eight clauses, one_plan to names_at_end, each by the lemma of that name.
-use Rattle.cj_decide_laws.proofs.One.{one_plan}
-use Rattle.cj_decide_laws.proofs.Claims.{claims_latest, claims_in_time, no_claim}
-use Rattle.cj_decide_laws.proofs.Orders.{oldest_first, all_running}
-use Rattle.cj_decide_laws.proofs.Ends.{cleans_finished, names_at_end}
-use Rattle.cj_decide_laws.proofs.laws.plan_laws.Goals as goal
+use Rattle.cj_decide.proofs.LawsLemmas.One.{one_plan}
+use Rattle.cj_decide.proofs.LawsLemmas.Claims.{claims_latest, claims_in_time, no_claim}
+use Rattle.cj_decide.proofs.LawsLemmas.Orders.{oldest_first, all_running}
+use Rattle.cj_decide.proofs.LawsLemmas.Ends.{cleans_finished, names_at_end}
+use Rattle.cj_decide.proofs.laws.laws.plan_laws.Goals as goal
 
 pub returns-clause-one_plan : goal.returns-clause-one_plan
 returns-clause-one_plan c = one_plan

@@ -18,8 +18,8 @@ use Rattle.cj_decide.specs.declared.verdict.Verdict.{Verdict}
 use Rattle.cj_decide.specs.Verdicts.{by_policy, by_missed, IsByText, IsByZone, IsUnlessSuspended}
 use Rattle.cj_decide.specs.Start.{claim_of, draft_of}
 use Rattle.cj_decide.specs.Decision.{running_of}
-use Rattle.cj_decide_laws.specs.Laws.{IsClaimed, IsAllowed, ClaimsLatest, ClaimsInTime, NoClaim, is_replacing}
-use Rattle.cj_decide_laws.proofs.Verdicts.{verdict_replaces}
+use Rattle.cj_decide.specs.laws.Laws.{IsClaimed, IsAllowed, ClaimsLatest, ClaimsInTime, NoClaim, is_replacing}
+use Rattle.cj_decide.proofs.LawsLemmas.Verdicts.{verdict_replaces}
 
 -- the Jobs that a verdict drops
 abbrev pub dropped : List JobRef → Verdict → List JobRef

@@ -1,6 +1,0 @@
-//! The laws of plans, over the definitions alone.
-#![tactic(auto)]
-
-mod laws;
-
-pub use laws::{fits_law, plan_laws};
