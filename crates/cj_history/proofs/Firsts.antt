@@ -6,7 +6,7 @@ use Rattle.cj_types.specs.Keys.{Place}
 use Rattle.cj_queue.specs.Parts.{key_eq}
 use Rattle.cj_queue.proofs.Sets.{eq_true, eq_turned}
 use Rattle.cj_calls.specs.declared.reply.Reply.TheVariants as Say
-use Rattle.cj_seats.specs.declared.seat.Seat.{Seat}
+use Rattle.cj_state.specs.declared.phases.seat.Seat.{Seat}
 use Rattle.cj_queue_history.specs.Deeds.{Act}
 use Rattle.cj_queue_history.specs.Answers.{Answer, IsFirst, OnTake, TakeSays}
 use Rattle.cj_queue_history.proofs.Firsts.{both_ways}

@@ -8,7 +8,7 @@ use Rattle.cj_types.specs.declared.event.Event.{Event}
 use Rattle.cj_zone.specs.declared.zone.Zone.{Zone}
 use Rattle.cj_decide.specs.Decision.{Planned}
 use Rattle.cj_calls.specs.Rows.{Told}
-use Rattle.cj_seats.specs.declared.seat.Seat.{Seat}
+use Rattle.cj_state.specs.declared.phases.seat.Seat.{Seat}
 use Rattle.cj_state.specs.Legal.{ArePlanned}
 use Rattle.cj_legal.specs.Seats.{seat}
 use Rattle.cj_decide.specs.laws.Laws.{IsClaimed}

@@ -5,7 +5,7 @@ use Rattle.cj_types.specs.declared.cron.CronJob.{CronJob}
 use Rattle.cj_types.specs.declared.job.Job.{Job}
 use Rattle.cj_decide.specs.Decision.{Planned}
 use Rattle.cj_store.proofs.Codes.{same_is_equal}
-use Rattle.cj_seats.specs.Inputs.{same_cron, same_jobs, same_active, rests_on, RestsOnThree}
+use Rattle.cj_state.specs.phases.Inputs.{same_cron, same_jobs, same_active, rests_on, RestsOnThree}
 
 -- Where two tests are true together, each of them is true.
 both_of : (a b : Bool) → (a && b) ≡ true → (a ≡ true) × (b ≡ true)

@@ -13,9 +13,9 @@ use Rattle.cj_store.specs.Content.{Content}
 use Rattle.cj_store.specs.Change.{after}
 use Rattle.cj_queue.specs.Queue.{Keys, has, Row, row_add, row_end}
 use Rattle.cj_calls.specs.Rows.{Told}
-use Rattle.cj_seats.specs.declared.seat.Phase.{Phase}
-use Rattle.cj_seats.specs.declared.seat.Phase.TheVariants.{Held}
-use Rattle.cj_seats.specs.declared.seat.Seat.{Seat}
+use Rattle.cj_state.specs.declared.phases.seat.Phase.{Phase}
+use Rattle.cj_state.specs.declared.phases.seat.Phase.TheVariants.{Held}
+use Rattle.cj_state.specs.declared.phases.seat.Seat.{Seat}
 use Rattle.cj_state.specs.declared.state.State.{State}
 use Rattle.cj_state.specs.Sound.{IsSound}
 use Rattle.cj_state.specs.Legal.{state_of}

@@ -3,7 +3,7 @@ ghost use Rattle.cj_types.specs.declared.cron.CronJob.{CronJob};
 ghost use Rattle.cj_types.specs.declared.job.Job.{Job};
 ghost use Rattle.cj_decide.specs.Decision.{Planned};
 ghost use Rattle.cj_calls.specs.Rows.{Told};
-ghost use Rattle.cj_seats.specs.Inputs.{rests_on, RestsOnThree};
+ghost use Rattle.cj_state.specs.phases.Inputs.{rests_on, RestsOnThree};
 ghost use Rattle.cj_state.specs.Sound.{IsSound};
 ghost use Rattle.cj_state.specs.Legal.{state_of};
 ghost use Rattle.cj_legal.specs.Answers.{AnswersFit};

@@ -2,15 +2,14 @@ ghost use Rattle.std.specs.Prelude.{◌≡◌, IfOk, IfErr, OnErr, IsSome, Some}
 ghost use Rattle.std.specs.FinMap as map;
 ghost use Rattle.cj_store.specs.Content.{HasRoom};
 ghost use Rattle.cj_base.specs.declared.refusal.Refusal.TheVariants.{OutOfMemory};
-ghost use Rattle.cj_seats.specs.declared.seat.Phase.TheVariants.{Works};
+ghost use Rattle.cj_state.specs.declared.phases.seat.Phase.TheVariants.{Works};
 ghost use Rattle.cj_state.specs.Sound.{IsSound};
 ghost use Rattle.cj_state.specs.Moves.{claim, claims, claim_where, seen_version, moved};
 
 use cj_base::both;
 use cj_calls::{Answered, Reply};
 use cj_decide::{Claim, Plan};
-use cj_seats::{Phase, Seat, Work, rests_on};
-use cj_state::{State, refused, seat_in};
+use cj_state::{Phase, Seat, State, Work, refused, rests_on, seat_in};
 use cj_types::{CronJob, Heap, Key, Refusal, Shared, TryCopy, Version};
 use std::alloc::Global;
 

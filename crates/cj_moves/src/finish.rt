@@ -5,8 +5,7 @@ ghost use Rattle.cj_state.specs.Sound.{IsSound};
 ghost use Rattle.cj_state.specs.Moves.{finish, leaves, next_ms, moved};
 
 use cj_calls::{Answered, End, Reply};
-use cj_seats::{Phase, is_done};
-use cj_state::{State, refused};
+use cj_state::{Phase, State, is_done, refused};
 use cj_types::{Key, Millis, Refusal, Seconds, TryCopy};
 use std::alloc::Global;
 

@@ -10,8 +10,9 @@ ghost use Rattle.cj_state.specs.Moves.{drop_next, drops_it, make_next, set_statu
 
 use cj_base::both;
 use cj_calls::{Answered, Reply};
-use cj_seats::{Phase, Seat, Work, drop_at, make_at, status_at};
-use cj_state::{State, event_answer, refused, seat_in};
+use cj_state::{
+    Phase, Seat, State, Work, drop_at, event_answer, make_at, refused, seat_in, status_at,
+};
 use cj_types::{CronStatus, Heap, JobDraft, Key, Refusal, Seconds, TryCopy, Uid, Version};
 use std::alloc::Global;
 

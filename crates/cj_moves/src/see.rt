@@ -2,7 +2,7 @@ ghost use Rattle.std.specs.Prelude.{◌≡◌, IfOk, IfErr, OnErr, Ok};
 ghost use Rattle.std.specs.FinMap as map;
 ghost use Rattle.cj_base.specs.declared.refusal.Refusal.TheVariants.{OutOfMemory};
 ghost use Rattle.cj_table.specs.jobs.Owners.{owned_by};
-ghost use Rattle.cj_seats.specs.declared.seat.Phase.TheVariants.{Seen, Listed, Checked};
+ghost use Rattle.cj_state.specs.declared.phases.seat.Phase.TheVariants.{Seen, Listed, Checked};
 ghost use Rattle.cj_state.specs.Readings.{active_of};
 ghost use Rattle.cj_state.specs.Moves.{see_cron, see_jobs, see_active, moved};
 
@@ -10,8 +10,7 @@ use crate::active::active_of;
 use cj_base::{all_three, both};
 use cj_calls::{Answered, Reply};
 use cj_watch::Mirror;
-use cj_seats::{Phase, Seat};
-use cj_state::{State, refused, seat_in};
+use cj_state::{Phase, Seat, State, refused, seat_in};
 use cj_store::Store;
 use cj_types::{CronJob, Heap, Job, Key, Listing, Refusal, Shared, TryCopy};
 use std::alloc::Global;

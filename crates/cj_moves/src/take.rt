@@ -2,12 +2,11 @@ ghost use Rattle.std.specs.Prelude.{◌≡◌, IfOk, IfErr, OnOk, OnErr, Ok, Som
 ghost use Rattle.std.specs.FinMap as map;
 ghost use Rattle.cj_base.specs.declared.refusal.Refusal.TheVariants.{OutOfMemory};
 ghost use Rattle.cj_queue.specs.Queue.{taken};
-ghost use Rattle.cj_seats.specs.declared.seat.Phase.TheVariants.{Held};
+ghost use Rattle.cj_state.specs.declared.phases.seat.Phase.TheVariants.{Held};
 ghost use Rattle.cj_state.specs.Moves.{take, moved, seated};
 
 use cj_calls::{Answered, Reply};
-use cj_seats::{Phase, Seat};
-use cj_state::{State, refused};
+use cj_state::{Phase, Seat, State, refused};
 use cj_types::{Key, Refusal, TryCopy};
 use std::alloc::Global;
 

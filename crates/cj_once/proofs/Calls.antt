@@ -20,11 +20,11 @@ use Rattle.cj_calls.specs.declared.call.Call.{Call}
 use Rattle.cj_calls.specs.declared.call.Call.TheVariants as Of
 use Rattle.cj_calls.specs.declared.reply.Reply.{Reply}
 use Rattle.cj_calls.specs.declared.reply.Reply.TheVariants as Say
-use Rattle.cj_seats.specs.Steps.{step_at, is_over}
-use Rattle.cj_seats.specs.declared.seat.Work.{Work}
-use Rattle.cj_seats.specs.declared.seat.Seat.{Seat}
-use Rattle.cj_seats.specs.declared.seat.Phase.{Phase}
-use Rattle.cj_seats.specs.declared.seat.Phase.TheVariants.{Held, Seen, Listed, Checked, Works}
+use Rattle.cj_state.specs.phases.Steps.{step_at, is_over}
+use Rattle.cj_state.specs.declared.phases.seat.Work.{Work}
+use Rattle.cj_state.specs.declared.phases.seat.Seat.{Seat}
+use Rattle.cj_state.specs.declared.phases.seat.Phase.{Phase}
+use Rattle.cj_state.specs.declared.phases.seat.Phase.TheVariants.{Held, Seen, Listed, Checked, Works}
 use Rattle.cj_state.specs.declared.state.State.{State}
 use Rattle.cj_state.specs.Readings.{listed_of, if_mine, active_job, active_of}
 use Rattle.cj_state.specs.Moves.{Moved, moved, seat_of, seated, by_seat, take_first, take_by, take, see_cron_in, see_cron, see_jobs_in, see_jobs, see_active_in, see_active, leaves, next_ms, finish_work, finish_in, finish}

@@ -25,10 +25,10 @@ use Rattle.cj_calls.specs.declared.call.Call.{Call}
 use Rattle.cj_calls.specs.declared.call.Call.TheVariants as Of
 use Rattle.cj_calls.specs.declared.reply.Reply.{Reply}
 use Rattle.cj_calls.specs.declared.reply.Reply.TheVariants as Say
-use Rattle.cj_seats.specs.Inputs.{rests_on}
-use Rattle.cj_seats.specs.declared.seat.Seat.{Seat}
-use Rattle.cj_seats.specs.declared.seat.Phase.{Phase}
-use Rattle.cj_seats.specs.declared.seat.Phase.TheVariants.{Checked}
+use Rattle.cj_state.specs.phases.Inputs.{rests_on}
+use Rattle.cj_state.specs.declared.phases.seat.Seat.{Seat}
+use Rattle.cj_state.specs.declared.phases.seat.Phase.{Phase}
+use Rattle.cj_state.specs.declared.phases.seat.Phase.TheVariants.{Checked}
 use Rattle.cj_state.specs.declared.state.State.{State}
 use Rattle.cj_state.specs.Moves.{refused, seat_of, by_seat, works, wrote, claims, claim_where, claim_in, claim}
 use Rattle.cj_state.specs.Step.{by_role, step_of}

@@ -14,10 +14,10 @@ use Rattle.cj_types.specs.declared.job.Job.{Job}
 use Rattle.cj_types.specs.declared.job.JobDraft.{JobDraft}
 use Rattle.cj_store.specs.Content.{Content}
 use Rattle.cj_queue.specs.Queue.{Row, has}
-use Rattle.cj_seats.specs.Steps.{Step, makes, sets, left}
-use Rattle.cj_seats.specs.declared.seat.Seat.{Seat}
-use Rattle.cj_seats.specs.declared.seat.Phase.{Phase}
-use Rattle.cj_seats.specs.declared.seat.Phase.TheVariants.{Held, Seen, Listed, Checked, Works}
+use Rattle.cj_state.specs.phases.Steps.{Step, makes, sets, left}
+use Rattle.cj_state.specs.declared.phases.seat.Seat.{Seat}
+use Rattle.cj_state.specs.declared.phases.seat.Phase.{Phase}
+use Rattle.cj_state.specs.declared.phases.seat.Phase.TheVariants.{Held, Seen, Listed, Checked, Works}
 use Rattle.cj_decide.specs.laws.Fits.{IsAt, IsFound, is_strict, upto}
 use Rattle.cj_once.specs.Once.{Claimed}
 use Rattle.cj_once.proofs.Lists.{IsIn, Before, Ordered, Rest}

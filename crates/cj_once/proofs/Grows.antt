@@ -12,9 +12,9 @@ use Rattle.cj_types.specs.declared.cron.CronStatus.{CronStatus}
 use Rattle.cj_types.specs.declared.job.Job.{Job}
 use Rattle.cj_types.specs.declared.job.JobDraft.{JobDraft}
 use Rattle.cj_store.specs.Content.{Content}
-use Rattle.cj_seats.specs.Steps.{Step, left}
-use Rattle.cj_seats.specs.declared.seat.Phase.{Phase}
-use Rattle.cj_seats.specs.declared.seat.Phase.TheVariants.{Held, Seen, Listed, Checked, Works}
+use Rattle.cj_state.specs.phases.Steps.{Step, left}
+use Rattle.cj_state.specs.declared.phases.seat.Phase.{Phase}
+use Rattle.cj_state.specs.declared.phases.seat.Phase.TheVariants.{Held, Seen, Listed, Checked, Works}
 use Rattle.cj_decide.specs.laws.Fits.{IsAt, runs, upto}
 use Rattle.cj_once.specs.Once.{Claimed}
 use Rattle.cj_once.proofs.Lists.{Rest, weaker, runs_was, runs_free, runs_owned}

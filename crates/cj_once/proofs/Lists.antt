@@ -15,7 +15,7 @@ use Rattle.cj_types.specs.declared.cron.CronStatus.{CronStatus}
 use Rattle.cj_status.specs.declared.refs.JobRef.{JobRef}
 use Rattle.cj_decide.specs.declared.steps.Steps.{Steps}
 use Rattle.cj_status.specs.Mine.{is_mine, has_uid}
-use Rattle.cj_seats.specs.Steps.{Step, drops, makes, sets, makings, settings, all_steps}
+use Rattle.cj_state.specs.phases.Steps.{Step, drops, makes, sets, makings, settings, all_steps}
 use Rattle.cj_decide.specs.laws.Fits.{IsAmong, runs}
 use Rattle.cj_once.proofs.Uids.{uid_same}
 

@@ -18,11 +18,11 @@ use Rattle.cj_types.specs.declared.event.Event.{Event}
 use Rattle.cj_store.specs.Content.{Content}
 use Rattle.cj_store.specs.Change.{after, map_ok, job_added}
 use Rattle.cj_store.specs.Jobs.{job_made, new_job}
-use Rattle.cj_seats.specs.Steps.{Step, drops, makes, sets, step_at, left, as_make}
-use Rattle.cj_seats.specs.declared.seat.Work.{Work}
-use Rattle.cj_seats.specs.declared.seat.Seat.{Seat}
-use Rattle.cj_seats.specs.declared.seat.Phase.{Phase}
-use Rattle.cj_seats.specs.declared.seat.Phase.TheVariants.{Held, Seen, Listed, Checked, Works}
+use Rattle.cj_state.specs.phases.Steps.{Step, drops, makes, sets, step_at, left, as_make}
+use Rattle.cj_state.specs.declared.phases.seat.Work.{Work}
+use Rattle.cj_state.specs.declared.phases.seat.Seat.{Seat}
+use Rattle.cj_state.specs.declared.phases.seat.Phase.{Phase}
+use Rattle.cj_state.specs.declared.phases.seat.Phase.TheVariants.{Held, Seen, Listed, Checked, Works}
 use Rattle.cj_state.specs.declared.state.State.{State}
 use Rattle.cj_state.specs.Moves.{Moved, refused, seat_of, by_seat, next_seat, steps_on, event_reply, make_where, make_in, make_next}
 use Rattle.cj_decide.specs.laws.Fits.{IsAt, runs, upto, is_strict}

@@ -22,13 +22,13 @@ use Rattle.cj_status.specs.declared.refs.JobRef.{JobRef}
 use Rattle.cj_decide.specs.declared.start.Claim.{Claim}
 use Rattle.cj_calls.specs.declared.reply.Reply.{Reply}
 use Rattle.cj_calls.specs.declared.reply.Reply.TheVariants as Say
-use Rattle.cj_seats.specs.Inputs.{rests_on, same_cron, same_jobs, same_active}
-use Rattle.cj_seats.specs.Steps.{Step, drops, makes, sets, step_at, left, all_steps, as_drop, as_status}
-use Rattle.cj_seats.proofs.Places.{steps_left}
-use Rattle.cj_seats.specs.declared.seat.Work.{Work}
-use Rattle.cj_seats.specs.declared.seat.Seat.{Seat}
-use Rattle.cj_seats.specs.declared.seat.Phase.{Phase}
-use Rattle.cj_seats.specs.declared.seat.Phase.TheVariants.{Checked, Works}
+use Rattle.cj_state.specs.phases.Inputs.{rests_on, same_cron, same_jobs, same_active}
+use Rattle.cj_state.specs.phases.Steps.{Step, drops, makes, sets, step_at, left, all_steps, as_drop, as_status}
+use Rattle.cj_state.proofs.PhasesLemmas.Places.{steps_left}
+use Rattle.cj_state.specs.declared.phases.seat.Work.{Work}
+use Rattle.cj_state.specs.declared.phases.seat.Seat.{Seat}
+use Rattle.cj_state.specs.declared.phases.seat.Phase.{Phase}
+use Rattle.cj_state.specs.declared.phases.seat.Phase.TheVariants.{Checked, Works}
 use Rattle.cj_state.specs.declared.state.State.{State}
 use Rattle.cj_state.specs.Moves.{Moved, refused, seat_of, by_seat, works, seen_version, wrote, claims, claim_where, claim_in, claim, further, next_seat, steps_on, drops_it, drop_where, drop_in, drop_next, sets_it, status_where, status_in, set_status, version_reply}
 use Rattle.cj_decide.specs.laws.Fits.{IsAt, IsAmong, IsFound, upto, Starts, Waits, FitsWith, FitsFor, Fits, Keeps}

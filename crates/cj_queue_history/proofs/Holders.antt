@@ -13,8 +13,8 @@ use Rattle.cj_calls.specs.declared.end.End.TheVariants.{Well, Again}
 use Rattle.cj_calls.specs.declared.reply.Reply.{Reply}
 use Rattle.cj_calls.specs.declared.reply.Reply.TheVariants as Is
 use Rattle.cj_calls.specs.Rows.{Told}
-use Rattle.cj_seats.specs.declared.seat.Phase.{Phase}
-use Rattle.cj_seats.specs.declared.seat.Seat.{Seat}
+use Rattle.cj_state.specs.declared.phases.seat.Phase.{Phase}
+use Rattle.cj_state.specs.declared.phases.seat.Seat.{Seat}
 use Rattle.cj_legal.specs.Seats.{seat, seat_after, accepted, at_phase, on}
 use Rattle.cj_queue_history.specs.Deeds.{Deed, adds, ticks, takes, ends, fails, shuts, nothing, deed}
 use Rattle.cj_queue_history.specs.LookBacks.{is_take, is_finish, is_by}

@@ -67,7 +67,7 @@ impl Sights {
     }
 
     /// What the worker has seen.
-    #[tactic(auto, using(cj_seats::proofs::Tables::get_is))]
+    #[tactic(auto, using(cj_state::proofs::PhasesLemmas::Tables::get_is))]
     pub fn get(&self, number: u64) -> Option<&Sight>
         ensures { option_copied result ≡ map.get self.now number }
     {
@@ -75,7 +75,7 @@ impl Sights {
     }
 
     // Puts another sight in place of the worker's.
-    #[tactic(auto, using(cj_seats::proofs::Tables::inserted, cj_seats::proofs::Tables::get_is))]
+    #[tactic(auto, using(cj_state::proofs::PhasesLemmas::Tables::inserted, cj_state::proofs::PhasesLemmas::Tables::get_is))]
     fn insert(&mut self, number: u64, sight: Sight) -> Result<(), Refusal>
         ensures ok { OnOk result (self.new ≡ map.insert self.old number sight) }
         ensures err { OnErr result (self.new ≡ self.old) }

@@ -18,7 +18,7 @@ use Rattle.cj_store.specs.Crons.{new_cron, cron_created, updated_cron, cron_upda
 use Rattle.cj_store.specs.Jobs.{job_made, job_created, new_job, updated_job, job_updated, job_updated_from, ended_job, job_ended, job_ended_from, job_deleted, job_deleted_from, is_asked, last_job}
 use Rattle.cj_types.specs.Events.{version_of}
 use Rattle.cj_queue.specs.Queue.{has}
-use Rattle.cj_seats.specs.declared.seat.Seat.{Seat}
+use Rattle.cj_state.specs.declared.phases.seat.Seat.{Seat}
 use Rattle.cj_state.specs.declared.state.State.{State}
 use Rattle.cj_state.specs.Sound.{IsSound}
 

@@ -3,3 +3,4 @@ pub mod Moves
 pub mod Step
 pub mod Sound
 pub mod Legal
+pub mod phases

@@ -27,12 +27,12 @@ use Rattle.cj_calls.specs.declared.end.End.{End}
 use Rattle.cj_calls.specs.declared.end.End.TheVariants.{Well, Again}
 use Rattle.cj_calls.specs.declared.reply.Reply.{Reply}
 use Rattle.cj_calls.specs.declared.reply.Reply.TheVariants as Say
-use Rattle.cj_seats.specs.Inputs.{rests_on}
-use Rattle.cj_seats.specs.Steps.{step_at, as_drop, as_make, as_status, is_over}
-use Rattle.cj_seats.specs.declared.seat.Work.{Work}
-use Rattle.cj_seats.specs.declared.seat.Phase.{Phase}
-use Rattle.cj_seats.specs.declared.seat.Phase.TheVariants.{Held, Seen, Listed, Checked, Works}
-use Rattle.cj_seats.specs.declared.seat.Seat.{Seat}
+use Rattle.cj_state.specs.phases.Inputs.{rests_on}
+use Rattle.cj_state.specs.phases.Steps.{step_at, as_drop, as_make, as_status, is_over}
+use Rattle.cj_state.specs.declared.phases.seat.Work.{Work}
+use Rattle.cj_state.specs.declared.phases.seat.Phase.{Phase}
+use Rattle.cj_state.specs.declared.phases.seat.Phase.TheVariants.{Held, Seen, Listed, Checked, Works}
+use Rattle.cj_state.specs.declared.phases.seat.Seat.{Seat}
 use Rattle.cj_state.specs.Readings.{listed_of, active_of}
 use Rattle.cj_state.specs.declared.state.State.{State}
 

@@ -4,7 +4,7 @@ use Rattle.cj_types.specs.declared.event.Event.{Event}
 use Rattle.cj_watch.specs.Numbers.{IsNumbered}
 use Rattle.cj_watch.specs.Log.{since}
 use Rattle.cj_queue.specs.Queue.{has}
-use Rattle.cj_seats.specs.declared.seat.Seat.{Seat}
+use Rattle.cj_state.specs.declared.phases.seat.Seat.{Seat}
 use Rattle.cj_state.specs.declared.state.State.{State}
 use Rattle.cj_state.specs.Moves.{seat_of}
 

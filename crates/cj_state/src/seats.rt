@@ -2,7 +2,7 @@ ghost use Rattle.std.specs.Prelude.{◌≡◌, IfOk, IfErr};
 ghost use Rattle.cj_base.specs.declared.refusal.Refusal.TheVariants.{OutOfMemory};
 
 use cj_base::both;
-use cj_seats::{Phase, Seat};
+use crate::phases::{Phase, Seat};
 use cj_types::{Heap, Key, Refusal, TryCopy};
 use std::alloc::Global;
 

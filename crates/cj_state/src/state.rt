@@ -8,7 +8,7 @@ ghost use Rattle.cj_types.specs.Events.{version_of};
 use cj_calls::Answered;
 use cj_watch::{Mirror, WatchLog};
 use cj_queue::Queue;
-use cj_seats::{Seat, Seats};
+use crate::phases::{Seat, Seats};
 use cj_store::{Change, Store};
 use cj_types::{Heap, Refusal, TryCopy};
 use std::alloc::Global;

@@ -5,7 +5,7 @@ use Rattle.cj_base.specs.declared.refusal.Refusal.{Refusal}
 use Rattle.cj_types.specs.declared.event.Event.{Event}
 use Rattle.cj_calls.specs.declared.reply.Reply.{Reply}
 use Rattle.cj_calls.specs.Rows.{Told}
-use Rattle.cj_seats.specs.declared.seat.Seat.{Seat}
+use Rattle.cj_state.specs.declared.phases.seat.Seat.{Seat}
 use Rattle.cj_store.specs.Content.{Content}
 use Rattle.cj_state.specs.Moves.{seat_of}
 use Rattle.cj_state.specs.Step.{step_of}

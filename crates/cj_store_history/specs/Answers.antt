@@ -23,12 +23,12 @@ use Rattle.cj_calls.specs.declared.call.Call.TheVariants as Of
 use Rattle.cj_calls.specs.declared.reply.Reply.{Reply}
 use Rattle.cj_calls.specs.declared.reply.Reply.TheVariants as Say
 use Rattle.cj_calls.specs.Rows.{Told}
-use Rattle.cj_seats.specs.Inputs.{rests_on}
-use Rattle.cj_seats.specs.Steps.{Step, drops, makes, sets, step_at}
-use Rattle.cj_seats.specs.declared.seat.Work.{Work}
-use Rattle.cj_seats.specs.declared.seat.Phase.{Phase}
-use Rattle.cj_seats.specs.declared.seat.Phase.TheVariants.{Held, Seen, Listed, Checked, Works}
-use Rattle.cj_seats.specs.declared.seat.Seat.{Seat}
+use Rattle.cj_state.specs.phases.Inputs.{rests_on}
+use Rattle.cj_state.specs.phases.Steps.{Step, drops, makes, sets, step_at}
+use Rattle.cj_state.specs.declared.phases.seat.Work.{Work}
+use Rattle.cj_state.specs.declared.phases.seat.Phase.{Phase}
+use Rattle.cj_state.specs.declared.phases.seat.Phase.TheVariants.{Held, Seen, Listed, Checked, Works}
+use Rattle.cj_state.specs.declared.phases.seat.Seat.{Seat}
 use Rattle.cj_state.specs.Readings.{if_mine}
 use Rattle.cj_state.specs.Moves.{event_reply, version_reply}
 use Rattle.cj_state.specs.Legal.{IsLegal, answer_of}

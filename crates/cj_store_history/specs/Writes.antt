@@ -10,10 +10,10 @@ use Rattle.cj_calls.specs.declared.call.Call.TheVariants as Of
 use Rattle.cj_calls.specs.declared.reply.Reply.{Reply}
 use Rattle.cj_calls.specs.declared.reply.Reply.TheVariants as Is
 use Rattle.cj_calls.specs.Rows.{Told}
-use Rattle.cj_seats.specs.Steps.{Step, drops, makes, sets, step_at}
-use Rattle.cj_seats.specs.declared.seat.Phase.{Phase}
-use Rattle.cj_seats.specs.declared.seat.Phase.TheVariants.{Works}
-use Rattle.cj_seats.specs.declared.seat.Seat.{Seat}
+use Rattle.cj_state.specs.phases.Steps.{Step, drops, makes, sets, step_at}
+use Rattle.cj_state.specs.declared.phases.seat.Phase.{Phase}
+use Rattle.cj_state.specs.declared.phases.seat.Phase.TheVariants.{Works}
+use Rattle.cj_state.specs.declared.phases.seat.Seat.{Seat}
 use Rattle.cj_legal.specs.Seats.{seat}
 use Rattle.cj_store_history.specs.Written.{current_cron, current_job, cron_created, cron_updated, status_set, cron_deleted, job_created, job_updated, job_ended, job_deleted}
 

@@ -4,7 +4,7 @@ use Rattle.cj_calls.specs.declared.call.Call.{Call}
 use Rattle.cj_calls.specs.declared.call.Call.TheVariants as Of
 use Rattle.cj_decide.specs.Decision.{Planned}
 use Rattle.cj_decide.specs.declared.steps.Steps.{Steps}
-use Rattle.cj_seats.specs.Steps.{Step, drops, makes, sets, all_steps}
+use Rattle.cj_state.specs.phases.Steps.{Step, drops, makes, sets, all_steps}
 use Rattle.cj_status.specs.declared.refs.JobRef.{JobRef}
 use Rattle.cj_types.specs.declared.policy.Reason.TheVariants.{FailedCreate}
 use Rattle.cj_worker.specs.declared.outline.Next.{Next}

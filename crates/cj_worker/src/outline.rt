@@ -1,6 +1,6 @@
 ghost use Rattle.std.specs.Prelude.{◌≡◌, ◌++◌, ◌∷◌, [], map, IfOk, IfErr, OnOk};
 ghost use Rattle.cj_base.specs.declared.refusal.Refusal.TheVariants.{OutOfMemory};
-ghost use Rattle.cj_seats.specs.Steps.{all_steps};
+ghost use Rattle.cj_state.specs.phases.Steps.{all_steps};
 ghost use Rattle.cj_types.specs.declared.policy.Reason.TheVariants.{FailedCreate};
 ghost use Rattle.cj_worker.specs.Outlines.{IsOutline, drops_of, next_of, one_if};
 

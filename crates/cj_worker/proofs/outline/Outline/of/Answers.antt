@@ -1,7 +1,7 @@
 -- Outline::of: its clause ok: the calls of the steps, and the reasons for each end.
 use Rattle.std.proofs.Common.{ap, ◌∙◌, ◌∷◌, ◌++◌, [], map}
 use Rattle.std.proofs.lemmas.Result.{IfOk-at_ok}
-use Rattle.cj_seats.specs.Steps.{all_steps}
+use Rattle.cj_state.specs.phases.Steps.{all_steps}
 use Rattle.cj_types.specs.declared.policy.Reason.TheVariants.{FailedCreate}
 use Rattle.cj_worker.specs.Outlines.{next_of}
 use Rattle.cj_worker.proofs.Outlines.{steps_called}

@@ -1,7 +1,7 @@
 -- Seats::is_empty: its one clause, that there are no rows just where the map is empty.
 use Rattle.std.proofs.Common.{sym, ap, length, ◌∙◌}
-use Rattle.cj_seats.proofs.Tables.{no_rows, none_left}
-use Rattle.cj_seats.proofs.seats.Seats.is_empty.Goals as goal
+use Rattle.cj_state.proofs.PhasesLemmas.Tables.{no_rows, none_left}
+use Rattle.cj_state.proofs.phases.seats.Seats.is_empty.Goals as goal
 
 pub returns : goal.returns
 returns c = (

@@ -1,8 +1,8 @@
 -- Seats::replace: its one clause; the insert can't fail, as the worker has a seat.
 use Rattle.std.proofs.Common.{ap, ◌∙◌}
 use Rattle.std.specs.FinMap.{insert}
-use Rattle.cj_seats.proofs.Tables.{inserted, get_is, present}
-use Rattle.cj_seats.proofs.seats.Seats.replace.Goals as goal
+use Rattle.cj_state.proofs.PhasesLemmas.Tables.{inserted, get_is, present}
+use Rattle.cj_state.proofs.phases.seats.Seats.replace.Goals as goal
 
 pub returns : goal.returns
 returns c =

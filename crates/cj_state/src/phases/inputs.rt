@@ -1,5 +1,5 @@
 ghost use Rattle.std.specs.Prelude.{◌≡◌};
-ghost use Rattle.cj_seats.specs.Inputs.{same_cron, same_jobs, same_active, rests_on};
+ghost use Rattle.cj_state.specs.phases.Inputs.{same_cron, same_jobs, same_active, rests_on};
 
 use cj_decide::Plan;
 use cj_types::{CronJob, Job, Same, Shared, same_all};
@@ -26,7 +26,7 @@ fn are_same_active(a: &[Option<Shared<Job>>], b: &[Option<Shared<Job>>]) -> bool
 }
 
 /// Whether the plan rests on just these answers.
-#[tactic(auto, unfolding(crate::specs::Inputs::rests_on))]
+#[tactic(auto, unfolding(crate::specs::phases::Inputs::rests_on))]
 pub fn rests_on(
     plan: &Plan,
     cron: &Option<Shared<CronJob>>,

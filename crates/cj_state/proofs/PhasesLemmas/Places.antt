@@ -8,7 +8,7 @@ use Rattle.cj_types.specs.declared.cron.CronStatus.{CronStatus}
 use Rattle.cj_types.specs.declared.job.JobDraft.{JobDraft}
 use Rattle.cj_status.specs.declared.refs.JobRef.{JobRef}
 use Rattle.cj_decide.specs.declared.steps.Steps.{Steps}
-use Rattle.cj_seats.specs.Steps.{Step, drops, makes, sets, makings, settings, all_steps, step_at, left, as_drop, as_make, as_status, is_over, count}
+use Rattle.cj_state.specs.phases.Steps.{Step, drops, makes, sets, makings, settings, all_steps, step_at, left, as_drop, as_make, as_status, is_over, count}
 
 -- A place in the first of two joined lists has what stands there in that list.
 pub at_left : {X : Type 0} (xs ys : List X) (i : ℕ) → i < length xs → slice_get (xs ++ ys) i ≡ slice_get xs i

@@ -2,7 +2,7 @@ ghost use Rattle.std.specs.Prelude.{◌≡◌, ◌↔◌, IsTrue, IfErr, OnOk, O
 ghost use Rattle.std.specs.FinMap as map;
 ghost use Rattle.cj_base.specs.declared.refusal.Refusal.TheVariants.{OutOfMemory};
 
-use crate::Seat;
+use crate::phases::Seat;
 use cj_types::Refusal;
 use std::alloc::Global;
 use std::collections::BTreeMap;
@@ -17,8 +17,8 @@ impl Model for Seats {
     ghost use Rattle.std.specs.Ordering.{nat_cmp};
     ghost use Rattle.std.specs.FinMap as map;
     ghost use Rattle.std.specs.Coded.{coded_ℕ};
-    ghost use Rattle.cj_seats.specs.declared.seat.Seat.{Seat};
-    ghost use Rattle.cj_seats.specs.contracts.seat.Seat.{the_row as seat};
+    ghost use Rattle.cj_state.specs.declared.phases.seat.Seat.{Seat};
+    ghost use Rattle.cj_state.specs.contracts.phases.seat.Seat.{the_row as seat};
 
     ghost Value = { map.FinMap nat_cmp Seat };
 
@@ -52,7 +52,7 @@ impl Seats {
     }
 
     /// The worker's seat, if it holds a key.
-    #[tactic(auto, using(crate::proofs::Tables::get_is))]
+    #[tactic(auto, using(crate::proofs::PhasesLemmas::Tables::get_is))]
     pub fn get(&self, worker: u64) -> Option<&Seat>
         ensures { option_copied result ≡ map.get self.now worker }
     {
@@ -60,7 +60,7 @@ impl Seats {
     }
 
     /// Gives the worker a seat; unchanged where there is no memory.
-    #[tactic(auto, using(crate::proofs::Tables::inserted, crate::proofs::Tables::get_is))]
+    #[tactic(auto, using(crate::proofs::PhasesLemmas::Tables::inserted, crate::proofs::PhasesLemmas::Tables::get_is))]
     pub fn insert(&mut self, worker: u64, seat: Seat) -> Result<(), Refusal>
         ensures ok { OnOk result (self.new ≡ map.insert self.old worker seat) }
         ensures err { OnErr result (self.new ≡ self.old) }
@@ -81,7 +81,7 @@ impl Seats {
     }
 
     /// Takes the worker's seat.
-    #[tactic(auto, using(crate::proofs::Tables::removed))]
+    #[tactic(auto, using(crate::proofs::PhasesLemmas::Tables::removed))]
     pub fn remove(&mut self, worker: u64)
         ensures { self.new ≡ map.remove self.old worker }
     {
