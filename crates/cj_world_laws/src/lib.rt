@@ -1,0 +1,2 @@
+//! Laws over every list of calls.
+#![tactic(auto)]
