@@ -19,8 +19,8 @@ use Rattle.cj_state.specs.declared.phases.seat.Phase.{Phase}
 use Rattle.cj_state.specs.declared.phases.seat.Phase.TheVariants.{Held, Seen, Listed, Checked, Works}
 use Rattle.cj_state.specs.declared.phases.seat.Seat.{Seat}
 use Rattle.cj_state.specs.Legal.{IsLegal, answer_of}
-use Rattle.cj_legal.specs.Seats.{seat}
-use Rattle.cj_legal.proofs.Hands.{always_exclusive}
+use Rattle.cj_world_laws.specs.legal.Seats.{seat}
+use Rattle.cj_world_laws.proofs.LegalLemmas.Hands.{always_exclusive}
 use Rattle.cj_store_history.specs.Written.{version, current_cron, current_job}
 use Rattle.cj_store_history.specs.Lists.{IsListing, passing}
 use Rattle.cj_store_history.specs.Writes.{writes}

@@ -7,8 +7,8 @@ use Rattle.cj_calls.specs.declared.caller.Caller.{Caller}
 use Rattle.cj_calls.specs.declared.call.Call.{Call}
 use Rattle.cj_calls.specs.declared.reply.Reply.{Reply}
 use Rattle.cj_state.specs.Legal.{IsLegal, is_entered, answer_of}
-use Rattle.cj_legal.specs.Seats.{seat}
-use Rattle.cj_legal.specs.Exclusive.{Exclusive}
+use Rattle.cj_world_laws.specs.legal.Seats.{seat}
+use Rattle.cj_world_laws.specs.legal.Exclusive.{Exclusive}
 use Rattle.cj_store_history.specs.Writes.{writes}
 use Rattle.cj_store_history.specs.Mirrors.{fed}
 use Rattle.cj_store_history.specs.Answers as store

@@ -3,7 +3,7 @@ ghost use Rattle.std.specs.FinMap as map;
 ghost use mathlib.Core.List.{reverse};
 ghost use Rattle.cj_base.specs.declared.refusal.Refusal.TheVariants.{OutOfMemory};
 ghost use Rattle.cj_state.specs.Legal.{IsLegal, ArePlanned};
-ghost use Rattle.cj_legal.specs.Exclusive.{Exclusive};
+ghost use Rattle.cj_world_laws.specs.legal.Exclusive.{Exclusive};
 ghost use Rattle.cj_once.specs.Once.{Once, Alone};
 ghost use Rattle.cj_once.specs.Times.{Timely};
 ghost use Rattle.cj_world.specs.Worlds.{state_in};

@@ -3,7 +3,7 @@ ghost use Rattle.cj_base.specs.declared.refusal.Refusal.TheVariants.{Estranged, 
 ghost use Rattle.cj_calls.specs.Rows.{is_in_row};
 ghost use Rattle.cj_calls.specs.declared.call.Call.TheVariants as Of;
 ghost use Rattle.cj_state.specs.Legal.{IsLegal};
-ghost use Rattle.cj_legal.specs.Exclusive.{Exclusive};
+ghost use Rattle.cj_world_laws.specs.legal.Exclusive.{Exclusive};
 ghost use Rattle.cj_once.specs.Once.{Once, Alone};
 ghost use Rattle.cj_hub.specs.Receipts.{fresh, IsExact, IsReceipt};
 ghost use Rattle.cj_hub.specs.Books.{Fits};

@@ -12,8 +12,8 @@ use Rattle.cj_state.specs.declared.phases.seat.Seat.{Seat}
 use Rattle.cj_state.specs.Moves.{seat_of}
 use Rattle.cj_state.specs.Step.{step_of}
 use Rattle.cj_state.specs.Legal.{IsLegal, state_of}
-use Rattle.cj_legal.specs.Seats.{seat}
-use Rattle.cj_legal.proofs.Seated.{seats_agree}
+use Rattle.cj_world_laws.specs.legal.Seats.{seat}
+use Rattle.cj_world_laws.proofs.LegalLemmas.Seated.{seats_agree}
 use Rattle.cj_queue_history.specs.Deeds.{Deed, adds, ticks, takes, ends, fails, shuts, nothing, deed, Act, acts}
 use Rattle.cj_queue_history.specs.LookBacks.{since, IsLine}
 use Rattle.cj_queue_history.specs.Laws.{QueueLaw}

@@ -22,7 +22,7 @@ use Rattle.cj_state.specs.declared.state.State.{State}
 use Rattle.cj_state.specs.Moves.{by_seat, seat_of, take, take_by, take_first, finish, finish_in, finish_work}
 use Rattle.cj_state.specs.Step.{step_of, by_role, by_informer, by_worker}
 use Rattle.cj_state.specs.Legal.{state_of}
-use Rattle.cj_legal.proofs.Seated.{seats_agree}
+use Rattle.cj_world_laws.proofs.LegalLemmas.Seated.{seats_agree}
 use Rattle.cj_queue_history.specs.Deeds.{Act, acts}
 use Rattle.cj_queue_history.specs.LookBacks.{queued, since, RisesBy}
 use Rattle.cj_queue_history.specs.Laws.{IsQueue}

@@ -20,7 +20,7 @@ use Rattle.cj_state.specs.declared.phases.seat.Phase.{Phase}
 use Rattle.cj_state.specs.declared.phases.seat.Phase.TheVariants.{Works}
 use Rattle.cj_state.specs.declared.phases.seat.Seat.{Seat}
 use Rattle.cj_state.specs.Legal.{IsLegal, answer_of}
-use Rattle.cj_legal.specs.Seats.{seat}
+use Rattle.cj_world_laws.specs.legal.Seats.{seat}
 use Rattle.cj_queue_history.specs.Deeds.{Act, acts}
 use Rattle.cj_queue_history.specs.LookBacks.{queued, shut, since, Before}
 

@@ -14,7 +14,7 @@ use Rattle.cj_calls.specs.Rows.{Told}
 use Rattle.cj_state.specs.declared.phases.seat.Phase.{Phase}
 use Rattle.cj_state.specs.declared.phases.seat.Phase.TheVariants.{Works}
 use Rattle.cj_state.specs.declared.phases.seat.Seat.{Seat}
-use Rattle.cj_legal.specs.Seats.{seat}
+use Rattle.cj_world_laws.specs.legal.Seats.{seat}
 
 -- a key is added (Add), the moment is told, a key is taken (Get), a sync ends well, with the next time of its
 -- CronJob in seconds, or is to be tried again, from a moment in milliseconds on (Done, Forget, AddAfter,

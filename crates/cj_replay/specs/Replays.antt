@@ -6,7 +6,7 @@ use Rattle.cj_types.specs.declared.job.Job.{Job}
 use Rattle.cj_calls.specs.Rows.{Told}
 use Rattle.cj_state.specs.declared.state.State.{State}
 use Rattle.cj_state.specs.Legal.{ArePlanned, IsLegal, state_of}
-use Rattle.cj_legal.specs.Exclusive.{Exclusive}
+use Rattle.cj_world_laws.specs.legal.Exclusive.{Exclusive}
 use Rattle.cj_once.specs.Once.{Alone, Once}
 use Rattle.cj_once.specs.Times.{Timely}
 use Rattle.cj_lines.specs.Objects.{cron_lines, job_lines}

@@ -44,7 +44,7 @@ use Rattle.cj_state.specs.Readings.{if_mine, active_job, active_of, listed_of, f
 use Rattle.cj_state.specs.Moves.{Moved, refused, by_seat, seat_of, see_cron, see_cron_in, see_jobs, see_jobs_in, see_active, see_active_in, claim, claim_in, claim_where, claims, wrote, works, drop_next, drop_in, drop_where, drops_it, next_seat, make_next, make_in, make_where, steps_on, event_reply, version_reply, set_status as set_status_next, status_in, status_where, sets_it}
 use Rattle.cj_state.specs.Step.{writes as writes_it, found_cron, found_job, told_events, step_of, by_role, by_reader, by_user, by_runner, by_worker, by_informer}
 use Rattle.cj_state.specs.Legal.{IsLegal, state_of}
-use Rattle.cj_legal.proofs.Seated.{seats_agree}
+use Rattle.cj_world_laws.proofs.LegalLemmas.Seated.{seats_agree}
 use Rattle.cj_store_history.specs.Written.{version, cron_left, job_left, current_cron, current_job}
 use Rattle.cj_store_history.specs.Lists.{IsListing}
 use Rattle.cj_store_history.specs.Mirrors.{fed, earliest, IsMirror}

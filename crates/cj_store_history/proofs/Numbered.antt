@@ -24,7 +24,7 @@ use Rattle.cj_watch.proofs.Numbered.{numbered_snoc}
 use Rattle.cj_store_history.specs.Written.{version, made, current_cron, current_job}
 use Rattle.cj_store_history.specs.Writes.{claimed, stepped, stepped_in, stepped_by, written_by, entry_written, with_write, writes}
 use Rattle.cj_store_history.specs.Numbers.{uid_of, NumbersLaw, UidLaw}
-use Rattle.cj_legal.specs.Seats.{seat}
+use Rattle.cj_world_laws.specs.legal.Seats.{seat}
 
 abbrev pub Right : List Event → Event → Type 0
 Right ws (Added o) = (object_version o ≡ version ws + 1) × (uid_of o ≡ made ws + 1)

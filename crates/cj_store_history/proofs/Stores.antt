@@ -10,8 +10,8 @@ use Rattle.cj_store.specs.Content.{Content}
 use Rattle.cj_state.specs.Moves.{seat_of}
 use Rattle.cj_state.specs.Step.{step_of}
 use Rattle.cj_state.specs.Legal.{IsLegal, state_of}
-use Rattle.cj_legal.specs.Seats.{seat}
-use Rattle.cj_legal.proofs.Seated.{seats_agree}
+use Rattle.cj_world_laws.specs.legal.Seats.{seat}
+use Rattle.cj_world_laws.proofs.LegalLemmas.Seated.{seats_agree}
 use Rattle.cj_store_history.specs.Writes.{entry_written, with_write, writes}
 use Rattle.cj_store_history.specs.Store.{IsStore, StoreLaw}
 use Rattle.cj_store_history.proofs.Alike.{begins, one_more}

@@ -32,7 +32,7 @@ use Rattle.cj_state.specs.declared.phases.seat.Seat.{Seat}
 use Rattle.cj_state.specs.Readings.{if_mine}
 use Rattle.cj_state.specs.Moves.{event_reply, version_reply}
 use Rattle.cj_state.specs.Legal.{IsLegal, answer_of}
-use Rattle.cj_legal.specs.Seats.{seat}
+use Rattle.cj_world_laws.specs.legal.Seats.{seat}
 use Rattle.cj_store_history.specs.Written.{version, current_cron, current_job}
 use Rattle.cj_store_history.specs.Lists.{IsListing, passing}
 use Rattle.cj_store_history.specs.Mirrors.{earliest, fed}

@@ -14,7 +14,7 @@ use Rattle.cj_state.specs.phases.Steps.{Step, drops, makes, sets, step_at}
 use Rattle.cj_state.specs.declared.phases.seat.Phase.{Phase}
 use Rattle.cj_state.specs.declared.phases.seat.Phase.TheVariants.{Works}
 use Rattle.cj_state.specs.declared.phases.seat.Seat.{Seat}
-use Rattle.cj_legal.specs.Seats.{seat}
+use Rattle.cj_world_laws.specs.legal.Seats.{seat}
 use Rattle.cj_store_history.specs.Written.{current_cron, current_job, cron_created, cron_updated, status_set, cron_deleted, job_created, job_updated, job_ended, job_deleted}
 
 -- ---- what a worker writes, by its seat, which its own entries say

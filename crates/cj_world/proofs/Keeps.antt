@@ -15,9 +15,9 @@ use Rattle.cj_state.specs.Moves.{Moved, moved}
 use Rattle.cj_state.specs.Sound.{IsSound}
 use Rattle.cj_state.specs.Step.{step_of}
 use Rattle.cj_state.specs.Legal.{answer_of, is_entered, IsPlanned}
-use Rattle.cj_legal.specs.Answers.{is_empty, Fine}
-use Rattle.cj_legal.proofs.Fine.{fine}
-use Rattle.cj_legal.proofs.Sound.{sound_of, version_of_history}
+use Rattle.cj_world_laws.specs.legal.Answers.{is_empty, Fine}
+use Rattle.cj_world_laws.proofs.LegalLemmas.Fine.{fine}
+use Rattle.cj_world_laws.proofs.LegalLemmas.Sound.{sound_of, version_of_history}
 use Rattle.cj_world.specs.Worlds.{Ledger, told, Stands, Applied, Advanced, receipts_of, Entered}
 
 -- ---- an answer

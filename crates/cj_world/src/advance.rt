@@ -3,7 +3,7 @@ ghost use mathlib.Core.List.{reverse};
 ghost use Rattle.cj_store.specs.Content.{HasRoom};
 ghost use Rattle.cj_base.specs.declared.refusal.Refusal.TheVariants.{OutOfMemory};
 ghost use Rattle.cj_state.specs.Sound.{IsSound};
-ghost use Rattle.cj_legal.specs.Answers.{is_empty};
+ghost use Rattle.cj_world_laws.specs.legal.Answers.{is_empty};
 ghost use Rattle.cj_world.specs.Worlds.{Advanced, receipts_of};
 
 use crate::step::step;

@@ -4,7 +4,7 @@ ghost use mathlib.Core.List.{reverse};
 ghost use Rattle.cj_base.specs.declared.refusal.Refusal.TheVariants.{Empty, OutOfMemory};
 ghost use Rattle.cj_types.specs.WorldLimits.{last_history};
 ghost use Rattle.cj_state.specs.Legal.{IsLegal, IsPlanned, ArePlanned, is_entered};
-ghost use Rattle.cj_legal.specs.Exclusive.{Exclusive};
+ghost use Rattle.cj_world_laws.specs.legal.Exclusive.{Exclusive};
 ghost use Rattle.cj_once.specs.Once.{Once, Alone};
 ghost use Rattle.cj_once.specs.Times.{Timely};
 ghost use Rattle.cj_world.specs.Worlds.{Applied, Entered, IsAtRest, receipts_of, state_in};
@@ -12,7 +12,7 @@ ghost use Rattle.cj_world.specs.Worlds.{Applied, Entered, IsAtRest, receipts_of,
 use crate::advance::{Made, advance};
 use cj_base::both;
 use cj_calls::{Answer, Call, Caller, Entry};
-use cj_legal::exclusive_law;
+use cj_world_laws::exclusive_law;
 use cj_watch::{Mirror, WatchLog, Window};
 use cj_once::{once_law, time_law};
 use cj_queue::Queue;

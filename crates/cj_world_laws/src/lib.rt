@@ -1,2 +1,6 @@
 //! Laws over every list of calls.
 #![tactic(auto)]
+
+mod legal;
+
+pub use legal::{answer_law, exclusive_law, input_law, seat_law, sound_law};

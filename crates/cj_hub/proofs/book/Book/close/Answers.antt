@@ -2,7 +2,7 @@
 use Rattle.std.proofs.Common.{ap, subst, sym, List, refl}
 use Rattle.std.specs.Prelude.{All}
 use Rattle.cj_calls.specs.Rows.{Told}
-use Rattle.cj_legal.specs.Exclusive.{Exclusive}
+use Rattle.cj_world_laws.specs.legal.Exclusive.{Exclusive}
 use Rattle.cj_hub.specs.Receipts.{PassView}
 use Rattle.cj_hub.specs.Books.{Fits}
 use Rattle.cj_hub.proofs.book.Book.close.Goals as goal

@@ -1,7 +1,7 @@
 -- Hub::close: all its clauses, from those of Book::close.
 use Rattle.std.proofs.Common.{All}
 use Rattle.cj_state.specs.Legal.{IsLegal}
-use Rattle.cj_legal.specs.Exclusive.{Exclusive}
+use Rattle.cj_world_laws.specs.legal.Exclusive.{Exclusive}
 use Rattle.cj_once.specs.Once.{Once, Alone}
 use Rattle.cj_hub.specs.Receipts.{IsExact}
 use Rattle.cj_hub.proofs.Closing.{closed_has, same_passes, still_refused}

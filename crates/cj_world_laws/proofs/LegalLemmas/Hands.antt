@@ -21,11 +21,11 @@ use Rattle.cj_state.specs.declared.state.State.{State}
 use Rattle.cj_state.specs.Moves.{seat_of, take, take_by, take_first}
 use Rattle.cj_state.specs.Step.{step_of, by_role}
 use Rattle.cj_state.specs.Legal.{IsLegal, state_of}
-use Rattle.cj_legal.specs.Seats.{accepted, seat_after, seat}
-use Rattle.cj_legal.specs.Exclusive.{IsTake, IsFinish, SomeFinish, here, later, AlwaysExclusive}
-use Rattle.cj_legal.proofs.Rows.{first_free}
-use Rattle.cj_legal.proofs.Sound.{Whole, whole_of}
-use Rattle.cj_legal.proofs.Seated.{seats_agree}
+use Rattle.cj_world_laws.specs.legal.Seats.{accepted, seat_after, seat}
+use Rattle.cj_world_laws.specs.legal.Exclusive.{IsTake, IsFinish, SomeFinish, here, later, AlwaysExclusive}
+use Rattle.cj_world_laws.proofs.LegalLemmas.Rows.{first_free}
+use Rattle.cj_world_laws.proofs.LegalLemmas.Sound.{Whole, whole_of}
+use Rattle.cj_world_laws.proofs.LegalLemmas.Seated.{seats_agree}
 
 -- Numbers that the test takes for equal are equal.
 number_is : (q k : ℕ) → (q == k) ≡ true → q ≡ k

@@ -21,7 +21,7 @@ use Rattle.cj_state.specs.declared.state.State.{State}
 use Rattle.cj_state.specs.Moves.{written}
 use Rattle.cj_state.specs.Readings.{fed_up}
 use Rattle.cj_state.specs.Step.{start}
-use Rattle.cj_legal.proofs.Shapes.{Shape, same, sat, wrote_it, took, left_it, stored, listed, queued}
+use Rattle.cj_world_laws.proofs.LegalLemmas.Shapes.{Shape, same, sat, wrote_it, took, left_it, stored, listed, queued}
 
 pub record Follows (window : ℕ) (s : State) : Type 0 where
   pub events : List Event

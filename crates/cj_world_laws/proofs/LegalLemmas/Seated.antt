@@ -14,9 +14,9 @@ use Rattle.cj_state.specs.declared.state.State.{State}
 use Rattle.cj_state.specs.Moves.{Moved, seat_of}
 use Rattle.cj_state.specs.Step.{step_of}
 use Rattle.cj_state.specs.Legal.{IsLegal, state_of}
-use Rattle.cj_legal.proofs.Sound.{whole_of}
-use Rattle.cj_legal.specs.Seats.{seat, seat_after}
-use Rattle.cj_legal.proofs.Seatings.{Seating, kept, sat_at, left_at, seating}
+use Rattle.cj_world_laws.proofs.LegalLemmas.Sound.{whole_of}
+use Rattle.cj_world_laws.specs.legal.Seats.{seat, seat_after}
+use Rattle.cj_world_laws.proofs.LegalLemmas.Seatings.{Seating, kept, sat_at, left_at, seating}
 
 -- Two numbers are equal by the order's test just where they are by the test of numbers.
 same_number : (q k : ℕ) → eq_by_cmp nat_cmp q k ≡ (q == k)

@@ -1,6 +1,6 @@
 -- seat_law: its clauses seats and held, of the seats that a history's entries give.
-use Rattle.cj_legal.proofs.Seated.{seats_agree, one_holder}
-use Rattle.cj_legal.proofs.laws.seat_law.Goals as goal
+use Rattle.cj_world_laws.proofs.LegalLemmas.Seated.{seats_agree, one_holder}
+use Rattle.cj_world_laws.proofs.legal.laws.seat_law.Goals as goal
 
 pub returns-clause-seats : goal.returns-clause-seats
 returns-clause-seats c = seats_agree

@@ -19,9 +19,9 @@ use Rattle.cj_state.specs.declared.phases.seat.Seat.{Seat}
 use Rattle.cj_state.specs.declared.state.State.{State}
 use Rattle.cj_state.specs.Sound.{IsSound}
 use Rattle.cj_state.specs.Legal.{state_of}
-use Rattle.cj_legal.proofs.Shapes.{Shape, same, sat, wrote_it, took, left_it, stored, listed, queued, shape}
-use Rattle.cj_legal.proofs.Follows.{Follows, told_of, follows_start, follows_shape}
-use Rattle.cj_legal.proofs.Rows.{RowOk, put_has, put_keeps, removal_other, add_ok, adds_ok, end_ok, take_ok, add_works, adds_works, take_works, first_free}
+use Rattle.cj_world_laws.proofs.LegalLemmas.Shapes.{Shape, same, sat, wrote_it, took, left_it, stored, listed, queued, shape}
+use Rattle.cj_world_laws.proofs.LegalLemmas.Follows.{Follows, told_of, follows_start, follows_shape}
+use Rattle.cj_world_laws.proofs.LegalLemmas.Rows.{RowOk, put_has, put_keeps, removal_other, add_ok, adds_ok, end_ok, take_ok, add_works, adds_works, take_works, first_free}
 
 -- ---- seats by number
 

@@ -38,8 +38,8 @@ use Rattle.cj_store.specs.Change.{cron_added, cron_modified, cron_gone, job_modi
 use Rattle.cj_store.specs.Crons.{cron_created, cron_updated, cron_deleted}
 use Rattle.cj_store.specs.Jobs.{job_created, job_updated, job_deleted, job_ended}
 use Rattle.cj_state.specs.Step.{writes, step_of, by_role, by_reader, by_user, by_runner, by_worker, by_informer}
-use Rattle.cj_legal.proofs.Shapes.{reader_same}
-use Rattle.cj_legal.specs.Seats.{accepted, seat_after}
+use Rattle.cj_world_laws.proofs.LegalLemmas.Shapes.{reader_same}
+use Rattle.cj_world_laws.specs.legal.Seats.{accepted, seat_after}
 
 pub data Seating (s : State) (w : ℕ) (call : Call) (m : Moved) : Type 0 where
   kept : m.state.seats ≡ s.seats → seat_after (seat_of s w) call m.answer ≡ seat_of s w → Seating s w call m

@@ -6,9 +6,9 @@ ghost use Rattle.cj_calls.specs.Rows.{Told};
 ghost use Rattle.cj_state.specs.phases.Inputs.{rests_on, RestsOnThree};
 ghost use Rattle.cj_state.specs.Sound.{IsSound};
 ghost use Rattle.cj_state.specs.Legal.{state_of};
-ghost use Rattle.cj_legal.specs.Answers.{AnswersFit};
-ghost use Rattle.cj_legal.specs.Seats.{SeatLaw, HeldLaw};
-ghost use Rattle.cj_legal.specs.Exclusive.{AlwaysExclusive};
+ghost use Rattle.cj_world_laws.specs.legal.Answers.{AnswersFit};
+ghost use Rattle.cj_world_laws.specs.legal.Seats.{SeatLaw, HeldLaw};
+ghost use Rattle.cj_world_laws.specs.legal.Exclusive.{AlwaysExclusive};
 
 /// The state that any history leaves is sound, has not more writes than the history entries, and the window
 /// it began with.

@@ -1,6 +1,0 @@
--- answer_law: its ensures, that what a call is answered stands in its row.
-use Rattle.cj_legal.proofs.Fine.{fine}
-use Rattle.cj_legal.proofs.laws.answer_law.Goals as goal
-
-pub returns : goal.returns
-returns c = fine

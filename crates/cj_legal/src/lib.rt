@@ -1,7 +1,0 @@
-//! Laws of histories: what every state keeps that calls lead to, which answers a call can have, and that a
-//! key is in one worker's hands at a time.
-#![tactic(auto)]
-
-mod laws;
-
-pub use laws::{answer_law, exclusive_law, input_law, seat_law, sound_law};
