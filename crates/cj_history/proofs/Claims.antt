@@ -7,8 +7,8 @@ use Rattle.cj_decide.specs.Decision.{Planned}
 use Rattle.cj_calls.specs.Rows.{Told}
 use Rattle.cj_state.specs.Legal.{IsLegal}
 use Rattle.cj_world_laws.proofs.LegalLemmas.Seated.{seats_agree}
-use Rattle.cj_once.specs.Times as state
-use Rattle.cj_once.proofs.Claims.{timely as always_timely}
+use Rattle.cj_world_laws.specs.once.Times as state
+use Rattle.cj_world_laws.proofs.OnceLemmas.Claims.{timely as always_timely}
 use Rattle.cj_store_history.specs.Store.{IsStore}
 use Rattle.cj_store_history.specs.Writes.{writes}
 use Rattle.cj_store_history.proofs.Stores.{store_agrees}

@@ -12,9 +12,9 @@ use Rattle.cj_calls.specs.declared.call.Call.TheVariants as Of
 use Rattle.cj_calls.specs.declared.reply.Reply.{Reply}
 use Rattle.cj_calls.specs.declared.reply.Reply.TheVariants as Say
 use Rattle.cj_state.specs.Legal.{IsLegal, state_of}
-use Rattle.cj_once.specs.Once as state
-use Rattle.cj_once.specs.Once.{Claimed, claimed_under, is_making, with_made, IsNew}
-use Rattle.cj_once.proofs.Whole.{both}
+use Rattle.cj_world_laws.specs.once.Once as state
+use Rattle.cj_world_laws.specs.once.Once.{Claimed, claimed_under, is_making, with_made, IsNew}
+use Rattle.cj_world_laws.proofs.OnceLemmas.Whole.{both}
 use Rattle.cj_store_history.specs.Store.{IsStore}
 use Rattle.cj_store_history.specs.Writes.{writes}
 use Rattle.cj_store_history.proofs.Stores.{store_agrees}

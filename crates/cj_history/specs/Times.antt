@@ -12,7 +12,7 @@ use Rattle.cj_state.specs.declared.phases.seat.Seat.{Seat}
 use Rattle.cj_state.specs.Legal.{ArePlanned}
 use Rattle.cj_world_laws.specs.legal.Seats.{seat}
 use Rattle.cj_decide.specs.laws.Laws.{IsClaimed}
-use Rattle.cj_once.specs.Times.{IsClaim}
+use Rattle.cj_world_laws.specs.once.Times.{IsClaim}
 use Rattle.cj_store_history.specs.Written.{current_cron}
 use Rattle.cj_store_history.specs.Writes.{writes}
 use Rattle.cj_history.specs.Legal.{IsLawful}

@@ -3,7 +3,7 @@ ghost use mathlib.Core.List.{reverse};
 ghost use Rattle.cj_base.specs.declared.refusal.Refusal.TheVariants.{Estranged, OutOfMemory};
 ghost use Rattle.cj_state.specs.Legal.{IsLegal};
 ghost use Rattle.cj_world_laws.specs.legal.Exclusive.{Exclusive};
-ghost use Rattle.cj_once.specs.Once.{Once, Alone};
+ghost use Rattle.cj_world_laws.specs.once.Once.{Once, Alone};
 ghost use Rattle.cj_hub.specs.Receipts.{fresh, IsExact};
 ghost use Rattle.cj_hub.specs.Books.{no_seat, state_in, Fits, IsEnrolled, IsEntered, IsFull, IsUnentered, Knows};
 ghost use Rattle.cj_hub.specs.States.{IsState};

@@ -4,8 +4,8 @@ ghost use mathlib.Core.List.{reverse};
 ghost use Rattle.cj_base.specs.declared.refusal.Refusal.TheVariants.{OutOfMemory};
 ghost use Rattle.cj_state.specs.Legal.{IsLegal, ArePlanned};
 ghost use Rattle.cj_world_laws.specs.legal.Exclusive.{Exclusive};
-ghost use Rattle.cj_once.specs.Once.{Once, Alone};
-ghost use Rattle.cj_once.specs.Times.{Timely};
+ghost use Rattle.cj_world_laws.specs.once.Once.{Once, Alone};
+ghost use Rattle.cj_world_laws.specs.once.Times.{Timely};
 ghost use Rattle.cj_world.specs.Worlds.{state_in};
 ghost use Rattle.cj_hub.specs.Receipts.{Stands};
 

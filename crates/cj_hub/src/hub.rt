@@ -4,7 +4,7 @@ ghost use Rattle.cj_calls.specs.Rows.{is_in_row};
 ghost use Rattle.cj_calls.specs.declared.call.Call.TheVariants as Of;
 ghost use Rattle.cj_state.specs.Legal.{IsLegal};
 ghost use Rattle.cj_world_laws.specs.legal.Exclusive.{Exclusive};
-ghost use Rattle.cj_once.specs.Once.{Once, Alone};
+ghost use Rattle.cj_world_laws.specs.once.Once.{Once, Alone};
 ghost use Rattle.cj_hub.specs.Receipts.{fresh, IsExact, IsReceipt};
 ghost use Rattle.cj_hub.specs.Books.{Fits};
 ghost use Rattle.cj_hub.specs.Runs.{IsDeskRefusal, IsWaitRefusal};

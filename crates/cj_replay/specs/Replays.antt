@@ -7,8 +7,8 @@ use Rattle.cj_calls.specs.Rows.{Told}
 use Rattle.cj_state.specs.declared.state.State.{State}
 use Rattle.cj_state.specs.Legal.{ArePlanned, IsLegal, state_of}
 use Rattle.cj_world_laws.specs.legal.Exclusive.{Exclusive}
-use Rattle.cj_once.specs.Once.{Alone, Once}
-use Rattle.cj_once.specs.Times.{Timely}
+use Rattle.cj_world_laws.specs.once.Once.{Alone, Once}
+use Rattle.cj_world_laws.specs.once.Times.{Timely}
 use Rattle.cj_lines.specs.Objects.{cron_lines, job_lines}
 use Rattle.cj_lines.specs.Reasons.{reason_lines}
 use Rattle.cj_script.specs.declared.script.Script.{Script}

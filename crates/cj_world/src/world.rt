@@ -5,16 +5,15 @@ ghost use Rattle.cj_base.specs.declared.refusal.Refusal.TheVariants.{Empty, OutO
 ghost use Rattle.cj_types.specs.WorldLimits.{last_history};
 ghost use Rattle.cj_state.specs.Legal.{IsLegal, IsPlanned, ArePlanned, is_entered};
 ghost use Rattle.cj_world_laws.specs.legal.Exclusive.{Exclusive};
-ghost use Rattle.cj_once.specs.Once.{Once, Alone};
-ghost use Rattle.cj_once.specs.Times.{Timely};
+ghost use Rattle.cj_world_laws.specs.once.Once.{Once, Alone};
+ghost use Rattle.cj_world_laws.specs.once.Times.{Timely};
 ghost use Rattle.cj_world.specs.Worlds.{Applied, Entered, IsAtRest, receipts_of, state_in};
 
 use crate::advance::{Made, advance};
 use cj_base::both;
 use cj_calls::{Answer, Call, Caller, Entry};
-use cj_world_laws::exclusive_law;
+use cj_world_laws::{exclusive_law, once_law, time_law};
 use cj_watch::{Mirror, WatchLog, Window};
-use cj_once::{once_law, time_law};
 use cj_queue::Queue;
 use cj_state::{Seats, State};
 use cj_store::Store;

@@ -1,1 +1,2 @@
 pub mod LegalLemmas
+pub mod OnceLemmas

@@ -1,1 +1,2 @@
 pub mod legal
+pub mod once

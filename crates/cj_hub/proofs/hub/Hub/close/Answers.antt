@@ -2,7 +2,7 @@
 use Rattle.std.proofs.Common.{All}
 use Rattle.cj_state.specs.Legal.{IsLegal}
 use Rattle.cj_world_laws.specs.legal.Exclusive.{Exclusive}
-use Rattle.cj_once.specs.Once.{Once, Alone}
+use Rattle.cj_world_laws.specs.once.Once.{Once, Alone}
 use Rattle.cj_hub.specs.Receipts.{IsExact}
 use Rattle.cj_hub.proofs.Closing.{closed_has, same_passes, still_refused}
 use Rattle.cj_hub.proofs.hub.Hub.close.Goals as goal

@@ -21,13 +21,13 @@ use Rattle.cj_state.specs.Legal.{state_of, IsLegal, IsPlanned, ArePlanned}
 use Rattle.cj_decide.specs.laws.Fits.{runs, is_strict, Fits}
 use Rattle.cj_decide.proofs.LawsLemmas.Fitting.{decided_fits}
 use Rattle.std.specs.List.{AllByRecursion}
-use Rattle.cj_once.specs.Once.{Claimed, claim_after, claim_of, is_ok, makes_with, is_making, with_made, makes, Once, Alone, OnceAndAlone}
-use Rattle.cj_once.proofs.Lists.{weaker}
-use Rattle.cj_once.proofs.Facts.{Homes, Inv}
-use Rattle.cj_once.proofs.Frames.{Claims, same_claims}
-use Rattle.cj_once.proofs.Calls.{Now, Plain, stays, user_plain, runner_plain, informer_plain, take_plain, see_cron_plain, see_jobs_plain, see_active_plain, finish_plain}
-use Rattle.cj_once.proofs.Steps.{same_branches, claim_kept, drop_plain, status_plain}
-use Rattle.cj_once.proofs.Make.{MakeKept, make_kept, Rests, make_rests}
+use Rattle.cj_world_laws.specs.once.Once.{Claimed, claim_after, claim_of, is_ok, makes_with, is_making, with_made, makes, Once, Alone, OnceAndAlone}
+use Rattle.cj_world_laws.proofs.OnceLemmas.Lists.{weaker}
+use Rattle.cj_world_laws.proofs.OnceLemmas.Facts.{Homes, Inv}
+use Rattle.cj_world_laws.proofs.OnceLemmas.Frames.{Claims, same_claims}
+use Rattle.cj_world_laws.proofs.OnceLemmas.Calls.{Now, Plain, stays, user_plain, runner_plain, informer_plain, take_plain, see_cron_plain, see_jobs_plain, see_active_plain, finish_plain}
+use Rattle.cj_world_laws.proofs.OnceLemmas.Steps.{same_branches, claim_kept, drop_plain, status_plain}
+use Rattle.cj_world_laws.proofs.OnceLemmas.Make.{MakeKept, make_kept, Rests, make_rests}
 
 -- each plan that comes in is such as the laws ask for
 abbrev pub DoesFit : Call → Type 0

@@ -5,10 +5,10 @@ use Rattle.std.specs.FinMap as map
 use Rattle.cj_types.specs.Keys.{Place}
 use Rattle.cj_table.proofs.Puts.{put_split, removal_split, removal_there}
 use Rattle.cj_queue.specs.Times.{ready}
-use Rattle.cj_once.proofs.Lists.{IsIn}
+use Rattle.cj_world_laws.proofs.OnceLemmas.Lists.{IsIn}
 use Rattle.cj_queue.specs.Queue.{Keys, Row, Queue, has, row_add, row_adds, take_in, row_end, added, ended, added_after, ticked, delay, failures_of, forgotten, added_where, finished_ok, finished_retry}
-use Rattle.cj_once.proofs.Maps.{removal_other, put_other, put_here}
-use Rattle.cj_once.proofs.Facts.{IsLine}
+use Rattle.cj_world_laws.proofs.OnceLemmas.Maps.{removal_other, put_other, put_here}
+use Rattle.cj_world_laws.proofs.OnceLemmas.Facts.{IsLine}
 
 -- For has_put: a key in a set stays there, be it the one that is put or another.
 put_by : (m : Keys) (k q : Place) → has m q ≡ true → ((q ≡ k) × (map.get (map.insert m k tt) q ≡ Some tt))

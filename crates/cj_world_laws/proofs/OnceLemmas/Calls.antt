@@ -30,12 +30,12 @@ use Rattle.cj_state.specs.Readings.{listed_of, if_mine, active_job, active_of}
 use Rattle.cj_state.specs.Moves.{Moved, moved, seat_of, seated, by_seat, take_first, take_by, take, see_cron_in, see_cron, see_jobs_in, see_jobs, see_active_in, see_active, leaves, next_ms, finish_work, finish_in, finish}
 use Rattle.cj_state.specs.Step.{writes, found_cron, found_job, told_events, by_reader, by_user, by_runner, by_informer}
 use Rattle.cj_decide.specs.laws.Fits.{IsAt, IsHere, IsFoundIn, runs}
-use Rattle.cj_once.specs.Once.{Claimed}
-use Rattle.cj_once.proofs.Lists.{runs_mine}
-use Rattle.cj_once.proofs.Facts.{Homes, SeenFact, CheckedFact, SeatFact, IsLine, Inv}
-use Rattle.cj_once.proofs.Writes.{Grown, grows_same, create_grows, update_grows, delete_grows, create_job_grows, update_job_grows, delete_job_grows, end_job_grows}
-use Rattle.cj_once.proofs.Rows.{Lined, lined_same, lined_added, lined_ticked, lined_ok, lined_retry}
-use Rattle.cj_once.proofs.Frames.{Claims, seat, all_grown, row_changed, seat_changed, taken_by, ended_by}
+use Rattle.cj_world_laws.specs.once.Once.{Claimed}
+use Rattle.cj_world_laws.proofs.OnceLemmas.Lists.{runs_mine}
+use Rattle.cj_world_laws.proofs.OnceLemmas.Facts.{Homes, SeenFact, CheckedFact, SeatFact, IsLine, Inv}
+use Rattle.cj_world_laws.proofs.OnceLemmas.Writes.{Grown, grows_same, create_grows, update_grows, delete_grows, create_job_grows, update_job_grows, delete_job_grows, end_job_grows}
+use Rattle.cj_world_laws.proofs.OnceLemmas.Rows.{Lined, lined_same, lined_added, lined_ticked, lined_ok, lined_retry}
+use Rattle.cj_world_laws.proofs.OnceLemmas.Frames.{Claims, seat, all_grown, row_changed, seat_changed, taken_by, ended_by}
 
 pub record Now (s : State) (ms : List Claimed) (cl : Claims) (home : Homes) : Type 0 where
   pub inv : Inv home s.store s.queue.row s.seats ms cl

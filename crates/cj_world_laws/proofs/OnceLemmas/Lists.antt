@@ -17,7 +17,7 @@ use Rattle.cj_decide.specs.declared.steps.Steps.{Steps}
 use Rattle.cj_status.specs.Mine.{is_mine, has_uid}
 use Rattle.cj_state.specs.phases.Steps.{Step, drops, makes, sets, makings, settings, all_steps}
 use Rattle.cj_decide.specs.laws.Fits.{IsAmong, runs}
-use Rattle.cj_once.proofs.Uids.{uid_same}
+use Rattle.cj_world_laws.proofs.OnceLemmas.Uids.{uid_same}
 
 -- one of these
 abbrev pub IsIn : {X : Type 0} → X → List X → Type 0

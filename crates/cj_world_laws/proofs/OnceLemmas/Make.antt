@@ -26,15 +26,15 @@ use Rattle.cj_state.specs.declared.phases.seat.Phase.TheVariants.{Held, Seen, Li
 use Rattle.cj_state.specs.declared.state.State.{State}
 use Rattle.cj_state.specs.Moves.{Moved, refused, seat_of, by_seat, next_seat, steps_on, event_reply, make_where, make_in, make_next}
 use Rattle.cj_decide.specs.laws.Fits.{IsAt, runs, upto, is_strict}
-use Rattle.cj_once.specs.Once.{Claimed, is_ok, with_made}
-use Rattle.cj_once.proofs.Maps.{put_at, seat_put}
-use Rattle.cj_once.proofs.Lists.{none_made, Rest, runs_owned, weaker}
-use Rattle.cj_once.proofs.Facts.{Homes, CronFact, IsOwned, StoreFact, SeenFact, CheckedFact, MakeFact, StatusFact, SeatFact, Inv}
-use Rattle.cj_once.proofs.Grows.{if_kept}
-use Rattle.cj_once.proofs.Writes.{mapped, made_is}
-use Rattle.cj_once.proofs.Frames.{Claims}
-use Rattle.cj_once.proofs.Calls.{Now}
-use Rattle.cj_once.proofs.Steps.{LeftFact, work_fact}
+use Rattle.cj_world_laws.specs.once.Once.{Claimed, is_ok, with_made}
+use Rattle.cj_world_laws.proofs.OnceLemmas.Maps.{put_at, seat_put}
+use Rattle.cj_world_laws.proofs.OnceLemmas.Lists.{none_made, Rest, runs_owned, weaker}
+use Rattle.cj_world_laws.proofs.OnceLemmas.Facts.{Homes, CronFact, IsOwned, StoreFact, SeenFact, CheckedFact, MakeFact, StatusFact, SeatFact, Inv}
+use Rattle.cj_world_laws.proofs.OnceLemmas.Grows.{if_kept}
+use Rattle.cj_world_laws.proofs.OnceLemmas.Writes.{mapped, made_is}
+use Rattle.cj_world_laws.proofs.OnceLemmas.Frames.{Claims}
+use Rattle.cj_world_laws.proofs.OnceLemmas.Calls.{Now}
+use Rattle.cj_world_laws.proofs.OnceLemmas.Steps.{LeftFact, work_fact}
 
 -- a Job that is made for a claim
 pub record Making (home : Homes) (s : Content) (k : Place) (m : Claimed) (j : Job) : Type 0 where

@@ -33,14 +33,14 @@ use Rattle.cj_state.specs.declared.state.State.{State}
 use Rattle.cj_state.specs.Moves.{refused, seat_of, by_seat, works, wrote, claims, claim_where, claim_in, claim}
 use Rattle.cj_state.specs.Step.{by_role, step_of}
 use Rattle.cj_state.specs.Legal.{state_of, IsLegal, IsPlanned, ArePlanned}
-use Rattle.cj_once.specs.Once.{Claimed}
-use Rattle.cj_once.specs.Times.{IsClaim, IsLatestMissed, IsTimely, AlwaysTimely}
-use Rattle.cj_once.proofs.Facts.{Homes, SeenFact, CheckedFact}
-use Rattle.cj_once.proofs.Frames.{Claims}
-use Rattle.cj_once.proofs.Writes.{mapped, set_is}
-use Rattle.cj_once.proofs.Calls.{Now, fact_of}
-use Rattle.cj_once.proofs.Steps.{inputs}
-use Rattle.cj_once.proofs.Whole.{do_fit, always}
+use Rattle.cj_world_laws.specs.once.Once.{Claimed}
+use Rattle.cj_world_laws.specs.once.Times.{IsClaim, IsLatestMissed, IsTimely, AlwaysTimely}
+use Rattle.cj_world_laws.proofs.OnceLemmas.Facts.{Homes, SeenFact, CheckedFact}
+use Rattle.cj_world_laws.proofs.OnceLemmas.Frames.{Claims}
+use Rattle.cj_world_laws.proofs.OnceLemmas.Writes.{mapped, set_is}
+use Rattle.cj_world_laws.proofs.OnceLemmas.Calls.{Now, fact_of}
+use Rattle.cj_world_laws.proofs.OnceLemmas.Steps.{inputs}
+use Rattle.cj_world_laws.proofs.OnceLemmas.Whole.{do_fit, always}
 
 -- the answer is that a time was claimed
 abbrev Says : Result Reply Refusal → ℕ → ℕ → Type 0

@@ -32,14 +32,14 @@ use Rattle.cj_state.specs.declared.phases.seat.Phase.TheVariants.{Checked, Works
 use Rattle.cj_state.specs.declared.state.State.{State}
 use Rattle.cj_state.specs.Moves.{Moved, refused, seat_of, by_seat, works, seen_version, wrote, claims, claim_where, claim_in, claim, further, next_seat, steps_on, drops_it, drop_where, drop_in, drop_next, sets_it, status_where, status_in, set_status, version_reply}
 use Rattle.cj_decide.specs.laws.Fits.{IsAt, IsAmong, IsFound, upto, Starts, Waits, FitsWith, FitsFor, Fits, Keeps}
-use Rattle.cj_once.specs.Once.{Claimed, claimed_under, claimed_of, claim_answered}
-use Rattle.cj_once.proofs.Maps.{removal_at, put_at}
-use Rattle.cj_once.proofs.Lists.{Before, Rest, before_all, in_all_makes, in_all_sets, all_ordered, both_true, weaker}
-use Rattle.cj_once.proofs.Facts.{Homes, Named, StoreFact, CheckedFact, StatusFact, PlanFact, SeatFact, Inv}
-use Rattle.cj_once.proofs.Grows.{Grows, plan_kept, last_of}
-use Rattle.cj_once.proofs.Writes.{mapped, set_is, not_deleted, deleted_key, grows_same, grows_put, grows_removal_job}
-use Rattle.cj_once.proofs.Frames.{Claims, seat_changed, same_claims}
-use Rattle.cj_once.proofs.Calls.{Now, Plain, stays, by_seat_plain, fact_of}
+use Rattle.cj_world_laws.specs.once.Once.{Claimed, claimed_under, claimed_of, claim_answered}
+use Rattle.cj_world_laws.proofs.OnceLemmas.Maps.{removal_at, put_at}
+use Rattle.cj_world_laws.proofs.OnceLemmas.Lists.{Before, Rest, before_all, in_all_makes, in_all_sets, all_ordered, both_true, weaker}
+use Rattle.cj_world_laws.proofs.OnceLemmas.Facts.{Homes, Named, StoreFact, CheckedFact, StatusFact, PlanFact, SeatFact, Inv}
+use Rattle.cj_world_laws.proofs.OnceLemmas.Grows.{Grows, plan_kept, last_of}
+use Rattle.cj_world_laws.proofs.OnceLemmas.Writes.{mapped, set_is, not_deleted, deleted_key, grows_same, grows_put, grows_removal_job}
+use Rattle.cj_world_laws.proofs.OnceLemmas.Frames.{Claims, seat_changed, same_claims}
+use Rattle.cj_world_laws.proofs.OnceLemmas.Calls.{Now, Plain, stays, by_seat_plain, fact_of}
 
 -- ---- DropNext
 

@@ -23,10 +23,10 @@ use Rattle.cj_store.specs.Equal.{same_owners}
 use Rattle.cj_store.specs.Change.{after, map_ok, cron_added, cron_modified, cron_gone, job_added, job_modified, job_gone}
 use Rattle.cj_store.specs.Crons.{new_cron, cron_created, updated_cron, cron_updated_from, cron_updated, with_status, status_set_from, last_cron, cron_deleted_from, cron_deleted}
 use Rattle.cj_store.specs.Jobs.{new_job, job_made, job_created, updated_job, job_updated_from, job_updated, is_asked, last_job, job_deleted_from, job_deleted, ended_job, job_ended_from, job_ended}
-use Rattle.cj_once.specs.Once.{Claimed}
-use Rattle.cj_once.proofs.Maps.{put_at, removal_at}
-use Rattle.cj_once.proofs.Facts.{Homes, Named, StoreFact}
-use Rattle.cj_once.proofs.Grows.{last_of, Cronic, Jobbed, Grows}
+use Rattle.cj_world_laws.specs.once.Once.{Claimed}
+use Rattle.cj_world_laws.proofs.OnceLemmas.Maps.{put_at, removal_at}
+use Rattle.cj_world_laws.proofs.OnceLemmas.Facts.{Homes, Named, StoreFact}
+use Rattle.cj_world_laws.proofs.OnceLemmas.Grows.{last_of, Cronic, Jobbed, Grows}
 
 -- ---- answers
 

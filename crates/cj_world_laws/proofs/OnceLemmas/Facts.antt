@@ -19,8 +19,8 @@ use Rattle.cj_state.specs.declared.phases.seat.Seat.{Seat}
 use Rattle.cj_state.specs.declared.phases.seat.Phase.{Phase}
 use Rattle.cj_state.specs.declared.phases.seat.Phase.TheVariants.{Held, Seen, Listed, Checked, Works}
 use Rattle.cj_decide.specs.laws.Fits.{IsAt, IsFound, is_strict, upto}
-use Rattle.cj_once.specs.Once.{Claimed}
-use Rattle.cj_once.proofs.Lists.{IsIn, Before, Ordered, Rest}
+use Rattle.cj_world_laws.specs.once.Once.{Claimed}
+use Rattle.cj_world_laws.proofs.OnceLemmas.Lists.{IsIn, Before, Ordered, Rest}
 
 -- under which key each uid was created
 abbrev pub Homes : Type 0

@@ -16,9 +16,9 @@ use Rattle.cj_state.specs.phases.Steps.{Step, left}
 use Rattle.cj_state.specs.declared.phases.seat.Phase.{Phase}
 use Rattle.cj_state.specs.declared.phases.seat.Phase.TheVariants.{Held, Seen, Listed, Checked, Works}
 use Rattle.cj_decide.specs.laws.Fits.{IsAt, runs, upto}
-use Rattle.cj_once.specs.Once.{Claimed}
-use Rattle.cj_once.proofs.Lists.{Rest, weaker, runs_was, runs_free, runs_owned}
-use Rattle.cj_once.proofs.Facts.{Homes, Named, CronFact, IsOwned, StoreFact, SeenFact, CheckedFact, MakeFact, StatusFact, PlanFact, SeatFact}
+use Rattle.cj_world_laws.specs.once.Once.{Claimed}
+use Rattle.cj_world_laws.proofs.OnceLemmas.Lists.{Rest, weaker, runs_was, runs_free, runs_owned}
+use Rattle.cj_world_laws.proofs.OnceLemmas.Facts.{Homes, Named, CronFact, IsOwned, StoreFact, SeenFact, CheckedFact, MakeFact, StatusFact, PlanFact, SeatFact}
 
 abbrev pub last_of : CronJob → ℕ
 last_of c = upto c.status.last_schedule_time

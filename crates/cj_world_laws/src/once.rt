@@ -1,9 +1,7 @@
-//! Whatever is called by whomever: no scheduled time of a CronJob gets two Jobs, a Job that is made under
-//! Forbid or Replace is made alone, and the time of each claim is the greatest one missed.
-#![tactic(auto)]
-
-ghost use Rattle.cj_once.specs.Once.{OnceAndAlone};
-ghost use Rattle.cj_once.specs.Times.{AlwaysTimely};
+// Whatever is called by whomever: no scheduled time of a CronJob gets two Jobs, a Job that is made under
+// Forbid or Replace is made alone, and the time of each claim is the greatest one missed.
+ghost use Rattle.cj_world_laws.specs.once.Once.{OnceAndAlone};
+ghost use Rattle.cj_world_laws.specs.once.Times.{AlwaysTimely};
 
 /// Every legal history has each time once, and each Job under Forbid or Replace alone.
 pub fn once_law()
