@@ -4,7 +4,9 @@
 
 mod advance;
 mod step;
+mod worker;
 mod world;
 
 pub use cj_types::Limits;
+pub use worker::by_worker;
 pub use world::World;

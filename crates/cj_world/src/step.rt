@@ -7,7 +7,7 @@ ghost use Rattle.cj_state.specs.Step.{step_of};
 
 use cj_arms::{by_informer, by_runner, by_user};
 use cj_calls::{Answered, Call, Caller, Role};
-use cj_moves::by_worker;
+use crate::worker::by_worker;
 use cj_state::State;
 use cj_types::Refusal;
 use std::alloc::Global;

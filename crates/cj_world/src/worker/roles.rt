@@ -5,11 +5,11 @@ ghost use Rattle.cj_state.specs.Sound.{IsSound};
 ghost use Rattle.cj_state.specs.Moves.{moved};
 ghost use Rattle.cj_state.specs.Step.{by_worker};
 
-use crate::claim::claim;
-use crate::finish::finish;
-use crate::plan_steps::{drop_next, make_next, set_status};
-use crate::see::{see_active, see_cron, see_jobs};
-use crate::take::take;
+use crate::worker::claim::claim;
+use crate::worker::finish::finish;
+use crate::worker::plan_steps::{drop_next, make_next, set_status};
+use crate::worker::see::{see_active, see_cron, see_jobs};
+use crate::worker::take::take;
 use cj_calls::{Answered, Call};
 use cj_state::{State, refused};
 use cj_types::Refusal;

@@ -29,7 +29,7 @@ fn key_answer(alloc: Global, key: &Key) -> Result<Answered, Refusal>
     Answered::new(alloc, Ok(Reply::Key(key)))
 }
 
-#[tactic(auto, using(crate::proofs::Undone::undone))]
+#[tactic(auto, using(crate::proofs::WorkerLemmas::Undone::undone))]
 fn take_key(alloc: Global, state: &mut State, worker: u64, key: Key) -> Result<Answered, Refusal>
     requires free { map.get state.old.seats worker ≡ None }
     ensures answer { IfOk result (λ t. t ≡ Ok (Reply.Key key)) }

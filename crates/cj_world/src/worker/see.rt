@@ -6,7 +6,7 @@ ghost use Rattle.cj_state.specs.declared.phases.seat.Phase.TheVariants.{Seen, Li
 ghost use Rattle.cj_state.specs.Readings.{active_of};
 ghost use Rattle.cj_state.specs.Moves.{see_cron, see_jobs, see_active, moved};
 
-use crate::active::active_of;
+use crate::worker::active::active_of;
 use cj_base::{all_three, both};
 use cj_calls::{Answered, Reply};
 use cj_watch::Mirror;

@@ -1,6 +1,4 @@
-//! What each call of a worker does with what the world holds.
-#![tactic(auto)]
-
+// What each call of a worker does with what the world holds.
 mod active;
 mod claim;
 mod finish;
