@@ -3,10 +3,12 @@
 #![tactic(auto)]
 
 mod advance;
+mod api;
 mod step;
 mod worker;
 mod world;
 
+pub use api::{by_informer, by_runner, by_user};
 pub use cj_types::Limits;
 pub use worker::by_worker;
 pub use world::World;

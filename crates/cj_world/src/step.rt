@@ -5,7 +5,7 @@ ghost use Rattle.cj_state.specs.Sound.{IsSound};
 ghost use Rattle.cj_state.specs.Moves.{moved};
 ghost use Rattle.cj_state.specs.Step.{step_of};
 
-use cj_arms::{by_informer, by_runner, by_user};
+use crate::api::{by_informer, by_runner, by_user};
 use cj_calls::{Answered, Call, Caller, Role};
 use crate::worker::by_worker;
 use cj_state::State;

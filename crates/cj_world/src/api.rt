@@ -1,6 +1,4 @@
-//! What each call of users, runners and informers does with what the world holds.
-#![tactic(auto)]
-
+// What each call of users, runners and informers does with what the world holds.
 mod crons;
 mod jobs;
 mod keys;

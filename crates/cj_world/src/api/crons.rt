@@ -7,7 +7,7 @@ ghost use Rattle.cj_state.specs.Sound.{IsSound};
 ghost use Rattle.cj_state.specs.Moves.{moved, event_reply, version_reply};
 ghost use Rattle.cj_state.specs.Step.{writes};
 
-use crate::writing::{write_deletion, write_object};
+use crate::api::writing::{write_deletion, write_object};
 use cj_calls::Answered;
 use cj_state::{State, refused};
 use cj_types::{CronJobDraft, Key, Refusal, Seconds, TryCopy};

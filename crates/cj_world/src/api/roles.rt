@@ -5,10 +5,10 @@ ghost use Rattle.cj_state.specs.Sound.{IsSound};
 ghost use Rattle.cj_state.specs.Moves.{moved};
 ghost use Rattle.cj_state.specs.Step.{by_user, by_runner, by_informer};
 
-use crate::crons::{create_cron, delete_cron, update_cron};
-use crate::jobs::{create_job, delete_job, end_job, update_job};
-use crate::keys::{add, feed, shut, tick};
-use crate::readings::by_reader;
+use crate::api::crons::{create_cron, delete_cron, update_cron};
+use crate::api::jobs::{create_job, delete_job, end_job, update_job};
+use crate::api::keys::{add, feed, shut, tick};
+use crate::api::readings::by_reader;
 use cj_calls::{Answered, Call};
 use cj_state::State;
 use cj_types::Refusal;
