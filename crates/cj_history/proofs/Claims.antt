@@ -9,9 +9,9 @@ use Rattle.cj_state.specs.Legal.{IsLegal}
 use Rattle.cj_world_laws.proofs.LegalLemmas.Seated.{seats_agree}
 use Rattle.cj_world_laws.specs.once.Times as state
 use Rattle.cj_world_laws.proofs.OnceLemmas.Claims.{timely as always_timely}
-use Rattle.cj_store_history.specs.Store.{IsStore}
-use Rattle.cj_store_history.specs.Writes.{writes}
-use Rattle.cj_store_history.proofs.Stores.{store_agrees}
+use Rattle.cj_history.specs.store.Store.{IsStore}
+use Rattle.cj_history.specs.store.Writes.{writes}
+use Rattle.cj_history.proofs.StoreLemmas.Stores.{store_agrees}
 use Rattle.cj_history.specs.Times.{IsLatestMissed, Timely, AlwaysTimely}
 use Rattle.cj_history.proofs.One.{legal}
 

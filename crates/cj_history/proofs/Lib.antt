@@ -3,3 +3,4 @@ pub mod Firsts
 pub mod One
 pub mod Onces
 pub mod Claims
+pub mod StoreLemmas

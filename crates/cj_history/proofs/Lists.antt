@@ -9,7 +9,7 @@ use Rattle.cj_types.specs.Keys.{Place, place_cmp}
 use Rattle.cj_table.proofs.Order.{places_total}
 use Rattle.cj_queue.specs.Parts.{key_eq}
 use Rattle.cj_queue.proofs.Sets.{eq_is, eq_true, eq_self}
-use Rattle.cj_store_history.specs.Lists.{found, Rises, IsListing}
+use Rattle.cj_history.specs.store.Lists.{found, Rises, IsListing}
 
 -- An order that is Less is no tie.
 never_less : (o : Ordering) → o ≡ Less → is_eq o ≡ true → ⊥

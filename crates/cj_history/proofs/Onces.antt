@@ -15,9 +15,9 @@ use Rattle.cj_state.specs.Legal.{IsLegal, state_of}
 use Rattle.cj_world_laws.specs.once.Once as state
 use Rattle.cj_world_laws.specs.once.Once.{Claimed, claimed_under, is_making, with_made, IsNew}
 use Rattle.cj_world_laws.proofs.OnceLemmas.Whole.{both}
-use Rattle.cj_store_history.specs.Store.{IsStore}
-use Rattle.cj_store_history.specs.Writes.{writes}
-use Rattle.cj_store_history.proofs.Stores.{store_agrees}
+use Rattle.cj_history.specs.store.Store.{IsStore}
+use Rattle.cj_history.specs.store.Writes.{writes}
+use Rattle.cj_history.proofs.StoreLemmas.Stores.{store_agrees}
 use Rattle.cj_history.specs.Once.{claimed, claim_answered, claim_after, claim_of, makes, Once, Alone, OnceAndAlone}
 use Rattle.cj_history.proofs.One.{legal}
 

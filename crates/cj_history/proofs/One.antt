@@ -21,12 +21,12 @@ use Rattle.cj_state.specs.declared.phases.seat.Seat.{Seat}
 use Rattle.cj_state.specs.Legal.{IsLegal, answer_of}
 use Rattle.cj_world_laws.specs.legal.Seats.{seat}
 use Rattle.cj_world_laws.proofs.LegalLemmas.Hands.{always_exclusive}
-use Rattle.cj_store_history.specs.Written.{version, current_cron, current_job}
-use Rattle.cj_store_history.specs.Lists.{IsListing, passing}
-use Rattle.cj_store_history.specs.Writes.{writes}
-use Rattle.cj_store_history.specs.Mirrors.{earliest, fed}
-use Rattle.cj_store_history.specs.Answers as store
-use Rattle.cj_store_history.proofs.Answered as stores
+use Rattle.cj_history.specs.store.Written.{version, current_cron, current_job}
+use Rattle.cj_history.specs.store.Lists.{IsListing, passing}
+use Rattle.cj_history.specs.store.Writes.{writes}
+use Rattle.cj_history.specs.store.Mirrors.{earliest, fed}
+use Rattle.cj_history.specs.store.Answers as store
+use Rattle.cj_history.proofs.StoreLemmas.Answered as stores
 use Rattle.cj_queue_history.specs.Deeds.{Act, acts}
 use Rattle.cj_queue_history.specs.Answers as queue
 use Rattle.cj_queue_history.proofs.Answered as queues

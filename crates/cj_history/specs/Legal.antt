@@ -9,9 +9,9 @@ use Rattle.cj_calls.specs.declared.reply.Reply.{Reply}
 use Rattle.cj_state.specs.Legal.{IsLegal, is_entered, answer_of}
 use Rattle.cj_world_laws.specs.legal.Seats.{seat}
 use Rattle.cj_world_laws.specs.legal.Exclusive.{Exclusive}
-use Rattle.cj_store_history.specs.Writes.{writes}
-use Rattle.cj_store_history.specs.Mirrors.{fed}
-use Rattle.cj_store_history.specs.Answers as store
+use Rattle.cj_history.specs.store.Writes.{writes}
+use Rattle.cj_history.specs.store.Mirrors.{fed}
+use Rattle.cj_history.specs.store.Answers as store
 use Rattle.cj_queue_history.specs.Deeds.{acts}
 use Rattle.cj_queue_history.specs.Answers as queue
 

@@ -1,3 +1,4 @@
 pub mod Legal
 pub mod Once
 pub mod Times
+pub mod store

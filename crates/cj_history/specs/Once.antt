@@ -16,8 +16,8 @@ use Rattle.cj_calls.specs.declared.reply.Reply.TheVariants as Say
 use Rattle.cj_state.specs.Legal.{ArePlanned}
 use Rattle.cj_decide.specs.laws.Fits.{runs, is_strict}
 use Rattle.cj_world_laws.specs.once.Once.{Claimed, claimed_under, is_making, with_made, IsNew}
-use Rattle.cj_store_history.specs.Written.{current_cron, current_job}
-use Rattle.cj_store_history.specs.Writes.{writes}
+use Rattle.cj_history.specs.store.Written.{current_cron, current_job}
+use Rattle.cj_history.specs.store.Writes.{writes}
 use Rattle.cj_history.specs.Legal.{IsLawful}
 
 -- what a claim records after these writes: its CronJob, its time, and the policy of the CronJob that is current

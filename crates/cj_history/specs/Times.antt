@@ -13,8 +13,8 @@ use Rattle.cj_state.specs.Legal.{ArePlanned}
 use Rattle.cj_world_laws.specs.legal.Seats.{seat}
 use Rattle.cj_decide.specs.laws.Laws.{IsClaimed}
 use Rattle.cj_world_laws.specs.once.Times.{IsClaim}
-use Rattle.cj_store_history.specs.Written.{current_cron}
-use Rattle.cj_store_history.specs.Writes.{writes}
+use Rattle.cj_history.specs.store.Written.{current_cron}
+use Rattle.cj_history.specs.store.Writes.{writes}
 use Rattle.cj_history.specs.Legal.{IsLawful}
 
 -- the greatest of the times missed by the CronJob that is current at the key, in its window, at the plan's

@@ -4,5 +4,7 @@
 #![tactic(auto)]
 
 mod laws;
+pub mod store;
 
 pub use laws::{answer_law, exclusive_law, legal_law, once_law, time_law};
+pub use store::{event_law, mirror_law, number_law, store_law};
