@@ -7,9 +7,9 @@ use Rattle.cj_queue.specs.Parts.{key_eq}
 use Rattle.cj_queue.proofs.Sets.{eq_true, eq_turned}
 use Rattle.cj_calls.specs.declared.reply.Reply.TheVariants as Say
 use Rattle.cj_state.specs.declared.phases.seat.Seat.{Seat}
-use Rattle.cj_queue_history.specs.Deeds.{Act}
-use Rattle.cj_queue_history.specs.Answers.{Answer, IsFirst, OnTake, TakeSays}
-use Rattle.cj_queue_history.proofs.Firsts.{both_ways}
+use Rattle.cj_history.specs.queue.Deeds.{Act}
+use Rattle.cj_history.specs.queue.Answers.{Answer, IsFirst, OnTake, TakeSays}
+use Rattle.cj_history.proofs.QueueLemmas.Firsts.{both_ways}
 
 -- Two keys that are each the first of the line are one key.
 one_first : (h : List Act) (j k : Place) → IsFirst h j → IsFirst h k → j ≡ k

@@ -3,4 +3,5 @@ pub mod Firsts
 pub mod One
 pub mod Onces
 pub mod Claims
+pub mod QueueLemmas
 pub mod StoreLemmas

@@ -27,9 +27,9 @@ use Rattle.cj_history.specs.store.Writes.{writes}
 use Rattle.cj_history.specs.store.Mirrors.{earliest, fed}
 use Rattle.cj_history.specs.store.Answers as store
 use Rattle.cj_history.proofs.StoreLemmas.Answered as stores
-use Rattle.cj_queue_history.specs.Deeds.{Act, acts}
-use Rattle.cj_queue_history.specs.Answers as queue
-use Rattle.cj_queue_history.proofs.Answered as queues
+use Rattle.cj_history.specs.queue.Deeds.{Act, acts}
+use Rattle.cj_history.specs.queue.Answers as queue
+use Rattle.cj_history.proofs.QueueLemmas.Answered as queues
 use Rattle.cj_history.specs.Legal.{IsAnswered, IsLawful, LegalLaw, OneAnswer, AlwaysExclusive}
 use Rattle.cj_history.proofs.Lists.{one_listing}
 use Rattle.cj_history.proofs.Firsts.{one_taken}

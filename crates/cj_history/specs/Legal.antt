@@ -12,8 +12,8 @@ use Rattle.cj_world_laws.specs.legal.Exclusive.{Exclusive}
 use Rattle.cj_history.specs.store.Writes.{writes}
 use Rattle.cj_history.specs.store.Mirrors.{fed}
 use Rattle.cj_history.specs.store.Answers as store
-use Rattle.cj_queue_history.specs.Deeds.{acts}
-use Rattle.cj_queue_history.specs.Answers as queue
+use Rattle.cj_history.specs.queue.Deeds.{acts}
+use Rattle.cj_history.specs.queue.Answers as queue
 
 -- what the call is answered by the entries before it: by their writes and acts, and by its caller's seat among them
 -- rule: looking-back

@@ -1,4 +1,5 @@
 pub mod Legal
 pub mod Once
 pub mod Times
+pub mod queue
 pub mod store

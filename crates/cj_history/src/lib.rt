@@ -4,7 +4,9 @@
 #![tactic(auto)]
 
 mod laws;
+pub mod queue;
 pub mod store;
 
 pub use laws::{answer_law, exclusive_law, legal_law, once_law, time_law};
+pub use queue::{call_law, queue_law};
 pub use store::{event_law, mirror_law, number_law, store_law};

@@ -14,17 +14,17 @@ use Rattle.cj_state.specs.Step.{step_of}
 use Rattle.cj_state.specs.Legal.{IsLegal, state_of}
 use Rattle.cj_world_laws.specs.legal.Seats.{seat}
 use Rattle.cj_world_laws.proofs.LegalLemmas.Seated.{seats_agree}
-use Rattle.cj_queue_history.specs.Deeds.{Deed, adds, ticks, takes, ends, fails, shuts, nothing, deed, Act, acts}
-use Rattle.cj_queue_history.specs.LookBacks.{since, IsLine}
-use Rattle.cj_queue_history.specs.Laws.{QueueLaw}
-use Rattle.cj_queue_history.specs.Answers.{IsFirst}
-use Rattle.cj_queue_history.specs.Calls as calls
-use Rattle.cj_queue_history.specs.Calls.{sits, key_by, called, queue_of, IsFit, FitLaw, ActLaw}
-use Rattle.cj_queue_history.proofs.Rows.{itself}
-use Rattle.cj_queue_history.proofs.Firsts.{both_ways}
-use Rattle.cj_queue_history.proofs.Turns.{key_of, May, Turns, turns}
-use Rattle.cj_queue_history.proofs.Holders.{next_key}
-use Rattle.cj_queue_history.proofs.Whole.{Stands, stands_nothing, is_queue, one_more}
+use Rattle.cj_history.specs.queue.Deeds.{Deed, adds, ticks, takes, ends, fails, shuts, nothing, deed, Act, acts}
+use Rattle.cj_history.specs.queue.LookBacks.{since, IsLine}
+use Rattle.cj_history.specs.queue.Laws.{QueueLaw}
+use Rattle.cj_history.specs.queue.Answers.{IsFirst}
+use Rattle.cj_history.specs.queue.Calls as calls
+use Rattle.cj_history.specs.queue.Calls.{sits, key_by, called, queue_of, IsFit, FitLaw, ActLaw}
+use Rattle.cj_history.proofs.QueueLemmas.Rows.{itself}
+use Rattle.cj_history.proofs.QueueLemmas.Firsts.{both_ways}
+use Rattle.cj_history.proofs.QueueLemmas.Turns.{key_of, May, Turns, turns}
+use Rattle.cj_history.proofs.QueueLemmas.Holders.{next_key}
+use Rattle.cj_history.proofs.QueueLemmas.Whole.{Stands, stands_nothing, is_queue, one_more}
 
 abbrev pub keys_of : List Told → ℕ → Option Place
 keys_of h w = key_of (seat h w)

@@ -5,9 +5,9 @@ use Rattle.cj_queue.specs.Queue.{Queue, new_queue, added, taken, ticked, closed,
 use Rattle.cj_calls.specs.Rows.{Told}
 use Rattle.cj_state.specs.Moves.{next_ms}
 use Rattle.cj_state.specs.Legal.{IsLegal, state_of}
-use Rattle.cj_queue_history.specs.Deeds.{Deed, adds, ticks, takes, ends, fails, shuts, nothing, Act, acts}
-use Rattle.cj_queue_history.specs.Answers.{IsFirst}
-use Rattle.cj_queue_history.specs.Laws.{IsQueue}
+use Rattle.cj_history.specs.queue.Deeds.{Deed, adds, ticks, takes, ends, fails, shuts, nothing, Act, acts}
+use Rattle.cj_history.specs.queue.Answers.{IsFirst}
+use Rattle.cj_history.specs.queue.Laws.{IsQueue}
 
 -- what a deed leaves of the key that its caller holds
 abbrev pub sits : Deed → Option Place → Option Place

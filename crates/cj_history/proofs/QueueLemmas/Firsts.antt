@@ -3,8 +3,8 @@ use Rattle.std.proofs.Common.{◌≡◌, ℕ, inl, inr, refl, arith}
 use Rattle.std.specs.declared.cmp.Ordering.TheVariants.{Less}
 use Rattle.cj_types.specs.Keys.{Place, place_cmp}
 use Rattle.cj_table.proofs.Order.{places_total}
-use Rattle.cj_queue_history.specs.LookBacks.{Before}
-use Rattle.cj_queue_history.proofs.Rows.{before_itself}
+use Rattle.cj_history.specs.queue.LookBacks.{Before}
+use Rattle.cj_history.proofs.QueueLemmas.Rows.{before_itself}
 
 -- Of two keys it can't be that each is less than the other.
 not_both : (j k : Place) → place_cmp j k ≡ Less → place_cmp k j ≡ Less → ⊥

@@ -11,15 +11,15 @@ use Rattle.cj_queue.specs.Times.{ready, waits_for}
 use Rattle.cj_queue.specs.Queue.{new_queue, Queue, first, row_add, ended, added_after, added_where, forgotten, failures_of, delay, with_row, with_waiting}
 use Rattle.cj_queue.proofs.Sets.{eq_true, eq_self, eq_turned, get_put, get_off}
 use Rattle.cj_state.specs.Moves.{next_ms}
-use Rattle.cj_queue_history.specs.Deeds.{Deed, adds, ticks, takes, ends, fails, shuts, nothing, Act}
-use Rattle.cj_queue_history.specs.LookBacks.{is_take, is_by, is_shut, marks, counts, later_in, is_within, waits_in, adds_in, time_of, time_in, holder, dirty, queued, since, shut, mark, failures, ready_at}
-use Rattle.cj_queue_history.specs.Laws.{IsQueue}
-use Rattle.cj_queue_history.specs.Calls.{called, sits}
-use Rattle.cj_queue_history.proofs.Turns.{May}
-use Rattle.cj_queue_history.proofs.Rows.{on, off, line_by, ranked, row_same, row_add_is, row_adds_is, row_take_is, rises_alike, itself}
-use Rattle.cj_queue_history.proofs.Readies.{members, rises, get_without}
-use Rattle.cj_queue_history.proofs.Holders.{holds, holder_after, MayTake, tie_step, free}
-use Rattle.cj_queue_history.proofs.Steps.{Part, end_part}
+use Rattle.cj_history.specs.queue.Deeds.{Deed, adds, ticks, takes, ends, fails, shuts, nothing, Act}
+use Rattle.cj_history.specs.queue.LookBacks.{is_take, is_by, is_shut, marks, counts, later_in, is_within, waits_in, adds_in, time_of, time_in, holder, dirty, queued, since, shut, mark, failures, ready_at}
+use Rattle.cj_history.specs.queue.Laws.{IsQueue}
+use Rattle.cj_history.specs.queue.Calls.{called, sits}
+use Rattle.cj_history.proofs.QueueLemmas.Turns.{May}
+use Rattle.cj_history.proofs.QueueLemmas.Rows.{on, off, line_by, ranked, row_same, row_add_is, row_adds_is, row_take_is, rises_alike, itself}
+use Rattle.cj_history.proofs.QueueLemmas.Readies.{members, rises, get_without}
+use Rattle.cj_history.proofs.QueueLemmas.Holders.{holds, holder_after, MayTake, tie_step, free}
+use Rattle.cj_history.proofs.QueueLemmas.Steps.{Part, end_part}
 
 abbrev held_by : (Place → Option ℕ) → Place → Bool
 held_by O k = is_some (O k)

@@ -16,10 +16,10 @@ use Rattle.cj_calls.specs.Rows.{Told}
 use Rattle.cj_state.specs.declared.phases.seat.Phase.{Phase}
 use Rattle.cj_state.specs.declared.phases.seat.Seat.{Seat}
 use Rattle.cj_world_laws.specs.legal.Seats.{seat, seat_after, accepted, at_phase, on}
-use Rattle.cj_queue_history.specs.Deeds.{Deed, adds, ticks, takes, ends, fails, shuts, nothing, deed}
-use Rattle.cj_queue_history.specs.LookBacks.{is_take, is_finish, is_by}
-use Rattle.cj_queue_history.specs.Calls.{sits}
-use Rattle.cj_queue_history.proofs.Turns.{key_of}
+use Rattle.cj_history.specs.queue.Deeds.{Deed, adds, ticks, takes, ends, fails, shuts, nothing, deed}
+use Rattle.cj_history.specs.queue.LookBacks.{is_take, is_finish, is_by}
+use Rattle.cj_history.specs.queue.Calls.{sits}
+use Rattle.cj_history.proofs.QueueLemmas.Turns.{key_of}
 
 abbrev pub holds : Option Place → Place → Bool
 holds None k = false

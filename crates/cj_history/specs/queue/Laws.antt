@@ -5,8 +5,8 @@ use Rattle.cj_types.specs.Keys.{Place}
 use Rattle.cj_queue.specs.Queue.{Queue, has, failures_of}
 use Rattle.cj_calls.specs.Rows.{Told}
 use Rattle.cj_state.specs.Legal.{IsLegal, state_of}
-use Rattle.cj_queue_history.specs.Deeds.{Act, acts}
-use Rattle.cj_queue_history.specs.LookBacks.{held, dirty, shut, mark, failures, ready_at, IsLine}
+use Rattle.cj_history.specs.queue.Deeds.{Act, acts}
+use Rattle.cj_history.specs.queue.LookBacks.{held, dirty, shut, mark, failures, ready_at, IsLine}
 
 -- it is what the acts say; failures are counted to 18, from where on the delay is the greatest
 -- rule: queued-history

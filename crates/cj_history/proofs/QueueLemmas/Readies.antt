@@ -15,8 +15,8 @@ use Rattle.cj_queue.specs.Parts.{key_eq, stands_in}
 use Rattle.cj_queue.specs.Times.{Waiting, timed_cmp, by_time, ready, ready_in, at_time, without, waits_for, earlier}
 use Rattle.cj_queue.proofs.Sets.{eq_true, eq_self, eq_turned, get_put, get_off}
 use Rattle.cj_queue.proofs.Ready.{by_time_at, timed_total, timed_exact}
-use Rattle.cj_queue_history.specs.LookBacks.{Before, RisesBy, is_within, time_of}
-use Rattle.cj_queue_history.proofs.Rows.{on, either, itself, further}
+use Rattle.cj_history.specs.queue.LookBacks.{Before, RisesBy, is_within, time_of}
+use Rattle.cj_history.proofs.QueueLemmas.Rows.{on, either, itself, further}
 
 abbrev firsts : List ((ℕ × Place) × Unit {0}) → List (ℕ × Place)
 firsts es = map_list (λ e. e.0) es

@@ -6,7 +6,7 @@ use Rattle.cj_types.specs.Keys.{Place, place_cmp}
 use Rattle.cj_queue.specs.Parts.{key_eq, stands_in}
 use Rattle.cj_queue.specs.Times.{earlier}
 use Rattle.cj_queue.specs.Queue.{delay}
-use Rattle.cj_queue_history.specs.Deeds.{Deed, adds, ticks, takes, ends, fails, shuts, Act}
+use Rattle.cj_history.specs.queue.Deeds.{Deed, adds, ticks, takes, ends, fails, shuts, Act}
 
 -- ---- who holds a key
 

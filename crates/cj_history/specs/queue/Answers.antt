@@ -21,8 +21,8 @@ use Rattle.cj_state.specs.declared.phases.seat.Phase.TheVariants.{Works}
 use Rattle.cj_state.specs.declared.phases.seat.Seat.{Seat}
 use Rattle.cj_state.specs.Legal.{IsLegal, answer_of}
 use Rattle.cj_world_laws.specs.legal.Seats.{seat}
-use Rattle.cj_queue_history.specs.Deeds.{Act, acts}
-use Rattle.cj_queue_history.specs.LookBacks.{queued, shut, since, Before}
+use Rattle.cj_history.specs.queue.Deeds.{Act, acts}
+use Rattle.cj_history.specs.queue.LookBacks.{queued, shut, since, Before}
 
 abbrev pub Answer : Type 0
 Answer = Result Reply Refusal

@@ -1,6 +1,6 @@
-ghost use Rattle.cj_queue_history.specs.Answers.{AnswerLaw};
-ghost use Rattle.cj_queue_history.specs.Calls.{ActLaw, FitLaw};
-ghost use Rattle.cj_queue_history.specs.Laws.{QueueLaw};
+ghost use Rattle.cj_history.specs.queue.Answers.{AnswerLaw};
+ghost use Rattle.cj_history.specs.queue.Calls.{ActLaw, FitLaw};
+ghost use Rattle.cj_history.specs.queue.Laws.{QueueLaw};
 
 /// After any history the queue's line are the keys that were added and not taken since, without those that
 /// are held, in the order in which they became queued; a key is held from its Take to the end of its taker's

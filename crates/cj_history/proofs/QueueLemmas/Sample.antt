@@ -19,8 +19,8 @@ use Rattle.cj_state.specs.declared.state.State.{State}
 use Rattle.cj_state.specs.Moves.{seat_of, take, take_by, take_first}
 use Rattle.cj_state.specs.Step.{step_of}
 use Rattle.cj_state.specs.Legal.{IsLegal, state_of}
-use Rattle.cj_queue_history.specs.Deeds.{acts}
-use Rattle.cj_queue_history.specs.LookBacks.{queued, held, since, ready_at, failures}
+use Rattle.cj_history.specs.queue.Deeds.{acts}
+use Rattle.cj_history.specs.queue.LookBacks.{queued, held, since, ready_at, failures}
 
 abbrev a : Place
 a = place (1 ∷ []) (97 ∷ [])

@@ -7,9 +7,9 @@ use Rattle.cj_queue.specs.Parts.{key_eq}
 use Rattle.cj_queue.specs.Times.{waits_for, earlier}
 use Rattle.cj_queue.specs.Queue.{Queue, row_add, row_end, added_where, with_row, with_waiting}
 use Rattle.cj_queue.proofs.Sets.{eq_true}
-use Rattle.cj_queue_history.specs.LookBacks.{Before, is_within, waits_more}
-use Rattle.cj_queue_history.proofs.Rows.{on, off, RowIs, line_by, ranked, row_same, row_add_is, row_end_is}
-use Rattle.cj_queue_history.proofs.Readies.{get_waits}
+use Rattle.cj_history.specs.queue.LookBacks.{Before, is_within, waits_more}
+use Rattle.cj_history.proofs.QueueLemmas.Rows.{on, off, RowIs, line_by, ranked, row_same, row_add_is, row_end_is}
+use Rattle.cj_history.proofs.QueueLemmas.Readies.{get_waits}
 
 -- all but the failures
 pub record Part (D H : Place → Bool) (R : Place → ℕ × ℕ) (W : Place → Option ℕ) (m : ℕ) (s : Bool) (q : Queue) : Type 0

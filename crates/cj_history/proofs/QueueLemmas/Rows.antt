@@ -8,7 +8,7 @@ use Rattle.cj_types.specs.Keys.{Place, place_cmp}
 use Rattle.cj_queue.specs.Parts.{key_eq, stands_in}
 use Rattle.cj_queue.specs.Queue.{Keys, Row, has, row_add, row_adds, row_end, row_take, take_in}
 use Rattle.cj_queue.proofs.Sets.{eq_is, eq_true, eq_self, eq_turned, get_put, get_off}
-use Rattle.cj_queue_history.specs.LookBacks.{Before, RisesBy}
+use Rattle.cj_history.specs.queue.LookBacks.{Before, RisesBy}
 
 -- ---- truth values
 

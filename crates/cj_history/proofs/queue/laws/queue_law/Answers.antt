@@ -1,7 +1,7 @@
 -- queue_law: its clause QueueLaw, that the queue is what the history says; and the samples.
-use Rattle.cj_queue_history.proofs.Agreed.{queue_agrees}
-use Rattle.cj_queue_history.proofs.Sample.{legal_take, not_twice, is_held, waits_first, not_yet, failed_once, then_queued, since_then, waits_no_more, held_again}
-use Rattle.cj_queue_history.proofs.laws.queue_law.Goals as goal
+use Rattle.cj_history.proofs.QueueLemmas.Agreed.{queue_agrees}
+use Rattle.cj_history.proofs.QueueLemmas.Sample.{legal_take, not_twice, is_held, waits_first, not_yet, failed_once, then_queued, since_then, waits_no_more, held_again}
+use Rattle.cj_history.proofs.queue.laws.queue_law.Goals as goal
 
 pub returns : goal.returns
 returns c =

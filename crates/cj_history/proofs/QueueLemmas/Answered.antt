@@ -23,12 +23,12 @@ use Rattle.cj_state.specs.Moves.{by_seat, seat_of, take, take_by, take_first, fi
 use Rattle.cj_state.specs.Step.{step_of, by_role, by_informer, by_worker}
 use Rattle.cj_state.specs.Legal.{state_of}
 use Rattle.cj_world_laws.proofs.LegalLemmas.Seated.{seats_agree}
-use Rattle.cj_queue_history.specs.Deeds.{Act, acts}
-use Rattle.cj_queue_history.specs.LookBacks.{queued, since, RisesBy}
-use Rattle.cj_queue_history.specs.Laws.{IsQueue}
-use Rattle.cj_queue_history.specs.Answers.{IsFirst, NoneQueued, OnTake, TakeSays, on_end, on_finish, Says, AnswerLaw}
-use Rattle.cj_queue_history.proofs.Rows.{itself}
-use Rattle.cj_queue_history.proofs.Agreed.{queue_agrees}
+use Rattle.cj_history.specs.queue.Deeds.{Act, acts}
+use Rattle.cj_history.specs.queue.LookBacks.{queued, since, RisesBy}
+use Rattle.cj_history.specs.queue.Laws.{IsQueue}
+use Rattle.cj_history.specs.queue.Answers.{IsFirst, NoneQueued, OnTake, TakeSays, on_end, on_finish, Says, AnswerLaw}
+use Rattle.cj_history.proofs.QueueLemmas.Rows.{itself}
+use Rattle.cj_history.proofs.QueueLemmas.Agreed.{queue_agrees}
 
 -- The queue of the state s is what the acts h say.
 module _ (h : List Act) (s : State) (is : IsQueue h s.queue) where

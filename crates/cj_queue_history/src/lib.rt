@@ -1,7 +1,0 @@
-//! What a history says of the work queue, by looking back over its accepted calls; and that the queue of the
-//! state agrees.
-#![tactic(auto)]
-
-mod laws;
-
-pub use laws::{answer_law, call_law, queue_law};
