@@ -1,5 +1,6 @@
 pub mod Lists
 pub mod Firsts
+mod ManifestsLemmas
 pub mod One
 pub mod Onces
 pub mod Claims

@@ -4,9 +4,11 @@
 #![tactic(auto)]
 
 mod laws;
+mod manifests;
 pub mod queue;
 pub mod store;
 
 pub use laws::{answer_law, exclusive_law, legal_law, once_law, time_law};
+pub use manifests::created_laws;
 pub use queue::{call_law, queue_law};
 pub use store::{event_law, mirror_law, number_law, store_law};

@@ -1,6 +1,6 @@
 -- created_laws: its clauses cron_reads_back and job_reads_back, from those of manifest_laws.
-use Rattle.cj_laws.proofs.Made.{created_cron_is, created_job_is}
-use Rattle.cj_laws.proofs.created.created_laws.Goals as goal
+use Rattle.cj_history.proofs.ManifestsLemmas.Made.{created_cron_is, created_job_is}
+use Rattle.cj_history.proofs.manifests.created.created_laws.Goals as goal
 
 pub returns-clause-cron_reads_back : goal.returns-clause-cron_reads_back
 returns-clause-cron_reads_back c = λ zones bytes draft warnings s now o reading made.

@@ -1,4 +1,4 @@
-ghost use Rattle.cj_laws.specs.Created.{CreatedCronReadsBack, CreatedJobReadsBack};
+ghost use Rattle.cj_history.specs.manifests.Created.{CreatedCronReadsBack, CreatedJobReadsBack};
 
 use cj_manifest::manifest_laws;
 
