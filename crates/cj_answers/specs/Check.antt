@@ -14,8 +14,8 @@ use Rattle.cj_manifest.specs.Either.{key_of, kind_of, manifest_draft, manifest_f
 use Rattle.cj_manifest.specs.Reading.{IsReading, IsRefused}
 use Rattle.cj_answers.specs.declared.answer.Ending.TheVariants.{Refused}
 use Rattle.cj_words.specs.declared.request.CheckRequest.{CheckRequest}
-use Rattle.cj_glance.specs.declared.form.Form.TheVariants as A
-use Rattle.cj_glance.specs.Glances.{IsGlance}
+use Rattle.cj_scenario.specs.declared.detection.form.Form.TheVariants as A
+use Rattle.cj_scenario.specs.detection.Glances.{IsGlance}
 use Rattle.cj_explain.specs.Faults.{faults_words}
 use Rattle.cj_answers.specs.Json.{IsJsonWords, yaml_words}
 use Rattle.cj_answers.specs.Advice.{IsAdvice, dropped_words_all}

@@ -6,10 +6,10 @@ use Rattle.cj_zone.specs.declared.zone.Zone.{Zone}
 use Rattle.cj_zone.specs.Table.{zones_of}
 use Rattle.cj_decide.specs.declared.steps.Steps.{Steps}
 use Rattle.cj_decide.specs.Decision.{IsPlan, running_of}
-use Rattle.cj_glance.specs.declared.form.Form.{Form}
-use Rattle.cj_glance.specs.declared.form.Form.TheVariants as A
-use Rattle.cj_glance.specs.Forms.{wanted_words}
-use Rattle.cj_glance.specs.Glances.{IsGlance}
+use Rattle.cj_scenario.specs.declared.detection.form.Form.{Form}
+use Rattle.cj_scenario.specs.declared.detection.form.Form.TheVariants as A
+use Rattle.cj_scenario.specs.detection.Forms.{wanted_words}
+use Rattle.cj_scenario.specs.detection.Glances.{IsGlance}
 use Rattle.cj_members.specs.Looks.{IsLook}
 use Rattle.cj_scenario.specs.declared.fault.SceneFault.{SceneFault}
 use Rattle.cj_scenario.specs.declared.fault.SceneFault.TheVariants as Why

@@ -17,7 +17,7 @@ use crate::json::json_words;
 use crate::lines::{print_faults, print_ok, print_warnings};
 use cj_base::{FieldFault, Refusal};
 use cj_explain::explain_faults;
-use cj_glance::{Form, glance};
+use cj_scenario::{Form, glance};
 use cj_manifest::{Manifest, Warning, read_manifest};
 use cj_output::{Failure, MOST_BYTES, MOST_READS, read_input};
 use cj_words::CheckRequest;

@@ -3,10 +3,10 @@ use Rattle.std.specs.Prelude.{◌≡◌, ◌⊎◌, ℕ, List, [], ◌++◌, cod
 use Rattle.serde_json.specs.Data.{Data}
 use Rattle.serde_json.specs.Find.{as_object}
 use Rattle.cj_manifest.specs.Reading.{IsNoValue, Reads}
-use Rattle.cj_glance.specs.declared.form.Form.{Form}
-use Rattle.cj_glance.specs.declared.form.Form.TheVariants as A
-use Rattle.cj_glance.specs.Forms.{form_of}
-use Rattle.cj_glance.specs.Glances.{glance_words}
+use Rattle.cj_scenario.specs.declared.detection.form.Form.{Form}
+use Rattle.cj_scenario.specs.declared.detection.form.Form.TheVariants as A
+use Rattle.cj_scenario.specs.detection.Forms.{form_of}
+use Rattle.cj_scenario.specs.detection.Glances.{glance_words}
 use Rattle.cj_members.specs.declared.wrong.Wrong.TheVariants.{Member, Memory}
 use Rattle.cj_members.specs.Members.{Checked}
 use Rattle.cj_members.specs.Wholes.{whole}

@@ -1,8 +1,8 @@
 -- The members of a scenario for a plan, of a script and of a run's scenario, in the order in which they are looked at.
 use Rattle.std.specs.Prelude.{List, [], codes, Ok}
 use Rattle.serde_json.specs.Data.{Data}
-use Rattle.cj_glance.specs.declared.form.Form.{Form}
-use Rattle.cj_glance.specs.declared.form.Form.TheVariants as A
+use Rattle.cj_scenario.specs.declared.detection.form.Form.{Form}
+use Rattle.cj_scenario.specs.declared.detection.form.Form.TheVariants as A
 use Rattle.cj_members.specs.declared.entries.Entry.TheVariants as Of
 use Rattle.cj_members.specs.declared.items.Item.TheVariants as In
 use Rattle.cj_members.specs.declared.want.Range.TheVariants as Range

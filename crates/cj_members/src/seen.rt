@@ -7,8 +7,7 @@ ghost use Rattle.cj_members.specs.Wholes as said;
 
 use crate::wholes::whole;
 use crate::wrong::Wrong;
-use cj_glance::{Form, glance_at};
-use cj_scenario::{SceneFault, value_of};
+use cj_scenario::{Form, SceneFault, glance_at, value_of};
 use cj_types::Refusal;
 use serde_json::Value;
 use std::alloc::Global;

@@ -9,7 +9,7 @@ use crate::items::{Item, items};
 use crate::member::{may, must};
 use crate::want::{Range, Want, Word};
 use crate::wrong::Wrong;
-use cj_glance::Form;
+use cj_scenario::Form;
 use serde_json::Value;
 use std::alloc::Global;
 

@@ -7,7 +7,7 @@ use Rattle.cj_output.specs.declared.failure.Failure.{Failure}
 use Rattle.cj_output.specs.Writing.{AppendsSome, failure_line}
 use Rattle.cj_scenario.specs.declared.fault.SceneFault.{SceneFault}
 use Rattle.cj_scenario.specs.declared.fault.SceneFault.TheVariants as Why
-use Rattle.cj_glance.specs.declared.form.Form.TheVariants as A
+use Rattle.cj_scenario.specs.declared.detection.form.Form.TheVariants as A
 use Rattle.cj_script.specs.declared.script.Script.{Script}
 use Rattle.cj_script.specs.Scripts.{IsRefusedScript, IsScript}
 use Rattle.cj_replay.specs.Replays.{IsPartOf, IsReplayed}

@@ -4,7 +4,7 @@ use Rattle.std.specs.Prelude.{Result, Ok, Err, IfOk}
 use Rattle.cj_output.specs.declared.failure.Failure.{Failure}
 use Rattle.cj_scenario.specs.declared.fault.SceneFault.{SceneFault}
 use Rattle.cj_scenario.specs.declared.fault.SceneFault.TheVariants as Why
-use Rattle.cj_glance.specs.declared.form.Form.TheVariants as A
+use Rattle.cj_scenario.specs.declared.detection.form.Form.TheVariants as A
 use Rattle.cj_zoneinfo.specs.declared.given.GivenZones.{GivenZones}
 use Rattle.cj_course.specs.Courses.{IsRefusedCourse}
 use Rattle.cj_answers.specs.declared.answer.Answer.{Answer}

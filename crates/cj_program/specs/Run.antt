@@ -2,7 +2,7 @@
 use Rattle.std.specs.Prelude.{◌≡◌, ◌≢◌, ◌⊎◌, ℕ, ◌≤◌, List, length, Option, IfSome, Bool}
 use Rattle.cj_scenario.specs.declared.fault.SceneFault.{SceneFault}
 use Rattle.cj_scenario.specs.declared.fault.SceneFault.TheVariants as Why
-use Rattle.cj_glance.specs.declared.form.Form.TheVariants as A
+use Rattle.cj_scenario.specs.declared.detection.form.Form.TheVariants as A
 use Rattle.cj_course.specs.Courses.{IsCourse, IsRefusedCourse}
 use Rattle.cj_course.specs.declared.course.Course.{Course}
 use Rattle.cj_run.specs.Runs.{IsRun}

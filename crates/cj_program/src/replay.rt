@@ -9,7 +9,7 @@ ghost use Rattle.cj_program.specs.Writing.{FailsReplay};
 
 use crate::serving::give_answer;
 use cj_answers::{given_for, refused_pair, refused_scene};
-use cj_glance::Form;
+use cj_scenario::Form;
 use cj_output::{Failure, MOST_BYTES, MOST_READS, read_input, tell_failure};
 use cj_replay::replay;
 use cj_script::{Script, read_script};

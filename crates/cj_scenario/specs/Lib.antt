@@ -3,3 +3,4 @@ pub mod Parts
 pub mod Live
 pub mod Made
 pub mod Minutes
+pub mod detection

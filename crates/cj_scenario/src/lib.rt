@@ -1,6 +1,7 @@
 //! Scenarios: a CronJob with its Jobs and zones, as a JSON text says them.
 #![tactic(auto)]
 
+mod detection;
 mod fault;
 mod form;
 mod given;
@@ -11,6 +12,7 @@ mod scene;
 mod times;
 mod zones;
 
+pub use detection::{Form, glance, glance_at};
 pub use fault::SceneFault;
 pub use read::{draft_of, first_fault, read_scene, value_of};
 pub use scene::Scene;

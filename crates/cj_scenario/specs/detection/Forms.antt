@@ -3,8 +3,8 @@
 use Rattle.std.specs.Prelude.{ℕ, List, [], codes, bytes_eq, Bool, true, ◌||◌, Option, Some, None, is_some, option_and_then, if◌then◌else◌}
 use Rattle.serde_json.specs.Data.{Data}
 use Rattle.serde_json.specs.Find.{as_str, get}
-use Rattle.cj_glance.specs.declared.form.Form.{Form}
-use Rattle.cj_glance.specs.declared.form.Form.TheVariants as A
+use Rattle.cj_scenario.specs.declared.detection.form.Form.{Form}
+use Rattle.cj_scenario.specs.declared.detection.form.Form.TheVariants as A
 
 abbrev pub is_list : List ℕ → Bool
 is_list kind = bytes_eq kind (codes "List") || bytes_eq kind (codes "CronJobList") || bytes_eq kind (codes "JobList")

@@ -2,12 +2,13 @@
 ghost use Rattle.std.specs.Prelude.{◌≡◌, IfOk, IfErr, string_bytes};
 ghost use Rattle.cj_base.specs.declared.refusal.Refusal.TheVariants.{OutOfMemory};
 ghost use Rattle.serde_json.specs.View.{view};
-ghost use Rattle.cj_glance.specs.Glances.{IsGlance, form_line, glance_words, rest_words};
+ghost use Rattle.cj_scenario.specs.detection.Glances.{IsGlance, form_line, glance_words, rest_words};
 
-use crate::form::Form;
-use crate::fraction::fraction_words;
-use crate::ignored::ignored_words;
-use cj_scenario::{SceneFault, value_of};
+use crate::detection::form::Form;
+use crate::detection::fraction::fraction_words;
+use crate::detection::ignored::ignored_words;
+use crate::fault::SceneFault;
+use crate::read::value_of;
 use cj_types::Refusal;
 use serde_json::Value;
 use std::alloc::Global;

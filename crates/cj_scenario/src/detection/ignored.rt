@@ -3,9 +3,9 @@ ghost use Rattle.std.specs.Prelude.{◌≡◌, ◌++◌, OnOk, IfOk, IfErr, stri
 ghost use Rattle.cj_base.specs.declared.refusal.Refusal.TheVariants.{OutOfMemory};
 ghost use Rattle.serde_json.specs.Find.{as_object};
 ghost use Rattle.serde_json.specs.View.{view, members_view};
-ghost use Rattle.cj_glance.specs.Glances.{ignored_in, ignored_line, ignored_of};
+ghost use Rattle.cj_scenario.specs.detection.Glances.{ignored_in, ignored_line, ignored_of};
 
-use crate::form::Form;
+use crate::detection::form::Form;
 use cj_types::Refusal;
 use serde_json::{Map, Value};
 use std::alloc::{AllocError, Global};

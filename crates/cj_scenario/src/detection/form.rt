@@ -1,7 +1,7 @@
 // What a text of JSON is.
 ghost use Rattle.std.specs.Prelude.{◌≡◌, option_map};
 ghost use Rattle.serde_json.specs.View.{view};
-ghost use Rattle.cj_glance.specs.Forms.{form_by_kind, form_by_member, form_of, form_words, is_list, is_object, kind_in, knows, wanted_words};
+ghost use Rattle.cj_scenario.specs.detection.Forms.{form_by_kind, form_by_member, form_of, form_words, is_list, is_object, kind_in, knows, wanted_words};
 
 use serde_json::Value;
 

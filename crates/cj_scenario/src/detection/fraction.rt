@@ -2,7 +2,7 @@
 ghost use Rattle.std.specs.Prelude.{◌≡◌, ◌++◌, OnOk, IfOk, IfErr, string_bytes};
 ghost use Rattle.cj_base.specs.declared.refusal.Refusal.TheVariants.{OutOfMemory};
 ghost use Rattle.serde_json.specs.View.{view, items_view, members_view};
-ghost use Rattle.cj_glance.specs.Fractions.{fraction_path, fraction_words, items_path, member_step, members_path};
+ghost use Rattle.cj_scenario.specs.detection.Fractions.{fraction_path, fraction_words, items_path, member_step, members_path};
 
 use cj_json::has_float;
 use cj_types::Refusal;

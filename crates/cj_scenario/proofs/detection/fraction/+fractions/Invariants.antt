@@ -2,8 +2,8 @@
 -- or members left, is the text at the start with the path of all.
 use Rattle.std.proofs.Common.{◌≡◌, ◌++◌, drop, string_bytes}
 use Rattle.serde_json.specs.View.{items_view, members_view}
-use Rattle.cj_glance.specs.Fractions.{items_path, members_path}
-use Rattle.cj_glance.proofs.fraction.+fractions.Given as goal
+use Rattle.cj_scenario.specs.detection.Fractions.{items_path, members_path}
+use Rattle.cj_scenario.proofs.detection.fraction.+fractions.Given as goal
 
 abbrev pub invariant-push_in_items-loop-item : goal.invariant-push_in_items-loop-item
 invariant-push_in_items-loop-item l =

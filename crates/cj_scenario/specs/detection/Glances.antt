@@ -3,10 +3,10 @@ use Rattle.std.specs.Prelude.{◌≡◌, ◌⊎◌, ℕ, List, [], ◌∷◌, �
 use Rattle.serde_json.specs.Data.{Data, Members, no_members, member}
 use Rattle.serde_json.specs.Find.{as_object}
 use Rattle.cj_manifest.specs.Reading.{IsNoValue, Reads}
-use Rattle.cj_glance.specs.declared.form.Form.{Form}
-use Rattle.cj_glance.specs.declared.form.Form.TheVariants as A
-use Rattle.cj_glance.specs.Forms.{form_of, form_words, knows}
-use Rattle.cj_glance.specs.Fractions.{fraction_words}
+use Rattle.cj_scenario.specs.declared.detection.form.Form.{Form}
+use Rattle.cj_scenario.specs.declared.detection.form.Form.TheVariants as A
+use Rattle.cj_scenario.specs.detection.Forms.{form_of, form_words, knows}
+use Rattle.cj_scenario.specs.detection.Fractions.{fraction_words}
 
 -- what the text is, where it isn't what is wanted
 -- rule: explain-input
