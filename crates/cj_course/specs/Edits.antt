@@ -5,7 +5,7 @@ use Rattle.serde_json.specs.Find.{as_array}
 use Rattle.cj_zone.specs.declared.zone.Zone.{Zone}
 use Rattle.cj_manifest.specs.Members.{present}
 use Rattle.cj_scenario.specs.declared.fault.SceneFault.{SceneFault}
-use Rattle.cj_acts.specs.Acts.{moment_in}
+use Rattle.cj_script.specs.operations.Acts.{moment_in}
 use Rattle.cj_script.specs.Drafts.{needed, then}
 use Rattle.cj_script.specs.Lists.{all_of}
 use Rattle.cj_script.specs.Steps.{deed_in}

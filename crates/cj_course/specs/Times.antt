@@ -2,7 +2,7 @@
 use Rattle.std.specs.Prelude.{codes, Option, option_and_then}
 use Rattle.serde_json.specs.Data.{Data}
 use Rattle.cj_manifest.specs.Members.{present}
-use Rattle.cj_acts.specs.Instants.{time_in}
+use Rattle.cj_script.specs.operations.Instants.{time_in}
 use Rattle.cj_script.specs.Limits.{number_or}
 use Rattle.cj_course.specs.Spans.{SpanView, span_of}
 

@@ -1,6 +1,6 @@
 use crate::runs::Runs;
 use crate::span::Span;
-use cj_acts::Act;
+use cj_script::Act;
 use cj_types::{CronJobDraft, Seconds, Shared};
 use cj_zone::ZoneTable;
 

@@ -9,9 +9,8 @@ ghost use Rattle.cj_course.specs.Edits.{edit_of, edits_in, instant_in};
 
 use crate::course::Edit;
 use crate::span::Span;
-use cj_acts::{present, time_at};
+use cj_script::{Deed, Reads, deed_of, list_of, present, time_at};
 use cj_scenario::SceneFault;
-use cj_script::{Deed, Reads, deed_of, list_of};
 use cj_types::Seconds;
 use cj_zone::ZoneTable;
 use serde_json::Value;

@@ -16,7 +16,7 @@ use crate::runs::Runs;
 use crate::seeds::crons_at;
 use crate::span::Span;
 use crate::times::span_at;
-use cj_acts::present;
+use cj_script::present;
 use cj_scenario::{SceneFault, table_of, value_of};
 use cj_types::{CronJobDraft, FieldFault, Shared};
 use cj_zone::ZoneTable;

@@ -8,7 +8,7 @@ ghost use Rattle.cj_course.specs.RunLists as said;
 
 use crate::run::{Run, RunEnd};
 use crate::runs::Runs;
-use cj_acts::{key_of, number_at, present};
+use cj_script::{key_of, number_at, present};
 use cj_base::Refusal;
 use cj_types::{Key, Listing};
 use serde_json::{Map, Value};

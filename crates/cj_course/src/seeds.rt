@@ -7,9 +7,8 @@ ghost use Rattle.cj_zone.specs.Table.{zones_of};
 ghost use Rattle.cj_scenario.specs.declared.fault.SceneFault.TheVariants.{Memory};
 ghost use Rattle.cj_course.specs.Seeds.{crons_in, seed_of};
 
-use cj_acts::present;
+use cj_script::{Reads, cron_said, list_of, present};
 use cj_scenario::SceneFault;
-use cj_script::{Reads, cron_said, list_of};
 use cj_types::{CronJobDraft, Shared};
 use cj_zone::ZoneTable;
 use serde_json::Value;

@@ -4,8 +4,7 @@ ghost use Rattle.serde_json.specs.View.{view};
 ghost use Rattle.cj_course.specs.Times as said;
 
 use crate::span::Span;
-use cj_acts::{present, time_at};
-use cj_script::number_or;
+use cj_script::{number_or, present, time_at};
 use serde_json::Value;
 
 /// The clock of a run: from `start` to `end` by `stepSeconds`, 60 where that is missing.

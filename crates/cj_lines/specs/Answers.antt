@@ -7,10 +7,10 @@ use Rattle.cj_types.specs.Keys.{Place}
 use Rattle.cj_zone.specs.TimeText.{time_text_of}
 use Rattle.cj_calls.specs.declared.reply.Reply.{Reply}
 use Rattle.cj_calls.specs.declared.reply.Reply.TheVariants as Is
-use Rattle.cj_acts.specs.declared.verb.Plain.{Plain}
-use Rattle.cj_acts.specs.declared.verb.Plain.TheVariants as Kind
-use Rattle.cj_acts.specs.declared.verb.Verb.{Verb}
-use Rattle.cj_acts.specs.declared.verb.Verb.TheVariants.{Does, Writes}
+use Rattle.cj_script.specs.declared.operations.verb.Plain.{Plain}
+use Rattle.cj_script.specs.declared.operations.verb.Plain.TheVariants as Kind
+use Rattle.cj_script.specs.declared.operations.verb.Verb.{Verb}
+use Rattle.cj_script.specs.declared.operations.verb.Verb.TheVariants.{Does, Writes}
 use Rattle.cj_lines.specs.Words.{refusal_name}
 
 -- `ok v=VERSION`

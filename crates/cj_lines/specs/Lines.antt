@@ -3,7 +3,7 @@ use Rattle.std.specs.Prelude.{ℕ, List, ◌++◌, codes, Option, Some, None, Re
 use Rattle.std.specs.Fmt.{decimal}
 use Rattle.cj_base.specs.declared.refusal.Refusal.{Refusal}
 use Rattle.cj_calls.specs.declared.reply.Reply.{Reply}
-use Rattle.cj_acts.specs.declared.verb.Verb.{Verb}
+use Rattle.cj_script.specs.declared.operations.verb.Verb.{Verb}
 use Rattle.cj_lines.specs.Answers.{answer_text}
 use Rattle.cj_lines.specs.Words.{verb_word}
 

@@ -2,12 +2,12 @@
 use Rattle.std.specs.Prelude.{ℕ, List, codes}
 use Rattle.cj_base.specs.declared.refusal.Refusal.{Refusal}
 use Rattle.cj_base.specs.declared.refusal.Refusal.TheVariants as No
-use Rattle.cj_acts.specs.declared.verb.Plain.{Plain}
-use Rattle.cj_acts.specs.declared.verb.Plain.TheVariants as Kind
-use Rattle.cj_acts.specs.declared.verb.Write.{Write}
-use Rattle.cj_acts.specs.declared.verb.Write.TheVariants as Written
-use Rattle.cj_acts.specs.declared.verb.Verb.{Verb}
-use Rattle.cj_acts.specs.declared.verb.Verb.TheVariants.{Does, Writes}
+use Rattle.cj_script.specs.declared.operations.verb.Plain.{Plain}
+use Rattle.cj_script.specs.declared.operations.verb.Plain.TheVariants as Kind
+use Rattle.cj_script.specs.declared.operations.verb.Write.{Write}
+use Rattle.cj_script.specs.declared.operations.verb.Write.TheVariants as Written
+use Rattle.cj_script.specs.declared.operations.verb.Verb.{Verb}
+use Rattle.cj_script.specs.declared.operations.verb.Verb.TheVariants.{Does, Writes}
 
 abbrev pub write_word : Write → List ℕ
 write_word Written.CreateCron = codes "createCron"

@@ -4,7 +4,7 @@ ghost use Rattle.cj_base.specs.declared.refusal.Refusal.TheVariants.{OutOfMemory
 ghost use Rattle.cj_lines.specs.Answers as said;
 
 use crate::words::refusal_name;
-use cj_acts::{Plain, Verb};
+use cj_script::{Plain, Verb};
 use cj_calls::{Answer, Reply};
 use cj_types::{Job, Key, Refusal, Seconds, Shared, Version};
 use cj_zone::time_text;

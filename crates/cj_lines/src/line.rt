@@ -5,7 +5,7 @@ ghost use Rattle.cj_lines.specs.Lines as said;
 
 use crate::answers::answer_text;
 use crate::words::verb_word;
-use cj_acts::Verb;
+use cj_script::Verb;
 use cj_calls::Answer;
 use cj_types::Refusal;
 use std::alloc::Global;

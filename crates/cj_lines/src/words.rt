@@ -2,7 +2,7 @@
 ghost use Rattle.std.specs.Prelude.{◌≡◌};
 ghost use Rattle.cj_lines.specs.Words as word;
 
-use cj_acts::{Plain, Verb, Write};
+use cj_script::{Plain, Verb, Write};
 use cj_types::Refusal;
 
 fn write_word(verb: Write) -> &'static str

@@ -3,13 +3,13 @@ use Rattle.std.specs.Prelude.{List, ℕ, codes, Bool, false, if◌then◌else◌
 use Rattle.serde_json.specs.Data.{Data}
 use Rattle.serde_json.specs.Find.{as_bool, as_str}
 use Rattle.cj_manifest.specs.Members.{present}
-use Rattle.cj_acts.specs.declared.verb.Plain.{Plain}
-use Rattle.cj_acts.specs.declared.verb.Plain.TheVariants as Kind
-use Rattle.cj_acts.specs.declared.verb.Verb.{Verb}
-use Rattle.cj_acts.specs.declared.verb.Verb.TheVariants.{Does, Writes}
-use Rattle.cj_acts.specs.declared.verb.Write.{Write}
-use Rattle.cj_acts.specs.declared.verb.Write.TheVariants as Written
-use Rattle.cj_acts.specs.Verbs.{verb_named}
+use Rattle.cj_script.specs.declared.operations.verb.Plain.{Plain}
+use Rattle.cj_script.specs.declared.operations.verb.Plain.TheVariants as Kind
+use Rattle.cj_script.specs.declared.operations.verb.Verb.{Verb}
+use Rattle.cj_script.specs.declared.operations.verb.Verb.TheVariants.{Does, Writes}
+use Rattle.cj_script.specs.declared.operations.verb.Write.{Write}
+use Rattle.cj_script.specs.declared.operations.verb.Write.TheVariants as Written
+use Rattle.cj_script.specs.operations.Verbs.{verb_named}
 use Rattle.cj_members.specs.declared.want.Range.TheVariants.{Any, Max}
 use Rattle.cj_members.specs.declared.want.Want.TheVariants.{Manifest, Number, Reasons, Text, Truth}
 use Rattle.cj_members.specs.declared.want.Word.TheVariants as Word

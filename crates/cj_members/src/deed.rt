@@ -9,7 +9,7 @@ ghost use Rattle.cj_members.specs.Deeds as said;
 use crate::member::{may, must};
 use crate::want::{Range, Want, Word};
 use crate::wrong::{Wrong, told};
-use cj_acts::{Plain, Verb, Write, present, verb_named};
+use cj_script::{Plain, Verb, Write, present, verb_named};
 use serde_json::Value;
 use std::alloc::Global;
 

@@ -11,7 +11,7 @@ use crate::items::{Item, items_of};
 use crate::member::checked;
 use crate::want::{Want, Word, is_key};
 use crate::wrong::{Wrong, told};
-use cj_acts::present;
+use cj_script::present;
 use serde_json::{Map, Value};
 use std::alloc::{AllocError, Global};
 

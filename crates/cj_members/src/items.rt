@@ -9,7 +9,7 @@ use crate::deed::{caller, deed};
 use crate::member::{must, other};
 use crate::want::{Range, Want, Word};
 use crate::wrong::Wrong;
-use cj_acts::present;
+use cj_script::present;
 use serde_json::Value;
 use std::alloc::{AllocError, Global};
 

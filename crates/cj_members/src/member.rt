@@ -7,7 +7,7 @@ ghost use Rattle.cj_members.specs.Wants.{words};
 
 use crate::want::Want;
 use crate::wrong::{Wrong, told};
-use cj_acts::present;
+use cj_script::present;
 use serde_json::Value;
 use std::alloc::Global;
 

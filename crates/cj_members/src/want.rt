@@ -4,7 +4,7 @@ ghost use Rattle.serde_json.specs.View.{view};
 ghost use Rattle.cj_base.specs.declared.refusal.Refusal.TheVariants.{OutOfMemory};
 ghost use Rattle.cj_members.specs.Wants as want;
 
-use cj_acts::{instant_of, key_of, verb_named};
+use cj_script::{instant_of, key_of, verb_named};
 use cj_types::Refusal;
 use serde_json::Value;
 use std::alloc::Global;

@@ -7,8 +7,8 @@ use Rattle.cj_zone.specs.declared.table.ZoneTable.{ZoneTable}
 use Rattle.cj_decide.specs.Decision.{Planned}
 use Rattle.cj_calls.specs.declared.call.Call.{Call}
 use Rattle.cj_calls.specs.declared.call.Call.TheVariants as Of
-use Rattle.cj_acts.specs.declared.act.Act.{Act}
-use Rattle.cj_acts.specs.declared.act.Act.TheVariants.{Calls, Claims, Closes, Ends}
+use Rattle.cj_script.specs.declared.operations.act.Act.{Act}
+use Rattle.cj_script.specs.declared.operations.act.Act.TheVariants.{Calls, Claims, Closes, Ends}
 use Rattle.cj_sights.specs.declared.sight.Sight.{Sight}
 use Rattle.cj_sights.specs.Sights.{unseen}
 use Rattle.cj_sights.specs.Plans.{Inputs, IsPlanFor, inputs_of, reasons_of}

@@ -8,9 +8,8 @@ ghost use Rattle.cj_sights.specs.Sights.{seen_of};
 ghost use Rattle.cj_replay.specs.Calls.{IsCallOf, IsClaim, IsEnd, IsUidOf, IsUnseenCall};
 ghost use Rattle.cj_replay.specs.Runs.{job_at, jobs_in};
 
-use cj_acts::Act;
+use cj_script::{Act, Step};
 use cj_calls::{Call, End};
-use cj_script::Step;
 use cj_sights::{Sight, Sights, plan_for, reasons_for};
 use cj_types::{Heap, Job, Key, Outcome, Refusal, Seconds, Shared, TryCopy, Uid};
 use cj_world::World;

@@ -3,8 +3,8 @@ use Rattle.std.specs.Prelude.{ℕ, zero, suc, ◌==◌, List, ◌++◌, map}
 use Rattle.std.specs.List.{filter}
 use Rattle.cj_types.specs.declared.cron.CronJobDraft.{CronJobDraft}
 use Rattle.cj_calls.specs.declared.call.Call.TheVariants as Of
-use Rattle.cj_acts.specs.declared.act.Act.{Act}
-use Rattle.cj_acts.specs.declared.act.Act.TheVariants.{Calls}
+use Rattle.cj_script.specs.declared.operations.act.Act.{Act}
+use Rattle.cj_script.specs.declared.operations.act.Act.TheVariants.{Calls}
 use Rattle.cj_course.specs.Spans.{instant}
 use Rattle.cj_course.specs.declared.course.Course.{Course}
 use Rattle.cj_course.specs.declared.course.Edit.{Edit}

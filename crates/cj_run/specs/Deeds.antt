@@ -5,7 +5,7 @@ use Rattle.cj_zone.specs.declared.table.ZoneTable.{ZoneTable}
 use Rattle.cj_calls.specs.declared.call.Call.{Call}
 use Rattle.cj_calls.specs.declared.caller.Role.{Role}
 use Rattle.cj_calls.specs.declared.caller.Role.TheVariants.{User}
-use Rattle.cj_acts.specs.declared.act.Act.{Act}
+use Rattle.cj_script.specs.declared.operations.act.Act.{Act}
 use Rattle.cj_hub.specs.Receipts.{IsReceipt, PassView}
 use Rattle.cj_hub.specs.declared.receipt.Receipt.{Receipt}
 use Rattle.cj_replay.specs.Calls.{IsUnseenCall}

@@ -3,7 +3,7 @@ ghost use Rattle.std.specs.Prelude.{OnOk, [], ◌∷◌};
 ghost use Rattle.cj_run.specs.Courses.{creation, creations, edits_at};
 ghost use Rattle.cj_run.specs.Deeds.{Called, Does};
 
-use cj_acts::Act;
+use cj_script::Act;
 use cj_calls::Call;
 use cj_course::Edit;
 use cj_hub::{Hub, Pass};

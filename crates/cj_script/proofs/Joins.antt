@@ -8,7 +8,7 @@ use Rattle.cj_base.specs.declared.faults.FieldFault.{FieldFault}
 use Rattle.cj_scenario.specs.declared.fault.SceneFault.{SceneFault}
 use Rattle.cj_scenario.specs.declared.fault.SceneFault.TheVariants.{Form, Manifest, Memory, Syntax}
 use Rattle.cj_script.specs.Lists.{Gathers, Stops, all_of, both, joined}
-use Rattle.cj_acts.proofs.Rest.{rest_at}
+use Rattle.cj_script.proofs.OperationsLemmas.Rest.{rest_at}
 
 -- An item behind those gathered, before the rest, is the same as the item joined to the rest first.
 one_item : {A : Type 0} (items : List A) (fault : Option FieldFault) (x : A) (rest : Result (List A) SceneFault)

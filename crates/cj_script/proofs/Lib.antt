@@ -3,3 +3,4 @@ pub mod Joins
 pub mod Deep
 pub mod Drafted
 pub mod Never
+pub mod OperationsLemmas

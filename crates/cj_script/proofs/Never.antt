@@ -16,14 +16,14 @@ use Rattle.cj_manifest.specs.Drafts.{cron_draft, job_draft}
 use Rattle.cj_manifest.specs.Faults.{cron_faults, job_faults}
 use Rattle.cj_manifest.specs.Members.{present}
 use Rattle.cj_scenario.specs.Scenes.{AreZones, Refuses}
-use Rattle.cj_acts.specs.Acts.{moment_in}
-use Rattle.cj_acts.specs.Plain.{plain_act}
-use Rattle.cj_acts.specs.declared.act.Act.{Act}
-use Rattle.cj_acts.specs.declared.act.Act.TheVariants.{Calls}
-use Rattle.cj_acts.specs.declared.verb.Verb.{Verb}
-use Rattle.cj_acts.specs.declared.verb.Verb.TheVariants.{Does, Writes}
-use Rattle.cj_acts.specs.declared.verb.Write.{Write}
-use Rattle.cj_acts.specs.declared.verb.Write.TheVariants as Kind
+use Rattle.cj_script.specs.operations.Acts.{moment_in}
+use Rattle.cj_script.specs.operations.Plain.{plain_act}
+use Rattle.cj_script.specs.declared.operations.act.Act.{Act}
+use Rattle.cj_script.specs.declared.operations.act.Act.TheVariants.{Calls}
+use Rattle.cj_script.specs.declared.operations.verb.Verb.{Verb}
+use Rattle.cj_script.specs.declared.operations.verb.Verb.TheVariants.{Does, Writes}
+use Rattle.cj_script.specs.declared.operations.verb.Write.{Write}
+use Rattle.cj_script.specs.declared.operations.verb.Write.TheVariants as Kind
 use Rattle.cj_script.specs.declared.callers.Named.{Named}
 use Rattle.cj_script.specs.declared.step.Deed.{Deed}
 use Rattle.cj_script.specs.declared.step.Step.{Step}

@@ -5,3 +5,4 @@ pub mod Writes
 pub mod Lists
 pub mod Steps
 pub mod Scripts
+pub mod operations

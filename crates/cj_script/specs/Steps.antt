@@ -5,11 +5,11 @@ use Rattle.serde_json.specs.Find.{as_str}
 use Rattle.cj_zone.specs.declared.zone.Zone.{Zone}
 use Rattle.cj_manifest.specs.Members.{present}
 use Rattle.cj_scenario.specs.declared.fault.SceneFault.{SceneFault}
-use Rattle.cj_acts.specs.Plain.{plain_act}
-use Rattle.cj_acts.specs.Verbs.{verb_named}
-use Rattle.cj_acts.specs.declared.act.Act.{Act}
-use Rattle.cj_acts.specs.declared.verb.Verb.{Verb}
-use Rattle.cj_acts.specs.declared.verb.Verb.TheVariants.{Does, Writes}
+use Rattle.cj_script.specs.operations.Plain.{plain_act}
+use Rattle.cj_script.specs.operations.Verbs.{verb_named}
+use Rattle.cj_script.specs.declared.operations.act.Act.{Act}
+use Rattle.cj_script.specs.declared.operations.verb.Verb.{Verb}
+use Rattle.cj_script.specs.declared.operations.verb.Verb.TheVariants.{Does, Writes}
 use Rattle.cj_script.specs.declared.callers.Named.{Named}
 use Rattle.cj_script.specs.declared.step.Deed.{Deed}
 use Rattle.cj_script.specs.declared.step.Step.{Step}

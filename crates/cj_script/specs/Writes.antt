@@ -8,11 +8,11 @@ use Rattle.cj_calls.specs.declared.call.Call.{Call}
 use Rattle.cj_calls.specs.declared.call.Call.TheVariants as Of
 use Rattle.cj_manifest.specs.Members.{present}
 use Rattle.cj_scenario.specs.declared.fault.SceneFault.{SceneFault}
-use Rattle.cj_acts.specs.Acts.{moment_in}
-use Rattle.cj_acts.specs.declared.act.Act.{Act}
-use Rattle.cj_acts.specs.declared.act.Act.TheVariants.{Calls}
-use Rattle.cj_acts.specs.declared.verb.Write.{Write}
-use Rattle.cj_acts.specs.declared.verb.Write.TheVariants as Kind
+use Rattle.cj_script.specs.operations.Acts.{moment_in}
+use Rattle.cj_script.specs.declared.operations.act.Act.{Act}
+use Rattle.cj_script.specs.declared.operations.act.Act.TheVariants.{Calls}
+use Rattle.cj_script.specs.declared.operations.verb.Write.{Write}
+use Rattle.cj_script.specs.declared.operations.verb.Write.TheVariants as Kind
 use Rattle.cj_script.specs.Drafts.{cron_said, job_said, needed, then}
 
 abbrev pub object_in : Data → Result Data SceneFault

@@ -5,7 +5,7 @@ ghost use Rattle.cj_manifest.specs.Members.{unless_null};
 ghost use Rattle.cj_base.specs.declared.refusal.Refusal.TheVariants.{OutOfMemory};
 ghost use Rattle.cj_script.specs.Callers as said;
 
-use cj_acts::present;
+use crate::operations::present;
 use cj_base::{Refusal, Shared, Text};
 use cj_calls::{Caller, Role};
 use serde_json::{Map, Value};

@@ -5,6 +5,7 @@ mod callers;
 mod drafts;
 mod limits;
 mod lists;
+mod operations;
 mod read;
 mod script;
 mod step;
@@ -14,6 +15,9 @@ mod writes;
 pub use drafts::cron_said;
 pub use limits::number_or;
 pub use lists::{Reads, list_of};
+pub use operations::{
+    Act, Plain, Verb, Write, instant_of, key_of, number_at, plain_act, present, time_at, verb_named,
+};
 pub use read::read_script;
 pub use script::Script;
 pub use step::{Deed, Step, deed_of};

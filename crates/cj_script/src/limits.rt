@@ -3,7 +3,7 @@ ghost use Rattle.std.specs.Prelude.{◌≡◌, option_map};
 ghost use Rattle.serde_json.specs.View.{view};
 ghost use Rattle.cj_script.specs.Limits as said;
 
-use cj_acts::present;
+use crate::operations::present;
 use cj_types::Limits;
 use serde_json::Value;
 

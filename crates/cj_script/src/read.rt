@@ -12,7 +12,7 @@ use crate::limits::limits_at;
 use crate::script::Script;
 use crate::step::Step;
 use crate::steps::steps_of;
-use cj_acts::present;
+use crate::operations::present;
 use cj_scenario::{SceneFault, table_of, value_of};
 use cj_types::Limits;
 use cj_zone::ZoneTable;

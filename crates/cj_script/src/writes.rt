@@ -8,7 +8,7 @@ ghost use Rattle.cj_scenario.specs.declared.fault.SceneFault.TheVariants.{Memory
 ghost use Rattle.cj_script.specs.Writes as said;
 
 use crate::drafts::{cron_said, job_said};
-use cj_acts::{Act, Write, present, time_at};
+use crate::operations::{Act, Write, present, time_at};
 use cj_calls::Call;
 use cj_scenario::SceneFault;
 use cj_zone::ZoneTable;

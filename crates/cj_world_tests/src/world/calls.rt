@@ -1,5 +1,5 @@
 // The call of a step.
-use cj_acts::Act;
+use cj_script::Act;
 use cj_calls::Call;
 use cj_decide::{Plan, decide};
 use cj_types::{Job, Key, Listing, Outcome, Reasons, Refusal, Seconds, Shared, TryCopy, Uid};

@@ -1,6 +1,4 @@
-//! What a step of a script does: its verb, and the act of a verb that takes no manifest, as a JSON object says it.
-#![tactic(auto)]
-
+// What a step of a script does: its verb, and the act of a verb that takes no manifest, as a JSON object says it.
 mod act;
 mod finish;
 mod instant;

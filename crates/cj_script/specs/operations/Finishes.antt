@@ -8,9 +8,9 @@ use Rattle.cj_calls.specs.declared.call.Call.TheVariants as Of
 use Rattle.cj_calls.specs.declared.end.End.{End}
 use Rattle.cj_calls.specs.declared.end.End.TheVariants.{Again, Well}
 use Rattle.cj_manifest.specs.Members.{present}
-use Rattle.cj_acts.specs.declared.act.Act.{Act}
-use Rattle.cj_acts.specs.declared.act.Act.TheVariants.{Calls, Closes}
-use Rattle.cj_acts.specs.Acts.{moment_in}
+use Rattle.cj_script.specs.declared.operations.act.Act.{Act}
+use Rattle.cj_script.specs.declared.operations.act.Act.TheVariants.{Calls, Closes}
+use Rattle.cj_script.specs.operations.Acts.{moment_in}
 
 abbrev pub reason_named : List ℕ → Option Reason
 reason_named word =

@@ -4,8 +4,8 @@ use Rattle.serde_json.specs.View.{items_view, view}
 use Rattle.serde_json.specs.declared.value.Value.{Value}
 use Rattle.serde_json.specs.Data.{Items}
 use Rattle.cj_types.specs.declared.policy.Reason.{Reason}
-use Rattle.cj_acts.specs.Finishes.{reason_in, with_reasons}
-use Rattle.cj_acts.proofs.Rest.{rest_at}
+use Rattle.cj_script.specs.operations.Finishes.{reason_in, with_reasons}
+use Rattle.cj_script.proofs.OperationsLemmas.Rest.{rest_at}
 
 -- The reasons so far with the one read, if it is one, and with those of the items left.
 after : List Reason → Items → Option Reason → Option (List Reason)

@@ -2,12 +2,12 @@
 use Rattle.std.specs.Prelude.{Option, Some}
 use Rattle.serde_json.specs.Data.{Data}
 use Rattle.cj_calls.specs.declared.call.Call.TheVariants as Of
-use Rattle.cj_acts.specs.declared.act.Act.{Act}
-use Rattle.cj_acts.specs.declared.act.Act.TheVariants.{Calls}
-use Rattle.cj_acts.specs.declared.verb.Plain.{Plain}
-use Rattle.cj_acts.specs.declared.verb.Plain.TheVariants as Kind
-use Rattle.cj_acts.specs.Acts as said
-use Rattle.cj_acts.specs.Finishes.{finish}
+use Rattle.cj_script.specs.declared.operations.act.Act.{Act}
+use Rattle.cj_script.specs.declared.operations.act.Act.TheVariants.{Calls}
+use Rattle.cj_script.specs.declared.operations.verb.Plain.{Plain}
+use Rattle.cj_script.specs.declared.operations.verb.Plain.TheVariants as Kind
+use Rattle.cj_script.specs.operations.Acts as said
+use Rattle.cj_script.specs.operations.Finishes.{finish}
 
 -- rule: step-form
 abbrev pub plain_act : Plain → Data → Option Act

@@ -2,11 +2,11 @@
 ghost use Rattle.std.specs.Prelude.{◌≡◌, [], IfOk, IfErr};
 ghost use Rattle.serde_json.specs.View.{view, items_view};
 ghost use Rattle.cj_base.specs.declared.refusal.Refusal.TheVariants.{OutOfMemory};
-ghost use Rattle.cj_acts.specs.Finishes as said;
+ghost use Rattle.cj_script.specs.operations.Finishes as said;
 
-use crate::act::Act;
-use crate::instant::time_at;
-use crate::member::present;
+use crate::operations::act::Act;
+use crate::operations::instant::time_at;
+use crate::operations::member::present;
 use cj_calls::{Call, End};
 use cj_types::{Millis, Reason, Reasons, Refusal};
 use serde_json::Value;

@@ -1,9 +1,9 @@
 -- reasons_of: its clause ok where an item is no reason, since the list then says none.
 use Rattle.std.proofs.Common.{◌∙◌, [], sym, ap}
 use Rattle.serde_json.specs.View.{items_view}
-use Rattle.cj_acts.specs.Finishes.{with_reasons}
-use Rattle.cj_acts.proofs.Reasons.{reasons-end}
-use Rattle.cj_acts.proofs.finish.reasons_of.Goals as goal
+use Rattle.cj_script.specs.operations.Finishes.{with_reasons}
+use Rattle.cj_script.proofs.OperationsLemmas.Reasons.{reasons-end}
+use Rattle.cj_script.proofs.operations.finish.reasons_of.Goals as goal
 
 pub returns-in-None-clause-ok : goal.returns-in-None-clause-ok
 returns-in-None-clause-ok c =

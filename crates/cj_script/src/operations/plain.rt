@@ -2,15 +2,15 @@
 ghost use Rattle.std.specs.Prelude.{◌≡◌, IfOk, IfErr};
 ghost use Rattle.serde_json.specs.View.{view};
 ghost use Rattle.cj_base.specs.declared.refusal.Refusal.TheVariants.{OutOfMemory};
-ghost use Rattle.cj_acts.specs.Acts as said;
-ghost use Rattle.cj_acts.specs.Plain.{plain_act};
+ghost use Rattle.cj_script.specs.operations.Acts as said;
+ghost use Rattle.cj_script.specs.operations.Plain.{plain_act};
 
-use crate::act::Act;
-use crate::finish::finish;
-use crate::instant::time_at;
-use crate::keys::key_at;
-use crate::member::{max_at, number_at, present};
-use crate::verb::Plain;
+use crate::operations::act::Act;
+use crate::operations::finish::finish;
+use crate::operations::instant::time_at;
+use crate::operations::keys::key_at;
+use crate::operations::member::{max_at, number_at, present};
+use crate::operations::verb::Plain;
 use cj_calls::Call;
 use cj_types::{Millis, Outcome, Refusal, Seconds, Version};
 use serde_json::Value;

@@ -1,6 +1,6 @@
 // The words for what a step does.
 ghost use Rattle.std.specs.Prelude.{◌≡◌};
-ghost use Rattle.cj_acts.specs.Verbs as word;
+ghost use Rattle.cj_script.specs.operations.Verbs as word;
 
 /// A call that takes a manifest.
 #[derive(Clone, Copy, Debug, PartialEq, Eq)]
@@ -57,7 +57,7 @@ fn worker_verb(text: &str) -> Option<Verb>
     }
 }
 
-#[tactic(auto, unfolding(crate::specs::Verbs::informer_verb))]
+#[tactic(auto, unfolding(crate::specs::operations::Verbs::informer_verb))]
 fn informer_verb(text: &str) -> Option<Verb>
     ensures { result ≡ word.informer_verb text.now }
 {
@@ -72,7 +72,7 @@ fn informer_verb(text: &str) -> Option<Verb>
 }
 
 /// The verb of a word, which is the name of a call with a small first letter.
-#[tactic(auto, unfolding(crate::specs::Verbs::verb_named))]
+#[tactic(auto, unfolding(crate::specs::operations::Verbs::verb_named))]
 pub fn verb_named(text: &str) -> Option<Verb>
     ensures { result ≡ word.verb_named text.now }
 {

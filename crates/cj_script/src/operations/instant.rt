@@ -2,9 +2,9 @@
 ghost use Rattle.std.specs.Prelude.{◌≡◌};
 ghost use Rattle.serde_json.specs.View.{view};
 ghost use Rattle.cj_manifest.specs.Members.{present as member_at};
-ghost use Rattle.cj_acts.specs.Instants as said;
+ghost use Rattle.cj_script.specs.operations.Instants as said;
 
-use crate::member::present;
+use crate::operations::member::present;
 use cj_types::Seconds;
 use cj_zone::read_time;
 use serde_json::Value;

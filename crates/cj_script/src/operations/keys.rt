@@ -2,9 +2,9 @@
 ghost use Rattle.std.specs.Prelude.{◌≡◌, IfOk, IfErr};
 ghost use Rattle.serde_json.specs.View.{view};
 ghost use Rattle.cj_base.specs.declared.refusal.Refusal.TheVariants.{OutOfMemory};
-ghost use Rattle.cj_acts.specs.Acts as said;
+ghost use Rattle.cj_script.specs.operations.Acts as said;
 
-use crate::member::present;
+use crate::operations::member::present;
 use cj_types::{Key, Refusal};
 use serde_json::Value;
 use std::alloc::Global;

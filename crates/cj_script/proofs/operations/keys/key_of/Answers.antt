@@ -1,8 +1,8 @@
 -- key_of: its clause ok, where the text has no slash and where it is split at one.
 use Rattle.std.proofs.Common.{Some, None, arith}
 use Rattle.std.proofs.lemmas.Str.Pattern.{split_once_first}
-use Rattle.cj_acts.proofs.Splits.{key-made, key-whole}
-use Rattle.cj_acts.proofs.keys.key_of.Goals as goal
+use Rattle.cj_script.proofs.OperationsLemmas.Splits.{key-made, key-whole}
+use Rattle.cj_script.proofs.operations.keys.key_of.Goals as goal
 
 pub returns-in-None-clause-ok : goal.returns-in-None-clause-ok
 returns-in-None-clause-ok c = key-whole c.args.text.now

@@ -4,7 +4,7 @@ use Rattle.std.specs.Str.{bytes_eq}
 use Rattle.std.proofs.lemmas.Slice.Eq.{bytes_eq-Decides}
 use Rattle.cj_base.specs.Instant.{last_second}
 use Rattle.cj_zone.specs.TimeText.{time_text_of}
-use Rattle.cj_acts.specs.Instants.{instant_of, printed_by}
+use Rattle.cj_script.specs.operations.Instants.{instant_of, printed_by}
 
 -- What is not true is false.
 not_true : (b : Bool) → (b ≡ true → ⊥) → b ≡ false

@@ -1,9 +1,9 @@
 -- The words for what a step does: the name of a call with a small first letter.
 use Rattle.std.specs.Prelude.{ℕ, List, codes, bytes_eq, if◌then◌else◌, Option, Some, None}
-use Rattle.cj_acts.specs.declared.verb.Plain.TheVariants as Kind
-use Rattle.cj_acts.specs.declared.verb.Write.TheVariants as Written
-use Rattle.cj_acts.specs.declared.verb.Verb.{Verb}
-use Rattle.cj_acts.specs.declared.verb.Verb.TheVariants.{Does, Writes}
+use Rattle.cj_script.specs.declared.operations.verb.Plain.TheVariants as Kind
+use Rattle.cj_script.specs.declared.operations.verb.Write.TheVariants as Written
+use Rattle.cj_script.specs.declared.operations.verb.Verb.{Verb}
+use Rattle.cj_script.specs.declared.operations.verb.Verb.TheVariants.{Does, Writes}
 
 -- what workers do
 abbrev pub worker_verb : List ℕ → Option Verb

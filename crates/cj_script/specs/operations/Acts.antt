@@ -11,9 +11,9 @@ use Rattle.cj_types.specs.Keys.{Place, new_key}
 use Rattle.cj_types.specs.Names.{longest}
 use Rattle.cj_calls.specs.declared.call.Call.TheVariants as Of
 use Rattle.cj_manifest.specs.Members.{present}
-use Rattle.cj_acts.specs.declared.act.Act.{Act}
-use Rattle.cj_acts.specs.declared.act.Act.TheVariants.{Calls, Claims, Ends}
-use Rattle.cj_acts.specs.Instants.{time_in}
+use Rattle.cj_script.specs.declared.operations.act.Act.{Act}
+use Rattle.cj_script.specs.declared.operations.act.Act.TheVariants.{Calls, Claims, Ends}
+use Rattle.cj_script.specs.operations.Instants.{time_in}
 
 -- ---- members
 
