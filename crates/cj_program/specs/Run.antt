@@ -3,8 +3,8 @@ use Rattle.std.specs.Prelude.{◌≡◌, ◌≢◌, ◌⊎◌, ℕ, ◌≤◌, L
 use Rattle.cj_scenario.specs.declared.fault.SceneFault.{SceneFault}
 use Rattle.cj_scenario.specs.declared.fault.SceneFault.TheVariants as Why
 use Rattle.cj_scenario.specs.declared.detection.form.Form.TheVariants as A
-use Rattle.cj_course.specs.Courses.{IsCourse, IsRefusedCourse}
-use Rattle.cj_course.specs.declared.course.Course.{Course}
+use Rattle.cj_script.specs.simulation.Courses.{IsCourse, IsRefusedCourse}
+use Rattle.cj_script.specs.declared.simulation.course.Course.{Course}
 use Rattle.cj_run.specs.Runs.{IsRun}
 use Rattle.cj_words.specs.declared.request.RunRequest.{RunRequest}
 use Rattle.cj_zoneinfo.specs.declared.file.ZoneFile.{ZoneFile}

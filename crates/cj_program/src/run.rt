@@ -1,12 +1,12 @@
 // Running the whole controller.
 ghost use Rattle.std.specs.Prelude.{◌≡◌, IfOk, string_bytes};
-ghost use Rattle.cj_course.specs.Courses.{IsCourse};
+ghost use Rattle.cj_script.specs.simulation.Courses.{IsCourse};
 ghost use Rattle.cj_zoneinfo.specs.declared.given.GivenZones.{GivenZones};
 ghost use Rattle.cj_answers.specs.Outcome.{done, explained, outcome_of};
 ghost use Rattle.cj_program.specs.Run.{IsRanOf, IsRunOutcome};
 
 use cj_answers::{Answer, Ending, asked_glance, given_for, refused_pair, refused_scene};
-use cj_course::{Course, read_course};
+use cj_script::{Course, read_course};
 use cj_scenario::Form;
 use cj_output::{Failure, MOST_BYTES, MOST_READS, read_input};
 use cj_run::run_course;

@@ -11,9 +11,9 @@ use Rattle.cj_calls.specs.declared.caller.Role.{Role}
 use Rattle.cj_script.specs.declared.operations.act.Act.{Act}
 use Rattle.cj_hub.specs.Receipts.{PassView}
 use Rattle.cj_hub.specs.declared.receipt.Receipt.{Receipt}
-use Rattle.cj_course.specs.Spans.{instant}
-use Rattle.cj_course.specs.declared.course.Course.{Course}
-use Rattle.cj_course.specs.declared.course.Edit.{Edit}
+use Rattle.cj_script.specs.simulation.Spans.{instant}
+use Rattle.cj_script.specs.declared.simulation.course.Course.{Course}
+use Rattle.cj_script.specs.declared.simulation.course.Edit.{Edit}
 use Rattle.cj_replay.specs.Calls.{IsUnseenCall}
 use Rattle.cj_run.specs.Courses.{acts_below, creation, creations, edits_at}
 use Rattle.cj_run.specs.Deeds.{AreOf, Called, Does, IsOf}

@@ -2,7 +2,7 @@
 use Rattle.std.proofs.Common.{◌≡◌, ◌+◌, ◌<◌, ◌∙◌, ℕ, List, ◌∷◌, length, get_or, drop, sym, ap}
 use Rattle.std.proofs.lemmas.List.{drop_more}
 use Rattle.cj_types.specs.declared.job.Job.{Job}
-use Rattle.cj_course.specs.Runs.{RunTable}
+use Rattle.cj_script.specs.simulation.Runs.{RunTable}
 use Rattle.cj_run.specs.Made.{Notes, noted_all, seen}
 
 -- For Made::note_all: to note a Job and then those behind it is to note all from that Job on.

@@ -7,7 +7,7 @@ use Rattle.cj_calls.specs.declared.caller.Role.{Role}
 use Rattle.cj_calls.specs.declared.caller.Role.TheVariants.{User}
 use Rattle.cj_hub.specs.Receipts.{IsExact, PassView, placed}
 use Rattle.cj_hub.specs.declared.receipt.Receipt.{Receipt}
-use Rattle.cj_course.specs.declared.course.Course.{Course}
+use Rattle.cj_script.specs.declared.simulation.course.Course.{Course}
 use Rattle.cj_run.specs.Courses.{acts_below}
 use Rattle.cj_run.specs.Deeds.{AreDone, AreOf, Does, HasPlayed}
 use Rattle.cj_run.specs.Runs.{IsReport, IsRun}

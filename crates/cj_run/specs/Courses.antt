@@ -5,9 +5,9 @@ use Rattle.cj_types.specs.declared.cron.CronJobDraft.{CronJobDraft}
 use Rattle.cj_calls.specs.declared.call.Call.TheVariants as Of
 use Rattle.cj_script.specs.declared.operations.act.Act.{Act}
 use Rattle.cj_script.specs.declared.operations.act.Act.TheVariants.{Calls}
-use Rattle.cj_course.specs.Spans.{instant}
-use Rattle.cj_course.specs.declared.course.Course.{Course}
-use Rattle.cj_course.specs.declared.course.Edit.{Edit}
+use Rattle.cj_script.specs.simulation.Spans.{instant}
+use Rattle.cj_script.specs.declared.simulation.course.Course.{Course}
+use Rattle.cj_script.specs.declared.simulation.course.Edit.{Edit}
 
 abbrev pub creation : ℕ → CronJobDraft → Act
 creation at draft = Calls (Of.CreateCron draft at)

@@ -9,8 +9,8 @@ use Rattle.cj_script.specs.declared.operations.act.Act.{Act}
 use Rattle.cj_hub.specs.Receipts.{IsReceipt, PassView}
 use Rattle.cj_hub.specs.declared.receipt.Receipt.{Receipt}
 use Rattle.cj_replay.specs.Calls.{IsUnseenCall}
-use Rattle.cj_course.specs.Spans.{IsInstant}
-use Rattle.cj_course.specs.declared.course.Course.{Course}
+use Rattle.cj_script.specs.simulation.Spans.{IsInstant}
+use Rattle.cj_script.specs.declared.simulation.course.Course.{Course}
 use Rattle.cj_run.specs.Courses.{acts_below}
 
 -- the call was entered, and the pass got its receipt

@@ -5,8 +5,8 @@ use Rattle.cj_types.specs.Keys.{Place, place_cmp}
 use Rattle.cj_types.specs.Owners.{controller_of}
 use Rattle.cj_types.specs.declared.job.Job.{Job}
 use Rattle.cj_types.specs.declared.owners.OwnerRef.{OwnerRef}
-use Rattle.cj_course.specs.Runs.{RunTable, run_of}
-use Rattle.cj_course.specs.declared.run.Run.{Run}
+use Rattle.cj_script.specs.simulation.Runs.{RunTable, run_of}
+use Rattle.cj_script.specs.declared.simulation.run.Run.{Run}
 use Rattle.cj_informer.specs.Informs.{key_of_job}
 use Rattle.cj_runner.specs.declared.running.Running.{Running}
 use Rattle.cj_run.specs.declared.made.Count.{Count}

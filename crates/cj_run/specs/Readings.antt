@@ -1,6 +1,6 @@
 -- What the clock of a run shows.
 use Rattle.std.specs.Prelude.{◌≡◌, ◌*◌, ℕ}
-use Rattle.cj_course.specs.Spans.{IsInstant, SpanView, instant}
+use Rattle.cj_script.specs.simulation.Spans.{IsInstant, SpanView, instant}
 
 -- an instant of the clock
 -- rule: run-clock

@@ -4,8 +4,8 @@ use Rattle.cj_calls.specs.Rows.{Told}
 use Rattle.cj_calls.specs.declared.caller.Role.TheVariants.{User}
 use Rattle.cj_hub.specs.Receipts.{IsExact, PassView, placed}
 use Rattle.cj_worker.specs.declared.workers.WorkerEnd.{WorkerEnd}
-use Rattle.cj_course.specs.Spans.{IsInstant}
-use Rattle.cj_course.specs.declared.course.Course.{Course}
+use Rattle.cj_script.specs.simulation.Spans.{IsInstant}
+use Rattle.cj_script.specs.declared.simulation.course.Course.{Course}
 use Rattle.cj_replay.specs.Replays.{KeepsPromise, report_of}
 use Rattle.cj_run.specs.Courses.{acts_below}
 use Rattle.cj_run.specs.Deeds.{AreOf}

@@ -2,7 +2,7 @@ ghost use Rattle.std.specs.Prelude.{◌≡◌};
 ghost use Rattle.cj_run.specs.Readings.{HasInstant};
 
 use crate::rest::AtRest;
-use cj_course::Span;
+use cj_script::Span;
 use cj_types::{Millis, Seconds};
 use cj_worker::{Clock, Reading};
 use std::sync::atomic::{AtomicU64, Ordering};

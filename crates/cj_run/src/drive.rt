@@ -1,6 +1,6 @@
 // The instants of a run, one after the other.
 ghost use Rattle.std.specs.Prelude.{◌≡◌, OnOk};
-ghost use Rattle.cj_course.specs.Spans.{instant, IsInstant};
+ghost use Rattle.cj_script.specs.simulation.Spans.{instant, IsInstant};
 ghost use Rattle.cj_run.specs.Courses.{edits_at};
 ghost use Rattle.cj_run.specs.Deeds.{Does, HasPlayed};
 
@@ -10,7 +10,7 @@ use crate::made::Made;
 use crate::rest::{Follower, Halt};
 use crate::user::{create_all, edit_all};
 use cj_calls::{Call, Reply};
-use cj_course::Course;
+use cj_script::Course;
 use cj_hub::{Hub, Pass, Receipt};
 use cj_types::{Job, Millis, Refusal, Seconds, Shared};
 use std::alloc::Global;

@@ -5,7 +5,7 @@ ghost use Rattle.cj_base.specs.declared.refusal.Refusal.TheVariants.{OutOfMemory
 ghost use Rattle.cj_run.specs.Made.{counted, made_before, no_notes, noted, noted_all, notes, seen, with_run};
 
 use cj_base::{Refusal, Text, TryCopy};
-use cj_course::{Run, Runs};
+use cj_script::{Run, Runs};
 use cj_informer::owner_key;
 use cj_runner::Running;
 use cj_table::Table;

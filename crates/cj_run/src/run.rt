@@ -12,7 +12,7 @@ use crate::made::Made;
 use crate::rest::{Follower, Halt};
 use crate::stage::{Staged, stage};
 use cj_calls::Role;
-use cj_course::Course;
+use cj_script::Course;
 use cj_hub::{Closed, Hub, HubState, Pass};
 use cj_informer::Informer;
 use cj_output::Failure;

@@ -6,7 +6,7 @@ use crate::clock::RunClock;
 use crate::drive::{Cast, drive};
 use crate::rest::{Follower, Halt};
 use cj_calls::Call;
-use cj_course::Course;
+use cj_script::Course;
 use cj_hub::{Hub, Pass};
 use cj_types::Refusal;
 use cj_worker::{OpenGate, WorkerEnd, run_workers};

@@ -4,8 +4,8 @@ use Rattle.cj_types.specs.declared.policy.Outcome.{Outcome}
 use Rattle.cj_types.specs.declared.policy.Outcome.TheVariants as To
 use Rattle.cj_calls.specs.declared.call.Call.{Call}
 use Rattle.cj_calls.specs.declared.call.Call.TheVariants as Of
-use Rattle.cj_course.specs.declared.run.RunEnd.{RunEnd}
-use Rattle.cj_course.specs.declared.run.RunEnd.TheVariants.{Complete, Failed}
+use Rattle.cj_script.specs.declared.simulation.run.RunEnd.{RunEnd}
+use Rattle.cj_script.specs.declared.simulation.run.RunEnd.TheVariants.{Complete, Failed}
 use Rattle.cj_runner.specs.declared.running.Running.{Running}
 
 -- the Job was made before now, and has run for its seconds

@@ -8,6 +8,6 @@ mod running;
 mod shares;
 mod threads;
 
-pub use cj_course::RunEnd;
+pub use cj_script::RunEnd;
 pub use runners::end_due;
 pub use running::Running;

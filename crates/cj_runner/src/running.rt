@@ -2,7 +2,7 @@ ghost use Rattle.std.specs.Prelude.{◌≡◌};
 ghost use Rattle.cj_runner.specs.Dues.{is_due, outcome_at, end_call};
 
 use cj_calls::Call;
-use cj_course::RunEnd;
+use cj_script::RunEnd;
 use cj_types::{Key, Outcome, Seconds, Uid};
 
 /// A Job that runs: which one, when it was made, how many seconds it takes, and how it ends.

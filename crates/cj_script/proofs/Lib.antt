@@ -4,3 +4,4 @@ pub mod Deep
 pub mod Drafted
 pub mod Never
 pub mod OperationsLemmas
+pub mod SimulationLemmas

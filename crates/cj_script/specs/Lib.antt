@@ -6,3 +6,4 @@ pub mod Lists
 pub mod Steps
 pub mod Scripts
 pub mod operations
+pub mod simulation

@@ -8,6 +8,7 @@ mod lists;
 mod operations;
 mod read;
 mod script;
+mod simulation;
 mod step;
 mod steps;
 mod writes;
@@ -20,4 +21,5 @@ pub use operations::{
 };
 pub use read::read_script;
 pub use script::Script;
+pub use simulation::{Course, Edit, Run, RunEnd, Runs, Span, read_course};
 pub use step::{Deed, Step, deed_of};
