@@ -9,8 +9,8 @@ use Rattle.cj_state.specs.Legal.{ArePlanned, IsLegal, state_of}
 use Rattle.cj_world_laws.specs.legal.Exclusive.{Exclusive}
 use Rattle.cj_world_laws.specs.once.Once.{Alone, Once}
 use Rattle.cj_world_laws.specs.once.Times.{Timely}
-use Rattle.cj_lines.specs.Objects.{cron_lines, job_lines}
-use Rattle.cj_lines.specs.Reasons.{reason_lines}
+use Rattle.cj_report.specs.Objects.{cron_lines, job_lines}
+use Rattle.cj_report.specs.Reasons.{reason_lines}
 use Rattle.cj_script.specs.declared.script.Script.{Script}
 use Rattle.cj_script.specs.declared.step.Step.{Step}
 use Rattle.cj_replay.specs.Runs.{AllPlay}

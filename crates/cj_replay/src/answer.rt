@@ -2,13 +2,13 @@
 ghost use Rattle.std.specs.Prelude.{◌≡◌, List, IfOk, IfErr, OnOk, length, string_bytes, if◌then◌else◌, Some, None};
 ghost use Rattle.cj_base.specs.declared.refusal.Refusal.TheVariants.{OutOfMemory};
 ghost use Rattle.cj_calls.specs.Rows.{Told};
-ghost use Rattle.cj_lines.specs.Lines as lines;
+ghost use Rattle.cj_report.specs.Lines as lines;
 ghost use Rattle.cj_state.specs.Legal as legal;
 ghost use Rattle.cj_sights.specs.Remembered.{Remembers};
 ghost use Rattle.cj_replay.specs.Runs as said;
 
 use cj_calls::{Answer, Call, Caller};
-use cj_lines::step_line;
+use cj_report::step_line;
 use cj_script::Step;
 use cj_sights::Sights;
 use cj_types::{Heap, Refusal};

@@ -5,7 +5,7 @@ ghost use Rattle.cj_base.specs.declared.refusal.Refusal.TheVariants.{OutOfMemory
 ghost use Rattle.cj_replay.specs.Replays.{report_lines, report_of};
 
 use cj_calls::Entry;
-use cj_lines::{objects_text, reasons_text};
+use cj_report::{objects_text, reasons_text};
 use cj_types::{CronJob, Job, Refusal, Shared};
 use cj_world::World;
 use std::alloc::Global;

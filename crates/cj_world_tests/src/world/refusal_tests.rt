@@ -3,7 +3,7 @@ use crate::world::calls::call_of;
 use crate::world::script::{SCRIPT, WANTED};
 use cj_calls::{Answer, Call, Entry, same_answer};
 use cj_decide::{fits_law, plan_laws};
-use cj_lines::step_line;
+use cj_report::step_line;
 use cj_script::{Script, Step, read_script};
 use cj_types::{Limits, Refusal, Same};
 use cj_world::World;
