@@ -1,7 +1,7 @@
 -- A manifest without a fault.
 use Rattle.std.proofs.Common.{◌≡◌, ◌∙◌, ap, inr, rules, ℕ, List, Bool, ◌++◌}
 use Rattle.std.specs.Prelude.{Result, Ok, Err, IfOk}
-use Rattle.cj_output.specs.declared.failure.Failure.{Failure}
+use Rattle.cj_io.specs.declared.failure.Failure.{Failure}
 use Rattle.cj_zone.specs.declared.zone.Zone.{Zone}
 use Rattle.cj_manifest.specs.declared.manifest.Manifest.{Manifest}
 use Rattle.cj_manifest.specs.Either.{key_of, kind_of, manifest_draft, manifest_faults, manifest_warnings}

@@ -1,7 +1,7 @@
 -- A scenario that is refused.
 use Rattle.std.proofs.Common.{◌≢◌, inl, rules, ℕ, List, Bool}
 use Rattle.std.specs.Prelude.{Result, Ok, Err, IfOk}
-use Rattle.cj_output.specs.declared.failure.Failure.{Failure}
+use Rattle.cj_io.specs.declared.failure.Failure.{Failure}
 use Rattle.cj_scenario.specs.declared.fault.SceneFault.{SceneFault}
 use Rattle.cj_scenario.specs.declared.fault.SceneFault.TheVariants as Why
 use Rattle.cj_scenario.specs.Made.{IsRefusedScene}

@@ -11,7 +11,7 @@ use crate::lines::print_fault;
 use cj_base::FieldFault;
 use cj_explain::explain_fault;
 use cj_kubectl::{ItemNote, ListFault, Said};
-use cj_output::Failure;
+use cj_io::Failure;
 use std::alloc::{AllocError, Global};
 
 // The beginning of the lines of an item.

@@ -6,7 +6,7 @@ ghost use Rattle.cj_answers.specs.Given.{AreGiven, IsNoneGiven, IsReadUnder, pai
 ghost use Rattle.cj_answers.specs.Outcome.{explained, outcome_of, refusal};
 
 use crate::answer::Answer;
-use cj_output::Failure;
+use cj_io::Failure;
 use cj_words::ZoneWords;
 use cj_zone::ZoneTable;
 use cj_zoneinfo::{GivenZones, Refused, ZoneFile, table_with};

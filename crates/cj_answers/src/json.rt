@@ -2,7 +2,7 @@
 ghost use Rattle.std.specs.Prelude.{◌≡◌, IfOk, string_bytes};
 ghost use Rattle.cj_answers.specs.Json.{IsJsonWords, json_line};
 
-use cj_output::Failure;
+use cj_io::Failure;
 use serde_json::Value;
 use std::alloc::{AllocError, Global};
 

@@ -12,7 +12,7 @@ use crate::answer::{Answer, Ending};
 use crate::next_text::next_text;
 use cj_base::{Refusal, ScheduleFault};
 use cj_explain::explain_schedule;
-use cj_output::Failure;
+use cj_io::Failure;
 use cj_schedule::Schedule;
 use cj_words::NextRequest;
 use cj_zone::{ZoneTable, read_time};

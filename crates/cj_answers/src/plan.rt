@@ -21,7 +21,7 @@ use cj_decide::{Plan, Steps, decide};
 use cj_explain::explain_fault;
 use cj_scenario::{Form, Scene, SceneFault, glance, read_scene};
 use cj_members::look;
-use cj_output::{Failure, MOST_BYTES, MOST_READS, read_input};
+use cj_io::{Failure, MOST_BYTES, MOST_READS, read_input};
 use cj_review::{plan_text, zone_copy, zone_of};
 use cj_types::{CronJob, FieldFault, Job, Seconds, Shared};
 use cj_why::why;

@@ -13,7 +13,7 @@ use crate::given::{given_zones, refused_pair};
 use crate::plan::refused_moment;
 use cj_cluster::ClusterCron;
 use cj_kubectl::{ClusterList, ItemNote, read_cluster};
-use cj_output::{Failure, read_input};
+use cj_io::{Failure, read_input};
 use cj_review::{Reviewed, review};
 use cj_types::{Key, Refusal, Seconds, Shared};
 use cj_words::WhyRequest;

@@ -3,7 +3,7 @@ use Rattle.std.proofs.Common.{◌≡◌, ◌⊎◌, inl, inr, ℕ, List, subst, 
 use Rattle.std.specs.Prelude.{Option, Result, Ok, Err, IfOk}
 use Rattle.std.specs.Result.{IsOkAnd}
 use Rattle.std.specs.Io.KnownBytes.{Appends}
-use Rattle.cj_output.specs.declared.failure.Failure.{Failure}
+use Rattle.cj_io.specs.declared.failure.Failure.{Failure}
 use Rattle.cj_answers.specs.declared.answer.Answer.{Answer}
 use Rattle.cj_words.specs.declared.request.Request.{Request}
 use Rattle.cj_zoneinfo.specs.declared.file.ZoneFile.{ZoneFile}

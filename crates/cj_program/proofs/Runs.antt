@@ -3,8 +3,8 @@ use Rattle.std.proofs.Common.{◌≡◌, ◌≢◌, ◌⊎◌, inl, inr, ℕ, Li
 use Rattle.std.specs.Prelude.{Option, Result, Ok, Err, IfOk, codes}
 use Rattle.std.specs.Result.{IsOkAnd}
 use Rattle.std.specs.Io.KnownBytes.{Appends}
-use Rattle.cj_output.specs.declared.failure.Failure.{Failure}
-use Rattle.cj_output.specs.Writing.{AppendsSome, failure_line}
+use Rattle.cj_io.specs.declared.failure.Failure.{Failure}
+use Rattle.cj_io.specs.Writing.{AppendsSome, failure_line}
 use Rattle.cj_scenario.specs.declared.fault.SceneFault.{SceneFault}
 use Rattle.cj_scenario.specs.declared.fault.SceneFault.TheVariants as Why
 use Rattle.cj_scenario.specs.declared.detection.form.Form.TheVariants as A

@@ -1,8 +1,8 @@
 -- What `replay` answers of a script.
 use Rattle.std.specs.Prelude.{◌≡◌, ◌≢◌, ◌⊎◌, ℕ, ◌≤◌, List, [], length, Option, IfSome, codes, false, true}
 use Rattle.std.specs.Io.KnownBytes.{Appends}
-use Rattle.cj_output.specs.declared.failure.Failure.{Failure}
-use Rattle.cj_output.specs.Writing.{AppendsSome, failure_line}
+use Rattle.cj_io.specs.declared.failure.Failure.{Failure}
+use Rattle.cj_io.specs.Writing.{AppendsSome, failure_line}
 use Rattle.cj_scenario.specs.declared.fault.SceneFault.{SceneFault}
 use Rattle.cj_scenario.specs.declared.fault.SceneFault.TheVariants as Why
 use Rattle.cj_scenario.specs.declared.detection.form.Form.TheVariants as A

@@ -1,8 +1,8 @@
 -- What standard output and standard error hold where a writer fails.
 use Rattle.std.specs.Prelude.{◌≡◌, ◌⊎◌, ℕ, List, Option}
 use Rattle.std.specs.Io.KnownBytes.{Appends, Keeps}
-use Rattle.cj_output.specs.declared.failure.Failure.{Failure}
-use Rattle.cj_output.specs.Writing.{AppendsSome, failure_line}
+use Rattle.cj_io.specs.declared.failure.Failure.{Failure}
+use Rattle.cj_io.specs.Writing.{AppendsSome, failure_line}
 use Rattle.cj_words.specs.declared.request.ReplayRequest.{ReplayRequest}
 use Rattle.cj_words.specs.declared.request.Request.{Request}
 use Rattle.cj_words.specs.declared.request.Request.TheVariants.{Audit, Check, Next, Plan, Replay, Run, Why}

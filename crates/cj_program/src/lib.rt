@@ -8,7 +8,7 @@ mod told;
 mod writing;
 
 pub use cj_answers::{MOST_LIST_BYTES, MOST_LIST_READS};
-pub use cj_output::{Failure, MOST_READS, read_input, tell_failure};
+pub use cj_io::{Failure, MOST_READS, read_input, tell_failure};
 pub use cj_types::Text;
 pub use cj_words::{
     AuditRequest, CheckRequest, NextRequest, PlanRequest, ReplayRequest, Request, RunRequest,

@@ -1,7 +1,7 @@
 // Running a script.
 ghost use Rattle.std.specs.Prelude.{◌≡◌, ◌<◌, ◌≤◌, List, ℕ, Option, [], codes, false, true};
 ghost use Rattle.std.specs.Io.KnownBytes.{Appends};
-ghost use Rattle.cj_output.specs.Writing.{AppendsSome};
+ghost use Rattle.cj_io.specs.Writing.{AppendsSome};
 ghost use Rattle.cj_answers.specs.Given.{IsReadUnder};
 ghost use Rattle.cj_answers.specs.Outcome.{Outcome, status_of};
 ghost use Rattle.cj_program.specs.Replay.{EndsBadly, EndsWell, IsRead, IsReplayOutcome};
@@ -10,7 +10,7 @@ ghost use Rattle.cj_program.specs.Writing.{FailsReplay};
 use crate::serving::give_answer;
 use cj_answers::{given_for, refused_pair, refused_scene};
 use cj_scenario::Form;
-use cj_output::{Failure, MOST_BYTES, MOST_READS, read_input, tell_failure};
+use cj_io::{Failure, MOST_BYTES, MOST_READS, read_input, tell_failure};
 use cj_replay::replay;
 use cj_script::{Script, read_script};
 use cj_words::ReplayRequest;

@@ -8,7 +8,7 @@ ghost use Rattle.cj_program.specs.Run.{IsRanOf, IsRunOutcome};
 use cj_answers::{Answer, Ending, asked_glance, given_for, refused_pair, refused_scene};
 use cj_script::{Course, read_course};
 use cj_scenario::Form;
-use cj_output::{Failure, MOST_BYTES, MOST_READS, read_input};
+use cj_io::{Failure, MOST_BYTES, MOST_READS, read_input};
 use cj_run::run_course;
 use cj_words::RunRequest;
 use cj_zoneinfo::{GivenZones, ZoneFile};

@@ -4,7 +4,7 @@ ghost use Rattle.std.specs.Io.KnownBytes.{Appends};
 ghost use Rattle.cj_program.specs.Told.{Telling, Tells, TellsOf, telling_of};
 
 use crate::writing::give;
-use cj_output::{Failure, tell_failure};
+use cj_io::{Failure, tell_failure};
 use cj_words::WordFault;
 use clap::Error;
 use std::alloc::{AllocError, Global};

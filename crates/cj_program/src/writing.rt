@@ -3,7 +3,7 @@ ghost use Rattle.std.specs.Prelude.{◌≡◌, ◌<◌, ◌≤◌};
 ghost use Rattle.std.specs.Io.KnownBytes.{Appends};
 ghost use Rattle.cj_program.specs.Writing.{IsCut};
 
-use cj_output::{tell_failure, write_and_flush, write_whole};
+use cj_io::{tell_failure, write_and_flush, write_whole};
 use std::io::Write;
 
 /// Writes both texts and answers the status, or 3 where a writer fails.

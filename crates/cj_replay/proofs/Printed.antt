@@ -6,8 +6,8 @@ use Rattle.std.specs.Io.KnownBytes.{Appends}
 use Rattle.cj_types.specs.WorldLimits.{Kept}
 use Rattle.cj_zone.specs.declared.table.ZoneTable.{ZoneTable}
 use Rattle.cj_calls.specs.Rows.{Told}
-use Rattle.cj_output.specs.Writing.{AppendsSome, HasPrinted, Prints}
-use Rattle.cj_output.proofs.Written.{appends_both, appends_nothing, nothing_printed, printed_begun, printed_more, printed_some, printed_whole}
+use Rattle.cj_io.specs.Writing.{AppendsSome, HasPrinted, Prints}
+use Rattle.cj_io.proofs.Written.{appends_both, appends_nothing, nothing_printed, printed_begun, printed_more, printed_some, printed_whole}
 use Rattle.cj_script.specs.declared.script.Script.{Script}
 use Rattle.cj_script.specs.declared.step.Step.{Step}
 use Rattle.cj_replay.specs.Runs.{AllPlay, Plays}

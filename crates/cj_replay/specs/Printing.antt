@@ -4,7 +4,7 @@ use Rattle.std.specs.Io.KnownBytes.{Appends}
 use Rattle.cj_types.specs.WorldLimits.{Kept}
 use Rattle.cj_zone.specs.declared.table.ZoneTable.{ZoneTable}
 use Rattle.cj_calls.specs.Rows.{Told}
-use Rattle.cj_output.specs.Writing.{AppendsSome, HasPrinted, Prints}
+use Rattle.cj_io.specs.Writing.{AppendsSome, HasPrinted, Prints}
 use Rattle.cj_script.specs.declared.step.Step.{Step}
 use Rattle.cj_replay.specs.Runs.{AllPlay, Plays}
 use Rattle.cj_replay.specs.Replays.{report_of}

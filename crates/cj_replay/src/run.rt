@@ -1,14 +1,14 @@
 // All steps, and the report.
 ghost use Rattle.std.specs.Prelude.{◌≡◌, [], List, ℕ, IfOk, OnOk, OnErr};
 ghost use Rattle.std.specs.Io.KnownBytes.{Appends};
-ghost use Rattle.cj_output.specs.Writing.{AppendsSome};
+ghost use Rattle.cj_io.specs.Writing.{AppendsSome};
 ghost use Rattle.cj_sights.specs.Remembered.{Remembers};
 ghost use Rattle.cj_replay.specs.Replays.{IsPartOf, IsReplayed, KeepsPromise};
 ghost use Rattle.cj_replay.specs.Printing.{BreaksOff, CutsReport, HasPlayed, PrintsPart, PrintsReport, PrintsStep};
 
 use crate::play::play;
 use crate::report::world_report;
-use cj_output::{Failure, Pending};
+use cj_io::{Failure, Pending};
 use cj_script::{Script, Step};
 use cj_sights::Sights;
 use cj_world::World;

@@ -15,7 +15,7 @@ use cj_calls::Role;
 use cj_script::Course;
 use cj_hub::{Closed, Hub, HubState, Pass};
 use cj_informer::Informer;
-use cj_output::Failure;
+use cj_io::Failure;
 use cj_replay::report_text;
 use cj_types::{Heap, Limits, Max, Refusal};
 use cj_worker::{SyncEnd, WorkerEnd};

@@ -37,7 +37,7 @@ impl From<io::Error> for Failure {
     ghost use Rattle.std.specs.Prelude.{◌≢◌, ◌⊎◌};
     ghost use Rattle.std.specs.IoError.{error_kind};
     ghost use Rattle.std.specs.declared.io.ErrorKind.TheVariants as Kind;
-    ghost use Rattle.cj_output.specs.declared.failure.Failure.TheVariants as Why;
+    ghost use Rattle.cj_io.specs.declared.failure.Failure.TheVariants as Why;
 
     ghost from_gives = { λ error e. ((error_kind error ≡ Kind.OutOfMemory) × (e ≡ Why.Memory))
         ⊎ ((error_kind error ≢ Kind.OutOfMemory) × (e ≡ Why.Device)) };

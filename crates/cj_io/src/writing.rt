@@ -1,7 +1,7 @@
 // What is written, and told where it can't be.
 ghost use Rattle.std.specs.Prelude.{◌≡◌, ◌≤◌, IfOk, OnErr, OnOk, length, take};
 ghost use Rattle.std.specs.Io.KnownBytes.{Appends, Keeps};
-ghost use Rattle.cj_output.specs.Writing.{AppendsSome, failure_line};
+ghost use Rattle.cj_io.specs.Writing.{AppendsSome, failure_line};
 
 use crate::failure::Failure;
 use std::io;

@@ -1,7 +1,7 @@
 -- write_whole: its loop, with what the writer took of the bytes left.
 use Rattle.std.proofs.Common.{rules}
-use Rattle.cj_output.proofs.Written.{appends_more}
-use Rattle.cj_output.proofs.writing.write_whole.Goals as goal
+use Rattle.cj_io.proofs.Written.{appends_more}
+use Rattle.cj_io.proofs.writing.write_whole.Goals as goal
 
 pub loop-preserved : goal.loop-preserved
 loop-preserved g c = record {

@@ -1,7 +1,7 @@
 -- write_whole, its loop: the first `written` of the bytes were appended to what the writer had.
 use Rattle.std.proofs.Common.{◌≤◌, length, take}
 use Rattle.std.specs.Io.KnownBytes.{Appends}
-use Rattle.cj_output.proofs.writing.write_whole.Given as goal
+use Rattle.cj_io.proofs.writing.write_whole.Given as goal
 
 abbrev pub invariant-loop : goal.invariant-loop
 invariant-loop g l = record {

@@ -1,8 +1,8 @@
 -- What a writer holds where it may fail, and what is said then.
 use Rattle.std.specs.Prelude.{◌≡◌, ℕ, List, ◌++◌, codes, take, Option}
 use Rattle.std.specs.Io.KnownBytes.{Appends}
-use Rattle.cj_output.specs.declared.failure.Failure.{Failure}
-use Rattle.cj_output.specs.declared.failure.Failure.TheVariants.{Device, HistoryFull, Memory}
+use Rattle.cj_io.specs.declared.failure.Failure.{Failure}
+use Rattle.cj_io.specs.declared.failure.Failure.TheVariants.{Device, HistoryFull, Memory}
 
 -- a beginning of the bytes was appended, none or all of them included
 abbrev pub AppendsSome : Option (List ℕ) → Option (List ℕ) → List ℕ → Type 0

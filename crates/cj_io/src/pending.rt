@@ -1,7 +1,7 @@
 // Text that is written as it grows.
 ghost use Rattle.std.specs.Prelude.{◌≡◌, ◌++◌, [], OnErr, OnOk};
 ghost use Rattle.std.specs.Io.KnownBytes.{Appends};
-ghost use Rattle.cj_output.specs.Writing.{AppendsSome, Prints};
+ghost use Rattle.cj_io.specs.Writing.{AppendsSome, Prints};
 
 use crate::failure::Failure;
 use crate::writing::{write_and_flush, write_whole};
