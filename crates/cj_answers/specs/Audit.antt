@@ -9,7 +9,7 @@ use Rattle.cj_audit.specs.Words.{audit_words}
 use Rattle.cj_kubectl.specs.Reading.{IsClusterList}
 use Rattle.cj_kubectl.specs.declared.list.ClusterList.{ClusterList}
 use Rattle.cj_words.specs.declared.request.AuditRequest.{AuditRequest}
-use Rattle.cj_zoneinfo.specs.declared.file.ZoneFile.{ZoneFile}
+use Rattle.cj_io.specs.declared.zone_files.file.ZoneFile.{ZoneFile}
 use Rattle.cj_answers.specs.declared.answer.Ending.{Ending}
 use Rattle.cj_answers.specs.declared.answer.Ending.TheVariants.{Done, Refused}
 use Rattle.cj_answers.specs.Clusters.{RefusesList, is_read, note_lines, note_words}

@@ -19,7 +19,7 @@ use Rattle.cj_scenario.specs.detection.Glances.{IsGlance}
 use Rattle.cj_explain.specs.Faults.{faults_words}
 use Rattle.cj_answers.specs.Json.{IsJsonWords, yaml_words}
 use Rattle.cj_answers.specs.Advice.{IsAdvice, dropped_words_all}
-use Rattle.cj_zoneinfo.specs.declared.file.ZoneFile.{ZoneFile}
+use Rattle.cj_io.specs.declared.zone_files.file.ZoneFile.{ZoneFile}
 use Rattle.cj_answers.specs.Given.{AreGiven, IsNoneGiven, pair_words}
 use Rattle.cj_answers.specs.Outcome.{Outcome, done, explained, refusal}
 

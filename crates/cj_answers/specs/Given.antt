@@ -4,9 +4,9 @@ use Rattle.cj_zone.specs.declared.zone.Zone.{Zone}
 use Rattle.cj_zone.specs.Table.{local_zone, zones_of}
 use Rattle.cj_zone.specs.Zones.{utc_zone}
 use Rattle.cj_words.specs.declared.request.ZoneWords.{ZoneWords}
-use Rattle.cj_zoneinfo.specs.declared.file.ZoneFile.{ZoneFile}
-use Rattle.cj_zoneinfo.specs.declared.given.GivenZones.{GivenZones}
-use Rattle.cj_zoneinfo.specs.Files.{IsTableWith}
+use Rattle.cj_io.specs.declared.zone_files.file.ZoneFile.{ZoneFile}
+use Rattle.cj_io.specs.declared.zone_files.given.GivenZones.{GivenZones}
+use Rattle.cj_io.specs.zone_files.Files.{IsTableWith}
 use Rattle.cj_answers.specs.Outcome.{Outcome, explained, refusal}
 
 -- UTC, the zones of the rules, then those of the files

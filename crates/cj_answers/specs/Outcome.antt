@@ -13,8 +13,8 @@ use Rattle.cj_zone.specs.declared.zone.Zone.{Zone}
 use Rattle.cj_zone.specs.Made.{IsMade}
 use Rattle.cj_zone.specs.Zones.{utc_zone, zone_named}
 use Rattle.cj_zone.specs.TimeText.{time_text_of}
-use Rattle.cj_zoneinfo.specs.declared.file.ZoneFile.{ZoneFile}
-use Rattle.cj_zoneinfo.specs.Files.{IsTableWith}
+use Rattle.cj_io.specs.declared.zone_files.file.ZoneFile.{ZoneFile}
+use Rattle.cj_io.specs.zone_files.Files.{IsTableWith}
 use Rattle.cj_explain.specs.Schedules.{IsExplained}
 use Rattle.cj_answers.specs.NextText.{IsNextText}
 use Rattle.cj_answers.specs.declared.answer.Answer.{Answer}

@@ -19,8 +19,8 @@ use Rattle.cj_why.specs.Why.{IsWhy}
 use Rattle.cj_review.specs.PlanLines.{plan_lines}
 use Rattle.cj_review.specs.ZoneFor.{zone_for}
 use Rattle.cj_words.specs.declared.request.PlanRequest.{PlanRequest}
-use Rattle.cj_zoneinfo.specs.declared.file.ZoneFile.{ZoneFile}
-use Rattle.cj_zoneinfo.specs.declared.given.GivenZones.{GivenZones}
+use Rattle.cj_io.specs.declared.zone_files.file.ZoneFile.{ZoneFile}
+use Rattle.cj_io.specs.declared.zone_files.given.GivenZones.{GivenZones}
 use Rattle.cj_answers.specs.Check.{fault_line}
 use Rattle.cj_answers.specs.Dropped.{IsAskedDropped}
 use Rattle.cj_answers.specs.Given.{IsReadUnder, RefusesRule}

@@ -17,10 +17,9 @@ use crate::why::{MOST_LIST_BYTES, MOST_LIST_READS, joined};
 use cj_audit::{Finding, Findings, audit, audit_text, audit_words};
 use cj_base::{Refusal, both};
 use cj_kubectl::{ClusterList, read_cluster};
-use cj_io::{Failure, read_input};
+use cj_io::{Failure, ZoneFile, read_input};
 use cj_words::AuditRequest;
 use cj_zone::ZoneTable;
-use cj_zoneinfo::ZoneFile;
 use std::alloc::Global;
 use std::io::Read;
 

@@ -19,10 +19,9 @@ use cj_base::{FieldFault, Refusal};
 use cj_explain::explain_faults;
 use cj_scenario::{Form, glance};
 use cj_manifest::{Manifest, Warning, read_manifest};
-use cj_io::{Failure, MOST_BYTES, MOST_READS, read_input};
+use cj_io::{Failure, MOST_BYTES, MOST_READS, ZoneFile, read_input};
 use cj_words::CheckRequest;
 use cj_zone::ZoneTable;
-use cj_zoneinfo::ZoneFile;
 use std::alloc::{AllocError, Global};
 use std::io::Read;
 

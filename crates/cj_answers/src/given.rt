@@ -6,10 +6,9 @@ ghost use Rattle.cj_answers.specs.Given.{AreGiven, IsNoneGiven, IsReadUnder, pai
 ghost use Rattle.cj_answers.specs.Outcome.{explained, outcome_of, refusal};
 
 use crate::answer::Answer;
-use cj_io::Failure;
+use cj_io::{Failure, GivenZones, Refused, ZoneFile, table_with};
 use cj_words::ZoneWords;
 use cj_zone::ZoneTable;
-use cj_zoneinfo::{GivenZones, Refused, ZoneFile, table_with};
 use std::alloc::Global;
 
 // What a zone has to be.

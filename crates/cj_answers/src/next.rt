@@ -12,11 +12,10 @@ use crate::answer::{Answer, Ending};
 use crate::next_text::next_text;
 use cj_base::{Refusal, ScheduleFault};
 use cj_explain::explain_schedule;
-use cj_io::Failure;
+use cj_io::{Failure, ZoneFile, table_with};
 use cj_schedule::Schedule;
 use cj_words::NextRequest;
 use cj_zone::{ZoneTable, read_time};
-use cj_zoneinfo::{ZoneFile, table_with};
 use std::alloc::{AllocError, Global};
 
 fn fault_text(alloc: Global, fault: ScheduleFault) -> Result<String, AllocError>

@@ -9,7 +9,7 @@ ghost use Rattle.cj_explain.specs.Faults.{fault_words};
 ghost use Rattle.cj_answers.specs.Outcome.{done, explained, outcome_of, refusal};
 ghost use Rattle.cj_review.specs.PlanLines.{plan_lines};
 ghost use Rattle.cj_review.specs.ZoneFor.{zone_for};
-ghost use Rattle.cj_zoneinfo.specs.declared.given.GivenZones.{GivenZones};
+ghost use Rattle.cj_io.specs.declared.zone_files.given.GivenZones.{GivenZones};
 ghost use Rattle.cj_answers.specs.Plan.{IsAskedGlance, IsAskedWhy, IsBeside, IsFormWords, IsPlanOutcome, IsPlannedFor, IsSceneRefusal, now_words, scene_line};
 
 use crate::answer::{Answer, Ending};
@@ -21,13 +21,12 @@ use cj_decide::{Plan, Steps, decide};
 use cj_explain::explain_fault;
 use cj_scenario::{Form, Scene, SceneFault, glance, read_scene};
 use cj_members::look;
-use cj_io::{Failure, MOST_BYTES, MOST_READS, read_input};
+use cj_io::{Failure, GivenZones, MOST_BYTES, MOST_READS, ZoneFile, read_input};
 use cj_review::{plan_text, zone_copy, zone_of};
 use cj_types::{CronJob, FieldFault, Job, Seconds, Shared};
 use cj_why::why;
 use cj_words::PlanRequest;
 use cj_zone::{Zone, read_time};
-use cj_zoneinfo::{GivenZones, ZoneFile};
 use std::alloc::{AllocError, Global};
 use std::io::Read;
 

@@ -13,12 +13,11 @@ use crate::given::{given_zones, refused_pair};
 use crate::plan::refused_moment;
 use cj_cluster::ClusterCron;
 use cj_kubectl::{ClusterList, ItemNote, read_cluster};
-use cj_io::{Failure, read_input};
+use cj_io::{Failure, ZoneFile, read_input};
 use cj_review::{Reviewed, review};
 use cj_types::{Key, Refusal, Seconds, Shared};
 use cj_words::WhyRequest;
 use cj_zone::{ZoneTable, read_time};
-use cj_zoneinfo::ZoneFile;
 use std::alloc::{AllocError, Global};
 use std::io::Read;
 

@@ -5,8 +5,13 @@ mod failure;
 mod input;
 mod pending;
 mod writing;
+mod zone_files;
 
 pub use failure::Failure;
 pub use input::{MOST_BYTES, MOST_READS, read_input};
 pub use pending::Pending;
 pub use writing::{tell_failure, write_and_flush, write_whole};
+pub use zone_files::{
+    FileBytes, GivenZones, Refused, ZoneFile, ZoneNames, add_files, file_names_law, is_file_name,
+    table_with, zones_named,
+};

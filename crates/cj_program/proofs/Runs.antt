@@ -13,8 +13,8 @@ use Rattle.cj_script.specs.Scripts.{IsRefusedScript, IsScript}
 use Rattle.cj_replay.specs.Replays.{IsPartOf, IsReplayed}
 use Rattle.cj_answers.specs.declared.answer.Answer.{Answer}
 use Rattle.cj_words.specs.declared.request.ReplayRequest.{ReplayRequest}
-use Rattle.cj_zoneinfo.specs.declared.file.ZoneFile.{ZoneFile}
-use Rattle.cj_zoneinfo.specs.declared.given.GivenZones.{GivenZones}
+use Rattle.cj_io.specs.declared.zone_files.file.ZoneFile.{ZoneFile}
+use Rattle.cj_io.specs.declared.zone_files.given.GivenZones.{GivenZones}
 use Rattle.cj_answers.specs.Given.{IsNoneGiven, IsReadUnder, pair_words}
 use Rattle.cj_answers.specs.Outcome.{Outcome, done, explained, outcome_of, refusal, status_of}
 use Rattle.cj_answers.specs.Plan.{IsSceneRefusal}

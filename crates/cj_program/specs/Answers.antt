@@ -5,7 +5,7 @@ use Rattle.cj_answers.specs.Check.{IsCheckOutcome}
 use Rattle.cj_answers.specs.Outcome.{IsNextOutcome, Outcome}
 use Rattle.cj_answers.specs.Plan.{IsPlanOutcome}
 use Rattle.cj_answers.specs.Why.{IsWhyOutcome}
-use Rattle.cj_zoneinfo.specs.declared.file.ZoneFile.{ZoneFile}
+use Rattle.cj_io.specs.declared.zone_files.file.ZoneFile.{ZoneFile}
 use Rattle.cj_program.specs.Replay.{IsReplayOutcome}
 use Rattle.cj_program.specs.Run.{IsRunOutcome}
 use Rattle.cj_words.specs.declared.request.Request.{Request}

@@ -7,8 +7,8 @@ use Rattle.cj_script.specs.simulation.Courses.{IsCourse, IsRefusedCourse}
 use Rattle.cj_script.specs.declared.simulation.course.Course.{Course}
 use Rattle.cj_run.specs.Runs.{IsRun}
 use Rattle.cj_words.specs.declared.request.RunRequest.{RunRequest}
-use Rattle.cj_zoneinfo.specs.declared.file.ZoneFile.{ZoneFile}
-use Rattle.cj_zoneinfo.specs.declared.given.GivenZones.{GivenZones}
+use Rattle.cj_io.specs.declared.zone_files.file.ZoneFile.{ZoneFile}
+use Rattle.cj_io.specs.declared.zone_files.given.GivenZones.{GivenZones}
 use Rattle.cj_answers.specs.Given.{IsReadUnder, RefusesRule}
 use Rattle.cj_answers.specs.Outcome.{Outcome, done, explained}
 use Rattle.cj_answers.specs.Plan.{IsAskedGlance, IsSceneRefusal}

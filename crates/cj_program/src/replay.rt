@@ -10,11 +10,10 @@ ghost use Rattle.cj_program.specs.Writing.{FailsReplay};
 use crate::serving::give_answer;
 use cj_answers::{given_for, refused_pair, refused_scene};
 use cj_scenario::Form;
-use cj_io::{Failure, MOST_BYTES, MOST_READS, read_input, tell_failure};
+use cj_io::{Failure, GivenZones, MOST_BYTES, MOST_READS, ZoneFile, read_input, tell_failure};
 use cj_replay::replay;
 use cj_script::{Script, read_script};
 use cj_words::ReplayRequest;
-use cj_zoneinfo::{GivenZones, ZoneFile};
 use std::alloc::Global;
 use std::io::{Read, Write};
 

@@ -1,17 +1,16 @@
 // Running the whole controller.
 ghost use Rattle.std.specs.Prelude.{◌≡◌, IfOk, string_bytes};
 ghost use Rattle.cj_script.specs.simulation.Courses.{IsCourse};
-ghost use Rattle.cj_zoneinfo.specs.declared.given.GivenZones.{GivenZones};
+ghost use Rattle.cj_io.specs.declared.zone_files.given.GivenZones.{GivenZones};
 ghost use Rattle.cj_answers.specs.Outcome.{done, explained, outcome_of};
 ghost use Rattle.cj_program.specs.Run.{IsRanOf, IsRunOutcome};
 
 use cj_answers::{Answer, Ending, asked_glance, given_for, refused_pair, refused_scene};
 use cj_script::{Course, read_course};
 use cj_scenario::Form;
-use cj_io::{Failure, MOST_BYTES, MOST_READS, read_input};
+use cj_io::{Failure, GivenZones, MOST_BYTES, MOST_READS, ZoneFile, read_input};
 use cj_run::run_course;
 use cj_words::RunRequest;
-use cj_zoneinfo::{GivenZones, ZoneFile};
 use std::alloc::{AllocError, Global};
 use std::io::Read;
 use std::sync::Wait;

@@ -10,7 +10,7 @@ use Rattle.cj_types.specs.declared.meta.Meta.{Meta}
 use Rattle.cj_types.specs.Made.{made_job}
 use Rattle.cj_zone.specs.Table.{local_zone, zones_of}
 use Rattle.cj_zone.specs.TimeText.{time_text_of}
-use Rattle.cj_zoneinfo.specs.declared.given.GivenZones.{GivenZones}
+use Rattle.cj_io.specs.declared.zone_files.given.GivenZones.{GivenZones}
 use Rattle.cj_manifest.specs.Drafts.{cron_draft}
 use Rattle.cj_manifest.specs.Faults.{cron_faults}
 use Rattle.cj_manifest.specs.Reading.{IsNoValue, Reads}

@@ -14,8 +14,8 @@ use Rattle.cj_zone.specs.Made.{IsMade}
 use Rattle.cj_zone.specs.Table.{zones_of}
 use Rattle.cj_zone.specs.TimeText.{time_text_of}
 use Rattle.cj_zone.specs.Zones.{is_refused_name}
-use Rattle.cj_zoneinfo.specs.declared.given.GivenZones.{GivenZones}
-use Rattle.cj_zoneinfo.specs.Files.{AddsFiles}
+use Rattle.cj_io.specs.declared.zone_files.given.GivenZones.{GivenZones}
+use Rattle.cj_io.specs.zone_files.Files.{AddsFiles}
 use Rattle.cj_manifest.specs.Members.{present, unless_null}
 use Rattle.cj_scenario.specs.declared.fault.SceneFault.{SceneFault}
 use Rattle.cj_scenario.specs.declared.fault.SceneFault.TheVariants.{Form as FormFault, Memory}

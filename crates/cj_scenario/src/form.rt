@@ -11,7 +11,7 @@ use crate::times::{maybe_time_at, present, time_at};
 use crate::zones::table_of;
 use cj_types::Seconds;
 use cj_zone::ZoneTable;
-use cj_zoneinfo::GivenZones;
+use cj_io::GivenZones;
 use serde_json::Value;
 use std::alloc::Global;
 

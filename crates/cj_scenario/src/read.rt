@@ -21,7 +21,7 @@ use cj_base::both;
 use cj_manifest::cron_of;
 use cj_types::{CronJob, CronJobDraft, Job, Listing, Names, Refusal, Shared};
 use cj_zone::ZoneTable;
-use cj_zoneinfo::GivenZones;
+use cj_io::GivenZones;
 use serde_json::Value;
 use std::alloc::Global;
 

@@ -5,7 +5,7 @@ use Rattle.serde_json.specs.Find.{as_array}
 use Rattle.cj_types.specs.WorldLimits.{Kept}
 use Rattle.cj_zone.specs.Table.{local_zone, zones_of}
 use Rattle.cj_zone.specs.declared.zone.Zone.{Zone}
-use Rattle.cj_zoneinfo.specs.declared.given.GivenZones.{GivenZones}
+use Rattle.cj_io.specs.declared.zone_files.given.GivenZones.{GivenZones}
 use Rattle.cj_manifest.specs.Members.{present}
 use Rattle.cj_manifest.specs.Reading.{IsNoValue, Reads}
 use Rattle.cj_scenario.specs.Scenes.{AreZones}

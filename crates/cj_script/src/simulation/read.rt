@@ -20,7 +20,7 @@ use crate::operations::present;
 use cj_scenario::{SceneFault, table_of, value_of};
 use cj_types::{CronJobDraft, FieldFault, Shared};
 use cj_zone::ZoneTable;
-use cj_zoneinfo::GivenZones;
+use cj_io::GivenZones;
 use serde_json::Value;
 use std::alloc::Global;
 

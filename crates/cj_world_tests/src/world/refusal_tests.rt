@@ -8,7 +8,7 @@ use cj_script::{Script, Step, read_script};
 use cj_types::{Limits, Refusal, Same};
 use cj_world::World;
 use cj_zone::ZoneTable;
-use cj_zoneinfo::GivenZones;
+use cj_io::GivenZones;
 use std::alloc::Global;
 
 type Entered = Result<(Entry, Entry), Refusal>;

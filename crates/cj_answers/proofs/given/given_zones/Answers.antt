@@ -2,7 +2,7 @@
 use Rattle.std.proofs.Common.{List, ℕ, map, subst}
 use Rattle.std.specs.Borrow.{Bor}
 use Rattle.cj_zone.specs.declared.zone.Zone.{Zone}
-use Rattle.cj_zoneinfo.specs.Files.{IsTableWith}
+use Rattle.cj_io.specs.zone_files.Files.{IsTableWith}
 use Rattle.cj_answers.proofs.Zones.{none_given}
 use Rattle.cj_answers.proofs.given.given_zones.Goals as goal
 

@@ -7,7 +7,7 @@ use Rattle.cj_types.specs.declared.cron.CronJob.{CronJob}
 use Rattle.cj_types.specs.declared.cron.CronJobDraft.{CronJobDraft}
 use Rattle.cj_types.specs.declared.job.Job.{Job}
 use Rattle.cj_zone.specs.Table.{local_zone, zones_of}
-use Rattle.cj_zoneinfo.specs.declared.given.GivenZones.{GivenZones}
+use Rattle.cj_io.specs.declared.zone_files.given.GivenZones.{GivenZones}
 use Rattle.cj_manifest.specs.Drafts.{cron_draft}
 use Rattle.cj_manifest.specs.Faults.{cron_faults}
 use Rattle.cj_scenario.specs.declared.form.Parts.{Parts}

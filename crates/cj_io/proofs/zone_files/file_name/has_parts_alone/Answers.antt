@@ -1,0 +1,13 @@
+-- has_parts_alone: its one clause; the pieces are the parts between slashes.
+use Rattle.std.proofs.Common.{rules, tests, lit<}
+use Rattle.std.proofs.lemmas.Iterator.Search.{all_from_yields_List}
+use Rattle.std.proofs.lemmas.Iterator.Splits.{YieldsList-from_str_split}
+use Rattle.cj_io.specs.zone_files.FileName.{is_part}
+use Rattle.cj_io.proofs.zone_files.file_name.has_parts_alone.Goals as goal
+
+pub returns : goal.returns
+returns c =
+    all_from_yields_List is_part _ _ _ c.all.ensures.ran
+    (YieldsList-from_str_split 47 c.args.name.now (lit< tt) c.split.ensures.text c.split.ensures.has_more
+    c.split.ensures.pattern)
+    (λ x b q k. search (rules, tests))

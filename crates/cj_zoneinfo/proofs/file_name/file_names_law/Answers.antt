@@ -1,6 +1,0 @@
--- file_names_law: its one clause, from the lemma stay_below of FileNames.
-use Rattle.cj_zoneinfo.proofs.FileNames.{stay_below}
-use Rattle.cj_zoneinfo.proofs.file_name.file_names_law.Goals as goal
-
-pub returns : goal.returns
-returns c = stay_below
