@@ -13,7 +13,7 @@ use Rattle.cj_manifest.specs.declared.manifest.Manifest.{Manifest}
 use Rattle.cj_manifest.specs.Either.{key_of, kind_of, manifest_draft, manifest_faults, manifest_warnings}
 use Rattle.cj_manifest.specs.Reading.{IsReading, IsRefused}
 use Rattle.cj_answers.specs.declared.answer.Ending.TheVariants.{Refused}
-use Rattle.cj_words.specs.declared.request.CheckRequest.{CheckRequest}
+use Rattle.cj_args.specs.declared.request.CheckRequest.{CheckRequest}
 use Rattle.cj_scenario.specs.declared.detection.form.Form.TheVariants as A
 use Rattle.cj_scenario.specs.detection.Glances.{IsGlance}
 use Rattle.cj_explain.specs.Faults.{faults_words}

@@ -3,7 +3,7 @@ use Rattle.std.specs.Prelude.{◌≡◌, ℕ, List, [], Some, map, codes, Bool}
 use Rattle.cj_zone.specs.declared.zone.Zone.{Zone}
 use Rattle.cj_zone.specs.Table.{local_zone, zones_of}
 use Rattle.cj_zone.specs.Zones.{utc_zone}
-use Rattle.cj_words.specs.declared.request.ZoneWords.{ZoneWords}
+use Rattle.cj_args.specs.declared.request.ZoneWords.{ZoneWords}
 use Rattle.cj_io.specs.declared.zone_files.file.ZoneFile.{ZoneFile}
 use Rattle.cj_io.specs.declared.zone_files.given.GivenZones.{GivenZones}
 use Rattle.cj_io.specs.zone_files.Files.{IsTableWith}

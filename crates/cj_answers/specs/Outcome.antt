@@ -20,7 +20,7 @@ use Rattle.cj_answers.specs.NextText.{IsNextText}
 use Rattle.cj_answers.specs.declared.answer.Answer.{Answer}
 use Rattle.cj_answers.specs.declared.answer.Ending.{Ending}
 use Rattle.cj_answers.specs.declared.answer.Ending.TheVariants.{Done, Refused}
-use Rattle.cj_words.specs.declared.request.NextRequest.{NextRequest}
+use Rattle.cj_args.specs.declared.request.NextRequest.{NextRequest}
 
 -- the ending, and the bytes on standard output and on standard error
 pub record Outcome : Type 0 where

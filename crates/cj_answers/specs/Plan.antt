@@ -18,7 +18,7 @@ use Rattle.cj_scenario.specs.Made.{IsRefusedScene, IsScene}
 use Rattle.cj_why.specs.Why.{IsWhy}
 use Rattle.cj_review.specs.PlanLines.{plan_lines}
 use Rattle.cj_review.specs.ZoneFor.{zone_for}
-use Rattle.cj_words.specs.declared.request.PlanRequest.{PlanRequest}
+use Rattle.cj_args.specs.declared.request.PlanRequest.{PlanRequest}
 use Rattle.cj_io.specs.declared.zone_files.file.ZoneFile.{ZoneFile}
 use Rattle.cj_io.specs.declared.zone_files.given.GivenZones.{GivenZones}
 use Rattle.cj_answers.specs.Check.{fault_line}

@@ -7,7 +7,7 @@ use Rattle.cj_cluster.specs.declared.cron.ClusterCron.{ClusterCron}
 use Rattle.cj_kubectl.specs.Reading.{IsClusterList}
 use Rattle.cj_kubectl.specs.declared.list.ClusterList.{ClusterList}
 use Rattle.cj_review.specs.Words.{IsReview}
-use Rattle.cj_words.specs.declared.request.WhyRequest.{WhyRequest}
+use Rattle.cj_args.specs.declared.request.WhyRequest.{WhyRequest}
 use Rattle.cj_io.specs.declared.zone_files.file.ZoneFile.{ZoneFile}
 use Rattle.cj_answers.specs.Clusters.{RefusesList, note_lines, note_words}
 use Rattle.cj_answers.specs.Given.{AreGiven, IsNoneGiven, pair_words}

@@ -18,7 +18,7 @@ use cj_audit::{Finding, Findings, audit, audit_text, audit_words};
 use cj_base::{Refusal, both};
 use cj_kubectl::{ClusterList, read_cluster};
 use cj_io::{Failure, ZoneFile, read_input};
-use cj_words::AuditRequest;
+use cj_args::AuditRequest;
 use cj_zone::ZoneTable;
 use std::alloc::Global;
 use std::io::Read;

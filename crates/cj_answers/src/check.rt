@@ -20,7 +20,7 @@ use cj_explain::explain_faults;
 use cj_scenario::{Form, glance};
 use cj_manifest::{Manifest, Warning, read_manifest};
 use cj_io::{Failure, MOST_BYTES, MOST_READS, ZoneFile, read_input};
-use cj_words::CheckRequest;
+use cj_args::CheckRequest;
 use cj_zone::ZoneTable;
 use std::alloc::{AllocError, Global};
 use std::io::Read;

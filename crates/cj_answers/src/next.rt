@@ -14,7 +14,7 @@ use cj_base::{Refusal, ScheduleFault};
 use cj_explain::explain_schedule;
 use cj_io::{Failure, ZoneFile, table_with};
 use cj_schedule::Schedule;
-use cj_words::NextRequest;
+use cj_args::NextRequest;
 use cj_zone::{ZoneTable, read_time};
 use std::alloc::{AllocError, Global};
 

@@ -25,7 +25,7 @@ use cj_io::{Failure, GivenZones, MOST_BYTES, MOST_READS, ZoneFile, read_input};
 use cj_review::{plan_text, zone_copy, zone_of};
 use cj_types::{CronJob, FieldFault, Job, Seconds, Shared};
 use cj_why::why;
-use cj_words::PlanRequest;
+use cj_args::PlanRequest;
 use cj_zone::{Zone, read_time};
 use std::alloc::{AllocError, Global};
 use std::io::Read;

@@ -16,7 +16,7 @@ use cj_kubectl::{ClusterList, ItemNote, read_cluster};
 use cj_io::{Failure, ZoneFile, read_input};
 use cj_review::{Reviewed, review};
 use cj_types::{Key, Refusal, Seconds, Shared};
-use cj_words::WhyRequest;
+use cj_args::WhyRequest;
 use cj_zone::{ZoneTable, read_time};
 use std::alloc::{AllocError, Global};
 use std::io::Read;

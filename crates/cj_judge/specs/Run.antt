@@ -1,11 +1,11 @@
 -- What a row's run gives: what the program answers to its words and input.
 use Rattle.std.specs.Prelude.{◌≡◌, ◌⊎◌, ℕ, ◌<◌, List, [], ◌∷◌, None, Some, codes}
 use Rattle.cj_program.specs.Answers.{IsOutcome}
-use Rattle.cj_words.specs.Command.{IsOf, RefusesWords, file_of}
+use Rattle.cj_args.specs.Command.{IsOf, RefusesWords, file_of}
 use Rattle.cj_answers.specs.Outcome.{Outcome, status_of}
 use Rattle.cj_program.specs.Told.{Telling, Tells}
-use Rattle.cj_words.specs.declared.request.Request.{Request}
-use Rattle.cj_words.specs.declared.word_fault.WordFault.{WordFault}
+use Rattle.cj_args.specs.declared.request.Request.{Request}
+use Rattle.cj_args.specs.declared.word_fault.WordFault.{WordFault}
 use Rattle.cj_judge.specs.declared.run.Seen.{Seen}
 
 -- the status, and the bytes on standard output and on standard error

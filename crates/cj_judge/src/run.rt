@@ -1,6 +1,6 @@
 // Running a row.
 ghost use Rattle.std.specs.Prelude.{◌≡◌, ◌⊎◌, map, None, Some, IfOk, OnOk, codes};
-ghost use Rattle.cj_words.specs.Command.{file_of};
+ghost use Rattle.cj_args.specs.Command.{file_of};
 ghost use Rattle.cj_judge.specs.Row.{stated_of};
 ghost use Rattle.cj_judge.specs.Run.{IsAnswered, IsRun, IsRunOf, IsToldOf, given_of};
 

@@ -5,7 +5,7 @@ use Rattle.std.specs.Result.{IsOkAnd}
 use Rattle.std.specs.Io.KnownBytes.{Appends}
 use Rattle.cj_io.specs.declared.failure.Failure.{Failure}
 use Rattle.cj_answers.specs.declared.answer.Answer.{Answer}
-use Rattle.cj_words.specs.declared.request.Request.{Request}
+use Rattle.cj_args.specs.declared.request.Request.{Request}
 use Rattle.cj_io.specs.declared.zone_files.file.ZoneFile.{ZoneFile}
 use Rattle.cj_program.specs.Answers.{IsOutcome}
 use Rattle.cj_answers.specs.Outcome.{Outcome, outcome_of, status_of}

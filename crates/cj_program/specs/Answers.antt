@@ -8,8 +8,8 @@ use Rattle.cj_answers.specs.Why.{IsWhyOutcome}
 use Rattle.cj_io.specs.declared.zone_files.file.ZoneFile.{ZoneFile}
 use Rattle.cj_program.specs.Replay.{IsReplayOutcome}
 use Rattle.cj_program.specs.Run.{IsRunOutcome}
-use Rattle.cj_words.specs.declared.request.Request.{Request}
-use Rattle.cj_words.specs.declared.request.Request.TheVariants.{Audit, Check, Next, Plan, Replay, Run, Why}
+use Rattle.cj_args.specs.declared.request.Request.{Request}
+use Rattle.cj_args.specs.declared.request.Request.TheVariants.{Audit, Check, Next, Plan, Replay, Run, Why}
 
 -- the outcome of a request, with the zone files that were read for it, on an input, where what it holds is known
 -- rule: statuses

@@ -6,7 +6,7 @@ use Rattle.cj_scenario.specs.declared.detection.form.Form.TheVariants as A
 use Rattle.cj_script.specs.simulation.Courses.{IsCourse, IsRefusedCourse}
 use Rattle.cj_script.specs.declared.simulation.course.Course.{Course}
 use Rattle.cj_run.specs.Runs.{IsRun}
-use Rattle.cj_words.specs.declared.request.RunRequest.{RunRequest}
+use Rattle.cj_args.specs.declared.request.RunRequest.{RunRequest}
 use Rattle.cj_io.specs.declared.zone_files.file.ZoneFile.{ZoneFile}
 use Rattle.cj_io.specs.declared.zone_files.given.GivenZones.{GivenZones}
 use Rattle.cj_answers.specs.Given.{IsReadUnder, RefusesRule}

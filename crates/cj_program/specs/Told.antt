@@ -4,8 +4,8 @@ use Rattle.clap.specs.Values.{kind_of}
 use Rattle.clap.specs.declared.error.Error.{Error}
 use Rattle.clap.specs.declared.error.kind.ErrorKind.TheVariants.{DisplayHelp, DisplayVersion}
 use Rattle.cj_program.specs.declared.told.Told.{Told}
-use Rattle.cj_words.specs.declared.word_fault.WordFault.{WordFault}
-use Rattle.cj_words.specs.declared.word_fault.WordFault.TheVariants.{Incomplete, OutOfMemory, Refused}
+use Rattle.cj_args.specs.declared.word_fault.WordFault.{WordFault}
+use Rattle.cj_args.specs.declared.word_fault.WordFault.TheVariants.{Incomplete, OutOfMemory, Refused}
 
 -- help or the version was asked for
 abbrev pub IsAsked : Error → Type 0

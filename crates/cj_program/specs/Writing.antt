@@ -3,9 +3,9 @@ use Rattle.std.specs.Prelude.{◌≡◌, ◌⊎◌, ℕ, List, Option}
 use Rattle.std.specs.Io.KnownBytes.{Appends, Keeps}
 use Rattle.cj_io.specs.declared.failure.Failure.{Failure}
 use Rattle.cj_io.specs.Writing.{AppendsSome, failure_line}
-use Rattle.cj_words.specs.declared.request.ReplayRequest.{ReplayRequest}
-use Rattle.cj_words.specs.declared.request.Request.{Request}
-use Rattle.cj_words.specs.declared.request.Request.TheVariants.{Audit, Check, Next, Plan, Replay, Run, Why}
+use Rattle.cj_args.specs.declared.request.ReplayRequest.{ReplayRequest}
+use Rattle.cj_args.specs.declared.request.Request.{Request}
+use Rattle.cj_args.specs.declared.request.Request.TheVariants.{Audit, Check, Next, Plan, Replay, Run, Why}
 use Rattle.cj_io.specs.declared.zone_files.file.ZoneFile.{ZoneFile}
 use Rattle.cj_program.specs.Answers.{IsOutcome}
 use Rattle.cj_answers.specs.Outcome.{Outcome, status_of}

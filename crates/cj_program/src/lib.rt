@@ -12,7 +12,7 @@ pub use cj_io::{
     Failure, FileBytes, MOST_READS, ZoneFile, is_file_name, read_input, tell_failure, zones_named,
 };
 pub use cj_types::Text;
-pub use cj_words::{
+pub use cj_args::{
     AuditRequest, CheckRequest, NextRequest, PlanRequest, ReplayRequest, Request, RunRequest,
     WhyRequest, WordFault, ZoneWords, parse_words,
 };

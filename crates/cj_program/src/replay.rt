@@ -13,7 +13,7 @@ use cj_scenario::Form;
 use cj_io::{Failure, GivenZones, MOST_BYTES, MOST_READS, ZoneFile, read_input, tell_failure};
 use cj_replay::replay;
 use cj_script::{Script, read_script};
-use cj_words::ReplayRequest;
+use cj_args::ReplayRequest;
 use std::alloc::Global;
 use std::io::{Read, Write};
 

@@ -10,7 +10,7 @@ use cj_script::{Course, read_course};
 use cj_scenario::Form;
 use cj_io::{Failure, GivenZones, MOST_BYTES, MOST_READS, ZoneFile, read_input};
 use cj_run::run_course;
-use cj_words::RunRequest;
+use cj_args::RunRequest;
 use std::alloc::{AllocError, Global};
 use std::io::Read;
 use std::sync::Wait;

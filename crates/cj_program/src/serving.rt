@@ -12,7 +12,7 @@ use cj_answers::{
     Answer, Ending, audit_answer, check_answer, next_answer, plan_answer, why_answer,
 };
 use cj_io::{Failure, ZoneFile, tell_failure};
-use cj_words::Request;
+use cj_args::Request;
 use std::alloc::Global;
 use std::io::{Read, Write};
 use std::sync::Wait;

@@ -5,7 +5,7 @@ ghost use Rattle.cj_program.specs.Told.{Telling, Tells, TellsOf, telling_of};
 
 use crate::writing::give;
 use cj_io::{Failure, tell_failure};
-use cj_words::WordFault;
+use cj_args::WordFault;
 use clap::Error;
 use std::alloc::{AllocError, Global};
 use std::io::Write;

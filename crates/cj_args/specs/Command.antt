@@ -1,0 +1,272 @@
+-- The command line, as `clap` reads it.
+use Rattle.std.specs.Prelude.{◌≡◌, ℕ, ◌≤◌, List, [], ◌∷◌, codes, Option, None, Some, option_map, Bool, true, false, bytes_eq}
+use Rattle.std.specs.Prelude.{⊤, ◌≢◌, map, unwrap_or}
+use Rattle.std.specs.Str.Parse.{IsNumeral, digits_value, without_leading_plus}
+use Rattle.clap.specs.Words.{App, Row, Rule, Text, all_of, first_of, new_app, new_rule, with_rule, with_subcommand, subcommand_of, takes}
+use Rattle.clap.specs.declared.builder.action.ArgAction.TheVariants.{Append, SetTrue}
+use Rattle.clap.specs.declared.builder.value_parser.ValueParser.TheVariants.{Unsigned}
+use Rattle.cj_args.specs.declared.request.AuditRequest.{AuditRequest}
+use Rattle.cj_args.specs.declared.request.CheckRequest.{CheckRequest}
+use Rattle.cj_args.specs.declared.request.NextRequest.{NextRequest}
+use Rattle.cj_args.specs.declared.request.PlanRequest.{PlanRequest}
+use Rattle.cj_args.specs.declared.request.ReplayRequest.{ReplayRequest}
+use Rattle.cj_args.specs.declared.request.RunRequest.{RunRequest}
+use Rattle.cj_args.specs.declared.request.WhyRequest.{WhyRequest}
+use Rattle.cj_args.specs.declared.request.ZoneWords.{ZoneWords}
+use Rattle.cj_args.specs.declared.request.Request.{Request}
+use Rattle.cj_args.specs.declared.request.Request.TheVariants.{Audit, Check, Next, Plan, Replay, Run, Why}
+use Rattle.cj_args.specs.declared.word_fault.WordFault.{WordFault}
+use Rattle.cj_args.specs.declared.word_fault.WordFault.TheVariants.{Incomplete, OutOfMemory, Refused}
+
+abbrev pub schedule_rule : Rule
+schedule_rule = record (new_rule (codes "schedule")) { required = true; value_names = 1 }
+
+abbrev pub after_rule : Rule
+after_rule = record (new_rule (codes "after")) { long = Some (codes "after"); required = true; value_names = 1 }
+
+abbrev pub count_rule : Rule
+count_rule = record (new_rule (codes "count")) {
+  long = Some (codes "count");
+  value_names = 1;
+  parser = Some (Unsigned 1 1_000);
+  defaults = codes "1" ∷ [];
+}
+
+abbrev pub zone_rule : Rule
+zone_rule = record (new_rule (codes "zone")) { long = Some (codes "zone"); value_names = 1 }
+
+-- the name of a zone that is looked up in a folder
+-- rule: zoneinfo
+abbrev pub time_zone_rule : Rule
+time_zone_rule = record (new_rule (codes "time-zone")) { long = Some (codes "time-zone"); value_names = 1 }
+
+-- the zones that an input may name: an option that may be given several times
+-- rule: zoneinfo
+abbrev pub zones_rule : Rule
+zones_rule = record (new_rule (codes "zone")) { long = Some (codes "zone"); action = Some Append; value_names = 1 }
+
+-- the folder of zone files
+-- rule: zoneinfo
+abbrev pub folder_rule : Rule
+folder_rule = record (new_rule (codes "zoneinfo")) { long = Some (codes "zoneinfo"); value_names = 1 }
+
+-- a flag of every command
+-- rule: explain
+abbrev pub explain_rule : Rule
+explain_rule = record (new_rule (codes "explain")) { long = Some (codes "explain"); action = Some SetTrue }
+
+-- `.. [--zoneinfo DIR] [--explain]`
+abbrev pub with_folder : App → App
+with_folder a = with_rule (with_rule a folder_rule) explain_rule
+
+-- `.. [--zone NAME=RULE].. [--zoneinfo DIR] [--explain]`
+abbrev pub with_zones : App → App
+with_zones a = with_folder (with_rule a zones_rule)
+
+-- `cronsim next SCHEDULE --after TIME [--count N] [--zone RULE] [--time-zone NAME] [--zoneinfo DIR] [--explain]`
+abbrev pub next_app : App
+next_app =
+    let from = with_rule (with_rule (new_app (codes "next")) schedule_rule) after_rule in
+    with_folder (with_rule (with_rule (with_rule from count_rule) zone_rule) time_zone_rule)
+
+abbrev pub file_rule : Rule
+file_rule = record (new_rule (codes "file")) { required = true; value_names = 1 }
+
+-- `cronsim check FILE [--zone NAME=RULE].. [--zoneinfo DIR] [--explain]`
+abbrev pub check_app : App
+check_app = with_zones (with_rule (new_app (codes "check")) file_rule)
+
+abbrev pub now_rule : Rule
+now_rule = record (new_rule (codes "now")) { long = Some (codes "now"); required = true; value_names = 1 }
+
+-- `cronsim plan FILE --now TIME [--zone NAME=RULE].. [--zoneinfo DIR] [--explain]`
+abbrev pub plan_app : App
+plan_app = with_zones (with_rule (with_rule (new_app (codes "plan")) file_rule) now_rule)
+
+-- `cronsim replay FILE [--zone NAME=RULE].. [--zoneinfo DIR] [--explain]`
+abbrev pub replay_app : App
+replay_app = with_zones (with_rule (new_app (codes "replay")) file_rule)
+
+abbrev pub workers_rule : Rule
+workers_rule = record (new_rule (codes "workers")) {
+  long = Some (codes "workers");
+  required = true;
+  value_names = 1;
+  parser = Some (Unsigned 1 32);
+}
+
+-- `cronsim run FILE --workers N [--zone NAME=RULE].. [--zoneinfo DIR] [--explain]`
+abbrev pub run_app : App
+run_app = with_zones (with_rule (with_rule (new_app (codes "run")) file_rule) workers_rule)
+
+abbrev pub cron_rule : Rule
+cron_rule = record (new_rule (codes "cron")) { long = Some (codes "cron"); value_names = 1 }
+
+-- `cronsim why FILE --now TIME [--cron NAMESPACE/NAME] [--zone NAME=RULE].. [--zoneinfo DIR] [--explain]`
+abbrev pub why_app : App
+why_app = with_zones (with_rule (with_rule (with_rule (new_app (codes "why")) file_rule) now_rule) cron_rule)
+
+-- `cronsim audit FILE [--zone NAME=RULE].. [--zoneinfo DIR] [--explain]`
+abbrev pub audit_app : App
+audit_app = with_zones (with_rule (new_app (codes "audit")) file_rule)
+
+-- the commands on a schedule and on a manifest
+abbrev pub reading_app : App
+reading_app =
+    let bare = new_app (codes "cronsim") in
+    let top = record bare { top = record bare.top { has_version = true; subcommand_required = true } } in
+    with_subcommand (with_subcommand top next_app.top) check_app.top
+
+-- those and the command on a decision
+abbrev pub deciding_app : App
+deciding_app = with_subcommand reading_app plan_app.top
+
+-- those and the commands that run the controller
+abbrev pub acting_app : App
+acting_app = with_subcommand (with_subcommand deciding_app replay_app.top) run_app.top
+
+-- those and the commands on a cluster
+-- rules: words, help
+abbrev pub cronsim_app : App
+cronsim_app = with_subcommand (with_subcommand acting_app why_app.top) audit_app.top
+
+-- the text is decimal digits, after a plus or none, that spell the number
+abbrev pub IsDecimal : Text → ℕ → Type 0
+IsDecimal text n = IsNumeral 10 (without_leading_plus text) × (digits_value 10 (without_leading_plus text) ≡ n)
+
+-- `clap` states `true` as the value of a flag that stands among the words
+abbrev pub is_true : Option Text → Bool
+is_true None = false
+is_true (Some text) = bytes_eq text (codes "true")
+
+abbrev pub is_given : Text → List Row → Bool
+is_given id rows = is_true (first_of id rows)
+
+-- all values of an argument, in their order; none where it wasn't given
+abbrev pub texts_of : Text → List Row → List Text
+texts_of id rows = unwrap_or (all_of id rows) []
+
+-- the zones are the values that `clap` states for the options on zones
+-- rules: words, zoneinfo
+pub record AreZones (rows : List Row) (z : ZoneWords) : Type 0 where
+  pub rules : texts_of (codes "zone") rows ≡ map (λ s. s.now) z.rules.items
+  pub folder : first_of (codes "zoneinfo") rows ≡ option_map (λ s. s.now) z.folder
+
+-- the request has the values that `clap` states for the arguments of `next`
+pub record IsNext (rows : List Row) (r : NextRequest) : Type 0 where
+  pub schedule : first_of (codes "schedule") rows ≡ Some r.schedule.now
+  pub after : first_of (codes "after") rows ≡ Some r.after.now
+  pub count : (text : Text) × (first_of (codes "count") rows ≡ Some text) × IsDecimal text r.count
+  pub least : 1 ≤ r.count
+  pub most : r.count ≤ 1_000
+  pub zone : first_of (codes "zone") rows ≡ option_map (λ s. s.now) r.zone
+  pub time_zone : first_of (codes "time-zone") rows ≡ option_map (λ s. s.now) r.time_zone
+  pub folder : first_of (codes "zoneinfo") rows ≡ option_map (λ s. s.now) r.folder
+  pub explain : r.explain ≡ is_given (codes "explain") rows
+
+-- and for those of `check`
+pub record IsCheck (rows : List Row) (r : CheckRequest) : Type 0 where
+  pub file : first_of (codes "file") rows ≡ Some r.file.now
+  pub zones : AreZones rows r.zones
+  pub explain : r.explain ≡ is_given (codes "explain") rows
+
+-- and for those of `plan`
+pub record IsPlan (rows : List Row) (r : PlanRequest) : Type 0 where
+  pub file : first_of (codes "file") rows ≡ Some r.file.now
+  pub moment : first_of (codes "now") rows ≡ Some r.moment.now
+  pub zones : AreZones rows r.zones
+  pub explain : r.explain ≡ is_given (codes "explain") rows
+
+-- and for those of `replay`
+pub record IsReplay (rows : List Row) (r : ReplayRequest) : Type 0 where
+  pub file : first_of (codes "file") rows ≡ Some r.file.now
+  pub zones : AreZones rows r.zones
+  pub explain : r.explain ≡ is_given (codes "explain") rows
+
+-- and for those of `run`
+pub record IsRunOf (rows : List Row) (r : RunRequest) : Type 0 where
+  pub file : first_of (codes "file") rows ≡ Some r.file.now
+  pub workers : (text : Text) × (first_of (codes "workers") rows ≡ Some text) × IsDecimal text r.workers
+  pub least : 1 ≤ r.workers
+  pub most : r.workers ≤ 32
+  pub zones : AreZones rows r.zones
+  pub explain : r.explain ≡ is_given (codes "explain") rows
+
+-- and for those of `why`
+pub record IsWhy (rows : List Row) (r : WhyRequest) : Type 0 where
+  pub file : first_of (codes "file") rows ≡ Some r.file.now
+  pub moment : first_of (codes "now") rows ≡ Some r.moment.now
+  pub cron : first_of (codes "cron") rows ≡ option_map (λ s. s.now) r.cron
+  pub zones : AreZones rows r.zones
+  pub explain : r.explain ≡ is_given (codes "explain") rows
+
+-- and for those of `audit`
+pub record IsAudit (rows : List Row) (r : AuditRequest) : Type 0 where
+  pub file : first_of (codes "file") rows ≡ Some r.file.now
+  pub zones : AreZones rows r.zones
+  pub explain : r.explain ≡ is_given (codes "explain") rows
+
+-- the request is of the subcommand with that name, and has the values of its arguments
+abbrev pub IsOfRows : Option (Text × List Row) → Request → Type 0
+IsOfRows found (Next r) = (rows : List Row) × (found ≡ Some (codes "next", rows)) × IsNext rows r
+IsOfRows found (Check r) = (rows : List Row) × (found ≡ Some (codes "check", rows)) × IsCheck rows r
+IsOfRows found (Plan r) = (rows : List Row) × (found ≡ Some (codes "plan", rows)) × IsPlan rows r
+IsOfRows found (Replay r) = (rows : List Row) × (found ≡ Some (codes "replay", rows)) × IsReplay rows r
+IsOfRows found (Run r) = (rows : List Row) × (found ≡ Some (codes "run", rows)) × IsRunOf rows r
+IsOfRows found (Why r) = (rows : List Row) × (found ≡ Some (codes "why", rows)) × IsWhy rows r
+IsOfRows found (Audit r) = (rows : List Row) × (found ≡ Some (codes "audit", rows)) × IsAudit rows r
+
+-- the request is of the subcommand that `clap` states for the words, with the values that it states
+-- rule: words
+abbrev pub IsOf : List Text → Request → Type 0
+IsOf words r = IsOfRows (subcommand_of cronsim_app words) r
+
+-- the name of the file that a request has read, where it has one read
+abbrev pub file_of : Request → Option Text
+file_of (Next r) = None
+file_of (Check r) = Some r.file.now
+file_of (Plan r) = Some r.file.now
+file_of (Replay r) = Some r.file.now
+file_of (Run r) = Some r.file.now
+file_of (Why r) = Some r.file.now
+file_of (Audit r) = Some r.file.now
+
+-- the zones that the words give, where a command takes them
+-- rule: zoneinfo
+abbrev pub zones_of : Request → Option ZoneWords
+zones_of (Next r) = None
+zones_of (Check r) = Some r.zones
+zones_of (Plan r) = Some r.zones
+zones_of (Replay r) = Some r.zones
+zones_of (Run r) = Some r.zones
+zones_of (Why r) = Some r.zones
+zones_of (Audit r) = Some r.zones
+
+-- the name of the folder in which a request has zones looked up, where one is given
+-- rule: zoneinfo
+abbrev pub folder_of : Request → Option Text
+folder_of (Next r) = option_map (λ s. s.now) r.folder
+folder_of (Check r) = option_map (λ s. s.now) r.zones.folder
+folder_of (Plan r) = option_map (λ s. s.now) r.zones.folder
+folder_of (Replay r) = option_map (λ s. s.now) r.zones.folder
+folder_of (Run r) = option_map (λ s. s.now) r.zones.folder
+folder_of (Why r) = option_map (λ s. s.now) r.zones.folder
+folder_of (Audit r) = option_map (λ s. s.now) r.zones.folder
+
+-- whether a request has its refusal explained
+-- rule: explain
+abbrev pub explains : Request → Bool
+explains (Next r) = r.explain
+explains (Check r) = r.explain
+explains (Plan r) = r.explain
+explains (Replay r) = r.explain
+explains (Run r) = r.explain
+explains (Why r) = r.explain
+explains (Audit r) = r.explain
+
+-- when words are refused: `clap` doesn't take them, or no request has the values that it states for them
+-- rule: words
+abbrev pub RefusesWords : List Text → WordFault → Type 0
+RefusesWords words (Refused e) = takes cronsim_app words ≢ true
+RefusesWords words Incomplete = (r : Request) → ¬ (IsOf words r)
+RefusesWords words OutOfMemory = ⊤

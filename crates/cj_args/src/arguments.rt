@@ -1,0 +1,83 @@
+// The arguments of the commands.
+ghost use Rattle.cj_args.specs.Building.{IsArg, option_rule, positional_rule, required_rule};
+ghost use Rattle.cj_args.specs.Command.{count_rule, explain_rule, workers_rule, zones_rule};
+
+use clap::builder::ValueParser;
+use clap::{Arg, ArgAction};
+use std::alloc::Global;
+
+/// An argument that is known by its place.
+pub(crate) fn positional_arg<'a>(
+    alloc: Global,
+    id: &'a str,
+    value: &'a str,
+    help: &'a str,
+) -> Arg<'a>
+    ensures { IsArg (positional_rule id.entry.now) result }
+{
+    Arg::new(alloc, id)
+        .required(true)
+        .value_name(value)
+        .help(help)
+}
+
+/// An option with one value.
+pub(crate) fn option_arg<'a>(alloc: Global, id: &'a str, value: &'a str, help: &'a str) -> Arg<'a>
+    ensures { IsArg (option_rule id.entry.now) result }
+{
+    Arg::new(alloc, id).long(id).value_name(value).help(help)
+}
+
+/// An option with one value that has to be given.
+pub(crate) fn required_arg<'a>(alloc: Global, id: &'a str, value: &'a str, help: &'a str) -> Arg<'a>
+    ensures { IsArg (required_rule id.entry.now) result }
+{
+    option_arg(alloc, id, value, help).required(true)
+}
+
+/// How many due times are wanted.
+pub(crate) fn count_arg<'a>(alloc: Global) -> Arg<'a>
+    ensures { IsArg count_rule result }
+{
+    option_arg(alloc, "count", "N", "How many due times, 1 to 1000")
+        .value_parser(ValueParser::unsigned(1, 1_000))
+        .default_value("1")
+}
+
+/// How many workers are started.
+pub(crate) fn workers_arg<'a>(alloc: Global) -> Arg<'a>
+    ensures { IsArg workers_rule result }
+{
+    required_arg(
+        alloc,
+        "workers",
+        "N",
+        "How many workers, 1 to 32, each in a thread of its own",
+    )
+    .value_parser(ValueParser::unsigned(1, 32))
+}
+
+/// The zones that an input may name.
+pub(crate) fn zones_arg<'a>(alloc: Global) -> Arg<'a>
+    ensures { IsArg zones_rule result }
+{
+    option_arg(
+        alloc,
+        "zone",
+        "NAME=RULE",
+        "A zone that the input may name, with its POSIX rule, as Europe/Berlin=CET-1CEST,M3.5.0,M10.5.0/3; may be given several times",
+    )
+    .action(ArgAction::Append)
+}
+
+/// Whether a refusal is explained.
+pub(crate) fn explain_arg<'a>(alloc: Global) -> Arg<'a>
+    ensures { IsArg explain_rule result }
+{
+    Arg::new(alloc, "explain")
+        .long("explain")
+        .action(ArgAction::SetTrue)
+        .help(
+            "Say of a refusal, on standard error after its line, what is wrong and what is wanted",
+        )
+}

@@ -1,0 +1,227 @@
+// The commands, each with its arguments, and the program's command line.
+ghost use Rattle.std.specs.Prelude.{◌≡◌, IfOk};
+ghost use Rattle.clap.specs.Words.{App, Rule, app_of, new_app, with_rule, with_subcommand};
+ghost use Rattle.cj_args.specs.Building.{IsArg, IsCommand, bare_app};
+ghost use Rattle.cj_args.specs.Command.{acting_app, audit_app, check_app, cronsim_app, deciding_app, file_rule, next_app, plan_app, reading_app, replay_app, run_app, why_app, with_folder, with_zones};
+
+use crate::arguments::{
+    count_arg, explain_arg, option_arg, positional_arg, required_arg, workers_arg, zones_arg,
+};
+use crate::help;
+use clap::{Arg, Command};
+use std::alloc::{AllocError, Global};
+
+// A command with no arguments, and what help says of it.
+fn new_command<'a>(alloc: Global, name: &'a str, about: &'a str, after: &'a str) -> Command<'a>
+    ensures { IsCommand (new_app name.entry.now) result }
+{
+    Command::new(alloc, name).about(about).after_help(after)
+}
+
+// The command with one more argument, where it could be made.
+fn with_arg<'a>(
+    command: Result<Command<'a>, AllocError>,
+    arg: Arg<'a>,
+) -> Result<Command<'a>, AllocError>
+    ensures { (a : App) (r : Rule) → IfOk command.entry (IsCommand a) → IsArg r arg.entry
+        → IfOk result (IsCommand (with_rule a r)) }
+{
+    command?.arg(arg)
+}
+
+// The command with another below it, where both could be made.
+fn with_command<'a>(
+    command: Result<Command<'a>, AllocError>,
+    below: Result<Command<'a>, AllocError>,
+) -> Result<Command<'a>, AllocError>
+    ensures { (a b : App) → IfOk command.entry (IsCommand a) → IfOk below.entry (IsCommand b)
+        → IfOk result (IsCommand (with_subcommand a b.top)) }
+{
+    command?.subcommand(below?)
+}
+
+// The command with the folder of zone files, and the flag that every command has.
+fn with_folder<'a>(
+    alloc: Global,
+    command: Result<Command<'a>, AllocError>,
+) -> Result<Command<'a>, AllocError>
+    ensures { (a : App) → IfOk command.entry (IsCommand a)
+        → IfOk result (IsCommand (with_folder a)) }
+{
+    let command = with_arg(command, option_arg(alloc, "zoneinfo", "DIR", help::FOLDER));
+    with_arg(command, explain_arg(alloc))
+}
+
+// The command with the options of those whose input may name zones.
+fn with_zones<'a>(
+    alloc: Global,
+    command: Result<Command<'a>, AllocError>,
+) -> Result<Command<'a>, AllocError>
+    ensures { (a : App) → IfOk command.entry (IsCommand a)
+        → IfOk result (IsCommand (with_zones a)) }
+{
+    with_folder(alloc, with_arg(command, zones_arg(alloc)))
+}
+
+// A command that reads a file, with no other argument yet.
+fn file_command<'a>(
+    alloc: Global,
+    name: &'a str,
+    about: &'a str,
+    after: &'a str,
+    file: &'a str,
+) -> Result<Command<'a>, AllocError>
+    ensures { IfOk result (IsCommand (with_rule (new_app name.entry.now) file_rule)) }
+{
+    let command = new_command(alloc, name, about, after);
+    with_arg(Ok(command), positional_arg(alloc, "file", "FILE", file))
+}
+
+fn next_command<'a>(alloc: Global) -> Result<Command<'a>, AllocError>
+    ensures { IfOk result (IsCommand next_app) }
+{
+    let command = new_command(
+        alloc,
+        "next",
+        "Print the next due times of a schedule, one UTC time a line",
+        help::NEXT,
+    );
+    let command = with_arg(
+        Ok(command),
+        positional_arg(alloc, "schedule", "SCHEDULE", help::SCHEDULE),
+    );
+    let command = with_arg(command, required_arg(alloc, "after", "TIME", help::AFTER));
+    let command = with_arg(command, count_arg(alloc));
+    let command = with_arg(command, option_arg(alloc, "zone", "RULE", help::ZONE));
+    let command = with_arg(
+        command,
+        option_arg(alloc, "time-zone", "NAME", help::TIME_ZONE),
+    );
+    with_folder(alloc, command)
+}
+
+fn check_command<'a>(alloc: Global) -> Result<Command<'a>, AllocError>
+    ensures { IfOk result (IsCommand check_app) }
+{
+    let command = file_command(
+        alloc,
+        "check",
+        "Check the manifest of a CronJob or a Job, and name every fault in it",
+        help::CHECK,
+        "File with a manifest in JSON; - is standard input",
+    );
+    with_zones(alloc, command)
+}
+
+fn plan_command<'a>(alloc: Global) -> Result<Command<'a>, AllocError>
+    ensures { IfOk result (IsCommand plan_app) }
+{
+    let command = file_command(
+        alloc,
+        "plan",
+        "Print what the next sync of a CronJob does",
+        help::PLAN,
+        help::SCENARIO,
+    );
+    let command = with_arg(command, required_arg(alloc, "now", "TIME", help::MOMENT));
+    with_zones(alloc, command)
+}
+
+fn replay_command<'a>(alloc: Global) -> Result<Command<'a>, AllocError>
+    ensures { IfOk result (IsCommand replay_app) }
+{
+    let command = file_command(
+        alloc,
+        "replay",
+        "Make the steps of a script on an empty world, and print what each is answered",
+        help::REPLAY,
+        help::SCRIPT,
+    );
+    with_zones(alloc, command)
+}
+
+fn run_command<'a>(alloc: Global) -> Result<Command<'a>, AllocError>
+    ensures { IfOk result (IsCommand run_app) }
+{
+    let command = file_command(
+        alloc,
+        "run",
+        "Run the whole controller under a simulated clock, and print what it leaves",
+        help::RUN,
+        help::COURSE,
+    );
+    let command = with_arg(command, workers_arg(alloc));
+    with_zones(alloc, command)
+}
+
+fn why_command<'a>(alloc: Global) -> Result<Command<'a>, AllocError>
+    ensures { IfOk result (IsCommand why_app) }
+{
+    let command = file_command(
+        alloc,
+        "why",
+        "Say of each CronJob of a cluster what was missed and what its next sync does",
+        help::WHY,
+        help::CLUSTER,
+    );
+    let command = with_arg(command, required_arg(alloc, "now", "TIME", help::NOW));
+    let command = with_arg(
+        command,
+        option_arg(alloc, "cron", "NAMESPACE/NAME", help::CRON),
+    );
+    with_zones(alloc, command)
+}
+
+fn audit_command<'a>(alloc: Global) -> Result<Command<'a>, AllocError>
+    ensures { IfOk result (IsCommand audit_app) }
+{
+    let command = file_command(
+        alloc,
+        "audit",
+        "Look in a cluster for times with two Jobs, Jobs beside others, and Jobs that weren't due",
+        help::AUDIT,
+        help::CLUSTER,
+    );
+    with_zones(alloc, command)
+}
+
+// The program's command line with no command yet.
+fn bare_command<'a>(alloc: Global) -> Command<'a>
+    ensures { IsCommand bare_app result }
+{
+    Command::new(alloc, "cronsim")
+        .about("A CronJob controller that is proved: schedules, plans and runs")
+        .version("0.1.0")
+        .subcommand_required(true)
+}
+
+// The commands on a schedule and on a manifest.
+fn reading_command<'a>(alloc: Global) -> Result<Command<'a>, AllocError>
+    ensures { IfOk result (IsCommand reading_app) }
+{
+    let command = with_command(Ok(bare_command(alloc)), next_command(alloc));
+    with_command(command, check_command(alloc))
+}
+
+// Those and the command on a decision.
+fn deciding_command<'a>(alloc: Global) -> Result<Command<'a>, AllocError>
+    ensures { IfOk result (IsCommand deciding_app) }
+{
+    with_command(reading_command(alloc), plan_command(alloc))
+}
+
+// Those and the commands that run the controller.
+fn acting_command<'a>(alloc: Global) -> Result<Command<'a>, AllocError>
+    ensures { IfOk result (IsCommand acting_app) }
+{
+    let command = with_command(deciding_command(alloc), replay_command(alloc));
+    with_command(command, run_command(alloc))
+}
+
+/// The program's command line: those, and the commands on a cluster.
+pub fn cronsim_command<'a>(alloc: Global) -> Result<Command<'a>, AllocError>
+    ensures { IfOk result (λ c. app_of c ≡ cronsim_app) }
+{
+    let command = with_command(acting_command(alloc), why_command(alloc));
+    with_command(command, audit_command(alloc))
+}

@@ -1,0 +1,187 @@
+// What the words of a command line ask for.
+ghost use Rattle.std.specs.Prelude.{◌≡◌, option_map};
+
+/// What a command line asks for.
+#[derive(Debug, Drop)]
+pub enum Request<'a> {
+    /// The next due times of a schedule.
+    Next(NextRequest<'a>),
+    /// What a manifest says, or every fault in it.
+    Check(CheckRequest<'a>),
+    /// What the next sync of a scenario's CronJob does.
+    Plan(PlanRequest<'a>),
+    /// What the steps of a script are answered, one after the other.
+    Replay(ReplayRequest<'a>),
+    /// What the whole controller leaves of a scenario.
+    Run(RunRequest<'a>),
+    /// What was missed in a cluster, and what the next syncs do.
+    Why(WhyRequest<'a>),
+    /// What is wrong among the Jobs of a cluster.
+    Audit(AuditRequest<'a>),
+}
+
+impl<'a> Request<'a> {
+    ghost use Rattle.cj_args.specs.Command.{explains, file_of, folder_of, zones_of};
+
+    /// The name of the file that is to be read, where the command reads one; `-` is standard input.
+    pub fn file(&self) -> Option<&'a str>
+        ensures { option_map (λ s. s.now) result ≡ file_of self.now }
+    {
+        match self {
+            Request::Next(_) => None,
+            Request::Check(check) => Some(check.file),
+            Request::Plan(plan) => Some(plan.file),
+            Request::Replay(replay) => Some(replay.file),
+            Request::Run(run) => Some(run.file),
+            Request::Why(why) => Some(why.file),
+            Request::Audit(audit) => Some(audit.file),
+        }
+    }
+
+    /// The zones that the words give, where the command takes them.
+    pub fn zones(&self) -> Option<&ZoneWords<'a>>
+        ensures { option_map (λ z. z.now) result ≡ zones_of self.now }
+    {
+        match self {
+            Request::Next(_) => None,
+            Request::Check(check) => Some(&check.zones),
+            Request::Plan(plan) => Some(&plan.zones),
+            Request::Replay(replay) => Some(&replay.zones),
+            Request::Run(run) => Some(&run.zones),
+            Request::Why(why) => Some(&why.zones),
+            Request::Audit(audit) => Some(&audit.zones),
+        }
+    }
+
+    /// The name of the folder in which zones are looked up, where one is given.
+    pub fn folder(&self) -> Option<&'a str>
+        ensures { option_map (λ s. s.now) result ≡ folder_of self.now }
+    {
+        match self {
+            Request::Next(next) => next.folder,
+            Request::Check(check) => check.zones.folder,
+            Request::Plan(plan) => plan.zones.folder,
+            Request::Replay(replay) => replay.zones.folder,
+            Request::Run(run) => run.zones.folder,
+            Request::Why(why) => why.zones.folder,
+            Request::Audit(audit) => audit.zones.folder,
+        }
+    }
+
+    /// Whether a refusal is to be explained.
+    pub fn explains(&self) -> bool
+        ensures { result ≡ explains self.now }
+    {
+        match self {
+            Request::Next(next) => next.explain,
+            Request::Check(check) => check.explain,
+            Request::Plan(plan) => plan.explain,
+            Request::Replay(replay) => replay.explain,
+            Request::Run(run) => run.explain,
+            Request::Why(why) => why.explain,
+            Request::Audit(audit) => audit.explain,
+        }
+    }
+}
+
+/// The zones that a command's input may name, as the words give them.
+#[derive(Debug, Drop)]
+pub struct ZoneWords<'a> {
+    /// Each as NAME=RULE with a POSIX rule, in their order.
+    pub rules: Vec<&'a str>,
+    /// The folder with compiled zone files, in which the zones that the input names are looked up.
+    pub folder: Option<&'a str>,
+}
+
+/// The words of the command `next`, as they were given.
+#[derive(Debug, Drop)]
+pub struct NextRequest<'a> {
+    /// The crontab schedule.
+    pub schedule: &'a str,
+    /// The start, which is excluded: a printed time.
+    pub after: &'a str,
+    /// How many times are asked for, 1 to 1,000.
+    pub count: u16,
+    /// `UTC`, or the POSIX rule of the zone; UTC where neither a rule nor a name is given.
+    pub zone: Option<&'a str>,
+    /// The name of the zone, which is looked up in the folder.
+    pub time_zone: Option<&'a str>,
+    /// The folder with compiled zone files.
+    pub folder: Option<&'a str>,
+    /// Whether a refusal is explained.
+    pub explain: bool,
+}
+
+/// The words of the command `check`, as they were given.
+#[derive(Debug, Drop)]
+pub struct CheckRequest<'a> {
+    /// The name of the file with the manifest; `-` is standard input.
+    pub file: &'a str,
+    /// The zones that the manifest may name.
+    pub zones: ZoneWords<'a>,
+    /// Whether a refusal is explained.
+    pub explain: bool,
+}
+
+/// The words of the command `plan`, as they were given.
+#[derive(Debug, Drop)]
+pub struct PlanRequest<'a> {
+    /// The name of the file with the scenario; `-` is standard input.
+    pub file: &'a str,
+    /// The moment that the plan is for: a printed time.
+    pub moment: &'a str,
+    /// The zones that the CronJob may name.
+    pub zones: ZoneWords<'a>,
+    /// Whether a refusal is explained.
+    pub explain: bool,
+}
+
+/// The words of the command `replay`, as they were given.
+#[derive(Debug, Drop)]
+pub struct ReplayRequest<'a> {
+    /// The name of the file with the script; `-` is standard input.
+    pub file: &'a str,
+    /// The zones that the CronJobs may name.
+    pub zones: ZoneWords<'a>,
+    /// Whether a refusal is explained.
+    pub explain: bool,
+}
+
+/// The words of the command `run`, as they were given.
+#[derive(Debug, Drop)]
+pub struct RunRequest<'a> {
+    /// The name of the file with the scenario; `-` is standard input.
+    pub file: &'a str,
+    /// How many workers, 1 to 32.
+    pub workers: u8,
+    /// The zones that the CronJobs may name.
+    pub zones: ZoneWords<'a>,
+    /// Whether a refusal is explained.
+    pub explain: bool,
+}
+
+/// The words of the command `why`, as they were given.
+#[derive(Debug, Drop)]
+pub struct WhyRequest<'a> {
+    /// The name of the file with the cluster's objects; `-` is standard input.
+    pub file: &'a str,
+    /// The moment that is asked about: a printed time.
+    pub moment: &'a str,
+    /// The one CronJob that is asked about, as NAMESPACE/NAME; all of them where none is given.
+    pub cron: Option<&'a str>,
+    /// The zones that the CronJobs may name.
+    pub zones: ZoneWords<'a>,
+    /// Whether a refusal is explained.
+    pub explain: bool,
+}
+
+/// The words of the command `audit`, as they were given.
+#[derive(Debug, Drop)]
+pub struct AuditRequest<'a> {
+    /// The name of the file with the cluster's objects; `-` is standard input.
+    pub file: &'a str,
+    /// The zones that the CronJobs may name.
+    pub zones: ZoneWords<'a>,
+    /// Whether a refusal is explained.
+    pub explain: bool,
+}

@@ -1,0 +1,265 @@
+// The words of a command line, read as what they ask for.
+ghost use Rattle.std.specs.Prelude.{◌≡◌, ◌⊎◌, ℕ, ◌≤◌, map, option_map, IfOk, IfErr, None, Some};
+ghost use Rattle.clap.specs.Words.{first_of, found_of, rows_of, subcommand_rows_of};
+ghost use Rattle.cj_args.specs.Command.{AreZones, IsAudit, IsCheck, IsDecimal, IsNext, IsOf, IsOfRows, IsPlan, IsReplay, IsRunOf, IsWhy, RefusesWords, is_given, texts_of};
+ghost use Rattle.cj_args.specs.declared.request.AuditRequest.{AuditRequest};
+ghost use Rattle.cj_args.specs.declared.request.CheckRequest.{CheckRequest};
+ghost use Rattle.cj_args.specs.declared.request.NextRequest.{NextRequest};
+ghost use Rattle.cj_args.specs.declared.request.PlanRequest.{PlanRequest};
+ghost use Rattle.cj_args.specs.declared.request.ReplayRequest.{ReplayRequest};
+ghost use Rattle.cj_args.specs.declared.request.RunRequest.{RunRequest};
+ghost use Rattle.cj_args.specs.declared.request.WhyRequest.{WhyRequest};
+ghost use Rattle.cj_args.specs.declared.request.Request.{Request};
+ghost use Rattle.cj_args.specs.declared.word_fault.WordFault.TheVariants.{Incomplete, OutOfMemory};
+
+use crate::command::cronsim_command;
+use crate::request::{
+    AuditRequest, CheckRequest, NextRequest, PlanRequest, ReplayRequest, Request, RunRequest,
+    WhyRequest, ZoneWords,
+};
+use crate::word_fault::WordFault;
+use clap::ArgMatches;
+use std::alloc::{AllocError, Global};
+
+// The value of an argument that may be left out.
+fn optional_text<'a>(found: &ArgMatches<'a>, id: &str) -> Option<&'a str>
+    ensures { first_of id.now (rows_of (found_of found.now)) ≡ option_map (λ s. s.now) result }
+{
+    found.get_str(id)
+}
+
+// The value of an argument that has one.
+fn text<'a>(found: &ArgMatches<'a>, id: &str) -> Result<&'a str, WordFault>
+    ensures found { IfOk result (λ s. first_of id.now (rows_of (found_of found.now)) ≡ Some s.now) }
+    ensures missing { IfErr result (λ e. (e ≡ Incomplete)
+        × (first_of id.now (rows_of (found_of found.now)) ≡ None)) }
+{
+    match optional_text(found, id) {
+        Some(text) => Ok(text),
+        None => Err(WordFault::Incomplete),
+    }
+}
+
+// Whether a flag stands among the words.
+fn is_given(found: &ArgMatches<'_>, id: &str) -> bool
+    ensures { result ≡ is_given id.now (rows_of (found_of found.now)) }
+{
+    match optional_text(found, id) {
+        Some(text) => text == "true",
+        None => false,
+    }
+}
+
+// A count of due times.
+fn count(text: &str) -> Result<u16, WordFault>
+    ensures decimal { IfOk result (IsDecimal text.now) }
+    ensures least { IfOk result (λ n. 1 ≤ n) }
+    ensures most { IfOk result (λ n. n ≤ 1_000) }
+    ensures refused { IfErr result (λ e. e ≡ Incomplete) }
+    ensures only { IfErr result (λ _. (n : ℕ) → IsDecimal text.now n → 1 ≤ n → n ≤ 1_000 → ⊥) }
+{
+    match text.parse::<u16>() {
+        Ok(count) if count >= 1 && count <= 1_000 => Ok(count),
+        _ => Err(WordFault::Incomplete),
+    }
+}
+
+// A number of workers.
+fn workers(text: &str) -> Result<u8, WordFault>
+    ensures decimal { IfOk result (IsDecimal text.now) }
+    ensures least { IfOk result (λ n. 1 ≤ n) }
+    ensures most { IfOk result (λ n. n ≤ 32) }
+    ensures refused { IfErr result (λ e. e ≡ Incomplete) }
+    ensures only { IfErr result (λ _. (n : ℕ) → IsDecimal text.now n → 1 ≤ n → n ≤ 32 → ⊥) }
+{
+    match text.parse::<u8>() {
+        Ok(workers) if workers >= 1 && workers <= 32 => Ok(workers),
+        _ => Err(WordFault::Incomplete),
+    }
+}
+
+// The values of an argument that may be given several times, in their order.
+fn texts<'a>(alloc: Global, found: &ArgMatches<'a>, id: &str) -> Result<Vec<&'a str>, AllocError>
+    ensures { IfOk result (λ v. texts_of id.now (rows_of (found_of found.now))
+        ≡ map (λ s. s.now) v.items) }
+{
+    match found.get_strs(id) {
+        Some(texts) => texts.to_vec(alloc),
+        None => Ok(Vec::new(alloc)),
+    }
+}
+
+// The zones that an input may name.
+fn zone_words<'a>(alloc: Global, found: &ArgMatches<'a>) -> Result<ZoneWords<'a>, AllocError>
+    ensures { IfOk result (AreZones (rows_of (found_of found.now))) }
+{
+    let rules = texts(alloc, found, "zone")?;
+    let folder = optional_text(found, "zoneinfo");
+    Ok(ZoneWords { rules, folder })
+}
+
+fn next_request<'a>(found: &ArgMatches<'a>) -> Result<NextRequest<'a>, WordFault>
+    ensures stated { IfOk result (IsNext (rows_of (found_of found.now))) }
+    ensures refused { IfErr result (λ e. e ≡ Incomplete) }
+    ensures only { IfErr result (λ _. (r : NextRequest) →
+        ¬ (IsNext (rows_of (found_of found.now)) r)) }
+{
+    let schedule = text(found, "schedule")?;
+    let after = text(found, "after")?;
+    let count = count(text(found, "count")?)?;
+    Ok(NextRequest {
+        schedule,
+        after,
+        count,
+        zone: optional_text(found, "zone"),
+        time_zone: optional_text(found, "time-zone"),
+        folder: optional_text(found, "zoneinfo"),
+        explain: is_given(found, "explain"),
+    })
+}
+
+fn check_request<'a>(alloc: Global, found: &ArgMatches<'a>) -> Result<CheckRequest<'a>, WordFault>
+    ensures stated { IfOk result (IsCheck (rows_of (found_of found.now))) }
+    ensures refused { IfErr result (λ e. (e ≡ Incomplete) ⊎ (e ≡ OutOfMemory)) }
+    ensures only { IfErr result (λ e. e ≡ Incomplete → (r : CheckRequest) →
+        ¬ (IsCheck (rows_of (found_of found.now)) r)) }
+{
+    let file = text(found, "file")?;
+    let explain = is_given(found, "explain");
+    Ok(CheckRequest {
+        file,
+        zones: zone_words(alloc, found)?,
+        explain,
+    })
+}
+
+fn plan_request<'a>(alloc: Global, found: &ArgMatches<'a>) -> Result<PlanRequest<'a>, WordFault>
+    ensures stated { IfOk result (IsPlan (rows_of (found_of found.now))) }
+    ensures refused { IfErr result (λ e. (e ≡ Incomplete) ⊎ (e ≡ OutOfMemory)) }
+    ensures only { IfErr result (λ e. e ≡ Incomplete → (r : PlanRequest) →
+        ¬ (IsPlan (rows_of (found_of found.now)) r)) }
+{
+    let file = text(found, "file")?;
+    let moment = text(found, "now")?;
+    let explain = is_given(found, "explain");
+    Ok(PlanRequest {
+        file,
+        moment,
+        zones: zone_words(alloc, found)?,
+        explain,
+    })
+}
+
+fn replay_request<'a>(alloc: Global, found: &ArgMatches<'a>) -> Result<ReplayRequest<'a>, WordFault>
+    ensures stated { IfOk result (IsReplay (rows_of (found_of found.now))) }
+    ensures refused { IfErr result (λ e. (e ≡ Incomplete) ⊎ (e ≡ OutOfMemory)) }
+    ensures only { IfErr result (λ e. e ≡ Incomplete → (r : ReplayRequest) →
+        ¬ (IsReplay (rows_of (found_of found.now)) r)) }
+{
+    let file = text(found, "file")?;
+    let explain = is_given(found, "explain");
+    Ok(ReplayRequest {
+        file,
+        zones: zone_words(alloc, found)?,
+        explain,
+    })
+}
+
+fn run_request<'a>(alloc: Global, found: &ArgMatches<'a>) -> Result<RunRequest<'a>, WordFault>
+    ensures stated { IfOk result (IsRunOf (rows_of (found_of found.now))) }
+    ensures refused { IfErr result (λ e. (e ≡ Incomplete) ⊎ (e ≡ OutOfMemory)) }
+    ensures only { IfErr result (λ e. e ≡ Incomplete → (r : RunRequest) →
+        ¬ (IsRunOf (rows_of (found_of found.now)) r)) }
+{
+    let file = text(found, "file")?;
+    let workers = workers(text(found, "workers")?)?;
+    let explain = is_given(found, "explain");
+    Ok(RunRequest {
+        file,
+        workers,
+        zones: zone_words(alloc, found)?,
+        explain,
+    })
+}
+
+fn why_request<'a>(alloc: Global, found: &ArgMatches<'a>) -> Result<WhyRequest<'a>, WordFault>
+    ensures stated { IfOk result (IsWhy (rows_of (found_of found.now))) }
+    ensures refused { IfErr result (λ e. (e ≡ Incomplete) ⊎ (e ≡ OutOfMemory)) }
+    ensures only { IfErr result (λ e. e ≡ Incomplete → (r : WhyRequest) →
+        ¬ (IsWhy (rows_of (found_of found.now)) r)) }
+{
+    let file = text(found, "file")?;
+    let moment = text(found, "now")?;
+    let cron = optional_text(found, "cron");
+    let explain = is_given(found, "explain");
+    Ok(WhyRequest {
+        file,
+        moment,
+        cron,
+        zones: zone_words(alloc, found)?,
+        explain,
+    })
+}
+
+fn audit_request<'a>(alloc: Global, found: &ArgMatches<'a>) -> Result<AuditRequest<'a>, WordFault>
+    ensures stated { IfOk result (IsAudit (rows_of (found_of found.now))) }
+    ensures refused { IfErr result (λ e. (e ≡ Incomplete) ⊎ (e ≡ OutOfMemory)) }
+    ensures only { IfErr result (λ e. e ≡ Incomplete → (r : AuditRequest) →
+        ¬ (IsAudit (rows_of (found_of found.now)) r)) }
+{
+    let file = text(found, "file")?;
+    let explain = is_given(found, "explain");
+    Ok(AuditRequest {
+        file,
+        zones: zone_words(alloc, found)?,
+        explain,
+    })
+}
+
+// What the words behind the name of a command ask for.
+fn request_named<'a>(
+    alloc: Global,
+    name: &str,
+    found: &ArgMatches<'a>,
+) -> Result<Request<'a>, WordFault>
+    ensures stated { IfOk result (IsOfRows (Some (name.now, rows_of (found_of found.now)))) }
+    ensures refused { IfErr result (λ e. (e ≡ Incomplete) ⊎ (e ≡ OutOfMemory)) }
+    ensures only { IfErr result (λ e. e ≡ Incomplete → (r : Request) →
+        ¬ (IsOfRows (Some (name.now, rows_of (found_of found.now))) r)) }
+{
+    match name {
+        "next" => next_request(found).map(Request::Next),
+        "check" => check_request(alloc, found).map(Request::Check),
+        "plan" => plan_request(alloc, found).map(Request::Plan),
+        "replay" => replay_request(alloc, found).map(Request::Replay),
+        "run" => run_request(alloc, found).map(Request::Run),
+        "why" => why_request(alloc, found).map(Request::Why),
+        "audit" => audit_request(alloc, found).map(Request::Audit),
+        _ => Err(WordFault::Incomplete),
+    }
+}
+
+fn request_of<'a>(alloc: Global, matches: &ArgMatches<'a>) -> Result<Request<'a>, WordFault>
+    ensures stated { IfOk result (IsOfRows (subcommand_rows_of matches.now)) }
+    ensures refused { IfErr result (λ e. (e ≡ Incomplete) ⊎ (e ≡ OutOfMemory)) }
+    ensures only { IfErr result (λ e. e ≡ Incomplete → (r : Request) →
+        ¬ (IsOfRows (subcommand_rows_of matches.now) r)) }
+{
+    match matches.subcommand() {
+        Some((name, found)) => request_named(alloc, name, found),
+        None => Err(WordFault::Incomplete),
+    }
+}
+
+/// Reads the words of a command line, the program's name first.
+///
+/// Wrong words, `--help` and `--version` are refused with what `clap` has to say; words that `clap` takes are refused
+/// only where no request has the values that it states for them.
+pub fn parse_words<'a>(alloc: Global, words: &'a [&'a str]) -> Result<Request<'a>, WordFault>
+    ensures stated { IfOk result (IsOf (map (λ w. w.now) words.entry.now)) }
+    ensures refused { IfErr result (RefusesWords (map (λ w. w.now) words.entry.now)) }
+{
+    let command = cronsim_command(alloc)?;
+    let matches = command.try_get_matches_from(words)?;
+    request_of(alloc, &matches)
+}

@@ -1,6 +1,0 @@
--- zones_arg: its ensures, from what the call adds to the rule.
-use Rattle.cj_words.proofs.Building.{action_is}
-use Rattle.cj_words.proofs.arguments.zones_arg.Goals as goal
-
-pub returns : goal.returns
-returns c = action_is _ c.option_arg.result c.action.result _ c.action.ensures c.option_arg.ensures

@@ -1,5 +1,0 @@
--- run_command: its ensures, from the file, its own argument and the options behind it.
-use Rattle.cj_words.proofs.command.run_command.Goals as goal
-
-pub returns : goal.returns
-returns c = c.with_zones.ensures _ (c.with_arg-command.ensures _ _ c.file_command-command.ensures c.workers_arg.ensures)
