@@ -10,7 +10,7 @@ use Rattle.cj_scenario.specs.declared.detection.form.Form.{Form}
 use Rattle.cj_scenario.specs.declared.detection.form.Form.TheVariants as A
 use Rattle.cj_scenario.specs.detection.Forms.{wanted_words}
 use Rattle.cj_scenario.specs.detection.Glances.{IsGlance}
-use Rattle.cj_members.specs.Looks.{IsLook}
+use Rattle.cj_explain.specs.members.Looks.{IsLook}
 use Rattle.cj_scenario.specs.declared.fault.SceneFault.{SceneFault}
 use Rattle.cj_scenario.specs.declared.fault.SceneFault.TheVariants as Why
 use Rattle.cj_scenario.specs.declared.scene.Scene.{Scene}

@@ -4,7 +4,9 @@
 mod element;
 mod fault;
 mod field;
+mod members;
 mod schedule;
 
 pub use fault::{explain_fault, explain_faults};
+pub use members::look;
 pub use schedule::explain_schedule;

@@ -2,10 +2,10 @@
 use Rattle.std.specs.Prelude.{ℕ, List, [], ◌∷◌, ◌++◌, codes, Option, Some, None, Result, Ok, Err, if◌then◌else◌}
 use Rattle.serde_json.specs.Data.{Data}
 use Rattle.cj_manifest.specs.Members.{present}
-use Rattle.cj_members.specs.declared.want.Want.{Want}
-use Rattle.cj_members.specs.declared.wrong.Wrong.{Wrong}
-use Rattle.cj_members.specs.declared.wrong.Wrong.TheVariants.{Member}
-use Rattle.cj_members.specs.Wants.{fits, words}
+use Rattle.cj_explain.specs.declared.members.want.Want.{Want}
+use Rattle.cj_explain.specs.declared.members.wrong.Wrong.{Wrong}
+use Rattle.cj_explain.specs.declared.members.wrong.Wrong.TheVariants.{Member}
+use Rattle.cj_explain.specs.members.Wants.{fits, words}
 
 -- nothing is wrong, or this is
 abbrev pub Checked : Type 0

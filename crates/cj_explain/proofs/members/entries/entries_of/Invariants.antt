@@ -1,8 +1,8 @@
 -- entries_of: its loop; at each turn what is said of the members to come is what is said of all.
 use Rattle.std.proofs.Common.{◌≡◌}
 use Rattle.serde_json.specs.View.{view, members_view}
-use Rattle.cj_members.specs.Items.{entries_from}
-use Rattle.cj_members.proofs.entries.entries_of.Given as goal
+use Rattle.cj_explain.specs.members.Items.{entries_from}
+use Rattle.cj_explain.proofs.members.entries.entries_of.Given as goal
 
 abbrev pub invariant-loop-key : goal.invariant-loop-key
 invariant-loop-key l =

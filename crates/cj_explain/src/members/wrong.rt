@@ -1,6 +1,6 @@
 ghost use Rattle.std.specs.Prelude.{◌≡◌, ◌≢◌, ◌++◌, IfOk, OnOk, string_bytes};
-ghost use Rattle.cj_members.specs.declared.wrong.Wrong.TheVariants.{Member, Memory};
-ghost use Rattle.cj_members.specs.Members.{line, member_at};
+ghost use Rattle.cj_explain.specs.declared.members.wrong.Wrong.TheVariants.{Member, Memory};
+ghost use Rattle.cj_explain.specs.members.Members.{line, member_at};
 
 use cj_types::{Refusal, Text};
 use std::alloc::{AllocError, Global};

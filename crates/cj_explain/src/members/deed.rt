@@ -3,12 +3,12 @@ ghost use Rattle.std.specs.Prelude.{◌≡◌, ◌≢◌, Ok, Err, IfOk, IfErr, 
 ghost use Rattle.serde_json.specs.View.{view};
 ghost use Rattle.serde_json.specs.Find.{as_bool};
 ghost use Rattle.cj_manifest.specs.Members.{present as member_in};
-ghost use Rattle.cj_members.specs.declared.wrong.Wrong.TheVariants.{Memory};
-ghost use Rattle.cj_members.specs.Deeds as said;
+ghost use Rattle.cj_explain.specs.declared.members.wrong.Wrong.TheVariants.{Memory};
+ghost use Rattle.cj_explain.specs.members.Deeds as said;
 
-use crate::member::{may, must};
-use crate::want::{Range, Want, Word};
-use crate::wrong::{Wrong, told};
+use crate::members::member::{may, must};
+use crate::members::want::{Range, Want, Word};
+use crate::members::wrong::{Wrong, told};
 use cj_script::{Plain, Verb, Write, present, verb_named};
 use serde_json::Value;
 use std::alloc::Global;

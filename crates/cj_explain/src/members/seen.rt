@@ -2,11 +2,11 @@
 ghost use Rattle.std.specs.Prelude.{◌≡◌, IfOk, IfErr, string_bytes};
 ghost use Rattle.cj_base.specs.declared.refusal.Refusal.TheVariants.{OutOfMemory};
 ghost use Rattle.serde_json.specs.View.{view};
-ghost use Rattle.cj_members.specs.Looks.{IsLook, is_near, look_words, member_words, rest, wrong_words};
-ghost use Rattle.cj_members.specs.Wholes as said;
+ghost use Rattle.cj_explain.specs.members.Looks.{IsLook, is_near, look_words, member_words, rest, wrong_words};
+ghost use Rattle.cj_explain.specs.members.Wholes as said;
 
-use crate::wholes::whole;
-use crate::wrong::Wrong;
+use crate::members::wholes::whole;
+use crate::members::wrong::Wrong;
 use cj_scenario::{Form, SceneFault, glance_at, value_of};
 use cj_types::Refusal;
 use serde_json::Value;

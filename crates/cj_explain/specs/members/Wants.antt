@@ -6,12 +6,12 @@ use Rattle.cj_types.specs.WorldLimits.{last_history, last_window}
 use Rattle.cj_script.specs.operations.Acts.{key_of, number_in}
 use Rattle.cj_script.specs.operations.Instants.{instant_of}
 use Rattle.cj_script.specs.operations.Verbs.{verb_named}
-use Rattle.cj_members.specs.declared.want.Range.{Range}
-use Rattle.cj_members.specs.declared.want.Range.TheVariants.{Any, History, Window, Step, Max}
-use Rattle.cj_members.specs.declared.want.Word.{Word}
-use Rattle.cj_members.specs.declared.want.Word.TheVariants.{Rule, Time, State, End, Role, Verb, Key}
-use Rattle.cj_members.specs.declared.want.Want.{Want}
-use Rattle.cj_members.specs.declared.want.Want.TheVariants as Of
+use Rattle.cj_explain.specs.declared.members.want.Range.{Range}
+use Rattle.cj_explain.specs.declared.members.want.Range.TheVariants.{Any, History, Window, Step, Max}
+use Rattle.cj_explain.specs.declared.members.want.Word.{Word}
+use Rattle.cj_explain.specs.declared.members.want.Word.TheVariants.{Rule, Time, State, End, Role, Verb, Key}
+use Rattle.cj_explain.specs.declared.members.want.Want.{Want}
+use Rattle.cj_explain.specs.declared.members.want.Want.TheVariants as Of
 
 -- ---- numbers
 

@@ -3,13 +3,13 @@ use Rattle.std.specs.Prelude.{List, [], codes, Ok}
 use Rattle.serde_json.specs.Data.{Data}
 use Rattle.cj_scenario.specs.declared.detection.form.Form.{Form}
 use Rattle.cj_scenario.specs.declared.detection.form.Form.TheVariants as A
-use Rattle.cj_members.specs.declared.entries.Entry.TheVariants as Of
-use Rattle.cj_members.specs.declared.items.Item.TheVariants as In
-use Rattle.cj_members.specs.declared.want.Range.TheVariants as Range
-use Rattle.cj_members.specs.declared.want.Want.TheVariants as Want
-use Rattle.cj_members.specs.declared.want.Word.TheVariants as Word
-use Rattle.cj_members.specs.Items.{entries, items}
-use Rattle.cj_members.specs.Members.{Checked, both, may, must}
+use Rattle.cj_explain.specs.declared.members.entries.Entry.TheVariants as Of
+use Rattle.cj_explain.specs.declared.members.items.Item.TheVariants as In
+use Rattle.cj_explain.specs.declared.members.want.Range.TheVariants as Range
+use Rattle.cj_explain.specs.declared.members.want.Want.TheVariants as Want
+use Rattle.cj_explain.specs.declared.members.want.Word.TheVariants as Word
+use Rattle.cj_explain.specs.members.Items.{entries, items}
+use Rattle.cj_explain.specs.members.Members.{Checked, both, may, must}
 
 abbrev pub zones : Data → Checked
 zones d = both (may [] d (codes "zones") Want.Object) (entries Of.Zone d (codes "zones"))

@@ -3,14 +3,14 @@ ghost use Rattle.std.specs.Prelude.{◌≡◌, ◌≢◌, Ok, Err, IfOk, IfErr, 
 ghost use Rattle.serde_json.specs.Find.{as_array};
 ghost use Rattle.serde_json.specs.View.{view, members_view};
 ghost use Rattle.cj_manifest.specs.Members.{unless_null};
-ghost use Rattle.cj_members.specs.declared.items.Item.TheVariants.{Run};
-ghost use Rattle.cj_members.specs.declared.wrong.Wrong.TheVariants.{Memory};
-ghost use Rattle.cj_members.specs.Items as said;
+ghost use Rattle.cj_explain.specs.declared.members.items.Item.TheVariants.{Run};
+ghost use Rattle.cj_explain.specs.declared.members.wrong.Wrong.TheVariants.{Memory};
+ghost use Rattle.cj_explain.specs.members.Items as said;
 
-use crate::items::{Item, items_of};
-use crate::member::checked;
-use crate::want::{Want, Word, is_key};
-use crate::wrong::{Wrong, told};
+use crate::members::items::{Item, items_of};
+use crate::members::member::checked;
+use crate::members::want::{Want, Word, is_key};
+use crate::members::wrong::{Wrong, told};
 use cj_script::present;
 use serde_json::{Map, Value};
 use std::alloc::{AllocError, Global};

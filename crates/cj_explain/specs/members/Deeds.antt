@@ -10,10 +10,10 @@ use Rattle.cj_script.specs.declared.operations.verb.Verb.TheVariants.{Does, Writ
 use Rattle.cj_script.specs.declared.operations.verb.Write.{Write}
 use Rattle.cj_script.specs.declared.operations.verb.Write.TheVariants as Written
 use Rattle.cj_script.specs.operations.Verbs.{verb_named}
-use Rattle.cj_members.specs.declared.want.Range.TheVariants.{Any, Max}
-use Rattle.cj_members.specs.declared.want.Want.TheVariants.{Manifest, Number, Reasons, Text, Truth}
-use Rattle.cj_members.specs.declared.want.Word.TheVariants as Word
-use Rattle.cj_members.specs.Members.{Checked, at_fault, both, may, missing, must, other}
+use Rattle.cj_explain.specs.declared.members.want.Range.TheVariants.{Any, Max}
+use Rattle.cj_explain.specs.declared.members.want.Want.TheVariants.{Manifest, Number, Reasons, Text, Truth}
+use Rattle.cj_explain.specs.declared.members.want.Word.TheVariants as Word
+use Rattle.cj_explain.specs.members.Members.{Checked, at_fault, both, may, missing, must, other}
 
 abbrev pub moment : List ℕ → Data → Checked
 moment path d = must path d (codes "at") (Text Word.Time)

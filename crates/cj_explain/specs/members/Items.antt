@@ -4,16 +4,16 @@ use Rattle.std.specs.Fmt.{decimal}
 use Rattle.serde_json.specs.Data.{Data, Items, no_items, item, Members, no_members, member}
 use Rattle.serde_json.specs.Find.{as_array, as_object}
 use Rattle.cj_manifest.specs.Members.{present, unless_null}
-use Rattle.cj_members.specs.declared.entries.Entry.{Entry}
-use Rattle.cj_members.specs.declared.entries.Entry.TheVariants as Of
-use Rattle.cj_members.specs.declared.items.Item.{Item}
-use Rattle.cj_members.specs.declared.items.Item.TheVariants as In
-use Rattle.cj_members.specs.declared.want.Range.TheVariants.{Any}
-use Rattle.cj_members.specs.declared.want.Want.TheVariants as Want
-use Rattle.cj_members.specs.declared.want.Word.TheVariants as Word
-use Rattle.cj_members.specs.Deeds.{caller, deed, moment}
-use Rattle.cj_members.specs.Members.{Checked, at_fault, both, checked, must, other}
-use Rattle.cj_members.specs.Wants.{is_key, words}
+use Rattle.cj_explain.specs.declared.members.entries.Entry.{Entry}
+use Rattle.cj_explain.specs.declared.members.entries.Entry.TheVariants as Of
+use Rattle.cj_explain.specs.declared.members.items.Item.{Item}
+use Rattle.cj_explain.specs.declared.members.items.Item.TheVariants as In
+use Rattle.cj_explain.specs.declared.members.want.Range.TheVariants.{Any}
+use Rattle.cj_explain.specs.declared.members.want.Want.TheVariants as Want
+use Rattle.cj_explain.specs.declared.members.want.Word.TheVariants as Word
+use Rattle.cj_explain.specs.members.Deeds.{caller, deed, moment}
+use Rattle.cj_explain.specs.members.Members.{Checked, at_fault, both, checked, must, other}
+use Rattle.cj_explain.specs.members.Wants.{is_key, words}
 
 -- ---- the items of a list
 

@@ -1,14 +1,14 @@
 // The members of each form, in the order in which they are looked at.
 ghost use Rattle.std.specs.Prelude.{◌≡◌, ◌≢◌, Ok, Err, IfOk, IfErr};
 ghost use Rattle.serde_json.specs.View.{view};
-ghost use Rattle.cj_members.specs.declared.wrong.Wrong.TheVariants.{Memory};
-ghost use Rattle.cj_members.specs.Wholes as said;
+ghost use Rattle.cj_explain.specs.declared.members.wrong.Wrong.TheVariants.{Memory};
+ghost use Rattle.cj_explain.specs.members.Wholes as said;
 
-use crate::entries::{Entry, entries};
-use crate::items::{Item, items};
-use crate::member::{may, must};
-use crate::want::{Range, Want, Word};
-use crate::wrong::Wrong;
+use crate::members::entries::{Entry, entries};
+use crate::members::items::{Item, items};
+use crate::members::member::{may, must};
+use crate::members::want::{Range, Want, Word};
+use crate::members::wrong::Wrong;
 use cj_scenario::Form;
 use serde_json::Value;
 use std::alloc::Global;

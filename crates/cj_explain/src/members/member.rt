@@ -1,12 +1,12 @@
 // One member.
 ghost use Rattle.std.specs.Prelude.{◌≡◌, ◌≢◌, Ok, Err, IfOk, IfErr};
 ghost use Rattle.serde_json.specs.View.{view};
-ghost use Rattle.cj_members.specs.declared.wrong.Wrong.TheVariants.{Member, Memory};
-ghost use Rattle.cj_members.specs.Members as said;
-ghost use Rattle.cj_members.specs.Wants.{words};
+ghost use Rattle.cj_explain.specs.declared.members.wrong.Wrong.TheVariants.{Member, Memory};
+ghost use Rattle.cj_explain.specs.members.Members as said;
+ghost use Rattle.cj_explain.specs.members.Wants.{words};
 
-use crate::want::Want;
-use crate::wrong::{Wrong, told};
+use crate::members::want::Want;
+use crate::members::wrong::{Wrong, told};
 use cj_script::present;
 use serde_json::Value;
 use std::alloc::Global;

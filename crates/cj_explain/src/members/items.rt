@@ -2,13 +2,13 @@
 ghost use Rattle.std.specs.Prelude.{◌≡◌, ◌≢◌, Ok, Err, IfOk, IfErr, string_bytes};
 ghost use Rattle.serde_json.specs.View.{view, items_view};
 ghost use Rattle.cj_manifest.specs.Members.{unless_null};
-ghost use Rattle.cj_members.specs.declared.wrong.Wrong.TheVariants.{Memory};
-ghost use Rattle.cj_members.specs.Items as said;
+ghost use Rattle.cj_explain.specs.declared.members.wrong.Wrong.TheVariants.{Memory};
+ghost use Rattle.cj_explain.specs.members.Items as said;
 
-use crate::deed::{caller, deed};
-use crate::member::{must, other};
-use crate::want::{Range, Want, Word};
-use crate::wrong::Wrong;
+use crate::members::deed::{caller, deed};
+use crate::members::member::{must, other};
+use crate::members::want::{Range, Want, Word};
+use crate::members::wrong::Wrong;
 use cj_script::present;
 use serde_json::Value;
 use std::alloc::{AllocError, Global};

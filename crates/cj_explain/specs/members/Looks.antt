@@ -7,9 +7,9 @@ use Rattle.cj_scenario.specs.declared.detection.form.Form.{Form}
 use Rattle.cj_scenario.specs.declared.detection.form.Form.TheVariants as A
 use Rattle.cj_scenario.specs.detection.Forms.{form_of}
 use Rattle.cj_scenario.specs.detection.Glances.{glance_words}
-use Rattle.cj_members.specs.declared.wrong.Wrong.TheVariants.{Member, Memory}
-use Rattle.cj_members.specs.Members.{Checked}
-use Rattle.cj_members.specs.Wholes.{whole}
+use Rattle.cj_explain.specs.declared.members.wrong.Wrong.TheVariants.{Member, Memory}
+use Rattle.cj_explain.specs.members.Members.{Checked}
+use Rattle.cj_explain.specs.members.Wholes.{whole}
 
 -- where no member is missing or wrong
 -- rule: explain-members

@@ -1,8 +1,8 @@
 -- items_of: its loop; at each turn what is said of the items to come is what is said of all.
 use Rattle.std.proofs.Common.{◌≡◌, drop}
 use Rattle.serde_json.specs.View.{view, items_view}
-use Rattle.cj_members.specs.Items.{items_from}
-use Rattle.cj_members.proofs.items.items_of.Given as goal
+use Rattle.cj_explain.specs.members.Items.{items_from}
+use Rattle.cj_explain.proofs.members.items.items_of.Given as goal
 
 abbrev pub invariant-loop-value : goal.invariant-loop-value
 invariant-loop-value l = record {

@@ -2,7 +2,7 @@
 ghost use Rattle.std.specs.Prelude.{◌≡◌, IfOk, IfErr};
 ghost use Rattle.serde_json.specs.View.{view};
 ghost use Rattle.cj_base.specs.declared.refusal.Refusal.TheVariants.{OutOfMemory};
-ghost use Rattle.cj_members.specs.Wants as want;
+ghost use Rattle.cj_explain.specs.members.Wants as want;
 
 use cj_script::{instant_of, key_of, verb_named};
 use cj_types::Refusal;
