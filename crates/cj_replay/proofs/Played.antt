@@ -11,7 +11,7 @@ use Rattle.cj_state.specs.Legal.{is_entered}
 use Rattle.cj_world.specs.Worlds.{told}
 use Rattle.cj_report.specs.Lines.{step_line}
 use Rattle.cj_script.specs.declared.step.Step.{Step}
-use Rattle.cj_sights.specs.Sights.{seen_of}
+use Rattle.cj_replay.specs.snapshots.Sights.{seen_of}
 use Rattle.cj_replay.specs.Calls.{IsCallOf}
 use Rattle.cj_replay.specs.Runs.{Plays, after, answered, is_full, job_at}
 

@@ -9,9 +9,9 @@ use Rattle.cj_calls.specs.declared.call.Call.{Call}
 use Rattle.cj_calls.specs.declared.call.Call.TheVariants as Of
 use Rattle.cj_script.specs.declared.operations.act.Act.{Act}
 use Rattle.cj_script.specs.declared.operations.act.Act.TheVariants.{Calls, Claims, Closes, Ends}
-use Rattle.cj_sights.specs.declared.sight.Sight.{Sight}
-use Rattle.cj_sights.specs.Sights.{unseen}
-use Rattle.cj_sights.specs.Plans.{Inputs, IsPlanFor, inputs_of, reasons_of}
+use Rattle.cj_replay.specs.declared.snapshots.sight.Sight.{Sight}
+use Rattle.cj_replay.specs.snapshots.Sights.{unseen}
+use Rattle.cj_replay.specs.snapshots.Plans.{Inputs, IsPlanFor, inputs_of, reasons_of}
 
 -- the uid of the Job that stands; any where there is none
 abbrev pub IsUidOf : Option Job → ℕ → Type 0

@@ -16,7 +16,7 @@ use Rattle.cj_state.specs.Legal.{answer_of, is_entered, state_of}
 use Rattle.cj_world.specs.Worlds.{Ledger, told}
 use Rattle.cj_report.specs.Lines.{step_line}
 use Rattle.cj_script.specs.declared.step.Step.{Step}
-use Rattle.cj_sights.specs.Sights.{seen_of}
+use Rattle.cj_replay.specs.snapshots.Sights.{seen_of}
 use Rattle.cj_replay.specs.Calls.{IsCallOf}
 
 -- ---- one step

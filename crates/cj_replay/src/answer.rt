@@ -4,13 +4,13 @@ ghost use Rattle.cj_base.specs.declared.refusal.Refusal.TheVariants.{OutOfMemory
 ghost use Rattle.cj_calls.specs.Rows.{Told};
 ghost use Rattle.cj_report.specs.Lines as lines;
 ghost use Rattle.cj_state.specs.Legal as legal;
-ghost use Rattle.cj_sights.specs.Remembered.{Remembers};
+ghost use Rattle.cj_replay.specs.snapshots.Remembered.{Remembers};
 ghost use Rattle.cj_replay.specs.Runs as said;
 
 use cj_calls::{Answer, Call, Caller};
 use cj_report::step_line;
 use cj_script::Step;
-use cj_sights::Sights;
+use crate::snapshots::Sights;
 use cj_types::{Heap, Refusal};
 use cj_world::World;
 use std::alloc::Global;

@@ -2,15 +2,15 @@
 ghost use Rattle.std.specs.Prelude.{◌≡◌, IfOk, IfErr, option_copied};
 ghost use Rattle.cj_base.specs.declared.refusal.Refusal.TheVariants.{OutOfMemory};
 ghost use Rattle.cj_calls.specs.declared.call.Call.TheVariants.{Finish};
-ghost use Rattle.cj_sights.specs.Plans.{inputs_of, reasons_of};
-ghost use Rattle.cj_sights.specs.Remembered.{Remembers, sight_or_none};
-ghost use Rattle.cj_sights.specs.Sights.{seen_of};
+ghost use Rattle.cj_replay.specs.snapshots.Plans.{inputs_of, reasons_of};
+ghost use Rattle.cj_replay.specs.snapshots.Remembered.{Remembers, sight_or_none};
+ghost use Rattle.cj_replay.specs.snapshots.Sights.{seen_of};
 ghost use Rattle.cj_replay.specs.Calls.{IsCallOf, IsClaim, IsEnd, IsUidOf, IsUnseenCall};
 ghost use Rattle.cj_replay.specs.Runs.{job_at, jobs_in};
 
 use cj_script::{Act, Step};
 use cj_calls::{Call, End};
-use cj_sights::{Sight, Sights, plan_for, reasons_for};
+use crate::snapshots::{Sight, Sights, plan_for, reasons_for};
 use cj_types::{Heap, Job, Key, Outcome, Refusal, Seconds, Shared, TryCopy, Uid};
 use cj_world::World;
 use cj_zone::ZoneTable;

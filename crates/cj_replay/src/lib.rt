@@ -7,7 +7,9 @@ mod call;
 mod play;
 mod report;
 mod run;
+mod snapshots;
 
 pub use call::unseen_call;
 pub use report::report_text;
 pub use run::replay;
+pub use snapshots::{Sight, Sights, plan_for, reasons_for};

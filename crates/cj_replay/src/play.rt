@@ -1,13 +1,13 @@
 // One step.
 ghost use Rattle.std.specs.Prelude.{◌≡◌, IfOk, IfErr, OnOk, string_bytes};
 ghost use Rattle.cj_base.specs.declared.refusal.Refusal.TheVariants.{OutOfMemory};
-ghost use Rattle.cj_sights.specs.Remembered.{Remembers};
+ghost use Rattle.cj_replay.specs.snapshots.Remembered.{Remembers};
 ghost use Rattle.cj_replay.specs.Runs.{Plays};
 
 use crate::answer::{answer_to, is_full, line_of, note};
 use crate::call::step_call;
 use cj_script::Step;
-use cj_sights::Sights;
+use crate::snapshots::Sights;
 use cj_types::Refusal;
 use cj_world::World;
 use cj_zone::ZoneTable;

@@ -2,7 +2,7 @@
 ghost use Rattle.std.specs.Prelude.{◌≡◌, [], List, ℕ, IfOk, OnOk, OnErr};
 ghost use Rattle.std.specs.Io.KnownBytes.{Appends};
 ghost use Rattle.cj_io.specs.Writing.{AppendsSome};
-ghost use Rattle.cj_sights.specs.Remembered.{Remembers};
+ghost use Rattle.cj_replay.specs.snapshots.Remembered.{Remembers};
 ghost use Rattle.cj_replay.specs.Replays.{IsPartOf, IsReplayed, KeepsPromise};
 ghost use Rattle.cj_replay.specs.Printing.{BreaksOff, CutsReport, HasPlayed, PrintsPart, PrintsReport, PrintsStep};
 
@@ -10,7 +10,7 @@ use crate::play::play;
 use crate::report::world_report;
 use cj_io::{Failure, Pending};
 use cj_script::{Script, Step};
-use cj_sights::Sights;
+use crate::snapshots::Sights;
 use cj_world::World;
 use cj_zone::ZoneTable;
 use std::alloc::Global;

@@ -1,7 +1,7 @@
 -- print_all: its loop; at each turn the steps so far were made and printed, the sights remember the
 -- history, and the limits are those of the beginning.
 use Rattle.std.proofs.Common.{◌≡◌, take}
-use Rattle.cj_sights.specs.Remembered.{Remembers}
+use Rattle.cj_replay.specs.snapshots.Remembered.{Remembers}
 use Rattle.cj_replay.specs.Printing.{HasPlayed}
 use Rattle.cj_replay.proofs.run.print_all.Given as goal
 

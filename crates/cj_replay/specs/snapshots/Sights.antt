@@ -9,7 +9,7 @@ use Rattle.cj_calls.specs.declared.call.Call.TheVariants as Of
 use Rattle.cj_calls.specs.declared.reply.Reply.{Reply}
 use Rattle.cj_calls.specs.declared.reply.Reply.TheVariants as Is
 use Rattle.cj_calls.specs.Rows.{Told}
-use Rattle.cj_sights.specs.declared.sight.Sight.{Sight}
+use Rattle.cj_replay.specs.declared.snapshots.sight.Sight.{Sight}
 
 abbrev pub unseen : Sight
 unseen = record { cron = None; jobs = None; active = None; plan = None }

@@ -8,7 +8,7 @@ use Rattle.cj_zone.specs.declared.zone.Zone.{Zone}
 use Rattle.cj_zone.specs.Table.{local_zone, zones_of}
 use Rattle.cj_zone.specs.Zones.{zone_named}
 use Rattle.cj_decide.specs.Decision.{IsDecided, Planned}
-use Rattle.cj_sights.specs.declared.sight.Sight.{Sight}
+use Rattle.cj_replay.specs.declared.snapshots.sight.Sight.{Sight}
 
 -- the three readings that a plan rests on
 pub record Inputs : Type 0 where

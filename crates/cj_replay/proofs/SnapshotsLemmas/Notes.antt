@@ -10,9 +10,9 @@ use Rattle.cj_calls.specs.declared.call.Call.{Call}
 use Rattle.cj_calls.specs.declared.caller.Caller.{Caller}
 use Rattle.cj_calls.specs.declared.reply.Reply.{Reply}
 use Rattle.cj_calls.specs.Rows.{Told}
-use Rattle.cj_sights.specs.declared.sight.Sight.{Sight}
-use Rattle.cj_sights.specs.Sights.{seen_of, with_reply}
-use Rattle.cj_sights.specs.Remembered.{Remembers, sight_or_none}
+use Rattle.cj_replay.specs.declared.snapshots.sight.Sight.{Sight}
+use Rattle.cj_replay.specs.snapshots.Sights.{seen_of, with_reply}
+use Rattle.cj_replay.specs.snapshots.Remembered.{Remembers, sight_or_none}
 
 -- For Sights::new: the empty map remembers the empty history.
 pub none_remembered : Remembers empty []

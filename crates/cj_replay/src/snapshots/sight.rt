@@ -1,6 +1,6 @@
 ghost use Rattle.std.specs.Prelude.{◌≡◌, None, Some, IfOk, IfErr};
 ghost use Rattle.cj_base.specs.declared.refusal.Refusal.TheVariants.{OutOfMemory};
-ghost use Rattle.cj_sights.specs.Sights as told;
+ghost use Rattle.cj_replay.specs.snapshots.Sights as told;
 
 use cj_base::all_four;
 use cj_calls::{Call, Reply};
@@ -152,7 +152,7 @@ fn with_plan(alloc: Global, sight: &Sight, call: &Call) -> Result<Sight, Refusal
 }
 
 /// What a worker has seen with one reply more.
-#[tactic(auto, unfolding(crate::specs::Sights::with_reply))]
+#[tactic(auto, unfolding(crate::specs::snapshots::Sights::with_reply))]
 pub(crate) fn with_reply(
     alloc: Global,
     sight: &Sight,

@@ -3,8 +3,8 @@ use Rattle.std.specs.Prelude.{◌≡◌, ℕ, List, Option, Some, None}
 use Rattle.std.specs.Ordering.{nat_cmp}
 use Rattle.std.specs.FinMap.{FinMap, get}
 use Rattle.cj_calls.specs.Rows.{Told}
-use Rattle.cj_sights.specs.declared.sight.Sight.{Sight}
-use Rattle.cj_sights.specs.Sights.{seen_of, unseen}
+use Rattle.cj_replay.specs.declared.snapshots.sight.Sight.{Sight}
+use Rattle.cj_replay.specs.snapshots.Sights.{seen_of, unseen}
 
 abbrev pub sight_or_none : Option Sight → Sight
 sight_or_none None = unseen

@@ -2,10 +2,10 @@ ghost use Rattle.std.specs.Prelude.{◌≡◌, ◌∷◌, [], List, IfOk, IfErr,
 ghost use Rattle.std.specs.FinMap as map;
 ghost use Rattle.cj_base.specs.declared.refusal.Refusal.TheVariants.{OutOfMemory};
 ghost use Rattle.cj_calls.specs.Rows.{Told};
-ghost use Rattle.cj_sights.specs.Sights as told;
-ghost use Rattle.cj_sights.specs.Remembered.{Remembers, sight_or_none};
+ghost use Rattle.cj_replay.specs.snapshots.Sights as told;
+ghost use Rattle.cj_replay.specs.snapshots.Remembered.{Remembers, sight_or_none};
 
-use crate::sight::{Sight, with_reply};
+use crate::snapshots::sight::{Sight, with_reply};
 use cj_calls::{Answer, Call, Caller, Reply};
 use cj_types::Refusal;
 use std::alloc::Global;
@@ -21,8 +21,8 @@ impl Model for Sights {
     ghost use Rattle.std.specs.Ordering.{nat_cmp};
     ghost use Rattle.std.specs.FinMap as map;
     ghost use Rattle.std.specs.Coded.{coded_ℕ};
-    ghost use Rattle.cj_sights.specs.declared.sight.Sight.{Sight};
-    ghost use Rattle.cj_sights.specs.contracts.sight.Sight.{the_row as sight};
+    ghost use Rattle.cj_replay.specs.declared.snapshots.sight.Sight.{Sight};
+    ghost use Rattle.cj_replay.specs.contracts.snapshots.sight.Sight.{the_row as sight};
 
     ghost Value = { map.FinMap nat_cmp Sight };
 
@@ -57,7 +57,7 @@ fn next_sight(
 
 impl Sights {
     /// Nobody has seen anything.
-    #[tactic(auto, using(crate::proofs::Notes::none_remembered))]
+    #[tactic(auto, using(crate::proofs::SnapshotsLemmas::Notes::none_remembered))]
     pub fn new(alloc: Global) -> Sights
         ensures { Remembers result [] }
     {
@@ -88,7 +88,7 @@ impl Sights {
     }
 
     /// Remembers what an entry more says that its caller has seen. Where there is no memory all is as it was.
-    #[tactic(auto, using(crate::proofs::Notes::refused_remembered, crate::proofs::Notes::reply_remembered))]
+    #[tactic(auto, using(crate::proofs::SnapshotsLemmas::Notes::refused_remembered, crate::proofs::SnapshotsLemmas::Notes::reply_remembered))]
     pub fn note(
         &mut self,
         alloc: Global,
