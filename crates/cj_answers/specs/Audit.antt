@@ -6,8 +6,8 @@ use Rattle.cj_audit.specs.declared.finding.Finding.{Finding}
 use Rattle.cj_audit.specs.Findings.{IsAudit}
 use Rattle.cj_audit.specs.Lines.{audit_lines}
 use Rattle.cj_audit.specs.Words.{audit_words}
-use Rattle.cj_kubectl.specs.Reading.{IsClusterList}
-use Rattle.cj_kubectl.specs.declared.list.ClusterList.{ClusterList}
+use Rattle.cj_cluster.specs.kubectl.Reading.{IsClusterList}
+use Rattle.cj_cluster.specs.declared.kubectl.list.ClusterList.{ClusterList}
 use Rattle.cj_args.specs.declared.request.AuditRequest.{AuditRequest}
 use Rattle.cj_io.specs.declared.zone_files.file.ZoneFile.{ZoneFile}
 use Rattle.cj_answers.specs.declared.answer.Ending.{Ending}

@@ -3,12 +3,12 @@ use Rattle.std.specs.Prelude.{◌≡◌, ◌≢◌, ℕ, List, [], ◌∷◌, �
 use Rattle.std.specs.List.{list_all}
 use Rattle.cj_base.specs.declared.faults.FieldFault.{FieldFault}
 use Rattle.cj_explain.specs.Faults.{fault_words}
-use Rattle.cj_kubectl.specs.declared.notes.ItemNote.{ItemNote}
-use Rattle.cj_kubectl.specs.declared.notes.Said.{Said}
-use Rattle.cj_kubectl.specs.declared.notes.Said.TheVariants as Was
-use Rattle.cj_kubectl.specs.declared.fault.ListFault.{ListFault}
-use Rattle.cj_kubectl.specs.declared.fault.ListFault.TheVariants as Why
-use Rattle.cj_kubectl.specs.Reading.{IsRefusedList}
+use Rattle.cj_cluster.specs.declared.kubectl.notes.ItemNote.{ItemNote}
+use Rattle.cj_cluster.specs.declared.kubectl.notes.Said.{Said}
+use Rattle.cj_cluster.specs.declared.kubectl.notes.Said.TheVariants as Was
+use Rattle.cj_cluster.specs.declared.kubectl.fault.ListFault.{ListFault}
+use Rattle.cj_cluster.specs.declared.kubectl.fault.ListFault.TheVariants as Why
+use Rattle.cj_cluster.specs.kubectl.Reading.{IsRefusedList}
 use Rattle.cj_answers.specs.Check.{fault_line}
 use Rattle.cj_answers.specs.Json.{IsJsonWords}
 use Rattle.cj_answers.specs.Outcome.{Outcome, explained, refusal}

@@ -4,8 +4,8 @@ use Rattle.std.specs.FinMap as map
 use Rattle.cj_types.specs.Keys.{Place}
 use Rattle.cj_zone.specs.declared.zone.Zone.{Zone}
 use Rattle.cj_cluster.specs.declared.cron.ClusterCron.{ClusterCron}
-use Rattle.cj_kubectl.specs.Reading.{IsClusterList}
-use Rattle.cj_kubectl.specs.declared.list.ClusterList.{ClusterList}
+use Rattle.cj_cluster.specs.kubectl.Reading.{IsClusterList}
+use Rattle.cj_cluster.specs.declared.kubectl.list.ClusterList.{ClusterList}
 use Rattle.cj_review.specs.Words.{IsReview}
 use Rattle.cj_args.specs.declared.request.WhyRequest.{WhyRequest}
 use Rattle.cj_io.specs.declared.zone_files.file.ZoneFile.{ZoneFile}

@@ -5,7 +5,7 @@ ghost use Rattle.cj_base.specs.declared.refusal.Refusal.TheVariants.{OutOfMemory
 ghost use Rattle.cj_zone.specs.Table.{zones_of};
 ghost use Rattle.cj_audit.specs.Lines.{audit_lines};
 ghost use Rattle.cj_audit.specs.Words.{audit_words};
-ghost use Rattle.cj_kubectl.specs.Reading.{IsClusterList};
+ghost use Rattle.cj_cluster.specs.kubectl.Reading.{IsClusterList};
 ghost use Rattle.cj_answers.specs.Audit.{AuditsList, IsAuditOutcome, IsAuditedOf, audited, is_clean, ending_by};
 ghost use Rattle.cj_answers.specs.Clusters as told;
 ghost use Rattle.cj_answers.specs.Outcome.{explained, outcome_of};
@@ -16,7 +16,7 @@ use crate::given::{given_zones, refused_pair};
 use crate::why::{MOST_LIST_BYTES, MOST_LIST_READS, joined};
 use cj_audit::{Finding, Findings, audit, audit_text, audit_words};
 use cj_base::{Refusal, both};
-use cj_kubectl::{ClusterList, read_cluster};
+use cj_cluster::{ClusterList, read_cluster};
 use cj_io::{Failure, ZoneFile, read_input};
 use cj_args::AuditRequest;
 use cj_zone::ZoneTable;

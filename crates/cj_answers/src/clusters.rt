@@ -1,7 +1,7 @@
 // What is told of a list of a cluster's objects.
 ghost use Rattle.std.specs.Prelude.{◌≡◌, ◌++◌, IfOk, OnOk, codes, string_bytes};
-ghost use Rattle.cj_kubectl.specs.Reading.{IsRefusedList};
-ghost use Rattle.cj_kubectl.specs.declared.fault.ListFault.TheVariants as Fault;
+ghost use Rattle.cj_cluster.specs.kubectl.Reading.{IsRefusedList};
+ghost use Rattle.cj_cluster.specs.declared.kubectl.fault.ListFault.TheVariants as Fault;
 ghost use Rattle.cj_answers.specs.Clusters as told;
 ghost use Rattle.cj_answers.specs.Outcome.{explained, outcome_of, refusal};
 
@@ -10,7 +10,7 @@ use crate::json::json_words;
 use crate::lines::print_fault;
 use cj_base::FieldFault;
 use cj_explain::explain_fault;
-use cj_kubectl::{ItemNote, ListFault, Said};
+use cj_cluster::{ItemNote, ListFault, Said};
 use cj_io::Failure;
 use std::alloc::{AllocError, Global};
 

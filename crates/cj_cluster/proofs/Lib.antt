@@ -1,1 +1,2 @@
+pub mod KubectlLemmas
 pub mod Sound

@@ -3,8 +3,10 @@
 
 mod cluster;
 mod cron;
+mod kubectl;
 mod times;
 
 pub use cluster::Cluster;
 pub use cron::ClusterCron;
+pub use kubectl::{ClusterList, ItemNote, ItemNotes, ListFault, Said, read_cluster, read_instant};
 pub use times::JobTimes;

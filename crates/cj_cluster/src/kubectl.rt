@@ -1,0 +1,22 @@
+// What a client prints of a cluster's CronJobs and Jobs, as the objects that it says.
+mod active;
+mod conditions;
+mod crons;
+mod fault;
+mod faults;
+mod instant;
+mod item;
+mod list;
+mod lists;
+mod made;
+mod notes;
+mod read;
+mod runs;
+mod status;
+mod times;
+
+pub use fault::ListFault;
+pub use instant::read_instant;
+pub use list::ClusterList;
+pub use notes::{ItemNote, ItemNotes, Said};
+pub use read::read_cluster;

@@ -1,0 +1,122 @@
+// A cluster as a list of its objects says it.
+ghost use Rattle.std.specs.Prelude.{◌≡◌, IfErr, IfOk, OnErr, OnOk};
+ghost use Rattle.cj_base.specs.declared.refusal.Refusal.TheVariants.{OutOfMemory};
+ghost use Rattle.cj_cluster.specs.kubectl.Reading.{adds, adds_cron, adds_job, noted, start, taken};
+ghost use Rattle.std.specs.FinMap as map;
+
+use crate::kubectl::item::Item;
+use crate::kubectl::notes::{ItemNote, ItemNotes, Said};
+use crate::cluster::Cluster;
+use crate::cron::ClusterCron;
+use crate::times::JobTimes;
+use cj_types::{Cause, Field, FieldFault, FieldFaults, Job, Refusal, Shared};
+use std::alloc::Global;
+
+/// What a list of a cluster's objects says: its CronJobs and Jobs, and a note of each other item.
+pub struct ClusterList {
+    pub cluster: Cluster,
+    pub notes: ItemNotes,
+}
+
+// A function of its own, so that whoever gives one up makes one call and not one for each part.
+impl Drop for ClusterList {
+    fn drop(self) {
+        let ClusterList { cluster, notes } = self;
+        drop(cluster);
+        drop(notes);
+    }
+}
+
+/// No object, and no note.
+pub(crate) fn empty_list(alloc: Global) -> ClusterList
+    ensures { result ≡ start }
+{
+    ClusterList {
+        cluster: Cluster::new(alloc),
+        notes: ItemNotes::new(alloc),
+    }
+}
+
+fn note(list: &mut ClusterList, place: u64, said: Said) -> Result<(), Refusal>
+    ensures ok { OnOk result (list.new ≡ noted place said list.old) }
+    ensures err { OnErr result (list.new ≡ list.old) }
+    ensures memory { IfErr result (λ e. e ≡ OutOfMemory) }
+{
+    list.notes.push(ItemNote { place, said })
+}
+
+// What is said of an object whose name an earlier one of its kind has.
+fn taken_name(alloc: Global) -> Result<Said, Refusal>
+    ensures ok { IfOk result (λ s. s ≡ taken) }
+    ensures err { IfErr result (λ e. e ≡ OutOfMemory) }
+{
+    let field = Field::Name;
+    let cause = Cause::NotAllowed;
+    let faults = FieldFaults::one(alloc, FieldFault { field, cause })?;
+    Ok(Said::Refused(faults))
+}
+
+// A note of an object whose name is taken.
+fn note_taken(alloc: Global, list: &mut ClusterList, place: u64) -> Result<(), Refusal>
+    ensures ok { OnOk result (list.new ≡ noted place taken list.old) }
+    ensures err { OnErr result (list.new ≡ list.old) }
+    ensures memory { IfErr result (λ e. e ≡ OutOfMemory) }
+{
+    note(list, place, taken_name(alloc)?)
+}
+
+fn add_cron(
+    alloc: Global,
+    list: &mut ClusterList,
+    place: u64,
+    cron: ClusterCron,
+) -> Result<(), Refusal>
+    ensures ok { OnOk result (list.new ≡ adds_cron place cron
+        (map.get list.old.cluster.crons cron.cron.key) list.old) }
+    ensures err { OnErr result (list.new ≡ list.old) }
+    ensures memory { IfErr result (λ e. e ≡ OutOfMemory) }
+{
+    if list.cluster.cron(cron.cron.key.key()).is_some() {
+        note_taken(alloc, list, place)
+    } else {
+        list.cluster.add_cron(alloc, cron)
+    }
+}
+
+fn add_job(
+    alloc: Global,
+    list: &mut ClusterList,
+    place: u64,
+    job: Shared<Job>,
+    times: Shared<JobTimes>,
+) -> Result<(), Refusal>
+    ensures ok { OnOk result (list.new ≡ adds_job place job times
+        (map.get list.old.cluster.jobs job.key) list.old) }
+    ensures err { OnErr result (list.new ≡ list.old) }
+    ensures memory { IfErr result (λ e. e ≡ OutOfMemory) }
+{
+    if list.cluster.job(&job.key).is_some() {
+        note_taken(alloc, list, place)
+    } else {
+        list.cluster.add_job(alloc, job, times)
+    }
+}
+
+/// Adds what is read of the item at a place; unchanged where there is no memory.
+pub(crate) fn add_item(
+    alloc: Global,
+    list: &mut ClusterList,
+    place: u64,
+    item: Item,
+) -> Result<(), Refusal>
+    ensures ok { OnOk result (list.new ≡ adds place item list.old) }
+    ensures err { OnErr result (list.new ≡ list.old) }
+    ensures memory { IfErr result (λ e. e ≡ OutOfMemory) }
+{
+    match item {
+        Item::Cron(cron) => add_cron(alloc, list, place, cron),
+        Item::Run(job, times) => add_job(alloc, list, place, job, times),
+        Item::Other(kind) => note(list, place, Said::Kind(kind)),
+        Item::Faulty(faults) => note(list, place, Said::Refused(faults)),
+    }
+}

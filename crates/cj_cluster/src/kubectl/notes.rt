@@ -1,0 +1,66 @@
+ghost use Rattle.std.specs.Prelude.{◌≡◌, [], ◌∷◌, ◌++◌, IfErr, OnOk, OnErr};
+ghost use Rattle.cj_base.specs.declared.refusal.Refusal.TheVariants.{OutOfMemory};
+
+use cj_types::{FieldFaults, Refusal, Text};
+use std::alloc::Global;
+use std::marker::Model;
+
+/// Why an item of a list is not among the objects that are read.
+#[derive(Debug, Drop)]
+pub enum Said {
+    /// It is of this kind, which is neither a CronJob's nor a Job's.
+    Kind(Text),
+    /// It has these faults. Where an earlier object of its kind has its name, that is
+    /// `metadata.name NotAllowed`.
+    Refused(FieldFaults),
+}
+
+/// What is said of an item of a list.
+#[derive(Debug, Drop)]
+pub struct ItemNote {
+    /// The place of the item, from 1.
+    pub place: u64,
+    pub said: Said,
+}
+
+/// Notes in the order of their items, which contracts see as a list.
+#[derive(Debug, Drop)]
+pub struct ItemNotes {
+    items: Vec<ItemNote>,
+}
+
+impl Model for ItemNotes {
+    ghost use Rattle.std.specs.Prelude.{List};
+    ghost use Rattle.cj_cluster.specs.declared.kubectl.notes.ItemNote.{ItemNote};
+
+    ghost Value = { List ItemNote };
+
+    ghost view = { λ t. t.items.items };
+}
+
+impl ItemNotes {
+    /// No note.
+    pub fn new(alloc: Global) -> ItemNotes
+        ensures { result ≡ [] }
+    {
+        ItemNotes {
+            items: Vec::new(alloc),
+        }
+    }
+
+    /// The notes in their order.
+    pub fn as_slice(&self) -> &[ItemNote]
+        ensures { result.now ≡ self.now }
+    {
+        self.items.as_slice()
+    }
+
+    /// One note more, at the end; unchanged where there is no memory.
+    pub fn push(&mut self, note: ItemNote) -> Result<(), Refusal>
+        ensures ok { OnOk result (self.new ≡ self.old ++ note ∷ []) }
+        ensures err { OnErr result (self.new ≡ self.old) }
+        ensures memory { IfErr result (λ e. e ≡ OutOfMemory) }
+    {
+        self.items.push(note).map_err(|_| Refusal::OutOfMemory)
+    }
+}
