@@ -16,8 +16,8 @@ use Rattle.cj_scenario.specs.declared.fault.SceneFault.TheVariants as Why
 use Rattle.cj_scenario.specs.declared.scene.Scene.{Scene}
 use Rattle.cj_scenario.specs.Made.{IsRefusedScene, IsScene}
 use Rattle.cj_why.specs.Why.{IsWhy}
-use Rattle.cj_review.specs.PlanLines.{plan_lines}
-use Rattle.cj_review.specs.ZoneFor.{zone_for}
+use Rattle.cj_why.specs.reviews.PlanLines.{plan_lines}
+use Rattle.cj_why.specs.reviews.ZoneFor.{zone_for}
 use Rattle.cj_args.specs.declared.request.PlanRequest.{PlanRequest}
 use Rattle.cj_io.specs.declared.zone_files.file.ZoneFile.{ZoneFile}
 use Rattle.cj_io.specs.declared.zone_files.given.GivenZones.{GivenZones}

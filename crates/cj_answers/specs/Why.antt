@@ -6,7 +6,7 @@ use Rattle.cj_zone.specs.declared.zone.Zone.{Zone}
 use Rattle.cj_cluster.specs.declared.cron.ClusterCron.{ClusterCron}
 use Rattle.cj_cluster.specs.kubectl.Reading.{IsClusterList}
 use Rattle.cj_cluster.specs.declared.kubectl.list.ClusterList.{ClusterList}
-use Rattle.cj_review.specs.Words.{IsReview}
+use Rattle.cj_why.specs.reviews.Words.{IsReview}
 use Rattle.cj_args.specs.declared.request.WhyRequest.{WhyRequest}
 use Rattle.cj_io.specs.declared.zone_files.file.ZoneFile.{ZoneFile}
 use Rattle.cj_answers.specs.Clusters.{RefusesList, note_lines, note_words}

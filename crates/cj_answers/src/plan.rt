@@ -7,8 +7,8 @@ ghost use Rattle.cj_scenario.specs.declared.fault.SceneFault.TheVariants.{Form a
 ghost use Rattle.cj_scenario.specs.declared.detection.form.Form.{Form as Wanted};
 ghost use Rattle.cj_explain.specs.Faults.{fault_words};
 ghost use Rattle.cj_answers.specs.Outcome.{done, explained, outcome_of, refusal};
-ghost use Rattle.cj_review.specs.PlanLines.{plan_lines};
-ghost use Rattle.cj_review.specs.ZoneFor.{zone_for};
+ghost use Rattle.cj_why.specs.reviews.PlanLines.{plan_lines};
+ghost use Rattle.cj_why.specs.reviews.ZoneFor.{zone_for};
 ghost use Rattle.cj_io.specs.declared.zone_files.given.GivenZones.{GivenZones};
 ghost use Rattle.cj_answers.specs.Plan.{IsAskedGlance, IsAskedWhy, IsBeside, IsFormWords, IsPlanOutcome, IsPlannedFor, IsSceneRefusal, now_words, scene_line};
 
@@ -21,9 +21,8 @@ use cj_decide::{Plan, Steps, decide};
 use cj_explain::{explain_fault, look};
 use cj_scenario::{Form, Scene, SceneFault, glance, read_scene};
 use cj_io::{Failure, GivenZones, MOST_BYTES, MOST_READS, ZoneFile, read_input};
-use cj_review::{plan_text, zone_copy, zone_of};
+use cj_why::{plan_text, why, zone_copy, zone_of};
 use cj_types::{CronJob, FieldFault, Job, Seconds, Shared};
-use cj_why::why;
 use cj_args::PlanRequest;
 use cj_zone::{Zone, read_time};
 use std::alloc::{AllocError, Global};

@@ -13,7 +13,7 @@ use crate::given::{given_zones, refused_pair};
 use crate::plan::refused_moment;
 use cj_cluster::{ClusterCron, ClusterList, ItemNote, read_cluster};
 use cj_io::{Failure, ZoneFile, read_input};
-use cj_review::{Reviewed, review};
+use cj_why::{Reviewed, review};
 use cj_types::{Key, Refusal, Seconds, Shared};
 use cj_args::WhyRequest;
 use cj_zone::{ZoneTable, read_time};

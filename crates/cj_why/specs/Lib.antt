@@ -2,3 +2,4 @@ pub mod Since
 pub mod Missed
 pub mod Running
 pub mod Why
+pub mod reviews

@@ -2,8 +2,10 @@
 #![tactic(auto)]
 
 mod missed;
+mod reviews;
 mod running;
 mod since;
 mod start;
 
+pub use reviews::{Reviewed, found, listed, plan_text, review, zone_copy, zone_of};
 pub use start::why;

@@ -5,7 +5,7 @@ use Rattle.cj_types.specs.declared.job.Job.{Job}
 use Rattle.cj_zone.specs.declared.zone.Zone.{Zone}
 use Rattle.cj_zone.specs.Table.{zones_of}
 use Rattle.cj_decide.specs.Decision.{IsDecided, IsPlan, Planned}
-use Rattle.cj_review.specs.ZoneFor.{zone_for}
+use Rattle.cj_why.specs.reviews.ZoneFor.{zone_for}
 use Rattle.cj_answers.proofs.plan.plan_of.Goals as goal
 
 -- a plan is the one of what it rests on

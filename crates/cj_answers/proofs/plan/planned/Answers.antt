@@ -2,7 +2,7 @@
 use Rattle.std.proofs.Common.{◌++◌, ◌∙◌, ap, inr, ℕ, List, string_bytes}
 use Rattle.std.proofs.lemmas.Result.{IfOk-weaker}
 use Rattle.cj_answers.specs.Outcome.{done, explained}
-use Rattle.cj_review.specs.PlanLines.{plan_lines}
+use Rattle.cj_why.specs.reviews.PlanLines.{plan_lines}
 use Rattle.cj_answers.proofs.plan.planned.Goals as goal
 
 pub returns : goal.returns

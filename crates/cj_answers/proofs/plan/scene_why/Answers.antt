@@ -6,7 +6,7 @@ use Rattle.cj_types.specs.declared.cron.CronSpec.{CronSpec}
 use Rattle.cj_types.specs.declared.job.Job.{Job}
 use Rattle.cj_zone.specs.declared.zone.Zone.{Zone}
 use Rattle.cj_zone.specs.Table.{zones_of}
-use Rattle.cj_review.specs.ZoneFor.{zone_for}
+use Rattle.cj_why.specs.reviews.ZoneFor.{zone_for}
 use Rattle.cj_answers.specs.Plan.{IsAskedWhy}
 use Rattle.cj_answers.proofs.plan.scene_why.Goals as goal
 

@@ -1,0 +1,50 @@
+-- What people are told of each CronJob of a cluster: why it starts a Job, or why not.
+use Rattle.std.specs.Prelude.{◌≡◌, ℕ, List, [], ◌∷◌, ◌++◌, codes, Bool, true, false, Option, None, Some}
+use Rattle.cj_types.specs.Keys.{Place}
+use Rattle.cj_zone.specs.declared.zone.Zone.{Zone}
+use Rattle.cj_decide.specs.Decision.{running_of}
+use Rattle.cj_why.specs.Why.{IsWhy}
+use Rattle.cj_cluster.specs.Content.{Content}
+use Rattle.cj_cluster.specs.declared.cron.ClusterCron.{ClusterCron}
+use Rattle.cj_why.specs.reviews.Otherwise.{otherwise_words}
+use Rattle.cj_why.specs.reviews.Review.{IsCronReview}
+use Rattle.cj_why.specs.reviews.Seen.{found}
+use Rattle.cj_why.specs.reviews.ZoneFor.{zone_for}
+
+-- `NAMESPACE/NAME, by the clock of ZONE:`
+-- rule: why-explained
+abbrev pub title_line : Place → List ℕ → List ℕ
+title_line key zone = key.namespace ++ (codes "/" ++ (key.name ++ (codes ", by the clock of " ++ (zone ++ codes ":\n"))))
+
+-- the name of the zone, UTC where none is named
+abbrev pub zone_title : Option (List ℕ) → List ℕ
+zone_title None = codes "UTC"
+zone_title (Some name) = name
+
+-- that line, why, and what Kubernetes' own controller does otherwise
+-- rules: why-explained, why-otherwise
+pub record IsCronWords (zones : List Zone) (content : Content) (now : ℕ) (c : ClusterCron) (text : List ℕ) : Type 0 where
+  pub why : List ℕ
+  pub reason : IsWhy c.cron (zone_for c.cron.spec.time_zone zones) (running_of c.cron (found content c)) now why
+  pub are : text ≡ (title_line c.cron.key (zone_title c.cron.spec.time_zone) ++ why)
+      ++ otherwise_words c.cron (zone_for c.cron.spec.time_zone zones)
+
+-- where people ask for it
+abbrev pub IsAskedWords : Bool → List Zone → Content → ℕ → ClusterCron → List ℕ → Type 0
+IsAskedWords true zones content now c text = IsCronWords zones content now c text
+IsAskedWords false zones content now c text = text ≡ []
+
+-- of one CronJob
+pub record IsOne (explain : Bool) (zones : List Zone) (content : Content) (now : ℕ) (c : ClusterCron) (printed said : List ℕ) : Type 0 where
+  pub lines : IsCronReview zones content now c printed
+  pub words : IsAskedWords explain zones content now c said
+
+-- of CronJobs one after the other: what is printed of them, and what is said to people
+-- rule: why-lines
+abbrev pub IsReview : Bool → List Zone → Content → ℕ → List ClusterCron → List ℕ → List ℕ → Type 0
+IsReview explain zones content now [] printed said = (printed ≡ []) × (said ≡ [])
+IsReview explain zones content now (c ∷ cs) printed said =
+    (one : List ℕ) × (told : List ℕ) × (lines : List ℕ) × (words : List ℕ)
+    × IsOne explain zones content now c one told
+    × IsReview explain zones content now cs lines words
+    × (printed ≡ one ++ lines) × (said ≡ told ++ words)
