@@ -18,3 +18,4 @@ mod numbers;
 mod rows;
 #[cfg(test)]
 mod samples;
+mod times;

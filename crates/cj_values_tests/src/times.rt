@@ -1,6 +1,4 @@
-//! Tests of the values below the stored types, of zones and due times: what no command shows.
-#![tactic(auto)]
-
+// Tests of the values below the stored types, of zones and due times: what no command shows.
 #[cfg(test)]
 mod lower_ends;
 #[cfg(test)]
