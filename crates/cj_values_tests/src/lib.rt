@@ -12,6 +12,7 @@ mod jobs;
 mod keys;
 #[cfg(test)]
 mod made;
+mod manifests;
 #[cfg(test)]
 mod numbers;
 #[cfg(test)]

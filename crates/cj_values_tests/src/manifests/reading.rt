@@ -1,4 +1,4 @@
-use crate::answers::{cron_answer, job_answer, zones};
+use crate::manifests::answers::{cron_answer, job_answer, zones};
 use cj_manifest::read_cronjob;
 use cj_types::{CronSpec, Refusal};
 use cj_zone::ZoneTable;
