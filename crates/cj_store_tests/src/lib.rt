@@ -22,3 +22,4 @@ mod random;
 mod rows;
 #[cfg(test)]
 mod told;
+mod watch;

@@ -1,5 +1,5 @@
-use crate::boxed::boxed;
-use crate::events::{event, job};
+use crate::watch::boxed::boxed;
+use crate::watch::events::{event, job};
 use cj_watch::{Mirror, WatchLog, Window};
 use cj_types::{Job, Key, Max, Refusal, Shared};
 use std::alloc::Global;

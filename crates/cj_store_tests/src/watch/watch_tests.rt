@@ -1,4 +1,4 @@
-use crate::events::{event, tag_of};
+use crate::watch::events::{event, tag_of};
 use cj_types::{Event, Max, Refusal, Version};
 use cj_watch::{WatchLog, Window, version_of};
 use std::alloc::Global;
