@@ -1,1 +1,2 @@
+mod QueueLemmas
 mod WatchLemmas

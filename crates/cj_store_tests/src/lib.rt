@@ -16,6 +16,7 @@ mod listed;
 mod plain;
 #[cfg(test)]
 mod planned;
+mod queue;
 #[cfg(test)]
 mod random;
 #[cfg(test)]

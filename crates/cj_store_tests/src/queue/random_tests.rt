@@ -1,6 +1,6 @@
-use crate::boxed::boxed;
-use crate::calls::{Call, Kind, ask, eight_keys, number_of};
-use crate::plain::Plain;
+use crate::queue::boxed::boxed;
+use crate::queue::calls::{Call, Kind, ask, eight_keys, number_of};
+use crate::queue::plain::Plain;
 use cj_queue::Queue;
 use cj_types::{Key, Refusal};
 use std::alloc::Global;

@@ -1,5 +1,5 @@
-use crate::boxed::boxed;
-use crate::calls::{Call, Kind, ask, eight_keys, tick};
+use crate::queue::boxed::boxed;
+use crate::queue::calls::{Call, Kind, ask, eight_keys, tick};
 use cj_queue::Queue;
 use cj_types::{Key, Refusal};
 use std::alloc::Global;

@@ -1,6 +1,4 @@
-//! Tests of the work queue: worked rows, and thousands of calls beside plain lists.
-#![tactic(auto)]
-
+// Tests of the work queue: worked rows, and thousands of calls beside plain lists.
 #[cfg(test)]
 mod boxed;
 #[cfg(test)]

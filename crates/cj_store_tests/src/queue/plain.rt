@@ -1,4 +1,4 @@
-use crate::calls::{Call, Kind};
+use crate::queue::calls::{Call, Kind};
 use std::alloc::{AllocError, Global};
 
 // The queue in plain lists, by the numbers of eight keys.
