@@ -9,8 +9,8 @@ use crate::answer::Answer;
 use crate::json::json_words;
 use crate::lines::print_fault;
 use cj_base::FieldFault;
-use cj_explain::explain_fault;
 use cj_cluster::{ItemNote, ListFault, Said};
+use cj_explain::explain_fault;
 use cj_io::Failure;
 use std::alloc::{AllocError, Global};
 

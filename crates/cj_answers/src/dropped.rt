@@ -4,8 +4,8 @@ ghost use Rattle.serde_json.specs.View.{view};
 ghost use Rattle.cj_answers.specs.Dropped.{IsAskedDropped, IsDropped, dropped_in};
 
 use crate::advice::all_dropped_words;
-use cj_manifest::{cron_warnings, present};
 use cj_io::Failure;
+use cj_manifest::{cron_warnings, present};
 use cj_scenario::{SceneFault, value_of};
 use serde_json::Value;
 use std::alloc::Global;

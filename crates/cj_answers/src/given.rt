@@ -6,8 +6,8 @@ ghost use Rattle.cj_answers.specs.Given.{AreGiven, IsNoneGiven, IsReadUnder, pai
 ghost use Rattle.cj_answers.specs.Outcome.{explained, outcome_of, refusal};
 
 use crate::answer::Answer;
-use cj_io::{Failure, GivenZones, Refused, ZoneFile, table_with};
 use cj_args::ZoneWords;
+use cj_io::{Failure, GivenZones, Refused, ZoneFile, table_with};
 use cj_zone::ZoneTable;
 use std::alloc::Global;
 

@@ -10,11 +10,11 @@ ghost use Rattle.cj_answers.specs.Outcome.{IsLookedUp, IsNextOutcome, IsNextZone
 
 use crate::answer::{Answer, Ending};
 use crate::next_text::next_text;
+use cj_args::NextRequest;
 use cj_base::{Refusal, ScheduleFault};
 use cj_explain::explain_schedule;
 use cj_io::{Failure, ZoneFile, table_with};
 use cj_schedule::Schedule;
-use cj_args::NextRequest;
 use cj_zone::{ZoneTable, read_time};
 use std::alloc::{AllocError, Global};
 

@@ -8,13 +8,13 @@ mod told;
 mod writing;
 
 pub use cj_answers::{MOST_LIST_BYTES, MOST_LIST_READS};
-pub use cj_io::{
-    Failure, FileBytes, MOST_READS, ZoneFile, is_file_name, read_input, tell_failure, zones_named,
-};
-pub use cj_types::Text;
 pub use cj_args::{
     AuditRequest, CheckRequest, NextRequest, PlanRequest, ReplayRequest, Request, RunRequest,
     WhyRequest, WordFault, ZoneWords, parse_words,
 };
+pub use cj_io::{
+    Failure, FileBytes, MOST_READS, ZoneFile, is_file_name, read_input, tell_failure, zones_named,
+};
+pub use cj_types::Text;
 pub use serving::serve;
 pub use told::tell_fault;

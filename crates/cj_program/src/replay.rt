@@ -9,11 +9,11 @@ ghost use Rattle.cj_program.specs.Writing.{FailsReplay};
 
 use crate::serving::give_answer;
 use cj_answers::{given_for, refused_pair, refused_scene};
-use cj_scenario::Form;
+use cj_args::ReplayRequest;
 use cj_io::{Failure, GivenZones, MOST_BYTES, MOST_READS, ZoneFile, read_input, tell_failure};
 use cj_replay::replay;
+use cj_scenario::Form;
 use cj_script::{Script, read_script};
-use cj_args::ReplayRequest;
 use std::alloc::Global;
 use std::io::{Read, Write};
 

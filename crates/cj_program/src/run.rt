@@ -6,11 +6,11 @@ ghost use Rattle.cj_answers.specs.Outcome.{done, explained, outcome_of};
 ghost use Rattle.cj_program.specs.Run.{IsRanOf, IsRunOutcome};
 
 use cj_answers::{Answer, Ending, asked_glance, given_for, refused_pair, refused_scene};
-use cj_script::{Course, read_course};
-use cj_scenario::Form;
+use cj_args::RunRequest;
 use cj_io::{Failure, GivenZones, MOST_BYTES, MOST_READS, ZoneFile, read_input};
 use cj_run::run_course;
-use cj_args::RunRequest;
+use cj_scenario::Form;
+use cj_script::{Course, read_course};
 use std::alloc::{AllocError, Global};
 use std::io::Read;
 use std::sync::Wait;

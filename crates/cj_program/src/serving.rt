@@ -11,8 +11,8 @@ use crate::writing::give;
 use cj_answers::{
     Answer, Ending, audit_answer, check_answer, next_answer, plan_answer, why_answer,
 };
-use cj_io::{Failure, ZoneFile, tell_failure};
 use cj_args::Request;
+use cj_io::{Failure, ZoneFile, tell_failure};
 use std::alloc::Global;
 use std::io::{Read, Write};
 use std::sync::Wait;

@@ -4,8 +4,8 @@ ghost use Rattle.std.specs.Io.KnownBytes.{Appends};
 ghost use Rattle.cj_program.specs.Told.{Telling, Tells, TellsOf, telling_of};
 
 use crate::writing::give;
-use cj_io::{Failure, tell_failure};
 use cj_args::WordFault;
+use cj_io::{Failure, tell_failure};
 use clap::Error;
 use std::alloc::{AllocError, Global};
 use std::io::Write;

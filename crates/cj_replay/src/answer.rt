@@ -7,10 +7,10 @@ ghost use Rattle.cj_state.specs.Legal as legal;
 ghost use Rattle.cj_replay.specs.snapshots.Remembered.{Remembers};
 ghost use Rattle.cj_replay.specs.Runs as said;
 
+use crate::snapshots::Sights;
 use cj_calls::{Answer, Call, Caller};
 use cj_report::step_line;
 use cj_script::Step;
-use crate::snapshots::Sights;
 use cj_types::{Heap, Refusal};
 use cj_world::World;
 use std::alloc::Global;

@@ -8,9 +8,9 @@ ghost use Rattle.cj_replay.specs.snapshots.Sights.{seen_of};
 ghost use Rattle.cj_replay.specs.Calls.{IsCallOf, IsClaim, IsEnd, IsUidOf, IsUnseenCall};
 ghost use Rattle.cj_replay.specs.Runs.{job_at, jobs_in};
 
-use cj_script::{Act, Step};
-use cj_calls::{Call, End};
 use crate::snapshots::{Sight, Sights, plan_for, reasons_for};
+use cj_calls::{Call, End};
+use cj_script::{Act, Step};
 use cj_types::{Heap, Job, Key, Outcome, Refusal, Seconds, Shared, TryCopy, Uid};
 use cj_world::World;
 use cj_zone::ZoneTable;

@@ -6,8 +6,8 @@ ghost use Rattle.cj_replay.specs.Runs.{Plays};
 
 use crate::answer::{answer_to, is_full, line_of, note};
 use crate::call::step_call;
-use cj_script::Step;
 use crate::snapshots::Sights;
+use cj_script::Step;
 use cj_types::Refusal;
 use cj_world::World;
 use cj_zone::ZoneTable;

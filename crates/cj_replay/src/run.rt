@@ -8,9 +8,9 @@ ghost use Rattle.cj_replay.specs.Printing.{BreaksOff, CutsReport, HasPlayed, Pri
 
 use crate::play::play;
 use crate::report::world_report;
+use crate::snapshots::Sights;
 use cj_io::{Failure, Pending};
 use cj_script::{Script, Step};
-use crate::snapshots::Sights;
 use cj_world::World;
 use cj_zone::ZoneTable;
 use std::alloc::Global;

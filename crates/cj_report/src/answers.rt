@@ -4,8 +4,8 @@ ghost use Rattle.cj_base.specs.declared.refusal.Refusal.TheVariants.{OutOfMemory
 ghost use Rattle.cj_report.specs.Answers as said;
 
 use crate::words::refusal_name;
-use cj_script::{Plain, Verb};
 use cj_calls::{Answer, Reply};
+use cj_script::{Plain, Verb};
 use cj_types::{Job, Key, Refusal, Seconds, Shared, Version};
 use cj_zone::time_text;
 use std::alloc::Global;

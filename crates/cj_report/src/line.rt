@@ -5,8 +5,8 @@ ghost use Rattle.cj_report.specs.Lines as said;
 
 use crate::answers::answer_text;
 use crate::words::verb_word;
-use cj_script::Verb;
 use cj_calls::Answer;
+use cj_script::Verb;
 use cj_types::Refusal;
 use std::alloc::Global;
 

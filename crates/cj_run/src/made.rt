@@ -5,9 +5,9 @@ ghost use Rattle.cj_base.specs.declared.refusal.Refusal.TheVariants.{OutOfMemory
 ghost use Rattle.cj_run.specs.Made.{counted, made_before, no_notes, noted, noted_all, notes, seen, with_run};
 
 use cj_base::{Refusal, Text, TryCopy};
-use cj_script::{Run, Runs};
 use cj_informer::owner_key;
 use cj_runner::Running;
+use cj_script::{Run, Runs};
 use cj_table::Table;
 use cj_types::{Job, Key, Seconds, Shared};
 use std::alloc::Global;

@@ -3,10 +3,10 @@ ghost use Rattle.std.specs.Prelude.{OnOk, [], ◌∷◌};
 ghost use Rattle.cj_run.specs.Courses.{creation, creations, edits_at};
 ghost use Rattle.cj_run.specs.Deeds.{Called, Does};
 
-use cj_script::{Act, Edit};
 use cj_calls::Call;
 use cj_hub::{Hub, Pass};
 use cj_replay::unseen_call;
+use cj_script::{Act, Edit};
 use cj_types::{CronJobDraft, Refusal, Seconds, Shared, TryCopy};
 use cj_zone::ZoneTable;
 use std::alloc::Global;

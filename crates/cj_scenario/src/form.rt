@@ -9,9 +9,9 @@ use crate::fault::SceneFault;
 use crate::given::{GivenJob, jobs_of};
 use crate::times::{maybe_time_at, present, time_at};
 use crate::zones::table_of;
+use cj_io::GivenZones;
 use cj_types::Seconds;
 use cj_zone::ZoneTable;
-use cj_io::GivenZones;
 use serde_json::Value;
 use std::alloc::Global;
 

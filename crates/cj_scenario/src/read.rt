@@ -18,10 +18,10 @@ use crate::live::{found_of, live_jobs, names_of};
 use crate::made::{scene_cron, scene_jobs};
 use crate::scene::Scene;
 use cj_base::both;
+use cj_io::GivenZones;
 use cj_manifest::cron_of;
 use cj_types::{CronJob, CronJobDraft, Job, Listing, Names, Refusal, Shared};
 use cj_zone::ZoneTable;
-use cj_io::GivenZones;
 use serde_json::Value;
 use std::alloc::Global;
 

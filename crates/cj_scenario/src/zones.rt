@@ -7,9 +7,9 @@ ghost use Rattle.cj_manifest.specs.Members.{unless_null};
 ghost use Rattle.cj_scenario.specs.Scenes as form;
 
 use crate::fault::SceneFault;
+use cj_io::{GivenZones, add_files};
 use cj_types::Refusal;
 use cj_zone::ZoneTable;
-use cj_io::{GivenZones, add_files};
 use serde_json::{Map, Value};
 
 // The zone of a rule more, at the end.

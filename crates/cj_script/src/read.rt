@@ -9,14 +9,14 @@ ghost use Rattle.cj_script.specs.Scripts.{IsScript, IsRefusedScript, IsRefusedVa
 
 use crate::callers::callers_at;
 use crate::limits::limits_at;
+use crate::operations::present;
 use crate::script::Script;
 use crate::step::Step;
 use crate::steps::steps_of;
-use crate::operations::present;
+use cj_io::GivenZones;
 use cj_scenario::{SceneFault, table_of, value_of};
 use cj_types::Limits;
 use cj_zone::ZoneTable;
-use cj_io::GivenZones;
 use serde_json::Value;
 use std::alloc::Global;
 

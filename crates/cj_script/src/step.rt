@@ -8,8 +8,8 @@ ghost use Rattle.cj_scenario.specs.declared.fault.SceneFault.TheVariants.{Memory
 ghost use Rattle.cj_script.specs.Steps as said;
 
 use crate::callers::{Named, caller_named};
-use crate::writes::write_act;
 use crate::operations::{Act, Verb, plain_act, present, verb_named};
+use crate::writes::write_act;
 use cj_base::{Shared, Text};
 use cj_calls::Caller;
 use cj_scenario::SceneFault;

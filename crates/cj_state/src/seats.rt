@@ -1,8 +1,8 @@
 ghost use Rattle.std.specs.Prelude.{◌≡◌, IfOk, IfErr};
 ghost use Rattle.cj_base.specs.declared.refusal.Refusal.TheVariants.{OutOfMemory};
 
-use cj_base::both;
 use crate::phases::{Phase, Seat};
+use cj_base::both;
 use cj_types::{Heap, Key, Refusal, TryCopy};
 use std::alloc::Global;
 

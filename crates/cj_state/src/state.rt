@@ -5,12 +5,12 @@ ghost use Rattle.cj_base.specs.declared.refusal.Refusal.TheVariants.{OutOfMemory
 ghost use Rattle.cj_store.specs.Change.{IsFor};
 ghost use Rattle.cj_types.specs.Events.{version_of};
 
-use cj_calls::Answered;
-use cj_watch::{Mirror, WatchLog};
-use cj_queue::Queue;
 use crate::phases::{Seat, Seats};
+use cj_calls::Answered;
+use cj_queue::Queue;
 use cj_store::{Change, Store};
 use cj_types::{Heap, Refusal, TryCopy};
+use cj_watch::{Mirror, WatchLog};
 use std::alloc::Global;
 
 /// What a world holds beside its history: the objects, the events of the latest writes, the Jobs as lists

@@ -6,8 +6,8 @@ ghost use Rattle.cj_state.specs.Moves.{moved};
 ghost use Rattle.cj_state.specs.Step.{step_of};
 
 use crate::api::{by_informer, by_runner, by_user};
-use cj_calls::{Answered, Call, Caller, Role};
 use crate::worker::by_worker;
+use cj_calls::{Answered, Call, Caller, Role};
 use cj_state::State;
 use cj_types::Refusal;
 use std::alloc::Global;

@@ -12,12 +12,12 @@ ghost use Rattle.cj_world.specs.Worlds.{Applied, Entered, IsAtRest, receipts_of,
 use crate::advance::{Made, advance};
 use cj_base::both;
 use cj_calls::{Answer, Call, Caller, Entry};
-use cj_world_laws::{exclusive_law, once_law, time_law};
-use cj_watch::{Mirror, WatchLog, Window};
 use cj_queue::Queue;
 use cj_state::{Seats, State};
 use cj_store::Store;
 use cj_types::{CronJob, Job, Key, Limits, Listing, Refusal, Shared, Version};
+use cj_watch::{Mirror, WatchLog, Window};
+use cj_world_laws::{exclusive_law, once_law, time_law};
 use std::alloc::Global;
 use std::marker::Model;
 

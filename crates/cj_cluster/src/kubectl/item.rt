@@ -10,10 +10,10 @@ ghost use Rattle.cj_types.specs.Keys.{fault_of};
 ghost use Rattle.cj_cluster.specs.declared.kubectl.item.Item.TheVariants as Read;
 ghost use Rattle.cj_cluster.specs.kubectl.Reading.{IsItem, IsKindItem, kind_field};
 
+use crate::cron::ClusterCron;
 use crate::kubectl::crons::cron_item;
 use crate::kubectl::faults::fault;
 use crate::kubectl::runs::job_item;
-use crate::cron::ClusterCron;
 use crate::times::JobTimes;
 use cj_manifest::{present, text};
 use cj_types::{Cause, Field, FieldFaults, Job, Refusal, Shared, Text, Uid};

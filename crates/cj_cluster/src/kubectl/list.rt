@@ -4,10 +4,10 @@ ghost use Rattle.cj_base.specs.declared.refusal.Refusal.TheVariants.{OutOfMemory
 ghost use Rattle.cj_cluster.specs.kubectl.Reading.{adds, adds_cron, adds_job, noted, start, taken};
 ghost use Rattle.std.specs.FinMap as map;
 
-use crate::kubectl::item::Item;
-use crate::kubectl::notes::{ItemNote, ItemNotes, Said};
 use crate::cluster::Cluster;
 use crate::cron::ClusterCron;
+use crate::kubectl::item::Item;
+use crate::kubectl::notes::{ItemNote, ItemNotes, Said};
 use crate::times::JobTimes;
 use cj_types::{Cause, Field, FieldFault, FieldFaults, Job, Refusal, Shared};
 use std::alloc::Global;

@@ -5,9 +5,9 @@ ghost use Rattle.cj_manifest.specs.Drafts.{given, value_or};
 ghost use Rattle.cj_cluster.specs.kubectl.Finishes.{finish_of};
 ghost use Rattle.cj_cluster.specs.kubectl.Objects.{cron_made, job_made, meta_made, outcome_at, outcome_of};
 
+use crate::cron::ClusterCron;
 use crate::kubectl::conditions::{Ending, FinishAt};
 use crate::kubectl::times::CronTimes;
-use crate::cron::ClusterCron;
 use cj_manifest::JobHead;
 use cj_types::{
     CronJob, CronJobDraft, CronStatus, DraftMeta, Job, Labels, Meta, Names, Outcome, Refusal,

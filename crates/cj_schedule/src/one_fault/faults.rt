@@ -4,8 +4,8 @@ ghost use Rattle.cj_schedule.specs.Grammar.{IsSchedule};
 ghost use Rattle.cj_schedule.specs.Matches.{Sets};
 ghost use Rattle.cj_schedule.specs.one_fault.OneFault.{IsFaultOf, NoTwoFaults, FaultyIsNoSchedule, ToldIsFault};
 
-use cj_base::ScheduleFault;
 use crate::schedule::Schedule;
+use cj_base::ScheduleFault;
 
 /// No text has two faults, a text that has one is no schedule, and the fault by which a text is refused is
 /// the one that it has.

@@ -1,6 +1,6 @@
+use crate::operations::Act;
 use crate::simulation::runs::Runs;
 use crate::simulation::span::Span;
-use crate::operations::Act;
 use cj_types::{CronJobDraft, Seconds, Shared};
 use cj_zone::ZoneTable;
 

@@ -7,10 +7,10 @@ ghost use Rattle.cj_zone.specs.Table.{zones_of};
 ghost use Rattle.cj_scenario.specs.declared.fault.SceneFault.TheVariants.{Memory};
 ghost use Rattle.cj_script.specs.simulation.Edits.{edit_of, edits_in, instant_in};
 
-use crate::simulation::course::Edit;
-use crate::simulation::span::Span;
 use crate::lists::{Reads, list_of};
 use crate::operations::{present, time_at};
+use crate::simulation::course::Edit;
+use crate::simulation::span::Span;
 use crate::step::{Deed, deed_of};
 use cj_scenario::SceneFault;
 use cj_types::Seconds;

@@ -9,6 +9,7 @@ ghost use Rattle.cj_script.specs.Lists.{fault_after};
 ghost use Rattle.cj_script.specs.simulation.Courses.{IsCourse, IsRefusedCourse, IsRefusedValue, Says, lists_in, told, told_in};
 ghost use Rattle.cj_script.specs.simulation.Edits.{edits_in};
 
+use crate::operations::present;
 use crate::simulation::course::{Course, Edit};
 use crate::simulation::edits::edits_at;
 use crate::simulation::run_lists::runs_at;
@@ -16,11 +17,10 @@ use crate::simulation::runs::Runs;
 use crate::simulation::seeds::crons_at;
 use crate::simulation::span::Span;
 use crate::simulation::times::span_at;
-use crate::operations::present;
+use cj_io::GivenZones;
 use cj_scenario::{SceneFault, table_of, value_of};
 use cj_types::{CronJobDraft, FieldFault, Shared};
 use cj_zone::ZoneTable;
-use cj_io::GivenZones;
 use serde_json::Value;
 use std::alloc::Global;
 

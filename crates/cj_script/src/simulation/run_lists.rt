@@ -6,9 +6,9 @@ ghost use Rattle.cj_manifest.specs.Members.{unless_null};
 ghost use Rattle.cj_base.specs.declared.refusal.Refusal.TheVariants.{OutOfMemory};
 ghost use Rattle.cj_script.specs.simulation.RunLists as said;
 
+use crate::operations::{key_of, number_at, present};
 use crate::simulation::run::{Run, RunEnd};
 use crate::simulation::runs::Runs;
-use crate::operations::{key_of, number_at, present};
 use cj_base::Refusal;
 use cj_types::{Key, Listing};
 use serde_json::{Map, Value};

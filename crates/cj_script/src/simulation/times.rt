@@ -3,9 +3,9 @@ ghost use Rattle.std.specs.Prelude.{◌≡◌};
 ghost use Rattle.serde_json.specs.View.{view};
 ghost use Rattle.cj_script.specs.simulation.Times as said;
 
-use crate::simulation::span::Span;
 use crate::limits::number_or;
 use crate::operations::{present, time_at};
+use crate::simulation::span::Span;
 use serde_json::Value;
 
 /// The clock of a run: from `start` to `end` by `stepSeconds`, 60 where that is missing.

@@ -1,7 +1,7 @@
 use crate::watch::boxed::boxed;
 use crate::watch::events::{event, job};
-use cj_watch::{Mirror, WatchLog, Window};
 use cj_types::{Job, Key, Max, Refusal, Shared};
+use cj_watch::{Mirror, WatchLog, Window};
 use std::alloc::Global;
 
 // Which of the two Jobs stand after a write of this tag, by what stood before.

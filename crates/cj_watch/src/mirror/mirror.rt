@@ -5,9 +5,9 @@ ghost use Rattle.cj_watch.specs.Numbers.{IsNumbered};
 ghost use Rattle.cj_watch.specs.mirror.Lagging.{new_mirror, fed_with, reset_to};
 
 use crate::mirror::telling::{list_jobs, tell_all};
+use crate::number::version_of;
 use cj_table::Jobs;
 use cj_types::{Event, Job, Key, Listing, Refusal, Shared, Version, copy_all};
-use crate::number::version_of;
 use std::alloc::Global;
 use std::marker::Model;
 

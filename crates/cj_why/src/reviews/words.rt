@@ -12,9 +12,9 @@ ghost use Rattle.cj_why.specs.reviews.Words.{IsAskedWords, IsCronWords, title_li
 use crate::reviews::otherwise::otherwise_words;
 use crate::reviews::seen::found;
 use crate::reviews::zone_for::zone_of;
+use crate::start::why;
 use cj_cluster::{Cluster, ClusterCron};
 use cj_types::{CronJob, Job, Key, Refusal, Seconds, Shared, Text};
-use crate::start::why;
 use cj_zone::ZoneTable;
 use std::alloc::Global;
 

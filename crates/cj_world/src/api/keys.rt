@@ -13,10 +13,10 @@ ghost use Rattle.cj_state.specs.Step.{add, tick, shut, feed};
 
 use cj_base::both;
 use cj_calls::{Answered, Reply};
-use cj_watch::{Mirror, WatchLog};
 use cj_state::State;
 use cj_store::Store;
 use cj_types::{Event, Job, Key, Listing, Max, Millis, Refusal, Shared};
+use cj_watch::{Mirror, WatchLog};
 use std::alloc::Global;
 
 /// Adds a key to the queue.

@@ -9,10 +9,10 @@ ghost use Rattle.cj_state.specs.Moves.{see_cron, see_jobs, see_active, moved};
 use crate::worker::active::active_of;
 use cj_base::{all_three, both};
 use cj_calls::{Answered, Reply};
-use cj_watch::Mirror;
 use cj_state::{Phase, Seat, State, refused, seat_in};
 use cj_store::Store;
 use cj_types::{CronJob, Heap, Job, Key, Listing, Refusal, Shared, TryCopy};
+use cj_watch::Mirror;
 use std::alloc::Global;
 
 fn cron_at(alloc: Global, store: &Store, key: &Key) -> Result<Option<Shared<CronJob>>, Refusal>

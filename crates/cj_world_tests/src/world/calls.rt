@@ -1,7 +1,7 @@
 // The call of a step.
-use cj_script::Act;
 use cj_calls::Call;
 use cj_decide::{Plan, decide};
+use cj_script::Act;
 use cj_types::{Job, Key, Listing, Outcome, Reasons, Refusal, Seconds, Shared, TryCopy, Uid};
 use std::alloc::Global;
 

@@ -3,12 +3,12 @@ use crate::world::calls::call_of;
 use crate::world::script::{SCRIPT, WANTED};
 use cj_calls::{Answer, Call, Entry, same_answer};
 use cj_decide::{fits_law, plan_laws};
+use cj_io::GivenZones;
 use cj_report::step_line;
 use cj_script::{Script, Step, read_script};
 use cj_types::{Limits, Refusal, Same};
 use cj_world::World;
 use cj_zone::ZoneTable;
-use cj_io::GivenZones;
 use std::alloc::Global;
 
 type Entered = Result<(Entry, Entry), Refusal>;
