@@ -2,20 +2,20 @@
 use Rattle.std.proofs.Common.{◌≡◌, ◌∙◌, ◌+◌, ◌<◌, ◌≤◌, ℕ, List, [], ◌∷◌, length, map, drop, get_or, refl, sym, ap, subst, inl, inr, true, false, Bool, not, cond, arith, drop_of_length-le}
 use Rattle.std.proofs.lemmas.List.{get_or_default}
 use Rattle.std.specs.Borrow.{Bor}
-use Rattle.cj_judge.specs.Judged.{AddsLine, AddsLines, AddsRow, Count}
-use Rattle.cj_judge.specs.Row.{is_comment, rows_in}
-use Rattle.cj_judge.proofs.Words.{rest_at}
+use Rattle.cj_rows.specs.Golden.{AddsLine, AddsLines, AddsRow, Count}
+use Rattle.cj_rows.specs.Row.{is_comment, rows_in}
+use Rattle.cj_rows.proofs.Words.{rest_at}
 
 -- what goes on from here goes on from the start
 pub record Follows (file : List ℕ) (all : List (List ℕ)) (first : Count) (line : ℕ) (rest : List
     (List ℕ)) (here : Count) : Type 0 where
   pub whole : (last : Count) → AddsLines file line rest here last → AddsLines file 1 all first last
 
--- For judge_lines: before the first line nothing has been counted.
+-- For check_lines: before the first line nothing has been counted.
 pub follows_start : (file : List ℕ) (all : List (List ℕ)) (first : Count) → Follows file all first 1 all first
 follows_start file all first = record { whole = λ last h. h }
 
--- For follows_text: with a line judged and counted, the count goes on at the next line.
+-- For follows_text: with a line checked and counted, the count goes on at the next line.
 follows_line : (file : List ℕ) (all : List (List ℕ)) (first : Count) (line : ℕ) (text : List ℕ) (rest : List (List ℕ))
     (here next : Count)
     → Follows file all first line (text ∷ rest) here → AddsLine file line text here next
@@ -36,7 +36,7 @@ follows_text file texts first i d here next inside follows adds =
     (subst (λ l. Follows file (map (λ s. s.now) texts) first (i + 1) (map (λ s. s.now) l) here)
     (rest_at texts i x inside (get_or_default texts i d x inside)) follows) adds
 
--- For judge_lines: where no line is left, the count is that of all lines.
+-- For check_lines: where no line is left, the count is that of all lines.
 pub follows_end : (file : List ℕ) (texts : List (Bor (List ℕ))) (first : Count) (i line : ℕ) (here : Count)
     → length texts ≤ i
     → Follows file (map (λ s. s.now) texts) first line (map (λ s. s.now) (drop i texts)) here

@@ -6,7 +6,7 @@ use Rattle.cj_answers.specs.Outcome.{Outcome, status_of}
 use Rattle.cj_program.specs.Told.{Telling, Tells}
 use Rattle.cj_args.specs.declared.request.Request.{Request}
 use Rattle.cj_args.specs.declared.word_fault.WordFault.{WordFault}
-use Rattle.cj_judge.specs.declared.run.Seen.{Seen}
+use Rattle.cj_rows.specs.declared.run.Seen.{Seen}
 
 -- the status, and the bytes on standard output and on standard error
 pub record Given : Type 0 where

@@ -6,7 +6,7 @@ use Rattle.serde_json.specs.Data.{Data, Items, no_items, item}
 use Rattle.serde_json.specs.Find.{as_str}
 use Rattle.serde_json.specs.View.{items_view, view}
 use Rattle.serde_json.specs.declared.value.Value.{Value}
-use Rattle.cj_judge.specs.Row.{AddsWord, texts_in}
+use Rattle.cj_rows.specs.Row.{AddsWord, texts_in}
 
 -- the texts so far and those of the rest are those of all
 pub record Goes (ds : Items) (done : List (List ℕ)) (rest : Items) : Type 0 where

@@ -1,8 +1,8 @@
--- How rows are judged and counted.
+-- How rows are checked and counted.
 use Rattle.std.specs.Prelude.{◌≡◌, ◌⊎◌, ℕ, ◌+◌, List, [], ◌∷◌, ◌++◌, codes, decimal, true, false}
-use Rattle.cj_judge.specs.Row.{IsRowLine, Stated, is_comment}
-use Rattle.cj_judge.specs.Run.{Given, IsRun}
-use Rattle.cj_judge.specs.declared.tally.Tally.{Tally}
+use Rattle.cj_rows.specs.Row.{IsRowLine, Stated, is_comment}
+use Rattle.cj_rows.specs.Run.{Given, IsRun}
+use Rattle.cj_rows.specs.declared.tally.Tally.{Tally}
 
 -- a run is as its row wants it where all three are
 -- rule: rows

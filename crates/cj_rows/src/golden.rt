@@ -1,10 +1,10 @@
-// Judging the lines of a file.
+// Checking the lines of a file.
 ghost use Rattle.std.specs.Prelude.{◌≡◌, ◌+◌, map, length, IfOk, IfErr, OnOk};
 ghost use Rattle.std.specs.Str.Lines.{lines as lines_in};
 ghost use Rattle.serde_json.specs.View.{view};
 ghost use Rattle.serde_json.specs.Read.{read as read_text};
-ghost use Rattle.cj_judge.specs.Judged.{AddsLine, AddsLines, AddsRow, count_of};
-ghost use Rattle.cj_judge.specs.Row.{Refuses, is_comment, rows_in};
+ghost use Rattle.cj_rows.specs.Golden.{AddsLine, AddsLines, AddsRow, count_of};
+ghost use Rattle.cj_rows.specs.Row.{Refuses, is_comment, rows_in};
 
 use crate::fault::{Fault, Misread};
 use crate::row::row_of;
@@ -27,7 +27,7 @@ fn value_of(alloc: Global, text: &str) -> Result<Value, Fault>
 }
 
 // Runs a line as a row, and counts it.
-fn judge_row<T: Threads + Wait + Sync>(
+fn check_row<T: Threads + Wait + Sync>(
     rt: &T,
     alloc: Global,
     tally: &mut Tally,
@@ -44,8 +44,8 @@ fn judge_row<T: Threads + Wait + Sync>(
     add_run(alloc, tally, file, line, &row, &seen)
 }
 
-// Judges a line that isn't a comment.
-fn judge_line<T: Threads + Wait + Sync>(
+// Checks a line that isn't a comment.
+fn check_line<T: Threads + Wait + Sync>(
     rt: &T,
     alloc: Global,
     tally: &mut Tally,
@@ -59,7 +59,7 @@ fn judge_line<T: Threads + Wait + Sync>(
     if is_comment_line(text) {
         Ok(())
     } else {
-        judge_row(rt, alloc, tally, file, line, text)
+        check_row(rt, alloc, tally, file, line, text)
     }
 }
 
@@ -69,22 +69,22 @@ fn is_comment_line(text: &str) -> bool
     text.as_bytes().first() == Some(&b'#')
 }
 
-// Judges lines one after another, the first of them with number 1.
-fn judge_lines<T: Threads + Wait + Sync>(
+// Checks lines one after another, the first of them with number 1.
+fn check_lines<T: Threads + Wait + Sync>(
     rt: &T,
     alloc: Global,
     tally: &mut Tally,
     file: &str,
     lines: &[&str],
 ) -> Result<(), Misread>
-    ensures judged { OnOk result (AddsLines file.now 1 (map (λ s. s.now) lines.now)
+    ensures checked { OnOk result (AddsLines file.now 1 (map (λ s. s.now) lines.now)
         (count_of tally.old) (count_of tally.new)) }
     ensures all { OnOk result (tally.new.ran ≡ tally.old.ran
         + length (rows_in (map (λ s. s.now) lines.now))) }
 {
     for index in 0..lines.len() {
         let line = index + 1;
-        if let Err(fault) = judge_line(rt, alloc, tally, file, line, lines[index]) {
+        if let Err(fault) = check_line(rt, alloc, tally, file, line, lines[index]) {
             return Err(Misread { line, fault });
         }
     }
@@ -97,21 +97,21 @@ fn lines_of<'t>(alloc: Global, text: &'t str) -> Result<Vec<&'t str>, AllocError
     text.lines().collect(alloc)
 }
 
-/// Judges every line of a text that isn't a comment, and counts it.
-pub fn judge_text<T: Threads + Wait + Sync>(
+/// Checks every line of a text that isn't a comment, and counts it.
+pub fn check_text<T: Threads + Wait + Sync>(
     rt: &T,
     alloc: Global,
     tally: &mut Tally,
     file: &str,
     text: &str,
 ) -> Result<(), Misread>
-    ensures judged { OnOk result (AddsLines file.now 1 (lines_in text.now) (count_of tally.old)
+    ensures checked { OnOk result (AddsLines file.now 1 (lines_in text.now) (count_of tally.old)
         (count_of tally.new)) }
     ensures all { OnOk result (tally.new.ran ≡ tally.old.ran
         + length (rows_in (lines_in text.now))) }
 {
     match lines_of(alloc, text) {
-        Ok(lines) => judge_lines(rt, alloc, tally, file, lines.as_slice()),
+        Ok(lines) => check_lines(rt, alloc, tally, file, lines.as_slice()),
         Err(_) => Err(Misread {
             line: 0,
             fault: Fault::Memory,

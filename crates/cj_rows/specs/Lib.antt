@@ -1,3 +1,3 @@
 pub mod Row
 pub mod Run
-pub mod Judged
+pub mod Golden

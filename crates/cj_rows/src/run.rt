@@ -1,8 +1,8 @@
 // Running a row.
 ghost use Rattle.std.specs.Prelude.{◌≡◌, ◌⊎◌, map, None, Some, IfOk, OnOk, codes};
 ghost use Rattle.cj_args.specs.Command.{file_of};
-ghost use Rattle.cj_judge.specs.Row.{stated_of};
-ghost use Rattle.cj_judge.specs.Run.{IsAnswered, IsRun, IsRunOf, IsToldOf, given_of};
+ghost use Rattle.cj_rows.specs.Row.{stated_of};
+ghost use Rattle.cj_rows.specs.Run.{IsAnswered, IsRun, IsRunOf, IsToldOf, given_of};
 
 use crate::fault::Fault;
 use crate::row::Row;

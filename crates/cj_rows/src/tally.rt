@@ -1,8 +1,8 @@
-// Judging and counting.
+// Checking and counting.
 ghost use Rattle.std.specs.Prelude.{◌≡◌, ◌+◌, ◌++◌, ◌↔◌, IsTrue, IfOk, OnOk, string_bytes};
-ghost use Rattle.cj_judge.specs.Judged.{AddsRun, IsWanted, count_of, place_line as line_at, reported, side};
-ghost use Rattle.cj_judge.specs.Row.{stated_of};
-ghost use Rattle.cj_judge.specs.Run.{given_of};
+ghost use Rattle.cj_rows.specs.Golden.{AddsRun, IsWanted, count_of, place_line as line_at, reported, side};
+ghost use Rattle.cj_rows.specs.Row.{stated_of};
+ghost use Rattle.cj_rows.specs.Run.{given_of};
 
 use crate::fault::Fault;
 use crate::row::Row;

@@ -2,8 +2,8 @@
 ghost use Rattle.std.specs.Prelude.{◌≡◌, ◌≤◌, ℕ, None, Some, IfOk, IfErr, OnOk, map};
 ghost use Rattle.serde_json.specs.Find.{as_str};
 ghost use Rattle.serde_json.specs.View.{items_view, view};
-ghost use Rattle.cj_judge.specs.Row.{AddsWord, IsRow, Refuses, Stated, number_at, stated_of, text_at, texts_at, texts_in};
-ghost use Rattle.cj_judge.specs.declared.fault.Fault.TheVariants.{NoRow};
+ghost use Rattle.cj_rows.specs.Row.{AddsWord, IsRow, Refuses, Stated, number_at, stated_of, text_at, texts_at, texts_in};
+ghost use Rattle.cj_rows.specs.declared.fault.Fault.TheVariants.{NoRow};
 
 use crate::fault::Fault;
 use serde_json::Value;

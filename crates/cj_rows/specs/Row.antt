@@ -5,9 +5,9 @@ use Rattle.std.specs.List.{filter}
 use Rattle.serde_json.specs.Data.{Data, Items, no_items, item}
 use Rattle.serde_json.specs.Find.{as_array, as_number, as_str, as_u64, get}
 use Rattle.serde_json.specs.Read.{read as read_text}
-use Rattle.cj_judge.specs.declared.row.Row.{Row}
-use Rattle.cj_judge.specs.declared.fault.Fault.{Fault}
-use Rattle.cj_judge.specs.declared.fault.Fault.TheVariants.{Memory, NoRow}
+use Rattle.cj_rows.specs.declared.row.Row.{Row}
+use Rattle.cj_rows.specs.declared.fault.Fault.{Fault}
+use Rattle.cj_rows.specs.declared.fault.Fault.TheVariants.{Memory, NoRow}
 
 -- what a row says
 pub record Stated : Type 0 where

@@ -1,7 +1,7 @@
 use std::alloc::{AllocError, AllocFailed};
 use thiserror::Error;
 
-/// Why a line could not be judged.
+/// Why a line could not be checked.
 #[derive(Clone, Copy, Debug, PartialEq, Eq, Error)]
 pub enum Fault {
     /// It is no row: no JSON object with the five members of one.
@@ -20,7 +20,7 @@ pub enum Fault {
 
 impl From<AllocError> for Fault {
     ghost use Rattle.std.specs.Prelude.{◌≡◌};
-    ghost use Rattle.cj_judge.specs.declared.fault.Fault.TheVariants as Why;
+    ghost use Rattle.cj_rows.specs.declared.fault.Fault.TheVariants as Why;
 
     ghost from_gives = { λ _ e. e ≡ Why.Memory };
 
@@ -31,7 +31,7 @@ impl From<AllocError> for Fault {
 
 impl<T: Drop> From<AllocFailed<T>> for Fault {
     ghost use Rattle.std.specs.Prelude.{◌≡◌};
-    ghost use Rattle.cj_judge.specs.declared.fault.Fault.TheVariants as Why;
+    ghost use Rattle.cj_rows.specs.declared.fault.Fault.TheVariants as Why;
 
     ghost from_gives = { λ _ e. e ≡ Why.Memory };
 
@@ -40,7 +40,7 @@ impl<T: Drop> From<AllocFailed<T>> for Fault {
     }
 }
 
-/// A line that could not be judged, by its number, the first being 1.
+/// A line that could not be checked, by its number, the first being 1.
 #[derive(Clone, Copy, Debug, PartialEq, Eq)]
 pub struct Misread {
     pub line: usize,
