@@ -15,7 +15,7 @@ use Rattle.cj_manifest.specs.Reading.{IsReading, IsRefused}
 use Rattle.cj_answers.specs.declared.answer.Ending.TheVariants.{Refused}
 use Rattle.cj_args.specs.declared.request.CheckRequest.{CheckRequest}
 use Rattle.cj_scenario.specs.declared.detection.form.Form.TheVariants as A
-use Rattle.cj_scenario.specs.detection.Glances.{IsGlance}
+use Rattle.cj_scenario.specs.detection.Detections.{IsDetection}
 use Rattle.cj_explain.specs.Faults.{faults_words}
 use Rattle.cj_answers.specs.Json.{IsJsonWords, yaml_words}
 use Rattle.cj_answers.specs.Advice.{IsAdvice, dropped_words_all}
@@ -84,7 +84,7 @@ pub record IsFaulty (explain : Bool) (zones : List Zone) (bytes : List ℕ) (o :
   pub faults : List FieldFault
   pub refused : IsRefused (manifest_faults zones) bytes (Invalid faults)
   pub seen : List ℕ
-  pub looked : IsGlance A.Manifest bytes seen
+  pub looked : IsDetection A.Manifest bytes seen
   pub answer : o ≡ explained explain (faults_words faults ++ seen) (faulty (fault_lines faults))
 
 -- there is none, and every member that is dropped is named; people are told what is worth a look

@@ -9,7 +9,7 @@ use Rattle.cj_decide.specs.Decision.{IsPlan, running_of}
 use Rattle.cj_scenario.specs.declared.detection.form.Form.{Form}
 use Rattle.cj_scenario.specs.declared.detection.form.Form.TheVariants as A
 use Rattle.cj_scenario.specs.detection.Forms.{wanted_words}
-use Rattle.cj_scenario.specs.detection.Glances.{IsGlance}
+use Rattle.cj_scenario.specs.detection.Detections.{IsDetection}
 use Rattle.cj_explain.specs.members.Looks.{IsLook}
 use Rattle.cj_scenario.specs.declared.fault.SceneFault.{SceneFault}
 use Rattle.cj_scenario.specs.declared.fault.SceneFault.TheVariants as Why
@@ -73,14 +73,14 @@ IsAskedWhy false cron z found now words = words ≡ []
 
 -- the members that nobody reads, where people ask for them
 -- rule: explain-ignored
-abbrev pub IsAskedGlance : Bool → Form → List ℕ → List ℕ → Type 0
-IsAskedGlance true wanted bytes words = IsGlance wanted bytes words
-IsAskedGlance false wanted bytes words = words ≡ []
+abbrev pub IsAskedDetection : Bool → Form → List ℕ → List ℕ → Type 0
+IsAskedDetection true wanted bytes words = IsDetection wanted bytes words
+IsAskedDetection false wanted bytes words = words ≡ []
 
 -- the members of a scenario that nobody reads, and those of its manifest that are dropped
 pub record IsBeside (explain : Bool) (bytes : List ℕ) (words : List ℕ) : Type 0 where
   pub seen : List ℕ
-  pub looked : IsAskedGlance explain A.Scenario bytes seen
+  pub looked : IsAskedDetection explain A.Scenario bytes seen
   pub dropped : List ℕ
   pub drops : IsAskedDropped explain bytes dropped
   pub are : words ≡ seen ++ dropped

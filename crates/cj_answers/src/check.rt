@@ -20,7 +20,7 @@ use cj_base::{FieldFault, Refusal};
 use cj_explain::explain_faults;
 use cj_io::{Failure, MOST_BYTES, MOST_READS, ZoneFile, read_input};
 use cj_manifest::{Manifest, Warning, read_manifest};
-use cj_scenario::{Form, glance};
+use cj_scenario::{Form, detect};
 use cj_zone::ZoneTable;
 use std::alloc::{AllocError, Global};
 use std::io::Read;
@@ -126,7 +126,7 @@ fn refused_manifest(
     requires { IsRefused (manifest_faults (zones_of zones.now)) bytes.now (Invalid faults.now) }
     ensures { IfOk result (λ a. IsChecked explain (zones_of zones.now) bytes.now (outcome_of a)) }
 {
-    let seen = glance(alloc, Form::Manifest, bytes)?;
+    let seen = detect(alloc, Form::Manifest, bytes)?;
     Ok(with_faults(alloc, explain, faults, seen.as_str())?)
 }
 

@@ -21,5 +21,5 @@ pub use audit::audit_answer;
 pub use check::check_answer;
 pub use given::{given_for, refused_pair};
 pub use next::next_answer;
-pub use plan::{asked_glance, plan_answer, refused_scene};
+pub use plan::{asked_detection, plan_answer, refused_scene};
 pub use why::{MOST_LIST_BYTES, MOST_LIST_READS, why_answer};

@@ -10,7 +10,7 @@ ghost use Rattle.cj_answers.specs.Outcome.{done, explained, outcome_of, refusal}
 ghost use Rattle.cj_why.specs.reviews.PlanLines.{plan_lines};
 ghost use Rattle.cj_why.specs.reviews.ZoneFor.{zone_for};
 ghost use Rattle.cj_io.specs.declared.zone_files.given.GivenZones.{GivenZones};
-ghost use Rattle.cj_answers.specs.Plan.{IsAskedGlance, IsAskedWhy, IsBeside, IsFormWords, IsPlanOutcome, IsPlannedFor, IsSceneRefusal, now_words, scene_line};
+ghost use Rattle.cj_answers.specs.Plan.{IsAskedDetection, IsAskedWhy, IsBeside, IsFormWords, IsPlanOutcome, IsPlannedFor, IsSceneRefusal, now_words, scene_line};
 
 use crate::answer::{Answer, Ending};
 use crate::dropped::asked_dropped;
@@ -21,7 +21,7 @@ use cj_args::PlanRequest;
 use cj_decide::{Plan, Steps, decide};
 use cj_explain::{explain_fault, look};
 use cj_io::{Failure, GivenZones, MOST_BYTES, MOST_READS, ZoneFile, read_input};
-use cj_scenario::{Form, Scene, SceneFault, glance, read_scene};
+use cj_scenario::{Form, Scene, SceneFault, detect, read_scene};
 use cj_types::{CronJob, FieldFault, Job, Seconds, Shared};
 use cj_why::{plan_text, why, zone_copy, zone_of};
 use cj_zone::{Zone, read_time};
@@ -201,16 +201,16 @@ pub fn refused_scene(
 }
 
 /// What is seen of the bytes, where people ask for it.
-pub fn asked_glance(
+pub fn asked_detection(
     alloc: Global,
     explain: bool,
     wanted: Form,
     bytes: &[u8],
 ) -> Result<String, Failure>
-    ensures { IfOk result (λ s. IsAskedGlance explain wanted bytes.now (string_bytes s)) }
+    ensures { IfOk result (λ s. IsAskedDetection explain wanted bytes.now (string_bytes s)) }
 {
     if explain {
-        Ok(glance(alloc, wanted, bytes)?)
+        Ok(detect(alloc, wanted, bytes)?)
     } else {
         Ok(String::new(alloc))
     }
@@ -223,7 +223,7 @@ const NOW_WORDS: &str = "--now: want a UTC time like 2024-01-01T00:00:00Z\n";
 fn beside(alloc: Global, explain: bool, bytes: &[u8]) -> Result<String, Failure>
     ensures { IfOk result (λ s. IsBeside explain bytes.now (string_bytes s)) }
 {
-    let seen = asked_glance(alloc, explain, Form::Scenario, bytes)?;
+    let seen = asked_detection(alloc, explain, Form::Scenario, bytes)?;
     let dropped = asked_dropped(alloc, explain, bytes)?;
     Ok(joined(alloc, seen.as_str(), dropped.as_str())?)
 }

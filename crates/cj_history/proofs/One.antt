@@ -27,7 +27,7 @@ use Rattle.cj_history.specs.store.Writes.{writes}
 use Rattle.cj_history.specs.store.Mirrors.{earliest, fed}
 use Rattle.cj_history.specs.store.Answers as store
 use Rattle.cj_history.proofs.StoreLemmas.Answered as stores
-use Rattle.cj_history.specs.queue.Deeds.{Act, acts}
+use Rattle.cj_history.specs.queue.Deeds.{Operation, operations}
 use Rattle.cj_history.specs.queue.Answers as queue
 use Rattle.cj_history.proofs.QueueLemmas.Answered as queues
 use Rattle.cj_history.specs.Legal.{IsAnswered, IsLawful, LegalLaw, OneAnswer, AlwaysExclusive}
@@ -46,8 +46,8 @@ one_listed : {X : Type 0} (key : X → Place) (now : Place → Option X) (say : 
     → Lists key now say a → Lists key now say b → a ≡ b
 one_listed key now say a b p q = p.1 ∙ ap say (one_listing key now p.0 q.0 p.2 q.2) ∙ sym q.1
 
--- a and b are answers by the writes ws, of which the listing knows n, the acts h and the seat o.
-module _ (window n : ℕ) (ws : List Event) (h : List Act) (o : Option Seat) (a b : Answer) where
+-- a and b are answers by the writes ws, of which the listing knows n, the operations h and the seat o.
+module _ (window n : ℕ) (ws : List Event) (h : List Operation) (o : Option Seat) (a b : Answer) where
   -- if looking back gives both answers to the call, they are the same
   abbrev Two : Role → Call → Type 0
   Two role call = store.Says window n ws o role call a → store.Says window n ws o role call b
@@ -112,7 +112,7 @@ module _ (window n : ℕ) (ws : List Event) (h : List Act) (o : Option Seat) (a 
 same_answer : (window : ℕ) (h : List Told) (caller : Caller) (call : Call) (a b : Answer)
     → IsAnswered window h caller call a → IsAnswered window h caller call b → a ≡ b
 same_answer window h caller call a b p q =
-    one_answer window (fed window h) (writes h) (acts h) (seat h caller.number) a b caller.role call p.of_store
+    one_answer window (fed window h) (writes h) (operations h) (seat h caller.number) a b caller.role call p.of_store
     q.of_store p.of_queue q.of_queue
 
 -- The answer of the state after a legal history is one that looking back gives.

@@ -12,14 +12,14 @@ use Rattle.cj_world_laws.specs.legal.Exclusive.{Exclusive}
 use Rattle.cj_history.specs.store.Writes.{writes}
 use Rattle.cj_history.specs.store.Mirrors.{fed}
 use Rattle.cj_history.specs.store.Answers as store
-use Rattle.cj_history.specs.queue.Deeds.{acts}
+use Rattle.cj_history.specs.queue.Deeds.{operations}
 use Rattle.cj_history.specs.queue.Answers as queue
 
--- what the call is answered by the entries before it: by their writes and acts, and by its caller's seat among them
+-- what the call is answered by the entries before it: by their writes and operations, and by its caller's seat among them
 -- rule: looking-back
 pub record IsAnswered (window : ℕ) (h : List Told) (caller : Caller) (call : Call) (a : Result Reply Refusal) : Type 0 where
   pub of_store : store.Says window (fed window h) (writes h) (seat h caller.number) caller.role call a
-  pub of_queue : queue.Says (acts h) (seat h caller.number) caller.role call a
+  pub of_queue : queue.Says (operations h) (seat h caller.number) caller.role call a
 
 -- each answer is such a one, and is one that is entered
 -- rule: looking-back

@@ -4,13 +4,13 @@ use Rattle.std.specs.Prelude.{◌↔◌, Result, Ok, Err, IfOk, IfErr, OnOk, IsO
 use Rattle.cj_base.specs.declared.refusal.Refusal.TheVariants.{Estranged}
 use Rattle.cj_types.specs.WorldLimits.{Kept}
 use Rattle.cj_calls.specs.Rows.{Told}
-use Rattle.cj_world.specs.Worlds.{Ledger}
+use Rattle.cj_world.specs.Worlds.{WorldLog}
 use Rattle.cj_hub.specs.declared.closed.NotClosed.{NotClosed}
 use Rattle.cj_hub.specs.Receipts.{PassView}
 use Rattle.cj_hub.specs.Books.{BookView, Fits}
 
 -- what holds of the book's limits and history holds of what is closed
-pub closed_has : {E : Type 0} (P : Kept → List Told → Type 0) (limits : Kept) (h : List Told) (r : Result Ledger E)
+pub closed_has : {E : Type 0} (P : Kept → List Told → Type 0) (limits : Kept) (h : List Told) (r : Result WorldLog E)
     → IfOk r (λ c. (c.limits ≡ limits) × (c.history ≡ h)) → OnOk r (P limits h) → IfOk r (λ c. P c.limits c.history)
 closed_has P limits h (Ok c) same holds = subst (λ (l : Kept). P l c.history) (sym same.0)
     (subst (λ (x : List Told). P limits x) (sym same.1) holds)

@@ -38,17 +38,17 @@ use Rattle.cj_state.specs.declared.phases.seat.Phase.{Phase}
 use Rattle.cj_state.specs.declared.phases.seat.Phase.TheVariants.{Held, Seen, Listed, Checked, Works}
 use Rattle.cj_state.specs.declared.phases.seat.Seat.{Seat}
 use Rattle.cj_state.specs.declared.state.State.{State}
-use Rattle.cj_state.specs.Moves.{Moved, refused, by_seat, seat_of, take, take_by, take_first, see_cron, see_cron_in, see_jobs, see_jobs_in, see_active, see_active_in, claim, claim_in, claim_where, claims, wrote, works, drop_next, drop_in, drop_where, drops_it, make_next, make_in, make_where, steps_on, event_reply, version_reply, set_status, status_in, status_where, sets_it, finish, finish_in, finish_work}
+use Rattle.cj_state.specs.WorkerCalls.{Handled, refused, by_seat, seat_of, take, take_by, take_first, see_cron, see_cron_in, see_jobs, see_jobs_in, see_active, see_active_in, claim, claim_in, claim_where, claims, wrote, works, drop_next, drop_in, drop_where, drops_it, make_next, make_in, make_where, steps_on, event_reply, version_reply, set_status, status_in, status_where, sets_it, finish, finish_in, finish_work}
 use Rattle.cj_state.specs.Step.{writes, found_cron, found_job, told_events, step_of, by_role, by_reader, by_user, by_runner, by_worker, by_informer}
 use Rattle.cj_world_laws.specs.legal.Answers.{is_empty}
 use Rattle.cj_hub.specs.Books.{FindsNothing}
 
 -- The answer isn't Empty.
-abbrev Full : Moved → Type 0
+abbrev Full : Handled → Type 0
 Full m = is_empty m.answer ≡ false
 
 -- in every phase and without a seat
-seat_full : (s : State) (call : Call) (f : Place → Phase → Moved) (o : Option Seat) → Full (by_seat s f None)
+seat_full : (s : State) (call : Call) (f : Place → Phase → Handled) (o : Option Seat) → Full (by_seat s f None)
     → ((k : Place) (p : Phase) → Full (f k p)) → Full (by_seat s f o)
 seat_full s call f None n h = n
 seat_full s call f (Some seat) n h = h seat.key seat.phase
@@ -349,11 +349,11 @@ informer_full s call = reader_full s call
 -- ---- all calls
 
 -- Where the answer is Empty, the call is a Take that found nothing.
-abbrev Finds : State → Call → Moved → Type 0
+abbrev Finds : State → Call → Handled → Type 0
 Finds s call m = is_empty m.answer ≡ true → FindsNothing s call
 
 -- Finds holds of a call whose answer isn't Empty, as it says nothing of it.
-full_finds : (s : State) (call : Call) (m : Moved) → Full m → Finds s call m
+full_finds : (s : State) (call : Call) (m : Handled) → Full m → Finds s call m
 full_finds s call m f e = absurd (cc (f, e))
 
 -- For take_finds: a worker without a key is answered with Empty only where it found nothing.

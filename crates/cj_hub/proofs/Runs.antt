@@ -8,7 +8,7 @@ use Rattle.cj_calls.specs.declared.call.Call.{Call}
 use Rattle.cj_calls.specs.declared.reply.Reply.{Reply}
 use Rattle.cj_calls.specs.Rows.{Told, is_in_row}
 use Rattle.cj_calls.specs.declared.caller.Caller.{Caller}
-use Rattle.cj_world.specs.Worlds.{Ledger}
+use Rattle.cj_world.specs.Worlds.{WorldLog}
 use Rattle.cj_hub.specs.declared.receipt.Receipt.{Receipt}
 use Rattle.cj_hub.specs.Receipts.{PassView, caller_of}
 use Rattle.cj_hub.specs.Runs.{more, extended, Gains, Adds, IsOne}
@@ -30,7 +30,7 @@ own-append c [] fs one two = two
 own-append c (e ∷ es) fs one two = (one.0, own-append c es fs one.1 two)
 
 -- What a pass gains first and what it gains next, it gains in all.
-pub gains-then : (t : Bool) (w w1 w2 : Ledger) (p p1 p2 : PassView) (es fs : List Told) → Gains t w w1 p p1 es
+pub gains-then : (t : Bool) (w w1 w2 : WorldLog) (p p1 p2 : PassView) (es fs : List Told) → Gains t w w1 p p1 es
     → Gains t w1 w2 p1 p2 fs → Gains t w w2 p p2 (es ++ fs)
 gains-then t w w1 w2 p p1 p2 es fs one two = record {
   told = λ is. two.told is ∙ ap (λ x. extended x fs) (one.told is) ∙ ap (λ (h : List Told). record w { history = h })
@@ -45,7 +45,7 @@ gains-then t w w1 w2 p p1 p2 es fs one two = record {
 }
 
 -- What is added first and what next is added in all, and meets what follows of the two together.
-pub adds-then : {F G H : List Told → Type 0} {t : Bool} {w w1 w2 : Ledger} {p p1 p2 : PassView} → Adds t w w1 p p1 F
+pub adds-then : {F G H : List Told → Type 0} {t : Bool} {w w1 w2 : WorldLog} {p p1 p2 : PassView} → Adds t w w1 p p1 F
     → Adds t w1 w2 p1 p2 G
     → ((es fs : List Told) → F es → G fs → H (es ++ fs)) → Adds t w w2 p p2 H
 adds-then {t = t} {w = w} {w1 = w1} {w2 = w2} {p = p} {p1 = p1} {p2 = p2} one two join = record {
@@ -55,12 +55,12 @@ adds-then {t = t} {w = w} {w1 = w1} {w2 = w2} {p = p} {p1 = p1} {p2 = p2} one tw
 }
 
 -- Entries that were added and meet F meet whatever follows from F.
-pub adds-weaker : {F H : List Told → Type 0} {t : Bool} {w w1 : Ledger} {p p1 : PassView} → Adds t w w1 p p1 F
+pub adds-weaker : {F H : List Told → Type 0} {t : Bool} {w w1 : WorldLog} {p p1 : PassView} → Adds t w w1 p p1 F
     → ((es : List Told) → F es → H es) → Adds t w w1 p p1 H
 adds-weaker one more = record { entries = one.entries; gains = one.gains; meets = more one.entries one.meets }
 
 -- nothing was entered
-pub adds-none : {F : List Told → Type 0} (t : Bool) (w w1 : Ledger) (p p1 : PassView) → (IsTrue t → w1 ≡ w) → p1 ≡ p
+pub adds-none : {F : List Told → Type 0} (t : Bool) (w w1 : WorldLog) (p p1 : PassView) → (IsTrue t → w1 ≡ w) → p1 ≡ p
     → F [] → Adds t w w1 p p1 F
 adds-none t w w1 p p1 same kept fact = record {
   entries = [];
@@ -75,7 +75,7 @@ adds-none t w w1 p p1 same kept fact = record {
 }
 
 -- one entry was made
-pub adds-one : {F : List Told → Type 0} (t : Bool) (w w1 : Ledger) (p p1 : PassView) (r : Receipt)
+pub adds-one : {F : List Told → Type 0} (t : Bool) (w w1 : WorldLog) (p p1 : PassView) (r : Receipt)
     → (IsTrue t → w1 ≡ record w { history = r.entry ∷ w.history }) → r.entry.caller ≡ caller_of p
     → p1 ≡ record p { receipts = p.receipts ++ r ∷ [] } → F (r.entry ∷ []) → Adds t w w1 p p1 F
 adds-one t w w1 p p1 r told own kept fact = record {

@@ -7,7 +7,7 @@ use Rattle.cj_calls.specs.Rows.{Told, is_in_row}
 use Rattle.cj_calls.specs.declared.call.Call.{Call}
 use Rattle.cj_calls.specs.declared.call.Call.TheVariants as Of
 use Rattle.cj_calls.specs.declared.reply.Reply.{Reply}
-use Rattle.cj_world.specs.Worlds.{Ledger}
+use Rattle.cj_world.specs.Worlds.{WorldLog}
 use Rattle.cj_hub.specs.declared.asking.Halt.{Halt}
 use Rattle.cj_hub.specs.declared.asking.Halt.TheVariants.{Refused, Unentered}
 use Rattle.cj_hub.specs.declared.receipt.Receipt.{Receipt}
@@ -35,12 +35,12 @@ abbrev pub more : List Told → List Told → List Told
 more h [] = h
 more h (e ∷ es) = more (e ∷ h) es
 
-abbrev pub extended : Ledger → List Told → Ledger
+abbrev pub extended : WorldLog → List Told → WorldLog
 extended w es = record w { history = more w.history es }
 
 -- the pass got receipts of these entries, all its own, and a history that is told gained just these
 -- rule: desks
-pub record Gains (tells : Bool) (w w' : Ledger) (p p' : PassView) (es : List Told) : Type 0 where
+pub record Gains (tells : Bool) (w w' : WorldLog) (p p' : PassView) (es : List Told) : Type 0 where
   pub told : IsTrue tells → w' ≡ extended w es
   pub news : List Receipt
   pub entries : map (λ r. r.entry) news ≡ es
@@ -49,7 +49,7 @@ pub record Gains (tells : Bool) (w w' : Ledger) (p p' : PassView) (es : List Tol
 
 -- the entries gained meet F
 -- rule: desks
-pub record Adds (tells : Bool) (w w' : Ledger) (p p' : PassView) (F : List Told → Type 0) : Type 0 where
+pub record Adds (tells : Bool) (w w' : WorldLog) (p p' : PassView) (F : List Told → Type 0) : Type 0 where
   pub entries : List Told
   pub gains : Gains tells w w' p p' entries
   pub meets : F entries

@@ -26,9 +26,9 @@ pub struct Closed {
 }
 
 impl Model for Closed {
-    ghost use Rattle.cj_world.specs.Worlds.{Ledger};
+    ghost use Rattle.cj_world.specs.Worlds.{WorldLog};
 
-    ghost Value = { Ledger };
+    ghost Value = { WorldLog };
 
     ghost view = { λ c. c.world };
 }

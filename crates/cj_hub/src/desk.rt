@@ -3,7 +3,7 @@ ghost use Rattle.std.specs.Prelude.{◌≡◌, [], ◌∷◌, ◌++◌, Bool, tr
 ghost use Rattle.cj_base.specs.declared.refusal.Refusal.TheVariants.{OutOfMemory};
 ghost use Rattle.cj_types.specs.WorldLimits.{kept};
 ghost use Rattle.cj_calls.specs.Rows.{is_in_row};
-ghost use Rattle.cj_world.specs.Worlds.{Ledger, state_in};
+ghost use Rattle.cj_world.specs.Worlds.{WorldLog, state_in};
 ghost use Rattle.cj_hub.specs.Receipts.{fresh, IsReceipt};
 ghost use Rattle.cj_hub.specs.Books.{BookView, FindsNothing};
 ghost use Rattle.cj_hub.specs.Runs.{IsDeskRefusal};
@@ -25,7 +25,7 @@ pub trait Desk {
     ghost tells: { Bool };
 
     /// The history with its limits, where the desk tells it.
-    ghost history: { Self → Ledger };
+    ghost history: { Self → WorldLog };
 
     /// Makes one call of the pass. Its receipt names the caller and the call, stands after the pass's last
     /// one, and is the pass's too; its answer is one that the call can have. A refusal leaves the pass as it

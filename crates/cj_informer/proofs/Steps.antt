@@ -165,7 +165,7 @@ pub watched : (max from : ℕ) (events : List Event) (r : Result ℕ Refusal) (e
     → exchanges es ≡ accepted (Of.Watch from max) (Is.Events events) ∷ [] → HasFollowed max from events r fs
     → HasGoneOn (record { max = max; seen = Some from }) r (es ++ fs)
 watched max from events r es fs one k = record {
-  way = Follows from events k.fed;
+  list_or_watch = Follows from events k.fed;
   fits = refl;
   goes = said-then (accepted (Of.Watch from max) (Is.Events events)) (follow max events k.fed) r es fs one k.goes;
   after = k.after;
@@ -184,7 +184,7 @@ pub expired : (max from oldest : ℕ) (r : Result ℕ Refusal) (es fs : List Tol
     → IsRefused (Of.Watch from max) (Expired oldest) (exchanges es) → HasListed max r fs
     → HasGoneOn (record { max = max; seen = Some from }) r (es ++ fs)
 expired max from oldest r es fs one k = record {
-  way = Resumes from oldest k.lists;
+  list_or_watch = Resumes from oldest k.lists;
   fits = refl;
   goes = expired_here max from oldest k.lists r es fs one k.goes;
   after = k.after;
@@ -194,7 +194,7 @@ expired max from oldest r es fs one k = record {
 pub not_watched : (max from : ℕ) (e : Refusal) (es : List Told) → IsRefused (Of.Watch from max) e (exchanges es)
     → HasGoneOn (record { max = max; seen = Some from }) (Err e) es
 not_watched max from e es h = record {
-  way = Follows from [] 0;
+  list_or_watch = Follows from [] 0;
   fits = refl;
   goes = refused-first (accepted (Of.Watch from max) (Is.Events [])) (follow max [] 0) e es h;
   after = tt;
@@ -204,9 +204,9 @@ not_watched max from e es h = record {
 ticked : (i : Follower) (now : ℕ) (r : Result ℕ Refusal) (es fs : List Told)
     → exchanges es ≡ accepted (Of.Tick now) Is.Done ∷ [] → HasGoneOn i r fs → HasLooked i now r (es ++ fs)
 ticked i now r es fs one k = record {
-  way = k.way;
+  list_or_watch = k.list_or_watch;
   fits = k.fits;
-  goes = said-then (accepted (Of.Tick now) Is.Done) (go_on i.max k.way) r es fs one k.goes;
+  goes = said-then (accepted (Of.Tick now) Is.Done) (go_on i.max k.list_or_watch) r es fs one k.goes;
   after = k.after;
 }
 
@@ -227,29 +227,29 @@ pub ticked_list : (max now : ℕ) (seen : Option ℕ) (r : Result ℕ Refusal) (
 ticked_list max now seen r es fs is one k =
     let P : Option ℕ → Type 0 = λ x. HasLooked (record { max = max; seen = x }) now r (es ++ fs) in
     subst P (sym is) (ticked (record { max = max; seen = None }) now r es fs one
-    (record { way = Starts k.lists; fits = refl; goes = k.goes; after = k.after }))
+    (record { list_or_watch = Starts k.lists; fits = refl; goes = k.goes; after = k.after }))
 
 -- For look: where the Tick is refused, the step breaks off.
 pub not_ticked : (max now : ℕ) (seen : Option ℕ) (e : Refusal) (es : List Told)
     → IsRefused (Of.Tick now) e (exchanges es) → HasLooked (record { max = max; seen = seen }) now (Err e) es
 not_ticked max now None e es h = record {
-  way = Starts no_lists;
+  list_or_watch = Starts no_lists;
   fits = refl;
   goes = refused-first (accepted (Of.Tick now) Is.Done) (go_on max (Starts no_lists)) e es h;
   after = tt;
 }
 not_ticked max now (Some from) e es h = record {
-  way = Follows from [] 0;
+  list_or_watch = Follows from [] 0;
   fits = refl;
   goes = refused-first (accepted (Of.Tick now) Is.Done) (go_on max (Follows from [] 0)) e es h;
   after = tt;
 }
 
--- For Informer::step: after a whole step the informer has seen the version that its way tells.
+-- For Informer::step: after a whole step the informer has seen the version that its list_or_watch tells.
 pub stepped : (i i' : Follower) (now seen : ℕ) (es : List Told) → i' ≡ record i { seen = Some seen }
     → HasLooked i now (Ok seen) es → HasStepped i now i' (Ok tt) es
 stepped i i' now seen es is h = record {
-  way = h.way;
+  list_or_watch = h.list_or_watch;
   fits = h.fits;
   goes = h.goes;
   after = is
@@ -259,4 +259,4 @@ stepped i i' now seen es is h = record {
 -- For Informer::step: after a step that broke off the informer is as it was.
 pub not_stepped : (i i' : Follower) (now : ℕ) (e : Refusal) (es : List Told) → i' ≡ i → HasLooked i now (Err e) es
     → HasStepped i now i' (Err e) es
-not_stepped i i' now e es is h = record { way = h.way; fits = h.fits; goes = h.goes; after = is }
+not_stepped i i' now e es is h = record { list_or_watch = h.list_or_watch; fits = h.fits; goes = h.goes; after = is }

@@ -109,32 +109,32 @@ relist max l = accepted Of.ListCrons (Is.Crons l.crons l.version) ∷ accepted O
 
 -- how a step goes on after its Tick: from a version by events; by a listing at the start; or by a listing
 -- where events after the version have expired (410 Gone)
-pub data Way : Type 0 where
-  Follows : ℕ → List Event → ℕ → Way
-  Starts : Lists → Way
-  Resumes : ℕ → ℕ → Lists → Way
+pub data ListOrWatch : Type 0 where
+  Follows : ℕ → List Event → ℕ → ListOrWatch
+  Starts : Lists → ListOrWatch
+  Resumes : ℕ → ℕ → Lists → ListOrWatch
 
 -- a step lists at the start, and after that watches from the version seen
 -- rule: informer-step
-abbrev pub IsWay : Option ℕ → Way → Type 0
-IsWay seen (Follows from events fed) = seen ≡ Some from
-IsWay seen (Starts l) = seen ≡ None
-IsWay seen (Resumes from oldest l) = seen ≡ Some from
+abbrev pub IsListOrWatch : Option ℕ → ListOrWatch → Type 0
+IsListOrWatch seen (Follows from events fed) = seen ≡ Some from
+IsListOrWatch seen (Starts l) = seen ≡ None
+IsListOrWatch seen (Resumes from oldest l) = seen ≡ Some from
 
 -- rule: informer-step
-abbrev pub go_on : ℕ → Way → List Exchange
+abbrev pub go_on : ℕ → ListOrWatch → List Exchange
 go_on max (Follows from events fed) = accepted (Of.Watch from max) (Is.Events events) ∷ follow max events fed
 go_on max (Starts l) = relist max l
 go_on max (Resumes from oldest l) = refused (Of.Watch from max) (Expired oldest) ∷ relist max l
 
 -- the version seen then: that of the last event, or of the earlier one of the two listings
 -- rule: informer-seen
-abbrev pub seen_after : Way → ℕ
+abbrev pub seen_after : ListOrWatch → ℕ
 seen_after (Follows from events fed) = last_version from events
 seen_after (Starts l) = l.version
 seen_after (Resumes from oldest l) = l.version
 
 -- a whole step: the queue is told the moment first
 -- rule: informer-step
-abbrev pub whole_step : ℕ → ℕ → Way → List Exchange
-whole_step max now way = accepted (Of.Tick now) Is.Done ∷ go_on max way
+abbrev pub whole_step : ℕ → ℕ → ListOrWatch → List Exchange
+whole_step max now list_or_watch = accepted (Of.Tick now) Is.Done ∷ go_on max list_or_watch

@@ -10,7 +10,7 @@ use Rattle.cj_calls.specs.declared.call.Call.{Call}
 use Rattle.cj_calls.specs.declared.call.Call.TheVariants as Of
 use Rattle.cj_calls.specs.declared.reply.Reply.TheVariants as Is
 use Rattle.cj_informer.specs.Exchanges.{accepted, Goes}
-use Rattle.cj_informer.specs.Informs.{Follower, Way, IsWay, Lists, AreFeeds, feed, follow, add_both, relist, go_on, whole_step, last_version, seen_after}
+use Rattle.cj_informer.specs.Informs.{Follower, ListOrWatch, IsListOrWatch, Lists, AreFeeds, feed, follow, add_both, relist, go_on, whole_step, last_version, seen_after}
 
 -- the calls of an informer that are refused for its role alone
 abbrev pub is_plain : Call → Bool
@@ -75,28 +75,28 @@ pub record HasFollowed (max from : ℕ) (events : List Event) (r : Result ℕ Re
 
 -- all of a step after its Tick
 pub record HasGoneOn (i : Follower) (r : Result ℕ Refusal) (es : List Told) : Type 0 where
-  pub way : Way
-  pub fits : IsWay i.seen way
-  pub goes : Goes (go_on i.max way) r es
-  pub after : IfOk r (λ seen. seen ≡ seen_after way)
+  pub list_or_watch : ListOrWatch
+  pub fits : IsListOrWatch i.seen list_or_watch
+  pub goes : Goes (go_on i.max list_or_watch) r es
+  pub after : IfOk r (λ seen. seen ≡ seen_after list_or_watch)
 
 -- all of a step
 pub record HasLooked (i : Follower) (now : ℕ) (r : Result ℕ Refusal) (es : List Told) : Type 0 where
-  pub way : Way
-  pub fits : IsWay i.seen way
-  pub goes : Goes (whole_step i.max now way) r es
-  pub after : IfOk r (λ seen. seen ≡ seen_after way)
+  pub list_or_watch : ListOrWatch
+  pub fits : IsListOrWatch i.seen list_or_watch
+  pub goes : Goes (whole_step i.max now list_or_watch) r es
+  pub after : IfOk r (λ seen. seen ≡ seen_after list_or_watch)
 
--- the informer after a step: it has seen what this way tells, or is as it was where the step failed
+-- the informer after a step: it has seen what this list_or_watch tells, or is as it was where the step failed
 -- rule: informer-seen
-abbrev pub becomes : Follower → Way → Result (Unit {0}) Refusal → Follower
-becomes i way (Ok u) = record i { seen = Some (seen_after way) }
-becomes i way (Err refusal) = i
+abbrev pub becomes : Follower → ListOrWatch → Result (Unit {0}) Refusal → Follower
+becomes i list_or_watch (Ok u) = record i { seen = Some (seen_after list_or_watch) }
+becomes i list_or_watch (Err refusal) = i
 
 -- the entries are those of a whole step, or its first up to a refusal
 -- rule: informer-step
 pub record HasStepped (i : Follower) (now : ℕ) (i' : Follower) (r : Result (Unit {0}) Refusal) (es : List Told) : Type 0 where
-  pub way : Way
-  pub fits : IsWay i.seen way
-  pub goes : Goes (whole_step i.max now way) r es
-  pub after : i' ≡ becomes i way r
+  pub list_or_watch : ListOrWatch
+  pub fits : IsListOrWatch i.seen list_or_watch
+  pub goes : Goes (whole_step i.max now list_or_watch) r es
+  pub after : i' ≡ becomes i list_or_watch r

@@ -6,7 +6,7 @@ use Rattle.cj_scenario.specs.declared.fault.SceneFault.{SceneFault}
 use Rattle.cj_scenario.specs.declared.fault.SceneFault.TheVariants as Why
 use Rattle.cj_scenario.specs.declared.detection.form.Form.TheVariants as A
 use Rattle.cj_io.specs.declared.zone_files.given.GivenZones.{GivenZones}
-use Rattle.cj_script.specs.simulation.Courses.{IsRefusedCourse}
+use Rattle.cj_script.specs.simulation.Simulations.{IsRefusedSimulation}
 use Rattle.cj_answers.specs.declared.answer.Answer.{Answer}
 use Rattle.cj_answers.specs.Outcome.{outcome_of}
 use Rattle.cj_answers.specs.Plan.{IsSceneRefusal}
@@ -15,8 +15,8 @@ use Rattle.cj_program.specs.Run.{IsRanOf}
 -- fault is why the bytes are refused under the zones that are given; explain says whether words for people are asked for.
 module _ (explain : Bool) (given : GivenZones) (bytes : List ℕ) (fault : SceneFault) where
   -- of `run`: closes what the bytes are answered
-  pub course_refused : (r : Result Answer Failure) → IsRefusedCourse given bytes fault → IfOk r (λ _. fault ≢ Why.Memory)
-      → IfOk r (λ a. IsSceneRefusal explain A.Course bytes fault (outcome_of a))
+  pub simulation_refused : (r : Result Answer Failure) → IsRefusedSimulation given bytes fault → IfOk r (λ _. fault ≢ Why.Memory)
+      → IfOk r (λ a. IsSceneRefusal explain A.Simulation bytes fault (outcome_of a))
       → IfOk r (λ a. IsRanOf explain given bytes (outcome_of a))
-  course_refused (Ok a) why told is = inl (record { fault = fault; refused = why; told = told; says = is })
-  course_refused (Err e) why told is = search rules
+  simulation_refused (Ok a) why told is = inl (record { fault = fault; refused = why; told = told; says = is })
+  simulation_refused (Err e) why told is = search rules

@@ -3,36 +3,36 @@ use Rattle.std.specs.Prelude.{◌≡◌, ◌≢◌, ◌⊎◌, ℕ, ◌≤◌, L
 use Rattle.cj_scenario.specs.declared.fault.SceneFault.{SceneFault}
 use Rattle.cj_scenario.specs.declared.fault.SceneFault.TheVariants as Why
 use Rattle.cj_scenario.specs.declared.detection.form.Form.TheVariants as A
-use Rattle.cj_script.specs.simulation.Courses.{IsCourse, IsRefusedCourse}
-use Rattle.cj_script.specs.declared.simulation.course.Course.{Course}
+use Rattle.cj_script.specs.simulation.Simulations.{IsSimulation, IsRefusedSimulation}
+use Rattle.cj_script.specs.declared.simulation.scenario.Simulation.{Simulation}
 use Rattle.cj_run.specs.Runs.{IsRun}
 use Rattle.cj_args.specs.declared.request.RunRequest.{RunRequest}
 use Rattle.cj_io.specs.declared.zone_files.file.ZoneFile.{ZoneFile}
 use Rattle.cj_io.specs.declared.zone_files.given.GivenZones.{GivenZones}
 use Rattle.cj_answers.specs.Given.{IsReadUnder, RefusesRule}
 use Rattle.cj_answers.specs.Outcome.{Outcome, done, explained}
-use Rattle.cj_answers.specs.Plan.{IsAskedGlance, IsSceneRefusal}
+use Rattle.cj_answers.specs.Plan.{IsAskedDetection, IsSceneRefusal}
 
 -- the bytes are no scenario of a run, for another cause than memory
-pub record RefusesCourse (explain : Bool) (given : GivenZones) (bytes : List ℕ) (o : Outcome) : Type 0 where
+pub record RefusesSimulation (explain : Bool) (given : GivenZones) (bytes : List ℕ) (o : Outcome) : Type 0 where
   pub fault : SceneFault
-  pub refused : IsRefusedCourse given bytes fault
+  pub refused : IsRefusedSimulation given bytes fault
   pub told : fault ≢ Why.Memory
-  pub says : IsSceneRefusal explain A.Course bytes fault o
+  pub says : IsSceneRefusal explain A.Simulation bytes fault o
 
 -- the report of a run of the scenario that they are
 pub record PrintsReport (explain : Bool) (given : GivenZones) (bytes : List ℕ) (o : Outcome) : Type 0 where
-  pub course : Course
-  pub said : IsCourse given bytes course
+  pub simulation : Simulation
+  pub said : IsSimulation given bytes simulation
   pub text : List ℕ
-  pub run : IsRun course text
+  pub run : IsRun simulation text
   pub seen : List ℕ
-  pub looked : IsAskedGlance explain A.Course bytes seen
+  pub looked : IsAskedDetection explain A.Simulation bytes seen
   pub answer : o ≡ explained explain seen (done text)
 
 -- what the bytes are answered under these zones
 abbrev pub IsRanOf : Bool → GivenZones → List ℕ → Outcome → Type 0
-IsRanOf explain given bytes o = RefusesCourse explain given bytes o ⊎ PrintsReport explain given bytes o
+IsRanOf explain given bytes o = RefusesSimulation explain given bytes o ⊎ PrintsReport explain given bytes o
 
 -- what is read, all of the input, is run under the zones of the words and the files
 pub record RunsInput (r : RunRequest) (files : List ZoneFile) (input : Option (List ℕ)) (o : Outcome) : Type 0 where

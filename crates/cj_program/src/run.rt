@@ -1,16 +1,16 @@
 // Running the whole controller.
 ghost use Rattle.std.specs.Prelude.{◌≡◌, IfOk, string_bytes};
-ghost use Rattle.cj_script.specs.simulation.Courses.{IsCourse};
+ghost use Rattle.cj_script.specs.simulation.Simulations.{IsSimulation};
 ghost use Rattle.cj_io.specs.declared.zone_files.given.GivenZones.{GivenZones};
 ghost use Rattle.cj_answers.specs.Outcome.{done, explained, outcome_of};
 ghost use Rattle.cj_program.specs.Run.{IsRanOf, IsRunOutcome};
 
-use cj_answers::{Answer, Ending, asked_glance, given_for, refused_pair, refused_scene};
+use cj_answers::{Answer, Ending, asked_detection, given_for, refused_pair, refused_scene};
 use cj_args::RunRequest;
 use cj_io::{Failure, GivenZones, MOST_BYTES, MOST_READS, ZoneFile, read_input};
-use cj_run::run_course;
+use cj_run::run_simulation;
 use cj_scenario::Form;
-use cj_script::{Course, read_course};
+use cj_script::{Simulation, read_simulation};
 use std::alloc::{AllocError, Global};
 use std::io::Read;
 use std::sync::Wait;
@@ -35,13 +35,13 @@ fn answered<T: Threads + Wait + Sync>(
     alloc: Global,
     run: &RunRequest<'_>,
     bytes: &[u8],
-    course: &Course,
+    simulation: &Simulation,
 ) -> Result<Answer, Failure>
-    ensures { (given : GivenZones) → IsCourse given bytes.now course.now →
+    ensures { (given : GivenZones) → IsSimulation given bytes.now simulation.now →
         IfOk result (λ a. IsRanOf run.now.explain given bytes.now (outcome_of a)) }
 {
-    let report = run_course(rt, alloc, course, u64::from(run.workers))?;
-    let seen = asked_glance(alloc, run.explain, Form::Course, bytes)?;
+    let report = run_simulation(rt, alloc, simulation, u64::from(run.workers))?;
+    let seen = asked_detection(alloc, run.explain, Form::Simulation, bytes)?;
     Ok(reported(alloc, run.explain, report, seen.as_str())?)
 }
 
@@ -54,9 +54,9 @@ fn bytes_answer<T: Threads + Wait + Sync>(
 ) -> Result<Answer, Failure>
     ensures { IfOk result (λ a. IsRanOf run.now.explain given.entry bytes.now (outcome_of a)) }
 {
-    match read_course(alloc, given, bytes) {
-        Ok(course) => answered(rt, alloc, run, bytes, &course),
-        Err(fault) => refused_scene(alloc, run.explain, Form::Course, bytes, fault),
+    match read_simulation(alloc, given, bytes) {
+        Ok(simulation) => answered(rt, alloc, run, bytes, &simulation),
+        Err(fault) => refused_scene(alloc, run.explain, Form::Simulation, bytes, fault),
     }
 }
 

@@ -1,5 +1,5 @@
 pub mod Answered
-pub mod Played
+pub mod Stepped
 pub mod Printed
 pub mod Replayed
 pub mod SnapshotsLemmas

@@ -10,24 +10,24 @@ use Rattle.cj_io.specs.Writing.{AppendsSome, HasPrinted, Prints}
 use Rattle.cj_io.proofs.Written.{appends_both, appends_nothing, nothing_printed, printed_begun, printed_more, printed_some, printed_whole}
 use Rattle.cj_script.specs.declared.script.Script.{Script}
 use Rattle.cj_script.specs.declared.step.Step.{Step}
-use Rattle.cj_replay.specs.Runs.{AllPlay, Plays}
+use Rattle.cj_replay.specs.Runs.{MakesAll, MakesStep}
 use Rattle.cj_replay.specs.Replays.{IsPartOf, IsReplayed, KeepsPromise, report_of}
 use Rattle.cj_replay.specs.Printing.{BreaksOff, CutsReport, HasPlayed, PrintsPart, PrintsReport, PrintsStep}
-use Rattle.cj_replay.proofs.Replayed.{plays_more}
+use Rattle.cj_replay.proofs.Replayed.{makes_more}
 
 -- ---- one step
 
 module _ (zones : ZoneTable) (limits : Kept) (h : List Told) (step : Step) where
   -- For print_step: a step that was made and whose line was printed is what PrintsStep says.
   pub step_printed : (full : Bool) (h' : List Told) (old new : Option (List ℕ)) (waited waits line : List ℕ)
-      → Plays zones limits h step line full h' → Prints old waited line new waits
+      → MakesStep zones limits h step line full h' → Prints old waited line new waits
       → PrintsStep zones limits h step full h' old waited new waits
-  step_printed full h' old new waited waits line p q = record { line = line; plays = p; printed = q }
+  step_printed full h' old new waited waits line p q = record { line = line; makes = p; printed = q }
 
   -- For print_step: a step that was made and whose line was printed in part is what PrintsPart
   -- says.
   pub step_cut : (full : Bool) (h' : List Told) (old new : Option (List ℕ)) (waited line : List ℕ)
-      → Plays zones limits h step line full h' → AppendsSome old new (waited ++ line)
+      → MakesStep zones limits h step line full h' → AppendsSome old new (waited ++ line)
       → PrintsPart zones limits h step old waited new
   step_cut full h' old new waited line p q = record { line = line; is_line = inr (full, h', p); begun = q }
 
@@ -40,7 +40,7 @@ module _ (zones : ZoneTable) (limits : Kept) (h : List Told) (step : Step) where
 module _ (zones : ZoneTable) (limits : Kept) (h : List Told) (start : Option (List ℕ)) where
   -- Before the first step nothing was made and nothing printed, as HasPlayed says.
   pub none_played : (waits : List ℕ) → waits ≡ [] → HasPlayed zones limits h [] false h start start waits
-  none_played waits e = record { text = []; plays = (refl, refl, refl); printed = nothing_printed start waits e }
+  none_played waits e = record { text = []; makes = (refl, refl, refl); printed = nothing_printed start waits e }
 
   module _ (done : List Step) (full : Bool) (h1 : List Told) (old : Option (List ℕ)) (waited : List ℕ) (a : HasPlayed zones limits h done full h1 start old waited) (step : Step) where
     -- With one step more that is printed, HasPlayed goes on from the steps before it.
@@ -49,14 +49,14 @@ module _ (zones : ZoneTable) (limits : Kept) (h : List Told) (start : Option (Li
         → HasPlayed zones limits h (done ++ step ∷ []) (full || now) h2 start new waits
     played_more now h2 new waits p = record {
       text = a.text ++ p.line;
-      plays = plays_more zones limits step p.line now h2 done h h1 a.text full a.plays p.plays;
+      makes = makes_more zones limits step p.line now h2 done h h1 a.text full a.makes p.makes;
       printed = printed_more start old new waited a.text a.printed p.line waits p.printed;
     }
 
     -- For breaks_off: the steps break off before one without a line, or after one printed in part.
     breaks_by : (new : Option (List ℕ)) (line : List ℕ) (left steps : List Step) → steps ≡ (done ++ step ∷ []) ++ left
         → AppendsSome old new (waited ++ line)
-        → (line ≡ []) ⊎ ((now : Bool) × (h2 : List Told) × Plays zones limits h1 step line now h2)
+        → (line ≡ []) ⊎ ((now : Bool) × (h2 : List Told) × MakesStep zones limits h1 step line now h2)
         → BreaksOff zones limits h steps start new
     breaks_by new line left steps e b (inl n) = record {
       done = done;
@@ -65,7 +65,7 @@ module _ (zones : ZoneTable) (limits : Kept) (h : List Told) (start : Option (Li
       text = a.text;
       full = full;
       history = h1;
-      plays = a.plays;
+      makes = a.makes;
       begun = subst (λ (l : List ℕ). AppendsSome start new l) (ap (λ (l : List ℕ). a.text ++ l) n ∙ append-nil a.text)
           (printed_some start old new waited a.text a.printed line b);
     }
@@ -76,7 +76,7 @@ module _ (zones : ZoneTable) (limits : Kept) (h : List Told) (start : Option (Li
       text = a.text ++ line;
       full = full || now;
       history = h2;
-      plays = plays_more zones limits step line now h2 done h h1 a.text full a.plays p;
+      makes = makes_more zones limits step line now h2 done h h1 a.text full a.makes p;
       begun = printed_some start old new waited a.text a.printed line b;
     }
 
@@ -130,7 +130,7 @@ module _ (s : Script) where
       steps = refl;
       full = false;
       history = [];
-      plays = (refl, refl, refl);
+      makes = (refl, refl, refl);
     }),
     appends_nothing a [],
   )
@@ -146,7 +146,7 @@ module _ (s : Script) where
       steps = x.are;
       full = x.full;
       history = x.history;
-      plays = x.plays;
+      makes = x.makes;
     }),
     x.begun,
   )
@@ -157,7 +157,7 @@ module _ (s : Script) where
     whole report e = record {
       history = h;
       lines = x.text;
-      plays = x.plays;
+      makes = x.makes;
       promise = k;
       printed = ap (λ (l : List ℕ). x.text ++ l) e;
     }
@@ -182,8 +182,8 @@ module _ (s : Script) where
       steps = sym (append-nil s.steps.items);
       full = full;
       history = h;
-      plays = subst (λ (l : List ℕ). AllPlay s.zones s.limits [] s.steps.items l full h)
-          (sym (ap (λ (l : List ℕ). x.text ++ l) e ∙ append-nil x.text)) x.plays;
+      makes = subst (λ (l : List ℕ). MakesAll s.zones s.limits [] s.steps.items l full h)
+          (sym (ap (λ (l : List ℕ). x.text ++ l) e ∙ append-nil x.text)) x.makes;
     })
     cut_by rest (inr e) = inr (full, whole rest e)
 

@@ -6,18 +6,18 @@ use Rattle.cj_zone.specs.declared.table.ZoneTable.{ZoneTable}
 use Rattle.cj_calls.specs.Rows.{Told}
 use Rattle.cj_io.specs.Writing.{AppendsSome, HasPrinted, Prints}
 use Rattle.cj_script.specs.declared.step.Step.{Step}
-use Rattle.cj_replay.specs.Runs.{AllPlay, Plays}
+use Rattle.cj_replay.specs.Runs.{MakesAll, MakesStep}
 use Rattle.cj_replay.specs.Replays.{report_of}
 
 -- its line was printed
 pub record PrintsStep (zones : ZoneTable) (limits : Kept) (h : List Told) (step : Step) (full : Bool) (h' : List Told) (old : Option (List ℕ)) (waited : List ℕ) (new : Option (List ℕ)) (waits : List ℕ) : Type 0 where
   pub line : List ℕ
-  pub plays : Plays zones limits h step line full h'
+  pub makes : MakesStep zones limits h step line full h'
   pub printed : Prints old waited line new waits
 
 -- the step's line, or nothing where there was no memory for it
 abbrev pub IsLine : ZoneTable → Kept → List Told → Step → List ℕ → Type 0
-IsLine zones limits h step line = (line ≡ []) ⊎ ((full : Bool) × (h' : List Told) × Plays zones limits h step line full h')
+IsLine zones limits h step line = (line ≡ []) ⊎ ((full : Bool) × (h' : List Told) × MakesStep zones limits h step line full h')
 
 -- a beginning of what waited and its line was printed
 pub record PrintsPart (zones : ZoneTable) (limits : Kept) (h : List Told) (step : Step) (old : Option (List ℕ)) (waited : List ℕ) (new : Option (List ℕ)) : Type 0 where
@@ -28,7 +28,7 @@ pub record PrintsPart (zones : ZoneTable) (limits : Kept) (h : List Told) (step 
 -- all these steps were made, and since a start their lines were printed, of which an end still waits
 pub record HasPlayed (zones : ZoneTable) (limits : Kept) (h : List Told) (done : List Step) (full : Bool) (h' : List Told) (start new : Option (List ℕ)) (waits : List ℕ) : Type 0 where
   pub text : List ℕ
-  pub plays : AllPlay zones limits h done text full h'
+  pub makes : MakesAll zones limits h done text full h'
   pub printed : HasPrinted start new waits text
 
 -- only the first of these steps were made, and of their lines a beginning was printed
@@ -39,7 +39,7 @@ pub record BreaksOff (zones : ZoneTable) (limits : Kept) (h : List Told) (steps 
   pub text : List ℕ
   pub full : Bool
   pub history : List Told
-  pub plays : AllPlay zones limits h done text full history
+  pub makes : MakesAll zones limits h done text full history
   pub begun : AppendsSome start new text
 
 -- what waited and then the report were printed

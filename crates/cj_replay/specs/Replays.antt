@@ -13,7 +13,7 @@ use Rattle.cj_report.specs.Objects.{cron_lines, job_lines}
 use Rattle.cj_report.specs.Reasons.{reason_lines}
 use Rattle.cj_script.specs.declared.script.Script.{Script}
 use Rattle.cj_script.specs.declared.step.Step.{Step}
-use Rattle.cj_replay.specs.Runs.{AllPlay}
+use Rattle.cj_replay.specs.Runs.{MakesAll}
 
 -- the lines of the objects, and of the reasons that the history tells
 abbrev pub report_lines : List CronJob → List Job → List Told → List ℕ
@@ -42,7 +42,7 @@ pub record KeepsPromise (window : ℕ) (h : List Told) : Type 0 where
 pub record IsReplayed (s : Script) (text : List ℕ) (full : Bool) : Type 0 where
   pub history : List Told
   pub lines : List ℕ
-  pub plays : AllPlay s.zones s.limits [] s.steps.items lines full history
+  pub makes : MakesAll s.zones s.limits [] s.steps.items lines full history
   pub promise : KeepsPromise s.limits.window history
   pub printed : text ≡ lines ++ report_of s.limits.window history
 
@@ -53,7 +53,7 @@ pub record IsBegun (s : Script) (text : List ℕ) : Type 0 where
   pub steps : s.steps.items ≡ done ++ left
   pub full : Bool
   pub history : List Told
-  pub plays : AllPlay s.zones s.limits [] done text full history
+  pub makes : MakesAll s.zones s.limits [] done text full history
 
 -- the run as far as it came where memory or a writer failed
 -- rule: replay-cut

@@ -13,10 +13,10 @@ use Rattle.cj_calls.specs.declared.caller.Caller.{Caller}
 use Rattle.cj_calls.specs.declared.reply.Reply.{Reply}
 use Rattle.cj_calls.specs.Rows.{Told}
 use Rattle.cj_state.specs.Legal.{answer_of, is_entered, state_of}
-use Rattle.cj_world.specs.Worlds.{Ledger, told}
+use Rattle.cj_world.specs.Worlds.{WorldLog, told}
 use Rattle.cj_report.specs.Lines.{step_line}
 use Rattle.cj_script.specs.declared.step.Step.{Step}
-use Rattle.cj_replay.specs.snapshots.Sights.{seen_of}
+use Rattle.cj_replay.specs.snapshots.Snapshots.{seen_of}
 use Rattle.cj_replay.specs.Calls.{IsCallOf}
 
 -- ---- one step
@@ -26,7 +26,7 @@ abbrev pub job_at : ℕ → List Told → Place → Option Job
 job_at window h key = map.get (state_of window h).store.jobs key
 
 -- the Job that stands at the key in a world, if one is given
-abbrev pub jobs_in : Option Ledger → Place → Option Job
+abbrev pub jobs_in : Option WorldLog → Place → Option Job
 jobs_in None key = None
 jobs_in (Some w) key = job_at w.limits.window w.history key
 
@@ -54,9 +54,9 @@ wants_memory other = false
 -- the step's line is that of the answer that the history so far gives to its call, and its entry is added;
 -- and whether the history was found full
 -- rule: replay-lines
-pub record Plays (zones : ZoneTable) (limits : Kept) (h : List Told) (step : Step) (line : List ℕ) (full : Bool) (h' : List Told) : Type 0 where
+pub record MakesStep (zones : ZoneTable) (limits : Kept) (h : List Told) (step : Step) (line : List ℕ) (full : Bool) (h' : List Told) : Type 0 where
   pub call : Call
-  pub means : IsCallOf zones (seen_of step.caller.number h) (job_at limits.window h) step.act call
+  pub means : IsCallOf zones (seen_of step.caller.number h) (job_at limits.window h) step.operation call
   pub answer : Result Reply Refusal
   pub given : answer ≡ answered limits h step.caller call
   pub printed : line ≡ step_line (place_after h answer) step.who step.verb answer
@@ -65,14 +65,14 @@ pub record Plays (zones : ZoneTable) (limits : Kept) (h : List Told) (step : Ste
 
 -- ---- all steps
 
--- a step plays, and the others go on from what it leaves
-pub record PlaysFirst (zones : ZoneTable) (limits : Kept) (h : List Told) (step : Step) (text : List ℕ) (full : Bool) (Others : List Told → List ℕ → Bool → Type 0) : Type 0 where
+-- a step makes, and the others go on from what it leaves
+pub record MakesFirst (zones : ZoneTable) (limits : Kept) (h : List Told) (step : Step) (text : List ℕ) (full : Bool) (Others : List Told → List ℕ → Bool → Type 0) : Type 0 where
   pub line : List ℕ
   pub rest : List ℕ
   pub now : Bool
   pub later : Bool
   pub between : List Told
-  pub plays : Plays zones limits h step line now between
+  pub makes : MakesStep zones limits h step line now between
   pub others : Others between rest later
   pub printed : text ≡ line ++ rest
   pub found : full ≡ (now || later)
@@ -80,7 +80,7 @@ pub record PlaysFirst (zones : ZoneTable) (limits : Kept) (h : List Told) (step 
 -- the lines of all steps, each as the history so far answers it, whether one of them found the history full,
 -- and the history in the end
 -- rules: replay-lines, replay-full
-abbrev pub AllPlay : ZoneTable → Kept → List Told → List Step → List ℕ → Bool → List Told → Type 0
-AllPlay zones limits h [] text full h' = (text ≡ []) × (full ≡ false) × (h' ≡ h)
-AllPlay zones limits h (step ∷ steps) text full h' =
-    PlaysFirst zones limits h step text full (λ between rest later. AllPlay zones limits between steps rest later h')
+abbrev pub MakesAll : ZoneTable → Kept → List Told → List Step → List ℕ → Bool → List Told → Type 0
+MakesAll zones limits h [] text full h' = (text ≡ []) × (full ≡ false) × (h' ≡ h)
+MakesAll zones limits h (step ∷ steps) text full h' =
+    MakesFirst zones limits h step text full (λ between rest later. MakesAll zones limits between steps rest later h')

@@ -1,3 +1,3 @@
-pub mod Sights
+pub mod Snapshots
 pub mod Plans
 pub mod Remembered

@@ -7,7 +7,7 @@ ghost use Rattle.cj_state.specs.Legal as legal;
 ghost use Rattle.cj_replay.specs.snapshots.Remembered.{Remembers};
 ghost use Rattle.cj_replay.specs.Runs as said;
 
-use crate::snapshots::Sights;
+use crate::snapshots::Snapshots;
 use cj_calls::{Answer, Call, Caller};
 use cj_report::step_line;
 use cj_script::Step;
@@ -100,17 +100,17 @@ pub(crate) fn line_of(
 /// Remembers what the caller has seen by this answer.
 pub(crate) fn note(
     alloc: Global,
-    sights: &mut Sights,
+    snapshots: &mut Snapshots,
     caller: Caller,
     call: &Call,
     answer: &Answer,
 ) -> Result<(), Refusal>
-    ensures ok { OnOk result ((h : List Told) → Remembers sights.old h →
-        Remembers sights.new (said.after h caller call.now answer.now)) }
+    ensures ok { OnOk result ((h : List Told) → Remembers snapshots.old h →
+        Remembers snapshots.new (said.after h caller call.now answer.now)) }
     ensures err { IfErr result (λ e. e ≡ OutOfMemory) }
 {
     if is_entered(answer) {
-        sights.note(alloc, caller, call, answer)
+        snapshots.note(alloc, caller, call, answer)
     } else {
         Ok(())
     }

@@ -4,12 +4,12 @@
 
 mod answer;
 mod call;
-mod play;
 mod report;
 mod run;
 mod snapshots;
+mod step;
 
 pub use call::unseen_call;
 pub use report::report_text;
 pub use run::replay;
-pub use snapshots::{Sight, Sights, plan_for, reasons_for};
+pub use snapshots::{Snapshot, Snapshots, plan_for, reasons_for};

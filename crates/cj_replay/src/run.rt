@@ -6,9 +6,9 @@ ghost use Rattle.cj_replay.specs.snapshots.Remembered.{Remembers};
 ghost use Rattle.cj_replay.specs.Replays.{IsPartOf, IsReplayed, KeepsPromise};
 ghost use Rattle.cj_replay.specs.Printing.{BreaksOff, CutsReport, HasPlayed, PrintsPart, PrintsReport, PrintsStep};
 
-use crate::play::play;
 use crate::report::world_report;
-use crate::snapshots::Sights;
+use crate::snapshots::Snapshots;
+use crate::step::make_step;
 use cj_io::{Failure, Pending};
 use cj_script::{Script, Step};
 use cj_world::World;
@@ -22,23 +22,23 @@ fn print_step<W: Write>(
     alloc: Global,
     zones: &ZoneTable,
     world: &mut World,
-    sights: &mut Sights,
+    snapshots: &mut Snapshots,
     pending: &mut Pending,
     out: &mut W,
     step: &Step,
 ) -> Result<bool, Failure>
-    requires { Remembers sights.old world.old.history }
+    requires { Remembers snapshots.old world.old.history }
     ensures ok { IfOk result (λ full. PrintsStep zones.now world.old.limits world.old.history
         step.now full world.new.history (W.contents out.old) pending.old (W.contents out.new)
         pending.new) }
-    ensures remembered { OnOk result (Remembers sights.new world.new.history) }
+    ensures remembered { OnOk result (Remembers snapshots.new world.new.history) }
     ensures limits { world.new.limits ≡ world.old.limits }
     ensures err { OnErr result (PrintsPart zones.now world.old.limits world.old.history step.now
         (W.contents out.old) pending.old (W.contents out.new)) }
 {
-    let played = play(alloc, zones, world, sights, step)?;
-    pending.print(out, played.line.as_str())?;
-    Ok(played.is_full)
+    let stepped = make_step(alloc, zones, world, snapshots, step)?;
+    pending.print(out, stepped.line.as_str())?;
+    Ok(stepped.is_full)
 }
 
 // Makes all steps, and prints their lines. Answers whether the history was found full.
@@ -47,11 +47,11 @@ fn print_all<W: Write>(
     zones: &ZoneTable,
     steps: &[Step],
     world: &mut World,
-    sights: &mut Sights,
+    snapshots: &mut Snapshots,
     pending: &mut Pending,
     out: &mut W,
 ) -> Result<bool, Failure>
-    requires remembered { Remembers sights.old world.old.history }
+    requires remembered { Remembers snapshots.old world.old.history }
     requires empty { pending.old ≡ [] }
     ensures ok { IfOk result (λ full. HasPlayed zones.now world.old.limits world.old.history
         steps.now full world.new.history (W.contents out.old) (W.contents out.new) pending.new) }
@@ -61,7 +61,7 @@ fn print_all<W: Write>(
 {
     let mut is_full = false;
     for step in steps {
-        let found = print_step(alloc, zones, world, sights, pending, out, step)?;
+        let found = print_step(alloc, zones, world, snapshots, pending, out, step)?;
         is_full = is_full || found;
     }
     Ok(is_full)
@@ -106,14 +106,14 @@ fn replay_on<W: Write>(
     ensures begun { OnErr result ((text : List ℕ) × IsPartOf script.now text
         × AppendsSome (W.contents out.old) (W.contents out.new) text) }
 {
-    let mut sights = Sights::new(alloc);
+    let mut snapshots = Snapshots::new(alloc);
     let mut pending = Pending::new(alloc);
     let is_full = print_all(
         alloc,
         &script.zones,
         script.steps.as_slice(),
         world,
-        &mut sights,
+        &mut snapshots,
         &mut pending,
         out,
     )?;

@@ -7,9 +7,9 @@ use Rattle.cj_calls.specs.declared.caller.Role.{Role}
 use Rattle.cj_calls.specs.declared.caller.Role.TheVariants.{User}
 use Rattle.cj_hub.specs.Receipts.{IsExact, PassView, placed}
 use Rattle.cj_hub.specs.declared.receipt.Receipt.{Receipt}
-use Rattle.cj_script.specs.declared.simulation.course.Course.{Course}
-use Rattle.cj_run.specs.Courses.{acts_below}
-use Rattle.cj_run.specs.Deeds.{AreDone, AreOf, Does, HasPlayed}
+use Rattle.cj_script.specs.declared.simulation.scenario.Simulation.{Simulation}
+use Rattle.cj_run.specs.Simulations.{operations_below}
+use Rattle.cj_run.specs.Deeds.{AreDone, AreOf, Does, HasDriven}
 use Rattle.cj_run.specs.Runs.{IsReport, IsRun}
 
 -- In a list with one put behind, that one stands at the place after all others.
@@ -22,20 +22,20 @@ last_of_all : {X : Type 0} (P : X → Type 0) (xs : List X) (x : X) → All P (x
 last_of_all P xs x all = subst P (last_at xs x x) (all (length xs) x (omega (arith, length-append xs (x ∷ []))))
 
 -- The receipts of a user's pass that had none are the new ones.
-news_alone : (c : Course) (h : List Told) (p p' : PassView) (n : ℕ) → p.receipts ≡ [] → p.role ≡ User
-    → (d : Does c.zones (acts_below c n) p p') → IsExact h p'
-    → AreOf User c.zones (acts_below c n) (placed p'.number h)
+news_alone : (c : Simulation) (h : List Told) (p p' : PassView) (n : ℕ) → p.receipts ≡ [] → p.role ≡ User
+    → (d : Does c.zones (operations_below c n) p p') → IsExact h p'
+    → AreOf User c.zones (operations_below c n) (placed p'.number h)
 news_alone c h p p' n none user d exact =
-    subst (λ (role : Role). AreOf role c.zones (acts_below c n) (placed p'.number h)) user
-    (subst (λ (rs : List Receipt). AreOf p.role c.zones (acts_below c n) rs)
+    subst (λ (role : Role). AreOf role c.zones (operations_below c n) (placed p'.number h)) user
+    (subst (λ (rs : List Receipt). AreOf p.role c.zones (operations_below c n) rs)
     (ap (λ (rs : List Receipt). rs ++ d.news) (sym none) ∙ ap (λ (q : PassView). q.receipts) (sym d.kept) ∙ exact)
     d.are)
 
 -- The report of the passes of a run is a run's, where the last is that of a user who did
 -- all that the scenario says.
-pub played_report : (c : Course) (p p' : PassView) (others : List PassView) (text : List ℕ) → p.receipts ≡ []
-    → p.role ≡ User → HasPlayed c p p' → IsReport (others ++ p' ∷ []) text → IsRun c text
-played_report c p p' others text none user h r = record {
+pub driven_report : (c : Simulation) (p p' : PassView) (others : List PassView) (text : List ℕ) → p.receipts ≡ []
+    → p.role ≡ User → HasDriven c p p' → IsReport (others ++ p' ∷ []) text → IsRun c text
+driven_report c p p' others text none user h r = record {
   window = r.window;
   history = r.history;
   promise = r.promise;
@@ -46,8 +46,8 @@ played_report c p p' others text none user h r = record {
   printed = r.printed;
 }
 
--- For run_course: the report of passes of which the last is such a user's is that of the run.
-pub done_report : (c : Course) (ps : List PassView) (text : List ℕ) → AreDone c ps → IsReport ps text → IsRun c text
+-- For run_simulation: the report of passes of which the last is such a user's is that of the run.
+pub done_report : (c : Simulation) (ps : List PassView) (text : List ℕ) → AreDone c ps → IsReport ps text → IsRun c text
 done_report c ps text done r =
-    played_report c done.3.0 done.1 done.0 text done.3.1 done.3.2 done.3.3
+    driven_report c done.3.0 done.1 done.0 text done.3.1 done.3.2 done.3.3
     (subst (λ (qs : List PassView). IsReport qs text) done.2 r)

@@ -1,4 +1,4 @@
-pub mod Courses
+pub mod Simulations
 pub mod Deeds
 pub mod Made
 pub mod Readings

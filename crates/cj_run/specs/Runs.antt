@@ -5,9 +5,9 @@ use Rattle.cj_calls.specs.declared.caller.Role.TheVariants.{User}
 use Rattle.cj_hub.specs.Receipts.{IsExact, PassView, placed}
 use Rattle.cj_worker.specs.declared.workers.WorkerEnd.{WorkerEnd}
 use Rattle.cj_script.specs.simulation.Spans.{IsInstant}
-use Rattle.cj_script.specs.declared.simulation.course.Course.{Course}
+use Rattle.cj_script.specs.declared.simulation.scenario.Simulation.{Simulation}
 use Rattle.cj_replay.specs.Replays.{KeepsPromise, report_of}
-use Rattle.cj_run.specs.Courses.{acts_below}
+use Rattle.cj_run.specs.Simulations.{operations_below}
 use Rattle.cj_run.specs.Deeds.{AreOf}
 
 abbrev pub pass_at : WorkerEnd → PassView
@@ -36,12 +36,12 @@ pub record IsReport (passes : List PassView) (text : List ℕ) : Type 0 where
 -- that role, called for just what the scenario says: for each CronJob's creation, and then for each edit, in the
 -- order of their instants
 -- rules: run-edits, run-report
-pub record IsRun (c : Course) (text : List ℕ) : Type 0 where
+pub record IsRun (c : Simulation) (text : List ℕ) : Type 0 where
   pub window : ℕ
   pub history : List Told
   pub promise : KeepsPromise window history
   pub instants : ℕ
   pub all : (n : ℕ) → (n < instants) ↔ IsInstant c.span n
   pub user : ℕ
-  pub did : AreOf User c.zones (acts_below c instants) (placed user history)
+  pub did : AreOf User c.zones (operations_below c instants) (placed user history)
   pub printed : text ≡ report_of window history

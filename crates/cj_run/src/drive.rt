@@ -1,8 +1,8 @@
 // The instants of a run, one after the other.
 ghost use Rattle.std.specs.Prelude.{◌≡◌, OnOk};
 ghost use Rattle.cj_script.specs.simulation.Spans.{instant, IsInstant};
-ghost use Rattle.cj_run.specs.Courses.{edits_at};
-ghost use Rattle.cj_run.specs.Deeds.{Does, HasPlayed};
+ghost use Rattle.cj_run.specs.Simulations.{edits_at};
+ghost use Rattle.cj_run.specs.Deeds.{Does, HasDriven};
 
 use crate::clock::RunClock;
 use crate::ends::end_jobs;
@@ -11,7 +11,7 @@ use crate::rest::{Follower, Halt};
 use crate::user::{create_all, edit_all};
 use cj_calls::{Call, Reply};
 use cj_hub::{Hub, Pass, Receipt};
-use cj_script::Course;
+use cj_script::Simulation;
 use cj_types::{Job, Millis, Refusal, Seconds, Shared};
 use std::alloc::Global;
 use std::mem;
@@ -20,7 +20,7 @@ use std::thread::Threads;
 
 /// Who calls in a run beside its workers, and what was noted of the Jobs that were made.
 #[derive(Drop)]
-pub(crate) struct Cast {
+pub(crate) struct Participants {
     pub user: Pass,
     pub follower: Follower,
     pub runners: Vec<Pass>,
@@ -40,15 +40,16 @@ fn note<R: Wait>(
     rt: &R,
     alloc: Global,
     hub: &Hub,
-    course: &Course,
-    cast: &mut Cast,
+    simulation: &Simulation,
+    participants: &mut Participants,
     now: Seconds,
 ) -> Result<(), Refusal>
-    ensures { cast.new.user ≡ cast.old.user }
+    ensures { participants.new.user ≡ participants.old.user }
 {
-    let receipt = hub.call(rt, &mut cast.follower.pass, Call::ListJobs)?;
-    cast.made
-        .note_all(alloc, &course.runs, now, jobs_in(&receipt))
+    let receipt = hub.call(rt, &mut participants.follower.pass, Call::ListJobs)?;
+    participants
+        .made
+        .note_all(alloc, &simulation.runs, now, jobs_in(&receipt))
 }
 
 // Ends the Jobs that are due at the moment.
@@ -56,14 +57,14 @@ fn end<R: Threads + Wait + Sync>(
     rt: &R,
     alloc: Global,
     hub: &Hub,
-    cast: &mut Cast,
+    participants: &mut Participants,
     now: Seconds,
 ) -> Result<(), Refusal>
-    ensures { cast.new.user ≡ cast.old.user }
+    ensures { participants.new.user ≡ participants.old.user }
 {
-    let runners = mem::replace(&mut cast.runners, Vec::new(alloc));
-    let (runners, result) = end_jobs(rt, alloc, hub, runners, &mut cast.made, now);
-    cast.runners = runners;
+    let runners = mem::replace(&mut participants.runners, Vec::new(alloc));
+    let (runners, result) = end_jobs(rt, alloc, hub, runners, &mut participants.made, now);
+    participants.runners = runners;
     result
 }
 
@@ -74,25 +75,25 @@ fn live<R: Threads + Wait + Sync>(
     alloc: Global,
     hub: &Hub,
     clock: &RunClock,
-    course: &Course,
-    cast: &mut Cast,
+    simulation: &Simulation,
+    participants: &mut Participants,
     now: Seconds,
 ) -> Result<(), Halt>
-    ensures { OnOk result (Does course.now.zones (edits_at course.now.edits.items now) cast.old.user
-        cast.new.user) }
+    ensures { OnOk result (Does simulation.now.zones (edits_at simulation.now.edits.items now) participants.old.user
+        participants.new.user) }
 {
-    end(rt, alloc, hub, cast, now)?;
+    end(rt, alloc, hub, participants, now)?;
     edit_all(
         rt,
         alloc,
         hub,
-        &mut cast.user,
-        &course.zones,
-        course.edits.as_slice(),
+        &mut participants.user,
+        &simulation.zones,
+        simulation.edits.as_slice(),
         now,
     )?;
-    let rest = cast.follower.settle(rt, hub, Millis::from(now))?;
-    note(rt, alloc, hub, course, cast, now)?;
+    let rest = participants.follower.settle(rt, hub, Millis::from(now))?;
+    note(rt, alloc, hub, simulation, participants, now)?;
     clock.advance(rest);
     Ok(())
 }
@@ -103,16 +104,16 @@ fn live_at<R: Threads + Wait + Sync>(
     alloc: Global,
     hub: &Hub,
     clock: &RunClock,
-    course: &Course,
-    cast: &mut Cast,
+    simulation: &Simulation,
+    participants: &mut Participants,
     n: u64,
 ) -> Result<(), Halt>
-    requires { IsInstant course.now.span n }
-    ensures { OnOk result (Does course.now.zones
-        (edits_at course.now.edits.items (instant course.now.span n)) cast.old.user cast.new.user) }
+    requires { IsInstant simulation.now.span n }
+    ensures { OnOk result (Does simulation.now.zones
+        (edits_at simulation.now.edits.items (instant simulation.now.span n)) participants.old.user participants.new.user) }
 {
-    let now = course.span.instant(n).unwrap();
-    live(rt, alloc, hub, clock, course, cast, now)
+    let now = simulation.span.instant(n).unwrap();
+    live(rt, alloc, hub, clock, simulation, participants, now)
 }
 
 /// The CronJobs are created, and then each instant is lived through; only where the hub is at rest does the clock move.
@@ -121,23 +122,23 @@ pub(crate) fn drive<R: Threads + Wait + Sync>(
     alloc: Global,
     hub: &Hub,
     clock: &RunClock,
-    course: &Course,
-    cast: &mut Cast,
+    simulation: &Simulation,
+    participants: &mut Participants,
 ) -> Result<(), Halt>
-    ensures { OnOk result (HasPlayed course.now cast.old.user cast.new.user) }
+    ensures { OnOk result (HasDriven simulation.now participants.old.user participants.new.user) }
 {
-    let start = course.span.start();
+    let start = simulation.span.start();
     create_all(
         rt,
         alloc,
         hub,
-        &mut cast.user,
-        &course.zones,
-        course.crons.as_slice(),
+        &mut participants.user,
+        &simulation.zones,
+        simulation.crons.as_slice(),
         start,
     )?;
-    for n in 0..course.span.count() {
-        live_at(rt, alloc, hub, clock, course, cast, n)?;
+    for n in 0..simulation.span.count() {
+        live_at(rt, alloc, hub, clock, simulation, participants, n)?;
     }
     Ok(())
 }

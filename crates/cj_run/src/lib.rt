@@ -8,7 +8,7 @@ mod ends;
 mod made;
 mod rest;
 mod run;
-mod stage;
+mod threads;
 mod user;
 
-pub use run::run_course;
+pub use run::run_simulation;

@@ -7,16 +7,16 @@ ghost use Rattle.cj_run.specs.Deeds.{AreDone, HasDone};
 ghost use Rattle.cj_run.specs.Runs.{IsClosed, IsReport, IsRun, all_passes, pass_at};
 
 use crate::clock::RunClock;
-use crate::drive::Cast;
+use crate::drive::Participants;
 use crate::made::Made;
 use crate::rest::{Follower, Halt};
-use crate::stage::{Staged, stage};
+use crate::threads::{Ended, run_threads};
 use cj_calls::Role;
 use cj_hub::{Closed, Hub, HubState, Pass};
 use cj_informer::Informer;
 use cj_io::Failure;
 use cj_replay::report_text;
-use cj_script::Course;
+use cj_script::Simulation;
 use cj_types::{Heap, Limits, Max, Refusal};
 use cj_worker::{SyncEnd, WorkerEnd};
 use std::alloc::Global;
@@ -50,13 +50,13 @@ fn new_follower<R: Wait>(rt: &R, alloc: Global, hub: &Hub) -> Result<Follower, R
     })
 }
 
-fn new_cast<R: Wait>(rt: &R, alloc: Global, hub: &Hub) -> Result<Cast, Refusal>
+fn new_participants<R: Wait>(rt: &R, alloc: Global, hub: &Hub) -> Result<Participants, Refusal>
     ensures unused { IfOk result (λ c. c.user.receipts ≡ []) }
     ensures user { IfOk result (λ c. c.user.role ≡ User) }
 {
     let runners = enroll(rt, alloc, hub, Role::Runner, RUNNERS)?;
     let follower = new_follower(rt, alloc, hub)?;
-    Ok(Cast {
+    Ok(Participants {
         user: hub.enroll(rt, Role::User)?,
         follower,
         runners,
@@ -84,15 +84,15 @@ fn failure_of(ends: &Result<Vec<WorkerEnd>, Refusal>) -> Failure {
 }
 
 // Why the instants were not all lived through, or were in vain since a worker gave up.
-fn judge<R: Wait>(rt: &R, hub: &Hub, staged: &Staged) -> Result<(), Failure>
-    ensures { OnOk result (IsOk staged.now.driven) }
+fn check_end<R: Wait>(rt: &R, hub: &Hub, ended: &Ended) -> Result<(), Failure>
+    ensures { OnOk result (IsOk ended.now.driven) }
 {
-    match &staged.driven {
+    match &ended.driven {
         Err(Halt::Refused(Refusal::HistoryFull)) => Err(Failure::HistoryFull),
         Err(Halt::Refused(_)) => Err(Failure::Memory),
-        Err(Halt::GivenUp) => Err(failure_of(&staged.ends)),
-        Ok(()) => match hub.state(rt, staged.cast.follower.informer.seen()) {
-            HubState::Broken => Err(failure_of(&staged.ends)),
+        Err(Halt::GivenUp) => Err(failure_of(&ended.ends)),
+        Ok(()) => match hub.state(rt, ended.participants.follower.informer.seen()) {
+            HubState::Broken => Err(failure_of(&ended.ends)),
             _ => Ok(()),
         },
     }
@@ -110,18 +110,22 @@ fn passes_at(alloc: Global, ends: Vec<WorkerEnd>) -> Result<Vec<Pass>, Failure>
 }
 
 // All passes of a run: the informer's, the runners', the workers', and the user's last.
-fn passes_of(alloc: Global, cast: Cast, ends: Vec<WorkerEnd>) -> Result<Vec<Pass>, Failure>
+fn passes_of(
+    alloc: Global,
+    participants: Participants,
+    ends: Vec<WorkerEnd>,
+) -> Result<Vec<Pass>, Failure>
     ensures all { IfOk result (λ ps. ps.items
-        ≡ all_passes cast.follower.pass cast.runners.items ends.items cast.user) }
+        ≡ all_passes participants.follower.pass participants.runners.items ends.items participants.user) }
     ensures last { IfOk result (λ ps. (others : List PassView)
-        × (ps.items ≡ others ++ cast.user ∷ [])) }
+        × (ps.items ≡ others ++ participants.user ∷ [])) }
 {
-    let Cast {
+    let Participants {
         user,
         follower,
         mut runners,
         made: _,
-    } = cast;
+    } = participants;
     let mut workers = passes_at(alloc, ends)?;
     let mut passes = Vec::new(alloc);
     passes.push(follower.pass)?;
@@ -168,35 +172,42 @@ fn report(alloc: Global, hub: Heap<Hub>, passes: Vec<Pass>) -> Result<String, Fa
 }
 
 // The threads of a run on the hub.
-fn staged<R: Threads + Wait + Sync>(
+fn ended<R: Threads + Wait + Sync>(
     rt: &R,
     alloc: Global,
     hub: &Hub,
-    course: &Course,
+    simulation: &Simulation,
     workers: u64,
-) -> Result<Heap<Staged>, Refusal>
-    ensures { IfOk result (λ s. OnOk s.driven (HasDone course.now s.cast.user)) }
+) -> Result<Heap<Ended>, Refusal>
+    ensures { IfOk result (λ s. OnOk s.driven (HasDone simulation.now s.participants.user)) }
 {
     let passes = enroll(rt, alloc, hub, Role::Worker, workers)?;
-    let cast = new_cast(rt, alloc, hub)?;
-    let clock = RunClock::new(course.span);
-    Heap::new(alloc, stage(rt, alloc, hub, &clock, course, cast, passes))
+    let participants = new_participants(rt, alloc, hub)?;
+    let clock = RunClock::new(simulation.span);
+    Heap::new(
+        alloc,
+        run_threads(rt, alloc, hub, &clock, simulation, participants, passes),
+    )
 }
 
 // What a run on the hub leaves: all its passes, the user's last.
-fn played<R: Threads + Wait + Sync>(
+fn driven_passes<R: Threads + Wait + Sync>(
     rt: &R,
     alloc: Global,
     hub: &Hub,
-    course: &Course,
+    simulation: &Simulation,
     workers: u64,
 ) -> Result<Vec<Pass>, Failure>
-    ensures { IfOk result (λ ps. AreDone course.now ps.items) }
+    ensures { IfOk result (λ ps. AreDone simulation.now ps.items) }
 {
-    let staged = staged(rt, alloc, hub, course, workers)?;
-    judge(rt, hub, staged.get())?;
-    let Staged { cast, ends, .. } = staged.into_inner();
-    passes_of(alloc, cast, ends?)
+    let ended = ended(rt, alloc, hub, simulation, workers)?;
+    check_end(rt, hub, ended.get())?;
+    let Ended {
+        participants,
+        ends,
+        ..
+    } = ended.into_inner();
+    passes_of(alloc, participants, ends?)
 }
 
 /// Runs a scenario on an empty world with so many workers, and gives the report of the end: a line for each
@@ -207,16 +218,16 @@ fn played<R: Threads + Wait + Sync>(
 /// this returns. There is no report where a call found the history full, or where memory was wanting or a
 /// thread couldn't be started.
 #[tactic(auto, using(crate::proofs::Ran::done_report))]
-pub fn run_course<R: Threads + Wait + Sync>(
+pub fn run_simulation<R: Threads + Wait + Sync>(
     rt: &R,
     alloc: Global,
-    course: &Course,
+    simulation: &Simulation,
     workers: u64,
 ) -> Result<String, Failure>
-    ensures { IfOk result (λ s. IsRun course.now (string_bytes s)) }
+    ensures { IfOk result (λ s. IsRun simulation.now (string_bytes s)) }
 {
     let limits = Limits::new(16_777_216, 1_000).unwrap();
     let hub = Heap::new(alloc, Hub::new(alloc, limits)?)?;
-    let passes = played(rt, alloc, hub.get(), course, workers)?;
+    let passes = driven_passes(rt, alloc, hub.get(), simulation, workers)?;
     report(alloc, hub, passes)
 }

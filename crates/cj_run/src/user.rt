@@ -1,12 +1,12 @@
 // What the user of a run does.
 ghost use Rattle.std.specs.Prelude.{OnOk, [], ◌∷◌};
-ghost use Rattle.cj_run.specs.Courses.{creation, creations, edits_at};
+ghost use Rattle.cj_run.specs.Simulations.{creation, creations, edits_at};
 ghost use Rattle.cj_run.specs.Deeds.{Called, Does};
 
 use cj_calls::Call;
 use cj_hub::{Hub, Pass};
 use cj_replay::unseen_call;
-use cj_script::{Act, Edit};
+use cj_script::{Edit, Operation};
 use cj_types::{CronJobDraft, Refusal, Seconds, Shared, TryCopy};
 use cj_zone::ZoneTable;
 use std::alloc::Global;
@@ -58,22 +58,22 @@ pub(crate) fn create_all<R: Wait>(
 }
 
 #[tactic(auto, using(crate::proofs::Done::does_call))]
-fn act<R: Wait>(
+fn operation<R: Wait>(
     rt: &R,
     alloc: Global,
     hub: &Hub,
     user: &mut Pass,
     zones: &ZoneTable,
-    act: &Act,
+    operation: &Operation,
 ) -> Result<(), Refusal>
-    ensures { OnOk result (Does zones.now (act.now ∷ []) user.old user.new) }
+    ensures { OnOk result (Does zones.now (operation.now ∷ []) user.old user.new) }
 {
-    let call = unseen_call(alloc, zones, act)?;
+    let call = unseen_call(alloc, zones, operation)?;
     make(rt, hub, user, call)
 }
 
 // Makes an edit, if it is one of the moment.
-#[tactic(auto, unfolding(crate::specs::Courses::edits_at), using(crate::proofs::Done::does_nothing))]
+#[tactic(auto, unfolding(crate::specs::Simulations::edits_at), using(crate::proofs::Done::does_nothing))]
 fn edit<R: Wait>(
     rt: &R,
     alloc: Global,
@@ -86,7 +86,7 @@ fn edit<R: Wait>(
     ensures { OnOk result (Does zones.now (edits_at (edit.now ∷ []) now) user.old user.new) }
 {
     if edit.at == now {
-        act(rt, alloc, hub, user, zones, &edit.act)
+        operation(rt, alloc, hub, user, zones, &edit.operation)
     } else {
         Ok(())
     }

@@ -5,7 +5,7 @@ use Rattle.std.proofs.lemmas.List.Elements.{filter-append}
 use Rattle.std.specs.List.{AllByRecursion, filter}
 use Rattle.cj_calls.specs.Rows.{Told}
 use Rattle.cj_calls.specs.declared.call.Call.{Call}
-use Rattle.cj_world.specs.Worlds.{Ledger}
+use Rattle.cj_world.specs.Worlds.{WorldLog}
 use Rattle.cj_hub.specs.Receipts.{PassView, caller_of, with_receipt}
 use Rattle.cj_hub.specs.Runs.{more, extended}
 use Rattle.cj_hub.specs.declared.receipt.Receipt.{Receipt}
@@ -47,7 +47,7 @@ more_last h (x ∷ es) e = more_last (x ∷ h) es e
 
 -- For end_share: a pass that has some receipts more has, after one call more, that call's receipt
 -- too.
-pub keeps_more : {t : Bool} {w w' : Ledger} {p p1 p2 : PassView} {call : Call} {rs rs' : List Receipt} → Keeps p p1 rs
+pub keeps_more : {t : Bool} {w w' : WorldLog} {p p1 p2 : PassView} {call : Call} {rs rs' : List Receipt} → Keeps p p1 rs
     → Makes t w w' p1 p2 call rs rs' → Keeps p p2 rs'
 keeps_more {p = p} {rs = rs} k m = record {
   own =
@@ -61,18 +61,18 @@ keeps_more {p = p} {rs = rs} k m = record {
 }
 
 -- For end_share: a history that is told gained, after one call more, the entries of all receipts.
-pub told_more : {t : Bool} {w w' : Ledger} {p1 p2 : PassView} {call : Call} {rs rs' : List Receipt} (w0 : Ledger)
+pub told_more : {t : Bool} {w w' : WorldLog} {p1 p2 : PassView} {call : Call} {rs rs' : List Receipt} (w0 : WorldLog)
     → (IsTrue t → w ≡ extended w0 (entries_of rs)) → Makes t w w' p1 p2 call rs rs'
     → IsTrue t → w' ≡ extended w0 (entries_of rs')
 told_more {rs = rs} w0 told m is =
     let e = m.receipt.entry in
-    m.told is ∙ ap (λ (x : Ledger). record x { history = e ∷ x.history }) (told is)
+    m.told is ∙ ap (λ (x : WorldLog). record x { history = e ∷ x.history }) (told is)
     ∙ ap (λ (h : List Told). record w0 { history = h }) (sym (more_last w0.history (entries_of rs) e))
     ∙ ap (λ (es : List Told). extended w0 es) (sym (map_push (λ (r : Receipt). r.entry) rs m.receipt))
     ∙ ap (λ (qs : List Receipt). extended w0 (entries_of qs)) (sym m.added)
 
 -- For end_share: the calls of the receipts have, after one call more, that call behind them.
-pub calls_more : {t : Bool} {w w' : Ledger} {p1 p2 : PassView} {call : Call} {rs rs' : List Receipt} (cs : List Call)
+pub calls_more : {t : Bool} {w w' : WorldLog} {p1 p2 : PassView} {call : Call} {rs rs' : List Receipt} (cs : List Call)
     → calls_of rs ≡ cs → Makes t w w' p1 p2 call rs rs' → calls_of rs' ≡ cs ++ call ∷ []
 calls_more {call = call} {rs = rs} cs so_far m =
     ap calls_of m.added ∙ map_push (λ (r : Receipt). r.entry.call) rs m.receipt

@@ -4,7 +4,7 @@ use Rattle.std.specs.List.{AllByRecursion, flat_map}
 use Rattle.cj_base.specs.declared.refusal.Refusal.{Refusal}
 use Rattle.cj_base.specs.declared.refusal.Refusal.TheVariants as No
 use Rattle.cj_calls.specs.declared.call.Call.{Call}
-use Rattle.cj_world.specs.Worlds.{Ledger}
+use Rattle.cj_world.specs.Worlds.{WorldLog}
 use Rattle.cj_hub.specs.Receipts.{PassView, caller_of, with_receipt}
 use Rattle.cj_hub.specs.declared.receipt.Receipt.{Receipt}
 use Rattle.cj_runner.specs.Dues.{due_ends}
@@ -24,7 +24,7 @@ pub record AreShares (passes : List PassView) (running : List Running) (shares :
 
 -- one call was entered: its receipt is the pass's, and comes after the others; a history that is told gained
 -- just its entry
-pub record Makes (tells : Bool) (w w' : Ledger) (p p' : PassView) (call : Call) (rs rs' : List Receipt) : Type 0 where
+pub record Makes (tells : Bool) (w w' : WorldLog) (p p' : PassView) (call : Call) (rs rs' : List Receipt) : Type 0 where
   pub receipt : Receipt
   pub call_is : receipt.entry.call ≡ call
   pub own : receipt.entry.caller ≡ caller_of p

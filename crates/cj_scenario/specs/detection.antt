@@ -1,3 +1,3 @@
 pub mod Forms
 pub mod Fractions
-pub mod Glances
+pub mod Detections

@@ -1,8 +1,8 @@
-// What a text of JSON is at a glance: which command takes it, and which of its members nobody reads.
+// What a text of JSON is by its members: which command takes it, and which of its members nobody reads.
 mod form;
 mod fraction;
 mod ignored;
-mod look;
+mod told;
 
 pub use form::Form;
-pub use look::{glance, glance_at};
+pub use told::{detect, detect_at};

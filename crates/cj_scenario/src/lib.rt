@@ -12,7 +12,7 @@ mod scene;
 mod times;
 mod zones;
 
-pub use detection::{Form, glance, glance_at};
+pub use detection::{Form, detect, detect_at};
 pub use fault::SceneFault;
 pub use read::{draft_of, first_fault, read_scene, value_of};
 pub use scene::Scene;

@@ -16,10 +16,10 @@ use Rattle.cj_manifest.specs.Drafts.{cron_draft, job_draft}
 use Rattle.cj_manifest.specs.Faults.{cron_faults, job_faults}
 use Rattle.cj_manifest.specs.Members.{present}
 use Rattle.cj_scenario.specs.Scenes.{AreZones, Refuses}
-use Rattle.cj_script.specs.operations.Acts.{moment_in}
-use Rattle.cj_script.specs.operations.Plain.{plain_act}
-use Rattle.cj_script.specs.declared.operations.act.Act.{Act}
-use Rattle.cj_script.specs.declared.operations.act.Act.TheVariants.{Calls}
+use Rattle.cj_script.specs.operations.Operations.{moment_in}
+use Rattle.cj_script.specs.operations.Plain.{plain_operation}
+use Rattle.cj_script.specs.declared.operations.operation.Operation.{Operation}
+use Rattle.cj_script.specs.declared.operations.operation.Operation.TheVariants.{Calls}
 use Rattle.cj_script.specs.declared.operations.verb.Verb.{Verb}
 use Rattle.cj_script.specs.declared.operations.verb.Verb.TheVariants.{Does, Writes}
 use Rattle.cj_script.specs.declared.operations.verb.Write.{Write}
@@ -32,8 +32,8 @@ use Rattle.cj_script.specs.Callers.{callers_in}
 use Rattle.cj_script.specs.Limits.{limits_in}
 use Rattle.cj_script.specs.Scripts.{IsRefusedValue, told_in}
 use Rattle.cj_script.specs.Lists.{after_fault, all_of, before, both}
-use Rattle.cj_script.specs.Steps.{act_of, deed_in, step_of, steps_of, verb_in, who_in}
-use Rattle.cj_script.specs.Writes.{cron_act, job_act, object_in, write_act}
+use Rattle.cj_script.specs.Steps.{operation_of, deed_in, step_of, steps_of, verb_in, who_in}
+use Rattle.cj_script.specs.Writes.{cron_operation, job_operation, object_in, write_operation}
 
 pub record IsOther {A : Type 0} (r : Result A SceneFault) : Type 0 where
   pub differs : r ≡ Err Syntax → ⊥
@@ -88,54 +88,54 @@ unfolding job_said
 other_job m = other_drafted (job_faults m) (job_draft m)
 
 -- A step that makes a call of a CronJob's manifest isn't refused as no JSON.
-other_cron_act : (zones : List Zone) (call : CronJobDraft → Call) (d : Data) → IsOther (cron_act zones call d)
-other_cron_act zones call d =
+other_cron_operation : (zones : List Zone) (call : CronJobDraft → Call) (d : Data) → IsOther (cron_operation zones call d)
+other_cron_operation zones call d =
     other_then (object_in d) (λ m. then (cron_said zones m) (λ draft. Ok (Calls (call draft))))
     (other_needed (present (codes "object") d))
     (λ m. other_then (cron_said zones m) (λ draft. Ok (Calls (call draft))) (other_cron zones m)
     (λ draft. other_fine (Calls (call draft))))
 
 -- A step that makes a call of a Job's manifest isn't refused as no JSON.
-other_job_act : (call : JobDraft → Call) (d : Data) → IsOther (job_act call d)
-other_job_act call d =
+other_job_operation : (call : JobDraft → Call) (d : Data) → IsOther (job_operation call d)
+other_job_operation call d =
     other_then (object_in d) (λ m. then (job_said m) (λ draft. Ok (Calls (call draft))))
     (other_needed (present (codes "object") d))
     (λ m. other_then (job_said m) (λ draft. Ok (Calls (call draft))) (other_job m)
     (λ draft. other_fine (Calls (call draft))))
 
 -- A step whose verb takes a manifest isn't refused as no JSON, whichever the verb.
-other_write : (zones : List Zone) (verb : Write) (d : Data) → IsOther (write_act zones verb d)
+other_write : (zones : List Zone) (verb : Write) (d : Data) → IsOther (write_operation zones verb d)
 other_write zones Kind.CreateCron d =
-    other_then (needed (moment_in d)) (λ at. cron_act zones (λ draft. Of.CreateCron draft at) d)
+    other_then (needed (moment_in d)) (λ at. cron_operation zones (λ draft. Of.CreateCron draft at) d)
     (other_needed (moment_in d))
-    (λ at. other_cron_act zones (λ draft. Of.CreateCron draft at) d)
-other_write zones Kind.UpdateCron d = other_cron_act zones (λ draft. Of.UpdateCron draft) d
+    (λ at. other_cron_operation zones (λ draft. Of.CreateCron draft at) d)
+other_write zones Kind.UpdateCron d = other_cron_operation zones (λ draft. Of.UpdateCron draft) d
 other_write zones Kind.CreateJob d =
-    other_then (needed (moment_in d)) (λ at. job_act (λ draft. Of.CreateJob draft at) d) (other_needed (moment_in d))
-    (λ at. other_job_act (λ draft. Of.CreateJob draft at) d)
-other_write zones Kind.UpdateJob d = other_job_act (λ draft. Of.UpdateJob draft) d
+    other_then (needed (moment_in d)) (λ at. job_operation (λ draft. Of.CreateJob draft at) d) (other_needed (moment_in d))
+    (λ at. other_job_operation (λ draft. Of.CreateJob draft at) d)
+other_write zones Kind.UpdateJob d = other_job_operation (λ draft. Of.UpdateJob draft) d
 
 -- What a step does isn't refused as no JSON, whether its verb takes a manifest or not.
-other_act : (zones : List Zone) (verb : Verb) (d : Data) → IsOther (act_of zones verb d)
-other_act zones (Writes verb) d = other_write zones verb d
-other_act zones (Does verb) d = other_needed (plain_act verb d)
+other_operation : (zones : List Zone) (verb : Verb) (d : Data) → IsOther (operation_of zones verb d)
+other_operation zones (Writes verb) d = other_write zones verb d
+other_operation zones (Does verb) d = other_needed (plain_operation verb d)
 
 -- A deed, its verb with what it does, isn't refused as no JSON.
 pub other_deed : (zones : List Zone) (d : Data) → IsOther (deed_in zones d)
 unfolding deed_in
 other_deed zones d =
-    let made : Verb → Act → Result Deed SceneFault = λ verb act. Ok (record { verb = verb; act = act }) in
-    let acted : Verb → Result Deed SceneFault = λ verb. then (act_of zones verb d) (made verb) in
+    let made : Verb → Operation → Result Deed SceneFault = λ verb operation. Ok (record { verb = verb; operation = operation }) in
+    let acted : Verb → Result Deed SceneFault = λ verb. then (operation_of zones verb d) (made verb) in
     other_then (needed (verb_in d)) acted (other_needed (verb_in d))
-    (λ verb. other_then (act_of zones verb d) (made verb) (other_act zones verb d)
-    (λ act. record { differs = λ e. absurd (cc e) }))
+    (λ verb. other_then (operation_of zones verb d) (made verb) (other_operation zones verb d)
+    (λ operation. record { differs = λ e. absurd (cc e) }))
 
 -- A step, its caller with the deed, isn't refused as no JSON.
 other_step : (zones : List Zone) (callers : List Named) (d : Data) → IsOther (step_of zones callers d)
 unfolding step_of
 other_step zones callers d =
     let made : Named → Deed → Result Step SceneFault =
-    λ named deed. Ok (record { who = named.name; caller = named.caller; verb = deed.verb; act = deed.act }) in
+    λ named deed. Ok (record { who = named.name; caller = named.caller; verb = deed.verb; operation = deed.operation }) in
     let done : Named → Result Step SceneFault = λ named. then (deed_in zones d) (made named) in
     other_then (needed (who_in callers d)) done (other_needed (who_in callers d))
     (λ named. other_then (deed_in zones d) (made named) (other_deed zones d)

@@ -5,9 +5,9 @@ use Rattle.serde_json.specs.Find.{as_str}
 use Rattle.cj_zone.specs.declared.zone.Zone.{Zone}
 use Rattle.cj_manifest.specs.Members.{present}
 use Rattle.cj_scenario.specs.declared.fault.SceneFault.{SceneFault}
-use Rattle.cj_script.specs.operations.Plain.{plain_act}
+use Rattle.cj_script.specs.operations.Plain.{plain_operation}
 use Rattle.cj_script.specs.operations.Verbs.{verb_named}
-use Rattle.cj_script.specs.declared.operations.act.Act.{Act}
+use Rattle.cj_script.specs.declared.operations.operation.Operation.{Operation}
 use Rattle.cj_script.specs.declared.operations.verb.Verb.{Verb}
 use Rattle.cj_script.specs.declared.operations.verb.Verb.TheVariants.{Does, Writes}
 use Rattle.cj_script.specs.declared.callers.Named.{Named}
@@ -16,7 +16,7 @@ use Rattle.cj_script.specs.declared.step.Step.{Step}
 use Rattle.cj_script.specs.Callers.{caller_named}
 use Rattle.cj_script.specs.Drafts.{needed, then}
 use Rattle.cj_script.specs.Lists.{all_of}
-use Rattle.cj_script.specs.Writes.{write_act}
+use Rattle.cj_script.specs.Writes.{write_operation}
 
 -- ---- one step
 
@@ -30,20 +30,20 @@ who_in callers d = option_and_then (caller_named callers) (option_and_then as_st
 abbrev pub verb_in : Data → Option Verb
 verb_in d = option_and_then verb_named (option_and_then as_str (present (codes "do") d))
 
-abbrev pub act_of : List Zone → Verb → Data → Result Act SceneFault
-act_of zones (Writes verb) d = write_act zones verb d
-act_of zones (Does verb) d = needed (plain_act verb d)
+abbrev pub operation_of : List Zone → Verb → Data → Result Operation SceneFault
+operation_of zones (Writes verb) d = write_operation zones verb d
+operation_of zones (Does verb) d = needed (plain_operation verb d)
 
 -- what a step does
 -- rule: step-form
 unfoldable pub deed_in : List Zone → Data → Result Deed SceneFault
-deed_in zones d = then (needed (verb_in d)) (λ verb. then (act_of zones verb d) (λ act. Ok (record { verb = verb; act = act })))
+deed_in zones d = then (needed (verb_in d)) (λ verb. then (operation_of zones verb d) (λ operation. Ok (record { verb = verb; operation = operation })))
 
 -- rule: step-form
 unfoldable pub step_of : List Zone → List Named → Data → Result Step SceneFault
 step_of zones callers d =
     then (needed (who_in callers d)) (λ named.
-    then (deed_in zones d) (λ deed. Ok (record { who = named.name; caller = named.caller; verb = deed.verb; act = deed.act })))
+    then (deed_in zones d) (λ deed. Ok (record { who = named.name; caller = named.caller; verb = deed.verb; operation = deed.operation })))
 
 -- ---- all steps
 

@@ -1,5 +1,5 @@
 pub mod Verbs
 pub mod Instants
-pub mod Acts
+pub mod Operations
 pub mod Finishes
 pub mod Plain

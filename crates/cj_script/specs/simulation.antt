@@ -4,4 +4,4 @@ pub mod Runs
 pub mod RunLists
 pub mod Seeds
 pub mod Edits
-pub mod Courses
+pub mod Simulations

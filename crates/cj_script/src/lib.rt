@@ -17,9 +17,10 @@ pub use drafts::cron_said;
 pub use limits::number_or;
 pub use lists::{Reads, list_of};
 pub use operations::{
-    Act, Plain, Verb, Write, instant_of, key_of, number_at, plain_act, present, time_at, verb_named,
+    Operation, Plain, Verb, Write, instant_of, key_of, number_at, plain_operation, present,
+    time_at, verb_named,
 };
 pub use read::read_script;
 pub use script::Script;
-pub use simulation::{Course, Edit, Run, RunEnd, Runs, Span, read_course};
+pub use simulation::{Edit, Run, RunEnd, Runs, Simulation, Span, read_simulation};
 pub use step::{Deed, Step, deed_of};

@@ -1,15 +1,15 @@
-// What a step of a script does: its verb, and the act of a verb that takes no manifest, as a JSON object says it.
-mod act;
+// What a step of a script does: its verb, and the operation of a verb that takes no manifest, as a JSON object says it.
 mod finish;
 mod instant;
 mod keys;
 mod member;
+mod operation;
 mod plain;
 mod verb;
 
-pub use act::Act;
 pub use instant::{instant_of, time_at};
 pub use keys::key_of;
 pub use member::{number_at, present};
-pub use plain::plain_act;
+pub use operation::Operation;
+pub use plain::plain_operation;
 pub use verb::{Plain, Verb, Write, verb_named};

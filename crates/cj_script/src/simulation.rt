@@ -1,16 +1,16 @@
-// Courses: what a run's scenario says, as a JSON text.
-mod course;
+// Simulations: what a run's scenario says, as a JSON text.
 mod edits;
 mod read;
 mod run;
 mod run_lists;
 mod runs;
+mod scenario;
 mod seeds;
 mod span;
 mod times;
 
-pub use course::{Course, Edit};
-pub use read::read_course;
+pub use read::read_simulation;
 pub use run::{Run, RunEnd};
 pub use runs::Runs;
+pub use scenario::{Edit, Simulation};
 pub use span::Span;

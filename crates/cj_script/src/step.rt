@@ -8,8 +8,8 @@ ghost use Rattle.cj_scenario.specs.declared.fault.SceneFault.TheVariants.{Memory
 ghost use Rattle.cj_script.specs.Steps as said;
 
 use crate::callers::{Named, caller_named};
-use crate::operations::{Act, Verb, plain_act, present, verb_named};
-use crate::writes::write_act;
+use crate::operations::{Operation, Verb, plain_operation, present, verb_named};
+use crate::writes::write_operation;
 use cj_base::{Shared, Text};
 use cj_calls::Caller;
 use cj_scenario::SceneFault;
@@ -21,7 +21,7 @@ use std::alloc::Global;
 #[derive(Drop)]
 pub struct Deed {
     pub verb: Verb,
-    pub act: Act,
+    pub operation: Operation,
 }
 
 /// Who does what: the caller with its name, and the verb with what it does.
@@ -29,7 +29,7 @@ pub struct Step {
     pub who: Shared<Text>,
     pub caller: Caller,
     pub verb: Verb,
-    pub act: Act,
+    pub operation: Operation,
 }
 
 // A function of its own, so that whoever gives one up makes one call and not one for each part.
@@ -39,9 +39,9 @@ impl Drop for Step {
             who: _,
             caller: _,
             verb: _,
-            act,
+            operation,
         } = self;
-        drop(act);
+        drop(operation);
     }
 }
 
@@ -57,16 +57,21 @@ fn verb_at(value: &Value) -> Option<Verb>
     verb_named(present(value, "do")?.as_str()?)
 }
 
-fn act_of(alloc: Global, zones: &ZoneTable, verb: Verb, value: &Value) -> Result<Act, SceneFault>
+fn operation_of(
+    alloc: Global,
+    zones: &ZoneTable,
+    verb: Verb,
+    value: &Value,
+) -> Result<Operation, SceneFault>
     requires flat { depth (view value.now) ≤ max_depth }
-    ensures ok { IfOk result (λ a. said.act_of (zones_of zones.now) verb (view value.now) ≡ Ok a) }
+    ensures ok { IfOk result (λ a. said.operation_of (zones_of zones.now) verb (view value.now) ≡ Ok a) }
     ensures err { IfErr result (λ e. e ≢ Memory →
-        said.act_of (zones_of zones.now) verb (view value.now) ≡ Err e) }
+        said.operation_of (zones_of zones.now) verb (view value.now) ≡ Err e) }
 {
     match verb {
-        Verb::Writes(write) => write_act(alloc, zones, write, value),
-        Verb::Does(plain) => match plain_act(alloc, plain, value)? {
-            Some(act) => Ok(act),
+        Verb::Writes(write) => write_operation(alloc, zones, write, value),
+        Verb::Does(plain) => match plain_operation(alloc, plain, value)? {
+            Some(operation) => Ok(operation),
             None => Err(SceneFault::Form),
         },
     }
@@ -84,8 +89,8 @@ pub fn deed_of(alloc: Global, zones: &ZoneTable, value: &Value) -> Result<Deed, 
     let Some(verb) = verb_at(value) else {
         return Err(SceneFault::Form);
     };
-    let act = act_of(alloc, zones, verb, value)?;
-    Ok(Deed { verb, act })
+    let operation = operation_of(alloc, zones, verb, value)?;
+    Ok(Deed { verb, operation })
 }
 
 /// The step that a value says, by these callers and under these zones: `Form` where it has another form, else
@@ -107,11 +112,11 @@ pub(crate) fn step_of(
         return Err(SceneFault::Form);
     };
     let who = named.name.share()?;
-    let Deed { verb, act } = deed_of(alloc, zones, value)?;
+    let Deed { verb, operation } = deed_of(alloc, zones, value)?;
     Ok(Step {
         who,
         caller: named.caller,
         verb,
-        act,
+        operation,
     })
 }

@@ -8,14 +8,14 @@ ghost use Rattle.cj_scenario.specs.declared.fault.SceneFault.TheVariants.{Memory
 ghost use Rattle.cj_script.specs.Writes as said;
 
 use crate::drafts::{cron_said, job_said};
-use crate::operations::{Act, Write, present, time_at};
+use crate::operations::{Operation, Write, present, time_at};
 use cj_calls::Call;
 use cj_scenario::SceneFault;
 use cj_zone::ZoneTable;
 use serde_json::Value;
 use std::alloc::Global;
 
-fn create_cron(alloc: Global, zones: &ZoneTable, value: &Value) -> Result<Act, SceneFault>
+fn create_cron(alloc: Global, zones: &ZoneTable, value: &Value) -> Result<Operation, SceneFault>
     requires flat { depth (view value.now) ≤ max_depth }
     ensures ok { IfOk result (λ a. said.create_cron (zones_of zones.now) (view value.now) ≡ Ok a) }
     ensures err { IfErr result (λ e. e ≢ Memory →
@@ -28,10 +28,10 @@ fn create_cron(alloc: Global, zones: &ZoneTable, value: &Value) -> Result<Act, S
         return Err(SceneFault::Form);
     };
     let draft = cron_said(alloc, zones, manifest)?;
-    Ok(Act::Calls(Call::CreateCron(draft, at)))
+    Ok(Operation::Calls(Call::CreateCron(draft, at)))
 }
 
-fn update_cron(alloc: Global, zones: &ZoneTable, value: &Value) -> Result<Act, SceneFault>
+fn update_cron(alloc: Global, zones: &ZoneTable, value: &Value) -> Result<Operation, SceneFault>
     requires flat { depth (view value.now) ≤ max_depth }
     ensures ok { IfOk result (λ a. said.update_cron (zones_of zones.now) (view value.now) ≡ Ok a) }
     ensures err { IfErr result (λ e. e ≢ Memory →
@@ -41,10 +41,10 @@ fn update_cron(alloc: Global, zones: &ZoneTable, value: &Value) -> Result<Act, S
         return Err(SceneFault::Form);
     };
     let draft = cron_said(alloc, zones, manifest)?;
-    Ok(Act::Calls(Call::UpdateCron(draft)))
+    Ok(Operation::Calls(Call::UpdateCron(draft)))
 }
 
-fn create_job(alloc: Global, value: &Value) -> Result<Act, SceneFault>
+fn create_job(alloc: Global, value: &Value) -> Result<Operation, SceneFault>
     requires flat { depth (view value.now) ≤ max_depth }
     ensures ok { IfOk result (λ a. said.create_job (view value.now) ≡ Ok a) }
     ensures err { IfErr result (λ e. e ≢ Memory → said.create_job (view value.now) ≡ Err e) }
@@ -56,10 +56,10 @@ fn create_job(alloc: Global, value: &Value) -> Result<Act, SceneFault>
         return Err(SceneFault::Form);
     };
     let draft = job_said(alloc, manifest)?;
-    Ok(Act::Calls(Call::CreateJob(draft, at)))
+    Ok(Operation::Calls(Call::CreateJob(draft, at)))
 }
 
-fn update_job(alloc: Global, value: &Value) -> Result<Act, SceneFault>
+fn update_job(alloc: Global, value: &Value) -> Result<Operation, SceneFault>
     requires flat { depth (view value.now) ≤ max_depth }
     ensures ok { IfOk result (λ a. said.update_job (view value.now) ≡ Ok a) }
     ensures err { IfErr result (λ e. e ≢ Memory → said.update_job (view value.now) ≡ Err e) }
@@ -68,22 +68,22 @@ fn update_job(alloc: Global, value: &Value) -> Result<Act, SceneFault>
         return Err(SceneFault::Form);
     };
     let draft = job_said(alloc, manifest)?;
-    Ok(Act::Calls(Call::UpdateJob(draft)))
+    Ok(Operation::Calls(Call::UpdateJob(draft)))
 }
 
 /// What a step with this verb does under the zones: `Form` where its time or its manifest is missing, else
 /// the manifest's first fault.
-pub(crate) fn write_act(
+pub(crate) fn write_operation(
     alloc: Global,
     zones: &ZoneTable,
     verb: Write,
     value: &Value,
-) -> Result<Act, SceneFault>
+) -> Result<Operation, SceneFault>
     requires flat { depth (view value.now) ≤ max_depth }
-    ensures ok { IfOk result (λ a. said.write_act (zones_of zones.now) verb (view value.now)
+    ensures ok { IfOk result (λ a. said.write_operation (zones_of zones.now) verb (view value.now)
         ≡ Ok a) }
     ensures err { IfErr result (λ e. e ≢ Memory →
-        said.write_act (zones_of zones.now) verb (view value.now) ≡ Err e) }
+        said.write_operation (zones_of zones.now) verb (view value.now) ≡ Err e) }
 {
     match verb {
         Write::CreateCron => create_cron(alloc, zones, value),

@@ -1,5 +1,5 @@
 pub mod Readings
-pub mod Moves
+pub mod WorkerCalls
 pub mod Step
 pub mod Sound
 pub mod Legal

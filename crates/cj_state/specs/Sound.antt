@@ -6,7 +6,7 @@ use Rattle.cj_watch.specs.Log.{since}
 use Rattle.cj_queue.specs.Queue.{has}
 use Rattle.cj_state.specs.declared.phases.seat.Seat.{Seat}
 use Rattle.cj_state.specs.declared.state.State.{State}
-use Rattle.cj_state.specs.Moves.{seat_of}
+use Rattle.cj_state.specs.WorkerCalls.{seat_of}
 
 -- the watch was told of each write, what it tells of those that the lists don't know yet follows on what they
 -- know, and who holds a key works on it

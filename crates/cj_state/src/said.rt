@@ -1,6 +1,6 @@
 ghost use Rattle.std.specs.Prelude.{◌≡◌, ◌≢◌, IfOk, IfErr, Ok, Err};
 ghost use Rattle.cj_base.specs.declared.refusal.Refusal.TheVariants.{OutOfMemory};
-ghost use Rattle.cj_state.specs.Moves.{object_reply, event_reply};
+ghost use Rattle.cj_state.specs.WorkerCalls.{object_reply, event_reply};
 
 use cj_calls::{Answered, Reply};
 use cj_types::{Event, Object, Refusal, TryCopy};

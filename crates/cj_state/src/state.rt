@@ -42,7 +42,7 @@ impl Drop for State {
 }
 
 impl State {
-    ghost use Rattle.cj_state.specs.Moves.{written};
+    ghost use Rattle.cj_state.specs.WorkerCalls.{written};
 
     /// Makes a write that was planned, and tells its event. Where there is no memory all is as it was.
     pub fn write(&mut self, alloc: Global, change: Change) -> Result<(), Refusal>

@@ -2,7 +2,7 @@
 use Rattle.std.proofs.Common.{◌≡◌, List, [], ◌∷◌, ◌++◌, Bool, Option, IfSome, map, refl, ap, sym, subst, ◌∙◌, inl, inr, append_assoc}
 use Rattle.std.specs.List.{AllZip}
 use Rattle.cj_calls.specs.Rows.{Told}
-use Rattle.cj_world.specs.Worlds.{Ledger}
+use Rattle.cj_world.specs.Worlds.{WorldLog}
 use Rattle.cj_hub.specs.Receipts.{PassView}
 use Rattle.cj_hub.specs.Runs.{Adds}
 use Rattle.cj_hub.specs.declared.receipt.Receipt.{Receipt}
@@ -14,7 +14,7 @@ use Rattle.cj_worker.specs.Workers.{Extends, HasEnd, Went, IsPart, last_end}
 use Rattle.cj_worker.specs.declared.workers.WorkerEnd.{WorkerEnd}
 
 -- For sync_on: a pass through which entries were added is as it was with new receipts behind.
-pub longer : {F : List Told → Type 0} {t : Bool} {w w' : Ledger} {p q : PassView} → Adds t w w' p q F → Extends p q
+pub longer : {F : List Told → Type 0} {t : Bool} {w w' : WorldLog} {p q : PassView} → Adds t w w' p q F → Extends p q
 longer a = (a.gains.news, a.gains.kept)
 
 -- For ended: where the end of a sync is the worker's last, what is shown of it is what it says.

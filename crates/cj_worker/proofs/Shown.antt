@@ -10,7 +10,7 @@ use Rattle.cj_calls.specs.declared.call.Call.{Call}
 use Rattle.cj_calls.specs.declared.call.Call.TheVariants as Of
 use Rattle.cj_calls.specs.declared.end.End.TheVariants.{Again}
 use Rattle.cj_calls.specs.Rows.{Told}
-use Rattle.cj_world.specs.Worlds.{Ledger}
+use Rattle.cj_world.specs.Worlds.{WorldLog}
 use Rattle.cj_hub.specs.Receipts.{PassView}
 use Rattle.cj_hub.specs.Runs.{Adds, Gains}
 use Rattle.cj_hub.specs.declared.receipt.Receipt.{Receipt}
@@ -39,7 +39,7 @@ last_of P (r ∷ s ∷ news) h =
     record { front = r ∷ rest.front; last = rest.last; split = ap (λ x. r ∷ x) rest.split; meets = rest.meets }
 
 -- Where the entries that a pass gains end with one that meets P, the pass's last receipt shows it.
-ends_by : (t : Bool) (w w' : Ledger) (p q : PassView) (es : List Told) (P : Told → Type 0) → Gains t w w' p q es
+ends_by : (t : Bool) (w w' : WorldLog) (p q : PassView) (es : List Told) (P : Told → Type 0) → Gains t w w' p q es
     → EndsWith P es → EndsBy p q P
 ends_by t w w' p q es P g h =
     let l = last_of P g.news (subst (EndsWith P) (sym g.entries) h) in
@@ -125,7 +125,7 @@ sync_breaks gives may zones es r h =
     ]
 
 -- A pass that gains no entry is as it was.
-none_kept : (t : Bool) (w w' : Ledger) (p q : PassView) (es : List Told) → Gains t w w' p q es → es ≡ [] → q ≡ p
+none_kept : (t : Bool) (w w' : WorldLog) (p q : PassView) (es : List Told) → Gains t w w' p q es → es ≡ [] → q ≡ p
 none_kept t w w' p q es g none = kept g.news (g.entries ∙ none) g.kept
   where
     kept : (news : List Receipt) → map (λ r. r.entry) news ≡ [] → q ≡ record p { receipts = p.receipts ++ news } → q ≡ p
@@ -133,7 +133,7 @@ none_kept t w w' p q es g none = kept g.news (g.entries ∙ none) g.kept
     kept (r ∷ news) is k = cc
 
 -- For sync_once: by the entries that a sync adds, the last receipt of the pass shows how it ended.
-pub shown : (t : Bool) (w w' : Ledger) (p q : PassView) (gives : Reading → Type 0) (may : Point → Place
+pub shown : (t : Bool) (w w' : WorldLog) (p q : PassView) (gives : Reading → Type 0) (may : Point → Place
     → Type 0) (zones : ZoneTable) (end : SyncEnd) → Adds t w w' p q (λ es. IsSync gives may zones es end)
     → IsShown p q end
 shown t w w' p q gives may zones Idle a = none_kept t w w' p q a.entries a.gains a.meets

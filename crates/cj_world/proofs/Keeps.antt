@@ -11,23 +11,23 @@ use Rattle.cj_calls.specs.declared.call.Call.{Call}
 use Rattle.cj_calls.specs.declared.reply.Reply.{Reply}
 use Rattle.cj_calls.specs.Rows.{Told, is_in_row}
 use Rattle.cj_state.specs.declared.state.State.{State}
-use Rattle.cj_state.specs.Moves.{Moved, moved}
+use Rattle.cj_state.specs.WorkerCalls.{Handled, handled}
 use Rattle.cj_state.specs.Sound.{IsSound}
 use Rattle.cj_state.specs.Step.{step_of}
 use Rattle.cj_state.specs.Legal.{answer_of, is_entered, IsPlanned}
 use Rattle.cj_world_laws.specs.legal.Answers.{is_empty, Fine}
 use Rattle.cj_world_laws.proofs.LegalLemmas.Fine.{fine}
 use Rattle.cj_world_laws.proofs.LegalLemmas.Sound.{sound_of, version_of_history}
-use Rattle.cj_world.specs.Worlds.{Ledger, told, Stands, Applied, Advanced, receipts_of, Entered}
+use Rattle.cj_world.specs.Worlds.{WorldLog, told, Stands, Applied, Advanced, receipts_of, Entered}
 
 -- ---- an answer
 
 -- What a call answers and leaves is Fine: Empty and no change, or an entered answer of its row.
 fine_of : (s : State) (caller : Caller) (call : Call) (t : Result Reply Refusal) (s' : State)
-    → step_of s caller call ≡ moved t s' → Fine s call (moved t s')
+    → step_of s caller call ≡ handled t s' → Fine s call (handled t s')
 fine_of s caller call t s' e = subst (Fine s call) e (fine s caller call)
 
-module _ (s : State) (call : Call) (m : Moved) where
+module _ (s : State) (call : Call) (m : Handled) where
   -- An answer that isn't Empty is one that the call can have.
   row_in : Fine s call m → is_empty m.answer ≡ false → IsTrue (is_in_row call m.answer)
   row_in (inl f) e = absurd (cc (f.0, e))
@@ -60,24 +60,24 @@ no_truth b e f = absurd (cc (e, f))
 -- the answer stands in its call's row
 pub row_given : (s : State) (caller : Caller) (call copy : Call)
     (t one got : Result Reply Refusal) (s' : State) (b : Bool)
-    → step_of s caller call ≡ moved t s' → copy ≡ call → one ≡ t → got ≡ t → b ≡ is_empty got → b ≡ false
+    → step_of s caller call ≡ handled t s' → copy ≡ call → one ≡ t → got ≡ t → b ≡ is_empty got → b ≡ false
     → IsTrue (is_in_row copy one)
 row_given s caller call copy t one got s' b step c o g e f =
     let empty : is_empty t ≡ false = ap is_empty (sym g) ∙ sym e ∙ f in
     subst (λ x. IsTrue (is_in_row x one)) (sym c)
     (subst (λ x. IsTrue (is_in_row call x)) (sym o)
-    (row_in s call (moved t s') (fine_of s caller call t s' step) empty))
+    (row_in s call (handled t s') (fine_of s caller call t s' step) empty))
 
 -- For advance: a call whose answer isn't Empty, and whose entry is added, did what Advanced says.
 pub advanced_entered : (s : State) (h h' : List Told) (caller : Caller) (call : Call)
     (t got : Result Reply Refusal) (s' : State) (b : Bool)
-    → step_of s caller call ≡ moved t s' → got ≡ t → b ≡ is_empty got → b ≡ false → h' ≡ told caller call got ∷ h
+    → step_of s caller call ≡ handled t s' → got ≡ t → b ≡ is_empty got → b ≡ false → h' ≡ told caller call got ∷ h
     → Advanced s h caller call got s' h'
 advanced_entered s h h' caller call t got s' b step g e f add =
-    let entered : is_entered t ≡ true = entered_in s call (moved t s') (fine_of s caller call t s' step)
+    let entered : is_entered t ≡ true = entered_in s call (handled t s') (fine_of s caller call t s' step)
     (ap is_empty (sym g) ∙ sym e ∙ f) in
     record {
-      entered = λ x. (step ∙ ap (λ (r : Result Reply Refusal). moved r s') (sym g), add);
+      entered = λ x. (step ∙ ap (λ (r : Result Reply Refusal). handled r s') (sym g), add);
       unentered = λ x. no_truth (is_entered t) entered (ap is_entered (sym g) ∙ x);
       empty = λ x. no_truth (is_entered t) entered (ap is_entered (sym g ∙ x));
       full = λ x. no_truth (is_entered t) entered (ap is_entered (sym g ∙ x));
@@ -87,14 +87,14 @@ advanced_entered s h h' caller call t got s' b step g e f add =
 -- For advance: a call whose answer is Empty, and that adds no entry, did what Advanced says.
 pub advanced_empty : (s : State) (h : List Told) (caller : Caller) (call : Call)
     (t got : Result Reply Refusal) (s' : State) (b : Bool)
-    → step_of s caller call ≡ moved t s' → got ≡ t → b ≡ is_empty got → b ≡ true → Advanced s h caller call got s' h
+    → step_of s caller call ≡ handled t s' → got ≡ t → b ≡ is_empty got → b ≡ true → Advanced s h caller call got s' h
 advanced_empty s h caller call t got s' b step g e f =
     let empty : is_empty t ≡ true = ap is_empty (sym g) ∙ sym e ∙ f in
     let is : got ≡ Err Empty = g ∙ empty_is t empty in
     record {
       entered = λ x. absurd (cc (is, x));
-      unentered = λ x. (kept_in s call (moved t s') (fine_of s caller call t s' step) empty, refl);
-      empty = λ x. ap (λ (m : Moved). m.answer) step ∙ empty_is t empty;
+      unentered = λ x. (kept_in s call (handled t s') (fine_of s caller call t s' step) empty, refl);
+      empty = λ x. ap (λ (m : Handled). m.answer) step ∙ empty_is t empty;
       full = λ x. absurd (cc (is, x));
       other = λ x. is;
     }
@@ -117,7 +117,7 @@ module _ (limits : Kept) (h : List Told) (s : State) (st : Stands limits h s) (r
   module _ (caller : Caller) (call : Call) (r : Result Reply Refusal) (s' : State) (h' : List Told) (p : IsPlanned call) (a : Advanced s h caller call r s' h') where
     -- An answer that is entered is the one that the history gives.
     answered : is_entered r ≡ true → r ≡ answer_of limits.window h caller call
-    answered e = sym (ap (λ (m : Moved). m.answer) (a.entered e).0) ∙ ap
+    answered e = sym (ap (λ (m : Handled). m.answer) (a.entered e).0) ∙ ap
         (λ (x : State). (step_of x caller call).answer) st.state_is
 
     -- For stands_next: Stands holds after one call more, by whether its answer is entered.
@@ -129,7 +129,7 @@ module _ (limits : Kept) (h : List Told) (s : State) (st : Stands limits h s) (r
           planned = (p, st.planned);
           short = omega arith;
           small = st.small;
-          state_is = sym (ap (λ (m : Moved). m.state) x.0)
+          state_is = sym (ap (λ (m : Handled). m.state) x.0)
               ∙ ap (λ (y : State). (step_of y caller call).state) st.state_is;
         })
     stands_by false e =
@@ -160,9 +160,9 @@ below a l b e f = by (nat_lt a l) refl
     by false t = let le : l ≤ a = grind (arith, nat_tests) in absurd (cc (e le, f))
 
 -- For World::make: a history that isn't full has room.
-pub room_left : (limits : Kept) (h : List Told) (w : Ledger) (b : Bool) → record { limits = limits; history = h } ≡ w
+pub room_left : (limits : Kept) (h : List Told) (w : WorldLog) (b : Bool) → record { limits = limits; history = h } ≡ w
     → (IsTrue b ↔ (w.limits.history ≤ length w.history)) → b ≡ false → length h < limits.history
-room_left limits h w b v e f = subst (λ (x : Ledger). length x.history < x.limits.history) (sym v)
+room_left limits h w b v e f = subst (λ (x : WorldLog). length x.history < x.limits.history) (sym v)
     (below (length w.history) w.limits.history b e.1 f)
 
 -- ---- no call
@@ -196,10 +196,10 @@ pair caller call r = (told caller call r, told caller call r)
 -- For advance: where the answer isn't Empty, its entry's two receipts are what receipts_of gives.
 pub receipts_entered : (s : State) (caller : Caller) (call : Call)
     (t got : Result Reply Refusal) (s' : State) (b : Bool) (p : Told × Told)
-    → step_of s caller call ≡ moved t s' → got ≡ t → b ≡ is_empty got → b ≡ false
+    → step_of s caller call ≡ handled t s' → got ≡ t → b ≡ is_empty got → b ≡ false
     → p ≡ (told caller call got, told caller call got) → Some p ≡ receipts_of caller call got
 receipts_entered s caller call t got s' b p step g e f i =
-    let entered : is_entered got ≡ true = ap is_entered g ∙ entered_in s call (moved t s')
+    let entered : is_entered got ≡ true = ap is_entered g ∙ entered_in s call (handled t s')
     (fine_of s caller call t s' step) (ap is_empty (sym g) ∙ sym e ∙ f) in
     ap (λ (x : Told × Told). Some x) i ∙ sym (ap
     (λ (x : Bool). if x then Some (told caller call got, told caller call got) else None) entered)

@@ -9,12 +9,12 @@ use Rattle.cj_calls.specs.declared.call.Call.{Call}
 use Rattle.cj_calls.specs.declared.reply.Reply.{Reply}
 use Rattle.cj_calls.specs.Rows.{Told}
 use Rattle.cj_state.specs.declared.state.State.{State}
-use Rattle.cj_state.specs.Moves.{moved}
+use Rattle.cj_state.specs.WorkerCalls.{handled}
 use Rattle.cj_state.specs.Step.{step_of}
 use Rattle.cj_state.specs.Legal.{state_of, answer_of, is_entered, IsLegal, ArePlanned}
 
 -- how much is kept, and the entries, the newest first
-pub record Ledger : Type 0 where
+pub record WorldLog : Type 0 where
   pub limits : Kept
   pub history : List Told
 
@@ -23,7 +23,7 @@ told caller call answer = record { caller = caller; call = call; answer = answer
 
 -- what the history leaves
 -- rule: objects
-abbrev pub state_in : Ledger → State
+abbrev pub state_in : WorldLog → State
 state_in w = state_of w.limits.window w.history
 
 -- no key is in the line, and nobody holds one
@@ -51,7 +51,7 @@ pub record Applied (limits : Kept) (h : List Told) (caller : Caller) (call : Cal
 
 -- the same of the state and the entries
 pub record Advanced (s : State) (h : List Told) (caller : Caller) (call : Call) (r : Result Reply Refusal) (s' : State) (h' : List Told) : Type 0 where
-  pub entered : is_entered r ≡ true → (step_of s caller call ≡ moved r s') × (h' ≡ told caller call r ∷ h)
+  pub entered : is_entered r ≡ true → (step_of s caller call ≡ handled r s') × (h' ≡ told caller call r ∷ h)
   pub unentered : is_entered r ≡ false → (s' ≡ s) × (h' ≡ h)
   pub empty : r ≡ Err Empty → (step_of s caller call).answer ≡ Err Empty
   pub full : r ≢ Err HistoryFull

@@ -34,9 +34,9 @@ pub struct World {
 
 impl Model for World {
     ghost use mathlib.Core.List.{reverse};
-    ghost use Rattle.cj_world.specs.Worlds.{Ledger, Stands};
+    ghost use Rattle.cj_world.specs.Worlds.{WorldLog, Stands};
 
-    ghost Value = { Ledger };
+    ghost Value = { WorldLog };
 
     ghost view = { λ w. record { limits = w.limits; history = reverse w.entries.items } };
 

@@ -6,7 +6,7 @@ use Rattle.cj_manifest.specs.Reading.{IsNoValue, Reads}
 use Rattle.cj_scenario.specs.declared.detection.form.Form.{Form}
 use Rattle.cj_scenario.specs.declared.detection.form.Form.TheVariants as A
 use Rattle.cj_scenario.specs.detection.Forms.{form_of}
-use Rattle.cj_scenario.specs.detection.Glances.{glance_words}
+use Rattle.cj_scenario.specs.detection.Detections.{detection_words}
 use Rattle.cj_explain.specs.declared.members.wrong.Wrong.TheVariants.{Member, Memory}
 use Rattle.cj_explain.specs.members.Members.{Checked}
 use Rattle.cj_explain.specs.members.Wholes.{whole}
@@ -16,7 +16,7 @@ use Rattle.cj_explain.specs.members.Wholes.{whole}
 abbrev pub rest : Form → List ℕ
 rest A.Scenario = codes "FILE: a zone's name or rule is refused, or two Jobs have one minute\n"
 rest A.Script = codes "FILE: a zone's name or rule is refused\n"
-rest A.Course = codes "FILE: a zone's name or rule is refused, the end is before the start, or an edit is at no instant of the clock\n"
+rest A.Simulation = codes "FILE: a zone's name or rule is refused, the end is before the start, or an edit is at no instant of the clock\n"
 rest A.List = []
 rest A.Manifest = []
 rest A.Other = []
@@ -30,7 +30,7 @@ wrong_words wanted (Err Memory) = []
 abbrev pub is_near : Form → Form → Bool
 is_near A.Scenario A.Scenario = true
 is_near A.Script A.Script = true
-is_near A.Course A.Course = true
+is_near A.Simulation A.Simulation = true
 is_near A.List A.List = true
 is_near A.Manifest A.Manifest = true
 is_near wanted A.Other = true
@@ -43,7 +43,7 @@ member_words wanted d = if is_some (as_object d) && is_near wanted (form_of d) t
 
 -- and what is seen beside
 abbrev pub look_words : Form → Data → List ℕ
-look_words wanted d = member_words wanted d ++ glance_words wanted d
+look_words wanted d = member_words wanted d ++ detection_words wanted d
 
 -- the bytes are this value
 pub record IsSeen (wanted : Form) (bytes : List ℕ) (words : List ℕ) : Type 0 where

@@ -3,7 +3,7 @@ use Rattle.std.specs.Prelude.{ℕ, List, codes, bytes_eq, Bool, true, false, ◌
 use Rattle.serde_json.specs.Data.{Data, Items, no_items, item}
 use Rattle.serde_json.specs.Find.{as_array, as_bool, as_object, as_str}
 use Rattle.cj_types.specs.WorldLimits.{last_history, last_window}
-use Rattle.cj_script.specs.operations.Acts.{key_of, number_in}
+use Rattle.cj_script.specs.operations.Operations.{key_of, number_in}
 use Rattle.cj_script.specs.operations.Instants.{instant_of}
 use Rattle.cj_script.specs.operations.Verbs.{verb_named}
 use Rattle.cj_explain.specs.declared.members.want.Range.{Range}

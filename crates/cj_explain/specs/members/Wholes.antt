@@ -56,14 +56,14 @@ abbrev pub edits : Data → Checked
 edits d = both (may [] d (codes "edits") Want.List) (items In.Edit d (codes "edits"))
 
 -- rule: explain-members
-abbrev pub course : Data → Checked
-course d = both (span d) (both (seeds d) (both (runs d) (both (edits d) (zones d))))
+abbrev pub simulation : Data → Checked
+simulation d = both (span d) (both (seeds d) (both (runs d) (both (edits d) (zones d))))
 
 -- rule: explain-members
 abbrev pub whole : Form → Data → Checked
 whole A.Scenario d = scenario d
 whole A.Script d = script d
-whole A.Course d = course d
+whole A.Simulation d = simulation d
 whole A.List d = Ok tt
 whole A.Manifest d = Ok tt
 whole A.Other d = Ok tt

@@ -7,7 +7,7 @@ ghost use Rattle.cj_explain.specs.members.Wholes as said;
 
 use crate::members::wholes::whole;
 use crate::members::wrong::Wrong;
-use cj_scenario::{Form, SceneFault, glance_at, value_of};
+use cj_scenario::{Form, SceneFault, detect_at, value_of};
 use cj_types::Refusal;
 use serde_json::Value;
 use std::alloc::Global;
@@ -18,7 +18,7 @@ fn rest(wanted: Form) -> &'static str
     match wanted {
         Form::Scenario => "FILE: a zone's name or rule is refused, or two Jobs have one minute\n",
         Form::Script => "FILE: a zone's name or rule is refused\n",
-        Form::Course => {
+        Form::Simulation => {
             "FILE: a zone's name or rule is refused, the end is before the start, or an edit is at no instant of the clock\n"
         }
         _ => "",
@@ -59,7 +59,7 @@ fn look_words(alloc: Global, wanted: Form, value: &Value) -> Result<String, Refu
     ensures err { IfErr result (λ e. e ≡ OutOfMemory) }
 {
     let mut text = member_words(alloc, wanted, value)?;
-    let seen = glance_at(alloc, wanted, value)?;
+    let seen = detect_at(alloc, wanted, value)?;
     text.push_str(seen.as_str())?;
     Ok(text)
 }

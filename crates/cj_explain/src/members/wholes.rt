@@ -107,9 +107,9 @@ fn edits(alloc: Global, value: &Value) -> Result<(), Wrong>
     items(alloc, Item::Edit, value, "edits")
 }
 
-fn course(alloc: Global, value: &Value) -> Result<(), Wrong>
-    ensures ok { IfOk result (λ _. said.course (view value.now) ≡ Ok tt) }
-    ensures err { IfErr result (λ e. e ≢ Memory → said.course (view value.now) ≡ Err e) }
+fn simulation(alloc: Global, value: &Value) -> Result<(), Wrong>
+    ensures ok { IfOk result (λ _. said.simulation (view value.now) ≡ Ok tt) }
+    ensures err { IfErr result (λ e. e ≢ Memory → said.simulation (view value.now) ≡ Err e) }
 {
     span(alloc, value)?;
     seeds(alloc, value)?;
@@ -126,7 +126,7 @@ pub(crate) fn whole(alloc: Global, form: Form, value: &Value) -> Result<(), Wron
     match form {
         Form::Scenario => scenario(alloc, value),
         Form::Script => script(alloc, value),
-        Form::Course => course(alloc, value),
+        Form::Simulation => simulation(alloc, value),
         _ => Ok(()),
     }
 }

@@ -1,4 +1,4 @@
--- Each answer on the queue is the one that the acts and the caller's seat give.
+-- Each answer on the queue is the one that the operations and the caller's seat give.
 use Rattle.std.proofs.Common.{◌≡◌, ℕ, Bool, true, false, List, [], ◌∷◌, Option, Some, None, refl, sym, ap, subst, ◌∙◌}
 use Rattle.std.specs.Prelude.{Ok, Err, if◌then◌else◌, ◌||◌}
 use Rattle.cj_base.specs.declared.refusal.Refusal.TheVariants as No
@@ -19,19 +19,19 @@ use Rattle.cj_state.specs.declared.phases.seat.Phase.{Phase}
 use Rattle.cj_state.specs.declared.phases.seat.Phase.TheVariants.{Held, Seen, Listed, Checked, Works}
 use Rattle.cj_state.specs.declared.phases.seat.Seat.{Seat}
 use Rattle.cj_state.specs.declared.state.State.{State}
-use Rattle.cj_state.specs.Moves.{by_seat, seat_of, take, take_by, take_first, finish, finish_in, finish_work}
+use Rattle.cj_state.specs.WorkerCalls.{by_seat, seat_of, take, take_by, take_first, finish, finish_in, finish_work}
 use Rattle.cj_state.specs.Step.{step_of, by_role, by_informer, by_worker}
 use Rattle.cj_state.specs.Legal.{state_of}
 use Rattle.cj_world_laws.proofs.LegalLemmas.Seated.{seats_agree}
-use Rattle.cj_history.specs.queue.Deeds.{Act, acts}
+use Rattle.cj_history.specs.queue.Deeds.{Operation, operations}
 use Rattle.cj_history.specs.queue.LookBacks.{queued, since, RisesBy}
 use Rattle.cj_history.specs.queue.Laws.{IsQueue}
 use Rattle.cj_history.specs.queue.Answers.{IsFirst, NoneQueued, OnTake, TakeSays, on_end, on_finish, Says, AnswerLaw}
 use Rattle.cj_history.proofs.QueueLemmas.Rows.{itself}
 use Rattle.cj_history.proofs.QueueLemmas.Agreed.{queue_agrees}
 
--- The queue of the state s is what the acts h say.
-module _ (h : List Act) (s : State) (is : IsQueue h s.queue) where
+-- The queue of the state s is what the operations h say.
+module _ (h : List Operation) (s : State) (is : IsQueue h s.queue) where
   -- a key that stands in the list, and isn't its first, stands behind it
   behind : (k j : Place) (ks : List Place) → stands_in (k ∷ ks) j ≡ true → key_eq j k ≡ false → stands_in ks j ≡ true
   behind k j ks m apart = by (key_eq j k) apart m
@@ -55,18 +55,18 @@ module _ (h : List Act) (s : State) (is : IsQueue h s.queue) where
   none_queued : s.queue.row.line ≡ [] → NoneQueued h
   none_queued e k = sym (is.line.members k) ∙ ap (λ l. stands_in l k) e
 
-  -- Where the line is empty, ShutDown or Empty is what the acts say a Take is answered.
+  -- Where the line is empty, ShutDown or Empty is what the operations say a Take is answered.
   nothing_says : (b : Bool) → s.queue.shut ≡ b → s.queue.row.line ≡ [] →
       OnTake h (Err (if b then No.ShutDown else No.Empty))
   nothing_says true e f = (none_queued f, sym is.shut ∙ e)
   nothing_says false e f = (none_queued f, sym is.shut ∙ e)
 
-  -- A Take without a seat is answered as the acts say, has the line a first key or none.
+  -- A Take without a seat is answered as the operations say, has the line a first key or none.
   first_says : (w : ℕ) (l : List Place) → s.queue.row.line ≡ l → OnTake h (take_first s w (first l)).answer
   first_says w [] e = nothing_says s.queue.shut refl e
   first_says w (k ∷ ks) e = is_first k ks e
 
-  -- A Take is answered as the acts say, has the caller a seat or none.
+  -- A Take is answered as the operations say, has the caller a seat or none.
   take_says : (w : ℕ) (o : Option Seat) → TakeSays h o (take_by s w o).answer
   take_says w None = first_says w s.queue.row.line refl
   take_says w (Some y) = refl
@@ -92,8 +92,8 @@ finish_says : (s : State) (w : ℕ) (end : End) (o : Option Seat) → (by_seat s
 finish_says s w end None = refl
 finish_says s w end (Some y) = end_says s w end y.key y.phase
 
--- A worker's Take or Finish is answered as the acts and its seat say.
-worker_says : (h : List Act) (s : State) (w : ℕ) (call : Call) → IsQueue h s.queue
+-- A worker's Take or Finish is answered as the operations and its seat say.
+worker_says : (h : List Operation) (s : State) (w : ℕ) (call : Call) → IsQueue h s.queue
     → Says h (seat_of s w) Worker call (by_worker s w call).answer
 unfolding take finish
 worker_says h s w Of.Take is = take_says h s is w (seat_of s w)
@@ -101,30 +101,30 @@ worker_says h s w (Of.Finish end rs) is = finish_says s w end (seat_of s w)
 worker_says h s w call is = tt
 
 -- An informer's add, tick and shutdown are each answered Done.
-informer_says : (h : List Act) (s : State) (o : Option Seat) (call : Call)
+informer_says : (h : List Operation) (s : State) (o : Option Seat) (call : Call)
     → Says h o Informer call (by_informer s call).answer
 informer_says h s o (Of.Add k) = refl
 informer_says h s o (Of.Tick now) = refl
 informer_says h s o Of.Shut = refl
 informer_says h s o call = tt
 
--- Whatever the caller's role, its call of the queue is answered as the acts and its seat say.
-role_says : (h : List Act) (s : State) (role : Role) (w : ℕ) (call : Call) → IsQueue h s.queue
+-- Whatever the caller's role, its call of the queue is answered as the operations and its seat say.
+role_says : (h : List Operation) (s : State) (role : Role) (w : ℕ) (call : Call) → IsQueue h s.queue
     → Says h (seat_of s w) role call (by_role s role w call).answer
 role_says h s Worker w call is = worker_says h s w call is
 role_says h s Informer w call is = informer_says h s (seat_of s w) call
 role_says h s User w call is = tt
 role_says h s Runner w call is = tt
 
--- A step at a queue that is what the acts say answers as the acts and the caller's seat say.
-step_says : (h : List Act) (s : State) (caller : Caller) (call : Call) → IsQueue h s.queue
+-- A step at a queue that is what the operations say answers as the operations and the caller's seat say.
+step_says : (h : List Operation) (s : State) (caller : Caller) (call : Call) → IsQueue h s.queue
     → Says h (seat_of s caller.number) caller.role call (step_of s caller call).answer
 unfolding step_of
 step_says h s caller call is = role_says h s caller.role caller.number call is
 
--- For answer_law: after a legal history a call is answered as its acts and the caller's seat say.
+-- For answer_law: after a legal history a call is answered as its operations and the caller's seat say.
 pub answers_agree : AnswerLaw
 answers_agree window h caller call l =
-    subst (λ (o : Option Seat). Says (acts h) o caller.role call (step_of (state_of window h) caller call).answer)
+    subst (λ (o : Option Seat). Says (operations h) o caller.role call (step_of (state_of window h) caller call).answer)
     (seats_agree window h l caller.number)
-    (step_says (acts h) (state_of window h) caller call (queue_agrees window h l))
+    (step_says (operations h) (state_of window h) caller call (queue_agrees window h l))

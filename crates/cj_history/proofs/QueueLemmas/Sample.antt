@@ -16,10 +16,10 @@ use Rattle.cj_calls.specs.Rows.{Told}
 use Rattle.cj_state.specs.declared.phases.seat.Seat.{Seat}
 use Rattle.cj_queue.specs.Queue.{has, first, new_row, row_add}
 use Rattle.cj_state.specs.declared.state.State.{State}
-use Rattle.cj_state.specs.Moves.{seat_of, take, take_by, take_first}
+use Rattle.cj_state.specs.WorkerCalls.{seat_of, take, take_by, take_first}
 use Rattle.cj_state.specs.Step.{step_of}
 use Rattle.cj_state.specs.Legal.{IsLegal, state_of}
-use Rattle.cj_history.specs.queue.Deeds.{acts}
+use Rattle.cj_history.specs.queue.Deeds.{operations}
 use Rattle.cj_history.specs.queue.LookBacks.{queued, held, since, ready_at, failures}
 
 abbrev a : Place
@@ -79,37 +79,37 @@ unfolding step_of
 legal_take = (sym (takes_it (state_of 3 added) (map.get-empty nat_cmp 1) in_line), refl, legal_add)
 
 -- The key that is added again while it is held is not queued.
-pub not_twice : queued (acts added_again) a ≡ false
+pub not_twice : queued (operations added_again) a ≡ false
 not_twice = refl
 
 -- The key is still held after that second add.
-pub is_held : held (acts added_again) a ≡ true
+pub is_held : held (operations added_again) a ≡ true
 is_held = refl
 
 -- After a failed sync the key waits for the millisecond 1,005.
-pub waits_first : ready_at (acts early) a ≡ Some 1005
+pub waits_first : ready_at (operations early) a ≡ Some 1005
 waits_first = refl
 
 -- At the tick of the millisecond before, the key is not queued.
-pub not_yet : queued (acts early) a ≡ false
+pub not_yet : queued (operations early) a ≡ false
 not_yet = refl
 
 -- By then the key has failed once.
-pub failed_once : failures (acts early) a ≡ 1
+pub failed_once : failures (operations early) a ≡ 1
 failed_once = refl
 
 -- At the tick of the millisecond 1,005 the key is queued.
-pub then_queued : queued (acts due) a ≡ true
+pub then_queued : queued (operations due) a ≡ true
 then_queued = refl
 
--- It became queued by the fifth act, that tick, with its time 1,005.
-pub since_then : since (acts due) a ≡ (5, 1005)
+-- It became queued by the fifth operation, that tick, with its time 1,005.
+pub since_then : since (operations due) a ≡ (5, 1005)
 since_then = refl
 
 -- From that tick on the key waits for nothing.
-pub waits_no_more : ready_at (acts due) a ≡ None
+pub waits_no_more : ready_at (operations due) a ≡ None
 waits_no_more = refl
 
 -- After the take of another worker the key is held again.
-pub held_again : held (acts taken_again) a ≡ true
+pub held_again : held (operations taken_again) a ≡ true
 held_again = refl

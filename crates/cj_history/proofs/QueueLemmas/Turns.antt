@@ -34,7 +34,7 @@ use Rattle.cj_state.specs.declared.phases.seat.Phase.{Phase}
 use Rattle.cj_state.specs.declared.phases.seat.Phase.TheVariants.{Held, Seen, Listed, Checked, Works}
 use Rattle.cj_state.specs.declared.phases.seat.Seat.{Seat}
 use Rattle.cj_state.specs.declared.state.State.{State}
-use Rattle.cj_state.specs.Moves.{Moved, refused, by_seat, seat_of, take, take_by, take_first, see_cron, see_cron_in, see_jobs, see_jobs_in, see_active, see_active_in, claim, claim_in, claim_where, claims, wrote, drop_next, drop_in, drop_where, drops_it, make_next, make_in, make_where, steps_on, event_reply, version_reply, set_status, status_in, status_where, sets_it, finish, finish_in, finish_work}
+use Rattle.cj_state.specs.WorkerCalls.{Handled, refused, by_seat, seat_of, take, take_by, take_first, see_cron, see_cron_in, see_jobs, see_jobs_in, see_active, see_active_in, claim, claim_in, claim_where, claims, wrote, drop_next, drop_in, drop_where, drops_it, make_next, make_in, make_where, steps_on, event_reply, version_reply, set_status, status_in, status_where, sets_it, finish, finish_in, finish_work}
 use Rattle.cj_state.specs.Step.{writes, found_cron, found_job, told_events, step_of, by_role, by_reader, by_user, by_runner, by_worker, by_informer}
 use Rattle.cj_history.specs.queue.Deeds.{Deed, adds, ticks, takes, ends, fails, shuts, nothing, deed}
 use Rattle.cj_history.specs.queue.Calls.{called}
@@ -51,14 +51,14 @@ May (ends n) t line = (u : Place) × (t ≡ Some u)
 May (fails n) t line = (u : Place) × (t ≡ Some u)
 May d t line = Unit {0}
 
-pub record Turns (x : Option Seat) (call : Call) (s : State) (m : Moved) : Type 0 where
+pub record Turns (x : Option Seat) (call : Call) (s : State) (m : Handled) : Type 0 where
   pub queue : m.state.queue ≡ called (deed x call m.answer) (key_of x) s.queue
   pub may : May (deed x call m.answer) (key_of x) s.queue.row.line
 
 -- x is the caller's seat, and s is the state before the call.
 module _ {x : Option Seat} {call : Call} {s : State} where
   -- A call that did nothing and leaves the queue as it is turns it as its deed says.
-  idle : (m : Moved) → deed x call m.answer ≡ nothing → m.state.queue ≡ s.queue → Turns x call s m
+  idle : (m : Handled) → deed x call m.answer ≡ nothing → m.state.queue ≡ s.queue → Turns x call s m
   idle m e f = record {
     queue = f ∙ ap (λ d. called d (key_of x) s.queue) (sym e);
     may = by (deed x call m.answer) e;
@@ -82,7 +82,7 @@ no_deed : (x : Option Seat) (call : Call) (e : Refusal) → deed x call (Err e) 
 no_deed x call e = refl
 
 -- A call that is none of the queue's, and leaves the queue as it is, turns it as its deed says.
-other : (x : Option Seat) (call : Call) (s : State) (m : Moved) → IsOther call → m.state.queue ≡ s.queue
+other : (x : Option Seat) (call : Call) (s : State) (m : Handled) → IsOther call → m.state.queue ≡ s.queue
     → Turns x call s m
 other x call s m h e = idle m (by m.answer) e
   where
@@ -170,7 +170,7 @@ take_turns s w None = first_turns s w (first s.queue.row.line) refl
 take_turns s w (Some y) = no (Some y) Of.Take s _
 
 -- A call on the caller's seat leaves the queue as it is where it does so for any key and phase.
-seat_queue : (s : State) (f : Place → Phase → Moved) (x : Option Seat)
+seat_queue : (s : State) (f : Place → Phase → Handled) (x : Option Seat)
     → ((k : Place) (p : Phase) → (f k p).state.queue ≡ s.queue) → (by_seat s f x).state.queue ≡ s.queue
 seat_queue s f None h = refl
 seat_queue s f (Some y) h = h y.key y.phase
@@ -287,7 +287,7 @@ module _ (s : State) (w : ℕ) (k : Place) where
   status_queue (Works work) = status_where_queue work (as_status (step_at work.plan.steps work.place))
 
   -- a Finish by a seat of the key in this phase turns the queue as its deed says
-  abbrev EndTurns : Phase → End → List Reason → Moved → Type 0
+  abbrev EndTurns : Phase → End → List Reason → Handled → Type 0
   EndTurns p end rs m = Turns (Some (record { key = k; phase = p })) (Of.Finish end rs) s m
 
   -- A Finish of a sync that ends well turns the queue as its deed says, are steps left or not.

@@ -1,4 +1,4 @@
--- What a call leaves of the queue is what the acts with its act say.
+-- What a call leaves of the queue is what the operations with its operation say.
 use Rattle.std.proofs.Common.{◌≡◌, ℕ, ◌+◌, ◌*◌, ◌^◌, ◌<◌, ◌≤◌, ◌==◌, inl, Bool, true, false, cond, not, ◌&&◌, ◌||◌, List, [], ◌∷◌, length, Option, Some, None, is_some, refl, sym, ap, ◌∙◌, subst, arith}
 use Rattle.std.specs.Prelude.{min, max, nat_le, unwrap_or}
 use Rattle.std.proofs.Math.Pow.{pow_mono}
@@ -10,8 +10,8 @@ use Rattle.cj_queue.specs.Parts.{key_eq, stands_in}
 use Rattle.cj_queue.specs.Times.{ready, waits_for}
 use Rattle.cj_queue.specs.Queue.{new_queue, Queue, first, row_add, ended, added_after, added_where, forgotten, failures_of, delay, with_row, with_waiting}
 use Rattle.cj_queue.proofs.Sets.{eq_true, eq_self, eq_turned, get_put, get_off}
-use Rattle.cj_state.specs.Moves.{next_ms}
-use Rattle.cj_history.specs.queue.Deeds.{Deed, adds, ticks, takes, ends, fails, shuts, nothing, Act}
+use Rattle.cj_state.specs.WorkerCalls.{next_ms}
+use Rattle.cj_history.specs.queue.Deeds.{Deed, adds, ticks, takes, ends, fails, shuts, nothing, Operation}
 use Rattle.cj_history.specs.queue.LookBacks.{is_take, is_by, is_shut, marks, counts, later_in, is_within, waits_in, adds_in, time_of, time_in, holder, dirty, queued, since, shut, mark, failures, ready_at}
 use Rattle.cj_history.specs.queue.Laws.{IsQueue}
 use Rattle.cj_history.specs.queue.Calls.{called, sits}
@@ -320,18 +320,18 @@ failures_step nothing v O F t q tie fs k = fs k
 
 -- ---- every history
 
--- The place of the act by which a key became queued is at most the number of acts.
-since_low : (h : List Act) (k : Place) → (since h k).0 < length h + 1
+-- The place of the operation by which a key became queued is at most the number of operations.
+since_low : (h : List Operation) (k : Place) → (since h k).0 < length h + 1
 since_low [] k = omega arith
 since_low (a ∷ h) k =
     cond_both (queued (a ∷ h) k && not (queued h k)) (length (a ∷ h), time_in a.deed (ready_at h k)) (since h k)
     (λ x. x.0 < length (a ∷ h) + 1) (λ b. omega arith) (λ b. let p = since_low h k in omega arith)
 
--- The place of the act by which a key became queued is below that of the next act.
-next_low : (h : List Act) (a : Act) (k : Place) → (since h k).0 < length (a ∷ h)
+-- The place of the operation by which a key became queued is below that of the next operation.
+next_low : (h : List Operation) (a : Operation) (k : Place) → (since h k).0 < length (a ∷ h)
 next_low h a k = let p = since_low h k in omega arith
 
--- For quiet: one act after the shutdown, or the shutdown itself, leaves nothing that waits.
+-- For quiet: one operation after the shutdown, or the shutdown itself, leaves nothing that waits.
 quiet_step : (d : Deed) (s : Bool) (m : ℕ) (at w : Option ℕ) → (s ≡ true → w ≡ None) → (is_shut d || s) ≡ true
     → waits_in d s m at w ≡ None
 quiet_step (adds j) true m at w f e = f refl
@@ -349,17 +349,17 @@ quiet_step nothing true m at w f e = f refl
 quiet_step nothing false m at w f e = cc (e)
 
 -- After a shutdown no key waits for any time.
-quiet : (h : List Act) (k : Place) → shut h ≡ true → ready_at h k ≡ None
+quiet : (h : List Operation) (k : Place) → shut h ≡ true → ready_at h k ≡ None
 quiet [] k e = refl
 quiet (a ∷ h) k e = quiet_step a.deed (shut h) (mark h) (later_in a.deed (is_by (holder h k) a.by) (failures h k))
     (ready_at h k) (quiet h k) e
 
-pub record Stands (h : List Act) (keys : ℕ → Option Place) (q : Queue) : Type 0 where
+pub record Stands (h : List Operation) (keys : ℕ → Option Place) (q : Queue) : Type 0 where
   pub part : Part (dirty h) (held_by (holder h)) (since h) (ready_at h) (mark h) (shut h) q
   pub failed : (k : Place) → failures_of q k ≡ min (failures h k) 18
   pub tied : (k : Place) (w : ℕ) → is_by (holder h k) w ≡ holds (keys w) k
 
--- With no acts, the new queue agrees with them, and nobody holds a key.
+-- With no operations, the new queue agrees with them, and nobody holds a key.
 pub stands_nothing : Stands [] (λ w. None) new_queue
 stands_nothing = record {
   part = record {
@@ -377,8 +377,8 @@ stands_nothing = record {
   tied = λ k w. refl;
 }
 
--- A queue that agrees with the acts and with the holders of keys is what the acts say.
-pub is_queue : (h : List Act) (keys : ℕ → Option Place) (q : Queue) → Stands h keys q → IsQueue h q
+-- A queue that agrees with the operations and with the holders of keys is what the operations say.
+pub is_queue : (h : List Operation) (keys : ℕ → Option Place) (q : Queue) → Stands h keys q → IsQueue h q
 is_queue h keys q s = record {
   line = record { members = s.part.row.members; order = s.part.row.order };
   dirty = s.part.row.dirty;
@@ -389,8 +389,8 @@ is_queue h keys q s = record {
   shut = s.part.shut;
 }
 
--- one act more
-may_take : (d : Deed) (t : Option Place) (h : List Act) (keys : ℕ → Option Place) (q : Queue) → Stands h keys q
+-- one operation more
+may_take : (d : Deed) (t : Option Place) (h : List Operation) (keys : ℕ → Option Place) (q : Queue) → Stands h keys q
     → May d t q.row.line → MayTake d t (holder h)
 may_take (takes j) t h keys q f may =
     (may.0, (let g = first_is q.row.line j may.1 in free (dirty h j) (holder h j) (sym (f.part.row.members j) ∙ ap (λ l. stands_in l j) g.1 ∙ itself j g.0)))
@@ -401,8 +401,8 @@ may_take (ticks n) t h keys q f may = tt
 may_take shuts t h keys q f may = tt
 may_take nothing t h keys q f may = tt
 
--- Where a queue agrees with the acts before, the call of the next act keeps it so.
-pub one_more : (h : List Act) (v : ℕ) (d : Deed) (keys after : ℕ → Option Place) (q : Queue)
+-- Where a queue agrees with the operations before, the call of the next operation keeps it so.
+pub one_more : (h : List Operation) (v : ℕ) (d : Deed) (keys after : ℕ → Option Place) (q : Queue)
     → ((w : ℕ) → after w ≡ cond (v == w) (sits d (keys w)) (keys w))
     → May d (keys v) q.row.line → Stands h keys q → Stands (record { by = v; deed = d } ∷ h) after (called d (keys v) q)
 one_more h v d keys after q next may f = record {

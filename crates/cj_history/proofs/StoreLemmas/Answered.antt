@@ -41,7 +41,7 @@ use Rattle.cj_state.specs.declared.phases.seat.Phase.TheVariants.{Held, Seen, Li
 use Rattle.cj_state.specs.declared.phases.seat.Seat.{Seat}
 use Rattle.cj_state.specs.declared.state.State.{State}
 use Rattle.cj_state.specs.Readings.{if_mine, active_job, active_of, listed_of, fed_up}
-use Rattle.cj_state.specs.Moves.{Moved, refused, by_seat, seat_of, see_cron, see_cron_in, see_jobs, see_jobs_in, see_active, see_active_in, claim, claim_in, claim_where, claims, wrote, works, drop_next, drop_in, drop_where, drops_it, next_seat, make_next, make_in, make_where, steps_on, event_reply, version_reply, set_status as set_status_next, status_in, status_where, sets_it}
+use Rattle.cj_state.specs.WorkerCalls.{Handled, refused, by_seat, seat_of, see_cron, see_cron_in, see_jobs, see_jobs_in, see_active, see_active_in, claim, claim_in, claim_where, claims, wrote, works, drop_next, drop_in, drop_where, drops_it, next_seat, make_next, make_in, make_where, steps_on, event_reply, version_reply, set_status as set_status_next, status_in, status_where, sets_it}
 use Rattle.cj_state.specs.Step.{writes as writes_it, found_cron, found_job, told_events, step_of, by_role, by_reader, by_user, by_runner, by_worker, by_informer}
 use Rattle.cj_state.specs.Legal.{IsLegal, state_of}
 use Rattle.cj_world_laws.proofs.LegalLemmas.Seated.{seats_agree}
@@ -214,7 +214,7 @@ module _ (window n : ℕ) (ws : List Event) (o : Option Seat) (s : State) (f : K
 -- The store of the state s has what the writes ws left; w is a worker.
 module _ (ws : List Event) (s : State) (w : ℕ) (is : IsStore ws s.store) where
   -- If f answers as g at each key and phase, a call by a seat or by none is answered as g says.
-  seat_says : (f : Place → Phase → Moved) (g : Place → Phase → Answer) (o : Option Seat)
+  seat_says : (f : Place → Phase → Handled) (g : Place → Phase → Answer) (o : Option Seat)
       → ((k : Place) (p : Phase) → (f k p).answer ≡ g k p) → (by_seat s f o).answer ≡ for_seat g o
   seat_says f g None h = refl
   seat_says f g (Some y) h = h y.key y.phase

@@ -43,7 +43,7 @@ use Rattle.cj_state.specs.declared.phases.seat.Phase.TheVariants.{Held, Seen, Li
 use Rattle.cj_state.specs.declared.phases.seat.Seat.{Seat}
 use Rattle.cj_state.specs.declared.state.State.{State}
 use Rattle.cj_state.specs.Readings.{fed_up}
-use Rattle.cj_state.specs.Moves.{Moved, refused, by_seat, seat_of, take, take_by, take_first, see_cron, see_cron_in, see_jobs, see_jobs_in, see_active, see_active_in, claim, claim_in, claim_where, claims, wrote, works, drop_next, drop_in, drop_where, drops_it, next_seat, make_next, make_in, make_where, steps_on, event_reply, version_reply, set_status, status_in, status_where, sets_it, finish, finish_in, finish_work}
+use Rattle.cj_state.specs.WorkerCalls.{Handled, refused, by_seat, seat_of, take, take_by, take_first, see_cron, see_cron_in, see_jobs, see_jobs_in, see_active, see_active_in, claim, claim_in, claim_where, claims, wrote, works, drop_next, drop_in, drop_where, drops_it, next_seat, make_next, make_in, make_where, steps_on, event_reply, version_reply, set_status, status_in, status_where, sets_it, finish, finish_in, finish_work}
 use Rattle.cj_state.specs.Step.{writes, found_cron, found_job, told_events, step_of, by_role, by_reader, by_user, by_runner, by_worker, by_informer}
 use Rattle.cj_history.specs.store.Written.{current_cron, current_job, cron_updated, status_set, cron_deleted, job_created, job_updated, job_ended, job_deleted}
 use Rattle.cj_history.specs.store.Writes.{claimed, stepped, entry_written}
@@ -63,7 +63,7 @@ abbrev pub fed_by : State → Call → Result Reply Refusal → Mirror
 fed_by s (Of.Feed max) (Ok r) = fed_up s max
 fed_by s call answer = s.mirror
 
-pub record Keeps (ws : List Event) (x : Option Seat) (call : Call) (s : State) (m : Moved) : Type 0 where
+pub record Keeps (ws : List Event) (x : Option Seat) (call : Call) (s : State) (m : Handled) : Type 0 where
   pub store : m.state.store ≡ stored (entry_written ws x call m.answer) s.store
   pub watch : m.state.watch ≡ logged (entry_written ws x call m.answer) s.watch
   pub mirror : m.state.mirror ≡ fed_by s call m.answer
@@ -71,7 +71,7 @@ pub record Keeps (ws : List Event) (x : Option Seat) (call : Call) (s : State) (
 -- ws are the writes before the call, x is its caller's seat, and s is the state before it.
 module _ {ws : List Event} {x : Option Seat} {call : Call} {s : State} where
   -- nothing is written
-  nothing_is : (m : Moved) → entry_written ws x call m.answer ≡ None → m.state.store ≡ s.store → m.state.watch ≡ s.watch
+  nothing_is : (m : Handled) → entry_written ws x call m.answer ≡ None → m.state.store ≡ s.store → m.state.watch ≡ s.watch
       → m.state.mirror ≡ fed_by s call m.answer → Keeps ws x call s m
   nothing_is m e f g h = record {
     store = f ∙ ap (λ o. stored o s.store) (sym e);
@@ -80,7 +80,7 @@ module _ {ws : List Event} {x : Option Seat} {call : Call} {s : State} where
   }
 
   -- this is written
-  one_is : (w : Event) (m : Moved) → entry_written ws x call m.answer ≡ Some w → m.state.store ≡ after s.store w
+  one_is : (w : Event) (m : Handled) → entry_written ws x call m.answer ≡ Some w → m.state.store ≡ after s.store w
       → m.state.watch ≡ pushed s.watch w → m.state.mirror ≡ fed_by s call m.answer → Keeps ws x call s m
   one_is w m e f g h = record {
     store = f ∙ ap (λ o. stored o s.store) (sym e);
@@ -101,7 +101,7 @@ module _ {ws : List Event} {x : Option Seat} {call : Call} {s : State} where
 -- The store of the state s has what the writes ws left; x is the caller's seat.
 module _ (ws : List Event) (x : Option Seat) (s : State) (is : IsStore ws s.store) where
   -- the call does to the store, the watch and the mirror what its entry says
-  abbrev Fine : Call → Moved → Type 0
+  abbrev Fine : Call → Handled → Type 0
   Fine call m = Keeps ws x call s m
 
   -- A CreateCron does as its entry says, be a version given (a), the name taken (b) or not.
@@ -257,7 +257,7 @@ module _ (ws : List Event) (s : State) (w : ℕ) (is : IsStore ws s.store) where
   take_is (Some y) = no _
 
   -- If f does as the entry says at each key and phase, so does a call by a seat or by none.
-  seat_is : (call : Call) (f : Place → Phase → Moved) (x : Option Seat)
+  seat_is : (call : Call) (f : Place → Phase → Handled) (x : Option Seat)
       → ((k : Place) (p : Phase) → Keeps ws (Some (record { key = k; phase = p })) call s (f k p))
       → Keeps ws x call s (by_seat s f x)
   seat_is call f None h = no _
@@ -266,7 +266,7 @@ module _ (ws : List Event) (s : State) (w : ℕ) (is : IsStore ws s.store) where
   -- k is the key that the worker holds.
   module _ (k : Place) where
     -- by a seat of the key in this phase the call does what its entry says
-    abbrev At : Phase → Call → Moved → Type 0
+    abbrev At : Phase → Call → Handled → Type 0
     At p call m = Keeps ws (Some (record { key = k; phase = p })) call s m
 
     -- A SeeCron writes nothing in any phase.
@@ -347,7 +347,7 @@ module _ (ws : List Event) (s : State) (w : ℕ) (is : IsStore ws s.store) where
     -- a step of a plan
     module _ (work : Work) where
       -- by a seat of the key at this work the call does what its entry says
-      abbrev On : Call → Moved → Type 0
+      abbrev On : Call → Handled → Type 0
       On call m = At (Works work) call m
 
       -- A drop of a Job that stands does as its entry says, be it the Job that is meant or not.

@@ -7,7 +7,7 @@ use Rattle.cj_calls.specs.declared.reply.Reply.{Reply}
 use Rattle.cj_calls.specs.Rows.{Told}
 use Rattle.cj_state.specs.declared.phases.seat.Seat.{Seat}
 use Rattle.cj_store.specs.Content.{Content}
-use Rattle.cj_state.specs.Moves.{seat_of}
+use Rattle.cj_state.specs.WorkerCalls.{seat_of}
 use Rattle.cj_state.specs.Step.{step_of}
 use Rattle.cj_state.specs.Legal.{IsLegal, state_of}
 use Rattle.cj_world_laws.specs.legal.Seats.{seat}

@@ -1,11 +1,11 @@
--- The calls of the queue that acts stand for, one after the other.
+-- The calls of the queue that operations stand for, one after the other.
 use Rattle.std.specs.Prelude.{◌≡◌, ℕ, ◌==◌, if◌then◌else◌, List, [], ◌∷◌, Option, Some, None, IsSome}
 use Rattle.cj_types.specs.Keys.{Place}
 use Rattle.cj_queue.specs.Queue.{Queue, new_queue, added, taken, ticked, closed, finished_ok, finished_retry}
 use Rattle.cj_calls.specs.Rows.{Told}
-use Rattle.cj_state.specs.Moves.{next_ms}
+use Rattle.cj_state.specs.WorkerCalls.{next_ms}
 use Rattle.cj_state.specs.Legal.{IsLegal, state_of}
-use Rattle.cj_history.specs.queue.Deeds.{Deed, adds, ticks, takes, ends, fails, shuts, nothing, Act, acts}
+use Rattle.cj_history.specs.queue.Deeds.{Deed, adds, ticks, takes, ends, fails, shuts, nothing, Operation, operations}
 use Rattle.cj_history.specs.queue.Answers.{IsFirst}
 use Rattle.cj_history.specs.queue.Laws.{IsQueue}
 
@@ -16,8 +16,8 @@ sits (ends next) was = None
 sits (fails now) was = None
 sits d was = was
 
--- the key that a caller holds, by its own acts
-abbrev pub key_by : List Act → ℕ → Option Place
+-- the key that a caller holds, by its own operations
+abbrev pub key_by : List Operation → ℕ → Option Place
 key_by [] w = None
 key_by (a ∷ h) w = if a.by == w then sits a.deed (key_by h w) else key_by h w
 
@@ -39,28 +39,28 @@ called (fails now) t q = ended_retry t q now
 called shuts t q = closed q
 called nothing t q = q
 
-abbrev pub queue_of : List Act → Queue
+abbrev pub queue_of : List Operation → Queue
 queue_of [] = new_queue
 queue_of (a ∷ h) = called a.deed (key_by h a.by) (queue_of h)
 
 -- a take is of the first of the line, by one who holds no key, and an end is by one who holds one
-abbrev pub May : Deed → Option Place → List Act → Type 0
+abbrev pub May : Deed → Option Place → List Operation → Type 0
 May (takes k) t h = (t ≡ None) × IsFirst h k
 May (ends next) t h = IsSome t
 May (fails now) t h = IsSome t
 May d t h = Unit {0}
 
 -- rule: queued-history
-abbrev pub IsFit : List Act → Type 0
+abbrev pub IsFit : List Operation → Type 0
 IsFit [] = Unit {0}
 IsFit (a ∷ h) = May a.deed (key_by h a.by) h × IsFit h
 
--- whatever the acts are: their calls leave what they say
+-- whatever the operations are: their calls leave what they say
 -- rule: queued-history
 abbrev pub FitLaw : Type 0
-FitLaw = (h : List Act) → IsFit h → IsQueue h (queue_of h)
+FitLaw = (h : List Operation) → IsFit h → IsQueue h (queue_of h)
 
--- and the acts of a history leave its queue
+-- and the operations of a history leave its queue
 -- rule: queued-history
-abbrev pub ActLaw : Type 0
-ActLaw = (window : ℕ) (h : List Told) → IsLegal window h → (state_of window h).queue ≡ queue_of (acts h)
+abbrev pub OperationLaw : Type 0
+OperationLaw = (window : ℕ) (h : List Told) → IsLegal window h → (state_of window h).queue ≡ queue_of (operations h)

@@ -54,12 +54,12 @@ deed o call (Ok reply) = accepted o call reply
 deed o call (Err refusal) = nothing
 
 -- who did it, and what
-pub record Act : Type 0 where
+pub record Operation : Type 0 where
   pub by : ℕ
   pub deed : Deed
 
 -- of each entry of a history, by the seat that its caller's own entries before it say
 -- rule: queued-history
-abbrev pub acts : List Told → List Act
-acts [] = []
-acts (e ∷ h) = record { by = e.caller.number; deed = deed (seat h e.caller.number) e.call e.answer } ∷ acts h
+abbrev pub operations : List Told → List Operation
+operations [] = []
+operations (e ∷ h) = record { by = e.caller.number; deed = deed (seat h e.caller.number) e.call e.answer } ∷ operations h

@@ -5,12 +5,12 @@ use Rattle.cj_types.specs.Keys.{Place}
 use Rattle.cj_queue.specs.Queue.{Queue, has, failures_of}
 use Rattle.cj_calls.specs.Rows.{Told}
 use Rattle.cj_state.specs.Legal.{IsLegal, state_of}
-use Rattle.cj_history.specs.queue.Deeds.{Act, acts}
+use Rattle.cj_history.specs.queue.Deeds.{Operation, operations}
 use Rattle.cj_history.specs.queue.LookBacks.{held, dirty, shut, mark, failures, ready_at, IsLine}
 
--- it is what the acts say; failures are counted to 18, from where on the delay is the greatest
+-- it is what the operations say; failures are counted to 18, from where on the delay is the greatest
 -- rule: queued-history
-pub record IsQueue (h : List Act) (q : Queue) : Type 0 where
+pub record IsQueue (h : List Operation) (q : Queue) : Type 0 where
   pub line : IsLine h q.row.line
   pub dirty : (k : Place) → has q.row.dirty k ≡ dirty h k
   pub held : (k : Place) → has q.row.processing k ≡ held h k
@@ -22,4 +22,4 @@ pub record IsQueue (h : List Act) (q : Queue) : Type 0 where
 -- whoever called whatever
 -- rule: queued-history
 abbrev pub QueueLaw : Type 0
-QueueLaw = (window : ℕ) (h : List Told) → IsLegal window h → IsQueue (acts h) (state_of window h).queue
+QueueLaw = (window : ℕ) (h : List Told) → IsLegal window h → IsQueue (operations h) (state_of window h).queue

@@ -1,4 +1,4 @@
--- What a history says of the work queue, by looking back over its acts, the newest first: client-go, package
+-- What a history says of the work queue, by looking back over its operations, the newest first: client-go, package
 -- workqueue ("Stingy", delayed adds, and the exponential delay of failures).
 use Rattle.std.specs.Prelude.{◌≡◌, ℕ, ◌+◌, ◌*◌, ◌<◌, ◌⊎◌, max, nat_le, Bool, true, false, ◌&&◌, ◌||◌, not, ◌==◌, if◌then◌else◌, List, [], ◌∷◌, length, Option, Some, None, is_some}
 use Rattle.std.specs.declared.cmp.Ordering.TheVariants.{Less}
@@ -6,7 +6,7 @@ use Rattle.cj_types.specs.Keys.{Place, place_cmp}
 use Rattle.cj_queue.specs.Parts.{key_eq, stands_in}
 use Rattle.cj_queue.specs.Times.{earlier}
 use Rattle.cj_queue.specs.Queue.{delay}
-use Rattle.cj_history.specs.queue.Deeds.{Deed, adds, ticks, takes, ends, fails, shuts, Act}
+use Rattle.cj_history.specs.queue.Deeds.{Deed, adds, ticks, takes, ends, fails, shuts, Operation}
 
 -- ---- who holds a key
 
@@ -25,7 +25,7 @@ is_by (Some v) w = v == w
 
 -- who took the key last, where no end by the same caller came after
 -- rule: queued-history
-abbrev pub holder : List Act → Place → Option ℕ
+abbrev pub holder : List Operation → Place → Option ℕ
 holder [] k = None
 holder (a ∷ h) k =
     if is_take a.deed k then Some a.by
@@ -33,11 +33,11 @@ holder (a ∷ h) k =
     else holder h k
 
 -- somebody holds it
-abbrev pub held : List Act → Place → Bool
+abbrev pub held : List Operation → Place → Bool
 held h k = is_some (holder h k)
 
--- the act after these is by the holder of the key
-abbrev pub is_holder : List Act → Act → Place → Bool
+-- the operation after these is by the holder of the key
+abbrev pub is_holder : List Operation → Operation → Place → Bool
 is_holder h a k = is_by (holder h k) a.by
 
 -- ---- the shutdown, the greatest moment told, failures
@@ -46,7 +46,7 @@ abbrev pub is_shut : Deed → Bool
 is_shut shuts = true
 is_shut d = false
 
-abbrev pub shut : List Act → Bool
+abbrev pub shut : List Operation → Bool
 shut [] = false
 shut (a ∷ h) = is_shut a.deed || shut h
 
@@ -54,7 +54,7 @@ abbrev pub marks : Deed → ℕ → ℕ
 marks (ticks now) was = max was now
 marks d was = was
 
-abbrev pub mark : List Act → ℕ
+abbrev pub mark : List Operation → ℕ
 mark [] = 0
 mark (a ∷ h) = marks a.deed (mark h)
 
@@ -65,7 +65,7 @@ counts d is_its was = was
 
 -- how often a sync of the key was to be tried again since the last that ended well
 -- rule: queued-history
-abbrev pub failures : List Act → Place → ℕ
+abbrev pub failures : List Operation → Place → ℕ
 failures [] k = 0
 failures (a ∷ h) k = counts a.deed (is_holder h a k) (failures h k)
 
@@ -78,7 +78,7 @@ later_in (ends (Some t)) true f = Some (1000 * t)
 later_in (fails now) true f = Some (now + delay f)
 later_in d is_its f = None
 
-abbrev pub later : List Act → Act → Place → Option ℕ
+abbrev pub later : List Operation → Operation → Place → Option ℕ
 later h a k = later_in a.deed (is_holder h a k) (failures h k)
 
 -- a time that is not above the moment
@@ -98,7 +98,7 @@ waits_in d is_over m at was = if is_over then was else waits_more at m was
 
 -- the least time for which the key waits, of the delayed adds since it last was ready; after a shutdown nothing waits
 -- rule: queued-history
-abbrev pub ready_at : List Act → Place → Option ℕ
+abbrev pub ready_at : List Operation → Place → Option ℕ
 ready_at [] k = None
 ready_at (a ∷ h) k = waits_in a.deed (shut h) (mark h) (later h a k) (ready_at h k)
 
@@ -109,19 +109,19 @@ adds_in (adds j) k m at was = key_eq k j
 adds_in (ticks now) k m at was = is_within was now
 adds_in d k m at was = is_within at m
 
--- the act after these is an add of the key: by its name, by a moment at which it is ready, or by a delayed
+-- the operation after these is an add of the key: by its name, by a moment at which it is ready, or by a delayed
 -- add that is due at once
-abbrev pub is_add : List Act → Act → Place → Bool
+abbrev pub is_add : List Operation → Operation → Place → Bool
 is_add h a k = not (shut h) && adds_in a.deed k (mark h) (later h a k) (ready_at h k)
 
 -- some add of the key has no later take of it
 -- rule: queued-history
-abbrev pub dirty : List Act → Place → Bool
+abbrev pub dirty : List Operation → Place → Bool
 dirty [] k = false
 dirty (a ∷ h) k = is_add h a k || (not (is_take a.deed k) && dirty h k)
 
 -- rule: queued-history
-abbrev pub queued : List Act → Place → Bool
+abbrev pub queued : List Operation → Place → Bool
 queued h k = dirty h k && not (held h k)
 
 abbrev pub time_of : Option ℕ → ℕ
@@ -133,9 +133,9 @@ abbrev pub time_in : Deed → Option ℕ → ℕ
 time_in (ticks now) was = time_of was
 time_in d was = 0
 
--- the place of the act by which the key last became queued, and its time among those of a tick
+-- the place of the operation by which the key last became queued, and its time among those of a tick
 -- rule: queued-history
-abbrev pub since : List Act → Place → ℕ × ℕ
+abbrev pub since : List Operation → Place → ℕ × ℕ
 since [] k = (0, 0)
 since (a ∷ h) k = if queued (a ∷ h) k && not (queued h k) then (length (a ∷ h), time_in a.deed (ready_at h k)) else since h k
 
@@ -150,6 +150,6 @@ RisesBy f (x ∷ xs) = ((y : Place) → stands_in xs y ≡ true → Before (f x)
 
 -- the line: just the queued keys, each once, in the order in which they became queued
 -- rule: queued-history
-pub record IsLine (h : List Act) (xs : List Place) : Type 0 where
+pub record IsLine (h : List Operation) (xs : List Place) : Type 0 where
   pub members : (k : Place) → stands_in xs k ≡ queued h k
   pub order : RisesBy (since h) xs

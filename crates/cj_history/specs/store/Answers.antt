@@ -30,7 +30,7 @@ use Rattle.cj_state.specs.declared.phases.seat.Phase.{Phase}
 use Rattle.cj_state.specs.declared.phases.seat.Phase.TheVariants.{Held, Seen, Listed, Checked, Works}
 use Rattle.cj_state.specs.declared.phases.seat.Seat.{Seat}
 use Rattle.cj_state.specs.Readings.{if_mine}
-use Rattle.cj_state.specs.Moves.{event_reply, version_reply}
+use Rattle.cj_state.specs.WorkerCalls.{event_reply, version_reply}
 use Rattle.cj_state.specs.Legal.{IsLegal, answer_of}
 use Rattle.cj_world_laws.specs.legal.Seats.{seat}
 use Rattle.cj_history.specs.store.Written.{version, current_cron, current_job}

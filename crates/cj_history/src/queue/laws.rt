@@ -1,5 +1,5 @@
 ghost use Rattle.cj_history.specs.queue.Answers.{AnswerLaw};
-ghost use Rattle.cj_history.specs.queue.Calls.{ActLaw, FitLaw};
+ghost use Rattle.cj_history.specs.queue.Calls.{OperationLaw, FitLaw};
 ghost use Rattle.cj_history.specs.queue.Laws.{QueueLaw};
 
 /// After any history the queue's line are the keys that were added and not taken since, without those that
@@ -17,10 +17,10 @@ pub fn answer_law()
     ensures { AnswerLaw }
 {}
 
-/// The calls of the queue that the acts of a history stand for leave its queue; and those of any acts leave
+/// The calls of the queue that the operations of a history stand for leave its queue; and those of any operations leave
 /// what looking back over them says, where each take is of the first of the line by one who holds no key, and
 /// each end by one who holds one.
 pub fn call_law()
-    ensures acts { ActLaw }
+    ensures operations { OperationLaw }
     ensures fit { FitLaw }
 {}

@@ -10,32 +10,32 @@ use Rattle.cj_calls.specs.declared.call.Call.{Call}
 use Rattle.cj_calls.specs.declared.caller.Caller.{Caller}
 use Rattle.cj_calls.specs.declared.reply.Reply.{Reply}
 use Rattle.cj_calls.specs.Rows.{Told}
-use Rattle.cj_replay.specs.declared.snapshots.sight.Sight.{Sight}
-use Rattle.cj_replay.specs.snapshots.Sights.{seen_of, with_reply}
-use Rattle.cj_replay.specs.snapshots.Remembered.{Remembers, sight_or_none}
+use Rattle.cj_replay.specs.declared.snapshots.snapshot.Snapshot.{Snapshot}
+use Rattle.cj_replay.specs.snapshots.Snapshots.{seen_of, with_reply}
+use Rattle.cj_replay.specs.snapshots.Remembered.{Remembers, snapshot_or_none}
 
--- For Sights::new: the empty map remembers the empty history.
+-- For Snapshots::new: the empty map remembers the empty history.
 pub none_remembered : Remembers empty []
-none_remembered = record { each = λ w. ap sight_or_none (get-empty nat_cmp w) }
+none_remembered = record { each = λ w. ap snapshot_or_none (get-empty nat_cmp w) }
 
 -- a refusal shows nothing
 same_by : {A : Type 0} (b : Bool) (x : A) → x ≡ cond b x x
 same_by true x = refl
 same_by false x = refl
 
-module _ (m : FinMap nat_cmp Sight) (h : List Told) (r : Remembers m h) (caller : Caller) (call : Call) where
-  -- For Sights::note: after a call that was refused, the map still remembers the history.
+module _ (m : FinMap nat_cmp Snapshot) (h : List Told) (r : Remembers m h) (caller : Caller) (call : Call) where
+  -- For Snapshots::note: after a call that was refused, the map still remembers the history.
   pub refused_remembered : (e : Refusal) → Remembers m (record { caller = caller; call = call; answer = Err e } ∷ h)
   refused_remembered e = record { each = λ w. r.each w ∙ same_by (caller.number == w) (seen_of w h) }
 
-  module _ (reply : Reply) (s : Sight) (is : s ≡ with_reply (sight_or_none (get m caller.number)) call reply) where
+  module _ (reply : Reply) (s : Snapshot) (is : s ≡ with_reply (snapshot_or_none (get m caller.number)) call reply) where
     -- For reply_remembered: the caller has seen the reply too, and any other worker what it had
     -- seen.
-    found_by : (w : ℕ) (b : Bool) → (caller.number == w) ≡ b → sight_or_none (cond b (Some s) (get m w))
+    found_by : (w : ℕ) (b : Bool) → (caller.number == w) ≡ b → snapshot_or_none (cond b (Some s) (get m w))
         ≡ cond b (with_reply (seen_of w h) call reply) (seen_of w h)
     found_by w true e =
         let own : caller.number ≡ w = eqb-true caller.number w e in
-        is ∙ ap (λ (x : Sight). with_reply x call reply) (r.each caller.number)
+        is ∙ ap (λ (x : Snapshot). with_reply x call reply) (r.each caller.number)
         ∙ ap (λ (n : ℕ). with_reply (seen_of n h) call reply) own
     found_by w false e = r.each w
 
@@ -43,10 +43,10 @@ module _ (m : FinMap nat_cmp Sight) (h : List Told) (r : Remembers m h) (caller 
     tied : (w : ℕ) → eq_by_cmp nat_cmp w caller.number ≡ (caller.number == w)
     tied w = (eq_by_cmp_equiv nat_cmp_total).symm w caller.number ∙ unsigned_tied caller.number w
 
-    -- For Sights::note: with the caller's new sight, the map remembers the accepted call as well.
+    -- For Snapshots::note: with the caller's new snapshot, the map remembers the accepted call as well.
     pub reply_remembered : Remembers (insert m caller.number s)
         (record { caller = caller; call = call; answer = Ok reply } ∷ h)
     reply_remembered = record {
-      each = λ w. ap sight_or_none (get-insert nat_cmp_total m caller.number s w
+      each = λ w. ap snapshot_or_none (get-insert nat_cmp_total m caller.number s w
           ∙ ap (λ (b : Bool). cond b (Some s) (get m w)) (tied w)) ∙ found_by w (caller.number == w) refl;
     }

@@ -8,7 +8,7 @@ use Rattle.cj_zone.specs.declared.zone.Zone.{Zone}
 use Rattle.cj_zone.specs.Table.{local_zone, zones_of}
 use Rattle.cj_zone.specs.Zones.{zone_named}
 use Rattle.cj_decide.specs.Decision.{IsDecided, Planned}
-use Rattle.cj_replay.specs.declared.snapshots.sight.Sight.{Sight}
+use Rattle.cj_replay.specs.declared.snapshots.snapshot.Snapshot.{Snapshot}
 
 -- the three readings that a plan rests on
 pub record Inputs : Type 0 where
@@ -27,7 +27,7 @@ gathered (Some cron) None active = no_inputs
 gathered None jobs active = no_inputs
 
 -- rule: claim-step
-abbrev pub inputs_of : Sight → Inputs
+abbrev pub inputs_of : Snapshot → Inputs
 inputs_of s = gathered s.cron s.jobs s.active
 
 -- the zone of that name, if it is known; the local one where none is named

@@ -2,7 +2,7 @@ ghost use Rattle.std.specs.Prelude.{◌≡◌, None, IfOk, IfErr, option_copied}
 ghost use Rattle.cj_base.specs.declared.refusal.Refusal.TheVariants.{OutOfMemory};
 ghost use Rattle.cj_replay.specs.snapshots.Plans.{IsPlanFor, inputs_of, no_inputs, reasons_of, zone_named_by, zone_of};
 
-use crate::snapshots::sight::Sight;
+use crate::snapshots::snapshot::Snapshot;
 use cj_base::{all_four, both};
 use cj_decide::{Plan, decide};
 use cj_types::{CronJob, Job, Listing, Reasons, Refusal, Seconds, Shared, Text, TryCopy};
@@ -89,24 +89,24 @@ fn empty_plan(alloc: Global, zones: &ZoneTable, at: Seconds) -> Result<Plan, Ref
 pub fn plan_for(
     alloc: Global,
     zones: &ZoneTable,
-    sight: &Sight,
+    snapshot: &Snapshot,
     at: Seconds,
 ) -> Result<Plan, Refusal>
-    ensures ok { IfOk result (IsPlanFor zones.now (inputs_of sight.now) at) }
+    ensures ok { IfOk result (IsPlanFor zones.now (inputs_of snapshot.now) at) }
     ensures err { IfErr result (λ e. e ≡ OutOfMemory) }
 {
-    match (&sight.cron, &sight.jobs, &sight.active) {
+    match (&snapshot.cron, &snapshot.jobs, &snapshot.active) {
         (Some(cron), Some(jobs), Some(active)) => plan_of(alloc, zones, cron, jobs, active, at),
         _ => empty_plan(alloc, zones, at),
     }
 }
 
 /// The reasons of the plan that the worker claimed; none where it claimed none.
-pub fn reasons_for(alloc: Global, sight: &Sight) -> Result<Reasons, Refusal>
-    ensures ok { IfOk result (λ r. r ≡ reasons_of sight.now.plan) }
+pub fn reasons_for(alloc: Global, snapshot: &Snapshot) -> Result<Reasons, Refusal>
+    ensures ok { IfOk result (λ r. r ≡ reasons_of snapshot.now.plan) }
     ensures err { IfErr result (λ e. e ≡ OutOfMemory) }
 {
-    match &sight.plan {
+    match &snapshot.plan {
         Some(plan) => plan.get().steps().reasons.try_copy(alloc),
         None => Ok(Reasons::new(alloc)),
     }

@@ -20,7 +20,7 @@ has name d = is_some (get name d)
 
 abbrev pub form_by_member : Data → Form
 form_by_member d =
-    if has (codes "steps") d then A.Script else if has (codes "cronJobs") d then A.Course
+    if has (codes "steps") d then A.Script else if has (codes "cronJobs") d then A.Simulation
     else if has (codes "manifest") d then A.Scenario else A.Other
 
 abbrev pub kind_in : Data → Option (List ℕ)
@@ -42,7 +42,7 @@ form_words A.List = codes "FILE: a list, which cronsim why and audit take; check
 form_words A.Manifest = codes "FILE: a manifest, which cronsim check takes\n"
 form_words A.Scenario = codes "FILE: a scenario, which cronsim plan takes\n"
 form_words A.Script = codes "FILE: a script, which cronsim replay takes\n"
-form_words A.Course = codes "FILE: a scenario of a run, which cronsim run takes\n"
+form_words A.Simulation = codes "FILE: a scenario of a run, which cronsim run takes\n"
 form_words A.Other = []
 
 -- of what form it has to be, where a command wants one
@@ -52,7 +52,7 @@ wanted_words A.List = []
 wanted_words A.Manifest = []
 wanted_words A.Scenario = codes "FILE: want an object with manifest and created, and perhaps last, jobs and zones, as docs/examples/replace.json\n"
 wanted_words A.Script = codes "FILE: want an object with callers and steps, and perhaps zones, history and window, as docs/examples/made-anew.json\n"
-wanted_words A.Course = codes "FILE: want an object with start, end and cronJobs, and perhaps stepSeconds, runs, edits and zones, as docs/examples/forbid.json\n"
+wanted_words A.Simulation = codes "FILE: want an object with start, end and cronJobs, and perhaps stepSeconds, runs, edits and zones, as docs/examples/forbid.json\n"
 wanted_words A.Other = []
 
 -- the members that a scenario and a script have; all others count as read
@@ -66,7 +66,7 @@ knows A.Scenario k =
 knows A.Script k =
     bytes_eq k (codes "callers") || bytes_eq k (codes "steps") || bytes_eq k (codes "zones")
     || bytes_eq k (codes "history") || bytes_eq k (codes "window")
-knows A.Course k =
+knows A.Simulation k =
     bytes_eq k (codes "start") || bytes_eq k (codes "end") || bytes_eq k (codes "stepSeconds")
     || bytes_eq k (codes "cronJobs") || bytes_eq k (codes "runs") || bytes_eq k (codes "edits") || bytes_eq k (codes "zones")
 knows A.Other k = true

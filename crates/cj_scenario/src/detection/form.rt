@@ -17,7 +17,7 @@ pub enum Form {
     /// Steps of callers, which `replay` takes.
     Script,
     /// CronJobs between two instants, which `run` takes.
-    Course,
+    Simulation,
     /// None of these.
     Other,
 }
@@ -58,7 +58,7 @@ fn form_by_member(value: &Value) -> Form
     if value.get("steps").is_some() {
         Form::Script
     } else if value.get("cronJobs").is_some() {
-        Form::Course
+        Form::Simulation
     } else if value.get("manifest").is_some() {
         Form::Scenario
     } else {
@@ -94,7 +94,7 @@ impl Form {
             Form::Manifest => "FILE: a manifest, which cronsim check takes\n",
             Form::Scenario => "FILE: a scenario, which cronsim plan takes\n",
             Form::Script => "FILE: a script, which cronsim replay takes\n",
-            Form::Course => "FILE: a scenario of a run, which cronsim run takes\n",
+            Form::Simulation => "FILE: a scenario of a run, which cronsim run takes\n",
             Form::Other => "",
         }
     }
@@ -110,7 +110,7 @@ impl Form {
             Form::Script => {
                 "FILE: want an object with callers and steps, and perhaps zones, history and window, as docs/examples/made-anew.json\n"
             }
-            Form::Course => {
+            Form::Simulation => {
                 "FILE: want an object with start, end and cronJobs, and perhaps stepSeconds, runs, edits and zones, as docs/examples/forbid.json\n"
             }
             _ => "",
@@ -131,7 +131,7 @@ impl Form {
                 "callers" | "steps" | "zones" | "history" | "window" => true,
                 _ => false,
             },
-            Form::Course => match key {
+            Form::Simulation => match key {
                 "start" | "end" | "stepSeconds" | "cronJobs" | "runs" | "edits" | "zones" => true,
                 _ => false,
             },

@@ -3,7 +3,7 @@ ghost use Rattle.std.specs.Prelude.{◌≡◌, ◌++◌, OnOk, IfOk, IfErr, stri
 ghost use Rattle.cj_base.specs.declared.refusal.Refusal.TheVariants.{OutOfMemory};
 ghost use Rattle.serde_json.specs.Find.{as_object};
 ghost use Rattle.serde_json.specs.View.{view, members_view};
-ghost use Rattle.cj_scenario.specs.detection.Glances.{ignored_in, ignored_line, ignored_of};
+ghost use Rattle.cj_scenario.specs.detection.Detections.{ignored_in, ignored_line, ignored_of};
 
 use crate::detection::form::Form;
 use cj_types::Refusal;

@@ -4,7 +4,7 @@ use Rattle.std.specs.List.{before_first, after_first, position_or_len}
 use Rattle.std.proofs.lemmas.Bool.Decides.{nat_tests}
 use Rattle.cj_base.specs.declared.refusal.Refusal.{Refusal}
 use Rattle.cj_types.specs.Keys.{Place}
-use Rattle.cj_script.specs.operations.Acts.{is_slash, key_named, key_of}
+use Rattle.cj_script.specs.operations.Operations.{is_slash, key_named, key_of}
 
 -- For key-whole: where two numbers are equal, what hangs on their difference is none.
 unsplit : (a b : ℕ) (o : Option Place) → a ≡ b → (if a == b then None else o) ≡ None

@@ -14,8 +14,8 @@ use Rattle.cj_script.specs.Drafts.{cron_said, needed, then}
 use Rattle.cj_script.specs.Lists.{all_of}
 use Rattle.cj_script.specs.Steps.{deed_in}
 use Rattle.cj_script.proofs.Never.{IsOther, lost, other_after, other_all, other_cron, other_deed, other_fine, other_form, other_memory, other_needed, other_then}
-use Rattle.cj_script.specs.declared.simulation.course.Edit.{Edit}
-use Rattle.cj_script.specs.simulation.Courses.{IsRefusedValue, Told, beside, lists_in, told, told_in}
+use Rattle.cj_script.specs.declared.simulation.scenario.Edit.{Edit}
+use Rattle.cj_script.specs.simulation.Simulations.{IsRefusedValue, Told, beside, lists_in, told, told_in}
 use Rattle.cj_script.specs.simulation.Edits.{edit_of, edits_in, instant_in, items_in}
 use Rattle.cj_script.specs.simulation.RunLists.{runs_in}
 use Rattle.cj_script.specs.simulation.Runs.{RunTable}
@@ -39,7 +39,7 @@ other_crons zones d =
 other_edit : (zones : List Zone) (span : SpanView) (d : Data) → IsOther (edit_of zones span d)
 unfolding edit_of
 other_edit zones span d =
-    let made : ℕ → Deed → Result Edit SceneFault = λ at deed. Ok (record { at = at; act = deed.act }) in
+    let made : ℕ → Deed → Result Edit SceneFault = λ at deed. Ok (record { at = at; operation = deed.operation }) in
     let timed : ℕ → Result Edit SceneFault = λ at. then (deed_in zones d) (made at) in
     other_then (needed (instant_in span d)) timed (other_needed (instant_in span d))
     (λ at. other_then (deed_in zones d) (made at) (other_deed zones d)

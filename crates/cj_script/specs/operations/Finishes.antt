@@ -8,9 +8,9 @@ use Rattle.cj_calls.specs.declared.call.Call.TheVariants as Of
 use Rattle.cj_calls.specs.declared.end.End.{End}
 use Rattle.cj_calls.specs.declared.end.End.TheVariants.{Again, Well}
 use Rattle.cj_manifest.specs.Members.{present}
-use Rattle.cj_script.specs.declared.operations.act.Act.{Act}
-use Rattle.cj_script.specs.declared.operations.act.Act.TheVariants.{Calls, Closes}
-use Rattle.cj_script.specs.operations.Acts.{moment_in}
+use Rattle.cj_script.specs.declared.operations.operation.Operation.{Operation}
+use Rattle.cj_script.specs.declared.operations.operation.Operation.TheVariants.{Calls, Closes}
+use Rattle.cj_script.specs.operations.Operations.{moment_in}
 
 abbrev pub reason_named : List ℕ → Option Reason
 reason_named word =
@@ -41,15 +41,15 @@ end_of false d = Some Well
 abbrev pub end_in : Data → Option End
 end_in d = option_and_then (λ again. end_of again d) (retry_in (present (codes "retry") d))
 
-abbrev pub finished : End → Data → Option Act
+abbrev pub finished : End → Data → Option Operation
 finished end list =
     option_map (λ reasons. Calls (Of.Finish end reasons)) (option_and_then (with_reasons []) (as_array list))
 
 -- the reasons that are given, or else those of the plan
-abbrev pub finish_with : End → Option Data → Option Act
+abbrev pub finish_with : End → Option Data → Option Operation
 finish_with end None = Some (Closes end)
 finish_with end (Some list) = finished end list
 
 -- rule: step-form
-abbrev pub finish : Data → Option Act
+abbrev pub finish : Data → Option Operation
 finish d = option_and_then (λ end. finish_with end (present (codes "reasons") d)) (end_in d)

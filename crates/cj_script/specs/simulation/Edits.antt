@@ -5,11 +5,11 @@ use Rattle.serde_json.specs.Find.{as_array}
 use Rattle.cj_zone.specs.declared.zone.Zone.{Zone}
 use Rattle.cj_manifest.specs.Members.{present}
 use Rattle.cj_scenario.specs.declared.fault.SceneFault.{SceneFault}
-use Rattle.cj_script.specs.operations.Acts.{moment_in}
+use Rattle.cj_script.specs.operations.Operations.{moment_in}
 use Rattle.cj_script.specs.Drafts.{needed, then}
 use Rattle.cj_script.specs.Lists.{all_of}
 use Rattle.cj_script.specs.Steps.{deed_in}
-use Rattle.cj_script.specs.declared.simulation.course.Edit.{Edit}
+use Rattle.cj_script.specs.declared.simulation.scenario.Edit.{Edit}
 use Rattle.cj_script.specs.simulation.Spans.{SpanView, clocked}
 
 -- `at` is an instant of the clock
@@ -21,7 +21,7 @@ instant_in span d = option_and_then (clocked span) (moment_in d)
 unfoldable pub edit_of : List Zone → SpanView → Data → Result Edit SceneFault
 edit_of zones span d =
     then (needed (instant_in span d)) (λ at.
-    then (deed_in zones d) (λ deed. Ok (record { at = at; act = deed.act })))
+    then (deed_in zones d) (λ deed. Ok (record { at = at; operation = deed.operation })))
 
 -- a list, where it is there
 abbrev pub items_in : Option Data → Option Items

@@ -5,7 +5,7 @@ use Rattle.serde_json.specs.Data.{Data, Items, no_items, item, Members, no_membe
 use Rattle.serde_json.specs.Find.{as_array, as_object, as_str}
 use Rattle.cj_types.specs.Keys.{Place}
 use Rattle.cj_manifest.specs.Members.{present, unless_null}
-use Rattle.cj_script.specs.operations.Acts.{key_of, number_in}
+use Rattle.cj_script.specs.operations.Operations.{key_of, number_in}
 use Rattle.cj_script.specs.declared.simulation.run.Run.{Run}
 use Rattle.cj_script.specs.declared.simulation.run.RunEnd.{RunEnd}
 use Rattle.cj_script.specs.declared.simulation.run.RunEnd.TheVariants.{Complete, Failed}

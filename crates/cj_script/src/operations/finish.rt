@@ -4,9 +4,9 @@ ghost use Rattle.serde_json.specs.View.{view, items_view};
 ghost use Rattle.cj_base.specs.declared.refusal.Refusal.TheVariants.{OutOfMemory};
 ghost use Rattle.cj_script.specs.operations.Finishes as said;
 
-use crate::operations::act::Act;
 use crate::operations::instant::time_at;
 use crate::operations::member::present;
+use crate::operations::operation::Operation;
 use cj_calls::{Call, End};
 use cj_types::{Millis, Reason, Reasons, Refusal};
 use serde_json::Value;
@@ -58,7 +58,7 @@ fn end_at(value: &Value) -> Option<End>
     }
 }
 
-fn finished(alloc: Global, end: End, list: &Value) -> Result<Option<Act>, Refusal>
+fn finished(alloc: Global, end: End, list: &Value) -> Result<Option<Operation>, Refusal>
     ensures ok { IfOk result (λ a. a ≡ said.finished end (view list.now)) }
     ensures err { IfErr result (λ e. e ≡ OutOfMemory) }
 {
@@ -66,13 +66,13 @@ fn finished(alloc: Global, end: End, list: &Value) -> Result<Option<Act>, Refusa
         return Ok(None);
     };
     match reasons_of(alloc, items)? {
-        Some(reasons) => Ok(Some(Act::Calls(Call::Finish(end, reasons)))),
+        Some(reasons) => Ok(Some(Operation::Calls(Call::Finish(end, reasons)))),
         None => Ok(None),
     }
 }
 
 /// The end of a sync: with its reasons where these are given.
-pub(crate) fn finish(alloc: Global, value: &Value) -> Result<Option<Act>, Refusal>
+pub(crate) fn finish(alloc: Global, value: &Value) -> Result<Option<Operation>, Refusal>
     ensures ok { IfOk result (λ a. a ≡ said.finish (view value.now)) }
     ensures err { IfErr result (λ e. e ≡ OutOfMemory) }
 {
@@ -80,7 +80,7 @@ pub(crate) fn finish(alloc: Global, value: &Value) -> Result<Option<Act>, Refusa
         return Ok(None);
     };
     match present(value, "reasons") {
-        None => Ok(Some(Act::Closes(end))),
+        None => Ok(Some(Operation::Closes(end))),
         Some(list) => finished(alloc, end, list),
     }
 }

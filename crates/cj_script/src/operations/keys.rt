@@ -2,7 +2,7 @@
 ghost use Rattle.std.specs.Prelude.{◌≡◌, IfOk, IfErr};
 ghost use Rattle.serde_json.specs.View.{view};
 ghost use Rattle.cj_base.specs.declared.refusal.Refusal.TheVariants.{OutOfMemory};
-ghost use Rattle.cj_script.specs.operations.Acts as said;
+ghost use Rattle.cj_script.specs.operations.Operations as said;
 
 use crate::operations::member::present;
 use cj_types::{Key, Refusal};

@@ -2,7 +2,7 @@
 ghost use Rattle.std.specs.Prelude.{◌≡◌, option_map};
 ghost use Rattle.serde_json.specs.View.{view};
 ghost use Rattle.cj_manifest.specs.Members.{present as member_at};
-ghost use Rattle.cj_script.specs.operations.Acts as said;
+ghost use Rattle.cj_script.specs.operations.Operations as said;
 
 use cj_types::Max;
 use serde_json::Value;

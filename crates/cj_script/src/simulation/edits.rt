@@ -9,7 +9,7 @@ ghost use Rattle.cj_script.specs.simulation.Edits.{edit_of, edits_in, instant_in
 
 use crate::lists::{Reads, list_of};
 use crate::operations::{present, time_at};
-use crate::simulation::course::Edit;
+use crate::simulation::scenario::Edit;
 use crate::simulation::span::Span;
 use crate::step::{Deed, deed_of};
 use cj_scenario::SceneFault;
@@ -37,8 +37,8 @@ fn edit_of(alloc: Global, zones: &ZoneTable, span: &Span, value: &Value) -> Resu
     let Some(at) = instant_at(span, value) else {
         return Err(SceneFault::Form);
     };
-    let Deed { verb: _, act } = deed_of(alloc, zones, value)?;
-    Ok(Edit { at, act })
+    let Deed { verb: _, operation } = deed_of(alloc, zones, value)?;
+    Ok(Edit { at, operation })
 }
 
 // Reads the edits of a scenario with these zones and this clock.

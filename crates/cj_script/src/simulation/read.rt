@@ -6,14 +6,14 @@ ghost use Rattle.serde_json.specs.View.{view};
 ghost use Rattle.cj_zone.specs.Table.{zones_of};
 ghost use Rattle.cj_scenario.specs.declared.fault.SceneFault.TheVariants.{Memory};
 ghost use Rattle.cj_script.specs.Lists.{fault_after};
-ghost use Rattle.cj_script.specs.simulation.Courses.{IsCourse, IsRefusedCourse, IsRefusedValue, Says, lists_in, told, told_in};
+ghost use Rattle.cj_script.specs.simulation.Simulations.{IsSimulation, IsRefusedSimulation, IsRefusedValue, Says, lists_in, told, told_in};
 ghost use Rattle.cj_script.specs.simulation.Edits.{edits_in};
 
 use crate::operations::present;
-use crate::simulation::course::{Course, Edit};
 use crate::simulation::edits::edits_at;
 use crate::simulation::run_lists::runs_at;
 use crate::simulation::runs::Runs;
+use crate::simulation::scenario::{Edit, Simulation};
 use crate::simulation::seeds::crons_at;
 use crate::simulation::span::Span;
 use crate::simulation::times::span_at;
@@ -98,7 +98,11 @@ fn content_of(alloc: Global, zones: &ZoneTable, value: &Value) -> Result<Content
 }
 
 // What the value says.
-fn course_of(alloc: Global, given: GivenZones<'_>, value: &Value) -> Result<Course, SceneFault>
+fn simulation_of(
+    alloc: Global,
+    given: GivenZones<'_>,
+    value: &Value,
+) -> Result<Simulation, SceneFault>
     requires flat { depth (view value.now) ≤ max_depth }
     ensures said { IfOk result (Says given.entry (view value.now)) }
     ensures refused { IfErr result (IsRefusedValue given.entry (view value.now)) }
@@ -106,7 +110,7 @@ fn course_of(alloc: Global, given: GivenZones<'_>, value: &Value) -> Result<Cour
     let zones = table_of(given, present(value, "zones"))?;
     let Content { span, runs, lists } = content_of(alloc, &zones, value)?;
     let Lists { crons, edits } = lists;
-    Ok(Course {
+    Ok(Simulation {
         zones,
         span,
         crons,
@@ -126,10 +130,14 @@ fn course_of(alloc: Global, given: GivenZones<'_>, value: &Value) -> Result<Cour
 /// Refused in this order: `Syntax` for bytes that aren't JSON, `Form` for a value of another form or with a
 /// zone that is refused, and `Manifest` with the first fault of the first manifest that has one, those of
 /// `cronJobs` before those of `edits`.
-pub fn read_course(alloc: Global, given: GivenZones<'_>, bytes: &[u8]) -> Result<Course, SceneFault>
-    ensures read { IfOk result (IsCourse given.entry bytes.now) }
-    ensures refused { IfErr result (IsRefusedCourse given.entry bytes.now) }
+pub fn read_simulation(
+    alloc: Global,
+    given: GivenZones<'_>,
+    bytes: &[u8],
+) -> Result<Simulation, SceneFault>
+    ensures read { IfOk result (IsSimulation given.entry bytes.now) }
+    ensures refused { IfErr result (IsRefusedSimulation given.entry bytes.now) }
 {
     let value = value_of(alloc, bytes)?;
-    course_of(alloc, given, &value)
+    simulation_of(alloc, given, &value)
 }

@@ -4,7 +4,7 @@ ghost use Rattle.cj_base.specs.declared.refusal.Refusal.TheVariants.{OutOfMemory
 ghost use Rattle.cj_store.specs.Change.{map_ok, cron_added, cron_modified, cron_gone};
 ghost use Rattle.cj_store.specs.Crons.{cron_created, cron_updated, cron_deleted};
 ghost use Rattle.cj_state.specs.Sound.{IsSound};
-ghost use Rattle.cj_state.specs.Moves.{moved, event_reply, version_reply};
+ghost use Rattle.cj_state.specs.WorkerCalls.{handled, event_reply, version_reply};
 ghost use Rattle.cj_state.specs.Step.{writes};
 
 use crate::api::writing::{write_deletion, write_object};
@@ -24,7 +24,7 @@ pub fn create_cron(
     requires room { HasRoom state.old.store }
     requires sound { IsSound state.old }
     ensures ok { IfOk result (λ t. writes state.old event_reply
-        (map_ok cron_added (cron_created state.old.store draft.now now)) ≡ moved t state.new) }
+        (map_ok cron_added (cron_created state.old.store draft.now now)) ≡ handled t state.new) }
     ensures err { OnErr result (state.new ≡ state.old) }
     ensures memory { IfErr result (λ e. e ≡ OutOfMemory) }
 {
@@ -47,7 +47,7 @@ pub fn update_cron(
     requires room { HasRoom state.old.store }
     requires sound { IsSound state.old }
     ensures ok { IfOk result (λ t. writes state.old event_reply
-        (map_ok cron_modified (cron_updated state.old.store draft.now)) ≡ moved t state.new) }
+        (map_ok cron_modified (cron_updated state.old.store draft.now)) ≡ handled t state.new) }
     ensures err { OnErr result (state.new ≡ state.old) }
     ensures memory { IfErr result (λ e. e ≡ OutOfMemory) }
 {
@@ -63,7 +63,7 @@ pub fn delete_cron(alloc: Global, state: &mut State, key: &Key) -> Result<Answer
     requires room { HasRoom state.old.store }
     requires sound { IsSound state.old }
     ensures ok { IfOk result (λ t. writes state.old version_reply
-        (map_ok cron_gone (cron_deleted state.old.store key.now)) ≡ moved t state.new) }
+        (map_ok cron_gone (cron_deleted state.old.store key.now)) ≡ handled t state.new) }
     ensures err { OnErr result (state.new ≡ state.old) }
     ensures memory { IfErr result (λ e. e ≡ OutOfMemory) }
 {

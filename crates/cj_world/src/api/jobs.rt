@@ -4,7 +4,7 @@ ghost use Rattle.cj_base.specs.declared.refusal.Refusal.TheVariants.{OutOfMemory
 ghost use Rattle.cj_store.specs.Change.{map_ok, job_added, job_modified, job_gone};
 ghost use Rattle.cj_store.specs.Jobs.{job_created, job_updated, job_deleted, job_ended};
 ghost use Rattle.cj_state.specs.Sound.{IsSound};
-ghost use Rattle.cj_state.specs.Moves.{moved, event_reply, version_reply};
+ghost use Rattle.cj_state.specs.WorkerCalls.{handled, event_reply, version_reply};
 ghost use Rattle.cj_state.specs.Step.{writes};
 
 use crate::api::writing::{write_deletion, write_object};
@@ -24,7 +24,7 @@ pub fn create_job(
     requires room { HasRoom state.old.store }
     requires sound { IsSound state.old }
     ensures ok { IfOk result (λ t. writes state.old event_reply
-        (map_ok job_added (job_created state.old.store draft.now now)) ≡ moved t state.new) }
+        (map_ok job_added (job_created state.old.store draft.now now)) ≡ handled t state.new) }
     ensures err { OnErr result (state.new ≡ state.old) }
     ensures memory { IfErr result (λ e. e ≡ OutOfMemory) }
 {
@@ -43,7 +43,7 @@ pub fn update_job(alloc: Global, state: &mut State, draft: &JobDraft) -> Result<
     requires room { HasRoom state.old.store }
     requires sound { IsSound state.old }
     ensures ok { IfOk result (λ t. writes state.old event_reply
-        (map_ok job_modified (job_updated state.old.store draft.now)) ≡ moved t state.new) }
+        (map_ok job_modified (job_updated state.old.store draft.now)) ≡ handled t state.new) }
     ensures err { OnErr result (state.new ≡ state.old) }
     ensures memory { IfErr result (λ e. e ≡ OutOfMemory) }
 {
@@ -59,7 +59,7 @@ pub fn delete_job(alloc: Global, state: &mut State, key: &Key) -> Result<Answere
     requires room { HasRoom state.old.store }
     requires sound { IsSound state.old }
     ensures ok { IfOk result (λ t. writes state.old version_reply
-        (map_ok job_gone (job_deleted state.old.store key.now None)) ≡ moved t state.new) }
+        (map_ok job_gone (job_deleted state.old.store key.now None)) ≡ handled t state.new) }
     ensures err { OnErr result (state.new ≡ state.old) }
     ensures memory { IfErr result (λ e. e ≡ OutOfMemory) }
 {
@@ -83,7 +83,7 @@ pub fn end_job(
     requires sound { IsSound state.old }
     ensures ok { IfOk result (λ t. writes state.old event_reply
         (map_ok job_modified (job_ended state.old.store key.now uid outcome now))
-        ≡ moved t state.new) }
+        ≡ handled t state.new) }
     ensures err { OnErr result (state.new ≡ state.old) }
     ensures memory { IfErr result (λ e. e ≡ OutOfMemory) }
 {

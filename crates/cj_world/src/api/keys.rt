@@ -8,7 +8,7 @@ ghost use Rattle.cj_watch.specs.Log.{since};
 ghost use Rattle.cj_watch.specs.mirror.Lagging.{fed_with, reset_to};
 ghost use Rattle.cj_watch.specs.mirror.Laws.{caught_up};
 ghost use Rattle.cj_state.specs.Sound.{IsSound};
-ghost use Rattle.cj_state.specs.Moves.{moved};
+ghost use Rattle.cj_state.specs.WorkerCalls.{handled};
 ghost use Rattle.cj_state.specs.Step.{add, tick, shut, feed};
 
 use cj_base::both;
@@ -21,7 +21,7 @@ use std::alloc::Global;
 
 /// Adds a key to the queue.
 pub fn add(alloc: Global, state: &mut State, key: &Key) -> Result<Answered, Refusal>
-    ensures ok { IfOk result (λ t. add state.old key.now ≡ moved t state.new) }
+    ensures ok { IfOk result (λ t. add state.old key.now ≡ handled t state.new) }
     ensures err { OnErr result (state.new ≡ state.old) }
     ensures memory { IfErr result (λ e. e ≡ OutOfMemory) }
 {
@@ -32,7 +32,7 @@ pub fn add(alloc: Global, state: &mut State, key: &Key) -> Result<Answered, Refu
 
 /// Tells the queue the moment.
 pub fn tick(alloc: Global, state: &mut State, now: Millis) -> Result<Answered, Refusal>
-    ensures ok { IfOk result (λ t. tick state.old now ≡ moved t state.new) }
+    ensures ok { IfOk result (λ t. tick state.old now ≡ handled t state.new) }
     ensures err { OnErr result (state.new ≡ state.old) }
     ensures memory { IfErr result (λ e. e ≡ OutOfMemory) }
 {
@@ -43,7 +43,7 @@ pub fn tick(alloc: Global, state: &mut State, now: Millis) -> Result<Answered, R
 
 /// Shuts the queue.
 pub fn shut(alloc: Global, state: &mut State) -> Result<Answered, Refusal>
-    ensures ok { IfOk result (λ t. shut state.old ≡ moved t state.new) }
+    ensures ok { IfOk result (λ t. shut state.old ≡ handled t state.new) }
     ensures err { OnErr result (state.new ≡ state.old) }
     ensures memory { IfErr result (λ e. e ≡ OutOfMemory) }
 {
@@ -116,7 +116,7 @@ fn catch_up(
 /// The lists learn of so many writes more. Answers how many they know then.
 pub fn feed(alloc: Global, state: &mut State, max: Max) -> Result<Answered, Refusal>
     requires sound { IsSound state.old }
-    ensures ok { IfOk result (λ t. feed state.old max ≡ moved t state.new) }
+    ensures ok { IfOk result (λ t. feed state.old max ≡ handled t state.new) }
     ensures err { OnErr result (state.new ≡ state.old) }
     ensures memory { IfErr result (λ e. e ≡ OutOfMemory) }
 {

@@ -3,7 +3,7 @@ ghost use Rattle.std.specs.FinMap as map;
 ghost use Rattle.cj_base.specs.declared.refusal.Refusal.TheVariants.{OutOfMemory};
 ghost use Rattle.cj_watch.specs.Log.{since};
 ghost use Rattle.cj_calls.specs.declared.call.Call.TheVariants.{ListCrons, ListJobs};
-ghost use Rattle.cj_state.specs.Moves.{moved};
+ghost use Rattle.cj_state.specs.WorkerCalls.{handled};
 ghost use Rattle.cj_state.specs.Step.{found_cron, found_job, told_events, by_reader};
 
 use cj_calls::{Answered, Call, Reply};
@@ -13,7 +13,7 @@ use std::alloc::Global;
 
 fn get_cron(alloc: Global, state: &State, key: &Key) -> Result<Answered, Refusal>
     ensures ok { IfOk result (λ t. found_cron state.now (map.get state.now.store.crons key.now)
-        ≡ moved t state.now) }
+        ≡ handled t state.now) }
     ensures err { IfErr result (λ e. e ≡ OutOfMemory) }
 {
     match state.store.get_cron(key) {
@@ -24,7 +24,7 @@ fn get_cron(alloc: Global, state: &State, key: &Key) -> Result<Answered, Refusal
 
 fn get_job(alloc: Global, state: &State, key: &Key) -> Result<Answered, Refusal>
     ensures ok { IfOk result (λ t. found_job state.now (map.get state.now.store.jobs key.now)
-        ≡ moved t state.now) }
+        ≡ handled t state.now) }
     ensures err { IfErr result (λ e. e ≡ OutOfMemory) }
 {
     match state.store.get_job(key) {
@@ -34,7 +34,7 @@ fn get_job(alloc: Global, state: &State, key: &Key) -> Result<Answered, Refusal>
 }
 
 fn list_crons(alloc: Global, state: &State) -> Result<Answered, Refusal>
-    ensures ok { IfOk result (λ t. by_reader state.now ListCrons ≡ moved t state.now) }
+    ensures ok { IfOk result (λ t. by_reader state.now ListCrons ≡ handled t state.now) }
     ensures err { IfErr result (λ e. e ≡ OutOfMemory) }
 {
     let crons = state.store.list_crons(alloc)?;
@@ -42,7 +42,7 @@ fn list_crons(alloc: Global, state: &State) -> Result<Answered, Refusal>
 }
 
 fn list_jobs(alloc: Global, state: &State) -> Result<Answered, Refusal>
-    ensures ok { IfOk result (λ t. by_reader state.now ListJobs ≡ moved t state.now) }
+    ensures ok { IfOk result (λ t. by_reader state.now ListJobs ≡ handled t state.now) }
     ensures err { IfErr result (λ e. e ≡ OutOfMemory) }
 {
     let jobs = state.store.list_jobs(alloc)?;
@@ -51,7 +51,7 @@ fn list_jobs(alloc: Global, state: &State) -> Result<Answered, Refusal>
 
 fn watch(alloc: Global, state: &State, version: Version, max: Max) -> Result<Answered, Refusal>
     ensures ok { IfOk result (λ t. told_events state.now (since state.now.watch version max)
-        ≡ moved t state.now) }
+        ≡ handled t state.now) }
     ensures err { IfErr result (λ e. e ≡ OutOfMemory) }
 {
     match state.watch.since(alloc, version, max) {
@@ -62,7 +62,7 @@ fn watch(alloc: Global, state: &State, version: Version, max: Max) -> Result<Ans
 
 /// A reading, which users, informers and runners share; any other call is refused.
 pub fn by_reader(alloc: Global, state: &State, call: &Call) -> Result<Answered, Refusal>
-    ensures ok { IfOk result (λ t. by_reader state.now call.now ≡ moved t state.now) }
+    ensures ok { IfOk result (λ t. by_reader state.now call.now ≡ handled t state.now) }
     ensures err { IfErr result (λ e. e ≡ OutOfMemory) }
 {
     match call {

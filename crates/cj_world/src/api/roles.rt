@@ -2,7 +2,7 @@ ghost use Rattle.std.specs.Prelude.{◌≡◌, IfOk, IfErr, OnErr};
 ghost use Rattle.cj_store.specs.Content.{HasRoom};
 ghost use Rattle.cj_base.specs.declared.refusal.Refusal.TheVariants.{OutOfMemory};
 ghost use Rattle.cj_state.specs.Sound.{IsSound};
-ghost use Rattle.cj_state.specs.Moves.{moved};
+ghost use Rattle.cj_state.specs.WorkerCalls.{handled};
 ghost use Rattle.cj_state.specs.Step.{by_user, by_runner, by_informer};
 
 use crate::api::crons::{create_cron, delete_cron, update_cron};
@@ -18,7 +18,7 @@ use std::alloc::Global;
 pub fn by_user(alloc: Global, state: &mut State, call: &Call) -> Result<Answered, Refusal>
     requires room { HasRoom state.old.store }
     requires sound { IsSound state.old }
-    ensures ok { IfOk result (λ t. by_user state.old call.now ≡ moved t state.new) }
+    ensures ok { IfOk result (λ t. by_user state.old call.now ≡ handled t state.new) }
     ensures err { OnErr result (state.new ≡ state.old) }
     ensures memory { IfErr result (λ e. e ≡ OutOfMemory) }
 {
@@ -37,7 +37,7 @@ pub fn by_user(alloc: Global, state: &mut State, call: &Call) -> Result<Answered
 pub fn by_runner(alloc: Global, state: &mut State, call: &Call) -> Result<Answered, Refusal>
     requires room { HasRoom state.old.store }
     requires sound { IsSound state.old }
-    ensures ok { IfOk result (λ t. by_runner state.old call.now ≡ moved t state.new) }
+    ensures ok { IfOk result (λ t. by_runner state.old call.now ≡ handled t state.new) }
     ensures err { OnErr result (state.new ≡ state.old) }
     ensures memory { IfErr result (λ e. e ≡ OutOfMemory) }
 {
@@ -50,7 +50,7 @@ pub fn by_runner(alloc: Global, state: &mut State, call: &Call) -> Result<Answer
 /// A call of an informer. Where there is no memory all is as it was.
 pub fn by_informer(alloc: Global, state: &mut State, call: &Call) -> Result<Answered, Refusal>
     requires sound { IsSound state.old }
-    ensures ok { IfOk result (λ t. by_informer state.old call.now ≡ moved t state.new) }
+    ensures ok { IfOk result (λ t. by_informer state.old call.now ≡ handled t state.new) }
     ensures err { OnErr result (state.new ≡ state.old) }
     ensures memory { IfErr result (λ e. e ≡ OutOfMemory) }
 {

@@ -3,7 +3,7 @@ ghost use Rattle.cj_store.specs.Content.{HasRoom};
 ghost use Rattle.cj_base.specs.declared.refusal.Refusal.TheVariants.{OutOfMemory};
 ghost use Rattle.cj_store.specs.Change.{IsFor};
 ghost use Rattle.cj_types.specs.Events.{version_of};
-ghost use Rattle.cj_state.specs.Moves.{event_reply, version_reply, written};
+ghost use Rattle.cj_state.specs.WorkerCalls.{event_reply, version_reply, written};
 
 use cj_calls::{Answered, Reply};
 use cj_state::{State, event_answer};

@@ -4,7 +4,7 @@ ghost use Rattle.cj_store.specs.Content.{HasRoom};
 ghost use Rattle.cj_base.specs.declared.refusal.Refusal.TheVariants.{OutOfMemory};
 ghost use Rattle.cj_state.specs.declared.phases.seat.Phase.TheVariants.{Works};
 ghost use Rattle.cj_state.specs.Sound.{IsSound};
-ghost use Rattle.cj_state.specs.Moves.{claim, claims, claim_where, seen_version, moved};
+ghost use Rattle.cj_state.specs.WorkerCalls.{claim, claims, claim_where, seen_version, handled};
 
 use cj_base::both;
 use cj_calls::{Answered, Reply};
@@ -57,7 +57,7 @@ fn claim_time(
     requires sound { IsSound state.old }
     requires there { IsSome (map.get state.old.seats worker) }
     ensures ok { IfOk result (λ t. claims state.old worker key.now plan.now claim.now
-        (Some cron.now) ≡ moved t state.new) }
+        (Some cron.now) ≡ handled t state.new) }
     ensures err { OnErr result (state.new ≡ state.old) }
     ensures memory { IfErr result (λ e. e ≡ OutOfMemory) }
 {
@@ -92,7 +92,7 @@ fn claim_where(
     requires sound { IsSound state.old }
     requires there { IsSome (map.get state.old.seats worker) }
     ensures ok { IfOk result (λ t. claim_where state.old worker key.now plan.now
-        plan.now.steps.claim ≡ moved t state.new) }
+        plan.now.steps.claim ≡ handled t state.new) }
     ensures err { OnErr result (state.new ≡ state.old) }
     ensures memory { IfErr result (λ e. e ≡ OutOfMemory) }
 {
@@ -111,7 +111,7 @@ fn claim_where(
 }
 
 /// Claims what the plan says, if it rests on the answers that the worker got.
-#[tactic(auto, unfolding(cj_state::specs::Moves::claim))]
+#[tactic(auto, unfolding(cj_state::specs::WorkerCalls::claim))]
 pub fn claim(
     alloc: Global,
     state: &mut State,
@@ -120,7 +120,7 @@ pub fn claim(
 ) -> Result<Answered, Refusal>
     requires room { HasRoom state.old.store }
     requires sound { IsSound state.old }
-    ensures ok { IfOk result (λ t. claim state.old worker plan.now ≡ moved t state.new) }
+    ensures ok { IfOk result (λ t. claim state.old worker plan.now ≡ handled t state.new) }
     ensures err { OnErr result (state.new ≡ state.old) }
     ensures memory { IfErr result (λ e. e ≡ OutOfMemory) }
 {

@@ -2,7 +2,7 @@ ghost use Rattle.std.specs.Prelude.{◌≡◌, IfOk, IfErr, OnErr, IsTrue};
 ghost use Rattle.cj_base.specs.declared.refusal.Refusal.TheVariants.{OutOfMemory};
 ghost use Rattle.cj_queue.specs.Queue.{has, finished_ok, finished_retry};
 ghost use Rattle.cj_state.specs.Sound.{IsSound};
-ghost use Rattle.cj_state.specs.Moves.{finish, leaves, next_ms, moved};
+ghost use Rattle.cj_state.specs.WorkerCalls.{finish, leaves, next_ms, handled};
 
 use cj_calls::{Answered, End, Reply};
 use cj_state::{Phase, State, is_done, refused};
@@ -27,7 +27,7 @@ fn leave_well(
 ) -> Result<Answered, Refusal>
     requires held { IsTrue (has state.old.queue.row.processing key.now) }
     ensures ok { IfOk result (λ t. leaves state.old worker (finished_ok state.old.queue key.now at)
-        ≡ moved t state.new) }
+        ≡ handled t state.new) }
     ensures err { OnErr result (state.new ≡ state.old) }
     ensures memory { IfErr result (λ e. e ≡ OutOfMemory) }
 {
@@ -46,7 +46,7 @@ fn leave_badly(
 ) -> Result<Answered, Refusal>
     requires held { IsTrue (has state.old.queue.row.processing key.now) }
     ensures ok { IfOk result (λ t. leaves state.old worker
-        (finished_retry state.old.queue key.now now) ≡ moved t state.new) }
+        (finished_retry state.old.queue key.now now) ≡ handled t state.new) }
     ensures err { OnErr result (state.new ≡ state.old) }
     ensures memory { IfErr result (λ e. e ≡ OutOfMemory) }
 {
@@ -57,10 +57,10 @@ fn leave_badly(
 }
 
 /// Ends the worker's sync.
-#[tactic(auto, unfolding(cj_state::specs::Moves::finish), using(cj_state::proofs::Numbers::held_key))]
+#[tactic(auto, unfolding(cj_state::specs::WorkerCalls::finish), using(cj_state::proofs::Numbers::held_key))]
 pub fn finish(alloc: Global, state: &mut State, worker: u64, end: End) -> Result<Answered, Refusal>
     requires sound { IsSound state.old }
-    ensures ok { IfOk result (λ t. finish state.old worker end ≡ moved t state.new) }
+    ensures ok { IfOk result (λ t. finish state.old worker end ≡ handled t state.new) }
     ensures err { OnErr result (state.new ≡ state.old) }
     ensures memory { IfErr result (λ e. e ≡ OutOfMemory) }
 {

@@ -6,7 +6,7 @@ ghost use Rattle.cj_store.specs.Change.{map_ok, cron_modified, job_added, job_go
 ghost use Rattle.cj_store.specs.Crons.{status_set};
 ghost use Rattle.cj_store.specs.Jobs.{job_made, job_deleted};
 ghost use Rattle.cj_state.specs.Sound.{IsSound};
-ghost use Rattle.cj_state.specs.Moves.{drop_next, drops_it, make_next, set_status, steps_on, event_reply, version_reply, next_seat, moved};
+ghost use Rattle.cj_state.specs.WorkerCalls.{drop_next, drops_it, make_next, set_status, steps_on, event_reply, version_reply, next_seat, handled};
 
 use cj_base::both;
 use cj_calls::{Answered, Reply};
@@ -43,7 +43,7 @@ fn drop_job(
     requires sound { IsSound state.old }
     requires there { IsSome (map.get state.old.seats worker) }
     ensures ok { IfOk result (λ t. drops_it state.old worker seat name
-        (map_ok job_gone (job_deleted state.old.store name (Some uid))) ≡ moved t state.new) }
+        (map_ok job_gone (job_deleted state.old.store name (Some uid))) ≡ handled t state.new) }
     ensures err { OnErr result (state.new ≡ state.old) }
     ensures memory { IfErr result (λ e. e ≡ OutOfMemory) }
 {
@@ -75,7 +75,7 @@ fn make_job(
     requires sound { IsSound state.old }
     requires there { IsSome (map.get state.old.seats worker) }
     ensures ok { IfOk result (λ t. steps_on state.old worker seat event_reply
-        (map_ok job_added (job_made state.old.store draft now)) ≡ moved t state.new) }
+        (map_ok job_added (job_made state.old.store draft now)) ≡ handled t state.new) }
     ensures err { OnErr result (state.new ≡ state.old) }
     ensures memory { IfErr result (λ e. e ≡ OutOfMemory) }
 {
@@ -103,7 +103,7 @@ fn put_status(
     requires there { IsSome (map.get state.old.seats worker) }
     ensures ok { IfOk result (λ t. steps_on state.old worker seat version_reply
         (map_ok cron_modified (status_set state.old.store seat.key uid version status))
-        ≡ moved t state.new) }
+        ≡ handled t state.new) }
     ensures err { OnErr result (state.new ≡ state.old) }
     ensures memory { IfErr result (λ e. e ≡ OutOfMemory) }
 {
@@ -121,11 +121,11 @@ fn put_status(
 }
 
 /// Drops the Job that the next step of the worker's plan drops.
-#[tactic(auto, unfolding(cj_state::specs::Moves::drop_next))]
+#[tactic(auto, unfolding(cj_state::specs::WorkerCalls::drop_next))]
 pub fn drop_next(alloc: Global, state: &mut State, worker: u64) -> Result<Answered, Refusal>
     requires room { HasRoom state.old.store }
     requires sound { IsSound state.old }
-    ensures ok { IfOk result (λ t. drop_next state.old worker ≡ moved t state.new) }
+    ensures ok { IfOk result (λ t. drop_next state.old worker ≡ handled t state.new) }
     ensures err { OnErr result (state.new ≡ state.old) }
     ensures memory { IfErr result (λ e. e ≡ OutOfMemory) }
 {
@@ -144,11 +144,11 @@ pub fn drop_next(alloc: Global, state: &mut State, worker: u64) -> Result<Answer
 }
 
 /// Makes the Job that the next step of the worker's plan makes.
-#[tactic(auto, unfolding(cj_state::specs::Moves::make_next))]
+#[tactic(auto, unfolding(cj_state::specs::WorkerCalls::make_next))]
 pub fn make_next(alloc: Global, state: &mut State, worker: u64) -> Result<Answered, Refusal>
     requires room { HasRoom state.old.store }
     requires sound { IsSound state.old }
-    ensures ok { IfOk result (λ t. make_next state.old worker ≡ moved t state.new) }
+    ensures ok { IfOk result (λ t. make_next state.old worker ≡ handled t state.new) }
     ensures err { OnErr result (state.new ≡ state.old) }
     ensures memory { IfErr result (λ e. e ≡ OutOfMemory) }
 {
@@ -167,11 +167,11 @@ pub fn make_next(alloc: Global, state: &mut State, worker: u64) -> Result<Answer
 }
 
 /// Sets the status that the next step of the worker's plan sets.
-#[tactic(auto, unfolding(cj_state::specs::Moves::set_status))]
+#[tactic(auto, unfolding(cj_state::specs::WorkerCalls::set_status))]
 pub fn set_status(alloc: Global, state: &mut State, worker: u64) -> Result<Answered, Refusal>
     requires room { HasRoom state.old.store }
     requires sound { IsSound state.old }
-    ensures ok { IfOk result (λ t. set_status state.old worker ≡ moved t state.new) }
+    ensures ok { IfOk result (λ t. set_status state.old worker ≡ handled t state.new) }
     ensures err { OnErr result (state.new ≡ state.old) }
     ensures memory { IfErr result (λ e. e ≡ OutOfMemory) }
 {

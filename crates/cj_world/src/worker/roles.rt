@@ -2,7 +2,7 @@ ghost use Rattle.std.specs.Prelude.{◌≡◌, IfOk, IfErr, OnErr};
 ghost use Rattle.cj_store.specs.Content.{HasRoom};
 ghost use Rattle.cj_base.specs.declared.refusal.Refusal.TheVariants.{OutOfMemory};
 ghost use Rattle.cj_state.specs.Sound.{IsSound};
-ghost use Rattle.cj_state.specs.Moves.{moved};
+ghost use Rattle.cj_state.specs.WorkerCalls.{handled};
 ghost use Rattle.cj_state.specs.Step.{by_worker};
 
 use crate::worker::claim::claim;
@@ -24,7 +24,7 @@ pub fn by_worker(
 ) -> Result<Answered, Refusal>
     requires room { HasRoom state.old.store }
     requires sound { IsSound state.old }
-    ensures ok { IfOk result (λ t. by_worker state.old worker call.now ≡ moved t state.new) }
+    ensures ok { IfOk result (λ t. by_worker state.old worker call.now ≡ handled t state.new) }
     ensures err { OnErr result (state.new ≡ state.old) }
     ensures memory { IfErr result (λ e. e ≡ OutOfMemory) }
 {

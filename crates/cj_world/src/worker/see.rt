@@ -4,7 +4,7 @@ ghost use Rattle.cj_base.specs.declared.refusal.Refusal.TheVariants.{OutOfMemory
 ghost use Rattle.cj_table.specs.jobs.Owners.{owned_by};
 ghost use Rattle.cj_state.specs.declared.phases.seat.Phase.TheVariants.{Seen, Listed, Checked};
 ghost use Rattle.cj_state.specs.Readings.{active_of};
-ghost use Rattle.cj_state.specs.Moves.{see_cron, see_jobs, see_active, moved};
+ghost use Rattle.cj_state.specs.WorkerCalls.{see_cron, see_jobs, see_active, handled};
 
 use crate::worker::active::active_of;
 use cj_base::{all_three, both};
@@ -99,9 +99,9 @@ fn shown_active(
 }
 
 /// The CronJob of the key that the worker holds.
-#[tactic(auto, unfolding(cj_state::specs::Moves::see_cron))]
+#[tactic(auto, unfolding(cj_state::specs::WorkerCalls::see_cron))]
 pub fn see_cron(alloc: Global, state: &mut State, worker: u64) -> Result<Answered, Refusal>
-    ensures ok { IfOk result (λ t. see_cron state.old worker ≡ moved t state.new) }
+    ensures ok { IfOk result (λ t. see_cron state.old worker ≡ handled t state.new) }
     ensures err { OnErr result (state.new ≡ state.old) }
     ensures memory { IfErr result (λ e. e ≡ OutOfMemory) }
 {
@@ -117,9 +117,9 @@ pub fn see_cron(alloc: Global, state: &mut State, worker: u64) -> Result<Answere
 }
 
 /// The Jobs of the key that the worker holds.
-#[tactic(auto, unfolding(cj_state::specs::Moves::see_jobs))]
+#[tactic(auto, unfolding(cj_state::specs::WorkerCalls::see_jobs))]
 pub fn see_jobs(alloc: Global, state: &mut State, worker: u64) -> Result<Answered, Refusal>
-    ensures ok { IfOk result (λ t. see_jobs state.old worker ≡ moved t state.new) }
+    ensures ok { IfOk result (λ t. see_jobs state.old worker ≡ handled t state.new) }
     ensures err { OnErr result (state.new ≡ state.old) }
     ensures memory { IfErr result (λ e. e ≡ OutOfMemory) }
 {
@@ -135,9 +135,9 @@ pub fn see_jobs(alloc: Global, state: &mut State, worker: u64) -> Result<Answere
 }
 
 /// What became of the Jobs that the seen CronJob's status names as active.
-#[tactic(auto, unfolding(cj_state::specs::Moves::see_active))]
+#[tactic(auto, unfolding(cj_state::specs::WorkerCalls::see_active))]
 pub fn see_active(alloc: Global, state: &mut State, worker: u64) -> Result<Answered, Refusal>
-    ensures ok { IfOk result (λ t. see_active state.old worker ≡ moved t state.new) }
+    ensures ok { IfOk result (λ t. see_active state.old worker ≡ handled t state.new) }
     ensures err { OnErr result (state.new ≡ state.old) }
     ensures memory { IfErr result (λ e. e ≡ OutOfMemory) }
 {

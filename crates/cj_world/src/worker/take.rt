@@ -3,7 +3,7 @@ ghost use Rattle.std.specs.FinMap as map;
 ghost use Rattle.cj_base.specs.declared.refusal.Refusal.TheVariants.{OutOfMemory};
 ghost use Rattle.cj_queue.specs.Queue.{taken};
 ghost use Rattle.cj_state.specs.declared.phases.seat.Phase.TheVariants.{Held};
-ghost use Rattle.cj_state.specs.Moves.{take, moved, seated};
+ghost use Rattle.cj_state.specs.WorkerCalls.{take, handled, seated};
 
 use cj_calls::{Answered, Reply};
 use cj_state::{Phase, Seat, State, refused};
@@ -53,9 +53,9 @@ fn take_key(alloc: Global, state: &mut State, worker: u64, key: Key) -> Result<A
 }
 
 /// Takes the first key of the line for the worker.
-#[tactic(auto, unfolding(cj_state::specs::Moves::take))]
+#[tactic(auto, unfolding(cj_state::specs::WorkerCalls::take))]
 pub fn take(alloc: Global, state: &mut State, worker: u64) -> Result<Answered, Refusal>
-    ensures ok { IfOk result (λ t. take state.old worker ≡ moved t state.new) }
+    ensures ok { IfOk result (λ t. take state.old worker ≡ handled t state.new) }
     ensures err { OnErr result (state.new ≡ state.old) }
     ensures memory { IfErr result (λ e. e ≡ OutOfMemory) }
 {

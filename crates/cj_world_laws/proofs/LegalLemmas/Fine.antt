@@ -38,12 +38,12 @@ use Rattle.cj_state.specs.declared.phases.seat.Phase.{Phase}
 use Rattle.cj_state.specs.declared.phases.seat.Phase.TheVariants.{Held, Seen, Listed, Checked, Works}
 use Rattle.cj_state.specs.declared.phases.seat.Seat.{Seat}
 use Rattle.cj_state.specs.declared.state.State.{State}
-use Rattle.cj_state.specs.Moves.{Moved, refused, by_seat, seat_of, take, take_by, take_first, see_cron, see_cron_in, see_jobs, see_jobs_in, see_active, see_active_in, claim, claim_in, claim_where, claims, wrote, works, drop_next, drop_in, drop_where, drops_it, make_next, make_in, make_where, steps_on, event_reply, version_reply, set_status, status_in, status_where, sets_it, finish, finish_in, finish_work}
+use Rattle.cj_state.specs.WorkerCalls.{Handled, refused, by_seat, seat_of, take, take_by, take_first, see_cron, see_cron_in, see_jobs, see_jobs_in, see_active, see_active_in, claim, claim_in, claim_where, claims, wrote, works, drop_next, drop_in, drop_where, drops_it, make_next, make_in, make_where, steps_on, event_reply, version_reply, set_status, status_in, status_where, sets_it, finish, finish_in, finish_work}
 use Rattle.cj_state.specs.Step.{writes, found_cron, found_job, told_events, step_of, by_role, by_reader, by_user, by_runner, by_worker, by_informer}
 use Rattle.cj_world_laws.specs.legal.Answers.{Fine}
 
 -- in every phase and without a seat
-seat_fine : (s : State) (call : Call) (f : Place → Phase → Moved) (o : Option Seat) → Fine s call (by_seat s f None)
+seat_fine : (s : State) (call : Call) (f : Place → Phase → Handled) (o : Option Seat) → Fine s call (by_seat s f None)
     → ((k : Place) (p : Phase) → Fine s call (f k p)) → Fine s call (by_seat s f o)
 seat_fine s call f None n h = n
 seat_fine s call f (Some seat) n h = h seat.key seat.phase

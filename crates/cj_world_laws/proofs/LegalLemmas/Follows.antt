@@ -18,7 +18,7 @@ use Rattle.cj_watch.specs.mirror.Lagging.{Jobs, Mirror, told, mirror_of}
 use Rattle.cj_watch.specs.mirror.Laws.{jobs_after, mirror_after, caught_up, next_fed}
 use Rattle.cj_watch.proofs.MirrorLemmas.Following.{mirrors_follow}
 use Rattle.cj_state.specs.declared.state.State.{State}
-use Rattle.cj_state.specs.Moves.{written}
+use Rattle.cj_state.specs.WorkerCalls.{written}
 use Rattle.cj_state.specs.Readings.{fed_up}
 use Rattle.cj_state.specs.Step.{start}
 use Rattle.cj_world_laws.proofs.LegalLemmas.Shapes.{Shape, same, sat, wrote_it, took, left_it, stored, listed, queued}
@@ -146,7 +146,7 @@ learn window s max f = record {
   mirror = learnt window s max f;
 }
 
--- Where some events have led to a state, some have led to the state after a move of any shape.
+-- Where some events have led to a state, some have led to the state after a call of any shape.
 pub follows_shape : (window : ℕ) (s s' : State) (w : ℕ) → Follows window s → Shape s w s' → Follows window s'
 follows_shape window s s' w f (same e) = subst (Follows window) (sym e) f
 follows_shape window s s' w f (sat seat p at e) = subst (Follows window) (sym e) (alike window s _ refl refl refl f)

@@ -18,7 +18,7 @@ use Rattle.cj_calls.specs.declared.reply.Reply.{Reply}
 use Rattle.cj_calls.specs.declared.reply.Reply.TheVariants as Is
 use Rattle.cj_state.specs.declared.phases.seat.Seat.{Seat}
 use Rattle.cj_state.specs.declared.state.State.{State}
-use Rattle.cj_state.specs.Moves.{seat_of, take, take_by, take_first}
+use Rattle.cj_state.specs.WorkerCalls.{seat_of, take, take_by, take_first}
 use Rattle.cj_state.specs.Step.{step_of, by_role}
 use Rattle.cj_state.specs.Legal.{IsLegal, state_of}
 use Rattle.cj_world_laws.specs.legal.Seats.{accepted, seat_after, seat}

@@ -11,7 +11,7 @@ use Rattle.cj_calls.specs.declared.reply.Reply.{Reply}
 use Rattle.cj_calls.specs.Rows.{Told}
 use Rattle.cj_state.specs.declared.phases.seat.Seat.{Seat}
 use Rattle.cj_state.specs.declared.state.State.{State}
-use Rattle.cj_state.specs.Moves.{Moved, seat_of}
+use Rattle.cj_state.specs.WorkerCalls.{Handled, seat_of}
 use Rattle.cj_state.specs.Step.{step_of}
 use Rattle.cj_state.specs.Legal.{IsLegal, state_of}
 use Rattle.cj_world_laws.proofs.LegalLemmas.Sound.{whole_of}
@@ -27,8 +27,8 @@ number_is : (q k : ℕ) → (q == k) ≡ true → q ≡ k
 number_is q k e = grind (arith, nat_tests)
 
 -- at the caller's number what the answer says, elsewhere what was there
-module _ (s : State) (n : ℕ) (call : Call) (m : Moved) where
-  -- For seat_step: where the move leaves the seats, and the answer says so, each seat is as said.
+module _ (s : State) (n : ℕ) (call : Call) (m : Handled) where
+  -- For seat_step: where the call leaves the seats, and the answer says so, each seat is as said.
   kept_case : (w : ℕ) (b : Bool) → (b ≡ true → w ≡ n) → m.state.seats ≡ s.seats
       → seat_after (seat_of s n) call m.answer ≡ seat_of s n
       → map.get m.state.seats w ≡ (if b then seat_after (seat_of s w) call m.answer else seat_of s w)
@@ -42,7 +42,7 @@ module _ (s : State) (n : ℕ) (call : Call) (m : Moved) where
   new_case w true o i e f = e ∙ sym f ∙ ap (λ x. seat_after (seat_of s x) call m.answer) (sym (i refl))
   new_case w false o i e f = e
 
-  -- After a move the caller's number has the seat that the answer says, others their old one.
+  -- After a call the caller's number has the seat that the answer says, others their old one.
   pub seat_step : (w : ℕ) → Seating s n call m → map.get m.state.seats w
       ≡ (if w == n then seat_after (seat_of s w) call m.answer else seat_of s w)
   seat_step w (kept e f) = kept_case w (w == n) (number_is w n) e f

@@ -1,4 +1,4 @@
--- What each move does to its caller's seat, by its answer.
+-- What each call does to its caller's seat, by its answer.
 use Rattle.std.proofs.Common.{◌≡◌, ℕ, Bool, true, false, List, refl, ap}
 use Rattle.std.specs.Prelude.{Option, Some, None, Result, Ok, Err, if◌then◌else◌}
 use Rattle.std.specs.FinMap as map
@@ -33,7 +33,7 @@ use Rattle.cj_state.specs.declared.phases.seat.Phase.{Phase}
 use Rattle.cj_state.specs.declared.phases.seat.Phase.TheVariants.{Held, Seen, Listed, Checked, Works}
 use Rattle.cj_state.specs.declared.phases.seat.Seat.{Seat}
 use Rattle.cj_state.specs.declared.state.State.{State}
-use Rattle.cj_state.specs.Moves.{Moved, refused, by_seat, seat_of, take, take_by, take_first, see_cron, see_cron_in, see_jobs, see_jobs_in, see_active, see_active_in, claim, claim_in, claim_where, claims, wrote, works, seen_version, drop_next, drop_in, drop_where, drops_it, next_seat, make_next, make_in, make_where, steps_on, event_reply, version_reply, set_status, status_in, status_where, sets_it, finish, finish_in, finish_work}
+use Rattle.cj_state.specs.WorkerCalls.{Handled, refused, by_seat, seat_of, take, take_by, take_first, see_cron, see_cron_in, see_jobs, see_jobs_in, see_active, see_active_in, claim, claim_in, claim_where, claims, wrote, works, seen_version, drop_next, drop_in, drop_where, drops_it, next_seat, make_next, make_in, make_where, steps_on, event_reply, version_reply, set_status, status_in, status_where, sets_it, finish, finish_in, finish_work}
 use Rattle.cj_store.specs.Change.{cron_added, cron_modified, cron_gone, job_modified, job_gone}
 use Rattle.cj_store.specs.Crons.{cron_created, cron_updated, cron_deleted}
 use Rattle.cj_store.specs.Jobs.{job_created, job_updated, job_deleted, job_ended}
@@ -41,7 +41,7 @@ use Rattle.cj_state.specs.Step.{writes, step_of, by_role, by_reader, by_user, by
 use Rattle.cj_world_laws.proofs.LegalLemmas.Shapes.{reader_same}
 use Rattle.cj_world_laws.specs.legal.Seats.{accepted, seat_after}
 
-pub data Seating (s : State) (w : ℕ) (call : Call) (m : Moved) : Type 0 where
+pub data Seating (s : State) (w : ℕ) (call : Call) (m : Handled) : Type 0 where
   kept : m.state.seats ≡ s.seats → seat_after (seat_of s w) call m.answer ≡ seat_of s w → Seating s w call m
   sat_at : (x : Seat) → m.state.seats ≡ map.insert s.seats w x → seat_after (seat_of s w) call m.answer ≡ Some x
       → Seating s w call m
@@ -61,7 +61,7 @@ take_seat s w None = first_seat s w (first s.queue.row.line)
 take_seat s w (Some x) = kept refl refl
 
 -- A call that needs a seat does to the seats what its answer says, if it does so in each phase.
-by_seating : (s : State) (w : ℕ) (call : Call) (f : Place → Phase → Moved) (o : Option Seat) → seat_of s w ≡ o
+by_seating : (s : State) (w : ℕ) (call : Call) (f : Place → Phase → Handled) (o : Option Seat) → seat_of s w ≡ o
     → ((k : Place) (p : Phase) → seat_of s w ≡ Some (chair k p) → Seating s w call (f k p))
     → Seating s w call (by_seat s f o)
 by_seating s w call f None e h = kept refl refl
@@ -226,7 +226,7 @@ abbrev Silent : Call → Type 0
 Silent call = (o : Option Seat) (r : Reply) → accepted o call r ≡ o
 
 -- Where a call leaves the seats and its answer says nothing of one, it does what it says.
-silent : (s : State) (w : ℕ) (call : Call) (m : Moved) → Silent call → m.state.seats ≡ s.seats → Seating s w call m
+silent : (s : State) (w : ℕ) (call : Call) (m : Handled) → Silent call → m.state.seats ≡ s.seats → Seating s w call m
 silent s w call m h e = kept e (by m.answer)
   where
     by : (a : Result Reply Refusal) → seat_after (seat_of s w) call a ≡ seat_of s w

@@ -1,4 +1,4 @@
--- What a move can do to the state: nothing, another seat, a write, a take, an end, adds, other lists.
+-- What a call can do to the state: nothing, another seat, a write, a take, an end, adds, other lists.
 use Rattle.std.proofs.Common.{◌≡◌, ◌⊎◌, inl, inr, ℕ, ◌+◌, Bool, true, false, List, [], ◌∷◌, refl}
 use Rattle.std.specs.Prelude.{Option, Some, None, Result, Ok, Err, if◌then◌else◌, nat_le}
 use Rattle.std.specs.FinMap as map
@@ -30,7 +30,7 @@ use Rattle.cj_state.specs.declared.phases.seat.Phase.{Phase}
 use Rattle.cj_state.specs.declared.phases.seat.Phase.TheVariants.{Held, Seen, Listed, Checked, Works}
 use Rattle.cj_state.specs.declared.phases.seat.Seat.{Seat}
 use Rattle.cj_state.specs.declared.state.State.{State}
-use Rattle.cj_state.specs.Moves.{Moved, refused, by_seat, seat_of, seated, written, take, take_by, take_first, see_cron, see_cron_in, see_jobs, see_jobs_in, see_active, see_active_in, claim, claim_in, claim_where, claims, wrote, drop_next, drop_in, drop_where, drops_it, next_seat, make_next, make_in, make_where, steps_on, set_status, status_in, status_where, sets_it, finish, finish_in, finish_work, next_ms}
+use Rattle.cj_state.specs.WorkerCalls.{Handled, refused, by_seat, seat_of, seated, written, take, take_by, take_first, see_cron, see_cron_in, see_jobs, see_jobs_in, see_active, see_active_in, claim, claim_in, claim_where, claims, wrote, drop_next, drop_in, drop_where, drops_it, next_seat, make_next, make_in, make_where, steps_on, set_status, status_in, status_where, sets_it, finish, finish_in, finish_work, next_ms}
 use Rattle.cj_store.specs.Change.{map_ok, cron_added, cron_modified, cron_gone, job_added, job_modified, job_gone}
 use Rattle.cj_store.specs.Crons.{cron_created, cron_updated, cron_deleted}
 use Rattle.cj_store.specs.Jobs.{job_created, job_updated, job_deleted, job_ended}
@@ -108,7 +108,7 @@ take_shape s w (Some seat) e = same refl
 -- ---- one that holds one
 
 -- A call that needs a seat changes nothing without one, and has a shape if it has one with one.
-seat_shape : (s : State) (w : ℕ) (f : Place → Phase → Moved) (o : Option Seat) → seat_of s w ≡ o
+seat_shape : (s : State) (w : ℕ) (f : Place → Phase → Handled) (o : Option Seat) → seat_of s w ≡ o
     → ((seat : Seat) → seat_of s w ≡ Some seat → Shape s w (f seat.key seat.phase).state)
     → Shape s w (by_seat s f o).state
 seat_shape s w f None e h = same refl
@@ -244,7 +244,7 @@ module _ (s : State) (w : ℕ) (seat : Seat) (at : seat_of s w ≡ Some seat) wh
   finish_shape Well (Checked c js ks) = same refl
   finish_shape Well (Works work) = work_shape work (is_over (step_at work.plan.steps work.place))
 
--- Whatever call a worker makes, the move has one of the shapes.
+-- Whatever call a worker makes, the call has one of the shapes.
 worker_shape : (s : State) (w : ℕ) (call : Call) → Shape s w (by_worker s w call).state
 unfolding take see_cron see_jobs see_active claim drop_next make_next set_status finish
 worker_shape s w Of.Take = take_shape s w (seat_of s w) refl
@@ -317,14 +317,14 @@ informer_shape s w Of.Shut = queued (closed s.queue) [] refl refl
 informer_shape s w (Of.Feed max) = listed max refl
 informer_shape s w call = same (reader_same s call)
 
--- Whatever call a caller of whatever role makes, the move has one of the shapes.
+-- Whatever call a caller of whatever role makes, the call has one of the shapes.
 role_shape : (s : State) (r : Role) (w : ℕ) (call : Call) → Shape s w (by_role s r w call).state
 role_shape s Worker w call = worker_shape s w call
 role_shape s Informer w call = informer_shape s w call
 role_shape s User w call = user_shape s w call
 role_shape s Runner w call = runner_shape s w call
 
--- In any state, whoever calls whatever, the move has one of the shapes.
+-- In any state, whoever calls whatever, the call has one of the shapes.
 pub shape : (s : State) (caller : Caller) (call : Call) → Shape s caller.number (step_of s caller call).state
 unfolding step_of
 shape s caller call = role_shape s caller.role caller.number call

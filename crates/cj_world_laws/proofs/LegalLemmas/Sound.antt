@@ -183,7 +183,7 @@ end_works : (r : Row) (k : Place) (p : Row) → (p ≡ row_end r k) ⊎ (p ≡ r
 end_works r k p (inl i) = ap (λ x. x.processing) i
 end_works r k p (inr i) = ap (λ x. x.processing) i ∙ add_works (row_end r k) k
 
--- A move of any shape keeps what Whole says: the watch's count, the row and who works on what.
+-- A call of any shape keeps what Whole says: the watch's count, the row and who works on what.
 pub whole_shape : (s s' : State) (w : ℕ) → Whole s → Shape s w s' → Whole s'
 whole_shape s s' w h (same e) = subst Whole (sym e) h
 whole_shape s s' w h (sat seat p at e) = subst Whole (sym e) (record {
@@ -221,7 +221,7 @@ whole_shape s s' w h (queued q ks i e) = subst Whole (sym e) (record {
   sat = subst (λ (x : Keys). Sat s.seats x) (sym (ap (λ (r : Row). r.processing) i ∙ adds_works s.queue.row ks)) h.sat;
 })
 
--- A move of any shape adds at most one to the store's version.
+-- A call of any shape adds at most one to the store's version.
 pub more_by_one : (s s' : State) (w : ℕ) → Shape s w s' → s'.store.version ≤ s.store.version + 1
 more_by_one s s' w (same e) = let i = ap (λ (x : State). x.store.version) e in omega arith
 more_by_one s s' w (sat seat p at e) = let i = ap (λ (x : State). x.store.version) e in omega arith
@@ -234,7 +234,7 @@ more_by_one s s' w (stored ev n e) =
 more_by_one s s' w (listed max e) = let i = ap (λ (x : State). x.store.version) e in omega arith
 more_by_one s s' w (queued q ks i e) = let j = ap (λ (x : State). x.store.version) e in omega arith
 
--- A move of any shape leaves the watch's window as it is.
+-- A call of any shape leaves the watch's window as it is.
 pub same_window : (s s' : State) (w : ℕ) → Shape s w s' → s'.watch.window ≡ s.watch.window
 same_window s s' w (same e) = ap (λ (x : State). x.watch.window) e
 same_window s s' w (sat seat p at e) = ap (λ (x : State). x.watch.window) e

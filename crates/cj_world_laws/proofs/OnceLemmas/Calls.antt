@@ -27,7 +27,7 @@ use Rattle.cj_state.specs.declared.phases.seat.Phase.{Phase}
 use Rattle.cj_state.specs.declared.phases.seat.Phase.TheVariants.{Held, Seen, Listed, Checked, Works}
 use Rattle.cj_state.specs.declared.state.State.{State}
 use Rattle.cj_state.specs.Readings.{listed_of, if_mine, active_job, active_of}
-use Rattle.cj_state.specs.Moves.{Moved, moved, seat_of, seated, by_seat, take_first, take_by, take, see_cron_in, see_cron, see_jobs_in, see_jobs, see_active_in, see_active, leaves, next_ms, finish_work, finish_in, finish}
+use Rattle.cj_state.specs.WorkerCalls.{Handled, handled, seat_of, seated, by_seat, take_first, take_by, take, see_cron_in, see_cron, see_jobs_in, see_jobs, see_active_in, see_active, leaves, next_ms, finish_work, finish_in, finish}
 use Rattle.cj_state.specs.Step.{writes, found_cron, found_job, told_events, by_reader, by_user, by_runner, by_informer}
 use Rattle.cj_decide.specs.laws.Fits.{IsAt, IsHere, IsFoundIn, runs}
 use Rattle.cj_world_laws.specs.once.Once.{Claimed}
@@ -41,13 +41,13 @@ pub record Now (s : State) (ms : List Claimed) (cl : Claims) (home : Homes) : Ty
   pub inv : Inv home s.store s.queue.row s.seats ms cl
 
 -- a call that claims nothing and makes nothing
-abbrev pub Plain : State → List Claimed → Claims → Moved → Type 0
+abbrev pub Plain : State → List Claimed → Claims → Handled → Type 0
 Plain s ms cl r = (home : Homes) × Inv home r.state.store r.state.queue.row r.state.seats ms cl
     × (r.state.store.uids ≤ s.store.uids + 1)
 
 module _ {s : State} {ms : List Claimed} {cl : Claims} {home : Homes} where
   -- An answer that changes nothing keeps the facts.
-  pub stays : Now s ms cl home → (a : Result Reply Refusal) → Plain s ms cl (moved a s)
+  pub stays : Now s ms cl home → (a : Result Reply Refusal) → Plain s ms cl (handled a s)
   stays f a = (home, f.inv, omega arith)
 
   -- ---- users, runner, informer
@@ -98,9 +98,9 @@ module _ {s : State} {ms : List Claimed} {cl : Claims} {home : Homes} where
   runner_plain f b (Of.EndJob k u o n) = write_plain f _ _ (end_job_grows f.inv.store b k u o n)
   runner_plain f b call = reader_plain f call
 
-  -- A move of the queue alone keeps the facts, if the line's facts and what is worked on stay.
+  -- A call of the queue alone keeps the facts, if the line's facts and what is worked on stay.
   row_plain : Now s ms cl home → (q : Queue) → Lined s.queue.row q.row →
-      Plain s ms cl (moved (Ok Say.Done) (record s { queue = q }))
+      Plain s ms cl (handled (Ok Say.Done) (record s { queue = q }))
   row_plain f q l = (home, row_changed home s.store s.queue.row q.row s.seats ms cl f.inv l, omega arith)
 
   -- Whatever call an informer makes, it keeps the facts.
@@ -135,7 +135,7 @@ module _ {s : State} {ms : List Claimed} {cl : Claims} {home : Homes} where
   take_plain f w = take_at f w (seat_of s w) refl
 
   -- a call of a worker that holds a key
-  pub by_seat_plain : Now s ms cl home → (w : ℕ) (g : Place → Phase → Moved)
+  pub by_seat_plain : Now s ms cl home → (w : ℕ) (g : Place → Phase → Handled)
       → ((x : Seat) → seat_of s w ≡ Some x → (p : Phase) → x.phase ≡ p → Plain s ms cl (g x.key p)) → (o : Option Seat)
       → seat_of s w ≡ o → Plain s ms cl (by_seat s g o)
   by_seat_plain f w g h None e = stays f (Err OutOfPhase)
@@ -170,7 +170,7 @@ module _ {s : State} {ms : List Claimed} {cl : Claims} {home : Homes} where
 
   -- A worker that comes to another phase keeps the facts, if those of the new phase hold.
   pub phased : Now s ms cl home → s.store.uids + 1 ≤ last_uid → (w : ℕ) (x : Seat) → seat_of s w ≡ Some x → (p : Phase)
-      → SeatFact home s.store ms (cl w) x.key p → Plain s ms cl (moved (Ok Say.Done) (seated s w x.key p))
+      → SeatFact home s.store ms (cl w) x.key p → Plain s ms cl (handled (Ok Say.Done) (seated s w x.key p))
   phased f b w x at p fact = (
     home,
     seat_changed None home home s.store s.store s.queue.row s.seats ms cl cl w x p f.inv

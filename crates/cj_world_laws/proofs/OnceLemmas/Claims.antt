@@ -30,7 +30,7 @@ use Rattle.cj_state.specs.declared.phases.seat.Seat.{Seat}
 use Rattle.cj_state.specs.declared.phases.seat.Phase.{Phase}
 use Rattle.cj_state.specs.declared.phases.seat.Phase.TheVariants.{Checked}
 use Rattle.cj_state.specs.declared.state.State.{State}
-use Rattle.cj_state.specs.Moves.{refused, seat_of, by_seat, works, wrote, claims, claim_where, claim_in, claim}
+use Rattle.cj_state.specs.WorkerCalls.{refused, seat_of, by_seat, works, wrote, claims, claim_where, claim_in, claim}
 use Rattle.cj_state.specs.Step.{by_role, step_of}
 use Rattle.cj_state.specs.Legal.{state_of, IsLegal, IsPlanned, ArePlanned}
 use Rattle.cj_world_laws.specs.once.Once.{Claimed}

@@ -24,7 +24,7 @@ use Rattle.cj_state.specs.declared.phases.seat.Seat.{Seat}
 use Rattle.cj_state.specs.declared.phases.seat.Phase.{Phase}
 use Rattle.cj_state.specs.declared.phases.seat.Phase.TheVariants.{Held, Seen, Listed, Checked, Works}
 use Rattle.cj_state.specs.declared.state.State.{State}
-use Rattle.cj_state.specs.Moves.{Moved, refused, seat_of, by_seat, next_seat, steps_on, event_reply, make_where, make_in, make_next}
+use Rattle.cj_state.specs.WorkerCalls.{Handled, refused, seat_of, by_seat, next_seat, steps_on, event_reply, make_where, make_in, make_next}
 use Rattle.cj_decide.specs.laws.Fits.{IsAt, runs, upto, is_strict}
 use Rattle.cj_world_laws.specs.once.Once.{Claimed, is_ok, with_made}
 use Rattle.cj_world_laws.proofs.OnceLemmas.Maps.{put_at, seat_put}
@@ -190,7 +190,7 @@ make_is (Some (drops x)) d e = absurd (cc e)
 make_is (Some (makes x)) d e = let h : x ≡ d = cc e in ap (λ z. Some (makes z)) h
 make_is (Some (sets x)) d e = absurd (cc e)
 
-abbrev pub MakeKept : State → List Claimed → Claims → ℕ → Moved → Type 0
+abbrev pub MakeKept : State → List Claimed → Claims → ℕ → Handled → Type 0
 MakeKept s ms cl w r = (home : Homes) × Inv home r.state.store r.state.queue.row r.state.seats
     (with_made (is_ok r.answer) (cl w) ms) cl × (r.state.store.uids ≤ s.store.uids + 1)
 

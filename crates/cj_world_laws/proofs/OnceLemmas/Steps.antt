@@ -30,7 +30,7 @@ use Rattle.cj_state.specs.declared.phases.seat.Seat.{Seat}
 use Rattle.cj_state.specs.declared.phases.seat.Phase.{Phase}
 use Rattle.cj_state.specs.declared.phases.seat.Phase.TheVariants.{Checked, Works}
 use Rattle.cj_state.specs.declared.state.State.{State}
-use Rattle.cj_state.specs.Moves.{Moved, refused, seat_of, by_seat, works, seen_version, wrote, claims, claim_where, claim_in, claim, further, next_seat, steps_on, drops_it, drop_where, drop_in, drop_next, sets_it, status_where, status_in, set_status, version_reply}
+use Rattle.cj_state.specs.WorkerCalls.{Handled, refused, seat_of, by_seat, works, seen_version, wrote, claims, claim_where, claim_in, claim, further, next_seat, steps_on, drops_it, drop_where, drop_in, drop_next, sets_it, status_where, status_in, set_status, version_reply}
 use Rattle.cj_decide.specs.laws.Fits.{IsAt, IsAmong, IsFound, upto, Starts, Waits, FitsWith, FitsFor, Fits, Keeps}
 use Rattle.cj_world_laws.specs.once.Once.{Claimed, claimed_under, claimed_of, claim_answered}
 use Rattle.cj_world_laws.proofs.OnceLemmas.Maps.{removal_at, put_at}
@@ -359,7 +359,7 @@ same_branches false a = refl
 abbrev pub ClaimsAfter : State → Planned → Result Reply Refusal → Claims → ℕ → Claims
 ClaimsAfter s p a cl w v = cond (v == w) (claim_answered s.store p a (cl v)) (cl v)
 
-abbrev pub ClaimKept : State → List Claimed → Claims → ℕ → Planned → Moved → Type 0
+abbrev pub ClaimKept : State → List Claimed → Claims → ℕ → Planned → Handled → Type 0
 ClaimKept s ms cl w p r = (home : Homes) × Inv home r.state.store r.state.queue.row r.state.seats ms
     (ClaimsAfter s p r.answer cl w) × (r.state.store.uids ≤ s.store.uids + 1)
 

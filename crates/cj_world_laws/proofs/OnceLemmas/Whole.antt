@@ -15,7 +15,7 @@ use Rattle.cj_calls.specs.declared.call.Call.{Call}
 use Rattle.cj_calls.specs.declared.call.Call.TheVariants as Of
 use Rattle.cj_calls.specs.declared.reply.Reply.{Reply}
 use Rattle.cj_state.specs.declared.state.State.{State}
-use Rattle.cj_state.specs.Moves.{Moved, refused, make_next}
+use Rattle.cj_state.specs.WorkerCalls.{Handled, refused, make_next}
 use Rattle.cj_state.specs.Step.{by_user, by_runner, by_informer, by_worker, by_role, step_of, start}
 use Rattle.cj_state.specs.Legal.{state_of, IsLegal, IsPlanned, ArePlanned}
 use Rattle.cj_decide.specs.laws.Fits.{runs, is_strict, Fits}
@@ -48,7 +48,7 @@ do_fit [] a = tt
 do_fit (e ∷ h) a = (does_fit e.call a.0, do_fit h a.1)
 
 -- what holds after an entry
-abbrev Kept : State → List Claimed → Claims → ℕ → Call → Moved → Type 0
+abbrev Kept : State → List Claimed → Claims → ℕ → Call → Handled → Type 0
 Kept s ms cl n call r =
     (home : Homes) × Inv home r.state.store r.state.queue.row r.state.seats
     (with_made (makes_with call r.answer) (cl n) ms)
@@ -57,7 +57,7 @@ Kept s ms cl n call r =
 
 module _ {s : State} {ms : List Claimed} {cl : Claims} {home : Homes} where
   -- no claim and no making
-  plain : Now s ms cl home → (n : ℕ) (call : Call) (r : Moved) → makes_with call r.answer ≡ false
+  plain : Now s ms cl home → (n : ℕ) (call : Call) (r : Handled) → makes_with call r.answer ≡ false
       → ((o : Option Claimed) → o ≡ claim_after s.store call r.answer o) → Plain s ms cl r → Kept s ms cl n call r
   plain now n call r e c f = (
     f.0,
@@ -69,7 +69,7 @@ module _ {s : State} {ms : List Claimed} {cl : Claims} {home : Homes} where
   )
 
   -- What a MakeNext keeps is what holds after its entry, as it leaves the last claims.
-  made : Now s ms cl home → (n : ℕ) (r : Moved) → MakeKept s ms cl n r → Kept s ms cl n Of.MakeNext r
+  made : Now s ms cl home → (n : ℕ) (r : Handled) → MakeKept s ms cl n r → Kept s ms cl n Of.MakeNext r
   made now n r f = (
     f.0,
     same_claims f.0 r.state.store r.state.queue.row r.state.seats (with_made (is_ok r.answer) (cl n) ms) cl _

@@ -11,7 +11,7 @@ use Rattle.cj_calls.specs.Rows.{Told}
 use Rattle.cj_state.specs.declared.phases.seat.Phase.{Phase}
 use Rattle.cj_state.specs.declared.phases.seat.Phase.TheVariants.{Held, Seen, Listed, Checked, Works}
 use Rattle.cj_state.specs.declared.phases.seat.Seat.{Seat}
-use Rattle.cj_state.specs.Moves.{works, further, seen_version}
+use Rattle.cj_state.specs.WorkerCalls.{works, further, seen_version}
 use Rattle.cj_state.specs.Legal.{IsLegal, state_of}
 
 abbrev pub at_phase : Option Seat → Phase → Option Seat

@@ -13,7 +13,7 @@ use Rattle.cj_calls.specs.declared.call.Call.TheVariants as Of
 use Rattle.cj_calls.specs.declared.reply.Reply.TheVariants as Say
 use Rattle.cj_state.specs.declared.phases.seat.Seat.{Seat}
 use Rattle.cj_state.specs.declared.state.State.{State}
-use Rattle.cj_state.specs.Moves.{seat_of}
+use Rattle.cj_state.specs.WorkerCalls.{seat_of}
 use Rattle.cj_state.specs.Legal.{state_of, IsLegal, ArePlanned}
 use Rattle.cj_decide.specs.laws.Laws.{IsClaimed}
 

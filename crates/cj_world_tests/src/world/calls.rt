@@ -1,7 +1,7 @@
 // The call of a step.
 use cj_calls::Call;
 use cj_decide::{Plan, decide};
-use cj_script::Act;
+use cj_script::Operation;
 use cj_types::{Job, Key, Listing, Outcome, Reasons, Refusal, Seconds, Shared, TryCopy, Uid};
 use std::alloc::Global;
 
@@ -20,11 +20,11 @@ fn end(alloc: Global, key: &Key, outcome: Outcome, at: Seconds) -> Result<Call, 
 
 /// The call of a step. A claim is of the plan for nothing seen, and a Job that ends is the second object that
 /// was created.
-pub fn call_of(alloc: Global, act: &Act) -> Result<Call, Refusal> {
-    match act {
-        Act::Calls(call) => call.try_copy(alloc),
-        Act::Ends(key, outcome, at) => end(alloc, key, *outcome, *at),
-        Act::Claims(at) => Ok(Call::Claim(plan_of_nothing(alloc, *at)?)),
-        Act::Closes(end) => Ok(Call::Finish(*end, Reasons::new(alloc))),
+pub fn call_of(alloc: Global, operation: &Operation) -> Result<Call, Refusal> {
+    match operation {
+        Operation::Calls(call) => call.try_copy(alloc),
+        Operation::Ends(key, outcome, at) => end(alloc, key, *outcome, *at),
+        Operation::Claims(at) => Ok(Call::Claim(plan_of_nothing(alloc, *at)?)),
+        Operation::Closes(end) => Ok(Call::Finish(*end, Reasons::new(alloc))),
     }
 }

@@ -105,7 +105,7 @@ fn is_right(
     step: &Step,
     wanted: &(&'static str, [u64; 5]),
 ) -> Result<bool, Refusal> {
-    let call = boxed(alloc, call_of(alloc, &step.act)?)?;
+    let call = boxed(alloc, call_of(alloc, &step.operation)?)?;
     let is_made = is_made(alloc, one, other, step, &call, wanted.0)?;
     Ok(is_made && told(one)? == wanted.1)
 }

@@ -5,7 +5,7 @@ use Rattle.cj_program.proofs.run.answered.Goals as goal
 
 pub returns : goal.returns
 returns g c = λ given said. inr (record {
-  course = c.args.course.now;
+  simulation = c.args.simulation.now;
   said = said;
   text = string_bytes c.in_ok-report.report;
   run = c.in_ok-report.ensures;

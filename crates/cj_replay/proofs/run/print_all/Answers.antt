@@ -11,19 +11,19 @@ returns-in_err-found-clause-err g c =
     (g.W.Write.contents c.args.out.now) c.args.steps.now c.loop-step.step-index c.step-item.result
     c.loop-step-test.true c.step-item.is c.loop-step.invariant.limits
     c.loop-step.is_full c.loop-step.world.history (g.W.Write.contents c.loop-step.out) c.loop-step.pending
-    c.loop-step.invariant.played
+    c.loop-step.invariant.stepped
     (g.W.Write.contents c.print_step.new.out) c.in_err-found.ensures.err)
 
 pub loop-step-preserved : goal.loop-step-preserved
 loop-step-preserved g c = record {
   remembered = c.in_ok-found.ensures.remembered;
   limits = c.print_step.ensures.limits ∙ c.loop-step.invariant.limits;
-  played =
+  stepped =
       loop_more c.args.zones.now c.args.world.now.limits c.loop-step.world.limits c.args.world.now.history
       (g.W.Write.contents c.args.out.now) c.args.steps.now c.loop-step.step-index c.step-item.result
       c.loop-step-test.true c.step-item.is c.loop-step.invariant.limits
       c.loop-step.is_full c.loop-step.world.history (g.W.Write.contents c.loop-step.out) c.loop-step.pending
-      c.loop-step.invariant.played
+      c.loop-step.invariant.stepped
       c.in_ok-found.found c.if-is_full.is_full c.print_step.new.world.history
       (g.W.Write.contents c.print_step.new.out) c.print_step.new.pending
       (elim c.if-is_full.branch [

@@ -4,5 +4,5 @@ use Rattle.cj_run.proofs.drive.drive.Goals as goal
 
 pub loop-n-preserved : goal.loop-n-preserved
 loop-n-preserved g c =
-    live_more c.args.course.now c.args.cast.now.user c.loop-n.cast.user c.live_at.new.cast.user c.loop-n.n
+    live_more c.args.simulation.now c.args.participants.now.user c.loop-n.participants.user c.live_at.new.participants.user c.loop-n.n
     c.loop-n.invariant c.in_ok-live_at.ensures

@@ -1,6 +1,6 @@
 -- create_all, its loop over the drafts: the user created the CronJobs of those gone through.
 use Rattle.std.proofs.Common.{take}
-use Rattle.cj_run.specs.Courses.{creations}
+use Rattle.cj_run.specs.Simulations.{creations}
 use Rattle.cj_run.specs.Deeds.{Does}
 use Rattle.cj_run.proofs.user.create_all.Given as goal
 

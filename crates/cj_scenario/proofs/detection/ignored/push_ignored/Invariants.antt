@@ -2,7 +2,7 @@
 -- is the text at the start with the lines of all.
 use Rattle.std.proofs.Common.{◌≡◌, ◌++◌, string_bytes}
 use Rattle.serde_json.specs.View.{members_view}
-use Rattle.cj_scenario.specs.detection.Glances.{ignored_in}
+use Rattle.cj_scenario.specs.detection.Detections.{ignored_in}
 use Rattle.cj_scenario.proofs.detection.ignored.push_ignored.Given as goal
 
 abbrev pub invariant-loop-key : goal.invariant-loop-key

@@ -2,11 +2,11 @@
 ghost use Rattle.std.specs.Prelude.{◌≡◌, IfOk, IfErr, OnOk, string_bytes};
 ghost use Rattle.cj_base.specs.declared.refusal.Refusal.TheVariants.{OutOfMemory};
 ghost use Rattle.cj_replay.specs.snapshots.Remembered.{Remembers};
-ghost use Rattle.cj_replay.specs.Runs.{Plays};
+ghost use Rattle.cj_replay.specs.Runs.{MakesStep};
 
 use crate::answer::{answer_to, is_full, line_of, note};
 use crate::call::step_call;
-use crate::snapshots::Sights;
+use crate::snapshots::Snapshots;
 use cj_script::Step;
 use cj_types::Refusal;
 use cj_world::World;
@@ -15,32 +15,32 @@ use std::alloc::Global;
 
 /// The line of a step, and whether the history was found full.
 #[derive(Drop)]
-pub(crate) struct Played {
+pub(crate) struct Stepped {
     pub line: String,
     pub is_full: bool,
 }
 
 /// Makes a step's call on the world. Where there is no memory nothing is said of the world, and the run ends.
-#[tactic(auto, using(crate::proofs::Played::plays))]
-pub(crate) fn play(
+#[tactic(auto, using(crate::proofs::Stepped::makes))]
+pub(crate) fn make_step(
     alloc: Global,
     zones: &ZoneTable,
     world: &mut World,
-    sights: &mut Sights,
+    snapshots: &mut Snapshots,
     step: &Step,
-) -> Result<Played, Refusal>
-    requires { Remembers sights.old world.old.history }
-    ensures plays { IfOk result (λ p. Plays zones.now world.old.limits world.old.history step.now
+) -> Result<Stepped, Refusal>
+    requires { Remembers snapshots.old world.old.history }
+    ensures makes { IfOk result (λ p. MakesStep zones.now world.old.limits world.old.history step.now
         (string_bytes p.line) p.is_full world.new.history) }
-    ensures remembered { OnOk result (Remembers sights.new world.new.history) }
+    ensures remembered { OnOk result (Remembers snapshots.new world.new.history) }
     ensures limits { world.new.limits ≡ world.old.limits }
     ensures err { IfErr result (λ e. e ≡ OutOfMemory) }
 {
-    let call = step_call(alloc, zones, world, sights, step)?;
+    let call = step_call(alloc, zones, world, snapshots, step)?;
     let answer = answer_to(alloc, world, &step.caller, call.get())?;
-    note(alloc, sights, step.caller, call.get(), answer.get())?;
+    note(alloc, snapshots, step.caller, call.get(), answer.get())?;
     let line = line_of(alloc, world, step, answer.get())?;
-    Ok(Played {
+    Ok(Stepped {
         line,
         is_full: is_full(answer.get()),
     })

@@ -9,9 +9,9 @@ use Rattle.cj_calls.specs.declared.call.Call.TheVariants as Of
 use Rattle.cj_calls.specs.declared.reply.Reply.{Reply}
 use Rattle.cj_calls.specs.declared.reply.Reply.TheVariants as Is
 use Rattle.cj_calls.specs.Rows.{Told}
-use Rattle.cj_replay.specs.declared.snapshots.sight.Sight.{Sight}
+use Rattle.cj_replay.specs.declared.snapshots.snapshot.Snapshot.{Snapshot}
 
-abbrev pub unseen : Sight
+abbrev pub unseen : Snapshot
 unseen = record { cron = None; jobs = None; active = None; plan = None }
 
 -- the plan that a claim hands in
@@ -21,7 +21,7 @@ plan_in other = None
 
 -- with one reply more: a Take begins a sync and a Finish ends it; what was read is kept, and the plan that was claimed
 -- rule: claim-step
-unfoldable pub with_reply : Sight → Call → Reply → Sight
+unfoldable pub with_reply : Snapshot → Call → Reply → Snapshot
 with_reply s call (Is.Key key) = unseen
 with_reply s call Is.Done = unseen
 with_reply s call (Is.SeenCron cron) = record s { cron = Some cron }
@@ -31,13 +31,13 @@ with_reply s call (Is.Claimed claimed) = record s { plan = plan_in call }
 with_reply s call other = s
 
 -- a refusal shows nothing
-abbrev pub with_answer : Sight → Call → Result Reply Refusal → Sight
+abbrev pub with_answer : Snapshot → Call → Result Reply Refusal → Snapshot
 with_answer s call (Ok reply) = with_reply s call reply
 with_answer s call (Err refusal) = s
 
 -- what the worker has seen after the history, of which others' entries tell nothing
 -- rule: claim-step
-abbrev pub seen_of : ℕ → List Told → Sight
+abbrev pub seen_of : ℕ → List Told → Snapshot
 seen_of number [] = unseen
 seen_of number (t ∷ h) =
     if t.caller.number == number then with_answer (seen_of number h) t.call t.answer else seen_of number h

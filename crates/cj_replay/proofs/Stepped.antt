@@ -11,24 +11,24 @@ use Rattle.cj_state.specs.Legal.{is_entered}
 use Rattle.cj_world.specs.Worlds.{told}
 use Rattle.cj_report.specs.Lines.{step_line}
 use Rattle.cj_script.specs.declared.step.Step.{Step}
-use Rattle.cj_replay.specs.snapshots.Sights.{seen_of}
+use Rattle.cj_replay.specs.snapshots.Snapshots.{seen_of}
 use Rattle.cj_replay.specs.Calls.{IsCallOf}
-use Rattle.cj_replay.specs.Runs.{Plays, after, answered, is_full, job_at}
+use Rattle.cj_replay.specs.Runs.{MakesStep, after, answered, is_full, job_at}
 
--- For plays: an entry that was added stands at the place after those before it.
+-- For makes: an entry that was added stands at the place after those before it.
 place_by : (t : Told) (h : List Told) (b : Bool) → (if b then Some (length (if b then t ∷ h else h)) else None)
     ≡ (if b then Some (length h + 1) else None)
 place_by t h true = let e : length (t ∷ h) ≡ length h + 1 = omega arith in ap (λ (n : ℕ). Some n) e
 place_by t h false = refl
 
--- For play: a step's call, its answer, its line and the history left are what Plays says.
-pub plays : (zones : ZoneTable) (limits : Kept) (h : List Told) (step : Step) (call : Call) (answer : Result Reply
+-- For make_step: a step's call, its answer, its line and the history left are what MakesStep says.
+pub makes : (zones : ZoneTable) (limits : Kept) (h : List Told) (step : Step) (call : Call) (answer : Result Reply
     Refusal) (h' : List Told) (line : List ℕ) (full : Bool)
-    → IsCallOf zones (seen_of step.caller.number h) (job_at limits.window h) step.act call
+    → IsCallOf zones (seen_of step.caller.number h) (job_at limits.window h) step.operation call
     → answer ≡ answered limits h step.caller call → h' ≡ after h step.caller call answer
     → line ≡ step_line (if is_entered answer then Some (length h') else None) step.who step.verb answer
-    → full ≡ is_full answer → Plays zones limits h step line full h'
-plays zones limits h step call answer h' line full means given leaves printed found = record {
+    → full ≡ is_full answer → MakesStep zones limits h step line full h'
+makes zones limits h step call answer h' line full means given leaves printed found = record {
   call = call;
   means = means;
   answer = answer;

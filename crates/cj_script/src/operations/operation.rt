@@ -3,7 +3,7 @@ use cj_types::{Key, Outcome, Seconds};
 
 /// What a step does. Some of it is known only when the step's turn comes.
 #[derive(Drop)]
-pub enum Act {
+pub enum Operation {
     /// A call as it stands.
     Calls(Call),
     /// The end of the Job that has the key by then.

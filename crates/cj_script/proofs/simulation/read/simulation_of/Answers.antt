@@ -1,13 +1,13 @@
--- course_of: its clause refused, where its zones are refused, and where the rest is refused under them.
+-- simulation_of: its clause refused, where its zones are refused, and where the rest is refused under them.
 use Rattle.std.proofs.Common.{List, subst}
 use Rattle.serde_json.specs.View.{view}
 use Rattle.cj_zone.specs.Table.{zones_of}
 use Rattle.cj_zone.specs.declared.zone.Zone.{Zone}
 use Rattle.cj_scenario.specs.Scenes.{AreZones, Refuses}
 use Rattle.cj_script.proofs.Drafted.{moved}
-use Rattle.cj_script.specs.simulation.Courses.{IsRefusedValue}
+use Rattle.cj_script.specs.simulation.Simulations.{IsRefusedValue}
 use Rattle.cj_script.proofs.SimulationLemmas.Refused.{refused_under, refused_zones}
-use Rattle.cj_script.proofs.simulation.read.course_of.Goals as goal
+use Rattle.cj_script.proofs.simulation.read.simulation_of.Goals as goal
 
 pub returns-in_err-span-clause-refused : goal.returns-in_err-span-clause-refused
 returns-in_err-span-clause-refused c =

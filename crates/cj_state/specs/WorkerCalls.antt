@@ -37,16 +37,16 @@ use Rattle.cj_state.specs.Readings.{listed_of, active_of}
 use Rattle.cj_state.specs.declared.state.State.{State}
 
 -- an answer, and the state after it
-pub record Moved : Type 0 where
+pub record Handled : Type 0 where
   pub answer : Result Reply Refusal
   pub state : State
 
-abbrev pub moved : Result Reply Refusal → State → Moved
-moved a s = record { answer = a; state = s }
+abbrev pub handled : Result Reply Refusal → State → Handled
+handled a s = record { answer = a; state = s }
 
 -- a refusal leaves all as it was
-abbrev pub refused : State → Refusal → Moved
-refused s e = moved (Err e) s
+abbrev pub refused : State → Refusal → Handled
+refused s e = handled (Err e) s
 
 abbrev pub seat_of : State → ℕ → Option Seat
 seat_of s w = map.get s.seats w
@@ -59,55 +59,55 @@ abbrev pub written : State → Event → State
 written s e = record s { store = after s.store e; watch = pushed s.watch e }
 
 -- a call of a worker that holds a key
-abbrev pub by_seat : State → (Place → Phase → Moved) → Option Seat → Moved
+abbrev pub by_seat : State → (Place → Phase → Handled) → Option Seat → Handled
 by_seat s f None = refused s OutOfPhase
 by_seat s f (Some seat) = f seat.key seat.phase
 
 -- ---- Take
 
-abbrev pub take_first : State → ℕ → Option Place → Moved
-take_first s w (Some k) = moved (Ok (Say.Key k)) (seated (record s { queue = taken s.queue }) w k Held)
+abbrev pub take_first : State → ℕ → Option Place → Handled
+take_first s w (Some k) = handled (Ok (Say.Key k)) (seated (record s { queue = taken s.queue }) w k Held)
 take_first s w None = refused s (if s.queue.shut then ShutDown else Empty)
 
-abbrev pub take_by : State → ℕ → Option Seat → Moved
+abbrev pub take_by : State → ℕ → Option Seat → Handled
 take_by s w None = take_first s w (first s.queue.row.line)
 take_by s w (Some seat) = refused s OutOfPhase
 
 -- rule: phases
-unfoldable pub take : State → ℕ → Moved
+unfoldable pub take : State → ℕ → Handled
 take s w = take_by s w (seat_of s w)
 
 -- ---- the three readings
 
-abbrev pub see_cron_in : State → ℕ → Place → Phase → Moved
-see_cron_in s w k Held = moved (Ok (Say.SeenCron (map.get s.store.crons k))) (seated s w k (Seen (map.get s.store.crons k)))
+abbrev pub see_cron_in : State → ℕ → Place → Phase → Handled
+see_cron_in s w k Held = handled (Ok (Say.SeenCron (map.get s.store.crons k))) (seated s w k (Seen (map.get s.store.crons k)))
 see_cron_in s w k _ = refused s OutOfPhase
 
 -- rule: phases
-unfoldable pub see_cron : State → ℕ → Moved
+unfoldable pub see_cron : State → ℕ → Handled
 see_cron s w = by_seat s (see_cron_in s w) (seat_of s w)
 
-abbrev pub see_jobs_in : State → ℕ → Place → Phase → Moved
-see_jobs_in s w k (Seen c) = moved (Ok (Say.SeenJobs (listed_of s k))) (seated s w k (Listed c (listed_of s k)))
+abbrev pub see_jobs_in : State → ℕ → Place → Phase → Handled
+see_jobs_in s w k (Seen c) = handled (Ok (Say.SeenJobs (listed_of s k))) (seated s w k (Listed c (listed_of s k)))
 see_jobs_in s w k _ = refused s OutOfPhase
 
 -- rule: phases
-unfoldable pub see_jobs : State → ℕ → Moved
+unfoldable pub see_jobs : State → ℕ → Handled
 see_jobs s w = by_seat s (see_jobs_in s w) (seat_of s w)
 
-abbrev pub see_active_in : State → ℕ → Place → Phase → Moved
-see_active_in s w k (Listed c js) = moved (Ok (Say.SeenActive (active_of s.store c))) (seated s w k (Checked c js (active_of s.store c)))
+abbrev pub see_active_in : State → ℕ → Place → Phase → Handled
+see_active_in s w k (Listed c js) = handled (Ok (Say.SeenActive (active_of s.store c))) (seated s w k (Checked c js (active_of s.store c)))
 see_active_in s w k _ = refused s OutOfPhase
 
 -- rule: phases
-unfoldable pub see_active : State → ℕ → Moved
+unfoldable pub see_active : State → ℕ → Handled
 see_active s w = by_seat s (see_active_in s w) (seat_of s w)
 
 -- ---- writes of a worker
 
 -- the write is made, and the worker comes to a phase; or the call is refused
-abbrev pub wrote : State → ℕ → Place → (Event → Reply) → (Event → Phase) → Result Event Refusal → Moved
-wrote s w k say p (Ok change) = moved (Ok (say change)) (seated (written s change) w k (p change))
+abbrev pub wrote : State → ℕ → Place → (Event → Reply) → (Event → Phase) → Result Event Refusal → Handled
+wrote s w k say p (Ok change) = handled (Ok (say change)) (seated (written s change) w k (p change))
 wrote s w k say p (Err e) = refused s e
 
 -- ---- Claim
@@ -119,22 +119,22 @@ abbrev pub seen_version : Option CronJob → ℕ
 seen_version None = 0
 seen_version (Some cron) = cron.meta.version
 
-abbrev pub claims : State → ℕ → Place → Planned → Claim → Option CronJob → Moved
+abbrev pub claims : State → ℕ → Place → Planned → Claim → Option CronJob → Handled
 claims s w k p claim None = refused s Stale
 claims s w k p claim (Some cron) =
     wrote s w k (λ e. Say.Claimed (Some (claim.time, version_of e))) (λ e. works p (version_of e) 0)
     (map_ok cron_modified (status_set s.store k cron.meta.uid cron.meta.version claim.status))
 
-abbrev pub claim_where : State → ℕ → Place → Planned → Option Claim → Moved
-claim_where s w k p None = moved (Ok (Say.Claimed None)) (seated s w k (works p (seen_version p.cron) 0))
+abbrev pub claim_where : State → ℕ → Place → Planned → Option Claim → Handled
+claim_where s w k p None = handled (Ok (Say.Claimed None)) (seated s w k (works p (seen_version p.cron) 0))
 claim_where s w k p (Some claim) = claims s w k p claim p.cron
 
-abbrev pub claim_in : State → ℕ → Planned → Place → Phase → Moved
+abbrev pub claim_in : State → ℕ → Planned → Place → Phase → Handled
 claim_in s w p k (Checked c js ks) = if rests_on p c js ks then claim_where s w k p p.steps.claim else refused s Stale
 claim_in s w p k _ = refused s OutOfPhase
 
 -- rules: phases, claim-inputs
-unfoldable pub claim : State → ℕ → Planned → Moved
+unfoldable pub claim : State → ℕ → Planned → Handled
 claim s w p = by_seat s (claim_in s w p) (seat_of s w)
 
 -- ---- the steps of a plan
@@ -150,25 +150,25 @@ abbrev pub sits : State → ℕ → Seat → State
 sits s w seat = record s { seats = map.insert s.seats w seat }
 
 -- the write is made as a step of a plan, or the call is refused
-abbrev pub steps_on : State → ℕ → Seat → (Event → Reply) → Result Event Refusal → Moved
-steps_on s w seat say (Ok change) = moved (Ok (say change)) (sits (written s change) w seat)
+abbrev pub steps_on : State → ℕ → Seat → (Event → Reply) → Result Event Refusal → Handled
+steps_on s w seat say (Ok change) = handled (Ok (say change)) (sits (written s change) w seat)
 steps_on s w seat say (Err e) = refused s e
 
 -- a Job that isn't there, or has another uid by now, is gone
-abbrev pub drops_it : State → ℕ → Seat → Place → Result Event Refusal → Moved
-drops_it s w seat name (Ok change) = moved (Ok (Say.Dropped (Some (name, version_of change)))) (sits (written s change) w seat)
-drops_it s w seat name (Err e) = moved (Ok (Say.Dropped None)) (sits s w seat)
+abbrev pub drops_it : State → ℕ → Seat → Place → Result Event Refusal → Handled
+drops_it s w seat name (Ok change) = handled (Ok (Say.Dropped (Some (name, version_of change)))) (sits (written s change) w seat)
+drops_it s w seat name (Err e) = handled (Ok (Say.Dropped None)) (sits s w seat)
 
-abbrev pub drop_where : State → ℕ → Place → Work → Option JobRef → Moved
+abbrev pub drop_where : State → ℕ → Place → Work → Option JobRef → Handled
 drop_where s w k work None = refused s OutOfPhase
 drop_where s w k work (Some r) = drops_it s w (next_seat k work) r.key (map_ok job_gone (job_deleted s.store r.key (Some r.uid)))
 
-abbrev pub drop_in : State → ℕ → Place → Phase → Moved
+abbrev pub drop_in : State → ℕ → Place → Phase → Handled
 drop_in s w k (Works work) = drop_where s w k work (as_drop (step_at work.plan.steps work.place))
 drop_in s w k _ = refused s OutOfPhase
 
 -- rules: phases, plan-steps
-unfoldable pub drop_next : State → ℕ → Moved
+unfoldable pub drop_next : State → ℕ → Handled
 drop_next s w = by_seat s (drop_in s w) (seat_of s w)
 
 abbrev pub object_reply : Object → Reply
@@ -181,58 +181,58 @@ event_reply (Added o) = object_reply o
 event_reply (Modified o) = object_reply o
 event_reply (Deleted o) = object_reply o
 
-abbrev pub make_where : State → ℕ → Place → Work → Option JobDraft → Moved
+abbrev pub make_where : State → ℕ → Place → Work → Option JobDraft → Handled
 make_where s w k work None = refused s OutOfPhase
 make_where s w k work (Some draft) = steps_on s w (next_seat k work) event_reply (map_ok job_added (job_made s.store draft work.plan.at))
 
-abbrev pub make_in : State → ℕ → Place → Phase → Moved
+abbrev pub make_in : State → ℕ → Place → Phase → Handled
 make_in s w k (Works work) = make_where s w k work (as_make (step_at work.plan.steps work.place))
 make_in s w k _ = refused s OutOfPhase
 
 -- rules: phases, plan-steps
-unfoldable pub make_next : State → ℕ → Moved
+unfoldable pub make_next : State → ℕ → Handled
 make_next s w = by_seat s (make_in s w) (seat_of s w)
 
 abbrev pub version_reply : Event → Reply
 version_reply e = Say.Version (version_of e)
 
-abbrev pub sets_it : State → ℕ → Place → Work → CronStatus → Option CronJob → Moved
+abbrev pub sets_it : State → ℕ → Place → Work → CronStatus → Option CronJob → Handled
 sets_it s w k work status None = refused s OutOfPhase
 sets_it s w k work status (Some cron) =
     steps_on s w (next_seat k work) version_reply (map_ok cron_modified (status_set s.store k cron.meta.uid work.version status))
 
-abbrev pub status_where : State → ℕ → Place → Work → Option CronStatus → Moved
+abbrev pub status_where : State → ℕ → Place → Work → Option CronStatus → Handled
 status_where s w k work None = refused s OutOfPhase
 status_where s w k work (Some status) = sets_it s w k work status work.plan.cron
 
-abbrev pub status_in : State → ℕ → Place → Phase → Moved
+abbrev pub status_in : State → ℕ → Place → Phase → Handled
 status_in s w k (Works work) = status_where s w k work (as_status (step_at work.plan.steps work.place))
 status_in s w k _ = refused s OutOfPhase
 
 -- rules: phases, plan-steps
-unfoldable pub set_status : State → ℕ → Moved
+unfoldable pub set_status : State → ℕ → Handled
 set_status s w = by_seat s (status_in s w) (seat_of s w)
 
 -- ---- Finish
 
-abbrev pub leaves : State → ℕ → Queue → Moved
-leaves s w q = moved (Ok Say.Done) (record s { queue = q; seats = map.remove s.seats w })
+abbrev pub leaves : State → ℕ → Queue → Handled
+leaves s w q = handled (Ok Say.Done) (record s { queue = q; seats = map.remove s.seats w })
 
 abbrev pub next_ms : Option ℕ → Option ℕ
 next_ms at = option_map (λ t. 1000 * t) at
 
-abbrev pub finish_work : State → ℕ → Place → Work → Bool → Moved
+abbrev pub finish_work : State → ℕ → Place → Work → Bool → Handled
 finish_work s w k work true = leaves s w (finished_ok s.queue k (next_ms work.plan.steps.next))
 finish_work s w k work false = refused s OutOfPhase
 
-abbrev pub finish_well : State → ℕ → Place → Phase → Moved
+abbrev pub finish_well : State → ℕ → Place → Phase → Handled
 finish_well s w k (Works work) = finish_work s w k work (is_over (step_at work.plan.steps work.place))
 finish_well s w k _ = refused s OutOfPhase
 
-abbrev pub finish_in : State → ℕ → End → Place → Phase → Moved
+abbrev pub finish_in : State → ℕ → End → Place → Phase → Handled
 finish_in s w (Again now) k p = leaves s w (finished_retry s.queue k now)
 finish_in s w Well k p = finish_well s w k p
 
 -- rules: phases, finish
-unfoldable pub finish : State → ℕ → End → Moved
+unfoldable pub finish : State → ℕ → End → Handled
 finish s w end = by_seat s (finish_in s w end) (seat_of s w)

@@ -2,7 +2,7 @@
 ghost use Rattle.std.specs.Prelude.{◌≡◌, IfOk, IfErr, string_bytes};
 ghost use Rattle.cj_base.specs.declared.refusal.Refusal.TheVariants.{OutOfMemory};
 ghost use Rattle.serde_json.specs.View.{view};
-ghost use Rattle.cj_scenario.specs.detection.Glances.{IsGlance, form_line, glance_words, rest_words};
+ghost use Rattle.cj_scenario.specs.detection.Detections.{IsDetection, form_line, detection_words, rest_words};
 
 use crate::detection::form::Form;
 use crate::detection::fraction::fraction_words;
@@ -33,8 +33,8 @@ fn rest_words(alloc: Global, wanted: Form, value: &Value) -> Result<String, Refu
 
 /// Lines on a value where one of a certain form is wanted: what it is, where it is of another; else of a manifest where
 /// its first number with a fraction stands, of the others the members that nobody reads.
-pub fn glance_at(alloc: Global, wanted: Form, value: &Value) -> Result<String, Refusal>
-    ensures ok { IfOk result (λ s. string_bytes s ≡ glance_words wanted (view value.now)) }
+pub fn detect_at(alloc: Global, wanted: Form, value: &Value) -> Result<String, Refusal>
+    ensures ok { IfOk result (λ s. string_bytes s ≡ detection_words wanted (view value.now)) }
     ensures err { IfErr result (λ e. e ≡ OutOfMemory) }
 {
     let line = form_line(wanted, Form::of(value));
@@ -46,12 +46,12 @@ pub fn glance_at(alloc: Global, wanted: Form, value: &Value) -> Result<String, R
 }
 
 /// The same of bytes; of those that are no JSON nothing is said. The only error is want of memory.
-pub fn glance(alloc: Global, wanted: Form, bytes: &[u8]) -> Result<String, Refusal>
-    ensures ok { IfOk result (λ s. IsGlance wanted bytes.now (string_bytes s)) }
+pub fn detect(alloc: Global, wanted: Form, bytes: &[u8]) -> Result<String, Refusal>
+    ensures ok { IfOk result (λ s. IsDetection wanted bytes.now (string_bytes s)) }
     ensures err { IfErr result (λ e. e ≡ OutOfMemory) }
 {
     match value_of(alloc, bytes) {
-        Ok(value) => glance_at(alloc, wanted, &value),
+        Ok(value) => detect_at(alloc, wanted, &value),
         Err(SceneFault::Memory) => Err(Refusal::OutOfMemory),
         Err(_) => Ok(String::new(alloc)),
     }

@@ -1,4 +1,4 @@
-use crate::operations::Act;
+use crate::operations::Operation;
 use crate::simulation::runs::Runs;
 use crate::simulation::span::Span;
 use cj_types::{CronJobDraft, Seconds, Shared};
@@ -7,20 +7,20 @@ use cj_zone::ZoneTable;
 /// What is done at an instant of the clock.
 pub struct Edit {
     pub at: Seconds,
-    pub act: Act,
+    pub operation: Operation,
 }
 
 // A function of its own, so that whoever gives one up makes one call and not one for each part.
 impl Drop for Edit {
     fn drop(self) {
-        let Edit { at: _, act } = self;
-        drop(act);
+        let Edit { at: _, operation } = self;
+        drop(operation);
     }
 }
 
 /// What a run's scenario says: the zones that its CronJobs may name, the instants of its clock, the CronJobs
 /// that are there from the start, how their Jobs go, and what is done beside in its order.
-pub struct Course {
+pub struct Simulation {
     pub zones: ZoneTable,
     pub span: Span,
     pub crons: Vec<Shared<CronJobDraft>>,
@@ -29,9 +29,9 @@ pub struct Course {
 }
 
 // A function of its own, so that whoever gives one up makes one call and not one for each part.
-impl Drop for Course {
+impl Drop for Simulation {
     fn drop(self) {
-        let Course {
+        let Simulation {
             zones,
             span: _,
             crons: _,

@@ -2,10 +2,10 @@ ghost use Rattle.std.specs.Prelude.{◌≡◌, ◌∷◌, [], List, IfOk, IfErr,
 ghost use Rattle.std.specs.FinMap as map;
 ghost use Rattle.cj_base.specs.declared.refusal.Refusal.TheVariants.{OutOfMemory};
 ghost use Rattle.cj_calls.specs.Rows.{Told};
-ghost use Rattle.cj_replay.specs.snapshots.Sights as told;
-ghost use Rattle.cj_replay.specs.snapshots.Remembered.{Remembers, sight_or_none};
+ghost use Rattle.cj_replay.specs.snapshots.Snapshots as told;
+ghost use Rattle.cj_replay.specs.snapshots.Remembered.{Remembers, snapshot_or_none};
 
-use crate::snapshots::sight::{Sight, with_reply};
+use crate::snapshots::snapshot::{Snapshot, with_reply};
 use cj_calls::{Answer, Call, Caller, Reply};
 use cj_types::Refusal;
 use std::alloc::Global;
@@ -13,75 +13,75 @@ use std::collections::BTreeMap;
 use std::marker::Model;
 
 /// What each worker has seen in its sync so far, by the worker's number. Contracts see a finite map.
-pub struct Sights {
-    rows: BTreeMap<u64, Sight>,
+pub struct Snapshots {
+    rows: BTreeMap<u64, Snapshot>,
 }
 
-impl Model for Sights {
+impl Model for Snapshots {
     ghost use Rattle.std.specs.Ordering.{nat_cmp};
     ghost use Rattle.std.specs.FinMap as map;
     ghost use Rattle.std.specs.Coded.{coded_ℕ};
-    ghost use Rattle.cj_replay.specs.declared.snapshots.sight.Sight.{Sight};
-    ghost use Rattle.cj_replay.specs.contracts.snapshots.sight.Sight.{the_row as sight};
+    ghost use Rattle.cj_replay.specs.declared.snapshots.snapshot.Snapshot.{Snapshot};
+    ghost use Rattle.cj_replay.specs.contracts.snapshots.snapshot.Snapshot.{the_row as snapshot};
 
-    ghost Value = { map.FinMap nat_cmp Sight };
+    ghost Value = { map.FinMap nat_cmp Snapshot };
 
-    ghost coded = { map.code coded_ℕ sight.coded };
+    ghost coded = { map.code coded_ℕ snapshot.coded };
 
     ghost view = { λ s. map.from_entries s.rows.entries };
 }
 
-// A function of its own, so that whoever gives up the sights makes one call and not one for each part.
-impl Drop for Sights {
+// A function of its own, so that whoever gives up the snapshots makes one call and not one for each part.
+impl Drop for Snapshots {
     fn drop(self) {
-        let Sights { rows: _ } = self;
+        let Snapshots { rows: _ } = self;
     }
 }
 
 // What a worker has seen with one reply more; of one that isn't known nothing was seen.
-fn next_sight(
+fn next_snapshot(
     alloc: Global,
-    sight: Option<&Sight>,
+    snapshot: Option<&Snapshot>,
     call: &Call,
     reply: &Reply,
-) -> Result<Sight, Refusal>
-    ensures ok { IfOk result (λ s. s ≡ told.with_reply (sight_or_none (option_copied sight.entry))
+) -> Result<Snapshot, Refusal>
+    ensures ok { IfOk result (λ s. s ≡ told.with_reply (snapshot_or_none (option_copied snapshot.entry))
         call.now reply.now) }
     ensures err { IfErr result (λ e. e ≡ OutOfMemory) }
 {
-    match sight {
-        Some(sight) => with_reply(alloc, sight, call, reply),
-        None => with_reply(alloc, &Sight::unseen(), call, reply),
+    match snapshot {
+        Some(snapshot) => with_reply(alloc, snapshot, call, reply),
+        None => with_reply(alloc, &Snapshot::unseen(), call, reply),
     }
 }
 
-impl Sights {
+impl Snapshots {
     /// Nobody has seen anything.
     #[tactic(auto, using(crate::proofs::SnapshotsLemmas::Notes::none_remembered))]
-    pub fn new(alloc: Global) -> Sights
+    pub fn new(alloc: Global) -> Snapshots
         ensures { Remembers result [] }
     {
-        Sights {
+        Snapshots {
             rows: BTreeMap::new(alloc),
         }
     }
 
     /// What the worker has seen.
     #[tactic(auto, using(cj_state::proofs::PhasesLemmas::Tables::get_is))]
-    pub fn get(&self, number: u64) -> Option<&Sight>
+    pub fn get(&self, number: u64) -> Option<&Snapshot>
         ensures { option_copied result ≡ map.get self.now number }
     {
         self.rows.get(&number)
     }
 
-    // Puts another sight in place of the worker's.
+    // Puts another snapshot in place of the worker's.
     #[tactic(auto, using(cj_state::proofs::PhasesLemmas::Tables::inserted, cj_state::proofs::PhasesLemmas::Tables::get_is))]
-    fn insert(&mut self, number: u64, sight: Sight) -> Result<(), Refusal>
-        ensures ok { OnOk result (self.new ≡ map.insert self.old number sight) }
+    fn insert(&mut self, number: u64, snapshot: Snapshot) -> Result<(), Refusal>
+        ensures ok { OnOk result (self.new ≡ map.insert self.old number snapshot) }
         ensures err { OnErr result (self.new ≡ self.old) }
         ensures memory { IfErr result (λ e. e ≡ OutOfMemory) }
     {
-        match self.rows.insert(number, sight) {
+        match self.rows.insert(number, snapshot) {
             Ok(_) => Ok(()),
             Err(_) => Err(Refusal::OutOfMemory),
         }
@@ -107,8 +107,8 @@ impl Sights {
     {
         match answer {
             Ok(reply) => {
-                let sight = next_sight(alloc, self.get(caller.number), call, reply)?;
-                self.insert(caller.number, sight)
+                let snapshot = next_snapshot(alloc, self.get(caller.number), call, reply)?;
+                self.insert(caller.number, snapshot)
             }
             Err(_) => Ok(()),
         }

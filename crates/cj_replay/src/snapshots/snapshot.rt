@@ -1,6 +1,6 @@
 ghost use Rattle.std.specs.Prelude.{◌≡◌, None, Some, IfOk, IfErr};
 ghost use Rattle.cj_base.specs.declared.refusal.Refusal.TheVariants.{OutOfMemory};
-ghost use Rattle.cj_replay.specs.snapshots.Sights as told;
+ghost use Rattle.cj_replay.specs.snapshots.Snapshots as told;
 
 use cj_base::all_four;
 use cj_calls::{Call, Reply};
@@ -9,7 +9,7 @@ use cj_types::{CronJob, Job, Listing, Refusal, Shared, TryCopy};
 use std::alloc::Global;
 
 /// What a worker has seen in its sync so far, and the plan that it claimed.
-pub struct Sight {
+pub struct Snapshot {
     /// The CronJob, or that there is none.
     pub cron: Option<Option<Shared<CronJob>>>,
     /// The Jobs that were listed for it.
@@ -20,10 +20,10 @@ pub struct Sight {
     pub plan: Option<Shared<Plan>>,
 }
 
-// A function of its own, so that whoever gives up a sight makes one call and not one for each part.
-impl Drop for Sight {
+// A function of its own, so that whoever gives up a snapshot makes one call and not one for each part.
+impl Drop for Snapshot {
     fn drop(self) {
-        let Sight {
+        let Snapshot {
             cron: _,
             jobs: _,
             active: _,
@@ -32,15 +32,15 @@ impl Drop for Sight {
     }
 }
 
-impl TryCopy for Sight {
-    fn try_copy(&self, alloc: Global) -> Result<Sight, Refusal> {
+impl TryCopy for Snapshot {
+    fn try_copy(&self, alloc: Global) -> Result<Snapshot, Refusal> {
         let (cron, jobs, active, plan) = all_four(
             self.cron.try_copy(alloc),
             self.jobs.try_copy(alloc),
             self.active.try_copy(alloc),
             self.plan.try_copy(alloc),
         )?;
-        Ok(Sight {
+        Ok(Snapshot {
             cron,
             jobs,
             active,
@@ -49,12 +49,12 @@ impl TryCopy for Sight {
     }
 }
 
-impl Sight {
+impl Snapshot {
     /// Nothing was seen.
-    pub fn unseen() -> Sight
+    pub fn unseen() -> Snapshot
         ensures { result ≡ told.unseen }
     {
-        Sight {
+        Snapshot {
             cron: None,
             jobs: None,
             active: None,
@@ -64,17 +64,21 @@ impl Sight {
 }
 
 // The CronJob that is seen first in a sync.
-fn with_cron(alloc: Global, sight: &Sight, cron: &Option<Shared<CronJob>>) -> Result<Sight, Refusal>
-    ensures ok { IfOk result (λ s. s ≡ record sight.now { cron = Some cron.now }) }
+fn with_cron(
+    alloc: Global,
+    snapshot: &Snapshot,
+    cron: &Option<Shared<CronJob>>,
+) -> Result<Snapshot, Refusal>
+    ensures ok { IfOk result (λ s. s ≡ record snapshot.now { cron = Some cron.now }) }
     ensures err { IfErr result (λ e. e ≡ OutOfMemory) }
 {
     let (cron, jobs, active, plan) = all_four(
         cron.try_copy(alloc),
-        sight.jobs.try_copy(alloc),
-        sight.active.try_copy(alloc),
-        sight.plan.try_copy(alloc),
+        snapshot.jobs.try_copy(alloc),
+        snapshot.active.try_copy(alloc),
+        snapshot.plan.try_copy(alloc),
     )?;
-    Ok(Sight {
+    Ok(Snapshot {
         cron: Some(cron),
         jobs,
         active,
@@ -82,17 +86,21 @@ fn with_cron(alloc: Global, sight: &Sight, cron: &Option<Shared<CronJob>>) -> Re
     })
 }
 
-fn with_jobs(alloc: Global, sight: &Sight, jobs: &Listing<Shared<Job>>) -> Result<Sight, Refusal>
-    ensures ok { IfOk result (λ s. s ≡ record sight.now { jobs = Some jobs.now }) }
+fn with_jobs(
+    alloc: Global,
+    snapshot: &Snapshot,
+    jobs: &Listing<Shared<Job>>,
+) -> Result<Snapshot, Refusal>
+    ensures ok { IfOk result (λ s. s ≡ record snapshot.now { jobs = Some jobs.now }) }
     ensures err { IfErr result (λ e. e ≡ OutOfMemory) }
 {
     let (cron, jobs, active, plan) = all_four(
-        sight.cron.try_copy(alloc),
+        snapshot.cron.try_copy(alloc),
         jobs.try_copy(alloc),
-        sight.active.try_copy(alloc),
-        sight.plan.try_copy(alloc),
+        snapshot.active.try_copy(alloc),
+        snapshot.plan.try_copy(alloc),
     )?;
-    Ok(Sight {
+    Ok(Snapshot {
         cron,
         jobs: Some(jobs),
         active,
@@ -102,19 +110,19 @@ fn with_jobs(alloc: Global, sight: &Sight, jobs: &Listing<Shared<Job>>) -> Resul
 
 fn with_active(
     alloc: Global,
-    sight: &Sight,
+    snapshot: &Snapshot,
     active: &Listing<Option<Shared<Job>>>,
-) -> Result<Sight, Refusal>
-    ensures ok { IfOk result (λ s. s ≡ record sight.now { active = Some active.now }) }
+) -> Result<Snapshot, Refusal>
+    ensures ok { IfOk result (λ s. s ≡ record snapshot.now { active = Some active.now }) }
     ensures err { IfErr result (λ e. e ≡ OutOfMemory) }
 {
     let (cron, jobs, active, plan) = all_four(
-        sight.cron.try_copy(alloc),
-        sight.jobs.try_copy(alloc),
+        snapshot.cron.try_copy(alloc),
+        snapshot.jobs.try_copy(alloc),
         active.try_copy(alloc),
-        sight.plan.try_copy(alloc),
+        snapshot.plan.try_copy(alloc),
     )?;
-    Ok(Sight {
+    Ok(Snapshot {
         cron,
         jobs,
         active: Some(active),
@@ -133,17 +141,17 @@ fn plan_in(alloc: Global, call: &Call) -> Result<Option<Shared<Plan>>, Refusal>
     }
 }
 
-fn with_plan(alloc: Global, sight: &Sight, call: &Call) -> Result<Sight, Refusal>
-    ensures ok { IfOk result (λ s. s ≡ record sight.now { plan = told.plan_in call.now }) }
+fn with_plan(alloc: Global, snapshot: &Snapshot, call: &Call) -> Result<Snapshot, Refusal>
+    ensures ok { IfOk result (λ s. s ≡ record snapshot.now { plan = told.plan_in call.now }) }
     ensures err { IfErr result (λ e. e ≡ OutOfMemory) }
 {
     let (cron, jobs, active, plan) = all_four(
-        sight.cron.try_copy(alloc),
-        sight.jobs.try_copy(alloc),
-        sight.active.try_copy(alloc),
+        snapshot.cron.try_copy(alloc),
+        snapshot.jobs.try_copy(alloc),
+        snapshot.active.try_copy(alloc),
         plan_in(alloc, call),
     )?;
-    Ok(Sight {
+    Ok(Snapshot {
         cron,
         jobs,
         active,
@@ -152,23 +160,23 @@ fn with_plan(alloc: Global, sight: &Sight, call: &Call) -> Result<Sight, Refusal
 }
 
 /// What a worker has seen with one reply more.
-#[tactic(auto, unfolding(crate::specs::snapshots::Sights::with_reply))]
+#[tactic(auto, unfolding(crate::specs::snapshots::Snapshots::with_reply))]
 pub(crate) fn with_reply(
     alloc: Global,
-    sight: &Sight,
+    snapshot: &Snapshot,
     call: &Call,
     reply: &Reply,
-) -> Result<Sight, Refusal>
-    ensures ok { IfOk result (λ s. s ≡ told.with_reply sight.now call.now reply.now) }
+) -> Result<Snapshot, Refusal>
+    ensures ok { IfOk result (λ s. s ≡ told.with_reply snapshot.now call.now reply.now) }
     ensures err { IfErr result (λ e. e ≡ OutOfMemory) }
 {
     match reply {
-        Reply::Key(_) => Ok(Sight::unseen()),
-        Reply::Done => Ok(Sight::unseen()),
-        Reply::SeenCron(cron) => with_cron(alloc, sight, cron),
-        Reply::SeenJobs(jobs) => with_jobs(alloc, sight, jobs),
-        Reply::SeenActive(active) => with_active(alloc, sight, active),
-        Reply::Claimed(_) => with_plan(alloc, sight, call),
-        _ => sight.try_copy(alloc),
+        Reply::Key(_) => Ok(Snapshot::unseen()),
+        Reply::Done => Ok(Snapshot::unseen()),
+        Reply::SeenCron(cron) => with_cron(alloc, snapshot, cron),
+        Reply::SeenJobs(jobs) => with_jobs(alloc, snapshot, jobs),
+        Reply::SeenActive(active) => with_active(alloc, snapshot, active),
+        Reply::Claimed(_) => with_plan(alloc, snapshot, call),
+        _ => snapshot.try_copy(alloc),
     }
 }

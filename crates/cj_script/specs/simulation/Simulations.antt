@@ -13,8 +13,8 @@ use Rattle.cj_scenario.specs.declared.fault.SceneFault.TheVariants.{Form, Manife
 use Rattle.cj_script.specs.Drafts.{needed, then}
 use Rattle.cj_script.specs.Lists.{after_fault}
 use Rattle.cj_script.specs.Scripts.{HasNoZones}
-use Rattle.cj_script.specs.declared.simulation.course.Course.{Course}
-use Rattle.cj_script.specs.declared.simulation.course.Edit.{Edit}
+use Rattle.cj_script.specs.declared.simulation.scenario.Simulation.{Simulation}
+use Rattle.cj_script.specs.declared.simulation.scenario.Edit.{Edit}
 use Rattle.cj_script.specs.simulation.Edits.{edits_in}
 use Rattle.cj_script.specs.simulation.RunLists.{runs_in}
 use Rattle.cj_script.specs.simulation.Runs.{RunTable}
@@ -57,15 +57,15 @@ told_in zones d =
 
 -- a value says this: its zones beside those that are given, and under these the rest
 -- rule: run-form
-pub record Says (given : GivenZones) (d : Data) (c : Course) : Type 0 where
+pub record Says (given : GivenZones) (d : Data) (c : Simulation) : Type 0 where
   pub zones : AreZones given (present (codes "zones") d) (zones_of c.zones)
   pub local : local_zone c.zones ≡ local_zone given.rules
   pub told : told_in (zones_of c.zones) d ≡ Ok (told c.span c.runs (c.crons.items, c.edits.items))
 
 -- what the bytes of a scenario say
 -- rule: run-form
-abbrev pub IsCourse : GivenZones → List ℕ → Course → Type 0
-IsCourse given bytes c = (d : Data) × Reads bytes d × Says given d c
+abbrev pub IsSimulation : GivenZones → List ℕ → Simulation → Type 0
+IsSimulation given bytes c = (d : Data) × Reads bytes d × Says given d c
 
 -- under its zones it is refused so
 pub record IsAtFault (given : GivenZones) (d : Data) (e : SceneFault) : Type 0 where
@@ -83,7 +83,7 @@ IsRefusedValue given d Syntax = ⊥
 
 -- why bytes are none: they are no JSON; else the value that they are is none; or there was no memory
 -- rule: run-order
-abbrev pub IsRefusedCourse : GivenZones → List ℕ → SceneFault → Type 0
-IsRefusedCourse given bytes Syntax = IsNoValue bytes
-IsRefusedCourse given bytes Memory = Unit {0}
-IsRefusedCourse given bytes e = (d : Data) × Reads bytes d × IsRefusedValue given d e
+abbrev pub IsRefusedSimulation : GivenZones → List ℕ → SceneFault → Type 0
+IsRefusedSimulation given bytes Syntax = IsNoValue bytes
+IsRefusedSimulation given bytes Memory = Unit {0}
+IsRefusedSimulation given bytes e = (d : Data) × Reads bytes d × IsRefusedValue given d e

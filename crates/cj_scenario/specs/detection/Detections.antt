@@ -15,7 +15,7 @@ form_line A.List A.List = []
 form_line A.Manifest A.Manifest = []
 form_line A.Scenario A.Scenario = []
 form_line A.Script A.Script = []
-form_line A.Course A.Course = []
+form_line A.Simulation A.Simulation = []
 form_line wanted found = form_words found
 
 abbrev pub ignored_line : List ℕ → List ℕ
@@ -42,20 +42,20 @@ rest_words A.Manifest d = fraction_words d
 rest_words A.List d = ignored_of A.List (as_object d)
 rest_words A.Scenario d = ignored_of A.Scenario (as_object d)
 rest_words A.Script d = ignored_of A.Script (as_object d)
-rest_words A.Course d = ignored_of A.Course (as_object d)
+rest_words A.Simulation d = ignored_of A.Simulation (as_object d)
 rest_words A.Other d = ignored_of A.Other (as_object d)
 
 -- what a value is, where it is of another form; else what there is to say of it
 -- rules: explain-input, explain-ignored, explain-fraction
-abbrev pub glance_words : Form → Data → List ℕ
-glance_words wanted d = or_else (form_line wanted (form_of d)) (rest_words wanted d)
+abbrev pub detection_words : Form → Data → List ℕ
+detection_words wanted d = or_else (form_line wanted (form_of d)) (rest_words wanted d)
 
 -- the bytes are this value
 pub record IsSeen (wanted : Form) (bytes : List ℕ) (words : List ℕ) : Type 0 where
   pub value : Data
   pub reads : Reads bytes value
-  pub are : words ≡ glance_words wanted value
+  pub are : words ≡ detection_words wanted value
 
 -- of bytes that are no JSON nothing is said
-abbrev pub IsGlance : Form → List ℕ → List ℕ → Type 0
-IsGlance wanted bytes words = IsSeen wanted bytes words ⊎ (IsNoValue bytes × (words ≡ []))
+abbrev pub IsDetection : Form → List ℕ → List ℕ → Type 0
+IsDetection wanted bytes words = IsSeen wanted bytes words ⊎ (IsNoValue bytes × (words ≡ []))

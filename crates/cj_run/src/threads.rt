@@ -1,13 +1,13 @@
 // The threads of a run.
 ghost use Rattle.std.specs.Prelude.{OnOk};
-ghost use Rattle.cj_run.specs.Deeds.{HasPlayed};
+ghost use Rattle.cj_run.specs.Deeds.{HasDriven};
 
 use crate::clock::RunClock;
-use crate::drive::{Cast, drive};
+use crate::drive::{Participants, drive};
 use crate::rest::{Follower, Halt};
 use cj_calls::Call;
 use cj_hub::{Hub, Pass};
-use cj_script::Course;
+use cj_script::Simulation;
 use cj_types::Refusal;
 use cj_worker::{OpenGate, WorkerEnd, run_workers};
 use std::alloc::Global;
@@ -18,8 +18,8 @@ use std::thread::Threads;
 /// What comes of the threads of a run: who called beside the workers, whether all instants were lived
 /// through, and the workers' ends.
 #[derive(Drop)]
-pub(crate) struct Staged {
-    pub cast: Cast,
+pub(crate) struct Ended {
+    pub participants: Participants,
     pub driven: Result<(), Halt>,
     pub ends: Result<Vec<WorkerEnd>, Refusal>,
 }
@@ -42,56 +42,63 @@ fn shut<R: Wait>(rt: &R, hub: &Hub, follower: &mut Follower) -> Result<(), Refus
 }
 
 // Lives through all instants, and then shuts the queue.
-fn play<R: Threads + Wait + Sync>(
+fn drive_and_shut<R: Threads + Wait + Sync>(
     rt: &R,
     alloc: Global,
     hub: &Hub,
     clock: &RunClock,
-    course: &Course,
-    mut cast: Cast,
-) -> (Cast, Result<(), Halt>)
-    ensures { OnOk result.1 (HasPlayed course.now cast.user result.0.user) }
+    simulation: &Simulation,
+    mut participants: Participants,
+) -> (Participants, Result<(), Halt>)
+    ensures { OnOk result.1 (HasDriven simulation.now participants.user result.0.user) }
 {
-    let driven = drive(rt, alloc, hub, clock, course, &mut cast);
-    let shut = shut(rt, hub, &mut cast.follower);
+    let driven = drive(rt, alloc, hub, clock, simulation, &mut participants);
+    let shut = shut(rt, hub, &mut participants.follower);
     match (driven, shut) {
-        (Ok(()), Ok(())) => (cast, Ok(())),
-        (Ok(()), Err(refusal)) => (cast, Err(Halt::Refused(refusal))),
-        (Err(halt), _) => (cast, Err(halt)),
+        (Ok(()), Ok(())) => (participants, Ok(())),
+        (Ok(()), Err(refusal)) => (participants, Err(Halt::Refused(refusal))),
+        (Err(halt), _) => (participants, Err(halt)),
     }
 }
 
 /// Starts the workers in a thread beside this one, lives through all instants, and joins the workers.
-pub(crate) fn stage<R: Threads + Wait + Sync>(
+pub(crate) fn run_threads<R: Threads + Wait + Sync>(
     rt: &R,
     alloc: Global,
     hub: &Hub,
     clock: &RunClock,
-    course: &Course,
-    cast: Cast,
+    simulation: &Simulation,
+    participants: Participants,
     workers: Vec<Pass>,
-) -> Staged
-    ensures { OnOk result.driven (HasPlayed course.now cast.user result.cast.user) }
+) -> Ended
+    ensures { OnOk result.driven (HasDriven simulation.now participants.user result.participants.user) }
 {
     let gate = &OpenGate;
     thread::scope(
         thread::scope_env(),
         rt,
-        |scope| -> Staged
-            ensures { OnOk result.driven (HasPlayed course.entry.now cast.user result.cast.user) }
+        |scope| -> Ended
+            ensures { OnOk result.driven (HasDriven simulation.entry.now participants.user result.participants.user) }
         {
             let Ok(child) = scope.spawn(move || {
-                run_workers(rt, alloc, hub, workers, gate, clock, &course.zones)
+                run_workers(rt, alloc, hub, workers, gate, clock, &simulation.zones)
             }) else {
-                return Staged {
-                    cast,
+                return Ended {
+                    participants,
                     driven: Err(Halt::Refused(Refusal::OutOfMemory)),
                     ends: Err(Refusal::OutOfMemory),
                 };
             };
-            let (cast, driven) = play(rt, alloc, hub, clock, course, cast);
-            Staged {
-                cast,
+            let (participants, driven) = drive_and_shut(
+                rt,
+                alloc,
+                hub,
+                clock,
+                simulation,
+                participants,
+            );
+            Ended {
+                participants,
                 driven,
                 ends: child.join(rt),
             }

@@ -11,8 +11,8 @@ use Rattle.cj_types.specs.Keys.{Place, new_key}
 use Rattle.cj_types.specs.Names.{longest}
 use Rattle.cj_calls.specs.declared.call.Call.TheVariants as Of
 use Rattle.cj_manifest.specs.Members.{present}
-use Rattle.cj_script.specs.declared.operations.act.Act.{Act}
-use Rattle.cj_script.specs.declared.operations.act.Act.TheVariants.{Calls, Claims, Ends}
+use Rattle.cj_script.specs.declared.operations.operation.Operation.{Operation}
+use Rattle.cj_script.specs.declared.operations.operation.Operation.TheVariants.{Calls, Claims, Ends}
 use Rattle.cj_script.specs.operations.Instants.{time_in}
 
 -- ---- members
@@ -58,36 +58,36 @@ outcome_named at word =
 abbrev pub outcome_in : ℕ → Data → Option Outcome
 outcome_in at d = option_and_then (outcome_named at) (option_and_then as_str (present (codes "outcome") d))
 
--- ---- acts
+-- ---- operations
 
-abbrev pub delete_cron : Data → Option Act
+abbrev pub delete_cron : Data → Option Operation
 delete_cron d = option_map (λ key. Calls (Of.DeleteCron key)) (key_in d)
 
-abbrev pub delete_job : Data → Option Act
+abbrev pub delete_job : Data → Option Operation
 delete_job d = option_map (λ key. Calls (Of.DeleteJob key)) (key_in d)
 
-abbrev pub add : Data → Option Act
+abbrev pub add : Data → Option Operation
 add d = option_map (λ key. Calls (Of.Add key)) (key_in d)
 
-abbrev pub end_job : Data → Option Act
+abbrev pub end_job : Data → Option Operation
 end_job d =
     option_and_then (λ at.
     option_and_then (λ outcome.
     option_map (λ key. Ends key outcome at)
     (key_in d)) (outcome_in at d)) (moment_in d)
 
-abbrev pub watch : Data → Option Act
+abbrev pub watch : Data → Option Operation
 watch d =
     option_and_then (λ version.
     option_map (λ max. Calls (Of.Watch version max))
     (max_in d)) (number_in (present (codes "version") d))
 
-abbrev pub feed : Data → Option Act
+abbrev pub feed : Data → Option Operation
 feed d = option_map (λ max. Calls (Of.Feed max)) (max_in d)
 
 -- the queue's instants are milliseconds
-abbrev pub tick : Data → Option Act
+abbrev pub tick : Data → Option Operation
 tick d = option_map (λ at. Calls (Of.Tick (at * 1000))) (moment_in d)
 
-abbrev pub claim : Data → Option Act
+abbrev pub claim : Data → Option Operation
 claim d = option_map (λ at. Claims at) (moment_in d)
