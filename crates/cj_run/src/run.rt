@@ -1,7 +1,8 @@
 // A run, from its scenario to its report.
 ghost use Rattle.std.specs.Prelude.{◌≡◌, List, [], ◌∷◌, ◌++◌, IfOk, IsOk, OnOk, map, string_bytes};
 ghost use Rattle.cj_hub.specs.Receipts.{PassView};
-ghost use Rattle.cj_replay.specs.Replays.{KeepsPromise, report_of};
+ghost use Rattle.cj_world_laws.specs.Promise.{KeepsPromise};
+ghost use Rattle.cj_report.specs.Reports.{report_of};
 ghost use Rattle.cj_calls.specs.declared.caller.Role.TheVariants.{User};
 ghost use Rattle.cj_run.specs.Deeds.{AreDone, HasDone};
 ghost use Rattle.cj_run.specs.Runs.{IsClosed, IsReport, IsRun, all_passes, pass_at};
@@ -15,7 +16,7 @@ use cj_calls::Role;
 use cj_hub::{Closed, Hub, HubState, Pass};
 use cj_informer::Informer;
 use cj_io::Failure;
-use cj_replay::report_text;
+use cj_report::report_text;
 use cj_script::Simulation;
 use cj_types::{Heap, Limits, Max, Refusal};
 use cj_worker::{SyncEnd, WorkerEnd};
@@ -135,7 +136,7 @@ fn passes_of(
     Ok(passes)
 }
 
-#[tactic(auto, unfolding(cj_replay::specs::Replays::report_of))]
+#[tactic(auto, unfolding(cj_report::specs::Reports::report_of))]
 fn closed_report(alloc: Global, closed: &Closed) -> Result<String, Refusal>
     ensures { IfOk result (λ s. string_bytes s
         ≡ report_of closed.now.limits.window closed.now.history) }
