@@ -11,7 +11,7 @@ use crate::clock::RunClock;
 use crate::drive::Participants;
 use crate::made::Made;
 use crate::rest::{Follower, Halt};
-use crate::threads::{Ended, run_threads};
+use crate::threads::{ThreadResults, WorkerEnds, run_threads};
 use cj_calls::Role;
 use cj_hub::{Closed, Hub, HubState, Pass};
 use cj_informer::Informer;
@@ -71,7 +71,7 @@ fn found_full(end: &WorkerEnd) -> bool {
 }
 
 // Why workers gave up.
-fn failure_of(ends: &Result<Vec<WorkerEnd>, Refusal>) -> Failure {
+fn failure_of(ends: &WorkerEnds) -> Failure {
     match ends {
         Ok(ends) => {
             if ends.as_slice().iter().any(found_full) {
@@ -85,15 +85,15 @@ fn failure_of(ends: &Result<Vec<WorkerEnd>, Refusal>) -> Failure {
 }
 
 // Why the instants were not all lived through, or were in vain since a worker gave up.
-fn check_end<R: Wait>(rt: &R, hub: &Hub, ended: &Ended) -> Result<(), Failure>
-    ensures { OnOk result (IsOk ended.now.driven) }
+fn check_results<R: Wait>(rt: &R, hub: &Hub, results: &ThreadResults) -> Result<(), Failure>
+    ensures { OnOk result (IsOk results.now.instants) }
 {
-    match &ended.driven {
+    match &results.instants {
         Err(Halt::Refused(Refusal::HistoryFull)) => Err(Failure::HistoryFull),
         Err(Halt::Refused(_)) => Err(Failure::Memory),
-        Err(Halt::GivenUp) => Err(failure_of(&ended.ends)),
-        Ok(()) => match hub.state(rt, ended.participants.follower.informer.seen()) {
-            HubState::Broken => Err(failure_of(&ended.ends)),
+        Err(Halt::GivenUp) => Err(failure_of(&results.workers)),
+        Ok(()) => match hub.state(rt, results.participants.follower.informer.seen()) {
+            HubState::Broken => Err(failure_of(&results.workers)),
             _ => Ok(()),
         },
     }
@@ -172,27 +172,25 @@ fn report(alloc: Global, hub: Heap<Hub>, passes: Vec<Pass>) -> Result<String, Fa
     Ok(text)
 }
 
-// The threads of a run on the hub.
-fn ended<R: Threads + Wait + Sync>(
+// Enrolls all who call in a run, and runs their threads on the hub.
+fn run_on_hub<R: Threads + Wait + Sync>(
     rt: &R,
     alloc: Global,
     hub: &Hub,
     simulation: &Simulation,
     workers: u64,
-) -> Result<Heap<Ended>, Refusal>
-    ensures { IfOk result (λ s. OnOk s.driven (HasDone simulation.now s.participants.user)) }
+) -> Result<Heap<ThreadResults>, Refusal>
+    ensures { IfOk result (λ r. OnOk r.instants (HasDone simulation.now r.participants.user)) }
 {
     let passes = enroll(rt, alloc, hub, Role::Worker, workers)?;
     let participants = new_participants(rt, alloc, hub)?;
     let clock = RunClock::new(simulation.span);
-    Heap::new(
-        alloc,
-        run_threads(rt, alloc, hub, &clock, simulation, participants, passes),
-    )
+    let results = run_threads(rt, alloc, hub, &clock, simulation, participants, passes)?;
+    Heap::new(alloc, results)
 }
 
 // What a run on the hub leaves: all its passes, the user's last.
-fn driven_passes<R: Threads + Wait + Sync>(
+fn passes_left<R: Threads + Wait + Sync>(
     rt: &R,
     alloc: Global,
     hub: &Hub,
@@ -201,14 +199,14 @@ fn driven_passes<R: Threads + Wait + Sync>(
 ) -> Result<Vec<Pass>, Failure>
     ensures { IfOk result (λ ps. AreDone simulation.now ps.items) }
 {
-    let ended = ended(rt, alloc, hub, simulation, workers)?;
-    check_end(rt, hub, ended.get())?;
-    let Ended {
+    let results = run_on_hub(rt, alloc, hub, simulation, workers)?;
+    check_results(rt, hub, results.get())?;
+    let ThreadResults {
         participants,
-        ends,
+        workers,
         ..
-    } = ended.into_inner();
-    passes_of(alloc, participants, ends?)
+    } = results.into_inner();
+    passes_of(alloc, participants, workers?)
 }
 
 /// Runs a scenario on an empty world with so many workers, and gives the report of the end: a line for each
@@ -229,6 +227,6 @@ pub fn run_simulation<R: Threads + Wait + Sync>(
 {
     let limits = Limits::new(16_777_216, 1_000).unwrap();
     let hub = Heap::new(alloc, Hub::new(alloc, limits)?)?;
-    let passes = driven_passes(rt, alloc, hub.get(), simulation, workers)?;
+    let passes = passes_left(rt, alloc, hub.get(), simulation, workers)?;
     report(alloc, hub, passes)
 }
