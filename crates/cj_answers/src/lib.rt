@@ -12,7 +12,7 @@ mod given;
 mod json;
 mod lines;
 mod next;
-mod next_text;
+mod next_lines;
 mod plan;
 mod why;
 
@@ -21,5 +21,6 @@ pub use audit::audit_answer;
 pub use check::check_answer;
 pub use given::{given_for, refused_pair};
 pub use next::next_answer;
+pub use next_lines::next_text;
 pub use plan::{asked_detection, plan_answer, refused_scene};
 pub use why::{MOST_LIST_BYTES, MOST_LIST_READS, why_answer};

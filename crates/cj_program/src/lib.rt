@@ -7,7 +7,7 @@ mod serving;
 mod told;
 mod writing;
 
-pub use cj_answers::{MOST_LIST_BYTES, MOST_LIST_READS};
+pub use cj_answers::{MOST_LIST_BYTES, MOST_LIST_READS, next_text};
 pub use cj_args::{
     AuditRequest, CheckRequest, NextRequest, PlanRequest, ReplayRequest, Request, RunRequest,
     WhyRequest, WordFault, ZoneWords, parse_words,
