@@ -1,4 +1,9 @@
 //! What the commands answer that look at a text: schedules, manifests, scenarios, clusters.
+//!
+//! Here belongs what is printed and said for one request, as a function of the request and of what was read.
+//! Reading, writing and the commands that run a world belong to the crate above, which rests on the one clause
+//! of each `.._answer`: the answer is that of the rules for these words and this text. `next_text` is public for
+//! those who have a schedule and a zone, and no words.
 #![tactic(auto)]
 
 mod advice;

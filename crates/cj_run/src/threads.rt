@@ -65,7 +65,7 @@ fn run_instants<R: Threads + Wait + Sync>(
     }
 }
 
-// Runs the workers to their ends, and hands over what came of them. There is room for it, so nothing waits here.
+// Runs the workers to their ends, and hands over what came of them, for which the channel has room.
 fn run_and_send<R: Threads + Wait + Sync>(
     rt: &R,
     alloc: Global,
