@@ -1,5 +1,5 @@
 -- A clock goes by what `jiff` makes of its zone's source.
-use Rattle.std.proofs.Common.{◌≡◌, ℕ, zero, suc, ◌+◌, ◌-◌, ◌≤◌, ◌==◌, ℤ, pos, ◌*ℤ◌, int_le, Bool, true, false, if◌then◌else◌, refl, sym, ap, ◌∙◌, arith, List, [], ◌∷◌, length, map, get_or, vec_len, Option, None, Some, IsNone, option_map}
+use Rattle.std.proofs.Common.{◌≡◌, ℕ, zero, suc, ◌+◌, ◌-◌, ◌≤◌, ◌==◌, ℤ, pos, ◌*ℤ◌, int_le, Bool, true, false, if◌then◌else◌, refl, ap, ◌∙◌, arith, List, [], ◌∷◌, length, map, get_or, vec_len, Option, None, Some, IsNone, option_map}
 use Rattle.std.specs.List.{prefix_len}
 use Rattle.std.proofs.lemmas.List.{get_or-map, length-map}
 use Rattle.std.proofs.lemmas.List.Sums.{prefix_len-le-length}
@@ -138,14 +138,11 @@ source_offset-clock (File bytes) (Own.Posix rule) t h = absurd h
 source_offset-clock (File bytes) (Own.Table table) t h = rw h.0 (file_offset-view table (pos t *ℤ pos 1_000_000_000))
 
 -- The offset of a zone, by what it was made of, is that of its clock.
-pub zone_offset-clock : (zone : NamedSource) (name : List ℕ) (source : Source) (rules : Rules) (t : ℕ)
-    → record { name = name; source = source } ≡ zone → IsClockOf source rules
+pub zone_offset-clock : (zone : NamedSource) (rules : Rules) (t : ℕ) → IsClockOf zone.source rules
     → zone_offset zone t ≡ rules_offset rules t
-zone_offset-clock zone name source rules t e h = ap (λ z. zone_offset z t) (sym e)
-    ∙ source_offset-clock source rules t h
+zone_offset-clock zone rules t h = source_offset-clock zone.source rules t h
 
 -- The offset of a zone is in range at each instant.
-pub zone_offset-range : (zone : NamedSource) (name : List ℕ) (source : Source) (rules : Rules) (t : ℕ)
-    → record { name = name; source = source } ≡ zone → IsClockOf source rules → IsOffsetSeconds (zone_offset zone t)
-zone_offset-range zone name source rules t e h = rw (zone_offset-clock zone name source rules t e h)
-    (rules_offset-range rules t)
+pub zone_offset-range : (zone : NamedSource) (rules : Rules) (t : ℕ) → IsClockOf zone.source rules
+    → IsOffsetSeconds (zone_offset zone t)
+zone_offset-range zone rules t h = rw (zone_offset-clock zone rules t h) (rules_offset-range rules t)
