@@ -1,4 +1,5 @@
-//! Scripts: what callers of given roles do one after the other, as a JSON text says it.
+//! Scripts: what callers of given roles do one after the other, as a JSON text says it; what one step does
+//! (`operations`); and the scenario of a run of the whole controller (`simulation`).
 #![tactic(auto)]
 
 mod callers;
