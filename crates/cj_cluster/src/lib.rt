@@ -1,4 +1,5 @@
-//! What a cluster holds: its CronJobs and its Jobs, as its server says them.
+//! What a cluster holds: its CronJobs and its Jobs, as its server says them; and how what `kubectl` prints of them is
+//! read (`kubectl`).
 #![tactic(auto)]
 
 mod cluster;

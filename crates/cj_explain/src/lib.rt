@@ -1,4 +1,5 @@
-//! What people are told of a refusal beside its fixed line: which field, where, what stands there and what is wanted.
+//! What people are told of a refusal beside its fixed line: which field, where, what stands there and what is wanted;
+//! and which member of a text is missing or wrong (`members`).
 #![tactic(auto)]
 
 mod element;

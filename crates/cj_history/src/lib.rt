@@ -1,6 +1,7 @@
 //! Histories by looking back alone: what makes one legal, that a call has one answer, that a key is in one
 //! worker's hands at a time, that no time gets two Jobs, that a Job under Forbid or Replace is made alone,
-//! and that a claim is of the greatest time missed. No state stands in these words.
+//! and that a claim is of the greatest time missed. No state stands in these words. What was written is looked up in
+//! `store`, what is queued in `queue`; and what is written of a created object reads back (`manifests`).
 #![tactic(auto)]
 
 mod laws;

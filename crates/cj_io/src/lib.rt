@@ -1,4 +1,5 @@
-//! What the program reads and writes, and what it says where that fails.
+//! What the program reads and writes, and what it says where that fails; and the zones that words and folders give
+//! (`zone_files`).
 #![tactic(auto)]
 
 mod failure;

@@ -28,7 +28,7 @@ row_code =
     (λ r. (r.line, (r.dirty, r.processing))) (λ p. record { line = p.0; dirty = (p.1).0; processing = (p.1).1 }) (λ _. refl)
 
 -- an add (Add): the key is dirty, and goes last in the line unless it was dirty or is being worked on
--- rule: queue-add
+-- rules: queue-add, add-while-held
 abbrev pub row_add : Row → Place → Row
 row_add r k =
     if has r.dirty k then r
@@ -49,7 +49,7 @@ abbrev pub row_take : Row → Row
 row_take r = take_in r r.line
 
 -- the end of the work on a key (Done), which goes last in the line where it is dirty
--- rule: queue-done
+-- rules: queue-done, add-while-held
 abbrev pub row_end : Row → Place → Row
 row_end r k = record { line = if has r.dirty k then r.line ++ k ∷ [] else r.line; dirty = r.dirty; processing = remove r.processing k }
 

@@ -1,4 +1,5 @@
-//! Scenarios: a CronJob with its Jobs and zones, as a JSON text says them.
+//! Scenarios: a CronJob with its Jobs and zones, as a JSON text says them; and what a text is where another is wanted,
+//! with the members that nobody reads (`detection`).
 #![tactic(auto)]
 
 mod detection;

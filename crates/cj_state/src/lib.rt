@@ -1,4 +1,5 @@
-//! What a world holds, what one call answers and leaves of it, and the steps that many calls share.
+//! What a world holds, what one call answers and leaves of it, and the steps that many calls share; and how far each
+//! worker's sync has come (`phases`).
 #![tactic(auto)]
 
 mod phases;

@@ -9,7 +9,7 @@ use Rattle.cj_types.specs.declared.meta.DraftMeta.{DraftMeta}
 use Rattle.cj_store.specs.Content.{Content}
 
 -- of a new object: a uid that no object had, the version of this write, generation 1
--- rule: create
+-- rules: create, uid-never-returns
 abbrev pub new_meta : Content → DraftMeta → ℕ → Meta
 new_meta s draft now = record {
   uid = s.uids + 1;

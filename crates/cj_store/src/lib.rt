@@ -1,5 +1,6 @@
 //! The versioned store of CronJobs and Jobs: one count of versions over all objects, conditional updates, uids that
-//! never return, ends that are final (Kubernetes API conventions, "Concurrency Control and Consistency").
+//! never return, ends that are final (Kubernetes API conventions, "Concurrency Control and Consistency"); and what
+//! its contents, events and answers keep, whatever is planned and committed (`store_laws`).
 #![tactic(auto)]
 
 mod change;

@@ -1,5 +1,5 @@
 //! Tests of the store: a worked row of calls, two thousand Jobs, ten thousand calls beside a plain list,
-//! and plans that are made in turn.
+//! and plans that are made in turn; of the watch window and the mirror (`watch`), and of the work queue (`queue`).
 #![tactic(auto)]
 
 #[cfg(test)]

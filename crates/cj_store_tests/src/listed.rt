@@ -99,6 +99,7 @@ fn are_listed(alloc: Global) -> Result<bool, Refusal> {
     Ok(made && lists_all(&store, alloc, 25))
 }
 
+// rule: jobs-of
 #[test]
 fn lists_the_jobs_of_each(rt: HostRuntime) {
     let listed = are_listed(rt.alloc()).unwrap_or(false);

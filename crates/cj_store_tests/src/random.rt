@@ -144,6 +144,8 @@ fn wrong(alloc: Global) -> Result<Option<usize>, Refusal> {
     Ok(first_wrong(&mut store, alloc, &mut model))
 }
 
+// rules: store-objects, versions, create, owned-create, update, status-update, deletion, job-end
+// rules: lists, jobs-of, planned-change, uid-never-returns, table, refusals
 #[test]
 fn agrees_with_a_plain_list(rt: HostRuntime) {
     none_wrong(&rt, wrong(rt.alloc()));

@@ -72,6 +72,7 @@ pub fn none_wrong<R: Abort>(rt: &R, wrong: Result<Option<usize>, Refusal>) {
     assert_eq!(*rt; wrong.unwrap_or(Some(99_999)), None);
 }
 
+// rules: versions, create, update, deletion, uid-never-returns
 #[test]
 fn answers_a_row_of_calls(rt: HostRuntime) {
     none_wrong(&rt, first_wrong(rt.alloc(), &rows()));

@@ -1,4 +1,5 @@
-//! A map by key, listed in the order of keys, which contracts see as a finite map, and the laws of such maps.
+//! A map by key, listed in the order of keys, which contracts see as a finite map, and the laws of such maps; and
+//! Jobs by key with an index by owner (`jobs`).
 #![tactic(auto)]
 
 mod in_order;

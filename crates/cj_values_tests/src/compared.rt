@@ -26,11 +26,13 @@ impl Sample for Event {
     }
 }
 
+// rule: copies
 #[test]
 fn tells_events(rt: HostRuntime) {
     none_wrong(&rt, first_untold::<Event>(rt.alloc(), 68));
 }
 
+// rule: copies
 #[test]
 fn tells_drafts(rt: HostRuntime) {
     none_wrong(&rt, first_untold::<CronJobDraft>(rt.alloc(), 9));
@@ -99,6 +101,7 @@ impl Sample for Refusal {
     }
 }
 
+// rule: copies
 #[test]
 fn tells_reasons_and_refusals(rt: HostRuntime) {
     none_wrong(&rt, first_untold::<Reasons>(rt.alloc(), 5));

@@ -71,6 +71,7 @@ impl Row for OfJob {
     }
 }
 
+// rules: controller, unfinished
 #[test]
 fn finds_the_cron_job_and_the_end_of_a_job(rt: HostRuntime) {
     none_wrong(&rt, first_wrong(rt.alloc(), &OF_JOBS));
@@ -109,6 +110,7 @@ impl Row for Given {
     }
 }
 
+// rule: update
 #[test]
 fn tells_current_objects(rt: HostRuntime) {
     none_wrong(&rt, first_wrong(rt.alloc(), &GIVEN));

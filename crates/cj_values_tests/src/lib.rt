@@ -1,5 +1,6 @@
 //! Tests of the stored types: the texts of uids, versions and Jobs' names, the Job that a CronJob makes, that
-//! copies and comparisons see each field, and the order of keys.
+//! copies and comparisons see each field, and the order of keys; of instants, zones and due times (`times`), and of
+//! manifests (`manifests`).
 #![tactic(auto)]
 
 #[cfg(test)]

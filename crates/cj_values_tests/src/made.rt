@@ -39,6 +39,7 @@ impl Row for Named {
     }
 }
 
+// rule: made-job
 #[test]
 fn names_jobs_by_minutes(rt: HostRuntime) {
     none_wrong(&rt, first_wrong(rt.alloc(), &NAMED));
@@ -100,6 +101,7 @@ impl Row for Made {
     }
 }
 
+// rule: made-job
 #[test]
 fn makes_the_job_of_a_time(rt: HostRuntime) {
     none_wrong(&rt, first_wrong(rt.alloc(), &MADE));

@@ -55,6 +55,7 @@ impl Row for Printed {
     }
 }
 
+// rules: uid-text, version-text
 #[test]
 fn prints_uids_and_versions(rt: HostRuntime) {
     none_wrong(&rt, first_wrong(rt.alloc(), &PRINTED));
@@ -110,6 +111,7 @@ impl Row for Held {
     }
 }
 
+// rules: limits-by-type, watch-window
 #[test]
 fn limits_keep_their_range(rt: HostRuntime) {
     none_wrong(&rt, first_wrong(rt.alloc(), &HELD));
@@ -122,6 +124,7 @@ fn are_the_same() -> bool {
     deadline && limit && uid
 }
 
+// rule: limits-by-type
 #[test]
 fn numbers_are_made_in_two_ways(rt: HostRuntime) {
     let same = are_the_same();

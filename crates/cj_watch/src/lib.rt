@@ -1,4 +1,5 @@
-//! The latest writes as events, and which of them came after a version.
+//! The latest writes as events, and which of them came after a version; and the Jobs as a listing that is fed with such
+//! events, and lags, has them (`mirror`).
 #![tactic(auto)]
 
 mod laws;

@@ -1,4 +1,5 @@
-//! Why a CronJob starts a Job at a moment, or why not, in words for people.
+//! Why a CronJob starts a Job at a moment, or why not, in words for people; and what each CronJob of a cluster missed,
+//! with the plan of its next sync (`reviews`).
 #![tactic(auto)]
 
 mod missed;

@@ -1,5 +1,6 @@
 //! The world: what is stored, told, listed and queued, who works on what, and the history of calls that led to it.
-//! Whatever is called by whomever, its type keeps what the history promises.
+//! Whatever is called by whomever, its type keeps what the history promises. The calls of users, runners and informers
+//! stand in `api`, those of workers in `worker`.
 #![tactic(auto)]
 
 mod advance;

@@ -1,4 +1,6 @@
-//! Laws over every list of calls.
+//! Laws over every list of calls: each state is sound and a key is in one worker's hands at a time (`legal`); no time
+//! gets two Jobs, a Job under Forbid or Replace is made alone, and a claim is of the greatest time missed (`once`).
+//! docs/THEOREM.md goes through the proof.
 #![tactic(auto)]
 
 mod legal;

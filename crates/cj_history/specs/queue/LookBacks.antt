@@ -120,7 +120,7 @@ abbrev pub dirty : List Operation → Place → Bool
 dirty [] k = false
 dirty (a ∷ h) k = is_add h a k || (not (is_take a.deed k) && dirty h k)
 
--- rule: queued-history
+-- rules: queued-history, add-while-held
 abbrev pub queued : List Operation → Place → Bool
 queued h k = dirty h k && not (held h k)
 

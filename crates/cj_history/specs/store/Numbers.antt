@@ -19,7 +19,7 @@ abbrev pub NumbersLaw : Type 0
 NumbersLaw = (h : List Told) → IsNumbered 0 (reverse (writes h))
 
 -- of two objects that were created the later has the greater uid: no uid is given again, whatever was deleted
--- rule: written-history
+-- rules: written-history, uid-never-returns
 abbrev pub UidLaw : Type 0
 UidLaw = (h : List Told) (after between before : List Event) (second first : Object)
     → writes h ≡ after ++ Added second ∷ (between ++ Added first ∷ before) → uid_of first < uid_of second

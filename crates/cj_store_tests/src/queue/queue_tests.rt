@@ -109,6 +109,7 @@ fn first_wrong(alloc: Global) -> Result<&'static str, Refusal> {
     Ok("")
 }
 
+// rules: queue-add, queue-take, queue-done, add-while-held, queue-shut, queue-delay, queue-retry
 #[test]
 fn gives_the_keys_of_rows_of_calls(rt: HostRuntime) {
     let wrong = first_wrong(rt.alloc()).unwrap_or("no memory");
@@ -151,6 +152,7 @@ fn other_delay(alloc: Global) -> Result<Option<u64>, Refusal> {
     first_other(&mut queue, &key)
 }
 
+// rule: queue-retry
 #[test]
 fn delays_retries(rt: HostRuntime) {
     let other = other_delay(rt.alloc()).unwrap_or(Some(9_999));
@@ -205,6 +207,7 @@ fn ticks_in_order(alloc: Global) -> Result<bool, Refusal> {
     gives_all(&mut queue, alloc)
 }
 
+// rule: queue-tick
 #[test]
 fn ticks_by_time_and_then_by_key(rt: HostRuntime) {
     let is_right = ticks_in_order(rt.alloc()).unwrap_or(false);

@@ -116,6 +116,8 @@ fn wrong(alloc: Global) -> Result<Option<(u64, u64)>, Refusal> {
     Ok(None)
 }
 
+// rules: queue-add, queue-take, queue-done, add-while-held, queue-line, queue-shut, queue-delay
+// rules: queue-tick, queue-retry
 #[test]
 fn agrees_with_plain_lists(rt: HostRuntime) {
     let wrong = wrong(rt.alloc()).unwrap_or(Some((99, 0)));

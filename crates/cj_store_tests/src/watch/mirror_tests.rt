@@ -153,6 +153,7 @@ fn wrong(alloc: Global) -> Result<Option<u64>, Refusal> {
     first_wrong(alloc, &mut log, &mut mirror, &mut stood, &owner)
 }
 
+// rule: mirror
 #[test]
 fn lags_behind_two_thousand_writes(rt: HostRuntime) {
     let wrong = wrong(rt.alloc()).unwrap_or(Some(9_999));

@@ -113,6 +113,7 @@ fn first_wrong(alloc: Global) -> Result<Option<usize>, Refusal> {
     Ok(None)
 }
 
+// rule: watch-window
 #[test]
 fn tells_what_came_after_a_version(rt: HostRuntime) {
     let wrong = first_wrong(rt.alloc()).unwrap_or(Some(99));
@@ -127,6 +128,7 @@ fn window(events: u32) -> u32 {
     }
 }
 
+// rule: watch-window
 #[test]
 fn a_window_has_1_to_100000_events(rt: HostRuntime) {
     let windows = [window(0), window(1), window(100_000), window(100_001)];
@@ -209,6 +211,7 @@ fn first_write(alloc: Global) -> Result<Option<u64>, Refusal> {
     Ok(None)
 }
 
+// rule: watch-window
 #[test]
 fn agrees_with_a_list_of_all_writes(rt: HostRuntime) {
     let wrong = first_write(rt.alloc()).unwrap_or(Some(9_999));

@@ -49,6 +49,7 @@ fn other_job(alloc: Global) -> Result<Option<&'static str>, Refusal> {
 }
 
 // A command reads a manifest by its kind; each of the two readers refuses the other's.
+// rules: manifest-json, all-faults
 #[test]
 fn refuses_the_other_kind(rt: HostRuntime) -> Result<(), Fail> {
     let crons = matches!(other_cron(rt.alloc()), Ok(None));
@@ -101,6 +102,7 @@ fn other_said(alloc: Global) -> Result<Option<&'static str>, Refusal> {
     Ok(None)
 }
 
+// rules: drafts, kept-below
 #[test]
 fn reads_what_is_said(rt: HostRuntime) -> Result<(), Fail> {
     assert!(rt; matches!(other_said(rt.alloc()), Ok(None)));

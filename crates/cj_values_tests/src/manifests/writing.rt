@@ -219,6 +219,7 @@ fn first_written(alloc: Global) -> Option<&'static str> {
     None
 }
 
+// rule: written
 #[test]
 fn refuses_what_was_not_kept(rt: HostRuntime) -> Result<(), Fail> {
     assert_eq!(rt; first_written(rt.alloc()), None);

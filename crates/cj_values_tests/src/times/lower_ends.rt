@@ -15,6 +15,7 @@ fn are_right() -> Option<bool> {
     Some(none && some)
 }
 
+// rules: window, deadline-zero
 #[test]
 fn lower_end_is_below_now_or_none(rt: HostRuntime) {
     assert!(rt; are_right() == Some(true));

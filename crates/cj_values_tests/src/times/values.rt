@@ -25,11 +25,13 @@ fn text_is_copied(alloc: Global) -> Result<bool, Refusal> {
     }
 }
 
+// rule: copies
 #[test]
 fn texts_are_copied(rt: HostRuntime) {
     assert!(rt; text_is_copied(rt.alloc()).unwrap_or(false));
 }
 
+// rule: copies
 #[test]
 fn faults_are_kept_in_order(rt: HostRuntime) -> Result<(), Fail> {
     let name = FieldFault {
@@ -54,11 +56,13 @@ fn refusal_is_copied(alloc: Global) -> Result<bool, Refusal> {
     Ok(copy.same(&conflict) && !copy.same(&Refusal::Expired(Version::new(6))))
 }
 
+// rule: copies
 #[test]
 fn refusals_are_copied(rt: HostRuntime) {
     assert!(rt; refusal_is_copied(rt.alloc()).unwrap_or(false));
 }
 
+// rule: printed-words
 #[test]
 fn names_are_printed(rt: HostRuntime) {
     let field = Field::TimeZone.path() == "spec.timeZone";

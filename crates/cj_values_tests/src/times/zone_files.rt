@@ -104,7 +104,7 @@ fn right_lines(alloc: Global) -> Result<u32, Refusal> {
     Ok(count)
 }
 
-// rule: zone-made-by-jiff
+// rules: zone-made-by-jiff, due, gap-and-fold, next-time
 #[test]
 fn due_times_under_zone_files(rt: HostRuntime) {
     assert_eq!(rt; right_lines(rt.alloc()).unwrap_or(0), 25);

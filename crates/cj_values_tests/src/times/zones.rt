@@ -61,7 +61,7 @@ fn keeps_rules_and_names(alloc: Global) -> Result<bool, Refusal> {
     Ok(is_refused && is_local(alloc, &table, "Europe/Berlin")?)
 }
 
-// rule: zone-table
+// rules: zone-table, zone-refused, zone-value
 #[test]
 fn rules_and_names(rt: HostRuntime) {
     assert!(rt; keeps_rules_and_names(rt.alloc()).unwrap_or(false));
@@ -91,6 +91,7 @@ fn kathmandu_shows_all(alloc: Global) -> Result<bool, Refusal> {
     Ok(shows_all(table.default_zone()))
 }
 
+// rules: zone-made-by-jiff, civil-time
 #[test]
 fn times_of_a_file(rt: HostRuntime) {
     assert!(rt; kathmandu_shows_all(rt.alloc()).unwrap_or(false));

@@ -50,7 +50,7 @@ fn closing(rt: &(impl Threads + Wait + Abort + Sync), alloc: Global) -> (&'stati
 // A pass of another hub is answered Estranged. With it beside the four right ones the hub isn't closed, for
 // the same reason, and book and passes come back with all receipts: the book closes without it, with all that
 // was entered.
-// rules: hub-call, closing
+// rules: hub-call, closing, passes
 #[test]
 fn a_pass_of_another_hub(rt: HostRuntime) {
     let told = closing(&rt, rt.alloc());

@@ -19,7 +19,7 @@ fn closing(rt: &(impl Threads + Wait + Abort + Sync), alloc: Global) -> (bool, C
 
 // Four users on threads create 100 CronJobs each and read each back, the same at a later place: every pass
 // counts 200 receipts, the hub closes with 800 entries, and all 800 receipts stand in its history.
-// rules: receipts, closing
+// rules: receipts, closing, passes
 #[test]
 fn four_users_on_threads(rt: HostRuntime) {
     let told = closing(&rt, rt.alloc());

@@ -60,7 +60,7 @@ fn told(rt: &(impl Wait + Abort), alloc: Global) -> Told {
 
 // A key is added three times, and the queue's clock moves on, while a worker holds it: the worker takes it
 // once more after its Finish, and then finds nothing.
-// rules: queue-done, queue-line
+// rules: queue-done, queue-line, add-while-held
 #[test]
 fn added_while_it_is_held(rt: HostRuntime) {
     let told = told(&rt, rt.alloc());

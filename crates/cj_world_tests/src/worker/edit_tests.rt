@@ -47,7 +47,7 @@ const ROWS: [Row; 5] = [DONE, RETRIED, RETRIED, DONE, DONE];
 // A user edits the CronJob at one of the five points of a sync. At Taken, which is before the CronJob is
 // seen, and at Claimed and Made, which are after the claim, the sync is done; at Seen and Listed its claim is
 // refused, and the next sync makes the Job. Each time the minute's Job is made just once.
-// rules: sync-calls, sync-ends
+// rules: sync-calls, sync-ends, sync-inputs
 #[test]
 fn edited_at_each_point(rt: HostRuntime) {
     let alloc = rt.alloc();

@@ -132,6 +132,7 @@ fn ten_thousand_calls(rt: HostRuntime) {
     assert_eq!(rt; wrong, "");
 }
 
+// rules: exclusive, once, alone, claim-time
 #[test]
 fn ten_thousand_calls_with_a_window_of_two(rt: HostRuntime) {
     let wrong = wrong_in(rt.alloc(), 7, 2).unwrap_or("no memory");

@@ -159,7 +159,7 @@ fn wrong(alloc: Global) -> Result<Option<usize>, Refusal> {
     wrong_in(alloc, &script)
 }
 
-// rule: phases
+// rules: phases, entered, refusals
 #[test]
 fn refuses_in_each_way(rt: HostRuntime) {
     let wrong = wrong(rt.alloc()).unwrap_or(Some(0));
