@@ -13,7 +13,7 @@ use Rattle.cj_status.specs.Picked.{picked}
 use Rattle.cj_status.specs.Success.{success_of}
 use Rattle.cj_status.specs.Surplus.{surplus_of}
 use Rattle.cj_decide.specs.declared.start.Claim.{Claim}
-use Rattle.cj_decide.specs.declared.verdict.Verdict.{Verdict}
+use Rattle.cj_decide.specs.declared.start_decision.StartDecision.{StartDecision}
 
 -- names with that of the Job that is made, if one is
 abbrev pub with_made : CronJob → Option ℕ → List (List ℕ) → List (List ℕ)
@@ -21,9 +21,9 @@ with_made cron None names = names
 with_made cron (Some time) names = names_with (made_name cron.key.name time) names
 
 -- the names of which the live read found the Job unfinished, where it isn't dropped, and that of the Job that is made
-abbrev pub active_after : CronJob → List (Option Job) → Verdict → List (List ℕ)
+abbrev pub active_after : CronJob → List (Option Job) → StartDecision → List (List ℕ)
 active_after cron found v =
-    with_made cron v.start (if v.replaces then [] else still_active (uid_text cron.meta.uid) cron.status.active found)
+    with_made cron v.time (if v.replaces then [] else still_active (uid_text cron.meta.uid) cron.status.active found)
 
 -- the status that stands after the claim, if there is one
 abbrev pub standing : CronJob → Option Claim → CronStatus
@@ -32,7 +32,7 @@ standing cron (Some claim) = claim.status
 
 -- the status at the end
 -- rule: final-status
-abbrev pub final : CronJob → List Job → List (Option Job) → Verdict → Option Claim → CronStatus
+abbrev pub final : CronJob → List Job → List (Option Job) → StartDecision → Option Claim → CronStatus
 final cron jobs found v claim = record {
   active = active_after cron found v;
   last_schedule_time = (standing cron claim).last_schedule_time;

@@ -5,7 +5,7 @@ ghost use Rattle.cj_types.specs.Uids.{uid_text};
 ghost use Rattle.cj_decide.specs.Finally.{with_made, active_after, standing, final, IsStatusStep, cleanup_of};
 
 use crate::start::Claim;
-use crate::verdict::Verdict;
+use crate::start_decision::StartDecision;
 use cj_status::{JobRefs, Pick, Sorting, last_success, names_with, picked, still_active, surplus};
 use cj_types::{CronJob, CronStatus, Job, Names, Refusal, Same, Seconds, Shared};
 use std::alloc::Global;
@@ -34,18 +34,18 @@ fn active_after(
     cron: &CronJob,
     uid: &str,
     found: &[Option<Shared<Job>>],
-    verdict: Verdict,
+    start: StartDecision,
 ) -> Result<Names, Refusal>
     requires uid { uid.now ≡ uid_text cron.now.meta.uid }
-    ensures ok { IfOk result (λ n. n ≡ active_after cron.now found.now verdict) }
+    ensures ok { IfOk result (λ n. n ≡ active_after cron.now found.now start) }
     ensures err { IfErr result (λ e. e ≡ OutOfMemory) }
 {
-    let others = if verdict.replaces {
+    let others = if start.replaces {
         Names::new(alloc)
     } else {
         still_active(alloc, uid, &cron.status.active, found)?
     };
-    with_made(alloc, cron, verdict.start, others)
+    with_made(alloc, cron, start.time, others)
 }
 
 // The status that stands before the end.
@@ -72,16 +72,16 @@ pub(crate) fn final_step(
     uid: &str,
     jobs: &[Shared<Job>],
     found: &[Option<Shared<Job>>],
-    verdict: Verdict,
+    start: StartDecision,
     claim: &Option<Claim>,
 ) -> Result<Option<CronStatus>, Refusal>
     requires uid { uid.now ≡ uid_text cron.now.meta.uid }
     ensures ok { IfOk result (λ s. IsStatusStep (standing cron.now claim.now)
-        (final cron.now jobs.now found.now verdict claim.now) s) }
+        (final cron.now jobs.now found.now start claim.now) s) }
     ensures err { IfErr result (λ e. e ≡ OutOfMemory) }
 {
     let old = standing(cron, claim);
-    let active = active_after(alloc, cron, uid, found, verdict)?;
+    let active = active_after(alloc, cron, uid, found, start)?;
     let new = CronStatus {
         active,
         last_schedule_time: old.last_schedule_time,

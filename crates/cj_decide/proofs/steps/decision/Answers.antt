@@ -1,4 +1,4 @@
--- decision: its clause ok, that the steps are those of the one verdict.
+-- decision: its clause ok, that the steps are those of the one start decision.
 use Rattle.std.proofs.Common.{◌≡◌, ◌∙◌, ap, subst, ℕ, Bool, List, Option}
 use Rattle.std.specs.Option.{option_copied}
 use Rattle.std.proofs.lemmas.Result.{IfOk-weaker}
@@ -10,7 +10,7 @@ use Rattle.cj_status.specs.Mine.{present}
 use Rattle.cj_status.specs.Picked.{running}
 use Rattle.cj_status.specs.Refs.{has_any}
 use Rattle.cj_decide.specs.Decision.{running_of}
-use Rattle.cj_decide.specs.Verdicts.{IsVerdict}
+use Rattle.cj_decide.specs.StartDecisions.{IsStartDecision}
 use Rattle.cj_decide.proofs.steps.decision.Goals as goal
 
 -- What is told of whether there are running Jobs is whether a Job of the CronJob runs.
@@ -25,9 +25,9 @@ returns-clause-ok c =
     (c.as_str.ensures ∙ c.in_ok-uid.ensures.ok) c.in_ok-running.ensures.ok c.has_any.ensures in
     IfOk-weaker c.steps_of.result _ _
     (λ s h. record {
-      verdict = c.judge-verdict.result;
-      judged = subst (λ b. IsVerdict c.args.cron.now (option_copied c.args.zone) b c.args.now c.judge-verdict.result)
-          any c.judge-verdict.ensures;
+      start = c.decide_start-start.result;
+      decided = subst (λ b. IsStartDecision c.args.cron.now (option_copied c.args.zone) b c.args.now c.decide_start-start.result)
+          any c.decide_start-start.ensures;
       meant = h;
     })
     c.steps_of.ensures.ok
