@@ -8,11 +8,10 @@ use Rattle.cj_types.specs.declared.policy.Reason.{Reason}
 use Rattle.cj_types.specs.declared.policy.Reason.TheVariants.{TooManyMissedTimes}
 use Rattle.cj_types.specs.Uids.{uid_text}
 use Rattle.cj_zone.specs.declared.zone.Zone.{Zone}
-use Rattle.cj_status.specs.declared.listing.Pick.TheVariants as Meant
 use Rattle.cj_status.specs.declared.order.Sorting.TheVariants.{ByName}
 use Rattle.cj_status.specs.declared.refs.JobRef.{JobRef}
 use Rattle.cj_status.specs.Mine.{present}
-use Rattle.cj_status.specs.Picked.{picked, running}
+use Rattle.cj_status.specs.Picked.{listed, running}
 use Rattle.cj_status.specs.Refs.{has_any}
 use Rattle.cj_decide.specs.declared.start.Claim.{Claim}
 use Rattle.cj_decide.specs.declared.steps.Steps.{Steps}
@@ -62,7 +61,7 @@ clearing jobs = record {
   claim = None;
   drop_first = [];
   make = None;
-  cleanup = picked Meant.Listed ByName [] jobs;
+  cleanup = listed ByName jobs;
   status = None;
   reasons = [];
   next = None;

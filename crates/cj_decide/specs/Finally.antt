@@ -1,10 +1,12 @@
 -- What is done after the start: batch/v1, `CronJobStatus`, and the history limits of `CronJobSpec`.
 use Rattle.std.specs.Prelude.{◌≡◌, ◌≢◌, ℕ, List, [], ◌++◌, Option, None, Some, if◌then◌else◌}
 use Rattle.cj_types.specs.declared.cron.CronJob.{CronJob}
+use Rattle.cj_types.specs.declared.cron.CronSpec.{CronSpec}
 use Rattle.cj_types.specs.declared.cron.CronStatus.{CronStatus}
 use Rattle.cj_types.specs.declared.job.Job.{Job}
 use Rattle.cj_types.specs.Made.{made_name}
 use Rattle.cj_types.specs.Uids.{uid_text}
+use Rattle.cj_status.specs.declared.history.HistoryLimits.{HistoryLimits}
 use Rattle.cj_status.specs.declared.listing.Pick.TheVariants as Meant
 use Rattle.cj_status.specs.declared.order.Sorting.TheVariants.{ByName}
 use Rattle.cj_status.specs.declared.refs.JobRef.{JobRef}
@@ -45,9 +47,13 @@ abbrev pub IsStatusStep : CronStatus → CronStatus → Option CronStatus → Ty
 IsStatusStep old new None = new ≡ old
 IsStatusStep old new (Some status) = (status ≡ new) × (new ≢ old)
 
+-- how many finished Jobs of each outcome are kept
+abbrev pub limits_of : CronSpec → HistoryLimits
+limits_of spec = record { successful = spec.successful_limit; failed = spec.failed_limit }
+
 -- the listed Jobs of another uid by name, then the CronJob's own that are no longer kept
 -- rule: cleanup
 abbrev pub cleanup_of : CronJob → List Job → List JobRef
 cleanup_of cron jobs =
     picked Meant.Foreign ByName (uid_text cron.meta.uid) jobs
-    ++ surplus_of cron.spec.successful_limit cron.spec.failed_limit (uid_text cron.meta.uid) jobs
+    ++ surplus_of (limits_of cron.spec) (uid_text cron.meta.uid) jobs
