@@ -7,9 +7,9 @@ use Rattle.cj_types.specs.declared.job.Job.{Job}
 use Rattle.cj_zone.specs.declared.zone.Zone.{Zone}
 use Rattle.cj_status.specs.Refs.{has_any}
 use Rattle.cj_decide.specs.declared.steps.Steps.{Steps}
-use Rattle.cj_decide.specs.declared.verdict.Verdict.{Verdict}
+use Rattle.cj_decide.specs.declared.start_decision.StartDecision.{StartDecision}
 use Rattle.cj_decide.specs.Finally.{standing, final, IsStatusStep}
-use Rattle.cj_decide.specs.Verdicts.{IsVerdict}
+use Rattle.cj_decide.specs.StartDecisions.{IsStartDecision}
 use Rattle.cj_decide.specs.Decision.{running_of, claim_by, steps_of, IsDecision}
 
 -- equal, or not
@@ -76,24 +76,24 @@ a_step old new = by (statuses new old)
     by (inl e) = (None, e)
     by (inr n) = (Some new, (refl, n))
 
--- For each verdict on a CronJob there is a plan.
-a_plan : (c : CronJob) (jobs : List Job) (found : List (Option Job)) (now : ℕ) (z : Option Zone) (v : Verdict)
-    → IsVerdict c z (has_any (running_of c found)) now v → (p : Steps) × IsDecision c jobs found now z p
+-- For each start decision on a CronJob there is a plan.
+a_plan : (c : CronJob) (jobs : List Job) (found : List (Option Job)) (now : ℕ) (z : Option Zone) (v : StartDecision)
+    → IsStartDecision c z (has_any (running_of c found)) now v → (p : Steps) × IsDecision c jobs found now z p
 a_plan c jobs found now z v h =
     let s = a_step (standing c (claim_by c v)) (final c jobs found v (claim_by c v)) in (
       steps_of c jobs found v s.0,
       record {
-        verdict = v;
-        judged = h;
+        start = v;
+        decided = h;
         meant = record { status = s.0; changes = s.1; are = refl };
       },
     )
 
--- For plan_exists: by the verdict where a Job runs, and the one where none does, there is a plan.
-pub some_plan : (c : CronJob) (jobs : List Job) (found : List (Option Job)) (now : ℕ) (z : Option Zone) (v w : Verdict)
-    → IsVerdict c z true now v → IsVerdict c z false now w → (p : Steps) × IsDecision c jobs found now z p
+-- For plan_exists: by the start decision where a Job runs, and the one where none does, there is a plan.
+pub some_plan : (c : CronJob) (jobs : List Job) (found : List (Option Job)) (now : ℕ) (z : Option Zone) (v w : StartDecision)
+    → IsStartDecision c z true now v → IsStartDecision c z false now w → (p : Steps) × IsDecision c jobs found now z p
 some_plan c jobs found now z v w h k = by (has_any (running_of c found)) refl
   where
     by : (b : Bool) → has_any (running_of c found) ≡ b → (p : Steps) × IsDecision c jobs found now z p
-    by true e = a_plan c jobs found now z v (subst (λ b. IsVerdict c z b now v) (sym e) h)
-    by false e = a_plan c jobs found now z w (subst (λ b. IsVerdict c z b now w) (sym e) k)
+    by true e = a_plan c jobs found now z v (subst (λ b. IsStartDecision c z b now v) (sym e) h)
+    by false e = a_plan c jobs found now z w (subst (λ b. IsStartDecision c z b now w) (sym e) k)

@@ -1,5 +1,5 @@
 pub mod Members
-pub mod Verdicts
+pub mod StartDecisions
 pub mod One
 pub mod Claims
 pub mod Orders

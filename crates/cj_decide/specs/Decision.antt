@@ -8,16 +8,15 @@ use Rattle.cj_types.specs.declared.policy.Reason.{Reason}
 use Rattle.cj_types.specs.declared.policy.Reason.TheVariants.{TooManyMissedTimes}
 use Rattle.cj_types.specs.Uids.{uid_text}
 use Rattle.cj_zone.specs.declared.zone.Zone.{Zone}
-use Rattle.cj_status.specs.declared.listing.Pick.TheVariants as Meant
 use Rattle.cj_status.specs.declared.order.Sorting.TheVariants.{ByName}
 use Rattle.cj_status.specs.declared.refs.JobRef.{JobRef}
 use Rattle.cj_status.specs.Mine.{present}
-use Rattle.cj_status.specs.Picked.{picked, running}
+use Rattle.cj_status.specs.Picked.{listed, running}
 use Rattle.cj_status.specs.Refs.{has_any}
 use Rattle.cj_decide.specs.declared.start.Claim.{Claim}
 use Rattle.cj_decide.specs.declared.steps.Steps.{Steps}
-use Rattle.cj_decide.specs.declared.verdict.Verdict.{Verdict}
-use Rattle.cj_decide.specs.Verdicts.{IsVerdict}
+use Rattle.cj_decide.specs.declared.start_decision.StartDecision.{StartDecision}
+use Rattle.cj_decide.specs.StartDecisions.{IsStartDecision}
 use Rattle.cj_decide.specs.Start.{claim_of, draft_of}
 use Rattle.cj_decide.specs.Finally.{standing, final, IsStatusStep, cleanup_of}
 
@@ -31,7 +30,7 @@ reason_of (Some reason) = reason ∷ []
 
 -- that more than 100 times were missed comes first
 -- rule: too-many-missed
-abbrev pub reasons_of : Verdict → List Reason
+abbrev pub reasons_of : StartDecision → List Reason
 reasons_of v = many_of v.is_late ++ reason_of v.reason
 
 -- the unfinished Jobs of the CronJob that the live read found, the oldest first
@@ -39,17 +38,17 @@ reasons_of v = many_of v.is_late ++ reason_of v.reason
 abbrev pub running_of : CronJob → List (Option Job) → List JobRef
 running_of cron found = running (uid_text cron.meta.uid) (present found)
 
--- the claim that a verdict means
-abbrev pub claim_by : CronJob → Verdict → Option Claim
-claim_by cron v = option_map (claim_of cron) v.start
+-- the claim that a start decision means
+abbrev pub claim_by : CronJob → StartDecision → Option Claim
+claim_by cron v = option_map (claim_of cron) v.time
 
--- the steps that a verdict means, with the status at the end
+-- the steps that a start decision means, with the status at the end
 -- rule: step-order
-abbrev pub steps_of : CronJob → List Job → List (Option Job) → Verdict → Option CronStatus → Steps
+abbrev pub steps_of : CronJob → List Job → List (Option Job) → StartDecision → Option CronStatus → Steps
 steps_of cron jobs found v status = record {
   claim = claim_by cron v;
   drop_first = if v.replaces then running_of cron found else [];
-  make = option_map (draft_of cron) v.start;
+  make = option_map (draft_of cron) v.time;
   cleanup = cleanup_of cron jobs;
   status = status;
   reasons = reasons_of v;
@@ -62,24 +61,24 @@ clearing jobs = record {
   claim = None;
   drop_first = [];
   make = None;
-  cleanup = picked Meant.Listed ByName [] jobs;
+  cleanup = listed ByName jobs;
   status = None;
   reasons = [];
   next = None;
 }
 
--- the steps are those of the verdict; the status is one only where it differs from what stands
-pub record AreSteps (cron : CronJob) (jobs : List Job) (found : List (Option Job)) (v : Verdict) (steps : Steps) : Type 0 where
+-- the steps are those of the start decision; the status is one only where it differs from what stands
+pub record AreSteps (cron : CronJob) (jobs : List Job) (found : List (Option Job)) (v : StartDecision) (steps : Steps) : Type 0 where
   pub status : Option CronStatus
   pub changes : IsStatusStep (standing cron (claim_by cron v)) (final cron jobs found v (claim_by cron v)) status
   pub are : steps ≡ steps_of cron jobs found v status
 
--- the steps are those of the one verdict
+-- the steps are those of the one start decision
 -- rule: decision-cases
 pub record IsDecision (cron : CronJob) (jobs : List Job) (found : List (Option Job)) (now : ℕ) (z : Option Zone) (steps : Steps) : Type 0 where
-  pub verdict : Verdict
-  pub judged : IsVerdict cron z (has_any (running_of cron found)) now verdict
-  pub meant : AreSteps cron jobs found verdict steps
+  pub start : StartDecision
+  pub decided : IsStartDecision cron z (has_any (running_of cron found)) now start
+  pub meant : AreSteps cron jobs found start steps
 
 -- the plan of a CronJob or none, the listed Jobs, what a live read found for each of its active names, the
 -- moment and the zone, if it is known

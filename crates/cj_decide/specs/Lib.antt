@@ -1,4 +1,4 @@
-pub mod Verdicts
+pub mod StartDecisions
 pub mod Start
 pub mod Finally
 pub mod Decision

@@ -2,19 +2,23 @@
 ghost use Rattle.std.specs.Prelude.{Some, true, false, option_copied};
 ghost use Rattle.cj_decide.specs.declared.steps.Steps.{Steps};
 ghost use Rattle.cj_decide.specs.Decision.{IsPlan};
-ghost use Rattle.cj_decide.specs.Verdicts.{IsVerdict};
+ghost use Rattle.cj_decide.specs.StartDecisions.{IsStartDecision};
 
-use crate::verdict::{Verdict, judge};
+use crate::start_decision::{StartDecision, decide_start};
 use cj_types::{CronJob, Job, Seconds, Shared};
 use cj_zone::Zone;
 
-// The verdict where a Job of the CronJob runs, and where none does.
-fn verdicts(cron: &CronJob, zone: Option<&Zone>, now: Seconds) -> (Verdict, Verdict)
-    ensures busy { IsVerdict cron.now (option_copied zone.entry) true now result.0 }
-    ensures idle { IsVerdict cron.now (option_copied zone.entry) false now result.1 }
+// The start decision where a Job of the CronJob runs, and where none does.
+fn start_decisions(
+    cron: &CronJob,
+    zone: Option<&Zone>,
+    now: Seconds,
+) -> (StartDecision, StartDecision)
+    ensures busy { IsStartDecision cron.now (option_copied zone.entry) true now result.0 }
+    ensures idle { IsStartDecision cron.now (option_copied zone.entry) false now result.1 }
 {
-    let busy = judge(cron, zone, true, now);
-    let idle = judge(cron, zone, false, now);
+    let busy = decide_start(cron, zone, true, now);
+    let idle = decide_start(cron, zone, false, now);
     (busy, idle)
 }
 
@@ -30,5 +34,5 @@ pub fn plan_exists(
     ensures { (steps : Steps) × IsPlan (Some cron.now) jobs.now found.now now
         (option_copied zone.entry) steps }
 {
-    let _verdicts = verdicts(cron, zone, now);
+    let _decisions = start_decisions(cron, zone, now);
 }

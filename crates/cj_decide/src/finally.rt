@@ -1,12 +1,13 @@
 // What is done after the start: the Jobs that are cleaned up, and the status at the end.
 ghost use Rattle.std.specs.Prelude.{◌≡◌, IfOk, IfErr};
 ghost use Rattle.cj_base.specs.declared.refusal.Refusal.TheVariants.{OutOfMemory};
-ghost use Rattle.cj_types.specs.Uids.{uid_text};
 ghost use Rattle.cj_decide.specs.Finally.{with_made, active_after, standing, final, IsStatusStep, cleanup_of};
 
 use crate::start::Claim;
-use crate::verdict::Verdict;
-use cj_status::{JobRefs, Pick, Sorting, last_success, names_with, picked, still_active, surplus};
+use crate::start_decision::StartDecision;
+use cj_status::{
+    HistoryLimits, JobRefs, Pick, Sorting, last_success, names_with, picked, still_active, surplus,
+};
 use cj_types::{CronJob, CronStatus, Job, Names, Refusal, Same, Seconds, Shared};
 use std::alloc::Global;
 
@@ -32,20 +33,18 @@ fn with_made(
 fn active_after(
     alloc: Global,
     cron: &CronJob,
-    uid: &str,
     found: &[Option<Shared<Job>>],
-    verdict: Verdict,
+    start: StartDecision,
 ) -> Result<Names, Refusal>
-    requires uid { uid.now ≡ uid_text cron.now.meta.uid }
-    ensures ok { IfOk result (λ n. n ≡ active_after cron.now found.now verdict) }
+    ensures ok { IfOk result (λ n. n ≡ active_after cron.now found.now start) }
     ensures err { IfErr result (λ e. e ≡ OutOfMemory) }
 {
-    let others = if verdict.replaces {
+    let others = if start.replaces {
         Names::new(alloc)
     } else {
-        still_active(alloc, uid, &cron.status.active, found)?
+        still_active(alloc, &cron.meta.uid, &cron.status.active, found)?
     };
-    with_made(alloc, cron, verdict.start, others)
+    with_made(alloc, cron, start.time, others)
 }
 
 // The status that stands before the end.
@@ -65,46 +64,45 @@ fn changed(old: &CronStatus, new: CronStatus) -> Option<CronStatus>
     if new.same(old) { None } else { Some(new) }
 }
 
-/// The status at the end, where it differs from what stands; the uid is the CronJob's, as a text.
+/// The status at the end, where it differs from what stands.
 pub(crate) fn final_step(
     alloc: Global,
     cron: &CronJob,
-    uid: &str,
     jobs: &[Shared<Job>],
     found: &[Option<Shared<Job>>],
-    verdict: Verdict,
+    start: StartDecision,
     claim: &Option<Claim>,
 ) -> Result<Option<CronStatus>, Refusal>
-    requires uid { uid.now ≡ uid_text cron.now.meta.uid }
     ensures ok { IfOk result (λ s. IsStatusStep (standing cron.now claim.now)
-        (final cron.now jobs.now found.now verdict claim.now) s) }
+        (final cron.now jobs.now found.now start claim.now) s) }
     ensures err { IfErr result (λ e. e ≡ OutOfMemory) }
 {
     let old = standing(cron, claim);
-    let active = active_after(alloc, cron, uid, found, verdict)?;
+    let active = active_after(alloc, cron, found, start)?;
     let new = CronStatus {
         active,
         last_schedule_time: old.last_schedule_time,
-        last_successful_time: last_success(cron.status.last_successful_time, jobs, uid),
+        last_successful_time: last_success(cron.status.last_successful_time, jobs, &cron.meta.uid),
     };
     Ok(changed(old, new))
 }
 
-/// The listed Jobs that aren't the CronJob's, by name, then the finished ones that it no longer keeps. The
-/// uid is the CronJob's, as a text.
+/// The listed Jobs that aren't the CronJob's, by name, then the finished ones that it no longer keeps.
 pub(crate) fn cleanup(
     alloc: Global,
     cron: &CronJob,
-    uid: &str,
     jobs: &[Shared<Job>],
 ) -> Result<JobRefs, Refusal>
-    requires uid { uid.now ≡ uid_text cron.now.meta.uid }
     ensures ok { IfOk result (λ r. r ≡ cleanup_of cron.now jobs.now) }
     ensures err { IfErr result (λ e. e ≡ OutOfMemory) }
 {
-    let mut all = picked(alloc, Pick::Foreign, Sorting::ByName, uid, jobs)?;
+    let mut all = picked(alloc, Pick::Foreign, Sorting::ByName, &cron.meta.uid, jobs)?;
     let spec = cron.spec.get();
-    let finished = surplus(alloc, spec.successful_limit, spec.failed_limit, uid, jobs)?;
+    let limits = HistoryLimits {
+        successful: spec.successful_limit,
+        failed: spec.failed_limit,
+    };
+    let finished = surplus(alloc, limits, &cron.meta.uid, jobs)?;
     all.append(finished)?;
     Ok(all)
 }

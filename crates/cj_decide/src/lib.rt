@@ -6,9 +6,9 @@ mod finally;
 mod laws;
 mod plan;
 mod start;
+mod start_decision;
 mod steps;
 mod times;
-mod verdict;
 
 pub use cj_status::{JobRef, JobRefs};
 pub use existence::plan_exists;

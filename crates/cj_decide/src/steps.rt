@@ -1,15 +1,14 @@
 ghost use Rattle.std.specs.Prelude.{◌≡◌, [], IfOk, IfErr, option_map, option_copied, if◌then◌else◌};
 ghost use Rattle.cj_base.specs.declared.refusal.Refusal.TheVariants.{OutOfMemory};
-ghost use Rattle.cj_types.specs.Uids.{uid_text};
 ghost use Rattle.cj_decide.specs.Decision.{claim_by, reasons_of, running_of, AreSteps, clearing, IsDecision, IsPlan};
 ghost use Rattle.cj_decide.specs.Finally.{cleanup_of, standing, final, IsStatusStep};
 ghost use Rattle.cj_decide.specs.Start.{draft_of};
 
 use crate::finally::{cleanup, final_step};
 use crate::start::{Claim, claim_at, make_at};
-use crate::verdict::{Verdict, judge};
+use crate::start_decision::{StartDecision, decide_start};
 use cj_base::{all_three, both};
-use cj_status::{JobRefs, Pick, Sorting, picked, running_found};
+use cj_status::{JobRefs, Sorting, listed, running_found};
 use cj_types::{
     CronJob, CronStatus, Job, JobDraft, Reason, Reasons, Refusal, Same, Seconds, Shared, TryCopy,
 };
@@ -101,87 +100,81 @@ fn drops(alloc: Global, running: JobRefs, replaces: bool) -> JobRefs
     }
 }
 
-fn reasons(alloc: Global, verdict: Verdict) -> Result<Reasons, Refusal>
-    ensures ok { IfOk result (λ r. r ≡ reasons_of verdict) }
+fn reasons(alloc: Global, start: StartDecision) -> Result<Reasons, Refusal>
+    ensures ok { IfOk result (λ r. r ≡ reasons_of start) }
     ensures err { IfErr result (λ e. e ≡ OutOfMemory) }
 {
     let mut reasons = Reasons::new(alloc);
-    if verdict.is_late {
+    if start.is_late {
         reasons.push(Reason::TooManyMissedTimes)?;
     }
-    if let Some(reason) = verdict.reason {
+    if let Some(reason) = start.reason {
         reasons.push(reason)?;
     }
     Ok(reasons)
 }
 
-// The claim of a verdict, and the status at the end; the uid is the CronJob's, as a text.
+// The claim of a start decision, and the status at the end.
 fn claim_and_status(
     alloc: Global,
     cron: &CronJob,
-    uid: &str,
     jobs: &[Shared<Job>],
     found: &[Option<Shared<Job>>],
-    verdict: &Verdict,
+    start: &StartDecision,
 ) -> Result<(Option<Claim>, Option<CronStatus>), Refusal>
-    requires uid { uid.now ≡ uid_text cron.now.meta.uid }
-    ensures claim { IfOk result (λ p. p.0 ≡ claim_by cron.now verdict.now) }
+    ensures claim { IfOk result (λ p. p.0 ≡ claim_by cron.now start.now) }
     ensures status { IfOk result (λ p. IsStatusStep
-        (standing cron.now (claim_by cron.now verdict.now))
-        (final cron.now jobs.now found.now verdict.now (claim_by cron.now verdict.now)) p.1) }
+        (standing cron.now (claim_by cron.now start.now))
+        (final cron.now jobs.now found.now start.now (claim_by cron.now start.now)) p.1) }
     ensures err { IfErr result (λ e. e ≡ OutOfMemory) }
 {
-    let claim = claim_at(alloc, cron, verdict.start)?;
-    let status = final_step(alloc, cron, uid, jobs, found, *verdict, &claim)?;
+    let claim = claim_at(alloc, cron, start.time)?;
+    let status = final_step(alloc, cron, jobs, found, *start, &claim)?;
     Ok((claim, status))
 }
 
-// The Job that is made, those that go after it, and the reasons; the uid is the CronJob's, as a text.
+// The Job that is made, those that go after it, and the reasons.
 fn make_and_cleanup(
     alloc: Global,
     cron: &CronJob,
-    uid: &str,
     jobs: &[Shared<Job>],
-    verdict: &Verdict,
+    start: &StartDecision,
 ) -> Result<(Option<JobDraft>, JobRefs, Reasons), Refusal>
-    requires uid { uid.now ≡ uid_text cron.now.meta.uid }
-    ensures make { IfOk result (λ p. p.0 ≡ option_map (draft_of cron.now) verdict.now.start) }
+    ensures make { IfOk result (λ p. p.0 ≡ option_map (draft_of cron.now) start.now.time) }
     ensures cleanup { IfOk result (λ p. p.1 ≡ cleanup_of cron.now jobs.now) }
-    ensures reasons { IfOk result (λ p. p.2 ≡ reasons_of verdict.now) }
+    ensures reasons { IfOk result (λ p. p.2 ≡ reasons_of start.now) }
     ensures err { IfErr result (λ e. e ≡ OutOfMemory) }
 {
     all_three(
-        make_at(alloc, cron, verdict.start),
-        cleanup(alloc, cron, uid, jobs),
-        reasons(alloc, *verdict),
+        make_at(alloc, cron, start.time),
+        cleanup(alloc, cron, jobs),
+        reasons(alloc, *start),
     )
 }
 
-// The steps of a verdict on a CronJob of which these Jobs run; the uid is the CronJob's, as a text.
+// The steps of a start decision on a CronJob of which these Jobs run.
 fn steps_of(
     alloc: Global,
     cron: &CronJob,
-    uid: &str,
     jobs: &[Shared<Job>],
     found: &[Option<Shared<Job>>],
     running: JobRefs,
-    verdict: Verdict,
+    start: StartDecision,
 ) -> Result<Steps, Refusal>
-    requires uid { uid.now ≡ uid_text cron.now.meta.uid }
     requires running { running ≡ running_of cron.now found.now }
-    ensures ok { IfOk result (λ s. AreSteps cron.now jobs.now found.now verdict s) }
+    ensures ok { IfOk result (λ s. AreSteps cron.now jobs.now found.now start s) }
     ensures err { IfErr result (λ e. e ≡ OutOfMemory) }
 {
-    let (claim, status) = claim_and_status(alloc, cron, uid, jobs, found, &verdict)?;
-    let (make, cleanup, reasons) = make_and_cleanup(alloc, cron, uid, jobs, &verdict)?;
+    let (claim, status) = claim_and_status(alloc, cron, jobs, found, &start)?;
+    let (make, cleanup, reasons) = make_and_cleanup(alloc, cron, jobs, &start)?;
     Ok(Steps {
         claim,
-        drop_first: drops(alloc, running, verdict.replaces),
+        drop_first: drops(alloc, running, start.replaces),
         make,
         cleanup,
         status,
         reasons,
-        next: verdict.next,
+        next: start.next,
     })
 }
 
@@ -197,10 +190,9 @@ fn decision(
         (option_copied zone.entry) s) }
     ensures err { IfErr result (λ e. e ≡ OutOfMemory) }
 {
-    let uid = cron.meta.uid.text(alloc)?;
-    let running = running_found(alloc, uid.as_str(), found)?;
-    let verdict = judge(cron, zone, running.has_any(), now);
-    steps_of(alloc, cron, uid.as_str(), jobs, found, running, verdict)
+    let running = running_found(alloc, &cron.meta.uid, found)?;
+    let start = decide_start(cron, zone, running.has_any(), now);
+    steps_of(alloc, cron, jobs, found, running, start)
 }
 
 // There is no CronJob: all that is listed goes.
@@ -208,7 +200,7 @@ fn clearing(alloc: Global, jobs: &[Shared<Job>]) -> Result<Steps, Refusal>
     ensures ok { IfOk result (λ s. s ≡ clearing jobs.now) }
     ensures err { IfErr result (λ e. e ≡ OutOfMemory) }
 {
-    let cleanup = picked(alloc, Pick::Listed, Sorting::ByName, "", jobs)?;
+    let cleanup = listed(alloc, Sorting::ByName, jobs)?;
     Ok(Steps {
         claim: None,
         drop_first: JobRefs::new(alloc),

@@ -1,6 +1,6 @@
 ghost use Rattle.cj_due.specs.Missed.{IsMissed};
 ghost use Rattle.cj_due.specs.Window.{window_of};
-ghost use Rattle.cj_decide.specs.Verdicts.{IsNext};
+ghost use Rattle.cj_decide.specs.StartDecisions.{IsNext};
 
 use cj_due::{Missed, missed, next_after, window};
 use cj_schedule::Schedule;

@@ -1,3 +1,4 @@
 pub mod Orders
 pub mod Sorts
 pub mod NotKept
+pub mod UidTexts

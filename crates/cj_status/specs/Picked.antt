@@ -1,5 +1,5 @@
 -- Jobs of a listing, in order.
-use Rattle.std.specs.Prelude.{ℕ, Bool, true, not, ◌&&◌, List, map, filter}
+use Rattle.std.specs.Prelude.{ℕ, Bool, not, ◌&&◌, List, map, filter}
 use Rattle.cj_types.specs.declared.job.Job.{Job}
 use Rattle.cj_status.specs.declared.order.Sorting.{Sorting}
 use Rattle.cj_status.specs.declared.order.Sorting.TheVariants.{ByAge}
@@ -8,7 +8,7 @@ use Rattle.cj_status.specs.declared.listing.Pick.TheVariants as Meant
 use Rattle.cj_status.specs.declared.refs.JobRef.{JobRef}
 use Rattle.cj_status.specs.Mine.{is_mine, is_running, is_complete, is_failed}
 use Rattle.cj_status.specs.Order.{in_order}
-use Rattle.cj_status.specs.Refs.{ref, precedes}
+use Rattle.cj_status.specs.Refs.{ref, refs, precedes}
 
 -- the Job is one of those that are meant
 abbrev pub picks : Pick → List ℕ → Job → Bool
@@ -16,7 +16,6 @@ picks Meant.Running uid job = is_running uid job
 picks Meant.Completed uid job = is_mine uid job && is_complete job
 picks Meant.Failed uid job = is_mine uid job && is_failed job
 picks Meant.Foreign uid job = not (is_mine uid job)
-picks Meant.Listed uid job = true
 
 -- the Jobs that pass, as a plan names them
 abbrev pub gathered : (Job → Bool) → List Job → List JobRef
@@ -25,6 +24,10 @@ gathered p jobs = map ref (filter p jobs)
 -- those of a listing that are meant, in order
 abbrev pub picked : Pick → Sorting → List ℕ → List Job → List JobRef
 picked pick by uid jobs = in_order (precedes by) (gathered (picks pick uid) jobs)
+
+-- all of a listing, in order
+abbrev pub listed : Sorting → List Job → List JobRef
+listed by jobs = in_order (precedes by) (refs jobs)
 
 -- the unfinished Jobs of the CronJob with this uid, the oldest first
 abbrev pub running : List ℕ → List Job → List JobRef

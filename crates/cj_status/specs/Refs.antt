@@ -1,5 +1,5 @@
 -- Jobs as a plan names them, and their orders.
-use Rattle.std.specs.Prelude.{Bool, true, false, List, [], ◌∷◌}
+use Rattle.std.specs.Prelude.{Bool, true, false, List, [], ◌∷◌, map}
 use Rattle.std.specs.declared.cmp.Ordering.{Ordering}
 use Rattle.std.specs.Ordering.{nat_cmp, is_lt, on, then_cmp}
 use Rattle.std.specs.Cmp.Lexicographic.{slice_cmp}
@@ -10,6 +10,10 @@ use Rattle.cj_status.specs.declared.order.Sorting.TheVariants.{ByName, ByAge}
 
 abbrev pub ref : Job → JobRef
 ref job = record { key = job.key; uid = job.meta.uid; created = job.meta.created }
+
+-- Jobs, each as a plan names it
+abbrev pub refs : List Job → List JobRef
+refs jobs = map ref jobs
 
 -- by the bytes of the name
 abbrev pub name_cmp : JobRef → JobRef → Ordering

@@ -2,6 +2,7 @@
 -- `CronJobSpec`.
 use Rattle.std.specs.Prelude.{ℕ, Bool, nat_lt, not, List, ◌++◌, filter, length}
 use Rattle.cj_types.specs.declared.job.Job.{Job}
+use Rattle.cj_status.specs.declared.history.HistoryLimits.{HistoryLimits}
 use Rattle.cj_status.specs.declared.order.Sorting.TheVariants.{ByAge}
 use Rattle.cj_status.specs.declared.listing.Pick.{Pick}
 use Rattle.cj_status.specs.declared.listing.Pick.TheVariants as Meant
@@ -27,6 +28,6 @@ surplus_by pick limit uid jobs = not_kept limit (picked pick ByAge uid jobs)
 
 -- first all that ended with success, then all that failed
 -- rule: kept
-abbrev pub surplus_of : ℕ → ℕ → List ℕ → List Job → List JobRef
-surplus_of successful failed uid jobs =
-    surplus_by Meant.Completed successful uid jobs ++ surplus_by Meant.Failed failed uid jobs
+abbrev pub surplus_of : HistoryLimits → List ℕ → List Job → List JobRef
+surplus_of limits uid jobs =
+    surplus_by Meant.Completed limits.successful uid jobs ++ surplus_by Meant.Failed limits.failed uid jobs

@@ -1,12 +1,13 @@
 ghost use Rattle.std.specs.Prelude.{◌≡◌, [], ◌∷◌, ◌++◌, slice_index_or, None, IfOk, IfErr, OnOk, if◌then◌else◌};
 ghost use Rattle.cj_base.specs.declared.refusal.Refusal.TheVariants.{OutOfMemory};
+ghost use Rattle.cj_types.specs.Uids.{uid_text};
 ghost use Rattle.cj_status.specs.Active.{active_of, is_found, names_of, names_with, still_active};
 
 use crate::listing::{Pick, picked};
 use crate::mine::is_running;
 use crate::order::Sorting;
 use crate::refs::JobRef;
-use cj_types::{Job, Key, Names, ObjectName, Refusal, Shared, TryCopy};
+use cj_types::{Job, Key, Names, ObjectName, Refusal, Shared, TryCopy, Uid};
 use std::alloc::Global;
 
 // The name in a key at the end.
@@ -36,9 +37,9 @@ fn names_of(alloc: Global, refs: &[JobRef]) -> Result<Names, Refusal>
     Ok(names)
 }
 
-/// The names of the unfinished Jobs of the CronJob, whose uid is given as a text, in byte order.
-pub fn active_of(alloc: Global, jobs: &[Shared<Job>], uid: &str) -> Result<Names, Refusal>
-    ensures ok { IfOk result (λ n. n ≡ active_of jobs.now uid.now) }
+/// The names of the unfinished Jobs of the CronJob with this uid, in byte order.
+pub fn active_of(alloc: Global, jobs: &[Shared<Job>], uid: &Uid) -> Result<Names, Refusal>
+    ensures ok { IfOk result (λ n. n ≡ active_of jobs.now (uid_text uid.now)) }
     ensures err { IfErr result (λ e. e ≡ OutOfMemory) }
 {
     let running = picked(alloc, Pick::Running, Sorting::ByName, uid, jobs)?;
@@ -68,8 +69,8 @@ pub fn names_with(alloc: Global, names: &Names, key: &Key) -> Result<Names, Refu
     Ok(all)
 }
 
-fn is_found(uid: &str, name: &str, found: &Option<Shared<Job>>) -> bool
-    ensures { result ≡ is_found uid.now name.now found.now }
+fn is_found(uid: &Uid, name: &str, found: &Option<Shared<Job>>) -> bool
+    ensures { result ≡ is_found (uid_text uid.now) name.now found.now }
 {
     match found {
         Some(found) => {
@@ -83,8 +84,8 @@ fn is_found(uid: &str, name: &str, found: &Option<Shared<Job>>) -> bool
 }
 
 // The same of the one at that place, if there is one.
-fn is_found_at(uid: &str, name: &str, found: &[Option<Shared<Job>>], place: usize) -> bool
-    ensures { result ≡ is_found uid.now name.now (slice_index_or found.now place None) }
+fn is_found_at(uid: &Uid, name: &str, found: &[Option<Shared<Job>>], place: usize) -> bool
+    ensures { result ≡ is_found (uid_text uid.now) name.now (slice_index_or found.now place None) }
 {
     match found.get(place) {
         Some(one) => is_found(uid, name, one),
@@ -103,15 +104,15 @@ fn push_kept(alloc: Global, all: &mut Names, name: &ObjectName, keeps: bool) -> 
     Ok(())
 }
 
-/// Of names with what a live read found for each, in their order, those whose Job it found unfinished. The
-/// CronJob's uid is given as a text.
+/// Of names with what a live read found for each, in their order, those whose Job, of the CronJob with
+/// this uid, it found unfinished.
 pub fn still_active(
     alloc: Global,
-    uid: &str,
+    uid: &Uid,
     names: &Names,
     found: &[Option<Shared<Job>>],
 ) -> Result<Names, Refusal>
-    ensures ok { IfOk result (λ n. n ≡ still_active uid.now names.now found.now) }
+    ensures ok { IfOk result (λ n. n ≡ still_active (uid_text uid.now) names.now found.now) }
     ensures err { IfErr result (λ e. e ≡ OutOfMemory) }
 {
     let mut all = Names::new(alloc);

@@ -1,5 +1,6 @@
 ghost use Rattle.std.specs.Prelude.{◌≡◌, ◌≤◌, length, not, position, unwrap_or, IfOk, IfErr};
 ghost use Rattle.cj_base.specs.declared.refusal.Refusal.TheVariants.{OutOfMemory};
+ghost use Rattle.cj_types.specs.Uids.{uid_text};
 ghost use Rattle.cj_status.specs.Order.{IsRising};
 ghost use Rattle.cj_status.specs.Refs.{is_older};
 ghost use Rattle.cj_status.specs.Surplus.{not_kept, surplus_by, surplus_of};
@@ -8,8 +9,16 @@ use crate::listing::{Pick, picked_items};
 use crate::order::{Sorting, compare};
 use crate::refs::{JobRef, JobRefs};
 use cj_base::both;
-use cj_types::{HistoryLimit, Job, Refusal, Shared};
+use cj_types::{HistoryLimit, Job, Refusal, Shared, Uid};
 use std::alloc::Global;
+
+/// How many finished Jobs of each outcome a CronJob keeps (batch/v1, `successfulJobsHistoryLimit` and
+/// `failedJobsHistoryLimit`).
+#[derive(Clone, Copy, Debug, PartialEq, Eq)]
+pub struct HistoryLimits {
+    pub successful: HistoryLimit,
+    pub failed: HistoryLimit,
+}
 
 fn first_other(items: &[JobRef], pivot: &JobRef) -> Option<usize>
     ensures { result ≡ position (λ r. not (is_older r pivot.now)) items.now }
@@ -47,10 +56,10 @@ fn surplus_by(
     alloc: Global,
     pick: Pick,
     limit: HistoryLimit,
-    uid: &str,
+    uid: &Uid,
     jobs: &[Shared<Job>],
 ) -> Result<JobRefs, Refusal>
-    ensures ok { IfOk result (λ r. r ≡ surplus_by pick limit uid.now jobs.now) }
+    ensures ok { IfOk result (λ r. r ≡ surplus_by pick limit (uid_text uid.now) jobs.now) }
     ensures err { IfErr result (λ e. e ≡ OutOfMemory) }
 {
     let mut items = picked_items(alloc, pick, Sorting::ByAge, uid, jobs)?;
@@ -60,20 +69,19 @@ fn surplus_by(
 
 /// The finished Jobs of the CronJob that are no longer kept: a finished Job is kept where fewer Jobs of its
 /// outcome than that outcome's limit are newer, by creation time, then name. First all that ended with
-/// success, then all that failed, each group the oldest first. The uid is given as a text.
+/// success, then all that failed, each group the oldest first.
 pub fn surplus(
     alloc: Global,
-    successful: HistoryLimit,
-    failed: HistoryLimit,
-    uid: &str,
+    limits: HistoryLimits,
+    uid: &Uid,
     jobs: &[Shared<Job>],
 ) -> Result<JobRefs, Refusal>
-    ensures ok { IfOk result (λ r. r ≡ surplus_of successful failed uid.now jobs.now) }
+    ensures ok { IfOk result (λ r. r ≡ surplus_of limits (uid_text uid.now) jobs.now) }
     ensures err { IfErr result (λ e. e ≡ OutOfMemory) }
 {
     let (mut all, failed) = both(
-        surplus_by(alloc, Pick::Completed, successful, uid, jobs),
-        surplus_by(alloc, Pick::Failed, failed, uid, jobs),
+        surplus_by(alloc, Pick::Completed, limits.successful, uid, jobs),
+        surplus_by(alloc, Pick::Failed, limits.failed, uid, jobs),
     )?;
     all.append(failed)?;
     Ok(all)

@@ -8,10 +8,11 @@ mod mine;
 mod order;
 mod refs;
 mod success;
+mod uids;
 
 pub use active::{active_of, names_with, still_active};
-pub use history::surplus;
-pub use listing::{Pick, picked, running_found};
+pub use history::{HistoryLimits, surplus};
+pub use listing::{Pick, listed, picked, running_found};
 pub use order::Sorting;
 pub use refs::{JobRef, JobRefs};
 pub use success::last_success;

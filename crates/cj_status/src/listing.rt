@@ -1,13 +1,14 @@
 ghost use Rattle.std.specs.Prelude.{◌≡◌, [], ◌∷◌, ◌++◌, IfOk, IfErr, OnOk};
 ghost use Rattle.cj_base.specs.declared.refusal.Refusal.TheVariants.{OutOfMemory};
+ghost use Rattle.cj_types.specs.Uids.{uid_text};
 ghost use Rattle.cj_status.specs.Mine.{is_running, present};
-ghost use Rattle.cj_status.specs.Refs.{ref};
-ghost use Rattle.cj_status.specs.Picked.{picks, gathered, picked, running};
+ghost use Rattle.cj_status.specs.Refs.{ref, refs};
+ghost use Rattle.cj_status.specs.Picked.{picks, gathered, listed, picked, running};
 
 use crate::mine::{is_complete, is_failed, is_mine, is_running};
 use crate::order::{Sorting, sort};
 use crate::refs::{JobRef, JobRefs};
-use cj_types::{Job, Refusal, Shared};
+use cj_types::{Job, Refusal, Shared, Uid};
 use std::alloc::Global;
 
 /// Which Jobs of a listing are meant, by the CronJob's uid.
@@ -21,12 +22,10 @@ pub enum Pick {
     Failed,
     /// Those that aren't the CronJob's own.
     Foreign,
-    /// All.
-    Listed,
 }
 
-fn picks(pick: Pick, uid: &str, job: &Job) -> bool
-    ensures { result ≡ picks pick uid.now job.now }
+fn picks(pick: Pick, uid: &Uid, job: &Job) -> bool
+    ensures { result ≡ picks pick (uid_text uid.now) job.now }
 {
     let mine = is_mine(uid, job);
     match pick {
@@ -34,7 +33,6 @@ fn picks(pick: Pick, uid: &str, job: &Job) -> bool
         Pick::Completed => mine && is_complete(job),
         Pick::Failed => mine && is_failed(job),
         Pick::Foreign => !mine,
-        Pick::Listed => true,
     }
 }
 
@@ -52,10 +50,10 @@ fn push_ref(alloc: Global, items: &mut Vec<JobRef>, job: &Job) -> Result<(), Ref
 fn gather(
     alloc: Global,
     pick: Pick,
-    uid: &str,
+    uid: &Uid,
     jobs: &[Shared<Job>],
 ) -> Result<Vec<JobRef>, Refusal>
-    ensures ok { IfOk result (λ r. r.items ≡ gathered (picks pick uid.now) jobs.now) }
+    ensures ok { IfOk result (λ r. r.items ≡ gathered (picks pick (uid_text uid.now)) jobs.now) }
     ensures err { IfErr result (λ e. e ≡ OutOfMemory) }
 {
     let mut items = Vec::new(alloc);
@@ -71,10 +69,10 @@ pub(crate) fn picked_items(
     alloc: Global,
     pick: Pick,
     by: Sorting,
-    uid: &str,
+    uid: &Uid,
     jobs: &[Shared<Job>],
 ) -> Result<Vec<JobRef>, Refusal>
-    ensures ok { IfOk result (λ r. r.items ≡ picked pick by uid.now jobs.now) }
+    ensures ok { IfOk result (λ r. r.items ≡ picked pick by (uid_text uid.now) jobs.now) }
     ensures err { IfErr result (λ e. e ≡ OutOfMemory) }
 {
     let mut items = gather(alloc, pick, uid, jobs)?;
@@ -82,30 +80,52 @@ pub(crate) fn picked_items(
     Ok(items)
 }
 
-/// The Jobs of a listing that are meant, in order. The uid is given as a text.
+/// The Jobs of a listing that are meant, in order.
 pub fn picked(
     alloc: Global,
     pick: Pick,
     by: Sorting,
-    uid: &str,
+    uid: &Uid,
     jobs: &[Shared<Job>],
 ) -> Result<JobRefs, Refusal>
-    ensures ok { IfOk result (λ r. r ≡ picked pick by uid.now jobs.now) }
+    ensures ok { IfOk result (λ r. r ≡ picked pick by (uid_text uid.now) jobs.now) }
     ensures err { IfErr result (λ e. e ≡ OutOfMemory) }
 {
     let items = picked_items(alloc, pick, by, uid, jobs)?;
     Ok(JobRefs::from_vec(items))
 }
 
+// All of the listing, as they stand.
+fn gather_all(alloc: Global, jobs: &[Shared<Job>]) -> Result<Vec<JobRef>, Refusal>
+    ensures ok { IfOk result (λ r. r.items ≡ refs jobs.now) }
+    ensures err { IfErr result (λ e. e ≡ OutOfMemory) }
+{
+    let mut items = Vec::new(alloc);
+    for job in jobs {
+        push_ref(alloc, &mut items, job.get())?;
+    }
+    Ok(items)
+}
+
+/// All Jobs of a listing, in order.
+pub fn listed(alloc: Global, by: Sorting, jobs: &[Shared<Job>]) -> Result<JobRefs, Refusal>
+    ensures ok { IfOk result (λ r. r ≡ listed by jobs.now) }
+    ensures err { IfErr result (λ e. e ≡ OutOfMemory) }
+{
+    let mut items = gather_all(alloc, jobs)?;
+    sort(by, &mut items)?;
+    Ok(JobRefs::from_vec(items))
+}
+
 // Adds the Job that was found, if there is one and it hasn't finished.
 fn push_running(
     alloc: Global,
-    uid: &str,
+    uid: &Uid,
     found: &Option<Shared<Job>>,
     items: &mut Vec<JobRef>,
 ) -> Result<(), Refusal>
     ensures ok { OnOk result (items.new.items
-        ≡ items.old.items ++ gathered (is_running uid.now) (present (found.now ∷ []))) }
+        ≡ items.old.items ++ gathered (is_running (uid_text uid.now)) (present (found.now ∷ []))) }
     ensures err { IfErr result (λ e. e ≡ OutOfMemory) }
 {
     let Some(job) = found else {
@@ -120,10 +140,11 @@ fn push_running(
 // The unfinished ones of those that were found, as they stand.
 fn gather_found(
     alloc: Global,
-    uid: &str,
+    uid: &Uid,
     found: &[Option<Shared<Job>>],
 ) -> Result<Vec<JobRef>, Refusal>
-    ensures ok { IfOk result (λ r. r.items ≡ gathered (is_running uid.now) (present found.now)) }
+    ensures ok { IfOk result (λ r. r.items
+        ≡ gathered (is_running (uid_text uid.now)) (present found.now)) }
     ensures err { IfErr result (λ e. e ≡ OutOfMemory) }
 {
     let mut items = Vec::new(alloc);
@@ -133,14 +154,13 @@ fn gather_found(
     Ok(items)
 }
 
-/// Of the Jobs that a live read found, the unfinished ones of the CronJob, by creation time, then name. The
-/// uid is given as a text.
+/// Of the Jobs that a live read found, the unfinished ones of the CronJob, by creation time, then name.
 pub fn running_found(
     alloc: Global,
-    uid: &str,
+    uid: &Uid,
     found: &[Option<Shared<Job>>],
 ) -> Result<JobRefs, Refusal>
-    ensures ok { IfOk result (λ r. r ≡ running uid.now (present found.now)) }
+    ensures ok { IfOk result (λ r. r ≡ running (uid_text uid.now) (present found.now)) }
     ensures err { IfErr result (λ e. e ≡ OutOfMemory) }
 {
     let mut items = gather_found(alloc, uid, found)?;

@@ -1,21 +1,23 @@
 ghost use Rattle.std.specs.Prelude.{◌≡◌};
+ghost use Rattle.cj_types.specs.Uids.{uid_text};
 ghost use Rattle.cj_status.specs.Mine.{is_complete, is_failed, is_mine, is_running};
 
-use cj_types::{Job, Outcome};
+use crate::uids::is_text_of;
+use cj_types::{Job, Outcome, Uid};
 
-/// Whether the Job's controller has the uid, which is given as a text.
-pub(crate) fn is_mine(uid: &str, job: &Job) -> bool
-    ensures { result ≡ is_mine uid.now job.now }
+/// Whether the Job's controller has the uid.
+pub(crate) fn is_mine(uid: &Uid, job: &Job) -> bool
+    ensures { result ≡ is_mine (uid_text uid.now) job.now }
 {
     match job.owners.controller() {
-        Some(owner) => owner.uid.as_str() == uid,
+        Some(owner) => is_text_of(owner.uid.as_str(), uid),
         None => false,
     }
 }
 
 /// Whether it is such a Job that hasn't finished.
-pub(crate) fn is_running(uid: &str, job: &Job) -> bool
-    ensures { result ≡ is_running uid.now job.now }
+pub(crate) fn is_running(uid: &Uid, job: &Job) -> bool
+    ensures { result ≡ is_running (uid_text uid.now) job.now }
 {
     let mine = is_mine(uid, job);
     mine && job.is_unfinished()

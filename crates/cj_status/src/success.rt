@@ -1,11 +1,12 @@
 ghost use Rattle.std.specs.Prelude.{◌≡◌};
+ghost use Rattle.cj_types.specs.Uids.{uid_text};
 ghost use Rattle.cj_status.specs.Success.{completed_at, later, success_of};
 
 use crate::mine::is_mine;
-use cj_types::{Job, Outcome, Seconds, Shared};
+use cj_types::{Job, Outcome, Seconds, Shared, Uid};
 
-fn completed_at(uid: &str, job: &Job) -> Option<Seconds>
-    ensures { result ≡ completed_at uid.now job.now }
+fn completed_at(uid: &Uid, job: &Job) -> Option<Seconds>
+    ensures { result ≡ completed_at (uid_text uid.now) job.now }
 {
     let mine = is_mine(uid, job);
     match job.outcome {
@@ -25,9 +26,8 @@ fn later(a: Option<Seconds>, b: Option<Seconds>) -> Option<Seconds>
 }
 
 /// The greatest of a time, if there is one, and the times at which Jobs of the CronJob ended with success.
-/// Its uid is given as a text.
-pub fn last_success(standing: Option<Seconds>, jobs: &[Shared<Job>], uid: &str) -> Option<Seconds>
-    ensures { result ≡ success_of standing jobs.now uid.now }
+pub fn last_success(standing: Option<Seconds>, jobs: &[Shared<Job>], uid: &Uid) -> Option<Seconds>
+    ensures { result ≡ success_of standing jobs.now (uid_text uid.now) }
 {
     let mut last = standing;
     for job in jobs {

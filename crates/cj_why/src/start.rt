@@ -131,8 +131,7 @@ fn running_jobs(
     ensures ok { IfOk result (λ r. r ≡ running_of cron.now found.now) }
     ensures err { IfErr result (λ e. e ≡ OutOfMemory) }
 {
-    let uid = cron.meta.uid.text(alloc)?;
-    running_found(alloc, uid.as_str(), found)
+    running_found(alloc, &cron.meta.uid, found)
 }
 
 // Of a CronJob that isn't suspended.

@@ -23,7 +23,7 @@ use Rattle.cj_decide.specs.Finally.{with_made, active_after, final, standing, Is
 use Rattle.cj_decide.specs.Decision.{running_of, claim_by, IsDecision}
 use Rattle.cj_decide.specs.laws.Laws.{IsIn, IsCleaned, CleansFinished, IsFoundOf, IsMadeName, IsNamed, is_replacing, NamesAtEnd}
 use Rattle.cj_decide.proofs.LawsLemmas.Members.{in_parts, in_filtered, in_ordered, in_gathered, with_has, with_one, with_others, still_has, has_still}
-use Rattle.cj_decide.proofs.LawsLemmas.Verdicts.{verdict_replaces}
+use Rattle.cj_decide.proofs.LawsLemmas.StartDecisions.{start_replaces}
 
 -- ---- cleanup
 
@@ -122,25 +122,25 @@ has_kept : (b : Bool) (uid : List ℕ) (names : List (List ℕ)) (found : List (
 has_kept true uid names found name h = absurd (cc (h.0))
 has_kept false uid names found name h = has_still uid names found name h.1
 
--- A status that a plan writes at the end is the final status by its verdict.
+-- A status that a plan writes at the end is the final status by its start decision.
 pub final_is : (c : CronJob) (jobs : List Job) (found : List (Option Job)) (now : ℕ) (z : Option
     Zone) (p : Steps) (f : CronStatus) (d : IsDecision c jobs found now z p)
-    → p.status ≡ Some f → f ≡ final c jobs found d.verdict (claim_by c d.verdict)
+    → p.status ≡ Some f → f ≡ final c jobs found d.start (claim_by c d.start)
 final_is c jobs found now z p f d h = by d.meant.status d.meant.changes (sym (ap (λ (x : Steps). x.status) d.meant.are)
     ∙ h)
   where
-    by : (s : Option CronStatus) → IsStatusStep (standing c (claim_by c d.verdict))
-        (final c jobs found d.verdict (claim_by c d.verdict)) s → s ≡ Some f
-        → f ≡ final c jobs found d.verdict (claim_by c d.verdict)
+    by : (s : Option CronStatus) → IsStatusStep (standing c (claim_by c d.start))
+        (final c jobs found d.start (claim_by c d.start)) s → s ≡ Some f
+        → f ≡ final c jobs found d.start (claim_by c d.start)
     by None k e = absurd (cc)
     by (Some s) k e = let same : s ≡ f = cc in sym same ∙ k.0
 
--- The verdict of a plan replaces what runs just where the policy does and the plan claims a time.
+-- The start decision of a plan replaces what runs just where the policy does and the plan claims a time.
 pub replaces_is : (c : CronJob) (jobs : List Job) (found : List (Option Job)) (now : ℕ) (z : Option
     Zone) (p : Steps) (d : IsDecision c jobs found now z p)
-    → d.verdict.replaces ≡ is_replacing c.spec.policy p.claim
+    → d.start.replaces ≡ is_replacing c.spec.policy p.claim
 replaces_is c jobs found now z p d =
-    verdict_replaces c z (has_any (running_of c found)) now d.verdict d.judged
+    start_replaces c z (has_any (running_of c found)) now d.start d.decided
     ∙ ap (is_replacing c.spec.policy) (sym (ap (λ (x : Steps). x.claim) d.meant.are))
 
 -- For plan_laws: the final status names the Jobs found unfinished, where they aren't dropped, the
@@ -148,35 +148,35 @@ replaces_is c jobs found now z p d =
 pub names_at_end : NamesAtEnd
 names_at_end c jobs found now z p f d h name = record { only = only; all = all }
   where
-    active : f.active ≡ active_after c found d.verdict
+    active : f.active ≡ active_after c found d.start
     active = ap (λ (x : CronStatus). x.active) (final_is c jobs found now z p f d h)
 
-    claim : p.claim ≡ claim_by c d.verdict
+    claim : p.claim ≡ claim_by c d.start
     claim = ap (λ (x : Steps). x.claim) d.meant.are
 
-    replaces : d.verdict.replaces ≡ is_replacing c.spec.policy p.claim
+    replaces : d.start.replaces ≡ is_replacing c.spec.policy p.claim
     replaces = replaces_is c jobs found now z p d
 
     kept : List (List ℕ)
-    kept = cond d.verdict.replaces [] (still_active (uid_text c.meta.uid) c.status.active found)
+    kept = cond d.start.replaces [] (still_active (uid_text c.meta.uid) c.status.active found)
 
-    turn : IsIn name (cond d.verdict.replaces [] (still_active (uid_text c.meta.uid) c.status.active found))
-        ⊎ IsMadeName c (claim_by c d.verdict) name → IsNamed c found p name
-    turn (inl k) = let r = kept_has d.verdict.replaces (uid_text c.meta.uid) c.status.active found name k in inl (sym replaces ∙ r.0, r.1)
+    turn : IsIn name (cond d.start.replaces [] (still_active (uid_text c.meta.uid) c.status.active found))
+        ⊎ IsMadeName c (claim_by c d.start) name → IsNamed c found p name
+    turn (inl k) = let r = kept_has d.start.replaces (uid_text c.meta.uid) c.status.active found name k in inl (sym replaces ∙ r.0, r.1)
     turn (inr k) = inr (subst (λ x. IsMadeName c x name) (sym claim) k)
 
-    back : IsNamed c found p name → IsIn name (cond d.verdict.replaces []
-        (still_active (uid_text c.meta.uid) c.status.active found)) ⊎ IsMadeName c (claim_by c d.verdict) name
-    back (inl k) = inl (has_kept d.verdict.replaces (uid_text c.meta.uid) c.status.active found name
+    back : IsNamed c found p name → IsIn name (cond d.start.replaces []
+        (still_active (uid_text c.meta.uid) c.status.active found)) ⊎ IsMadeName c (claim_by c d.start) name
+    back (inl k) = inl (has_kept d.start.replaces (uid_text c.meta.uid) c.status.active found name
         (replaces ∙ k.0, k.1))
     back (inr k) = inr (subst (λ x. IsMadeName c x name) claim k)
 
     only : IsIn name f.active → IsNamed c found p name
     only k =
         turn
-        (made_has c d.verdict.start (cond d.verdict.replaces []
+        (made_has c d.start.time (cond d.start.replaces []
         (still_active (uid_text c.meta.uid) c.status.active found)) name (subst (IsIn name) active k))
 
     all : IsNamed c found p name → IsIn name f.active
-    all k = subst (IsIn name) (sym active) (has_made c d.verdict.start
-        (cond d.verdict.replaces [] (still_active (uid_text c.meta.uid) c.status.active found)) name (back k))
+    all k = subst (IsIn name) (sym active) (has_made c d.start.time
+        (cond d.start.replaces [] (still_active (uid_text c.meta.uid) c.status.active found)) name (back k))

@@ -14,8 +14,8 @@ use Rattle.cj_due.specs.Due.{due, IsLeastDue, IsLatestDue}
 use Rattle.cj_due.specs.Missed.{IsMissed}
 use Rattle.cj_due.specs.Window.{window_of}
 use Rattle.cj_status.specs.Refs.{has_any}
-use Rattle.cj_decide.specs.declared.verdict.Verdict.{Verdict}
-use Rattle.cj_decide.specs.Verdicts.{by_missed, IsNext, IsByTimes, IsByText, IsByZone, IsUnlessSuspended}
+use Rattle.cj_decide.specs.declared.start_decision.StartDecision.{StartDecision}
+use Rattle.cj_decide.specs.StartDecisions.{by_missed, IsNext, IsByTimes, IsByText, IsByZone, IsUnlessSuspended}
 use Rattle.cj_decide.specs.declared.steps.Steps.{Steps}
 use Rattle.cj_decide.specs.Finally.{standing, final, IsStatusStep}
 use Rattle.cj_decide.specs.Decision.{running_of, claim_by, steps_of, IsDecision}
@@ -71,8 +71,8 @@ one_next s z now None (Some t) h k = absurd (clash (due s z t) (h t k.above k.wi
 one_next s z now (Some t) None h k = absurd (clash (due s z t) (k t h.above h.within) h.is_due)
 one_next s z now (Some t) (Some u) h k = ap (λ (n : ℕ). Some n) (one_least s z now _ t u h k)
 
--- By a schedule's times in a zone there is one verdict at most.
-one_times : (c : CronJob) (s : Sets) (z : Zone) (busy : Bool) (now : ℕ) (v w : Verdict) → IsByTimes c s z busy now v
+-- By a schedule's times in a zone there is one start decision at most.
+one_times : (c : CronJob) (s : Sets) (z : Zone) (busy : Bool) (now : ℕ) (v w : StartDecision) → IsByTimes c s z busy now v
     → IsByTimes c s z busy now w → v ≡ w
 one_times c s z busy now v w (m, n, hm, hn, e) (m', n', km, kn, f) =
     let missed = one_missed s z (window_of c now) now m m' hm km in
@@ -80,8 +80,8 @@ one_times c s z busy now v w (m, n, hm, hn, e) (m', n', km, kn, f) =
     e ∙ ap (λ (x : Missed). by_missed x c.spec.policy busy n) missed ∙ ap
     (λ (x : Option ℕ). by_missed m' c.spec.policy busy x) next ∙ sym f
 
--- By a text, which may be no schedule, there is one verdict at most in a zone.
-one_text : (c : CronJob) (z : Zone) (busy : Bool) (now : ℕ) (v w : Verdict) → IsByText c z busy now v
+-- By a text, which may be no schedule, there is one start decision at most in a zone.
+one_text : (c : CronJob) (z : Zone) (busy : Bool) (now : ℕ) (v w : StartDecision) → IsByText c z busy now v
     → IsByText c z busy now w → v ≡ w
 one_text c z busy now v w (inl (s, hs, h)) (inl (t, kt, k)) =
     let same = one_schedule c.spec.schedule s t hs kt in
@@ -90,14 +90,14 @@ one_text c z busy now v w (inl (s, hs, h)) (inr (none, k)) = absurd (none s hs)
 one_text c z busy now v w (inr (none, h)) (inl (t, kt, k)) = absurd (none t kt)
 one_text c z busy now v w (inr (none, h)) (inr (again, k)) = h ∙ sym k
 
--- By a zone, which may be unknown, there is one verdict at most.
-one_zone : (c : CronJob) (z : Option Zone) (busy : Bool) (now : ℕ) (v w : Verdict) → IsByZone c z busy now v
+-- By a zone, which may be unknown, there is one start decision at most.
+one_zone : (c : CronJob) (z : Option Zone) (busy : Bool) (now : ℕ) (v w : StartDecision) → IsByZone c z busy now v
     → IsByZone c z busy now w → v ≡ w
 one_zone c None busy now v w h k = h ∙ sym k
 one_zone c (Some z) busy now v w h k = one_text c z busy now v w h k
 
--- Whether or not the CronJob is suspended, there is one verdict at most.
-one_suspended : (b : Bool) (c : CronJob) (z : Option Zone) (busy : Bool) (now : ℕ) (v w : Verdict)
+-- Whether or not the CronJob is suspended, there is one start decision at most.
+one_suspended : (b : Bool) (c : CronJob) (z : Option Zone) (busy : Bool) (now : ℕ) (v w : StartDecision)
     → IsUnlessSuspended b c z busy now v → IsUnlessSuspended b c z busy now w → v ≡ w
 one_suspended true c z busy now v w h k = h ∙ sym k
 one_suspended false c z busy now v w h k = one_zone c z busy now v w h k
@@ -113,13 +113,13 @@ one_step old new (Some s) (Some t) h k = ap (λ (x : CronStatus). Some x) (h.0 �
 one_decision : (c : CronJob) (jobs : List Job) (found : List (Option Job)) (now : ℕ) (z : Option Zone) (p q : Steps)
     → IsDecision c jobs found now z p → IsDecision c jobs found now z q → p ≡ q
 one_decision c jobs found now z p q h k =
-    let same = one_suspended c.spec.suspend c z (has_any (running_of c found)) now h.verdict k.verdict h.judged k.judged
+    let same = one_suspended c.spec.suspend c z (has_any (running_of c found)) now h.start k.start h.decided k.decided
     in
-    let changes = subst (λ (x : Verdict). IsStatusStep (standing c (claim_by c x))
+    let changes = subst (λ (x : StartDecision). IsStatusStep (standing c (claim_by c x))
     (final c jobs found x (claim_by c x)) h.meant.status) same h.meant.changes in
     let status = one_step _ _ h.meant.status k.meant.status changes k.meant.changes in
-    h.meant.are ∙ ap (λ (x : Verdict). steps_of c jobs found x h.meant.status) same
-    ∙ ap (λ (x : Option CronStatus). steps_of c jobs found k.verdict x) status ∙ sym k.meant.are
+    h.meant.are ∙ ap (λ (x : StartDecision). steps_of c jobs found x h.meant.status) same
+    ∙ ap (λ (x : Option CronStatus). steps_of c jobs found k.start x) status ∙ sym k.meant.are
 
 -- For plan_laws: for a CronJob or none, and what was read, there is one plan at most.
 pub one_plan : OnePlan

@@ -2,6 +2,7 @@
 use Rattle.std.proofs.Common.{◌≡◌, ◌∙◌, ap, sym, refl, ℕ, ◌+◌, ◌<◌, zero, suc, Bool, true, false, cond, List, [], ◌∷◌, ◌++◌, drop, length, Option, None, arith, append_assoc, add-one, get_or}
 use Rattle.std.proofs.Math.Seq.{drop-cons}
 use Rattle.cj_types.specs.declared.job.Job.{Job}
+use Rattle.cj_types.specs.Uids.{uid_text}
 use Rattle.cj_status.specs.Active.{is_found, still_active}
 use Rattle.cj_status.proofs.active.still_active.Goals as goal
 
@@ -48,8 +49,8 @@ names_more uid name text names found i keeps done more all e h t f k m =
 pub loop-i-preserved : goal.loop-i-preserved
 loop-i-preserved c =
     let same_length = ap length c.as_slice-name-items.ensures in
-    names_more c.args.uid.now c.name-item.result c.as_str.result.now c.args.names.now c.args.found.now c.loop-i.i
-    c.is_found_at-keeps.result c.loop-i.all _ _
+    names_more (uid_text c.args.uid.now) c.name-item.result c.as_str.result.now c.args.names.now
+    c.args.found.now c.loop-i.i c.is_found_at-keeps.result c.loop-i.all _ _
     (c.name-item.is ∙ ap (λ l. get_or l c.loop-i.i c.name-item.result) c.as_slice-name-items.ensures)
     (omega (arith, same_length)) c.as_str.ensures.value c.is_found_at-keeps.ensures c.loop-i.invariant
     c.in_ok-push_kept.ensures.ok

@@ -2,6 +2,7 @@
 use Rattle.std.proofs.Common.{◌≡◌, ◌∙◌, ap, sym, refl, ℕ, ◌+◌, ◌<◌, suc, Bool, true, false, cond, List, [], ◌∷◌, ◌++◌, drop, length, map, filter, Option, None, Some, arith, append_assoc, add-one, get_or}
 use Rattle.std.proofs.Math.Seq.{drop-cons}
 use Rattle.cj_types.specs.declared.job.Job.{Job}
+use Rattle.cj_types.specs.Uids.{uid_text}
 use Rattle.cj_status.specs.declared.refs.JobRef.{JobRef}
 use Rattle.cj_status.specs.Mine.{is_running, present}
 use Rattle.cj_status.specs.Picked.{gathered}
@@ -37,5 +38,5 @@ found_more p found i one done more all e h k m =
 
 pub loop-one-preserved : goal.loop-one-preserved
 loop-one-preserved c =
-    found_more (is_running c.args.uid.now) c.args.found.now c.loop-one.one-index c.one-item.result
+    found_more (is_running (uid_text c.args.uid.now)) c.args.found.now c.loop-one.one-index c.one-item.result
     c.loop-one.items.items _ _ c.one-item.is (omega arith) c.loop-one.invariant c.in_ok-push_running.ensures.ok

@@ -2,7 +2,7 @@
 use Rattle.std.proofs.Common.{inr, subst, sym, ap, ◌∙◌, List, ℕ}
 use Rattle.cj_types.specs.declared.cron.CronSpec.{CronSpec}
 use Rattle.cj_schedule.specs.Grammar.{IsSchedule}
-use Rattle.cj_decide.proofs.verdict.by_text.Goals as goal
+use Rattle.cj_decide.proofs.start_decision.by_text.Goals as goal
 
 pub returns-in-Err : goal.returns-in-Err
 returns-in-Err c =

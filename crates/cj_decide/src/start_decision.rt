@@ -1,5 +1,5 @@
 ghost use Rattle.std.specs.Prelude.{◌≡◌, option_copied};
-ghost use Rattle.cj_decide.specs.Verdicts.{rests, starts, late, by_policy, by_missed, IsByTimes, IsByText, IsByZone, IsVerdict};
+ghost use Rattle.cj_decide.specs.StartDecisions.{rests, starts, late, by_policy, by_missed, IsByTimes, IsByText, IsByZone, IsStartDecision};
 
 use crate::times::{missed_of, next_of};
 use cj_due::Missed;
@@ -9,9 +9,9 @@ use cj_zone::Zone;
 
 /// What is decided about starting a Job.
 #[derive(Clone, Copy, Debug)]
-pub struct Verdict {
+pub struct StartDecision {
     /// The time for which one is started, if one is.
-    pub start: Option<Seconds>,
+    pub time: Option<Seconds>,
     /// Whether it takes the place of those that run.
     pub replaces: bool,
     /// Whether more than 100 times were missed.
@@ -22,11 +22,11 @@ pub struct Verdict {
     pub next: Option<Seconds>,
 }
 
-fn rests(reason: Option<Reason>, next: Option<Seconds>) -> Verdict
+fn rests(reason: Option<Reason>, next: Option<Seconds>) -> StartDecision
     ensures { result ≡ rests reason next }
 {
-    Verdict {
-        start: None,
+    StartDecision {
+        time: None,
         replaces: false,
         is_late: false,
         reason,
@@ -34,11 +34,11 @@ fn rests(reason: Option<Reason>, next: Option<Seconds>) -> Verdict
     }
 }
 
-fn starts(time: Seconds, replaces: bool, next: Option<Seconds>) -> Verdict
+fn starts(time: Seconds, replaces: bool, next: Option<Seconds>) -> StartDecision
     ensures { result ≡ starts time replaces next }
 {
-    Verdict {
-        start: Some(time),
+    StartDecision {
+        time: Some(time),
         replaces,
         is_late: false,
         reason: None,
@@ -46,7 +46,7 @@ fn starts(time: Seconds, replaces: bool, next: Option<Seconds>) -> Verdict
     }
 }
 
-fn by_policy(policy: Policy, busy: bool, time: Seconds, next: Option<Seconds>) -> Verdict
+fn by_policy(policy: Policy, busy: bool, time: Seconds, next: Option<Seconds>) -> StartDecision
     ensures { result ≡ by_policy policy busy time next }
 {
     match (policy, busy) {
@@ -56,17 +56,17 @@ fn by_policy(policy: Policy, busy: bool, time: Seconds, next: Option<Seconds>) -
     }
 }
 
-// The same verdict where more than 100 times were missed.
-fn late(verdict: Verdict) -> Verdict
-    ensures { result ≡ late verdict }
+// The same start decision where more than 100 times were missed.
+fn late(start: StartDecision) -> StartDecision
+    ensures { result ≡ late start }
 {
-    Verdict {
+    StartDecision {
         is_late: true,
-        ..verdict
+        ..start
     }
 }
 
-fn by_missed(missed: Missed, policy: Policy, busy: bool, next: Option<Seconds>) -> Verdict
+fn by_missed(missed: Missed, policy: Policy, busy: bool, next: Option<Seconds>) -> StartDecision
     ensures { result ≡ by_missed missed policy busy next }
 {
     match missed {
@@ -76,7 +76,13 @@ fn by_missed(missed: Missed, policy: Policy, busy: bool, next: Option<Seconds>) 
     }
 }
 
-fn by_times(cron: &CronJob, schedule: &Schedule, zone: &Zone, busy: bool, now: Seconds) -> Verdict
+fn by_times(
+    cron: &CronJob,
+    schedule: &Schedule,
+    zone: &Zone,
+    busy: bool,
+    now: Seconds,
+) -> StartDecision
     ensures { IsByTimes cron.now schedule.now zone.now busy now result }
 {
     let missed = missed_of(cron, schedule, zone, now);
@@ -84,7 +90,7 @@ fn by_times(cron: &CronJob, schedule: &Schedule, zone: &Zone, busy: bool, now: S
     by_missed(missed, cron.spec.policy, busy, next)
 }
 
-fn by_text(cron: &CronJob, zone: &Zone, busy: bool, now: Seconds) -> Verdict
+fn by_text(cron: &CronJob, zone: &Zone, busy: bool, now: Seconds) -> StartDecision
     ensures { IsByText cron.now zone.now busy now result }
 {
     match Schedule::parse(cron.spec.schedule.as_str()) {
@@ -93,7 +99,7 @@ fn by_text(cron: &CronJob, zone: &Zone, busy: bool, now: Seconds) -> Verdict
     }
 }
 
-fn by_zone(cron: &CronJob, zone: Option<&Zone>, busy: bool, now: Seconds) -> Verdict
+fn by_zone(cron: &CronJob, zone: Option<&Zone>, busy: bool, now: Seconds) -> StartDecision
     ensures { IsByZone cron.now (option_copied zone.entry) busy now result }
 {
     match zone {
@@ -102,10 +108,10 @@ fn by_zone(cron: &CronJob, zone: Option<&Zone>, busy: bool, now: Seconds) -> Ver
     }
 }
 
-/// The verdict on a CronJob of which a Job runs or not: the first of suspended, no zone, nothing missed, not allowed
-/// beside what runs, started in its place, started.
-pub fn judge(cron: &CronJob, zone: Option<&Zone>, busy: bool, now: Seconds) -> Verdict
-    ensures { IsVerdict cron.now (option_copied zone.entry) busy now result }
+/// The start decision on a CronJob of which a Job runs or not: the first of suspended, no zone, nothing missed, not
+/// allowed beside what runs, started in its place, started.
+pub fn decide_start(cron: &CronJob, zone: Option<&Zone>, busy: bool, now: Seconds) -> StartDecision
+    ensures { IsStartDecision cron.now (option_copied zone.entry) busy now result }
 {
     if cron.spec.suspend {
         rests(None, None)

@@ -14,24 +14,24 @@ use Rattle.cj_due.specs.declared.answer.Missed.TheVariants as Kind
 use Rattle.cj_due.specs.Due.{reach, IsQuiet, IsLeastDue}
 use Rattle.cj_due.specs.Missed.{IsMissed}
 use Rattle.cj_due.specs.Window.{window_of}
-use Rattle.cj_decide.specs.declared.verdict.Verdict.{Verdict}
+use Rattle.cj_decide.specs.declared.start_decision.StartDecision.{StartDecision}
 
 -- no Job is started
-abbrev pub rests : Option Reason → Option ℕ → Verdict
-rests reason next = record { start = None; replaces = false; is_late = false; reason = reason; next = next }
+abbrev pub rests : Option Reason → Option ℕ → StartDecision
+rests reason next = record { time = None; replaces = false; is_late = false; reason = reason; next = next }
 
 -- the Job of a time is started, in place of those that run or beside them
-abbrev pub starts : ℕ → Bool → Option ℕ → Verdict
-starts time replaces next = record { start = Some time; replaces = replaces; is_late = false; reason = None; next = next }
+abbrev pub starts : ℕ → Bool → Option ℕ → StartDecision
+starts time replaces next = record { time = Some time; replaces = replaces; is_late = false; reason = None; next = next }
 
 -- the same where more than 100 times were missed
 -- rule: too-many-missed
-abbrev pub late : Verdict → Verdict
-late v = record { start = v.start; replaces = v.replaces; is_late = true; reason = v.reason; next = v.next }
+abbrev pub late : StartDecision → StartDecision
+late v = record { time = v.time; replaces = v.replaces; is_late = true; reason = v.reason; next = v.next }
 
 -- by the concurrency policy, and whether a Job of the CronJob runs
 -- rule: decision-cases
-abbrev pub by_policy : Policy → Bool → ℕ → Option ℕ → Verdict
+abbrev pub by_policy : Policy → Bool → ℕ → Option ℕ → StartDecision
 by_policy Forbid true time next = rests (Some JobAlreadyActive) next
 by_policy Forbid false time next = starts time false next
 by_policy Replace busy time next = starts time true next
@@ -39,7 +39,7 @@ by_policy Allow busy time next = starts time false next
 
 -- by the times missed, however many: the latest of them is the one to start for
 -- rule: too-many-missed
-abbrev pub by_missed : Missed → Policy → Bool → Option ℕ → Verdict
+abbrev pub by_missed : Missed → Policy → Bool → Option ℕ → StartDecision
 by_missed Kind.None policy busy next = rests None next
 by_missed (Kind.Some count latest) policy busy next = by_policy policy busy latest next
 by_missed (Kind.Many latest) policy busy next = late (by_policy policy busy latest next)
@@ -50,29 +50,29 @@ abbrev pub IsNext : Sets → Zone → ℕ → Option ℕ → Type 0
 IsNext s z now None = IsQuiet s z now (now + reach)
 IsNext s z now (Some t) = IsLeastDue s z now (now + reach) t
 
--- the verdict of the times missed since the window's lower end, and of the next one
-abbrev pub IsByTimes : CronJob → Sets → Zone → Bool → ℕ → Verdict → Type 0
+-- by the times missed since the window's lower end, and by the next one
+abbrev pub IsByTimes : CronJob → Sets → Zone → Bool → ℕ → StartDecision → Type 0
 IsByTimes cron s z busy now v =
     (missed : Missed) × (next : Option ℕ) × IsMissed s z (window_of cron now) now missed × IsNext s z now next
     × (v ≡ by_missed missed cron.spec.policy busy next)
 
 -- a text that isn't a schedule has no due times
-abbrev pub IsByText : CronJob → Zone → Bool → ℕ → Verdict → Type 0
+abbrev pub IsByText : CronJob → Zone → Bool → ℕ → StartDecision → Type 0
 IsByText cron z busy now v =
     ((s : Sets) × IsSchedule cron.spec.schedule s × IsByTimes cron s z busy now v)
     ⊎ (((s : Sets) → IsSchedule cron.spec.schedule s → ⊥) × (v ≡ rests None None))
 
 -- without a zone nothing is known of the times
-abbrev pub IsByZone : CronJob → Option Zone → Bool → ℕ → Verdict → Type 0
+abbrev pub IsByZone : CronJob → Option Zone → Bool → ℕ → StartDecision → Type 0
 IsByZone cron None busy now v = v ≡ rests (Some UnknownTimeZone) None
 IsByZone cron (Some z) busy now v = IsByText cron z busy now v
 
 -- a suspended CronJob starts nothing
-abbrev pub IsUnlessSuspended : Bool → CronJob → Option Zone → Bool → ℕ → Verdict → Type 0
+abbrev pub IsUnlessSuspended : Bool → CronJob → Option Zone → Bool → ℕ → StartDecision → Type 0
 IsUnlessSuspended true cron z busy now v = v ≡ rests None None
 IsUnlessSuspended false cron z busy now v = IsByZone cron z busy now v
 
 -- the first of these cases that holds
 -- rule: decision-cases
-abbrev pub IsVerdict : CronJob → Option Zone → Bool → ℕ → Verdict → Type 0
-IsVerdict cron z busy now v = IsUnlessSuspended cron.spec.suspend cron z busy now v
+abbrev pub IsStartDecision : CronJob → Option Zone → Bool → ℕ → StartDecision → Type 0
+IsStartDecision cron z busy now v = IsUnlessSuspended cron.spec.suspend cron z busy now v
