@@ -1,6 +1,9 @@
 -- Between two changes of a rule, and within one year, its clock stays as far ahead as it is.
-use Rattle.std.proofs.Common.{◌≡◌, ℕ, ◌+◌, ◌-◌, ◌/◌, ◌≤◌, ◌&&◌, not, ◌≤ℤ◌, ◌<ℤ◌, ℤ, pos, ◌+ℤ◌, ◌*ℤ◌, Bool, true, false, if◌then◌else◌, int_le, int_lt, Option, None, Some, option_map, vec_len, unsigned_abs, w64, inl, refl, sym, ap, ◌∙◌, arith}
+use Rattle.std.proofs.Common.{◌<◌, ◌≡◌, ℕ, ◌+◌, ◌-◌, ◌/◌, ◌≤◌, ◌&&◌, not, ◌≤ℤ◌, ◌<ℤ◌, ℤ, pos, ◌+ℤ◌, ◌*ℤ◌, Bool, true, false, if◌then◌else◌, int_le, int_lt, Option, None, Some, option_map, vec_len, unsigned_abs, w64, inl, refl, sym, ap, ◌∙◌, arith}
+use Rattle.std.specs.Prelude.{int_div}
 use Rattle.std.specs.Int.{int_div_euclid}
+use Rattle.std.proofs.Common.{w8, FitsSigned, ◌-ℤ◌}
+use Rattle.std.proofs.lemmas.Int.{to_z-of_z}
 use borrow.Author.Differences.{le-false, lt-true, lt-false}
 use mir.Val.{to_z, of_z}
 use Rattle.jiff_core.specs.Date.{epoch_day}
@@ -15,6 +18,12 @@ use Rattle.jiff_tz.specs.declared.posix.Dst.{Dst}
 use Rattle.jiff_tz.specs.declared.posix.TimeZone.{TimeZone as Rule}
 use Rattle.jiff_tz.specs.PosixRule.{match_some, in_window, transition_of, utc_window, next_by, next_year, dst_at_by}
 use Rattle.jiff_tz.specs.PosixRule as Posix
+use Rattle.jiff_tz.specs.PosixRule.{transition_view}
+use Rattle.jiff_tz.specs.Zone.{next_at}
+use Rattle.jiff_tz.specs.declared.timezone.TimeZone.TheVariants as Kind
+use Rattle.jiff.specs.Transitions.{Search, Steps, search_from}
+use Rattle.jiff.specs.ZoneView.{plain_transition}
+use Rattle.jiff.specs.declared.tz.transitions.TimeZoneTransition.{TimeZoneTransition}
 use Rattle.jiff_tz.specs.Year.{year_of_day, year_of_nanos}
 use Rattle.jiff_tz.proofs.TzifLemmas.{le_yes, le_no}
 use Rattle.jiff_tz.proofs.YearLemmas.{year_of_day-date}
@@ -159,10 +168,6 @@ month_year d at t k e place within =
     }) t
     (month_day d (at / 86_400) k e within ∙ ap pos (sym place))
 
--- For end_of_month: the days since -9999-01-01 tell the day number that they were made of.
-pub back_from : (d : Date) (day : ℕ) → epoch_day d +ℤ pos 4_371_587 ≡ pos (day + 4_371_587) → epoch_day d ≡ pos day
-back_from d day e = omega (arith, signed_arith)
-
 -- A clock stays as it is from an instant up to the same instant.
 pub steady_here : (f : ℕ → ℤ) (at last : ℕ) → last ≡ at → IsSteady f at last
 steady_here f at last e = record {
@@ -196,7 +201,7 @@ past_is_rule z from t r all le e =
     (type_after z (vec_len z.transitions)).offset (pos t *ℤ pos 1_000_000_000) e
 
 -- a second before that of an instant lies before the instant, with the second as the code has it
-pub second_before : (f n : ℤ) (at g t : ℕ) → f ≡ int_div_euclid n (pos 1_000_000_000) → IsTimestampNanos n → g ≡ at
+pub second_before : (f n : ℤ) (at g t : ℕ) → f ≡ int_div n (pos 1_000_000_000) → IsTimestampNanos n → g ≡ at
     → g ≤ 253_370_764_799 → int_le (to_z w64 (of_z w64 f)) (to_z w64 g) ≡ false
     → t ≤ unsigned_abs (to_z w64 (of_z w64 f)) - 1
     → (pos t *ℤ pos 1_000_000_000) <ℤ n
@@ -214,3 +219,28 @@ one_clock f offset at last range e h = record {
   other_in = range;
   is_one_of = λ t above within. inl (h.same t above within ∙ sym e);
 }
+
+-- For of_rule: what jiff finds from a rule's moment on is the rule's next change.
+pub next_of : (r : Option TimeZoneTransition) (rule : Rule) (n : ℤ) (s t : Search) (x : TimeZoneTransition)
+    → Steps next_at s r t → s ≡ search_from (Kind.Posix rule) n → r ≡ Some x
+    → Some (transition_view (plain_transition x)) ≡ Posix.next_at rule n
+unfolding next_at
+next_of r rule n s t x steps from is =
+    let left : 0 < s.left = rw from (omega arith) in
+    ap (option_map (λ y. transition_view (plain_transition y))) (sym is) ∙ steps.found left ∙ rw from refl
+
+-- For end_of_month: the days that are left of a month, as the code reckons them in 8 bits.
+pub left_days : (days day : ℤ) (m n : ℕ) → days ≡ pos m → day ≡ pos n → n ≤ m → m ≤ 31
+    → unsigned_abs (to_z w8 (of_z w8 (to_z w8 (of_z w8 days) -ℤ to_z w8 (of_z w8 day)))) ≡ m - n
+left_days days day m n e f le most =
+    let all : FitsSigned w8 (pos m) = omega (arith, signed_arith) in
+    let gone : FitsSigned w8 (pos n) = omega (arith, signed_arith) in
+    let left : FitsSigned w8 (pos m -ℤ pos n) = omega (arith, signed_arith) in
+    let is : pos m -ℤ pos n ≡ pos (m - n) = omega (arith, signed_arith) in
+    rw (
+      e,
+      f,
+      to_z-of_z w8 (pos m) all,
+      to_z-of_z w8 (pos n) gone,
+      to_z-of_z w8 (pos m -ℤ pos n) left,
+    ) (ap unsigned_abs is)

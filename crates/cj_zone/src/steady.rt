@@ -11,11 +11,9 @@ use crate::changes::{is_past, last_before_next, timestamp};
 use crate::rules::Rules;
 use crate::stretch::Stretch;
 use cj_base::Seconds;
-use jiff_core::civil::{Date, days_in_month};
+use jiff::Timestamp;
+use jiff::tz::TimeZone;
 use jiff_tz::{Tzif, posix};
-
-// Days from -9999-01-01 to 1970-01-01.
-const EPOCH: u64 = 4_371_587;
 
 const DAY: u64 = 86_400;
 
@@ -24,10 +22,10 @@ fn end_of_month(at: Seconds) -> u64
     ensures low { at ≤ result }
     ensures year { (t : ℕ) → at ≤ t → t ≤ result → IsSameYear at t }
 {
-    let day = at.get() / DAY;
-    let date = Date::from_days_since_min((day + EPOCH) as u32);
-    let left = (days_in_month(date.year, date.month) - date.day) as u64;
-    (day + left) * DAY + (DAY - 1)
+    let instant = Timestamp::from_plain(timestamp(at));
+    let date = TimeZone::UTC.to_datetime(instant).date();
+    let left = (date.days_in_month() - date.day()) as u64;
+    (at.get() / DAY + left) * DAY + (DAY - 1)
 }
 
 // A second before a rule's clock changes, and in the instant's month.
@@ -36,10 +34,12 @@ fn of_rule(rule: posix::TimeZone, at: Seconds) -> u64
     ensures steady { IsSteady (λ t. (Posix.offset_at rule (pos t *ℤ pos 1_000_000_000)).seconds) at
         result }
 {
-    let Some(change) = rule.next_transition(timestamp(at)) else {
+    let zone = TimeZone::from_plain(jiff_tz::TimeZone::Posix(rule));
+    let instant = Timestamp::from_plain(timestamp(at));
+    let Some(change) = zone.following(instant).next() else {
         return at.get();
     };
-    let second = change.timestamp.floor_second();
+    let second = change.timestamp().as_second();
     if second <= at.get() as i64 {
         return at.get();
     }
