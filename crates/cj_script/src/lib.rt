@@ -1,5 +1,4 @@
-//! Scripts: what callers of given roles do one after the other, as a JSON text says it; what one step does
-//! (`operations`); and the scenario of a run of the whole controller (`simulation`).
+//! Scripts: what callers of given roles do one after the other, as a JSON text says it.
 #![tactic(auto)]
 
 mod callers;
