@@ -1,4 +1,9 @@
 //! What the commands answer that look at a text: schedules, manifests, scenarios, clusters.
+//!
+//! Here belongs what is printed and said for one request, as a function of the request and of what was read.
+//! Reading, writing and the commands that run a world belong to the crate above, which rests on the one clause
+//! of each `.._answer`: the answer is that of the rules for these words and this text. `next_text` is public for
+//! those who have a schedule and a zone, and no words.
 #![tactic(auto)]
 
 mod advice;
@@ -12,7 +17,7 @@ mod given;
 mod json;
 mod lines;
 mod next;
-mod next_text;
+mod next_lines;
 mod plan;
 mod why;
 
@@ -21,5 +26,6 @@ pub use audit::audit_answer;
 pub use check::check_answer;
 pub use given::{given_for, refused_pair};
 pub use next::next_answer;
+pub use next_lines::next_text;
 pub use plan::{asked_detection, plan_answer, refused_scene};
 pub use why::{MOST_LIST_BYTES, MOST_LIST_READS, why_answer};

@@ -9,7 +9,7 @@ ghost use Rattle.cj_zone.specs.Zones.{utc_zone};
 ghost use Rattle.cj_answers.specs.Outcome.{IsLookedUp, IsNextOutcome, IsNextZone, IsNoNextZone, IsNoRule, IsScheduleRefusal, IsZoneOf, after_words, explained, next_zone_words, outcome_of, refusal, schedule_line};
 
 use crate::answer::{Answer, Ending};
-use crate::next_text::next_text;
+use crate::next_lines::next_text;
 use cj_args::NextRequest;
 use cj_base::{Refusal, ScheduleFault};
 use cj_explain::explain_schedule;

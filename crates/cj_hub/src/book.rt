@@ -15,7 +15,7 @@ use crate::receipt::Receipt;
 use crate::seat::Seat;
 use crate::state::HubState;
 use cj_calls::{Call, Caller, Entry, Role};
-use cj_types::{Limits, Refusal, Version};
+use cj_types::{Limits, Refusal, Shared, Version};
 use cj_world::World;
 use std::alloc::{AllocError, Global};
 use std::marker::Model;
@@ -155,21 +155,23 @@ impl Book {
     }
 
     #[tactic(auto, using(crate::proofs::Entered::added, crate::proofs::Entered::unentered))]
-    /// Makes one call of an enrolled caller, and gives the receipt of it twice where it was entered.
+    /// Makes one call of an enrolled caller, and gives the receipt of it twice where it was entered. The entry and both
+    /// receipts share the call.
     pub(crate) fn enter(
         &mut self,
         caller: &Caller,
-        call: &Call,
+        call: Call,
     ) -> Result<(Receipt, Receipt), Refusal>
         requires seated { slice_get self.old.roles caller.now.number ≡ Some caller.now.role }
         requires room { length self.old.history < self.old.limits.history }
         ensures twice { IfOk result (λ r. r.0 ≡ r.1) }
-        ensures entered { IfOk result (λ r. IsEntered self.old caller.now call.now r.0 self.new) }
-        ensures which { IfErr result (IsUnentered (state_in self.old) call.now) }
+        ensures entered { IfOk result (λ r. IsEntered self.old caller.now call r.0 self.new) }
+        ensures which { IfErr result (IsUnentered (state_in self.old) call) }
         ensures err { OnErr result (self.new ≡ self.old) }
     {
         let place = self.entries().len() as u64 + 1;
-        let (kept, given) = self.world.enter(caller, call)?;
+        let shared = Shared::new(self.alloc, call)?;
+        let (kept, given) = self.world.enter_shared(caller, shared)?;
         count_one(&mut self.seats, caller.number as usize);
         Ok((
             Receipt { place, entry: kept },

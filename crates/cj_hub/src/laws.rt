@@ -13,15 +13,19 @@ use crate::state::HubState;
 use cj_calls::Call;
 use cj_types::{Refusal, Version};
 
-// `step` with the call only read.
+/// Makes one call of the pass on the book. It is refused with Estranged exactly where the book doesn't know
+/// the pass, next with HistoryFull exactly at a full history; with Empty at most for a Take where the line is
+/// empty and the queue isn't shut; and else at most for want of memory. Each refusal leaves book and pass as
+/// they were. Else the call is the next entry, with the answer that the history gives, and the pass has the
+/// receipt too.
 #[tactic(auto, using(crate::proofs::Placed::follows))]
-fn step_by(book: &mut Book, pass: &mut Pass, call: &Call) -> Result<Receipt, Refusal>
+pub fn step(book: &mut Book, pass: &mut Pass, call: Call) -> Result<Receipt, Refusal>
     ensures estranged { (result ≡ Err Estranged) ↔ (Knows book.old pass.old → ⊥) }
     ensures full { (result ≡ Err HistoryFull) ↔ (Knows book.old pass.old × IsFull book.old) }
-    ensures which { IfErr result (IsHubRefusal (state_in book.old) call.now) }
-    ensures ok { IfOk result (λ r. IsStep book.old pass.old call.now r book.new pass.new) }
+    ensures which { IfErr result (IsHubRefusal (state_in book.old) call) }
+    ensures ok { IfOk result (λ r. IsStep book.old pass.old call r book.new pass.new) }
     ensures later { IfOk result (λ r. Follows pass.old.receipts r.place) }
-    ensures row { IfOk result (λ r. IsTrue (is_in_row call.now r.entry.answer)) }
+    ensures row { IfOk result (λ r. IsTrue (is_in_row call r.entry.answer)) }
     ensures err { OnErr result ((book.new ≡ book.old) × (pass.new ≡ pass.old)) }
 {
     if !book.knows(pass) {
@@ -35,23 +39,6 @@ fn step_by(book: &mut Book, pass: &mut Pass, call: &Call) -> Result<Receipt, Ref
     pass.receipts.push_reserved(kept);
     given.call();
     Ok(given)
-}
-
-/// Makes one call of the pass on the book. It is refused with Estranged exactly where the book doesn't know
-/// the pass, next with HistoryFull exactly at a full history; with Empty at most for a Take where the line is
-/// empty and the queue isn't shut; and else at most for want of memory. Each refusal leaves book and pass as
-/// they were. Else the call is the next entry, with the answer that the history gives, and the pass has the
-/// receipt too.
-pub fn step(book: &mut Book, pass: &mut Pass, call: Call) -> Result<Receipt, Refusal>
-    ensures estranged { (result ≡ Err Estranged) ↔ (Knows book.old pass.old → ⊥) }
-    ensures full { (result ≡ Err HistoryFull) ↔ (Knows book.old pass.old × IsFull book.old) }
-    ensures which { IfErr result (IsHubRefusal (state_in book.old) call) }
-    ensures ok { IfOk result (λ r. IsStep book.old pass.old call r book.new pass.new) }
-    ensures later { IfOk result (λ r. Follows pass.old.receipts r.place) }
-    ensures row { IfOk result (λ r. IsTrue (is_in_row call r.entry.answer)) }
-    ensures err { OnErr result ((book.new ≡ book.old) × (pass.new ≡ pass.old)) }
-{
-    step_by(book, pass, &call)
 }
 
 /// Marks that work on the book was given up. Nothing is entered.

@@ -1,4 +1,9 @@
 //! The program: what the words of a command line ask for, and what is answered, written and told.
+//!
+//! Here belongs which answer goes to which request, what is written of it and what is told where that fails.
+//! What the answer says belongs to the crates below; files, folders and the process belong to the program itself.
+//! That rests on `parse_words`, `read_input` and `serve`, whose `served`, `failed` and `most` say what was written
+//! at each status.
 #![tactic(auto)]
 
 mod replay;
@@ -7,7 +12,7 @@ mod serving;
 mod told;
 mod writing;
 
-pub use cj_answers::{MOST_LIST_BYTES, MOST_LIST_READS};
+pub use cj_answers::{MOST_LIST_BYTES, MOST_LIST_READS, next_text};
 pub use cj_args::{
     AuditRequest, CheckRequest, NextRequest, PlanRequest, ReplayRequest, Request, RunRequest,
     WhyRequest, WordFault, ZoneWords, parse_words,

@@ -1,46 +1,73 @@
--- A line of keys as two lists, of the first of which some are gone; and lines in which no key stands twice.
-use Rattle.std.proofs.Common.{◌≡◌, ◌≤◌, ◌<◌, ◌+◌, ℕ, zero, suc, Bool, true, false, not, cond, nat_le, ◌&&◌, ◌||◌, List, [], ◌∷◌, ◌++◌, length, drop, slice_get, Option, Some, None, refl, sym, ap, ◌∙◌, subst, arith}
-use Rattle.std.specs.List.{list_any, position_from}
-use Rattle.std.specs.Map.{lookup}
-use Rattle.std.proofs.lemmas.Bool.{le-leb, lt-leb}
+-- A line of keys as two lists, the first of them turned round; and lines in which no key stands twice.
+use Rattle.std.proofs.Common.{◌≡◌, ◌<◌, ◌-◌, Bool, true, false, not, ◌&&◌, ◌||◌, List, [], ◌∷◌, ◌++◌, length, drop, reverse, slice_get, Option, Some, None, IsSome, refl, sym, ap, ◌∙◌, arith}
+use Rattle.std.specs.Prelude.{if◌then◌else◌}
+use Rattle.std.specs.Option.{option_to_list}
+use Rattle.std.proofs.lemmas.List.{append-nil, append_assoc, reverse-append, reverse-reverse}
 use Rattle.std.proofs.lemmas.List.Folds.{list_any-append}
+use Rattle.indexmap.specs.IndexSet.{insert_key}
 use Rattle.cj_types.specs.Keys.{Place}
 use Rattle.cj_queue.specs.Queue.{first}
-use Rattle.cj_queue.specs.Parts.{key_eq, stands_in, are_distinct, IsPlaced}
-use Rattle.cj_queue.proofs.Sets.{at_equal, eq_true, eq_turned}
+use Rattle.cj_queue.specs.Parts.{key_eq, stands_in, are_distinct}
+use Rattle.cj_queue.proofs.Sets.{at_equal, eq_turned}
 
--- ---- the front, of which so many are gone
+-- ---- the front, which is turned round
 
--- Where n keys of the front are gone and it has one at place n, this one is the first of the line.
-pub first_in_front : (n : ℕ) (f b : List Place) (k : Place) → slice_get f n ≡ Some k → first (drop n f ++ b) ≡ Some k
-first_in_front zero [] b k e = absurd (cc e)
-first_in_front (suc n) [] b k e = absurd (cc e)
-first_in_front zero (x ∷ f) b k e = e
-first_in_front (suc n) (x ∷ f) b k e = first_in_front n f b k e
+-- A line whose front ends in x has the rest of the front, and then x before the back.
+turned_behind : (x : Place) (f b : List Place) → reverse (x ∷ f) ++ b ≡ reverse f ++ x ∷ b
+turned_behind x f b = ap (λ l. l ++ b) (reverse-append (x ∷ []) f) ∙ append_assoc (reverse f) (x ∷ []) b
 
--- Where at least as many keys are gone as the front has, nothing of the front is left.
-pub none_left : (n : ℕ) (f : List Place) → length f ≤ n → drop n f ≡ []
-none_left zero [] e = refl
-none_left (suc n) [] e = refl
-none_left zero (x ∷ f) e = absurd (search arith)
-none_left (suc n) (x ∷ f) e = none_left n f (search arith)
+-- For first_in_front: the last key of a front that has one is the first of the line.
+last_first : (x : Place) (f b : List Place) (k : Place) → slice_get (x ∷ f) (length f) ≡ Some k
+    → first (reverse (x ∷ f) ++ b) ≡ Some k
+last_first x [] b k e = e
+last_first x (y ∷ f) b k e = ap first (turned_behind x (y ∷ f) b) ∙ last_first y f (x ∷ b) k e
 
--- Where n keys of the front are gone and it has none at place n, the line's first is the back's.
-pub first_behind : (n : ℕ) (f b : List Place) → slice_get f n ≡ None → first (drop n f ++ b) ≡ first b
-first_behind zero [] b e = refl
-first_behind (suc n) [] b e = refl
-first_behind zero (x ∷ f) b e = absurd (cc e)
-first_behind (suc n) (x ∷ f) b e = first_behind n f b e
+-- For Line::first: the last key of the front is the first of the line.
+pub first_in_front : (f b : List Place) (k : Place) → slice_get f (length f - 1) ≡ Some k
+    → first (reverse f ++ b) ≡ Some k
+first_in_front [] b k e = absurd (cc e)
+first_in_front (x ∷ f) b k e =
+    let last : length f ≡ length (x ∷ f) - 1 = omega arith in
+    last_first x f b k (ap (slice_get (x ∷ f)) last ∙ e)
 
--- Where one more key of the front is gone, the line lacks its first key and is else the same.
-one_more : (n : ℕ) (f b : List Place) → n < length f → drop (suc n) f ++ b ≡ drop 1 (drop n f ++ b)
-one_more n [] b e = absurd (search arith)
-one_more zero (x ∷ f) b e = refl
-one_more (suc n) (x ∷ f) b e = one_more n f b (search arith)
+-- For first_behind: a front that has a key has a last one.
+last_there : (x : Place) (f : List Place) → slice_get (x ∷ f) (length f) ≡ None → ⊥
+last_there x [] e = absurd (cc e)
+last_there x (y ∷ f) e = last_there y f e
 
--- For Line::drop_first: what one_more says, of the count as the code adds to it.
-pub rest_of_front : (n : ℕ) (f b : List Place) → n < length f → drop (n + 1) f ++ b ≡ drop 1 (drop n f ++ b)
-rest_of_front n f b e = let next : n + 1 ≡ suc n = omega arith in ap (λ m. drop m f ++ b) next ∙ one_more n f b e
+-- The first key of a list stands at place 0.
+first_is : (b : List Place) → first b ≡ slice_get b 0
+first_is [] = refl
+first_is (x ∷ b) = refl
+
+-- For Line::first: where the front has no last key, the line's first is the back's.
+pub first_behind : (f b : List Place) → slice_get f (length f - 1) ≡ None → first (reverse f ++ b) ≡ slice_get b 0
+first_behind [] b e = first_is b
+first_behind (x ∷ f) b e =
+    let last : length f ≡ length (x ∷ f) - 1 = omega arith in
+    absurd (last_there x f (ap (slice_get (x ∷ f)) last ∙ e))
+
+-- For turn: where the front is used up, the back turned round in its place makes the same line.
+pub turned : (f b : List Place) → length f ≡ 0 → reverse (reverse b) ++ f ≡ reverse f ++ b
+turned [] b e = append-nil (reverse (reverse b)) ∙ reverse-reverse b
+turned (x ∷ f) b e = absurd (search arith)
+
+-- For Line::pop_first: what is popped off the front is the first key of the line, where no front means no back.
+pub popped_first : (f g b : List Place) (r : Option Place) → f ≡ g ++ option_to_list r → (0 < length f → IsSome r)
+    → (f ≡ [] → b ≡ []) → r ≡ first (reverse f ++ b)
+popped_first f g b (Some k) e there used =
+    sym (ap (λ l. first (reverse l ++ b)) e ∙ ap (λ l. first (l ++ b)) (reverse-append g (k ∷ [])))
+popped_first [] g b None e there used = sym (ap first (used refl))
+popped_first (x ∷ f) g b None e there used = absurd (cc (there (search arith)))
+
+-- For Line::pop_first: after it, the line lacks its first key and is else the same.
+pub popped_rest : (f g b : List Place) (r : Option Place) → f ≡ g ++ option_to_list r → (0 < length f → IsSome r)
+    → (f ≡ [] → b ≡ []) → reverse g ++ b ≡ drop 1 (reverse f ++ b)
+popped_rest f g b (Some k) e there used =
+    sym (ap (λ l. drop 1 (reverse l ++ b)) e ∙ ap (λ l. drop 1 (l ++ b)) (reverse-append g (k ∷ [])))
+popped_rest [] [] b None e there used = used refl ∙ sym (ap (drop 1) (used refl))
+popped_rest [] (x ∷ g) b None e there used = absurd (cc e)
+popped_rest (x ∷ f) g b None e there used = absurd (cc (there (search arith)))
 
 -- Where neither of two tests holds, the second fails.
 or_right : (a b : Bool) → (a || b) ≡ false → b ≡ false
@@ -114,102 +141,25 @@ pub behind : (k q : Place) (ks : List Place) → stands_in ks k ≡ false → st
 behind k q ks out there = refuted (key_eq k q) (λ e. true_or_false (stands_in ks q) there
     (at_equal (stands_in ks) k q false out e))
 
--- ---- a look-up
+-- ---- a look-up, and a key put last
 
--- For Line::contains: a key stands in front and back together where it stands in one of them.
-pub in_line : (l m : List Place) (k : Place) → stands_in (l ++ m) k ≡ (stands_in l k || stands_in m k)
-in_line l m k = list_any-append (key_eq k) l m
+-- For in_line: of three tests it is the same whichever of the first two is asked first.
+or_between : (a b c : Bool) → (a || (b || c)) ≡ ((b || a) || c)
+or_between true true c = refl
+or_between true false c = refl
+or_between false true c = refl
+or_between false false c = refl
 
--- whether the place that a look-up answers is n or a later one
-abbrev pub is_from : ℕ → Option ℕ → Bool
-is_from n None = false
-is_from n (Some i) = nat_le n i
+-- For Line::contains: a key stands in the line where it stands in the front or in the back.
+pub in_line : (f b : List Place) (k : Place) → stands_in (reverse f ++ b) k ≡ (stands_in f k || stands_in b k)
+in_line [] b k = refl
+in_line (x ∷ f) b k =
+    ap (λ l. stands_in l k) (turned_behind x f b) ∙ in_line f (x ∷ b) k
+    ∙ or_between (stands_in f k) (key_eq k x) (stands_in b k)
 
--- For not_before: at a place from n on, a look-up is from n if it ends there, or as the rest is.
-from_place : (n i : ℕ) → n ≤ i → (b : Bool) (o : Option ℕ) (r : Bool) → is_from n o ≡ r
-    → is_from n (cond b (Some i) o) ≡ (b || r)
-from_place n i e true o r h = le-leb n i e
-from_place n i e false o r h = h
-
--- A look-up that counts its places from n or later is from n just where it finds something.
-not_before : (t : Place → Bool) (n i : ℕ) (ks : List Place) → n ≤ i → is_from n (position_from t i ks) ≡ list_any t ks
-not_before t n i [] e = refl
-not_before t n i (x ∷ ks) e = from_place n i e (t x) (position_from t (i + 1) ks) (list_any t ks)
-    (not_before t n (i + 1) ks (search arith))
-
--- A key that doesn't stand in a list doesn't stand in it when its first n are gone.
-gone_out : (n : ℕ) (ks : List Place) (k : Place) → stands_in ks k ≡ false → stands_in (drop n ks) k ≡ false
-gone_out zero ks k e = e
-gone_out (suc n) [] k e = refl
-gone_out (suc n) (x ∷ ks) k e = gone_out n ks k (or_right (key_eq k x) (stands_in ks k) e)
-
--- one that stands at the first place is none of the later ones
-past_first : (n i : ℕ) (x : Place) (ks : List Place) (k : Place) → are_distinct (x ∷ ks) ≡ true → (b : Bool)
-    → key_eq k x ≡ b
-    → stands_in (drop n ks) k ≡ is_from (suc n + i) (position_from (key_eq k) (i + 1) ks)
-    → stands_in (drop n ks) k ≡ is_from (suc n + i) (cond b (Some i) (position_from (key_eq k) (i + 1) ks))
-past_first n i x ks k once true e h =
-    let out : stands_in ks k ≡ false = subst (λ j. stands_in ks j ≡ false) (sym (eq_true k x e))
-    (head_once x ks once) in
-    gone_out n ks k out ∙ sym (lt-leb (suc n + i) i (search arith))
-past_first n i x ks k once false e h = h
-
--- For found_at: what it says, of a look-up that counts its places from i.
-found_from : (n i : ℕ) (ks : List Place) (k : Place) → are_distinct ks ≡ true
-    → stands_in (drop n ks) k ≡ is_from (n + i) (position_from (key_eq k) i ks)
-found_from zero i ks k once = sym (not_before (key_eq k) (0 + i) i ks (search arith))
-found_from (suc n) i [] k once = refl
-found_from (suc n) i (x ∷ ks) k once =
-    past_first n i x ks k once (key_eq k x) refl
-    (found_from n (i + 1) ks k (tail_once x ks once)
-    ∙ ap (λ m. is_from m (position_from (key_eq k) (i + 1) ks)) (omega arith))
-
--- For holds_from: a key stands in a list without its first n just where its place is from n on.
-pub found_at : (n : ℕ) (ks : List Place) (k : Place) → are_distinct ks ≡ true
-    → stands_in (drop n ks) k ≡ is_from n (position_from (key_eq k) 0 ks)
-found_at n ks k once =
-    found_from n 0 ks k once
-    ∙ ap (λ m. is_from m (position_from (key_eq k) 0 ks)) (omega arith)
-
--- ---- a key put last
-
--- For Line::push: a key that stands in no part of the line doesn't stand in the back.
-pub absent_behind : (l m : List Place) (k : Place) → stands_in (l ++ m) k ≡ false → stands_in m k ≡ false
-absent_behind l m k e = or_right (stands_in l k) (stands_in m k) (sym (in_line l m k) ∙ e)
-
--- For placed_push: what placed_push says of one key, by a look-up that counts its places from i.
-push_from : (ks : List Place) (k q : Place) (i : ℕ) (b : Bool) → key_eq q k ≡ b → (b ≡ true → stands_in ks q ≡ false)
-    → position_from (key_eq q) i (ks ++ k ∷ []) ≡ cond b (Some (i + length ks)) (position_from (key_eq q) i ks)
-push_from [] k q i b e absent = ap (λ t. cond t (Some i) None) e ∙ ap (λ n. cond b (Some n) None) (omega arith)
-push_from (x ∷ ks) k q i true e absent =
-    (λ j. cond (or_left (key_eq q x) (stands_in ks q) (absent refl) j) (Some i)
-    (position_from (key_eq q) (i + 1) (ks ++ k ∷ [])))
-    ∙ push_from ks k q (i + 1) true e (λ _. or_right (key_eq q x) (stands_in ks q) (absent refl))
-    ∙ ap Some (omega arith)
-push_from (x ∷ ks) k q i false e absent = ap (cond (key_eq q x) (Some i))
-    (push_from ks k q (i + 1) false e (λ t. absurd (cc t)))
-
--- For placed_push: a count from 0 is the count.
-from_none : (n : ℕ) → n ≡ 0 + n
-from_none n = omega arith
-
--- For KeyList::push: with a key put last and its place noted, each key has its place.
-pub placed_push : (ks : List Place) (es fs : List (Place × ℕ)) (k : Place) → IsPlaced ks es → stands_in ks k ≡ false
-    → ((q : Place) → lookup (key_eq q) fs ≡ cond (key_eq k q) (Some (length ks)) (lookup (key_eq q) es))
-    → IsPlaced (ks ++ k ∷ []) fs
-placed_push ks es fs k placed absent h = record {
-  at = λ q. h q ∙ ap (λ t. cond t (Some (length ks)) (lookup (key_eq q) es)) (eq_turned k q)
-      ∙ ap (cond (key_eq q k) (Some (length ks))) (placed.at q)
-      ∙ ap (λ n. cond (key_eq q k) (Some n) (position_from (key_eq q) 0 ks)) (from_none (length ks))
-      ∙ sym (push_from ks k q 0 (key_eq q k) refl (λ t. ap (stands_in ks) (eq_true q k t) ∙ absent));
-  once = push_once ks k placed.once absent;
-}
-
--- For KeyList::reserve: where a look-up finds what it did, each key still has its place.
-pub placed_same : (ks : List Place) (es fs : List (Place × ℕ)) → IsPlaced ks es
-    → ((q : Place) → lookup (key_eq q) fs ≡ lookup (key_eq q) es) → IsPlaced ks fs
-placed_same ks es fs placed h = record { at = λ q. h q ∙ placed.at q; once = placed.once }
-
--- For KeyList::new and clear: no key has a place.
-pub none_placed : IsPlaced [] []
-none_placed = record { at = λ _. refl; once = refl }
+-- For Line::push: a key that doesn't stand in the line goes last in it when it is inserted into the back.
+pub pushed_behind : (f b : List Place) (k : Place) → stands_in (reverse f ++ b) k ≡ false
+    → reverse f ++ insert_key key_eq b k ≡ (reverse f ++ b) ++ k ∷ []
+pushed_behind f b k e =
+    let out : stands_in b k ≡ false = or_right (stands_in f k) (stands_in b k) (sym (in_line f b k) ∙ e) in
+    ap (λ t. reverse f ++ (if t then b else b ++ k ∷ [])) out ∙ sym (append_assoc (reverse f) b (k ∷ []))

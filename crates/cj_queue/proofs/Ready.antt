@@ -13,7 +13,6 @@ use Rattle.std.specs.BTreeMap.{BTreeMap}
 use Rattle.std.specs.List.Sorted.{IsStrictlySortedBy}
 use Rattle.cj_types.specs.Keys.{Place, place_cmp}
 use Rattle.cj_queue.specs.Times.{timed_cmp, Waiting, by_time, ready_in, at_time, time_of, earlier, waits_for, Agrees, SetsTime, SameTimes}
-use Rattle.cj_queue.specs.Parts.{twice, firsts}
 use Rattle.cj_table.proofs.Order.{places_total, places_exact}
 use Rattle.std.specs.List.{AllByRecursion}
 use Rattle.std.proofs.lemmas.Map.Keys.{sorted_head, sorted_tail}
@@ -174,28 +173,21 @@ taken : {A : Type 0} (b : Bool) (x y : A) → b ≡ true → cond b x y ≡ x
 taken true x y e = refl
 taken false x y e = cc (e)
 
--- For tick: of two copies of each key, the first ones are the keys.
-pub firsts_twice : (ks : List Place) → firsts (twice ks) ≡ ks
-firsts_twice [] = refl
-firsts_twice (k ∷ ks) = ap (λ l. k ∷ l) (firsts_twice ks)
-
 -- For first_ready: with a ready key more, those found and the ready ones to come are still all.
-pub ready_step : (found : List (Place × Place)) (rest next : List (ℕ × Place)) (p : ℕ × Place) (now : ℕ)
-    (all : List (Place × Place)) → found ++ twice (ready_in rest now) ≡ all → rest ≡ p ∷ next → p.0 ≤ now
-    → (found ++ (p.1, p.1) ∷ []) ++ twice (ready_in next now) ≡ all
+pub ready_step : (found : List Place) (rest next : List (ℕ × Place)) (p : ℕ × Place) (now : ℕ) (all : List Place)
+    → found ++ ready_in rest now ≡ all → rest ≡ p ∷ next → p.0 ≤ now → (found ++ p.1 ∷ []) ++ ready_in next now ≡ all
 ready_step found rest next p now all inv e le =
-    append_assoc found ((p.1, p.1) ∷ []) (twice (ready_in next now))
-    ∙ ap (λ l. found ++ twice l) (sym (taken (nat_le p.0 now) (p.1 ∷ ready_in next now) (ready_in next now)
+    append_assoc found (p.1 ∷ []) (ready_in next now)
+    ∙ ap (λ l. found ++ l) (sym (taken (nat_le p.0 now) (p.1 ∷ ready_in next now) (ready_in next now)
     (grind (arith, nat_tests, le))) ∙ sym (ap (λ ps. ready_in ps now) e))
     ∙ inv
 
 -- For first_ready: where the next entry's time is above now, those found are all that are ready.
-pub ready_stop : (found : List (Place × Place)) (rest next : List (ℕ × Place)) (p : ℕ × Place) (now : ℕ)
-    (all : List (Place × Place)) → found ++ twice (ready_in rest now) ≡ all → rest ≡ p ∷ next
-    → IsStrictlySortedBy timed_cmp rest → now < p.0 → found ≡ all
+pub ready_stop : (found : List Place) (rest next : List (ℕ × Place)) (p : ℕ × Place) (now : ℕ) (all : List Place)
+    → found ++ ready_in rest now ≡ all → rest ≡ p ∷ next → IsStrictlySortedBy timed_cmp rest → now < p.0 → found ≡ all
 ready_stop found rest next p now all inv e sorted lt =
     sym (append-nil found)
-    ∙ ap (λ l. found ++ twice l) (sym (all_late next p now (subst (IsStrictlySortedBy timed_cmp) e sorted) lt)
+    ∙ ap (λ l. found ++ l) (sym (all_late next p now (subst (IsStrictlySortedBy timed_cmp) e sorted) lt)
     ∙ sym (ap (λ ps. ready_in ps now) e))
     ∙ inv
 

@@ -2,8 +2,7 @@
 use Rattle.std.specs.Prelude.{◌≡◌, ℕ, Bool, true, false, not, ◌&&◌, ◌==◌, List, [], ◌∷◌, map, refl}
 use Rattle.std.specs.Ordering.{eq_of_both, on}
 use Rattle.std.specs.Cmp.Lexicographic.{pointwise}
-use Rattle.std.specs.List.{list_any, position_from}
-use Rattle.std.specs.Map.{lookup}
+use Rattle.std.specs.List.{list_any}
 use Rattle.std.specs.FinMap.{FinMap, from_entries, code}
 use Rattle.std.specs.Coded.{Coded, code_by, coded×, coded_list, coded_ℕ}
 use Rattle.cj_types.specs.Keys.{Place, place_cmp, coded_place}
@@ -25,27 +24,13 @@ are_distinct (k ∷ ks) = not (stands_in ks k) && are_distinct ks
 abbrev pub keys_of : List Place → Keys
 keys_of ks = from_entries (map (λ k. (k, tt)) ks)
 
--- of keys, two copies of each, as an add takes them
-abbrev pub twice : List Place → List (Place × Place)
-twice [] = []
-twice (k ∷ ks) = (k, k) ∷ twice ks
-
--- of pairs of keys, the first of each
-abbrev pub firsts : List (Place × Place) → List Place
-firsts = map (λ p. p.0)
-
--- of `Line` and `KeyList`: the keys, and for how many more there is room
+-- of `Line`: the keys, and for how many more there is room
 pub record Line : Type 0 where
   pub keys : List Place
   pub room : ℕ
 
 abbrev pub line_code : Coded Line
 line_code = code_by (List Place × ℕ) (coded× (coded_list coded_place) coded_ℕ) (λ l. (l.keys, l.room)) (λ p. record { keys = p.0; room = p.1 }) (λ _. refl)
-
--- each key has its place, and no other one has any; no key stands twice
-pub record IsPlaced (keys : List Place) (places : List (Place × ℕ)) : Type 0 where
-  pub at : (k : Place) → lookup (key_eq k) places ≡ position_from (key_eq k) 0 keys
-  pub once : are_distinct keys ≡ true
 
 -- of `Work`: the row, and for how many adds there is room
 pub record Work : Type 0 where

@@ -8,7 +8,6 @@
 
 mod backoff;
 mod failures;
-mod key_list;
 mod laws;
 mod line;
 mod queue;

@@ -1,41 +1,34 @@
-ghost use Rattle.std.specs.Prelude.{◌≡◌, ◌≤◌, ◌<◌, ◌+◌, ◌++◌, ◌∷◌, [], OnOk, IfErr, false, drop, length, option_copied};
+ghost use Rattle.std.specs.Prelude.{◌≡◌, ◌≤◌, ◌<◌, ◌+◌, ◌++◌, ◌∷◌, [], OnOk, IfErr, false, drop, reverse, option_copied};
 ghost use Rattle.cj_base.specs.declared.refusal.Refusal.TheVariants.{OutOfMemory};
 ghost use Rattle.cj_queue.specs.Queue.{first};
 ghost use Rattle.cj_queue.specs.Parts.{stands_in};
 
-use crate::key_list::KeyList;
 use cj_types::{Key, Refusal};
+use indexmap::IndexSet;
 use std::alloc::Global;
 use std::marker::Model;
 use std::mem::swap;
 
-/// Keys in the order in which they came. The first one goes in constant time on average, and moves no other.
+/// Keys in the order in which they came, each once. The first one goes in constant time on average.
 ///
 /// Contracts see the keys, and for how many more there is room.
 pub struct Line {
-    // The first keys in their order, behind those that are gone.
-    front: KeyList,
-    // How many of the front are gone.
-    gone: usize,
-    // The keys behind the front.
-    back: KeyList,
+    // The first keys, the very first one last.
+    front: IndexSet<Key>,
+    // The keys behind the front, in their order.
+    back: IndexSet<Key>,
 }
 
 // A function of its own, so that whoever gives one up makes one call and not one for each part.
 impl Drop for Line {
     fn drop(self) {
-        let Line {
-            front,
-            gone: _,
-            back,
-        } = self;
-        drop(front);
-        drop(back);
+        let Line { front: _, back: _ } = self;
     }
 }
 
 impl Model for Line {
-    ghost use Rattle.std.specs.Prelude.{◌++◌, drop};
+    ghost use Rattle.std.specs.Prelude.{◌++◌, reverse};
+    ghost use Rattle.indexmap.specs.IndexSet.{spare};
     ghost use Rattle.cj_queue.specs.Parts.{Line, line_code};
 
     ghost Value = { Line };
@@ -43,8 +36,8 @@ impl Model for Line {
     ghost coded = { line_code };
 
     ghost view = { λ l. record {
-      keys = drop l.gone l.front.keys ++ l.back.keys;
-      room = l.back.room;
+      keys = reverse l.front.keys ++ l.back.keys;
+      room = spare l.back;
     } };
 }
 
@@ -54,9 +47,8 @@ impl Line {
         ensures { result.keys ≡ [] }
     {
         Line {
-            front: KeyList::new(alloc),
-            gone: 0,
-            back: KeyList::new(alloc),
+            front: IndexSet::new(alloc),
+            back: IndexSet::new(alloc),
         }
     }
 
@@ -66,19 +58,19 @@ impl Line {
         ensures ok { OnOk result (count ≤ self.new.room) }
         ensures memory { IfErr result (λ e. e ≡ OutOfMemory) }
     {
-        self.back.reserve(count)
+        self.back.reserve(count)?;
+        Ok(())
     }
 
-    /// The key, of which there are two copies, goes last.
-    #[tactic(auto, using(crate::proofs::LineLemmas::absent_behind))]
-    pub fn push(&mut self, key: Key, copy: Key)
+    /// The key goes last.
+    #[tactic(auto, using(crate::proofs::LineLemmas::pushed_behind))]
+    pub fn push(&mut self, key: Key)
         requires room { 0 < self.old.room }
-        requires copy { copy ≡ key }
         requires absent { stands_in self.old.keys key ≡ false }
         ensures keys { self.new.keys ≡ self.old.keys ++ key ∷ [] }
         ensures room { self.old.room ≤ self.new.room + 1 }
     {
-        self.back.push(key, copy);
+        let _ = self.back.insert(key);
     }
 
     /// Whether the key stands in the line.
@@ -86,9 +78,7 @@ impl Line {
     pub fn contains(&self, key: &Key) -> bool
         ensures { result ≡ stands_in self.now.keys key.now }
     {
-        let in_front = holds_from(&self.front, self.gone, key);
-        let in_back = holds_from(&self.back, 0, key);
-        in_front || in_back
+        self.front.contains(key) || self.back.contains(key)
     }
 
     /// The first key.
@@ -96,47 +86,31 @@ impl Line {
     pub fn first(&self) -> Option<&Key>
         ensures { option_copied result ≡ first self.now.keys }
     {
-        match self.front.get(self.gone) {
+        match self.front.last() {
             Some(key) => Some(key),
-            None => self.back.get(0),
+            None => self.back.first(),
         }
     }
 
-    /// Lets the first key go, if there is one.
-    #[tactic(auto, using(crate::proofs::LineLemmas::rest_of_front, crate::proofs::LineLemmas::none_left))]
-    pub fn drop_first(&mut self)
-        ensures { self.new.keys ≡ drop 1 self.old.keys }
+    /// Takes the first key out, if there is one.
+    #[tactic(auto, using(crate::proofs::LineLemmas::popped_first, crate::proofs::LineLemmas::popped_rest))]
+    pub fn pop_first(&mut self) -> Option<Key>
+        ensures key { result ≡ first self.old.keys }
+        ensures keys { self.new.keys ≡ drop 1 self.old.keys }
     {
-        turn(&mut self.front, &mut self.gone, &mut self.back);
-        if self.gone < self.front.len() {
-            self.gone += 1;
-        }
+        turn(&mut self.front, &mut self.back);
+        self.front.pop()
     }
 }
 
-// Whether the list has the key at the place `first` or behind. Where none stands there it isn't looked up, as
-// the list may have a large table.
-fn holds_from(list: &KeyList, first: usize, key: &Key) -> bool
-    ensures { result ≡ stands_in (drop first list.now.keys) key.now }
+// Where the front is used up, the back takes its place, turned round. The line stays the same.
+#[tactic(auto, using(crate::proofs::LineLemmas::turned))]
+fn turn(front: &mut IndexSet<Key>, back: &mut IndexSet<Key>)
+    ensures line { reverse front.new.keys ++ back.new.keys ≡ reverse front.old.keys ++ back.old.keys }
+    ensures used_up { front.new.keys ≡ [] → back.new.keys ≡ [] }
 {
-    if first >= list.len() {
-        return false;
-    }
-    match list.place_of(key) {
-        Some(place) => first <= place,
-        None => false,
-    }
-}
-
-// Where the whole front is gone, the back takes its place. The line stays the same.
-fn turn(front: &mut KeyList, gone: &mut usize, back: &mut KeyList)
-    ensures line { drop gone.new front.new.keys ++ back.new.keys
-        ≡ drop gone.old front.old.keys ++ back.old.keys }
-    ensures used_up { length front.new.keys ≤ gone.new → back.new.keys ≡ [] }
-{
-    if *gone >= front.len() {
-        front.clear();
+    if front.is_empty() {
         swap(front, back);
-        *gone = 0;
+        front.reverse();
     }
 }

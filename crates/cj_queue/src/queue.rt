@@ -3,12 +3,11 @@ ghost use Rattle.std.specs.FinMap as map;
 ghost use Rattle.cj_base.specs.declared.refusal.Refusal.TheVariants.{OutOfMemory};
 ghost use Rattle.cj_queue.specs.Queue.{new_queue, row_adds, row_end, added, taken, ended, added_after, ticked, closed, failures_of, delay, failed, forgotten, finished_ok, finished_retry, first, has};
 ghost use Rattle.cj_queue.specs.Times.{without};
-ghost use Rattle.cj_queue.specs.Parts.{twice, firsts};
 
 use crate::backoff::{delay_after, one_more};
 use crate::failures::Failures;
 use crate::waits::Waits;
-use crate::work::{Work, two_copies};
+use crate::work::Work;
 use cj_types::{Key, Millis, Refusal, TryCopy};
 use std::alloc::Global;
 use std::marker::Model;
@@ -142,7 +141,6 @@ impl Queue {
     }
 
     /// The moment is `now_ms`: adds each key that waits for a time not above it, by time, then key.
-    #[tactic(auto, using(crate::proofs::Ready::firsts_twice))]
     pub fn tick(&mut self, now_ms: Millis) -> Result<(), Refusal>
         ensures ok { OnOk result (self.new ≡ ticked self.old now_ms) }
         ensures err { OnErr result (self.new ≡ self.old) }
@@ -224,9 +222,9 @@ impl Queue {
             end_well(&mut self.work, &mut self.failures, key);
             return Ok(());
         }
-        let (one, other) = two_copies(self.alloc, key)?;
+        let again = key.try_copy(self.alloc)?;
         end_well(&mut self.work, &mut self.failures, key);
-        self.work.add(one, other);
+        self.work.add(again);
         Ok(())
     }
 
@@ -251,23 +249,22 @@ impl Queue {
             end_badly(&mut self.work, &mut self.failures, copy, count);
             return Ok(());
         }
-        let (one, other) = two_copies(self.alloc, key)?;
+        let again = key.try_copy(self.alloc)?;
         end_badly(&mut self.work, &mut self.failures, copy, count);
-        self.work.add(one, other);
+        self.work.add(again);
         Ok(())
     }
 }
 
-// Adds the keys, of each of which there are two copies, one after the other, and lets them wait no more.
-fn add_all(waits: &mut Waits, work: &mut Work, keys: Vec<(Key, Key)>)
+// Adds the keys, one after the other, and lets them wait no more.
+fn add_all(waits: &mut Waits, work: &mut Work, keys: Vec<Key>)
     requires room { length keys.items ≤ work.old.room }
-    requires copies { keys.items ≡ twice (firsts keys.items) }
-    ensures waits { waits.new ≡ without waits.old (firsts keys.items) }
-    ensures rows { work.new.row ≡ row_adds work.old.row (firsts keys.items) }
+    ensures waits { waits.new ≡ without waits.old keys.items }
+    ensures rows { work.new.row ≡ row_adds work.old.row keys.items }
 {
-    for (one, other) in keys {
-        waits.remove(&one);
-        work.add(one, other);
+    for key in keys {
+        waits.remove(&key);
+        work.add(key);
     }
 }
 

@@ -3,9 +3,8 @@ ghost use Rattle.std.specs.FinMap as map;
 ghost use Rattle.cj_base.specs.declared.refusal.Refusal.TheVariants.{OutOfMemory};
 ghost use Rattle.std.specs.BTreeMap.{keys, IsOrdered};
 ghost use Rattle.cj_queue.specs.Times.{ready, ready_in, waits_for, earlier, timed_cmp, Agrees, SetsTime, SameTimes, Leaves, time_of};
-ghost use Rattle.cj_queue.specs.Parts.{twice};
 
-use crate::work::two_copies;
+use cj_base::both;
 use cj_types::{Key, Refusal, TryCopy};
 use std::alloc::Global;
 use std::collections::BTreeMap;
@@ -85,9 +84,9 @@ impl Waits {
         self.order.clear();
     }
 
-    /// Two copies of each key whose time is not above `now`, by time, then key.
-    pub fn ready(&self, alloc: Global, now: u64) -> Result<Vec<(Key, Key)>, Refusal>
-        ensures ok { IfOk result (λ v. v.items ≡ twice (ready self.now now)) }
+    /// The keys whose time is not above `now`, by time, then key.
+    pub fn ready(&self, alloc: Global, now: u64) -> Result<Vec<Key>, Refusal>
+        ensures ok { IfOk result (λ v. v.items ≡ ready self.now now) }
         ensures memory { IfErr result (λ e. e ≡ OutOfMemory) }
     {
         let found = first_ready(&self.order, alloc, now)?;
@@ -105,13 +104,13 @@ fn kept_time(before: Option<u64>, at: u64) -> u64
     }
 }
 
-// Two copies of the key of each entry whose time is not above `now`.
+// The keys of the entries whose time is not above `now`.
 fn first_ready(
     order: &BTreeMap<(u64, Key), ()>,
     alloc: Global,
     now: u64,
-) -> Result<Vec<(Key, Key)>, Refusal>
-    ensures ok { IfOk result (λ v. v.items ≡ twice (ready_in (keys order.now) now)) }
+) -> Result<Vec<Key>, Refusal>
+    ensures ok { IfOk result (λ v. v.items ≡ ready_in (keys order.now) now) }
     ensures sorted { IsOrdered timed_cmp order.now }
     ensures memory { IfErr result (λ e. e ≡ OutOfMemory) }
 {
@@ -120,20 +119,26 @@ fn first_ready(
         if *at > now {
             return Ok(found);
         }
-        push_copies(&mut found, alloc, key)?;
+        push_copy(&mut found, alloc, key)?;
     }
     Ok(found)
 }
 
-fn push_copies(found: &mut Vec<(Key, Key)>, alloc: Global, key: &Key) -> Result<(), Refusal>
-    ensures ok { OnOk result (found.new.items ≡ found.old.items ++ (key.now, key.now) ∷ []) }
+fn push_copy(found: &mut Vec<Key>, alloc: Global, key: &Key) -> Result<(), Refusal>
+    ensures ok { OnOk result (found.new.items ≡ found.old.items ++ key.now ∷ []) }
     ensures memory { IfErr result (λ e. e ≡ OutOfMemory) }
 {
-    let copies = two_copies(alloc, key)?;
-    if found.push(copies).is_err() {
-        return Err(Refusal::OutOfMemory);
-    }
-    Ok(())
+    let copy = key.try_copy(alloc)?;
+    found.push(copy).map_err(|_| Refusal::OutOfMemory)
+}
+
+// Two copies of the key.
+fn two_copies(alloc: Global, key: &Key) -> Result<(Key, Key), Refusal>
+    ensures one { IfOk result (λ copies. copies.0 ≡ key.now) }
+    ensures other { IfOk result (λ copies. copies.1 ≡ key.now) }
+    ensures memory { IfErr result (λ e. e ≡ OutOfMemory) }
+{
+    both(key.try_copy(alloc), key.try_copy(alloc))
 }
 
 // Lets a key wait that did not.

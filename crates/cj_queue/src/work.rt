@@ -6,7 +6,6 @@ ghost use Rattle.cj_types.specs.Keys.{Place};
 ghost use Rattle.cj_queue.specs.Parts.{key_eq, stands_in};
 
 use crate::line::Line;
-use cj_base::both;
 use cj_types::{Key, Refusal, TryCopy};
 use std::alloc::Global;
 use std::collections::HashSet;
@@ -77,15 +76,6 @@ fn make_room(set: &mut HashSet<Key>, count: usize) -> Result<(), Refusal>
     Ok(())
 }
 
-// Two copies of the key.
-pub(crate) fn two_copies(alloc: Global, key: &Key) -> Result<(Key, Key), Refusal>
-    ensures one { IfOk result (λ copies. copies.0 ≡ key.now) }
-    ensures other { IfOk result (λ copies. copies.1 ≡ key.now) }
-    ensures memory { IfErr result (λ e. e ≡ OutOfMemory) }
-{
-    both(key.try_copy(alloc), key.try_copy(alloc))
-}
-
 impl Work {
     /// No key.
     pub fn new(alloc: Global) -> Work
@@ -109,18 +99,16 @@ impl Work {
         self.line.reserve(count)
     }
 
-    /// The key, of which there are two copies, is dirty, and goes last in the line unless it was dirty or is being
-    /// worked on.
-    pub fn add(&mut self, key: Key, copy: Key)
-        requires room { 0 < self.old.room }
-        requires copy { copy ≡ key }
+    /// The key is dirty, and goes last in the line unless it was dirty or is being worked on.
+    pub fn add(&mut self, key: Key)
+        requires { 0 < self.old.room }
         ensures row { self.new.row ≡ row_add self.old.row key }
         ensures room { self.old.room ≤ self.new.room + 1 }
     {
         if self.processing.contains(&key) {
             put(&mut self.again, key);
         } else if !self.line.contains(&key) {
-            self.line.push(key, copy);
+            self.line.push(key);
         }
     }
 
@@ -131,8 +119,8 @@ impl Work {
         ensures memory { IfErr result (λ e. e ≡ OutOfMemory) }
     {
         self.reserve(1)?;
-        let (one, other) = two_copies(alloc, key)?;
-        self.add(one, other);
+        let copy = key.try_copy(alloc)?;
+        self.add(copy);
         Ok(())
     }
 
@@ -153,11 +141,10 @@ impl Work {
         let Some(front) = self.line.first() else {
             return Ok(None);
         };
-        let (key, copy) = two_copies(alloc, front)?;
+        let copy = front.try_copy(alloc)?;
         make_room(&mut self.processing, 1)?;
         put(&mut self.processing, copy);
-        self.line.drop_first();
-        Ok(Some(key))
+        Ok(self.line.pop_first())
     }
 
     /// Whether the key is being worked on.
@@ -174,9 +161,9 @@ impl Work {
         ensures row { self.new.row ≡ row_end self.old.row key.now }
         ensures room { self.old.room ≤ self.new.room + 1 }
     {
-        let held = self.processing.take(key).unwrap();
+        self.processing.remove(key);
         if let Some(again) = self.again.take(key) {
-            self.line.push(again, held);
+            self.line.push(again);
         }
     }
 }

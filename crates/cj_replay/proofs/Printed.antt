@@ -8,10 +8,12 @@ use Rattle.cj_zone.specs.declared.table.ZoneTable.{ZoneTable}
 use Rattle.cj_calls.specs.Rows.{Told}
 use Rattle.cj_io.specs.Writing.{AppendsSome, HasPrinted, Prints}
 use Rattle.cj_io.proofs.Written.{appends_both, appends_nothing, nothing_printed, printed_begun, printed_more, printed_some, printed_whole}
+use Rattle.cj_world_laws.specs.Promise.{KeepsPromise}
+use Rattle.cj_report.specs.Reports.{report_of}
 use Rattle.cj_script.specs.declared.script.Script.{Script}
 use Rattle.cj_script.specs.declared.step.Step.{Step}
 use Rattle.cj_replay.specs.Runs.{MakesAll, MakesStep}
-use Rattle.cj_replay.specs.Replays.{IsPartOf, IsReplayed, KeepsPromise, report_of}
+use Rattle.cj_replay.specs.Replays.{IsPartOf, IsReplayed}
 use Rattle.cj_replay.specs.Printing.{BreaksOff, CutsReport, HasPlayed, PrintsPart, PrintsReport, PrintsStep}
 use Rattle.cj_replay.proofs.Replayed.{makes_more}
 

@@ -11,8 +11,8 @@ use Rattle.cj_state.specs.Legal.{is_entered}
 use Rattle.cj_world.specs.Worlds.{told}
 use Rattle.cj_report.specs.Lines.{step_line}
 use Rattle.cj_script.specs.declared.step.Step.{Step}
+use Rattle.cj_script.specs.operations.Calls.{IsCallOf}
 use Rattle.cj_replay.specs.snapshots.Snapshots.{seen_of}
-use Rattle.cj_replay.specs.Calls.{IsCallOf}
 use Rattle.cj_replay.specs.Runs.{MakesStep, after, answered, is_full, job_at}
 
 -- For makes: an entry that was added stands at the place after those before it.

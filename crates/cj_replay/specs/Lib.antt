@@ -1,4 +1,3 @@
-pub mod Calls
 pub mod Runs
 pub mod Replays
 pub mod Printing

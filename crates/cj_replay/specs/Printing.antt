@@ -5,9 +5,9 @@ use Rattle.cj_types.specs.WorldLimits.{Kept}
 use Rattle.cj_zone.specs.declared.table.ZoneTable.{ZoneTable}
 use Rattle.cj_calls.specs.Rows.{Told}
 use Rattle.cj_io.specs.Writing.{AppendsSome, HasPrinted, Prints}
+use Rattle.cj_report.specs.Reports.{report_of}
 use Rattle.cj_script.specs.declared.step.Step.{Step}
 use Rattle.cj_replay.specs.Runs.{MakesAll, MakesStep}
-use Rattle.cj_replay.specs.Replays.{report_of}
 
 -- its line was printed
 pub record PrintsStep (zones : ZoneTable) (limits : Kept) (h : List Told) (step : Step) (full : Bool) (h' : List Told) (old : Option (List ℕ)) (waited : List ℕ) (new : Option (List ℕ)) (waits : List ℕ) : Type 0 where

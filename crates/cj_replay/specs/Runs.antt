@@ -13,11 +13,13 @@ use Rattle.cj_calls.specs.declared.caller.Caller.{Caller}
 use Rattle.cj_calls.specs.declared.reply.Reply.{Reply}
 use Rattle.cj_calls.specs.Rows.{Told}
 use Rattle.cj_state.specs.Legal.{answer_of, is_entered, state_of}
-use Rattle.cj_world.specs.Worlds.{WorldLog, told}
+use Rattle.cj_world.specs.Worlds.{told}
 use Rattle.cj_report.specs.Lines.{step_line}
+use Rattle.cj_script.specs.declared.operations.operation.Operation.{Operation}
+use Rattle.cj_script.specs.declared.operations.operation.Operation.TheVariants.{Ends}
 use Rattle.cj_script.specs.declared.step.Step.{Step}
+use Rattle.cj_script.specs.operations.Calls.{IsCallOf}
 use Rattle.cj_replay.specs.snapshots.Snapshots.{seen_of}
-use Rattle.cj_replay.specs.Calls.{IsCallOf}
 
 -- ---- one step
 
@@ -25,10 +27,10 @@ use Rattle.cj_replay.specs.Calls.{IsCallOf}
 abbrev pub job_at : ℕ → List Told → Place → Option Job
 job_at window h key = map.get (state_of window h).store.jobs key
 
--- the Job that stands at the key in a world, if one is given
-abbrev pub jobs_in : Option WorldLog → Place → Option Job
-jobs_in None key = None
-jobs_in (Some w) key = job_at w.limits.window w.history key
+-- the Job that stands at the key of the end that an operation asks for; none at another operation
+abbrev pub job_for : (Place → Option Job) → Operation → Option Job
+job_for job_at (Ends key outcome at) = job_at key
+job_for job_at other = None
 
 -- what a call is answered after the history: HistoryFull at a full one, else what the history gives
 -- rule: replay-lines

@@ -1,3 +1,2 @@
 pub mod Snapshots
-pub mod Plans
 pub mod Remembered

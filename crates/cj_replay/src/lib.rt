@@ -1,5 +1,10 @@
 //! The run of a script over a world: what each step is answered, one after the other from an empty world, and
 //! then the report.
+//!
+//! Here belongs what looks back over a history: what a worker has seen in its sync, the Job that stands at a
+//! key, the answer to the next call. What an operation means, and how an answer and a report are written,
+//! belongs to the crates below. The program rests on `replay`: its `whole` says that what was printed is the
+//! run's, and its `begun` that after a failure a beginning of it was.
 #![tactic(auto)]
 
 mod answer;
@@ -9,7 +14,5 @@ mod run;
 mod snapshots;
 mod step;
 
-pub use call::unseen_call;
-pub use report::report_text;
 pub use run::replay;
-pub use snapshots::{Snapshot, Snapshots, plan_for, reasons_for};
+pub use snapshots::Snapshots;

@@ -1,34 +1,15 @@
-// The report at the end.
+// The report of a world.
 ghost use Rattle.std.specs.Prelude.{◌≡◌, IfOk, IfErr, string_bytes};
-ghost use mathlib.Core.List.{reverse};
 ghost use Rattle.cj_base.specs.declared.refusal.Refusal.TheVariants.{OutOfMemory};
-ghost use Rattle.cj_replay.specs.Replays.{report_lines, report_of};
+ghost use Rattle.cj_report.specs.Reports.{report_of};
 
-use cj_calls::Entry;
-use cj_report::{objects_text, reasons_text};
-use cj_types::{CronJob, Job, Refusal, Shared};
+use cj_report::report_text;
+use cj_types::Refusal;
 use cj_world::World;
 use std::alloc::Global;
 
-/// The lines of these objects, and those of the reasons that the entries tell, the oldest entry first.
-pub fn report_text(
-    alloc: Global,
-    crons: &[Shared<CronJob>],
-    jobs: &[Shared<Job>],
-    entries: &[Entry],
-) -> Result<String, Refusal>
-    ensures ok { IfOk result (λ s. string_bytes s
-        ≡ report_lines crons.now jobs.now (reverse entries.now)) }
-    ensures err { IfErr result (λ e. e ≡ OutOfMemory) }
-{
-    let mut text = objects_text(alloc, crons, jobs)?;
-    let reasons = reasons_text(alloc, crons, entries)?;
-    text.push_str(reasons.as_str())?;
-    Ok(text)
-}
-
 /// The report of the world.
-#[tactic(auto, unfolding(crate::specs::Replays::report_of))]
+#[tactic(auto, unfolding(cj_report::specs::Reports::report_of))]
 pub(crate) fn world_report(alloc: Global, world: &World) -> Result<String, Refusal>
     ensures ok { IfOk result (λ s. string_bytes s
         ≡ report_of world.now.limits.window world.now.history) }

@@ -2,8 +2,9 @@
 ghost use Rattle.std.specs.Prelude.{◌≡◌, [], List, ℕ, IfOk, OnOk, OnErr};
 ghost use Rattle.std.specs.Io.KnownBytes.{Appends};
 ghost use Rattle.cj_io.specs.Writing.{AppendsSome};
+ghost use Rattle.cj_world_laws.specs.Promise.{KeepsPromise};
 ghost use Rattle.cj_replay.specs.snapshots.Remembered.{Remembers};
-ghost use Rattle.cj_replay.specs.Replays.{IsPartOf, IsReplayed, KeepsPromise};
+ghost use Rattle.cj_replay.specs.Replays.{IsPartOf, IsReplayed};
 ghost use Rattle.cj_replay.specs.Printing.{BreaksOff, CutsReport, HasPlayed, PrintsPart, PrintsReport, PrintsStep};
 
 use crate::report::world_report;

@@ -1,8 +1,5 @@
-// What each worker has seen in its sync so far, as a history tells it, and the plan that follows from it.
+// What each worker has seen in its sync so far, as a history tells it.
 mod kept;
-mod plan;
-mod snapshot;
+mod reply;
 
 pub use kept::Snapshots;
-pub use plan::{plan_for, reasons_for};
-pub use snapshot::Snapshot;

@@ -4,3 +4,4 @@ pub mod Lines
 pub mod Objects
 pub mod Reasons
 pub mod Tellings
+pub mod Reports

@@ -14,7 +14,7 @@ use Rattle.cj_hub.specs.declared.receipt.Receipt.{Receipt}
 use Rattle.cj_script.specs.simulation.Spans.{instant}
 use Rattle.cj_script.specs.declared.simulation.scenario.Simulation.{Simulation}
 use Rattle.cj_script.specs.declared.simulation.scenario.Edit.{Edit}
-use Rattle.cj_replay.specs.Calls.{IsUnseenCall}
+use Rattle.cj_script.specs.operations.Calls.{IsUnseenCall}
 use Rattle.cj_run.specs.Simulations.{operations_below, creation, creations, edits_at}
 use Rattle.cj_run.specs.Deeds.{AreOf, Called, Does, IsOf}
 

@@ -8,7 +8,7 @@ use Rattle.cj_calls.specs.declared.caller.Role.TheVariants.{User}
 use Rattle.cj_script.specs.declared.operations.operation.Operation.{Operation}
 use Rattle.cj_hub.specs.Receipts.{IsReceipt, PassView}
 use Rattle.cj_hub.specs.declared.receipt.Receipt.{Receipt}
-use Rattle.cj_replay.specs.Calls.{IsUnseenCall}
+use Rattle.cj_script.specs.operations.Calls.{IsUnseenCall}
 use Rattle.cj_script.specs.simulation.Spans.{IsInstant}
 use Rattle.cj_script.specs.declared.simulation.scenario.Simulation.{Simulation}
 use Rattle.cj_run.specs.Simulations.{operations_below}

@@ -7,7 +7,11 @@ use Rattle.cj_types.specs.declared.job.Job.{Job}
 use Rattle.cj_types.specs.declared.owners.OwnerRef.{OwnerRef}
 use Rattle.cj_script.specs.simulation.Runs.{RunTable, run_of}
 use Rattle.cj_script.specs.declared.simulation.run.Run.{Run}
+use Rattle.cj_script.specs.declared.simulation.run.RunEnd.{RunEnd}
+use Rattle.cj_script.specs.declared.simulation.run.RunEnd.TheVariants.{Complete, Failed}
 use Rattle.cj_informer.specs.Informs.{key_of_job}
+use Rattle.cj_runner.specs.declared.running.Ending.{Ending}
+use Rattle.cj_runner.specs.declared.running.Ending.TheVariants as Ends
 use Rattle.cj_runner.specs.declared.running.Running.{Running}
 use Rattle.cj_run.specs.declared.made.Count.{Count}
 
@@ -38,10 +42,15 @@ made_before (Some count) uid = if bytes_eq count.uid uid then count.jobs else 0
 abbrev pub counted : List ℕ → ℕ → Count
 counted uid before = record { uid = uid; jobs = min (before + 1) (2 ^ 64 - 1) }
 
+-- the end that the scenario says, as a runner makes it
+abbrev pub ending_of : RunEnd → Ending
+ending_of Complete = Ends.Complete
+ending_of Failed = Ends.Failed
+
 -- the Job as it runs
 -- rule: run-jobs
 abbrev pub running_as : ℕ → Job → Run → Running
-running_as now job run = record { key = job.key; uid = job.meta.uid; made = now; seconds = run.seconds; end = run.end }
+running_as now job run = record { key = job.key; uid = job.meta.uid; made = now; seconds = run.seconds; outcome = ending_of run.end }
 
 -- those that run, with one more where it ends at all
 abbrev pub with_run : List Running → ℕ → Job → Option Run → List Running

@@ -6,7 +6,8 @@ use Rattle.cj_hub.specs.Receipts.{IsExact, PassView, placed}
 use Rattle.cj_worker.specs.declared.workers.WorkerEnd.{WorkerEnd}
 use Rattle.cj_script.specs.simulation.Spans.{IsInstant}
 use Rattle.cj_script.specs.declared.simulation.scenario.Simulation.{Simulation}
-use Rattle.cj_replay.specs.Replays.{KeepsPromise, report_of}
+use Rattle.cj_world_laws.specs.Promise.{KeepsPromise}
+use Rattle.cj_report.specs.Reports.{report_of}
 use Rattle.cj_run.specs.Simulations.{operations_below}
 use Rattle.cj_run.specs.Deeds.{AreOf}
 

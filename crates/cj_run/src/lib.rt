@@ -1,5 +1,10 @@
 //! The whole controller: workers, runners and an informer at one hub, under a clock that moves on only where
 //! all is at rest.
+//!
+//! Here belongs who calls in a run and when: the threads, the clock, the user's edits, which Job takes which run.
+//! How a sync, an informer's step or a runner's round goes, and how a report is written, belongs to the crates
+//! below. The program rests on `run_simulation`: its text is the report of a history that keeps what is promised
+//! of every history, and in which the user did just what the scenario says.
 #![tactic(auto)]
 
 mod clock;

@@ -2,12 +2,12 @@
 ghost use Rattle.std.specs.Prelude.{◌≡◌, OnOk, IfOk, IfErr, option_copied};
 ghost use Rattle.std.specs.FinMap as map;
 ghost use Rattle.cj_base.specs.declared.refusal.Refusal.TheVariants.{OutOfMemory};
-ghost use Rattle.cj_run.specs.Made.{counted, made_before, no_notes, noted, noted_all, notes, seen, with_run};
+ghost use Rattle.cj_run.specs.Made.{counted, ending_of, made_before, no_notes, noted, noted_all, notes, seen, with_run};
 
 use cj_base::{Refusal, Text, TryCopy};
 use cj_informer::owner_key;
-use cj_runner::Running;
-use cj_script::{Run, Runs};
+use cj_runner::{Ending, Running};
+use cj_script::{Run, RunEnd, Runs};
 use cj_table::Table;
 use cj_types::{Job, Key, Seconds, Shared};
 use std::alloc::Global;
@@ -36,6 +36,16 @@ fn jobs_of(count: Option<&Count>, uid: &Text) -> u64
     match count {
         Some(count) if count.uid.as_str() == uid.as_str() => count.jobs,
         _ => 0,
+    }
+}
+
+// The end that a scenario says, as a runner makes it.
+fn ending_of(end: RunEnd) -> Ending
+    ensures { result ≡ ending_of end }
+{
+    match end {
+        RunEnd::Complete => Ending::Complete,
+        RunEnd::Failed => Ending::Failed,
     }
 }
 
@@ -91,7 +101,7 @@ impl Made {
             uid: job.meta.uid,
             made: now,
             seconds: run.seconds,
-            end: run.end,
+            outcome: ending_of(run.end),
         };
         self.running.push(running).map_err(|_| Refusal::OutOfMemory)
     }

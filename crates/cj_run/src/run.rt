@@ -1,7 +1,8 @@
 // A run, from its scenario to its report.
 ghost use Rattle.std.specs.Prelude.{◌≡◌, List, [], ◌∷◌, ◌++◌, IfOk, IsOk, OnOk, map, string_bytes};
 ghost use Rattle.cj_hub.specs.Receipts.{PassView};
-ghost use Rattle.cj_replay.specs.Replays.{KeepsPromise, report_of};
+ghost use Rattle.cj_world_laws.specs.Promise.{KeepsPromise};
+ghost use Rattle.cj_report.specs.Reports.{report_of};
 ghost use Rattle.cj_calls.specs.declared.caller.Role.TheVariants.{User};
 ghost use Rattle.cj_run.specs.Deeds.{AreDone, HasDone};
 ghost use Rattle.cj_run.specs.Runs.{IsClosed, IsReport, IsRun, all_passes, pass_at};
@@ -10,12 +11,12 @@ use crate::clock::RunClock;
 use crate::drive::Participants;
 use crate::made::Made;
 use crate::rest::{Follower, Halt};
-use crate::threads::{Ended, run_threads};
+use crate::threads::{ThreadResults, WorkerEnds, run_threads};
 use cj_calls::Role;
 use cj_hub::{Closed, Hub, HubState, Pass};
 use cj_informer::Informer;
 use cj_io::Failure;
-use cj_replay::report_text;
+use cj_report::report_text;
 use cj_script::Simulation;
 use cj_types::{Heap, Limits, Max, Refusal};
 use cj_worker::{SyncEnd, WorkerEnd};
@@ -70,7 +71,7 @@ fn found_full(end: &WorkerEnd) -> bool {
 }
 
 // Why workers gave up.
-fn failure_of(ends: &Result<Vec<WorkerEnd>, Refusal>) -> Failure {
+fn failure_of(ends: &WorkerEnds) -> Failure {
     match ends {
         Ok(ends) => {
             if ends.as_slice().iter().any(found_full) {
@@ -84,15 +85,15 @@ fn failure_of(ends: &Result<Vec<WorkerEnd>, Refusal>) -> Failure {
 }
 
 // Why the instants were not all lived through, or were in vain since a worker gave up.
-fn check_end<R: Wait>(rt: &R, hub: &Hub, ended: &Ended) -> Result<(), Failure>
-    ensures { OnOk result (IsOk ended.now.driven) }
+fn check_results<R: Wait>(rt: &R, hub: &Hub, results: &ThreadResults) -> Result<(), Failure>
+    ensures { OnOk result (IsOk results.now.instants) }
 {
-    match &ended.driven {
+    match &results.instants {
         Err(Halt::Refused(Refusal::HistoryFull)) => Err(Failure::HistoryFull),
         Err(Halt::Refused(_)) => Err(Failure::Memory),
-        Err(Halt::GivenUp) => Err(failure_of(&ended.ends)),
-        Ok(()) => match hub.state(rt, ended.participants.follower.informer.seen()) {
-            HubState::Broken => Err(failure_of(&ended.ends)),
+        Err(Halt::GivenUp) => Err(failure_of(&results.workers)),
+        Ok(()) => match hub.state(rt, results.participants.follower.informer.seen()) {
+            HubState::Broken => Err(failure_of(&results.workers)),
             _ => Ok(()),
         },
     }
@@ -135,7 +136,7 @@ fn passes_of(
     Ok(passes)
 }
 
-#[tactic(auto, unfolding(cj_replay::specs::Replays::report_of))]
+#[tactic(auto, unfolding(cj_report::specs::Reports::report_of))]
 fn closed_report(alloc: Global, closed: &Closed) -> Result<String, Refusal>
     ensures { IfOk result (λ s. string_bytes s
         ≡ report_of closed.now.limits.window closed.now.history) }
@@ -171,27 +172,25 @@ fn report(alloc: Global, hub: Heap<Hub>, passes: Vec<Pass>) -> Result<String, Fa
     Ok(text)
 }
 
-// The threads of a run on the hub.
-fn ended<R: Threads + Wait + Sync>(
+// Enrolls all who call in a run, and runs their threads on the hub.
+fn run_on_hub<R: Threads + Wait + Sync>(
     rt: &R,
     alloc: Global,
     hub: &Hub,
     simulation: &Simulation,
     workers: u64,
-) -> Result<Heap<Ended>, Refusal>
-    ensures { IfOk result (λ s. OnOk s.driven (HasDone simulation.now s.participants.user)) }
+) -> Result<Heap<ThreadResults>, Refusal>
+    ensures { IfOk result (λ r. OnOk r.instants (HasDone simulation.now r.participants.user)) }
 {
     let passes = enroll(rt, alloc, hub, Role::Worker, workers)?;
     let participants = new_participants(rt, alloc, hub)?;
     let clock = RunClock::new(simulation.span);
-    Heap::new(
-        alloc,
-        run_threads(rt, alloc, hub, &clock, simulation, participants, passes),
-    )
+    let results = run_threads(rt, alloc, hub, &clock, simulation, participants, passes)?;
+    Heap::new(alloc, results)
 }
 
 // What a run on the hub leaves: all its passes, the user's last.
-fn driven_passes<R: Threads + Wait + Sync>(
+fn passes_left<R: Threads + Wait + Sync>(
     rt: &R,
     alloc: Global,
     hub: &Hub,
@@ -200,14 +199,14 @@ fn driven_passes<R: Threads + Wait + Sync>(
 ) -> Result<Vec<Pass>, Failure>
     ensures { IfOk result (λ ps. AreDone simulation.now ps.items) }
 {
-    let ended = ended(rt, alloc, hub, simulation, workers)?;
-    check_end(rt, hub, ended.get())?;
-    let Ended {
+    let results = run_on_hub(rt, alloc, hub, simulation, workers)?;
+    check_results(rt, hub, results.get())?;
+    let ThreadResults {
         participants,
-        ends,
+        workers,
         ..
-    } = ended.into_inner();
-    passes_of(alloc, participants, ends?)
+    } = results.into_inner();
+    passes_of(alloc, participants, workers?)
 }
 
 /// Runs a scenario on an empty world with so many workers, and gives the report of the end: a line for each
@@ -228,6 +227,6 @@ pub fn run_simulation<R: Threads + Wait + Sync>(
 {
     let limits = Limits::new(16_777_216, 1_000).unwrap();
     let hub = Heap::new(alloc, Hub::new(alloc, limits)?)?;
-    let passes = driven_passes(rt, alloc, hub.get(), simulation, workers)?;
+    let passes = passes_left(rt, alloc, hub.get(), simulation, workers)?;
     report(alloc, hub, passes)
 }

@@ -1,5 +1,5 @@
 // The threads of a run.
-ghost use Rattle.std.specs.Prelude.{OnOk};
+ghost use Rattle.std.specs.Prelude.{IfOk, OnOk};
 ghost use Rattle.cj_run.specs.Deeds.{HasDriven};
 
 use crate::clock::RunClock;
@@ -10,18 +10,22 @@ use cj_hub::{Hub, Pass};
 use cj_script::Simulation;
 use cj_types::Refusal;
 use cj_worker::{OpenGate, WorkerEnd, run_workers};
+use crossbeam_channel::{Receiver, Sender, bounded};
 use std::alloc::Global;
 use std::sync::Wait;
 use std::thread;
 use std::thread::Threads;
 
-/// What comes of the threads of a run: who called beside the workers, whether all instants were lived
-/// through, and the workers' ends.
+/// The passes of workers, each with the end of its last sync.
+pub(crate) type WorkerEnds = Result<Vec<WorkerEnd>, Refusal>;
+
+/// What the threads of a run hand back: who called beside the workers, whether all instants were lived
+/// through, and what came of the workers.
 #[derive(Drop)]
-pub(crate) struct Ended {
+pub(crate) struct ThreadResults {
     pub participants: Participants,
-    pub driven: Result<(), Halt>,
-    pub ends: Result<Vec<WorkerEnd>, Refusal>,
+    pub instants: Result<(), Halt>,
+    pub workers: WorkerEnds,
 }
 
 // Shuts the queue, again after each want of memory, of which it tells then. At a full history the workers end
@@ -42,7 +46,7 @@ fn shut<R: Wait>(rt: &R, hub: &Hub, follower: &mut Follower) -> Result<(), Refus
 }
 
 // Lives through all instants, and then shuts the queue.
-fn drive_and_shut<R: Threads + Wait + Sync>(
+fn run_instants<R: Threads + Wait + Sync>(
     rt: &R,
     alloc: Global,
     hub: &Hub,
@@ -61,7 +65,30 @@ fn drive_and_shut<R: Threads + Wait + Sync>(
     }
 }
 
-/// Starts the workers in a thread beside this one, lives through all instants, and joins the workers.
+// Runs the workers to their ends, and hands over what came of them, for which the channel has room.
+fn run_and_send<R: Threads + Wait + Sync>(
+    rt: &R,
+    alloc: Global,
+    hub: &Hub,
+    clock: &RunClock,
+    simulation: &Simulation,
+    workers: Vec<Pass>,
+    to: Sender<WorkerEnds>,
+) {
+    let ends = run_workers(rt, alloc, hub, workers, &OpenGate, clock, &simulation.zones);
+    let _ = to.send(rt, ends);
+}
+
+// What came of the workers. Where it couldn't be handed over, memory was wanting.
+fn receive<R: Wait>(rt: &R, from: &Receiver<WorkerEnds>) -> WorkerEnds {
+    match from.recv(rt) {
+        Ok(ends) => ends,
+        Err(_) => Err(Refusal::OutOfMemory),
+    }
+}
+
+/// Starts the workers in a thread beside this one, lives through all instants, receives what came of the workers,
+/// and joins their thread. Refused `OutOfMemory` where the thread can't be started; nothing is lived through then.
 pub(crate) fn run_threads<R: Threads + Wait + Sync>(
     rt: &R,
     alloc: Global,
@@ -70,26 +97,24 @@ pub(crate) fn run_threads<R: Threads + Wait + Sync>(
     simulation: &Simulation,
     participants: Participants,
     workers: Vec<Pass>,
-) -> Ended
-    ensures { OnOk result.driven (HasDriven simulation.now participants.user result.participants.user) }
+) -> Result<ThreadResults, Refusal>
+    ensures { IfOk result (λ r. OnOk r.instants
+        (HasDriven simulation.now participants.user r.participants.user)) }
 {
-    let gate = &OpenGate;
+    let (to, from) = bounded(alloc, 1)?;
     thread::scope(
         thread::scope_env(),
         rt,
-        |scope| -> Ended
-            ensures { OnOk result.driven (HasDriven simulation.entry.now participants.user result.participants.user) }
+        |scope| -> Result<ThreadResults, Refusal>
+            ensures { IfOk result (λ r. OnOk r.instants
+                (HasDriven simulation.entry.now participants.user r.participants.user)) }
         {
             let Ok(child) = scope.spawn(move || {
-                run_workers(rt, alloc, hub, workers, gate, clock, &simulation.zones)
+                run_and_send(rt, alloc, hub, clock, simulation, workers, to)
             }) else {
-                return Ended {
-                    participants,
-                    driven: Err(Halt::Refused(Refusal::OutOfMemory)),
-                    ends: Err(Refusal::OutOfMemory),
-                };
+                return Err(Refusal::OutOfMemory);
             };
-            let (participants, driven) = drive_and_shut(
+            let (participants, instants) = run_instants(
                 rt,
                 alloc,
                 hub,
@@ -97,11 +122,13 @@ pub(crate) fn run_threads<R: Threads + Wait + Sync>(
                 simulation,
                 participants,
             );
-            Ended {
+            let workers = receive(rt, &from);
+            child.join(rt);
+            Ok(ThreadResults {
                 participants,
-                driven,
-                ends: child.join(rt),
-            }
+                instants,
+                workers,
+            })
         },
     )
 }

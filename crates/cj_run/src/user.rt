@@ -5,8 +5,7 @@ ghost use Rattle.cj_run.specs.Deeds.{Called, Does};
 
 use cj_calls::Call;
 use cj_hub::{Hub, Pass};
-use cj_replay::unseen_call;
-use cj_script::{Edit, Operation};
+use cj_script::{Edit, Operation, unseen_call};
 use cj_types::{CronJobDraft, Refusal, Seconds, Shared, TryCopy};
 use cj_zone::ZoneTable;
 use std::alloc::Global;

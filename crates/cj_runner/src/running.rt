@@ -2,25 +2,32 @@ ghost use Rattle.std.specs.Prelude.{◌≡◌};
 ghost use Rattle.cj_runner.specs.Dues.{is_due, outcome_at, end_call};
 
 use cj_calls::Call;
-use cj_script::RunEnd;
 use cj_types::{Key, Outcome, Seconds, Uid};
 
-/// A Job that runs: which one, when it was made, how many seconds it takes, and how it ends.
+/// How a Job ends.
+#[derive(Clone, Copy, Debug, PartialEq, Eq)]
+pub enum Ending {
+    Complete,
+    Failed,
+}
+
+/// A Job that runs: which one, when it was made, how many seconds it takes, and how it ends then.
 #[derive(Drop)]
 pub struct Running {
     pub key: Key,
     pub uid: Uid,
     pub made: Seconds,
     pub seconds: u64,
-    pub end: RunEnd,
+    pub outcome: Ending,
 }
 
-fn outcome_of(end: RunEnd, now: Seconds) -> Outcome
-    ensures { result ≡ outcome_at now end }
+// A Job that is complete is so from now on.
+fn outcome_of(ending: Ending, now: Seconds) -> Outcome
+    ensures { result ≡ outcome_at now ending }
 {
-    match end {
-        RunEnd::Complete => Outcome::Complete(now),
-        RunEnd::Failed => Outcome::Failed,
+    match ending {
+        Ending::Complete => Outcome::Complete(now),
+        Ending::Failed => Outcome::Failed,
     }
 }
 
@@ -38,6 +45,6 @@ impl Running {
     pub(crate) fn end_call(self, now: Seconds) -> Call
         ensures { result ≡ end_call now self }
     {
-        Call::EndJob(self.key, self.uid, outcome_of(self.end, now), now)
+        Call::EndJob(self.key, self.uid, outcome_of(self.outcome, now), now)
     }
 }

@@ -3,3 +3,5 @@ pub mod Instants
 pub mod Operations
 pub mod Finishes
 pub mod Plain
+pub mod Plans
+pub mod Calls

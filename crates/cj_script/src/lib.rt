@@ -1,4 +1,9 @@
-//! Scripts: what callers of given roles do one after the other, as a JSON text says it.
+//! Scripts and simulations: what callers do, as a JSON text says it.
+//!
+//! Here belongs how a text becomes the steps of a script or the scenario of a run, which fault is told where it
+//! doesn't, and what call an operation means for a caller that has seen so much. What a call is answered, and
+//! what a worker has seen after a history, belongs to the crates above. They rest on `read_script` and
+//! `read_simulation`, which say what a text stands for, and on `call_of` and `unseen_call`.
 #![tactic(auto)]
 
 mod callers;
@@ -17,8 +22,8 @@ pub use drafts::cron_said;
 pub use limits::number_or;
 pub use lists::{Reads, list_of};
 pub use operations::{
-    Operation, Plain, Verb, Write, instant_of, key_of, number_at, plain_operation, present,
-    time_at, verb_named,
+    Operation, Plain, Snapshot, Verb, Write, call_of, instant_of, key_of, number_at,
+    plain_operation, plan_for, present, reasons_for, time_at, unseen_call, verb_named,
 };
 pub use read::read_script;
 pub use script::Script;

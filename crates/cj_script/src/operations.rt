@@ -1,15 +1,22 @@
-// What a step of a script does: its verb, and the operation of a verb that takes no manifest, as a JSON object says it.
+// What a step of a script does: its verb, and the operation of a verb that takes no manifest, as a JSON object says it;
+// and the call of an operation, of what its caller has seen by then.
+mod call;
 mod finish;
 mod instant;
 mod keys;
 mod member;
 mod operation;
 mod plain;
+mod plan;
+mod snapshot;
 mod verb;
 
+pub use call::{call_of, unseen_call};
 pub use instant::{instant_of, time_at};
 pub use keys::key_of;
 pub use member::{number_at, present};
 pub use operation::Operation;
 pub use plain::plain_operation;
+pub use plan::{plan_for, reasons_for};
+pub use snapshot::Snapshot;
 pub use verb::{Plain, Verb, Write, verb_named};

@@ -10,7 +10,7 @@ use crate::step::step;
 use cj_base::both;
 use cj_calls::{Answer, Call, Caller, Entry};
 use cj_state::State;
-use cj_types::{Refusal, Shared, TryCopy};
+use cj_types::{Refusal, Shared};
 use std::alloc::Global;
 
 /// What a call answered, and its entry twice, where it was entered.
@@ -20,26 +20,12 @@ pub struct Made {
     pub receipts: Option<(Entry, Entry)>,
 }
 
-// A call as often as it is needed: for the history, and for two receipts.
-#[derive(Drop)]
-struct Calls {
-    entered: Shared<Call>,
-    first: Shared<Call>,
-    second: Shared<Call>,
-}
-
-fn thrice(alloc: Global, call: &Call) -> Result<Calls, Refusal>
-    ensures ok { IfOk result (λ c. (c.entered ≡ call.now) × (c.first ≡ call.now)
-        × (c.second ≡ call.now)) }
+// The call once more for each of two receipts.
+fn twice(call: &Shared<Call>) -> Result<(Shared<Call>, Shared<Call>), Refusal>
+    ensures ok { IfOk result (λ c. (c.0 ≡ call.now) × (c.1 ≡ call.now)) }
     ensures err { IfErr result (λ e. e ≡ OutOfMemory) }
 {
-    let entered = Shared::new(alloc, call.try_copy(alloc)?)?;
-    let (first, second) = both(entered.try_copy(alloc), entered.try_copy(alloc))?;
-    Ok(Calls {
-        entered,
-        first,
-        second,
-    })
+    both(call.share(), call.share())
 }
 
 fn is_empty(answer: &Answer) -> bool
@@ -56,36 +42,36 @@ fn push(entries: &mut Vec<Entry>, entry: Entry)
     entries.push_reserved(entry);
 }
 
-/// Makes the call on the state, and adds its entry where its answer is one that is entered. Where there is no
-/// memory all is as it was.
+/// Makes the call on the state, and adds its entry, which shares the call, where its answer is one that is
+/// entered. Where there is no memory all is as it was.
 #[tactic(auto, using(crate::proofs::Keeps::row_given, crate::proofs::Keeps::advanced_entered, crate::proofs::Keeps::receipts_entered, crate::proofs::Keeps::receipts_empty))]
 pub(crate) fn advance(
     alloc: Global,
     state: &mut State,
     entries: &mut Vec<Entry>,
     caller: &Caller,
-    call: &Call,
+    call: Shared<Call>,
 ) -> Result<Made, Refusal>
     requires room { HasRoom state.old.store }
     requires sound { IsSound state.old }
     requires place { vec_len entries.old < vec_capacity entries.old }
     ensures made { IfOk result (λ m. Advanced state.old (reverse entries.old.items) caller.now
-        call.now m.answer state.new (reverse entries.new.items)) }
-    ensures receipts { IfOk result (λ m. m.receipts ≡ receipts_of caller.now call.now m.answer) }
+        call m.answer state.new (reverse entries.new.items)) }
+    ensures receipts { IfOk result (λ m. m.receipts ≡ receipts_of caller.now call m.answer) }
     ensures err { OnErr result ((state.new ≡ state.old) × (entries.new ≡ entries.old)) }
     ensures memory { IfErr result (λ e. e ≡ OutOfMemory) }
 {
-    let calls = thrice(alloc, call)?;
-    let parts = step(alloc, state, caller, call)?.parts();
+    let (first, second) = twice(&call)?;
+    let parts = step(alloc, state, caller, &call)?.parts();
     if is_empty(&parts.answer) {
         return Ok(Made {
             answer: parts.answer,
             receipts: None,
         });
     }
-    push(entries, Entry::new(*caller, calls.entered, parts.entered));
-    let first = Entry::new(*caller, calls.first, parts.first);
-    let second = Entry::new(*caller, calls.second, parts.second);
+    push(entries, Entry::new(*caller, call, parts.entered));
+    let first = Entry::new(*caller, first, parts.first);
+    let second = Entry::new(*caller, second, parts.second);
     Ok(Made {
         answer: parts.answer,
         receipts: Some((first, second)),

@@ -9,7 +9,7 @@ use crate::api::{by_informer, by_runner, by_user};
 use crate::worker::by_worker;
 use cj_calls::{Answered, Call, Caller, Role};
 use cj_state::State;
-use cj_types::Refusal;
+use cj_types::{Refusal, Shared};
 use std::alloc::Global;
 
 // Makes the call. Where there is no memory all is as it was.
@@ -18,7 +18,7 @@ pub(crate) fn step(
     alloc: Global,
     state: &mut State,
     caller: &Caller,
-    call: &Call,
+    call: &Shared<Call>,
 ) -> Result<Answered, Refusal>
     requires room { HasRoom state.old.store }
     requires sound { IsSound state.old }
@@ -26,6 +26,7 @@ pub(crate) fn step(
     ensures err { OnErr result (state.new ≡ state.old) }
     ensures memory { IfErr result (λ e. e ≡ OutOfMemory) }
 {
+    let call = call.get();
     match caller.role {
         Role::User => by_user(alloc, state, call),
         Role::Runner => by_runner(alloc, state, call),

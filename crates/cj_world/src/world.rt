@@ -1,7 +1,7 @@
-ghost use Rattle.std.specs.Prelude.{◌≡◌, ◌≤◌, ◌↔◌, [], false, IsTrue, IfOk, IfErr, Err, length, option_copied};
+ghost use Rattle.std.specs.Prelude.{◌≡◌, ◌≢◌, ◌≤◌, ◌↔◌, [], false, IsTrue, IfOk, IfErr, Err, length, option_copied};
 ghost use Rattle.std.specs.FinMap as map;
 ghost use mathlib.Core.List.{reverse};
-ghost use Rattle.cj_base.specs.declared.refusal.Refusal.TheVariants.{Empty, OutOfMemory};
+ghost use Rattle.cj_base.specs.declared.refusal.Refusal.TheVariants.{Empty, HistoryFull, OutOfMemory};
 ghost use Rattle.cj_types.specs.WorldLimits.{last_history};
 ghost use Rattle.cj_state.specs.Legal.{IsLegal, IsPlanned, ArePlanned, is_entered};
 ghost use Rattle.cj_world_laws.specs.legal.Exclusive.{Exclusive};
@@ -15,7 +15,7 @@ use cj_calls::{Answer, Call, Caller, Entry};
 use cj_queue::Queue;
 use cj_state::{Seats, State};
 use cj_store::Store;
-use cj_types::{CronJob, Job, Key, Limits, Listing, Refusal, Shared, Version};
+use cj_types::{CronJob, Job, Key, Limits, Listing, Refusal, Shared, TryCopy, Version};
 use cj_watch::{Mirror, WatchLog, Window};
 use cj_world_laws::{exclusive_law, once_law, time_law};
 use std::alloc::Global;
@@ -65,10 +65,10 @@ fn window_of(limits: Limits) -> Window
 }
 
 // A plan that a call carries is a decision, by its type.
-fn is_planned(call: &Call)
+fn is_planned(call: &Shared<Call>)
     ensures { IsPlanned call.now }
 {
-    if let Call::Claim(plan) = call {
+    if let Call::Claim(plan) = call.get() {
         plan.get().steps();
     }
 }
@@ -123,16 +123,28 @@ impl World {
         self.entries.as_slice().len() >= self.limits.history() as usize
     }
 
+    // A copy of the call in a place that entries share, unless the history is full.
+    fn copied(&self, call: &Call) -> Result<Shared<Call>, Refusal>
+        ensures ok { IfOk result (λ c. c ≡ call.now) }
+        ensures full { (result ≡ Err HistoryFull)
+            ↔ (self.now.limits.history ≤ length self.now.history) }
+        ensures unentered { IfErr result (λ e. (is_entered (Err e) ≡ false) × (e ≢ Empty)) }
+    {
+        if self.is_full() {
+            return Err(Refusal::HistoryFull);
+        }
+        Shared::new(self.alloc, call.try_copy(self.alloc)?)
+    }
+
     // Makes one call, unless the history is full.
-    fn make(&mut self, caller: &Caller, call: &Call) -> Result<Made, Refusal>
+    fn make(&mut self, caller: &Caller, call: Shared<Call>) -> Result<Made, Refusal>
         ensures limits { self.new.limits ≡ self.old.limits }
-        ensures made { IfOk result (λ m. Applied self.old.limits self.old.history caller.now
-            call.now m.answer self.new.history) }
-        ensures receipts { IfOk result (λ m. m.receipts
-            ≡ receipts_of caller.now call.now m.answer) }
+        ensures made { IfOk result (λ m. Applied self.old.limits self.old.history caller.now call
+            m.answer self.new.history) }
+        ensures receipts { IfOk result (λ m. m.receipts ≡ receipts_of caller.now call m.answer) }
         ensures nothing { IfOk result (λ m. is_entered m.answer ≡ false → m.answer ≡ Err Empty) }
         ensures refused { IfErr result (λ e. Applied self.old.limits self.old.history caller.now
-            call.now (Err e) self.new.history × (is_entered (Err e) ≡ false)) }
+            call (Err e) self.new.history × (is_entered (Err e) ≡ false)) }
     {
         if self.is_full() {
             return Err(Refusal::HistoryFull);
@@ -140,7 +152,7 @@ impl World {
         if self.entries.reserve(1).is_err() {
             return Err(Refusal::OutOfMemory);
         }
-        is_planned(call);
+        is_planned(&call);
         advance(self.alloc, &mut self.state, &mut self.entries, caller, call)
     }
 
@@ -152,6 +164,7 @@ impl World {
         ensures applied { Applied self.old.limits self.old.history caller.now call.now result
             self.new.history }
     {
+        let call = self.copied(call)?;
         match self.make(caller, call) {
             Ok(made) => made.answer,
             Err(refusal) => Err(refusal),
@@ -165,6 +178,22 @@ impl World {
             call.now p self.new.history) }
         ensures refused { IfErr result (λ e. Applied self.old.limits self.old.history caller.now
             call.now (Err e) self.new.history × (is_entered (Err e) ≡ false)) }
+    {
+        let call = self.copied(call)?;
+        self.enter_shared(caller, call)
+    }
+
+    /// Makes one call, as `enter` does. The entry shares the call, which isn't copied.
+    pub fn enter_shared(
+        &mut self,
+        caller: &Caller,
+        call: Shared<Call>,
+    ) -> Result<(Entry, Entry), Refusal>
+        ensures limits { self.new.limits ≡ self.old.limits }
+        ensures entered { IfOk result (λ p. Entered self.old.limits self.old.history caller.now call
+            p self.new.history) }
+        ensures refused { IfErr result (λ e. Applied self.old.limits self.old.history caller.now
+            call (Err e) self.new.history × (is_entered (Err e) ≡ false)) }
     {
         let Made { receipts, .. } = self.make(caller, call)?;
         match receipts {

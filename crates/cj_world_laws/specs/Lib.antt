@@ -1,2 +1,3 @@
 pub mod legal
 pub mod once
+pub mod Promise

@@ -1,9 +1,11 @@
 -- A clock goes by what `jiff` makes of its zone's source.
-use Rattle.std.proofs.Common.{◌≡◌, ℕ, zero, suc, ◌+◌, ◌-◌, ◌≤◌, ◌==◌, ℤ, pos, ◌*ℤ◌, int_le, Bool, true, false, if◌then◌else◌, refl, sym, ap, ◌∙◌, arith, List, [], ◌∷◌, length, map, get_or, vec_len, Option, None, Some, IsNone, option_map}
+use Rattle.std.proofs.Common.{to_z, of_z, w32, w64, FitsSigned, ◌≡◌, ℕ, zero, suc, ◌+◌, ◌-◌, ◌≤◌, ◌==◌, ℤ, pos, ◌*ℤ◌, int_le, Bool, true, false, if◌then◌else◌, refl, ap, ◌∙◌, arith, List, [], ◌∷◌, length, map, get_or, vec_len, Option, None, Some, IsNone, option_map}
 use Rattle.std.specs.List.{prefix_len}
 use Rattle.std.proofs.lemmas.List.{get_or-map, length-map}
 use Rattle.std.proofs.lemmas.List.Sums.{prefix_len-le-length}
 use Rattle.std.proofs.lemmas.Bool.Decides.{nat_tests}
+use Rattle.std.proofs.lemmas.Int.{to_z-of_z}
+use Rattle.jiff_core.proofs.SignedLemmas.{signed_arith}
 use Rattle.jiff_core.specs.Timestamp.{IsOffsetSeconds}
 use Rattle.jiff_core.specs.declared.Offset.{Offset}
 use Rattle.jiff_tz.specs.PosixReader.{read_whole}
@@ -138,14 +140,18 @@ source_offset-clock (File bytes) (Own.Posix rule) t h = absurd h
 source_offset-clock (File bytes) (Own.Table table) t h = rw h.0 (file_offset-view table (pos t *ℤ pos 1_000_000_000))
 
 -- The offset of a zone, by what it was made of, is that of its clock.
-pub zone_offset-clock : (zone : NamedSource) (name : List ℕ) (source : Source) (rules : Rules) (t : ℕ)
-    → record { name = name; source = source } ≡ zone → IsClockOf source rules
+pub zone_offset-clock : (zone : NamedSource) (rules : Rules) (t : ℕ) → IsClockOf zone.source rules
     → zone_offset zone t ≡ rules_offset rules t
-zone_offset-clock zone name source rules t e h = ap (λ z. zone_offset z t) (sym e)
-    ∙ source_offset-clock source rules t h
+zone_offset-clock zone rules t h = source_offset-clock zone.source rules t h
 
 -- The offset of a zone is in range at each instant.
-pub zone_offset-range : (zone : NamedSource) (name : List ℕ) (source : Source) (rules : Rules) (t : ℕ)
-    → record { name = name; source = source } ≡ zone → IsClockOf source rules → IsOffsetSeconds (zone_offset zone t)
-zone_offset-range zone name source rules t e h = rw (zone_offset-clock zone name source rules t e h)
-    (rules_offset-range rules t)
+pub zone_offset-range : (zone : NamedSource) (rules : Rules) (t : ℕ) → IsClockOf zone.source rules
+    → IsOffsetSeconds (zone_offset zone t)
+zone_offset-range zone rules t h = rw (zone_offset-clock zone rules t h) (rules_offset-range rules t)
+
+-- For offset_of: the seconds of an offset, in 32 bits and then in 64, are what they are.
+pub wide_seconds : (s : ℤ) → IsOffsetSeconds s → to_z w64 (of_z w64 (to_z w32 (of_z w32 s))) ≡ s
+wide_seconds s h =
+    let narrow : FitsSigned w32 s = omega (arith, signed_arith) in
+    let wide : FitsSigned w64 s = omega (arith, signed_arith) in
+    ap (λ z. to_z w64 (of_z w64 z)) (to_z-of_z w32 s narrow) ∙ to_z-of_z w64 s wide

@@ -3,6 +3,7 @@ ghost use Rattle.jiff_core.specs.Timestamp.{IsOffsetSeconds};
 ghost use Rattle.jiff_tz.specs.Tzif as Table;
 
 use cj_base::Seconds;
+use jiff::tz::TimeZone;
 use jiff_core::Timestamp;
 use jiff_tz::Tzif;
 
@@ -23,16 +24,18 @@ pub(crate) fn is_past(tables: &Tzif, from: Seconds) -> bool
 pub(crate) fn timestamp(at: Seconds) -> Timestamp
     ensures { result.nanosecond ≡ pos at *ℤ pos 1_000_000_000 }
 {
-    Timestamp {
-        nanosecond: at.get() as i128 * 1_000_000_000,
+    match jiff::Timestamp::from_second(at.get() as i64) {
+        Ok(instant) => instant.to_plain(),
+        Err(_) => unreachable!(),
     }
 }
 
 fn second_after(at: Seconds) -> Timestamp
     ensures { result.nanosecond ≡ pos (at + 1) *ℤ pos 1_000_000_000 }
 {
-    Timestamp {
-        nanosecond: (at.get() as i128 + 1) * 1_000_000_000,
+    match jiff::Timestamp::from_second(at.get() as i64 + 1) {
+        Ok(instant) => instant.to_plain(),
+        Err(_) => unreachable!(),
     }
 }
 
@@ -63,7 +66,8 @@ pub(crate) fn offset_of(tables: &Tzif, at: Seconds) -> i64
     ensures value { result ≡ (Table.offset_at tables.now (pos at *ℤ pos 1_000_000_000)).seconds }
     ensures in_range { IsOffsetSeconds result }
 {
-    tables.to_offset(timestamp(at)).seconds as i64
+    let instant = jiff::Timestamp::from_plain(timestamp(at));
+    TimeZone::tzif(tables).to_offset(instant).seconds() as i64
 }
 
 /// The last second before the next transition.

@@ -7,7 +7,7 @@ use crate::Zone;
 pub fn made_law(zone: &Zone)
     ensures { IsMade zone.now.source }
 {
-    let _ = &zone.rules;
+    let _ = zone.rules();
 }
 
 /// In every zone, the date that the clock shows at an instant lies at most two days from the date in UTC.

@@ -67,7 +67,7 @@ fn of_rules(rules: &Rules, at: Seconds) -> u64
     match rules {
         Rules::Utc => at.get(),
         Rules::Posix(rule) => of_rule(*rule, at),
-        Rules::Table(file) => of_tables(file.tables(), at),
+        Rules::Table(tables) => of_tables(tables, at),
     }
 }
 
@@ -94,5 +94,5 @@ pub fn steady_from(zone: &Zone, at: Seconds) -> Stretch
     ensures begins { result.first ≡ at }
     ensures steady { result.other ≡ result.one }
 {
-    from_rules(&zone.rules, at)
+    from_rules(zone.rules(), at)
 }

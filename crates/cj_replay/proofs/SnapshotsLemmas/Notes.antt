@@ -10,7 +10,7 @@ use Rattle.cj_calls.specs.declared.call.Call.{Call}
 use Rattle.cj_calls.specs.declared.caller.Caller.{Caller}
 use Rattle.cj_calls.specs.declared.reply.Reply.{Reply}
 use Rattle.cj_calls.specs.Rows.{Told}
-use Rattle.cj_replay.specs.declared.snapshots.snapshot.Snapshot.{Snapshot}
+use Rattle.cj_script.specs.declared.operations.snapshot.Snapshot.{Snapshot}
 use Rattle.cj_replay.specs.snapshots.Snapshots.{seen_of, with_reply}
 use Rattle.cj_replay.specs.snapshots.Remembered.{Remembers, snapshot_or_none}
 

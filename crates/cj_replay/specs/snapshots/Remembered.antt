@@ -3,8 +3,9 @@ use Rattle.std.specs.Prelude.{◌≡◌, ℕ, List, Option, Some, None}
 use Rattle.std.specs.Ordering.{nat_cmp}
 use Rattle.std.specs.FinMap.{FinMap, get}
 use Rattle.cj_calls.specs.Rows.{Told}
-use Rattle.cj_replay.specs.declared.snapshots.snapshot.Snapshot.{Snapshot}
-use Rattle.cj_replay.specs.snapshots.Snapshots.{seen_of, unseen}
+use Rattle.cj_script.specs.declared.operations.snapshot.Snapshot.{Snapshot}
+use Rattle.cj_script.specs.operations.Plans.{unseen}
+use Rattle.cj_replay.specs.snapshots.Snapshots.{seen_of}
 
 abbrev pub snapshot_or_none : Option Snapshot → Snapshot
 snapshot_or_none None = unseen

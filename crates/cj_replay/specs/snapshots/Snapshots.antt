@@ -9,10 +9,8 @@ use Rattle.cj_calls.specs.declared.call.Call.TheVariants as Of
 use Rattle.cj_calls.specs.declared.reply.Reply.{Reply}
 use Rattle.cj_calls.specs.declared.reply.Reply.TheVariants as Is
 use Rattle.cj_calls.specs.Rows.{Told}
-use Rattle.cj_replay.specs.declared.snapshots.snapshot.Snapshot.{Snapshot}
-
-abbrev pub unseen : Snapshot
-unseen = record { cron = None; jobs = None; active = None; plan = None }
+use Rattle.cj_script.specs.declared.operations.snapshot.Snapshot.{Snapshot}
+use Rattle.cj_script.specs.operations.Plans.{unseen}
 
 -- the plan that a claim hands in
 abbrev pub plan_in : Call → Option Planned

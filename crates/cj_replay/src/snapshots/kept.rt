@@ -5,8 +5,9 @@ ghost use Rattle.cj_calls.specs.Rows.{Told};
 ghost use Rattle.cj_replay.specs.snapshots.Snapshots as told;
 ghost use Rattle.cj_replay.specs.snapshots.Remembered.{Remembers, snapshot_or_none};
 
-use crate::snapshots::snapshot::{Snapshot, with_reply};
+use crate::snapshots::reply::with_reply;
 use cj_calls::{Answer, Call, Caller, Reply};
+use cj_script::Snapshot;
 use cj_types::Refusal;
 use std::alloc::Global;
 use std::collections::BTreeMap;
@@ -21,8 +22,8 @@ impl Model for Snapshots {
     ghost use Rattle.std.specs.Ordering.{nat_cmp};
     ghost use Rattle.std.specs.FinMap as map;
     ghost use Rattle.std.specs.Coded.{coded_ℕ};
-    ghost use Rattle.cj_replay.specs.declared.snapshots.snapshot.Snapshot.{Snapshot};
-    ghost use Rattle.cj_replay.specs.contracts.snapshots.snapshot.Snapshot.{the_row as snapshot};
+    ghost use Rattle.cj_script.specs.declared.operations.snapshot.Snapshot.{Snapshot};
+    ghost use Rattle.cj_script.specs.contracts.operations.snapshot.Snapshot.{the_row as snapshot};
 
     ghost Value = { map.FinMap nat_cmp Snapshot };
 

@@ -1,4 +1,5 @@
 -- advance: its clause made, where the answer is Empty, and what Entry::new requires where it isn't.
+use Rattle.std.proofs.Common.{refl}
 use Rattle.cj_world.proofs.Keeps.{row_given, advanced_empty}
 use Rattle.cj_world.proofs.advance.advance.Goals as goal
 
@@ -9,7 +10,5 @@ returns-then-is_empty-clause-made c =
 
 pub new-requires : goal.new-requires
 new-requires c =
-    row_given _ c.args.caller.now c.args.call.now c.in_ok-calls.calls.entered c.in_ok-step.field-0
-    c.parts-parts.result.entered c.parts-parts.result.answer _ _
-    c.in_ok-step.ensures.ok c.in_ok-calls.ensures.ok.0 c.parts-parts.ensures.entered c.parts-parts.ensures.answer
-    c.is_empty.ensures c.if-is_empty.false
+    row_given _ _ _ _ _ _ _ _ _ c.in_ok-step.ensures.ok refl c.parts-parts.ensures.entered
+    c.parts-parts.ensures.answer c.is_empty.ensures c.if-is_empty.false

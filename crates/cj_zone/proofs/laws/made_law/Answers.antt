@@ -1,8 +1,5 @@
--- made_law: its one clause, from what the type of a zone keeps of its clock.
-use Rattle.std.proofs.Common.{subst}
-use Rattle.cj_zone.specs.Made.{IsMade}
+-- made_law: its one clause, from what the zone's rules are known to be.
 use Rattle.cj_zone.proofs.laws.made_law.Goals as goal
 
 pub returns : goal.returns
-returns c = subst (λ zone. IsMade zone.source) c.zone.view_is
-    (record { rules = c.zone.inside.rules; clock = c.zone.invariant })
+returns c = record { rules = c.rules.result.now; clock = c.rules.ensures }

@@ -5,4 +5,4 @@ use Rattle.cj_zone.proofs.stretch.stretch_at.Goals as goal
 
 pub returns-clause-offsets : goal.returns-clause-offsets
 returns-clause-offsets c = same_clock _ _ _ _ _ _
-    (λ t. zone_offset-clock c.args.zone.now _ _ _ t c.zone.view_is c.zone.invariant) c.of_rules.ensures.offsets
+    (λ t. zone_offset-clock c.args.zone.now _ t c.rules.ensures) c.of_rules.ensures.offsets

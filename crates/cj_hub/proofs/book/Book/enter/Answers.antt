@@ -24,7 +24,7 @@ count_one-requires-clause-fits c =
 pub invariant_of-self-2 : goal.invariant_of-self-2
 invariant_of-self-2 c =
     let a = added _ _ _ _ _ _ c.in_ok-kept.ensures.entered in (
-      c.self.invariant.0 ∙ sym c.enter.ensures.limits,
+      c.self.invariant.0 ∙ sym c.enter_shared.ensures.limits,
       subst (λ (h : List Told). IsCounted c.count_one.new.seats.items h) (sym a.history)
           (counted_more c.self.inside.seats.items c.count_one.new.seats.items c.self.inside.world.history
           c.in_ok-kept.kept c.args.caller.now.number c.self.invariant.1

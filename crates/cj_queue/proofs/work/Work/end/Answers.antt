@@ -21,29 +21,29 @@ invariant_of-self c =
     ∙ ap (λ r. has r.row.processing c.args.key.now) c.self.view_is ∙ c.requires.held in
     let same = found_is c.self.inside.again.keys c.args.key.now c.in-Some.again (sym c.in-Some.ensures.key) in
     let pushed = subst (λ k. c.push.new.self.keys ≡ c.self.inside.line.keys ++ k ∷ []) same c.push.ensures.keys in
-    let lined = lined_off c.self.inside.line.keys c.self.inside.again.keys c.take-2.new.self.keys
-    c.self.inside.processing.keys c.take.new.self.keys c.args.key.now c.self.invariant
-    c.take-2.ensures.updates.0 c.take.ensures.updates.0 in
-    lined_push c.self.inside.line.keys c.push.new.self.keys c.take-2.new.self.keys c.take.new.self.keys
+    let lined = lined_off c.self.inside.line.keys c.self.inside.again.keys c.take.new.self.keys
+    c.self.inside.processing.keys c.remove.new.self.keys c.args.key.now c.self.invariant
+    c.take.ensures.updates.0 c.remove.ensures.updates.0 in
+    lined_push c.self.inside.line.keys c.push.new.self.keys c.take.new.self.keys c.remove.new.self.keys
     c.args.key.now lined
-    c.take.ensures.updates.1
+    c.remove.ensures.updates.1
     (out_of_line c.self.inside.line.keys c.self.inside.again.keys c.self.inside.processing.keys c.args.key.now
     c.self.invariant held) pushed
 
-pub invariant_of-self-in-None-1 : goal.invariant_of-self-in-None-1
-invariant_of-self-in-None-1 c =
-    lined_off c.self.inside.line.keys c.self.inside.again.keys c.take-2.new.self.keys c.self.inside.processing.keys
-    c.take.new.self.keys c.args.key.now c.self.invariant c.take-2.ensures.updates.0
-    c.take.ensures.updates.0
+pub invariant_of-self-in_default : goal.invariant_of-self-in_default
+invariant_of-self-in_default c =
+    lined_off c.self.inside.line.keys c.self.inside.again.keys c.take.new.self.keys c.self.inside.processing.keys
+    c.remove.new.self.keys c.args.key.now c.self.invariant c.take.ensures.updates.0
+    c.remove.ensures.updates.0
 
 pub returns-in-Some-clause-row : goal.returns-in-Some-clause-row
 returns-in-Some-clause-row c =
     let same = found_is c.self.inside.again.keys c.args.key.now c.in-Some.again (sym c.in-Some.ensures.key) in
     let pushed = subst (λ k. c.push.new.self.keys ≡ c.self.inside.line.keys ++ k ∷ []) same c.push.ensures.keys in
     let added : stands_in c.self.inside.again.keys c.args.key.now ≡ true = sym c.in-Some.ensures.variant in
-    sym (end_again c.self.inside.line.keys c.push.new.self.keys c.self.inside.again.keys c.take-2.new.self.keys
-    c.self.inside.processing.keys c.take.new.self.keys c.args.key.now added pushed
-    c.take-2.ensures.updates.0 c.take.ensures.updates.0)
+    sym (end_again c.self.inside.line.keys c.push.new.self.keys c.self.inside.again.keys c.take.new.self.keys
+    c.self.inside.processing.keys c.remove.new.self.keys c.args.key.now added pushed
+    c.take.ensures.updates.0 c.remove.ensures.updates.0)
     ∙ ap (λ v. row_end v.row c.args.key.now) c.self.view_is
 
 pub returns-in_default-clause-row : goal.returns-in_default-clause-row
@@ -51,14 +51,8 @@ returns-in_default-clause-row c =
     let held = sym (has_keys c.self.inside.processing.keys c.args.key.now)
     ∙ ap (λ r. has r.row.processing c.args.key.now) c.self.view_is ∙ c.requires.held in
     let clean : stands_in c.self.inside.again.keys c.args.key.now ≡ false =
-    sym c.take-2.ensures.variant ∙ ap is_some c.in_default.is in
-    ap (λ a. row c.self.inside.line.keys a c.take.new.self.keys) c.in_default.ensures.unchanged
+    sym c.take.ensures.variant ∙ ap is_some c.in_default.is in
+    ap (λ a. row c.self.inside.line.keys a c.remove.new.self.keys) c.in_default.ensures.unchanged
     ∙ sym (end_clean c.self.inside.line.keys c.self.inside.again.keys c.self.inside.processing.keys
-    c.take.new.self.keys c.args.key.now c.self.invariant held clean c.take.ensures.updates.0)
+    c.remove.new.self.keys c.args.key.now c.self.invariant held clean c.remove.ensures.updates.0)
     ∙ ap (λ v. row_end v.row c.args.key.now) c.self.view_is
-
-pub unwrap-held-requires : goal.unwrap-held-requires
-unwrap-held-requires c =
-    let held = sym (has_keys c.self.inside.processing.keys c.args.key.now)
-    ∙ ap (λ r. has r.row.processing c.args.key.now) c.self.view_is ∙ c.requires.held in
-    c.take.ensures.variant ∙ held

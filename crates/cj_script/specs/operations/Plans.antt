@@ -8,7 +8,10 @@ use Rattle.cj_zone.specs.declared.zone.Zone.{Zone}
 use Rattle.cj_zone.specs.Table.{local_zone, zones_of}
 use Rattle.cj_zone.specs.Zones.{zone_named}
 use Rattle.cj_decide.specs.Decision.{IsDecided, Planned}
-use Rattle.cj_replay.specs.declared.snapshots.snapshot.Snapshot.{Snapshot}
+use Rattle.cj_script.specs.declared.operations.snapshot.Snapshot.{Snapshot}
+
+abbrev pub unseen : Snapshot
+unseen = record { cron = None; jobs = None; active = None; plan = None }
 
 -- the three readings that a plan rests on
 pub record Inputs : Type 0 where

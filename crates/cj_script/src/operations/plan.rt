@@ -1,8 +1,8 @@
 ghost use Rattle.std.specs.Prelude.{◌≡◌, None, IfOk, IfErr, option_copied};
 ghost use Rattle.cj_base.specs.declared.refusal.Refusal.TheVariants.{OutOfMemory};
-ghost use Rattle.cj_replay.specs.snapshots.Plans.{IsPlanFor, inputs_of, no_inputs, reasons_of, zone_named_by, zone_of};
+ghost use Rattle.cj_script.specs.operations.Plans.{IsPlanFor, inputs_of, no_inputs, reasons_of, zone_named_by, zone_of};
 
-use crate::snapshots::snapshot::Snapshot;
+use crate::operations::snapshot::Snapshot;
 use cj_base::{all_four, both};
 use cj_decide::{Plan, decide};
 use cj_types::{CronJob, Job, Listing, Reasons, Refusal, Seconds, Shared, Text, TryCopy};

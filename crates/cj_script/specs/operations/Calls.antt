@@ -1,4 +1,4 @@
--- The call of a step of a script. Some of it is known only when the step's turn comes.
+-- The call of an operation. Some of it is known only when the operation's turn comes.
 use Rattle.std.specs.Prelude.{◌≡◌, ℕ, Option, Some, None}
 use Rattle.cj_types.specs.Keys.{Place}
 use Rattle.cj_types.specs.declared.job.Job.{Job}
@@ -9,9 +9,8 @@ use Rattle.cj_calls.specs.declared.call.Call.{Call}
 use Rattle.cj_calls.specs.declared.call.Call.TheVariants as Of
 use Rattle.cj_script.specs.declared.operations.operation.Operation.{Operation}
 use Rattle.cj_script.specs.declared.operations.operation.Operation.TheVariants.{Calls, Claims, Closes, Ends}
-use Rattle.cj_replay.specs.declared.snapshots.snapshot.Snapshot.{Snapshot}
-use Rattle.cj_replay.specs.snapshots.Snapshots.{unseen}
-use Rattle.cj_replay.specs.snapshots.Plans.{Inputs, IsPlanFor, inputs_of, reasons_of}
+use Rattle.cj_script.specs.declared.operations.snapshot.Snapshot.{Snapshot}
+use Rattle.cj_script.specs.operations.Plans.{Inputs, IsPlanFor, inputs_of, reasons_of, unseen}
 
 -- the uid of the Job that stands; any where there is none
 abbrev pub IsUidOf : Option Job → ℕ → Type 0

@@ -1,7 +1,7 @@
 -- next_text: its clause ok, at the line none and after the last line, and its loop's invariant.
 use Rattle.std.proofs.Common.{suc, ◌<◌, refl, arith, ℕ, ◌≡◌, ◌-◌, ◌+◌}
 use Rattle.cj_answers.proofs.NextLemmas.{continues_line, continues_none, continues_done}
-use Rattle.cj_answers.proofs.next_text.next_text.Goals as goal
+use Rattle.cj_answers.proofs.next_lines.next_text.Goals as goal
 
 -- so many lines to come are one and the rest
 one_less : (n i : ℕ) → i < n → n - i ≡ suc (n - (i + 1))

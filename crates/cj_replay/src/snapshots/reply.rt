@@ -1,67 +1,14 @@
-ghost use Rattle.std.specs.Prelude.{◌≡◌, None, Some, IfOk, IfErr};
+// What a worker has seen with one reply more.
+ghost use Rattle.std.specs.Prelude.{◌≡◌, Some, IfOk, IfErr};
 ghost use Rattle.cj_base.specs.declared.refusal.Refusal.TheVariants.{OutOfMemory};
 ghost use Rattle.cj_replay.specs.snapshots.Snapshots as told;
 
 use cj_base::all_four;
 use cj_calls::{Call, Reply};
 use cj_decide::Plan;
+use cj_script::Snapshot;
 use cj_types::{CronJob, Job, Listing, Refusal, Shared, TryCopy};
 use std::alloc::Global;
-
-/// What a worker has seen in its sync so far, and the plan that it claimed.
-pub struct Snapshot {
-    /// The CronJob, or that there is none.
-    pub cron: Option<Option<Shared<CronJob>>>,
-    /// The Jobs that were listed for it.
-    pub jobs: Option<Listing<Shared<Job>>>,
-    /// What the live read found for each of its active names.
-    pub active: Option<Listing<Option<Shared<Job>>>>,
-    /// The plan whose claim was accepted.
-    pub plan: Option<Shared<Plan>>,
-}
-
-// A function of its own, so that whoever gives up a snapshot makes one call and not one for each part.
-impl Drop for Snapshot {
-    fn drop(self) {
-        let Snapshot {
-            cron: _,
-            jobs: _,
-            active: _,
-            plan: _,
-        } = self;
-    }
-}
-
-impl TryCopy for Snapshot {
-    fn try_copy(&self, alloc: Global) -> Result<Snapshot, Refusal> {
-        let (cron, jobs, active, plan) = all_four(
-            self.cron.try_copy(alloc),
-            self.jobs.try_copy(alloc),
-            self.active.try_copy(alloc),
-            self.plan.try_copy(alloc),
-        )?;
-        Ok(Snapshot {
-            cron,
-            jobs,
-            active,
-            plan,
-        })
-    }
-}
-
-impl Snapshot {
-    /// Nothing was seen.
-    pub fn unseen() -> Snapshot
-        ensures { result ≡ told.unseen }
-    {
-        Snapshot {
-            cron: None,
-            jobs: None,
-            active: None,
-            plan: None,
-        }
-    }
-}
 
 // The CronJob that is seen first in a sync.
 fn with_cron(

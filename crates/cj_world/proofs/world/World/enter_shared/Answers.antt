@@ -1,6 +1,6 @@
--- World::enter: its clause entered, where the call has receipts.
+-- World::enter_shared: its clause entered, where the call has receipts.
 use Rattle.cj_world.proofs.Keeps.{entered_by}
-use Rattle.cj_world.proofs.world.World.enter.Goals as goal
+use Rattle.cj_world.proofs.world.World.enter_shared.Goals as goal
 
 pub returns-in-Some-clause-entered : goal.returns-in-Some-clause-entered
 returns-in-Some-clause-entered c =

@@ -1,0 +1,91 @@
+// The call of an operation.
+ghost use Rattle.std.specs.Prelude.{◌≡◌, IfOk, IfErr, option_copied};
+ghost use Rattle.cj_base.specs.declared.refusal.Refusal.TheVariants.{OutOfMemory};
+ghost use Rattle.cj_calls.specs.declared.call.Call.TheVariants.{Finish};
+ghost use Rattle.cj_script.specs.operations.Plans.{inputs_of, reasons_of};
+ghost use Rattle.cj_script.specs.operations.Calls.{IsCallOf, IsClaim, IsEnd, IsUidOf, IsUnseenCall};
+
+use crate::operations::operation::Operation;
+use crate::operations::plan::{plan_for, reasons_for};
+use crate::operations::snapshot::Snapshot;
+use cj_calls::{Call, End};
+use cj_types::{Job, Key, Outcome, Refusal, Seconds, Shared, TryCopy, Uid};
+use cj_zone::ZoneTable;
+use std::alloc::Global;
+
+fn first_uid() -> Uid {
+    Uid::new(1).unwrap()
+}
+
+fn uid_of(job: Option<&Shared<Job>>) -> Uid
+    ensures { IsUidOf (option_copied job.entry) result }
+{
+    match job {
+        Some(job) => job.get().meta.uid,
+        None => first_uid(),
+    }
+}
+
+// The end of the Job, which stands at the key, or of any where none does.
+fn end_call(
+    alloc: Global,
+    job: Option<&Shared<Job>>,
+    key: &Key,
+    outcome: Outcome,
+    at: Seconds,
+) -> Result<Call, Refusal>
+    ensures ok { IfOk result (IsEnd (option_copied job.entry) key.now outcome at) }
+    ensures err { IfErr result (λ e. e ≡ OutOfMemory) }
+{
+    let uid = uid_of(job);
+    Ok(Call::EndJob(key.try_copy(alloc)?, uid, outcome, at))
+}
+
+fn claim_call(
+    alloc: Global,
+    zones: &ZoneTable,
+    snapshot: &Snapshot,
+    at: Seconds,
+) -> Result<Call, Refusal>
+    ensures ok { IfOk result (IsClaim zones.now (inputs_of snapshot.now) at) }
+    ensures err { IfErr result (λ e. e ≡ OutOfMemory) }
+{
+    let plan = plan_for(alloc, zones, snapshot, at)?;
+    Ok(Call::Claim(Shared::new(alloc, plan)?))
+}
+
+fn finish_call(alloc: Global, snapshot: &Snapshot, end: End) -> Result<Call, Refusal>
+    ensures ok { IfOk result (λ call. call ≡ Finish end (reasons_of snapshot.now.plan)) }
+    ensures err { IfErr result (λ e. e ≡ OutOfMemory) }
+{
+    Ok(Call::Finish(end, reasons_for(alloc, snapshot)?))
+}
+
+/// The call of an operation of a caller that has seen so much, where the Job is the one that stands at the key
+/// of an end, or none is known.
+pub fn call_of(
+    alloc: Global,
+    zones: &ZoneTable,
+    snapshot: &Snapshot,
+    job: Option<&Shared<Job>>,
+    operation: &Operation,
+) -> Result<Call, Refusal>
+    ensures ok { IfOk result (IsCallOf zones.now snapshot.now (λ _. option_copied job.entry)
+        operation.now) }
+    ensures err { IfErr result (λ e. e ≡ OutOfMemory) }
+{
+    match operation {
+        Operation::Calls(call) => call.try_copy(alloc),
+        Operation::Ends(key, outcome, at) => end_call(alloc, job, key, *outcome, *at),
+        Operation::Claims(at) => claim_call(alloc, zones, snapshot, *at),
+        Operation::Closes(end) => finish_call(alloc, snapshot, *end),
+    }
+}
+
+/// The call of an operation of a caller that has seen nothing, where no Job is known.
+pub fn unseen_call(alloc: Global, zones: &ZoneTable, operation: &Operation) -> Result<Call, Refusal>
+    ensures ok { IfOk result (IsUnseenCall zones.now operation.now) }
+    ensures err { IfErr result (λ e. e ≡ OutOfMemory) }
+{
+    call_of(alloc, zones, &Snapshot::unseen(), None, operation)
+}
