@@ -1,4 +1,7 @@
 //! Calls on the world, who makes them, their replies, and the entries of its history.
+//!
+//! Here belongs what can be asked and answered, and by whom. What is answered, and what it leaves, belongs to
+//! `cj_state`. Whoever calls rests on the types alone, and on `Entry`, whose answer stands in its call's row.
 #![tactic(auto)]
 
 mod answered;

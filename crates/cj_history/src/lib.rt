@@ -1,7 +1,10 @@
 //! Histories by looking back alone: what makes one legal, that a call has one answer, that a key is in one
 //! worker's hands at a time, that no time gets two Jobs, that a Job under Forbid or Replace is made alone,
-//! and that a claim is of the greatest time missed. No state stands in these words. What was written is looked up in
-//! `store`, what is queued in `queue`; and what is written of a created object reads back (`manifests`).
+//! and that a claim is of the greatest time missed. No state stands in these words.
+//!
+//! Here belongs a second reading of what the crates below define by a state: of what is written (`store`) and queued
+//! (`queue`), and that what is written of a created object reads back (`manifests`). No crate rests on it; `legal_law`
+//! and `answer_law` say that the two readings agree.
 #![tactic(auto)]
 
 mod laws;

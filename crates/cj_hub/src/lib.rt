@@ -1,4 +1,8 @@
 //! The hub: one world under a lock, passes through which callers call, and receipts of what they were answered.
+//!
+//! Here belongs how threads share a world: who is enrolled, what a call does under the lock, who waits and is woken,
+//! and how a history is closed. What is called, and why, belongs to the crates above. They rest on `Desk` and its
+//! `ask`, on `Hub::call` and `take_wait`, and on `Hub::close`, whose history keeps the promise.
 #![tactic(auto)]
 
 mod asking;

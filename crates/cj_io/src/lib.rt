@@ -1,5 +1,8 @@
-//! What the program reads and writes, and what it says where that fails; and the zones that words and folders give
-//! (`zone_files`).
+//! What the program reads and writes, and what it says where that fails.
+//!
+//! Here belongs how input is read within its limits, how output is written or begun, and (`zone_files`) which zones an
+//! input names and what words and folders give of them. What is printed belongs to the crates above. They rest on
+//! `read_input`, `write_whole` and `Pending`, on `tell_failure`, and on `zones_named` and `table_with`.
 #![tactic(auto)]
 
 mod failure;

@@ -1,4 +1,8 @@
 //! Manifests: JSON bytes to drafts, with every fault by its field and a warning for every member that is dropped.
+//!
+//! Here belongs the table of fields: what each may be, in which order faults are told, and what is made of a member.
+//! Which object a draft becomes belongs to the store. The crates above rest on `read_manifest`, `read_cronjob` and
+//! `read_job`, and on `manifest_laws`: what is written reads back.
 #![tactic(auto)]
 
 mod draft;

@@ -1,6 +1,9 @@
 //! The versioned store of CronJobs and Jobs: one count of versions over all objects, conditional updates, uids that
-//! never return, ends that are final (Kubernetes API conventions, "Concurrency Control and Consistency"); and what
-//! its contents, events and answers keep, whatever is planned and committed (`store_laws`).
+//! never return, ends that are final (Kubernetes API conventions, "Concurrency Control and Consistency").
+//!
+//! Here belongs what each write answers, the first refusal that holds, and the content after it. Who may call, and what
+//! is told of a write to others, belongs to the crates above. They rest on the plans (`plan_create_cron` and its like),
+//! on `Store::commit`, and on what every content, event and answer keeps (`store_laws`).
 #![tactic(auto)]
 
 mod change;

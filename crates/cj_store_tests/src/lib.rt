@@ -1,5 +1,7 @@
-//! Tests of the store: a worked row of calls, two thousand Jobs, ten thousand calls beside a plain list,
-//! and plans that are made in turn; of the watch window and the mirror (`watch`), and of the work queue (`queue`).
+//! Tests of the store: a worked row of calls, two thousand Jobs, ten thousand calls beside a plain list, and plans that
+//! are made in turn; of the watch window and the mirror (`watch`), and of the work queue (`queue`).
+//!
+//! Here belongs what no row of data and no clause can show of what a cluster keeps.
 #![tactic(auto)]
 
 #[cfg(test)]

@@ -1,4 +1,8 @@
 //! The objects that are stored, what a manifest says of them, and the names that they go by.
+//!
+//! Here belongs what a CronJob, a Job, a draft or an event is, which names are well formed, and the Job that a CronJob
+//! makes for a time. How objects are read, written and kept belongs to the crates above. They rest on the types, which
+//! keep names and numbers in their forms, on `Key::new` with its faults, and on `CronJob::job_for`.
 #![tactic(auto)]
 
 mod cron;

@@ -1,6 +1,8 @@
-//! Tests of the stored types: the texts of uids, versions and Jobs' names, the Job that a CronJob makes, that
-//! copies and comparisons see each field, and the order of keys; of instants, zones and due times (`times`), and of
-//! manifests (`manifests`).
+//! Tests of the stored types: the texts of uids, versions and Jobs' names, the Job that a CronJob makes, that copies
+//! and comparisons see each field, and the order of keys; of instants, zones and due times (`times`), and of manifests
+//! (`manifests`).
+//!
+//! Here belongs what no row of data and no clause can show of values, times and manifests.
 #![tactic(auto)]
 
 #[cfg(test)]

@@ -1,5 +1,8 @@
-//! The latest writes as events, and which of them came after a version; and the Jobs as a listing that is fed with such
-//! events, and lags, has them (`mirror`).
+//! The latest writes as events, and which of them came after a version.
+//!
+//! Here belongs how many events are kept, what is told of them, and (`mirror`) what a listing has that is fed with them
+//! and lags. What a write is belongs to `cj_store`. The crates above rest on `WatchLog::since`, on `Mirror`, and on
+//! `watch_laws` and `mirror_laws`: no event is missed.
 #![tactic(auto)]
 
 mod laws;

@@ -1,5 +1,8 @@
-//! Why a CronJob starts a Job at a moment, or why not, in words for people; and what each CronJob of a cluster missed,
-//! with the plan of its next sync (`reviews`).
+//! Why a CronJob starts a Job at a moment, or why not, in words for people.
+//!
+//! Here belongs the wording of the times missed, of the Jobs that run and of the policy, and (`reviews`) what each
+//! CronJob of a cluster missed, with the plan of its next sync. The decision itself belongs to `cj_decide`. The
+//! commands rest on `why`, `review` and `plan_text`.
 #![tactic(auto)]
 
 mod missed;

@@ -1,5 +1,9 @@
 //! Workers: a sync takes a key, looks at its CronJob and its Jobs, and carries out the one plan of what was seen; a worker
 //! is a thread that makes one sync after the other.
+//!
+//! Here belongs in which order a sync calls, how it ends, where it may be stopped, and whose passes come back. What a
+//! plan is belongs to `cj_decide`, what a call is answered to the world. The crates above rest on `sync_once` and
+//! `run_workers`.
 #![tactic(auto)]
 
 mod asking;

@@ -1,5 +1,8 @@
-//! Laws over every list of calls: each state is sound and a key is in one worker's hands at a time (`legal`); no time
-//! gets two Jobs, a Job under Forbid or Replace is made alone, and a claim is of the greatest time missed (`once`).
+//! Laws over every list of calls.
+//!
+//! Here belongs what holds after any calls by anybody: each state is sound and a key is in one worker's hands
+//! (`legal`); no time gets two Jobs, a Job under Forbid or Replace is made alone, and a claim is of the greatest time
+//! missed (`once`). No code belongs here. The world's type rests on `exclusive_law`, `once_law` and `time_law`.
 //! docs/THEOREM.md goes through the proof.
 #![tactic(auto)]
 
