@@ -106,7 +106,8 @@ impl Line {
 // Where the front is used up, the back takes its place, turned round. The line stays the same.
 #[tactic(auto, using(crate::proofs::LineLemmas::turned))]
 fn turn(front: &mut IndexSet<Key>, back: &mut IndexSet<Key>)
-    ensures line { reverse front.new.keys ++ back.new.keys ≡ reverse front.old.keys ++ back.old.keys }
+    ensures line { reverse front.new.keys ++ back.new.keys
+        ≡ reverse front.old.keys ++ back.old.keys }
     ensures used_up { front.new.keys ≡ [] → back.new.keys ≡ [] }
 {
     if front.is_empty() {

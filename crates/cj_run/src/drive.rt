@@ -79,8 +79,8 @@ fn live<R: Threads + Wait + Sync>(
     participants: &mut Participants,
     now: Seconds,
 ) -> Result<(), Halt>
-    ensures { OnOk result (Does simulation.now.zones (edits_at simulation.now.edits.items now) participants.old.user
-        participants.new.user) }
+    ensures { OnOk result (Does simulation.now.zones (edits_at simulation.now.edits.items now)
+        participants.old.user participants.new.user) }
 {
     end(rt, alloc, hub, participants, now)?;
     edit_all(
