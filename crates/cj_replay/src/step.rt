@@ -30,8 +30,8 @@ pub(crate) fn make_step(
     step: &Step,
 ) -> Result<Stepped, Refusal>
     requires { Remembers snapshots.old world.old.history }
-    ensures makes { IfOk result (λ p. MakesStep zones.now world.old.limits world.old.history step.now
-        (string_bytes p.line) p.is_full world.new.history) }
+    ensures makes { IfOk result (λ p. MakesStep zones.now world.old.limits world.old.history
+        step.now (string_bytes p.line) p.is_full world.new.history) }
     ensures remembered { OnOk result (Remembers snapshots.new world.new.history) }
     ensures limits { world.new.limits ≡ world.old.limits }
     ensures err { IfErr result (λ e. e ≡ OutOfMemory) }

@@ -64,7 +64,8 @@ fn operation_of(
     value: &Value,
 ) -> Result<Operation, SceneFault>
     requires flat { depth (view value.now) ≤ max_depth }
-    ensures ok { IfOk result (λ a. said.operation_of (zones_of zones.now) verb (view value.now) ≡ Ok a) }
+    ensures ok { IfOk result (λ a.
+        said.operation_of (zones_of zones.now) verb (view value.now) ≡ Ok a) }
     ensures err { IfErr result (λ e. e ≢ Memory →
         said.operation_of (zones_of zones.now) verb (view value.now) ≡ Err e) }
 {

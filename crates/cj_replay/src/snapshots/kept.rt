@@ -46,8 +46,8 @@ fn next_snapshot(
     call: &Call,
     reply: &Reply,
 ) -> Result<Snapshot, Refusal>
-    ensures ok { IfOk result (λ s. s ≡ told.with_reply (snapshot_or_none (option_copied snapshot.entry))
-        call.now reply.now) }
+    ensures ok { IfOk result (λ s. s
+        ≡ told.with_reply (snapshot_or_none (option_copied snapshot.entry)) call.now reply.now) }
     ensures err { IfErr result (λ e. e ≡ OutOfMemory) }
 {
     match snapshot {
