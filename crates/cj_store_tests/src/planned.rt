@@ -1,6 +1,6 @@
 use crate::boxed::boxed;
 use crate::drafts::{owned_draft, seconds};
-use cj_store::{Store, answer_laws, equality_laws, event_laws, make_both, sound_laws, update_both};
+use cj_store::{Store, make_both, update_both};
 use cj_types::{Heap, JobDraft, Key, Refusal};
 use std::alloc::Global;
 
@@ -47,12 +47,4 @@ fn are_planned(alloc: Global) -> Result<bool, Refusal> {
 fn makes_plans_in_turn(rt: HostRuntime) {
     let planned = are_planned(rt.alloc()).unwrap_or(false);
     assert!(rt; planned);
-}
-
-#[test]
-fn laws_cost_nothing() {
-    answer_laws();
-    event_laws();
-    sound_laws();
-    equality_laws();
 }

@@ -2,7 +2,7 @@ use crate::calls::{FIRST, add, tick};
 use crate::hubs::pass_of;
 use crate::worker::deeds::{Deed, Sought, counts};
 use crate::worker::disturbed::disturbed;
-use crate::worker::stages::{Stage, made, stage_of};
+use crate::worker::fixtures::{Fixture, fixture_of, made};
 use crate::worker::syncs::synced;
 use cj_calls::{Call, Role};
 use cj_worker::{OpenGate, Point};
@@ -26,11 +26,11 @@ fn three_adds(rt: &impl Abort, alloc: Global) -> [Call; 5] {
 type Told = ([&'static str; 3], [usize; 4]);
 
 fn told(rt: &(impl Wait + Abort), alloc: Global) -> Told {
-    let Stage {
+    let Fixture {
         hub,
         user,
         informer,
-    } = stage_of(rt, alloc, &["a"]);
+    } = fixture_of(rt, alloc, &["a"]);
     let mut worker = pass_of(rt, &hub, Role::Worker);
     let adds = three_adds(rt, alloc);
     let (first, mut informer) = disturbed(

@@ -2,7 +2,7 @@ use crate::calls::{FIRST, add, edit};
 use crate::hubs::pass_of;
 use crate::worker::deeds::{Deed, Sought, counts};
 use crate::worker::disturbed::disturbed;
-use crate::worker::stages::{Stage, made, stage_of};
+use crate::worker::fixtures::{Fixture, fixture_of, made};
 use crate::worker::syncs::synced;
 use cj_calls::Role;
 use cj_worker::{OpenGate, Point};
@@ -16,11 +16,11 @@ use std::sync::Wait;
 type Row = ([&'static str; 2], [usize; 4]);
 
 fn edited_at(rt: &(impl Wait + Abort), alloc: Global, point: Point) -> Row {
-    let Stage {
+    let Fixture {
         hub,
         user,
         mut informer,
-    } = stage_of(rt, alloc, &["a"]);
+    } = fixture_of(rt, alloc, &["a"]);
     let mut worker = pass_of(rt, &hub, Role::Worker);
     let edits = [edit(rt, alloc, "a")];
     let (end, user) = disturbed(rt, alloc, &hub, &mut worker, user, &edits, point);

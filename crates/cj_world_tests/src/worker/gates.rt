@@ -1,5 +1,5 @@
 // Gates that stop a sync, or disturb it.
-use crate::worker::stages::made;
+use crate::worker::fixtures::made;
 use cj_calls::Call;
 use cj_hub::{Hub, Pass};
 use cj_types::{Key, TryCopy};

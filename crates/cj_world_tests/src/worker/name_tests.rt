@@ -1,7 +1,7 @@
 use crate::calls::{FIRST, create_job, tick};
 use crate::hubs::pass_of;
 use crate::worker::deeds::{Deed, Sought, counts};
-use crate::worker::stages::{Stage, made, stage_of};
+use crate::worker::fixtures::{Fixture, fixture_of, made};
 use crate::worker::syncs::synced;
 use cj_calls::{Call, Role};
 use cj_hub::{Hub, Pass};
@@ -32,11 +32,11 @@ fn three_ends(
 type Told = ([&'static str; 3], [usize; 4]);
 
 fn told(rt: &(impl Wait + Abort), alloc: Global) -> Told {
-    let Stage {
+    let Fixture {
         hub,
         mut user,
         mut informer,
-    } = stage_of(rt, alloc, &["a"]);
+    } = fixture_of(rt, alloc, &["a"]);
     made(rt, &hub, &mut user, create_job(rt, alloc, "a-28401121"));
     let mut worker = pass_of(rt, &hub, Role::Worker);
     let ends = three_ends(rt, alloc, &hub, &mut informer, &mut worker);

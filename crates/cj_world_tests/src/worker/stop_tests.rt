@@ -1,8 +1,8 @@
 use crate::calls::{FIRST, SECOND, add};
 use crate::hubs::pass_of;
 use crate::worker::deeds::{Deed, Sought, counts};
+use crate::worker::fixtures::{Fixture, fixture_of, made};
 use crate::worker::gates::StopsAt;
-use crate::worker::stages::{Stage, made, stage_of};
 use crate::worker::syncs::synced;
 use cj_calls::{Call, Role};
 use cj_hub::{Hub, Pass};
@@ -35,11 +35,11 @@ fn other_ends(
 type Row = (&'static str, [&'static str; 3], [usize; 4]);
 
 fn stopped_at(rt: &(impl Wait + Abort), alloc: Global, point: Point) -> Row {
-    let Stage {
+    let Fixture {
         hub,
         user,
         mut informer,
-    } = stage_of(rt, alloc, &["a", "b"]);
+    } = fixture_of(rt, alloc, &["a", "b"]);
     let mut stopped = pass_of(rt, &hub, Role::Worker);
     let mut other = pass_of(rt, &hub, Role::Worker);
     let gate = StopsAt { point, name: "a" };

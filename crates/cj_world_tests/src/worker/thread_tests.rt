@@ -2,7 +2,7 @@ use crate::calls::FIRST;
 use crate::hubs::pass_of;
 use crate::worker::clocks::clock_at;
 use crate::worker::deeds::{Deed, Sought, counts};
-use crate::worker::stages::{Stage, made, stage_of};
+use crate::worker::fixtures::{Fixture, fixture_of, made};
 use crate::worker::syncs::word;
 use crate::worker::two_keys::TwoKeys;
 use cj_calls::{Call, Role};
@@ -51,11 +51,11 @@ fn last_of(
 type Told = (bool, [&'static str; 2], [usize; 4]);
 
 fn told(rt: &(impl Threads + Wait + Abort + Sync), alloc: Global) -> Told {
-    let Stage {
+    let Fixture {
         hub,
         user,
         mut informer,
-    } = stage_of(rt, alloc, &["a", "b"]);
+    } = fixture_of(rt, alloc, &["a", "b"]);
     made(rt, &hub, &mut informer, Call::Shut);
     let gate = TwoKeys::new();
     let mut workers = work(rt, alloc, &hub, &gate);
@@ -78,7 +78,7 @@ fn told(rt: &(impl Threads + Wait + Abort + Sync), alloc: Global) -> Told {
 // ends one sync well and then finds the queue shut. The passes come back: with them the hub closes.
 // rules: worker-passes, worker-ends
 #[test]
-fn two_workers_on_two_keys(rt: HostRuntime) {
+fn gate_two_keys(rt: HostRuntime) {
     let told = told(&rt, rt.alloc());
     assert!(rt; told == (false, ["ShutDown", "ShutDown"], [1, 1, 1, 1]));
 }

@@ -1,7 +1,7 @@
 use crate::calls::FIRST;
 use crate::hubs::pass_of;
 use crate::worker::deeds::{Deed, Sought, counts};
-use crate::worker::stages::{Stage, made, stage_of};
+use crate::worker::fixtures::{Fixture, fixture_of, made};
 use crate::worker::syncs::synced;
 use cj_calls::{Call, Role};
 use cj_worker::OpenGate;
@@ -14,11 +14,11 @@ use std::sync::Wait;
 type Told = ([&'static str; 2], [usize; 2], [usize; 4]);
 
 fn told(rt: &(impl Wait + Abort), alloc: Global) -> Told {
-    let Stage {
+    let Fixture {
         hub,
         user,
         mut informer,
-    } = stage_of(rt, alloc, &["a"]);
+    } = fixture_of(rt, alloc, &["a"]);
     made(rt, &hub, &mut informer, Call::Shut);
     let mut worker = pass_of(rt, &hub, Role::Worker);
     let first = synced(rt, alloc, &hub, &mut worker, &OpenGate, FIRST);

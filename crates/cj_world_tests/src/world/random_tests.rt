@@ -1,6 +1,6 @@
 use crate::world::checker::Fault;
+use crate::world::fixture::Fixture;
 use crate::world::random::Random;
-use crate::world::stage::Stage;
 use crate::world::told::Told;
 use cj_types::{Job, Policy, Refusal, Shared};
 use std::alloc::Global;
@@ -27,26 +27,26 @@ impl Counts {
     }
 }
 
-fn is_strict(stage: &Stage) -> bool {
-    let claimed = &stage.checker.claimed;
+fn is_strict(fixture: &Fixture) -> bool {
+    let claimed = &fixture.checker.claimed;
     claimed.contains(&Some(Policy::Forbid)) || claimed.contains(&Some(Policy::Replace))
 }
 
 // One call at random. False where it broke a promise.
 fn step(
     alloc: Global,
-    stage: &mut Stage,
+    fixture: &mut Fixture,
     random: &mut Random,
     counts: &mut Counts,
 ) -> Result<bool, Refusal> {
-    let ask = random.ask(&stage.hands.stands);
-    let told = stage.make(alloc, &ask)?;
-    counts.count(told, is_strict(stage));
-    Ok(stage.checker.fault.is_none())
+    let ask = random.ask(&fixture.hands.stands);
+    let told = fixture.make(alloc, &ask)?;
+    counts.count(told, is_strict(fixture));
+    Ok(fixture.checker.fault.is_none())
 }
 
 // Ten thousand calls, up to the first broken promise.
-fn run(alloc: Global, stage: &mut Stage, seed: u64) -> Result<Counts, Refusal> {
+fn run(alloc: Global, fixture: &mut Fixture, seed: u64) -> Result<Counts, Refusal> {
     let mut random = Random::new(seed);
     let mut counts = Counts {
         strict: 0,
@@ -54,7 +54,7 @@ fn run(alloc: Global, stage: &mut Stage, seed: u64) -> Result<Counts, Refusal> {
         conflicts: 0,
     };
     for _ in 0..10_000 {
-        if !step(alloc, stage, &mut random, &mut counts)? {
+        if !step(alloc, fixture, &mut random, &mut counts)? {
             return Ok(counts);
         }
     }
@@ -82,16 +82,16 @@ fn count_of_standing(policies: &[Option<Policy>; 3]) -> usize {
 }
 
 // Whether the world's CronJobs and unfinished Jobs are as many as the checker knows of.
-fn is_as_checked(stage: &Stage) -> Result<bool, Refusal> {
-    let (crons, jobs) = stage.world.objects()?;
-    let standing = count_of_standing(&stage.checker.policies);
+fn is_as_checked(fixture: &Fixture) -> Result<bool, Refusal> {
+    let (crons, jobs) = fixture.world.objects()?;
+    let standing = count_of_standing(&fixture.checker.policies);
     let all = crons.as_slice().len() == standing;
-    Ok(all && count_of_running(jobs.as_slice()) == stage.checker.running.len())
+    Ok(all && count_of_running(jobs.as_slice()) == fixture.checker.running.len())
 }
 
 // Whether enough came to pass for the run to say something.
-fn is_rich(stage: &Stage, counts: Counts) -> bool {
-    let works = stage.checker.made.len() >= 150 && counts.strict >= 2_000;
+fn is_rich(fixture: &Fixture, counts: Counts) -> bool {
+    let works = fixture.checker.made.len() >= 150 && counts.strict >= 2_000;
     works && counts.stale >= 20 && counts.conflicts >= 20
 }
 
@@ -106,23 +106,23 @@ fn fault_name(fault: Fault) -> &'static str {
 }
 
 // What is wrong after the calls, nothing where all is well.
-fn judged(stage: &Stage, counts: Counts) -> Result<&'static str, Refusal> {
-    if let Some(fault) = stage.checker.fault {
+fn fault_of(fixture: &Fixture, counts: Counts) -> Result<&'static str, Refusal> {
+    if let Some(fault) = fixture.checker.fault {
         return Ok(fault_name(fault));
     }
-    if !is_as_checked(stage)? {
+    if !is_as_checked(fixture)? {
         return Ok("other objects");
     }
-    if !is_rich(stage, counts) {
+    if !is_rich(fixture, counts) {
         return Ok("too little came to pass");
     }
     Ok("")
 }
 
 fn wrong_in(alloc: Global, seed: u64, window: u32) -> Result<&'static str, Refusal> {
-    let mut stage = Stage::new(alloc, window)?;
-    let counts = run(alloc, &mut stage, seed)?;
-    judged(&stage, counts)
+    let mut fixture = Fixture::new(alloc, window)?;
+    let counts = run(alloc, &mut fixture, seed)?;
+    fault_of(&fixture, counts)
 }
 
 // rules: exclusive, once, alone, claim-time

@@ -2,7 +2,6 @@ use crate::world::boxed::boxed;
 use crate::world::calls::call_of;
 use crate::world::script::{SCRIPT, WANTED};
 use cj_calls::{Answer, Call, Entry, same_answer};
-use cj_decide::{fits_law, plan_laws};
 use cj_io::GivenZones;
 use cj_report::step_line;
 use cj_script::{Script, Step, read_script};
@@ -164,10 +163,4 @@ fn wrong(alloc: Global) -> Result<Option<usize>, Refusal> {
 fn refuses_in_each_way(rt: HostRuntime) {
     let wrong = wrong(rt.alloc()).unwrap_or(Some(0));
     assert_eq!(rt; wrong, None);
-}
-
-#[test]
-fn laws_cost_nothing() {
-    plan_laws();
-    fits_law();
 }

@@ -9,7 +9,7 @@ use std::process::Abort;
 use std::sync::Wait;
 
 /// A hub with a user and an informer.
-pub struct Stage {
+pub struct Fixture {
     pub hub: Hub,
     pub user: Pass,
     pub informer: Pass,
@@ -27,7 +27,7 @@ pub fn made(rt: &(impl Wait + Abort), hub: &Hub, pass: &mut Pass, call: Call) {
 }
 
 /// A hub with a CronJob of every minute by each of the names, whose keys are in the queue in this order.
-pub fn stage_of(rt: &(impl Wait + Abort), alloc: Global, names: &[&str]) -> Stage {
+pub fn fixture_of(rt: &(impl Wait + Abort), alloc: Global, names: &[&str]) -> Fixture {
     let hub = hub_of(rt, alloc, 1_000);
     let mut user = pass_of(rt, &hub, Role::User);
     let mut informer = pass_of(rt, &hub, Role::Informer);
@@ -35,7 +35,7 @@ pub fn stage_of(rt: &(impl Wait + Abort), alloc: Global, names: &[&str]) -> Stag
         made(rt, &hub, &mut user, create(rt, alloc, name));
         made(rt, &hub, &mut informer, add(rt, alloc, name));
     }
-    Stage {
+    Fixture {
         hub,
         user,
         informer,

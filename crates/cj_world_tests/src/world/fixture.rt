@@ -15,7 +15,7 @@ use cj_zone::{Zone, ZoneTable};
 use std::alloc::Global;
 
 #[derive(Drop)]
-pub struct Stage {
+pub struct Fixture {
     pub world: Box<World, Global>,
     pub checker: Checker,
     pub hands: Hands,
@@ -88,17 +88,17 @@ fn told_by(
     Ok(told_of(&answer))
 }
 
-impl Stage {
-    pub fn new(alloc: Global, window: u32) -> Result<Box<Stage, Global>, Refusal> {
+impl Fixture {
+    pub fn new(alloc: Global, window: u32) -> Result<Box<Fixture, Global>, Refusal> {
         let given = all_given(alloc)?;
         let world = world_of(alloc, window)?;
-        let stage = Stage {
+        let fixture = Fixture {
             world,
             checker: Checker::new(alloc),
             hands: Hands::new(alloc),
             given,
         };
-        boxed(alloc, stage)
+        boxed(alloc, fixture)
     }
 
     // One of the Jobs that run.
