@@ -1,5 +1,5 @@
 -- A clock goes by what `jiff` makes of its zone's source.
-use Rattle.std.proofs.Common.{to_z, of_z, w32, w64, FitsSigned, ◌≡◌, ℕ, zero, suc, ◌+◌, ◌-◌, ◌≤◌, ◌==◌, ℤ, pos, ◌*ℤ◌, int_le, Bool, true, false, if◌then◌else◌, refl, ap, ◌∙◌, arith, List, [], ◌∷◌, length, map, get_or, vec_len, Option, None, Some, IsNone, option_map}
+use Rattle.std.proofs.Common.{◌≡◌, to_z, of_z, w32, w64, FitsSigned, ℕ, zero, suc, ◌+◌, ◌-◌, ◌≤◌, ◌==◌, ℤ, pos, ◌*ℤ◌, int_le, Bool, true, false, if◌then◌else◌, refl, ap, ◌∙◌, arith, List, [], ◌∷◌, length, map, get_or, vec_len, Option, None, Some, IsNone, option_map}
 use Rattle.std.specs.List.{prefix_len}
 use Rattle.std.proofs.lemmas.List.{get_or-map, length-map}
 use Rattle.std.proofs.lemmas.List.Sums.{prefix_len-le-length}

@@ -1,8 +1,7 @@
 -- Between two changes of a rule, and within one year, its clock stays as far ahead as it is.
-use Rattle.std.proofs.Common.{◌<◌, ◌≡◌, ℕ, ◌+◌, ◌-◌, ◌/◌, ◌≤◌, ◌&&◌, not, ◌≤ℤ◌, ◌<ℤ◌, ℤ, pos, ◌+ℤ◌, ◌*ℤ◌, Bool, true, false, if◌then◌else◌, int_le, int_lt, Option, None, Some, option_map, vec_len, unsigned_abs, w64, inl, refl, sym, ap, ◌∙◌, arith}
+use Rattle.std.proofs.Common.{◌≡◌, ◌-ℤ◌, w8, FitsSigned, ℕ, ◌+◌, ◌-◌, ◌/◌, ◌≤◌, ◌&&◌, not, ◌≤ℤ◌, ◌<ℤ◌, ℤ, pos, ◌*ℤ◌, Bool, true, false, if◌then◌else◌, int_le, int_lt, Option, None, Some, option_map, vec_len, unsigned_abs, w64, inl, refl, sym, ap, ◌∙◌, arith}
 use Rattle.std.specs.Prelude.{int_div}
 use Rattle.std.specs.Int.{int_div_euclid}
-use Rattle.std.proofs.Common.{w8, FitsSigned, ◌-ℤ◌}
 use Rattle.std.proofs.lemmas.Int.{to_z-of_z}
 use borrow.Author.Differences.{le-false, lt-true, lt-false}
 use mir.Val.{to_z, of_z}
@@ -35,7 +34,7 @@ use Rattle.cj_zone.specs.Offset.{rule_offset}
 use Rattle.cj_zone.specs.Steady.{IsSteady}
 use Rattle.cj_zone.specs.Stretch.{IsStretch}
 use Rattle.cj_zone.proofs.ClockLemmas.{rule_offset-view}
-use Rattle.cj_zone.proofs.TablesLemmas.{lt_yes, lt_no, offset_of_past}
+use Rattle.cj_zone.proofs.TablesLemmas.{lt_yes, lt_no, offset_of_past, change_of, found_by}
 
 -- on one side of both ends of a span, or between them
 between_same : (lo hi n m : ℤ) (b c : Bool) → int_lt n lo ≡ b → int_lt n hi ≡ c → n ≤ℤ m → (b ≡ true → m <ℤ lo)
@@ -226,8 +225,7 @@ pub next_of : (r : Option TimeZoneTransition) (rule : Rule) (n : ℤ) (s t : Sea
     → Some (transition_view (plain_transition x)) ≡ Posix.next_at rule n
 unfolding next_at
 next_of r rule n s t x steps from is =
-    let left : 0 < s.left = rw from (omega arith) in
-    ap (option_map (λ y. transition_view (plain_transition y))) (sym is) ∙ steps.found left ∙ rw from refl
+    ap change_of (sym is) ∙ found_by next_at r (Kind.Posix rule) n s t steps from
 
 -- For end_of_month: the days that are left of a month, as the code reckons them in 8 bits.
 pub left_days : (days day : ℤ) (m n : ℕ) → days ≡ pos m → day ≡ pos n → n ≤ m → m ≤ 31

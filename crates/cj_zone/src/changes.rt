@@ -77,8 +77,9 @@ pub(crate) fn last_before_next(tables: &Tzif, from: Seconds) -> u64
         (Table.count_at tables.now (pos from))).second }
     ensures low { from ≤ result }
 {
-    match tables.next_transition(timestamp(from)) {
-        Some(next) => next.timestamp.floor_second() as u64 - 1,
+    let instant = jiff::Timestamp::from_plain(timestamp(from));
+    match TimeZone::tzif(tables).following(instant).next() {
+        Some(next) => next.timestamp().as_second() as u64 - 1,
         None => unreachable!(),
     }
 }
@@ -91,8 +92,9 @@ pub(crate) fn first_since_change(tables: &Tzif, at: Seconds) -> Seconds
     ensures same { (t : ℕ) → result ≤ t → t ≤ at →
         Table.count_at tables.now (pos t) ≡ Table.count_at tables.now (pos at) }
 {
-    match tables.previous_transition(second_after(at)) {
-        Some(change) => since(change.timestamp.floor_second(), at),
+    let instant = jiff::Timestamp::from_plain(second_after(at));
+    match TimeZone::tzif(tables).preceding(instant).next() {
+        Some(change) => since(change.timestamp().as_second(), at),
         None => epoch(),
     }
 }
