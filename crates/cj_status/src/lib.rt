@@ -1,4 +1,8 @@
 //! What the status of a CronJob says of its Jobs, and which of them are no longer kept.
+//!
+//! Here belongs which Jobs of a listing or of a live read are a CronJob's, in which order they stand, which run,
+//! the last success, and which finished ones go by the history limits. What is done about them belongs to
+//! `cj_decide`, which rests on the one clause of each of these functions: what it gives of which Jobs.
 #![tactic(auto)]
 
 mod active;

@@ -1,4 +1,6 @@
-//! The program `cronsim`.
+//! The program `cronsim`: it takes the words of its command line, opens the file that they name and reads the zone
+//! files that its input names, and has `cj_program` serve the request. Nothing else belongs here, since no
+//! contract can say what a file or a terminal holds.
 #![tactic(auto)]
 
 mod folder;
