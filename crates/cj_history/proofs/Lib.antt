@@ -4,5 +4,6 @@ mod ManifestsLemmas
 pub mod One
 pub mod Onces
 pub mod Claims
+pub mod ProgressLemmas
 pub mod QueueLemmas
 pub mod StoreLemmas

@@ -2,5 +2,6 @@ pub mod Legal
 pub mod Once
 pub mod Times
 pub mod manifests
+pub mod progress
 pub mod queue
 pub mod store

@@ -22,30 +22,30 @@ use Rattle.cj_state.specs.Legal.{IsLegal, state_of}
 use Rattle.cj_history.specs.queue.Deeds.{operations}
 use Rattle.cj_history.specs.queue.LookBacks.{queued, held, since, ready_at, failures}
 
-abbrev a : Place
+abbrev pub a : Place
 a = place (1 ∷ []) (97 ∷ [])
 
-abbrev told : ℕ → Role → Call → Result Reply Refusal → Told
+abbrev pub told : ℕ → Role → Call → Result Reply Refusal → Told
 told w role call answer = record { caller = record { number = w; role = role }; call = call; answer = answer }
 
-abbrev added : List Told
+abbrev pub added : List Told
 added = told 0 Informer (Of.Add a) (Ok Say.Done) ∷ []
 
-abbrev taken : List Told
+abbrev pub taken : List Told
 taken = told 1 Worker Of.Take (Ok (Say.Key a)) ∷ added
 
 -- added again while it is held
-abbrev added_again : List Told
+abbrev pub added_again : List Told
 added_again = told 0 Informer (Of.Add a) (Ok Say.Done) ∷ taken
 
 -- to be tried again, from the 1,000th millisecond on, with a delay of 5
-abbrev failed : List Told
+abbrev pub failed : List Told
 failed = told 1 Worker (Of.Finish (Again 1000) []) (Ok Say.Done) ∷ taken
 
-abbrev early : List Told
+abbrev pub early : List Told
 early = told 0 Informer (Of.Tick 1004) (Ok Say.Done) ∷ failed
 
-abbrev due : List Told
+abbrev pub due : List Told
 due = told 0 Informer (Of.Tick 1005) (Ok Say.Done) ∷ early
 
 abbrev taken_again : List Told
