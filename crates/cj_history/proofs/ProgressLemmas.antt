@@ -1,2 +1,10 @@
 pub mod Kept
 pub mod Sample
+pub mod Missed
+pub mod Fair
+pub mod Calls
+pub mod Aside
+pub mod Steps
+pub mod Started
+pub mod Whole
+pub mod SyncSample

@@ -63,7 +63,7 @@ takes_it s e f = ap (λ (o : Option Seat). (take_by s 1 o).answer) e ∙ ap
     (λ (o : Option Place). (take_first s 1 o).answer) f
 
 -- After an add to an empty row the key is the first of the line.
-in_line : first (row_add new_row a).line ≡ Some a
+pub in_line : first (row_add new_row a).line ≡ Some a
 in_line =
     let none : has map.empty a ≡ false = ap is_some (map.get-empty {X = Unit {0}} place_cmp a) in
     ap (λ b. first (if b then new_row else record {

@@ -104,7 +104,7 @@ crons_keyed (Modified (Kind.Job j)) k was h = h
 crons_keyed (Deleted (Kind.Job j)) k was h = h
 
 -- After any writes the current CronJob of a key has that key.
-cron_keyed : (ws : List Event) (k : Place) → IsKeyed (λ (c : CronJob). c.key) k (current_cron ws k)
+pub cron_keyed : (ws : List Event) (k : Place) → IsKeyed (λ (c : CronJob). c.key) k (current_cron ws k)
 cron_keyed [] k c e = absurd (cc e)
 cron_keyed (w ∷ ws) k c e = crons_keyed w k (current_cron ws k) (cron_keyed ws k) c e
 
@@ -119,7 +119,7 @@ jobs_keyed (Modified (Kind.Cron c)) k was h = h
 jobs_keyed (Deleted (Kind.Cron c)) k was h = h
 
 -- After any writes the current Job of a key has that key.
-job_keyed : (ws : List Event) (k : Place) → IsKeyed (λ (j : Job). j.key) k (current_job ws k)
+pub job_keyed : (ws : List Event) (k : Place) → IsKeyed (λ (j : Job). j.key) k (current_job ws k)
 job_keyed [] k j e = absurd (cc e)
 job_keyed (w ∷ ws) k j e = jobs_keyed w k (current_job ws k) (job_keyed ws k) j e
 

@@ -68,6 +68,22 @@ module _ {X : Type 0} (key : X → Place) (p : X → Bool) where
         (other e es q x (eq_by_cmp place_cmp q e.0) refl (below_none e.0 es (first _ _ s)) f) ∙ f)),
   )
 
+  -- What holds of each object that is found holds of the object of each sorted entry.
+  rows_all : (P : X → Type 0) (es : List (Place × X)) → T (is_sorted place_cmp es)
+      → ((q : Place) (x : X) → find place_cmp q es ≡ Some x → P x) → AllByRecursion P (map_list (λ e. e.1) es)
+  rows_all P [] s h = tt
+  rows_all P (e ∷ es) s h = (
+    h e.0 e.1 (ap (λ b. cond b (Some e.1) (find place_cmp e.0 es)) ((eq_by_cmp_equiv places_total).refl e.0)),
+    rows_all P es (second _ _ s) (λ q x f. h q x
+        (ap (λ b. cond b (Some e.1) (find place_cmp q es))
+        (other e es q x (eq_by_cmp place_cmp q e.0) refl (below_none e.0 es (first _ _ s)) f) ∙ f)),
+  )
+
+  -- What holds of what stands at each key of a map holds of each of its values.
+  pub values_all : (P : X → Type 0) (m : map.FinMap place_cmp X)
+      → ((q : Place) (x : X) → map.get m q ≡ Some x → P x) → AllByRecursion P (map.values m)
+  values_all P m h = rows_all P (map.entries m) (map.entries_sorted m) (λ q x f. h q x (map.get-entries m q ∙ f))
+
   -- the objects of the entries that pass the test
   abbrev Passed : List (Place × X) → List X
   Passed es = filter p (map_list (λ e. e.1) es)

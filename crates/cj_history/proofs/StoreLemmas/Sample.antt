@@ -20,10 +20,10 @@ use Rattle.cj_history.specs.store.Writes.{writes}
 use Rattle.cj_history.specs.store.Mirrors.{fed}
 use Rattle.cj_history.proofs.StoreLemmas.Answered.{answers_agree}
 
-abbrev a : Place
+abbrev pub a : Place
 a = place (1 ∷ []) (97 ∷ [])
 
-abbrev told : ℕ → Role → Call → Result Reply Refusal → Told
+abbrev pub told : ℕ → Role → Call → Result Reply Refusal → Told
 told w role call answer = record { caller = record { number = w; role = role }; call = call; answer = answer }
 
 abbrev user : Caller
@@ -44,7 +44,7 @@ module _ (d : CronJobDraft) where
   }
 
   -- the CronJob that the n-th write creates as the u-th object
-  abbrev new : ℕ → ℕ → CronJob
+  abbrev pub new : ℕ → ℕ → CronJob
   new n u = record {
     key = a;
     meta = record {
@@ -60,7 +60,7 @@ module _ (d : CronJobDraft) where
   }
 
   -- the history in which a CronJob is created
-  abbrev created : List Told
+  abbrev pub created : List Told
   created = told 1 User (Of.CreateCron named 60) (Ok (Say.Cron (new 1 1))) ∷ []
 
   -- that in which it is then deleted

@@ -1,4 +1,5 @@
 ghost use Rattle.cj_history.specs.progress.Kept.{NoKeyIsLost};
+ghost use Rattle.cj_history.specs.progress.Syncs.{MakesJob};
 
 /// After any history a key that was added, and not taken since, stands in the line, or somebody holds it and it
 /// goes there after the end of his sync. A CronJob whose sync ended well, with a next time, stands in the line or
@@ -6,4 +7,12 @@ ghost use Rattle.cj_history.specs.progress.Kept.{NoKeyIsLost};
 /// told. Adds and delayed adds after a shutdown are none.
 pub fn no_key_is_lost_law()
     ensures { NoKeyIsLost }
+{}
+
+/// A worker that holds no key takes the first of the line, whose CronJob stands, and calls its sync, while others
+/// call what they like, but write neither that CronJob nor, from the claim on, the Job of the name that is to be
+/// made. Each of its calls is accepted, and in the end the Job for the latest time missed stands, unfinished, and
+/// the CronJob's status names it.
+pub fn progress_law()
+    ensures { MakesJob }
 {}

@@ -1,0 +1,444 @@
+-- A sync whose plan claims a time makes its Job, where the name is free, whatever others call aside.
+use Rattle.std.proofs.Common.{◌≡◌, ◌≢◌, ◌⊎◌, inl, inr, ℕ, ◌+◌, ◌<◌, ◌≤◌, Bool, true, false, cond, ◌&&◌, List, [], ◌∷◌, ◌++◌, map as map_list, Option, Some, None, refl, sym, ap, subst, ◌∙◌, arith}
+use Rattle.std.specs.Prelude.{Result, Ok}
+use Rattle.std.specs.Str.{bytes_eq}
+use Rattle.std.proofs.lemmas.Slice.Eq.{bytes_eq-Decides}
+use Rattle.std.specs.List.{AllByRecursion}
+use Rattle.std.specs.FinMap as map
+use Rattle.cj_types.specs.Keys.{Place}
+use Rattle.cj_types.specs.Made.{made_place}
+use Rattle.cj_types.specs.Uids.{uid_text}
+use Rattle.cj_types.specs.declared.cron.CronJob.{CronJob}
+use Rattle.cj_types.specs.declared.cron.CronStatus.{CronStatus}
+use Rattle.cj_types.specs.declared.job.Job.{Job}
+use Rattle.cj_types.specs.declared.job.JobDraft.{JobDraft}
+use Rattle.cj_types.specs.declared.policy.Reason.{Reason}
+use Rattle.cj_store.specs.Content.{Content}
+use Rattle.cj_store.specs.Change.{after, cron_modified, job_added, job_gone}
+use Rattle.cj_store.specs.Crons.{with_status}
+use Rattle.cj_store.specs.Jobs.{new_job, last_job}
+use Rattle.cj_queue.specs.Parts.{key_eq}
+use Rattle.cj_queue.proofs.Sets.{get_off}
+use Rattle.cj_status.specs.declared.refs.JobRef.{JobRef}
+use Rattle.cj_status.specs.Mine.{has_uid, is_mine, is_running}
+use Rattle.cj_decide.specs.declared.start.Claim.{Claim}
+use Rattle.cj_decide.specs.declared.start_decision.StartDecision.{StartDecision}
+use Rattle.cj_decide.specs.declared.steps.Steps.{Steps}
+use Rattle.cj_decide.specs.Start.{claim_of, draft_of}
+use Rattle.cj_decide.specs.Finally.{standing, final, IsStatusStep}
+use Rattle.cj_decide.specs.Decision.{Planned, IsPlan, IsDecided, IsDecision, claim_by}
+use Rattle.cj_decide.specs.laws.Laws.{IsIn}
+use Rattle.cj_decide.specs.laws.Fits.{IsAt, FitsFor, FitsWith, Starts}
+use Rattle.cj_decide.proofs.LawsLemmas.Claims.{claims_latest}
+use Rattle.cj_decide.proofs.LawsLemmas.Ends.{cleans_finished}
+use Rattle.cj_decide.proofs.LawsLemmas.Fitting.{decided_fits}
+use Rattle.cj_calls.specs.declared.call.Call.{Call}
+use Rattle.cj_calls.specs.declared.call.Call.TheVariants as Of
+use Rattle.cj_calls.specs.Rows.{Told}
+use Rattle.cj_state.specs.phases.Inputs.{rests_on}
+use Rattle.cj_state.specs.phases.Steps.{Step, drops, makes, sets, makings, settings, all_steps}
+use Rattle.cj_state.specs.declared.phases.seat.Seat.{Seat}
+use Rattle.cj_state.specs.declared.phases.seat.Phase.{Phase}
+use Rattle.cj_state.specs.declared.phases.seat.Phase.TheVariants.{Held, Seen, Listed, Checked}
+use Rattle.cj_state.specs.declared.state.State.{State}
+use Rattle.cj_state.specs.Readings.{listed_of, active_of}
+use Rattle.cj_state.specs.WorkerCalls.{seat_of, seated, written, works}
+use Rattle.cj_state.specs.Legal.{IsLegal, state_of}
+use Rattle.cj_world_laws.proofs.LegalLemmas.Inputs.{rests_exactly}
+use Rattle.cj_world_laws.proofs.LegalLemmas.Seated.{seats_agree}
+use Rattle.cj_world_laws.proofs.OnceLemmas.Maps.{put_at, put_here, removal_at, removal_other, seat_here}
+use Rattle.cj_history.specs.store.Writes.{writes}
+use Rattle.cj_history.specs.progress.Syncs.{calls_left, readings, works_off, IsFor, IsOpen, IsStarted, PlansMakeJob}
+use Rattle.cj_history.proofs.StoreLemmas.Stores.{store_agrees}
+use Rattle.cj_history.proofs.StoreLemmas.Answered.{cron_keyed}
+use Rattle.cj_history.proofs.ProgressLemmas.Missed.{claims_due}
+use Rattle.cj_history.proofs.ProgressLemmas.Fair.{all_of_one}
+use Rattle.cj_history.proofs.ProgressLemmas.Calls.{sat, see_cron_is, see_jobs_is, see_active_is, claim_is, Dropped, absent, found}
+use Rattle.cj_history.proofs.ProgressLemmas.Aside.{AreKeyed, Same, Goes, goes, goes_leads}
+use Rattle.cj_history.proofs.ProgressLemmas.Steps.{Going, drops_go, make_goes, status_goes, finish_goes}
+
+-- ---- before the Job is made
+
+-- its name is free, its CronJob stands, and so many uids were given out
+pub record IsFree (u : ℕ) (k : Place) (c : CronJob) (q : Place) (rs : List JobRef) (s : Content) : Type 0 where
+  pub free : map.get s.jobs q ≡ None
+  pub cron : map.get s.crons k ≡ Some c
+  pub uids : u ≤ s.uids
+  pub keys : AreKeyed s
+
+-- Where nothing stands, nothing does after a removal.
+off_none : (b : Bool) (o : Option Job) → o ≡ None → cond b None o ≡ None
+off_none true o e = refl
+off_none false o e = e
+
+-- A drop leaves the name free.
+free_kept : (u : ℕ) (k : Place) (c : CronJob) (q : Place) (r : JobRef) (rs : List JobRef) (a b : Content) → Dropped a r b
+    → IsFree u k c q (r ∷ rs) a → IsFree u k c q rs b
+free_kept u k c q r rs a b (absent e n) f =
+    subst (IsFree u k c q rs) (sym e) (record { free = f.free; cron = f.cron; uids = f.uids; keys = f.keys })
+free_kept u k c q r rs a b (found j at same e) f =
+    subst (IsFree u k c q rs) (sym e) (record {
+      free = get_off a.jobs j.key q ∙ off_none (key_eq j.key q) (map.get a.jobs q) f.free;
+      cron = f.cron;
+      uids = f.uids;
+      keys = λ i x h. f.keys i x (removal_at a.jobs j.key i x h).1;
+    })
+
+-- What others leave leaves it free.
+free_still : (w u : ℕ) (k : Place) (c : CronJob) (q : Place) (rs : List JobRef) (s t : State) → Same w k (Some q) s t
+    → IsFree u k c q rs s.store → IsFree u k c q rs t.store
+free_still w u k c q rs s t same f = record {
+  free = same.job ∙ f.free;
+  cron = same.cron ∙ f.cron;
+  uids = (let a = f.uids in let b = same.more in omega (arith, a, b));
+  keys = same.keys;
+}
+
+-- ---- after it is made
+
+-- the Job stands, which is newer than those that are still to be dropped, and its CronJob
+pub record IsThere (u : ℕ) (k : Place) (c : CronJob) (q : Place) (j : Job) (rs : List JobRef) (s : Content) : Type 0 where
+  pub old : AllByRecursion (λ r. r.uid ≤ u) rs
+  pub new : u < j.meta.uid
+  pub job : map.get s.jobs q ≡ Some j
+  pub cron : map.get s.crons k ≡ Some c
+  pub keys : AreKeyed s
+
+-- A drop of an older Job leaves it there.
+there_kept : (u : ℕ) (k : Place) (c : CronJob) (q : Place) (j : Job) (r : JobRef) (rs : List JobRef) (a b : Content)
+    → Dropped a r b → IsThere u k c q j (r ∷ rs) a → IsThere u k c q j rs b
+there_kept u k c q j r rs a b (absent e n) f =
+    subst (IsThere u k c q j rs) (sym e) (record { old = f.old.1; new = f.new; job = f.job; cron = f.cron; keys = f.keys })
+there_kept u k c q j r rs a b (found x at same e) f =
+    subst (IsThere u k c q j rs) (sym e) (record {
+      old = f.old.1;
+      new = f.new;
+      job = removal_other a.jobs x.key q apart ∙ f.job;
+      cron = f.cron;
+      keys = λ i y h. f.keys i y (removal_at a.jobs x.key i y h).1;
+    })
+  where
+    apart : q ≢ x.key
+    apart g =
+        let here : map.get a.jobs r.key ≡ Some j = ap (map.get a.jobs) (sym (g ∙ f.keys r.key x at)) ∙ f.job in
+        let one : j ≡ x = cc (sym here ∙ at) in
+        let i = ap (λ (z : Job). z.meta.uid) one in
+        let l = f.old.0 in
+        let m = f.new in
+        absurd (omega (arith, i, l, m, same))
+
+-- What others leave leaves it there.
+there_still : (w u : ℕ) (k : Place) (c : CronJob) (q : Place) (j : Job) (rs : List JobRef) (s t : State)
+    → Same w k (Some q) s t → IsThere u k c q j rs s.store → IsThere u k c q j rs t.store
+there_still w u k c q j rs s t same f = record {
+  old = f.old;
+  new = f.new;
+  job = same.job ∙ f.job;
+  cron = same.cron ∙ f.cron;
+  keys = same.keys;
+}
+
+-- After the making of a Job, all that is to be dropped being older, it is there.
+there_made : (u : ℕ) (k : Place) (c : CronJob) (d : JobDraft) (at : ℕ) (rs : List JobRef) (s : Content)
+    → AllByRecursion (λ r. r.uid ≤ u) rs → IsFree u k c d.key [] s
+    → IsThere u k c d.key (new_job s d at) rs (after s (job_added (new_job s d at)))
+there_made u k c d at rs s old f = record {
+  old = old;
+  new = (let e = f.uids in omega (arith, e));
+  job = put_here s.jobs d.key (new_job s d at);
+  cron = f.cron;
+  keys = λ i x h. by i x (put_at s.jobs d.key i (new_job s d at) x h);
+}
+  where
+    by : (i : Place) (x : Job) → ((i ≡ d.key) × (new_job s d at ≡ x)) ⊎ ((i ≢ d.key) × (map.get s.jobs i ≡ Some x))
+        → x.key ≡ i
+    by i x (inl e) = ap (λ (z : Job). z.key) (sym e.1) ∙ sym e.0
+    by i x (inr e) = f.keys i x e.1
+
+-- ---- what the plan says
+
+-- a plan that claims a time
+pub record Starting (p : Planned) (cron : CronJob) (y : Claim) : Type 0 where
+  pub make : p.steps.make ≡ Some (draft_of cron y.time)
+  pub last : y.status.last_schedule_time ≡ Some y.time
+  pub active : IsAt cron.key.namespace y.status.active (made_place cron.key y.time)
+  pub final_last : (f : CronStatus) → p.steps.status ≡ Some f → f.last_schedule_time ≡ Some y.time
+  pub final_active : (f : CronStatus) → p.steps.status ≡ Some f
+      → IsAt cron.key.namespace f.active (made_place cron.key y.time)
+  pub runs : (s : Content) (at : ℕ) → is_running (uid_text cron.meta.uid) (new_job s (draft_of cron y.time) at) ≡ true
+
+-- A plan of a CronJob is the decision for it.
+pub plan_of : (p : Planned) (cron : CronJob) → IsDecided p → p.cron ≡ Some cron
+    → IsPlan (Some cron) p.jobs p.active p.at p.zone p.steps
+plan_of p cron d e = subst (λ (o : Option CronJob). IsPlan o p.jobs p.active p.at p.zone p.steps) e d
+
+-- The final status of a plan that claims a time has the time as its last.
+final_time : (p : Planned) (cron : CronJob) (y : Claim) → IsDecision cron p.jobs p.active p.at p.zone p.steps
+    → p.steps.claim ≡ Some y → y.status.last_schedule_time ≡ Some y.time → (f : CronStatus) → p.steps.status ≡ Some f
+    → f.last_schedule_time ≡ Some y.time
+final_time p cron y d claim last f is =
+    let are = d.meant.are in
+    let by : claim_by cron d.start ≡ Some y = sym (ap (λ (x : Steps). x.claim) are) ∙ claim in
+    let step = subst (IsStatusStep (standing cron (claim_by cron d.start))
+    (final cron p.jobs p.active d.start (claim_by cron d.start)))
+    (sym (ap (λ (x : Steps). x.status) are) ∙ is) d.meant.changes in
+    ap (λ (x : CronStatus). x.last_schedule_time) step.0
+    ∙ ap (λ (o : Option Claim). (standing cron o).last_schedule_time) by ∙ last
+
+-- Where two tests are true, they are so together.
+both_true : (a b : Bool) → a ≡ true → b ≡ true → (a && b) ≡ true
+both_true true b e f = f
+both_true false b e f = absurd (cc e)
+
+-- A plan that claims a time makes its Job, and names it.
+pub starting : (p : Planned) (cron : CronJob) (y : Claim) → IsDecided p → p.cron ≡ Some cron → p.steps.claim ≡ Some y
+    → Starting p cron y
+starting p cron y decided seen claim =
+    let plan = plan_of p cron decided seen in
+    let latest = claims_latest cron p.jobs p.active p.at p.zone p.steps y plan claim in
+    let fits : Starts p cron y = subst (FitsWith p cron) claim (subst (FitsFor p) seen (decided_fits p decided)).0 in
+    let made = fits.makes (draft_of cron y.time) latest.make in
+    let last : y.status.last_schedule_time ≡ Some y.time = ap (λ (x : CronStatus). x.last_schedule_time) latest.status in
+    record {
+      make = latest.make;
+      last = last;
+      active = made.named;
+      final_last = final_time p cron y plan claim last;
+      final_active = made.final;
+      runs = λ s at. both_true (is_mine (uid_text cron.meta.uid) (new_job s (draft_of cron y.time) at)) true
+          (ap (has_uid (uid_text cron.meta.uid)) made.controller
+          ∙ (bytes_eq-Decides made.owner.uid (uid_text cron.meta.uid)).1 made.uid) refl;
+    }
+
+-- ---- the readings
+
+-- what a worker that made its readings knows: its CronJob stands, and the Jobs that were listed have uids that were given out
+pub record IsRead (w : ℕ) (k : Place) (cron : CronJob) (s : State) : Type 0 where
+  pub jobs : List Job
+  pub live : List (Option Job)
+  pub seat : seat_of s w ≡ Some (sat k (Checked (Some cron) jobs live))
+  pub stands : map.get s.store.crons k ≡ Some cron
+  pub old : (j : Job) → IsIn j jobs → j.meta.uid ≤ s.store.uids
+
+-- w is the worker, k its key, and cron the CronJob there.
+module _ (w : ℕ) (k : Place) (cron : CronJob) where
+  -- A SeeActive after the listing ends the readings.
+  active_goes : (s : State) (js : List Job) → seat_of s w ≡ Some (sat k (Listed (Some cron) js))
+      → map.get s.store.crons k ≡ Some cron → ((j : Job) → IsIn j js → j.meta.uid ≤ s.store.uids)
+      → Goes w k None s (Of.SeeActive ∷ []) (IsRead w k cron)
+  active_goes s js seat at old = goes w k None s Of.SeeActive [] (IsRead w k cron) (λ t same. record {
+    handled = _;
+    is = see_active_is t w k (Some cron) js (same.seat ∙ seat);
+    accepted = refl;
+    goes = record {
+      jobs = js;
+      live = active_of t.store (Some cron);
+      seat = seat_here t.seats w (sat k (Checked (Some cron) js (active_of t.store (Some cron))));
+      stands = same.cron ∙ at;
+      old = λ j i. (let a = old j i in let b = same.more in omega (arith, a, b));
+    };
+  })
+
+  -- A SeeJobs after the CronJob was seen, and the SeeActive after it, are answered.
+  jobs_go : (s : State) → seat_of s w ≡ Some (sat k (Seen (Some cron))) → map.get s.store.crons k ≡ Some cron
+      → Goes w k None s (Of.SeeJobs ∷ Of.SeeActive ∷ []) (IsRead w k cron)
+  jobs_go s seat at = goes w k None s Of.SeeJobs (Of.SeeActive ∷ []) (IsRead w k cron) (λ t same. record {
+    handled = _;
+    is = see_jobs_is t w k (Some cron) (same.seat ∙ seat);
+    accepted = refl;
+    goes = active_goes (seated t w k (Listed (Some cron) (listed_of t k))) (listed_of t k)
+        (seat_here t.seats w (sat k (Listed (Some cron) (listed_of t k)))) (same.cron ∙ at) same.given;
+  })
+
+  -- After its Take a worker's readings are answered.
+  pub readings_go : (s : State) → seat_of s w ≡ Some (sat k Held) → map.get s.store.crons k ≡ Some cron
+      → Goes w k None s readings (IsRead w k cron)
+  readings_go s seat at = goes w k None s Of.SeeCron (Of.SeeJobs ∷ Of.SeeActive ∷ []) (IsRead w k cron) (λ t same. record {
+    handled = _;
+    is = see_cron_is t w k (same.seat ∙ seat);
+    accepted = refl;
+    goes = jobs_go (seated t w k (Seen (map.get t.store.crons k)))
+        (seat_here t.seats w (sat k (Seen (map.get t.store.crons k)))
+        ∙ ap (λ (o : Option CronJob). Some (sat k (Seen o))) (same.cron ∙ at))
+        (same.cron ∙ at);
+  })
+
+-- ---- the steps
+
+-- s is the state at the claim, w the worker, k the key, cron its CronJob, p the plan, and y its claim; so many uids were
+-- given out when the Jobs were listed.
+module _ (s : State) (u w : ℕ) (k : Place) (cron : CronJob) (p : Planned) (y : Claim) (start : Starting p cron y) (key : cron.key ≡ k) (seen : p.cron ≡ Some cron) where
+  -- the CronJob that the claim leaves
+  abbrev new : CronJob
+  new = with_status s.store y.status cron
+
+  -- its version
+  abbrev v : ℕ
+  v = s.store.version + 1
+
+  -- the Job's draft
+  abbrev d : JobDraft
+  d = draft_of cron y.time
+
+  abbrev Q : State → Type 0
+  Q t = IsStarted t.store k cron y.time
+
+  -- A CronJob that is put at its key stands at the one that the worker holds.
+  put_key : (t : Content) (c : CronJob) → c.key ≡ cron.key → map.get (map.insert t.crons c.key c) k ≡ Some c
+  put_key t c e = ap (map.get (map.insert t.crons c.key c)) (sym (e ∙ key)) ∙ put_here t.crons c.key c
+
+  -- With no status left to set, the sync ends as it should.
+  settle_none : (j : Job) (e : List Step) (t : State) → is_running (uid_text cron.meta.uid) j ≡ true
+      → Going w k p v t e [] → IsThere u k new d.key j [] t.store
+      → Goes w k (Some d.key) t (calls_left p.steps.reasons []) Q
+  settle_none j e t runs g f =
+      finish_goes w k (Some d.key) p v p.steps.reasons Q e t g (λ a z same left.
+      subst (λ (x : Content). IsStarted x k cron y.time) (sym left) (record {
+        job = j;
+        made = same.job ∙ f.job;
+        runs = runs;
+        now = new;
+        stands = same.cron ∙ f.cron;
+        uid = refl;
+        last = start.last;
+        active = start.active;
+      }))
+
+  -- With a status to set, it does so too.
+  settle_some : (st : CronStatus) → p.steps.status ≡ Some st → (j : Job) (e : List Step) (t : State)
+      → is_running (uid_text cron.meta.uid) j ≡ true
+      → Going w k p v t e (sets st ∷ []) → IsThere u k new d.key j [] t.store
+      → Goes w k (Some d.key) t (calls_left p.steps.reasons (sets st ∷ [])) Q
+  settle_some st is j e t runs g f =
+      status_goes w k (Some d.key) p v p.steps.reasons Q st cron new e t g seen f.cron refl refl (λ a b e2 same g2 left.
+      finish_goes w k (Some d.key) p v p.steps.reasons Q e2 b g2 (λ a2 z same2 left2.
+      let jobs : map.get b.store.jobs d.key ≡ Some j =
+      ap (λ (x : Content). map.get x.jobs d.key) left ∙ same.job ∙ f.job in
+      let crons : map.get b.store.crons k ≡ Some (with_status a.store st new) =
+      ap (λ (x : Content). map.get x.crons k) left ∙ put_key a.store (with_status a.store st new) refl in
+      subst (λ (x : Content). IsStarted x k cron y.time) (sym left2) (record {
+        job = j;
+        made = same2.job ∙ jobs;
+        runs = runs;
+        now = with_status a.store st new;
+        stands = same2.cron ∙ crons;
+        uid = refl;
+        last = start.final_last st is;
+        active = start.final_active st is;
+      })))
+
+  -- With the status to set, if there is one, the sync ends as it should.
+  settle : (o : Option CronStatus) → p.steps.status ≡ o → (j : Job) (e : List Step) (t : State)
+      → is_running (uid_text cron.meta.uid) j ≡ true
+      → Going w k p v t e (settings o) → IsThere u k new d.key j [] t.store
+      → Goes w k (Some d.key) t (calls_left p.steps.reasons (settings o)) Q
+  settle None is j e t runs g f = settle_none j e t runs g f
+  settle (Some st) is j e t runs g f = settle_some st is j e t runs g f
+
+  -- The clean-up is accepted, and leaves the Job.
+  cleanup_goes : (old : AllByRecursion (λ r. r.uid ≤ u) p.steps.cleanup) (e : List Step) (t z : State)
+      → Going w k p v z e (map_list drops p.steps.cleanup ++ settings p.steps.status)
+      → z.store ≡ after t.store (job_added (new_job t.store d p.at)) → IsFree u k new d.key [] t.store
+      → Goes w k (Some d.key) z (calls_left p.steps.reasons (map_list drops p.steps.cleanup ++ settings p.steps.status)) Q
+  cleanup_goes old e t z g is f =
+      let j : Job = new_job t.store d p.at in
+      drops_go w k (Some d.key) p v p.steps.reasons Q (IsThere u k new d.key j) (there_still w u k new d.key j)
+      (there_kept u k new d.key j) p.steps.cleanup (settings p.steps.status) e z g
+      (subst (IsThere u k new d.key j p.steps.cleanup) (sym is) (there_made u k new d p.at p.steps.cleanup t.store old f))
+      (λ a e2 g2 f2. settle p.steps.status refl j e2 a (start.runs t.store p.at) g2 f2)
+
+  -- The making is accepted, and so is what comes after it.
+  making_goes : (old : AllByRecursion (λ r. r.uid ≤ u) p.steps.cleanup) (e : List Step) (t : State)
+      → Going w k p v t e (makes d ∷ (map_list drops p.steps.cleanup ++ settings p.steps.status))
+      → IsFree u k new d.key [] t.store
+      → Goes w k (Some d.key) t
+      (calls_left p.steps.reasons (makes d ∷ (map_list drops p.steps.cleanup ++ settings p.steps.status))) Q
+  making_goes old e t g f =
+      make_goes w k (Some d.key) p v p.steps.reasons Q d (map_list drops p.steps.cleanup ++ settings p.steps.status) e t g (λ a same. same.job ∙ f.free)
+      (λ a z e2 same g2 is. cleanup_goes old e2 a z g2 is (free_still w u k new d.key [] t a same f))
+
+  -- The steps of the plan are all accepted, and the Job is made.
+  steps_go : (t : State) → t.store ≡ after s.store (cron_modified new)
+      → Going w k p v t [] (all_steps p.steps) → AreKeyed s.store
+      → map.get s.store.jobs d.key ≡ None → u ≤ s.store.uids → AllByRecursion (λ r. r.uid ≤ u) p.steps.cleanup
+      → Goes w k (Some d.key) t (calls_left p.steps.reasons (all_steps p.steps)) Q
+  steps_go t is g keys free low old =
+      let later : List Step = map_list drops p.steps.cleanup ++ settings p.steps.status in
+      let all : all_steps p.steps ≡ map_list drops p.steps.drop_first ++ (makes d ∷ later) =
+      ap (λ (m : Option JobDraft). map_list drops p.steps.drop_first ++ (makings m ++ later)) start.make in
+      subst (λ (l : List Step). Goes w k (Some d.key) t (calls_left p.steps.reasons l) Q) (sym all)
+      (drops_go w k (Some d.key) p v p.steps.reasons Q (IsFree u k new d.key) (free_still w u k new d.key)
+      (free_kept u k new d.key) p.steps.drop_first (makes d ∷ later) [] t (record { seat = g.seat; all = all })
+      (subst (IsFree u k new d.key p.steps.drop_first) (sym is) (record {
+        free = free;
+        cron = put_key s.store new refl;
+        uids = low;
+        keys = keys;
+      }))
+      (λ a e2 g2 f2. making_goes old e2 a g2 f2))
+
+-- ---- the sync
+
+-- the CronJob that was seen by the phase after the readings
+abbrev pub seen_by : Phase → Option CronJob
+seen_by (Checked c js ks) = c
+seen_by p = None
+
+-- the CronJob that was seen by one who has this seat
+abbrev pub seen_in : Option Seat → Option CronJob
+seen_in None = None
+seen_in (Some x) = seen_by x.phase
+
+-- the Jobs that were listed by the phase after the readings
+abbrev pub listed_by : Phase → List Job
+listed_by (Checked c js ks) = js
+listed_by p = []
+
+-- the Jobs that were listed by one who has this seat
+abbrev pub listed_in : Option Seat → List Job
+listed_in None = []
+listed_in (Some x) = listed_by x.phase
+
+-- A plan for what its worker was answered makes the Job of its claim.
+works_off_go : (s : State) (w : ℕ) (k : Place) (cron : CronJob) (p : Planned) (y : Claim) (r : IsRead w k cron s)
+    → Starting p cron y → cron.key ≡ k → p.cron ≡ Some cron → p.jobs ≡ r.jobs
+    → seat_of s w ≡ Some (sat k (Checked p.cron p.jobs p.active)) → p.steps.claim ≡ Some y
+    → map.get s.store.jobs (made_place cron.key y.time) ≡ None
+    → AllByRecursion (λ r. r.uid ≤ s.store.uids) p.steps.cleanup
+    → Goes w k (Some (made_place cron.key y.time)) s (works_off p) (λ t. IsStarted t.store k cron y.time)
+works_off_go s w k cron p y r start key seen listed seat claim free old =
+    goes w k (Some (made_place cron.key y.time)) s (Of.Claim p) (calls_left p.steps.reasons (all_steps p.steps))
+    (λ t. IsStarted t.store k cron y.time) (λ t same.
+    let z : State = seated (written t (cron_modified (with_status t.store y.status cron))) w k
+    (works p (t.store.version + 1) 0) in
+    record {
+      handled = _;
+      is = claim_is t w k p p.cron p.jobs p.active cron y (same.seat ∙ seat)
+          ((rests_exactly p p.cron p.jobs p.active).1 (refl, refl, refl)) claim seen (same.cron ∙ r.stands);
+      accepted = refl;
+      goes = steps_go t s.store.uids w k cron p y start key seen z refl
+          (record { seat = seat_here t.seats w (sat k (works p (t.store.version + 1) 0)); all = refl })
+          same.keys (same.job ∙ free) same.more old;
+    })
+
+-- For makes_job: after the readings, the plans for the answers make the Job of the latest time missed.
+pub plans_make_job : (window w : ℕ) (k : Place) (cron : CronJob) (h : List Told) → IsLegal window h
+    → IsRead w k cron (state_of window h) → PlansMakeJob window w k cron h
+plans_make_job window w k cron h l r p time f o free =
+    let seat : seat_of (state_of window h) w ≡ Some (sat k (Checked p.cron p.jobs p.active)) =
+    seats_agree window h l w ∙ f.rests in
+    let two = sym r.seat ∙ seat in
+    let seen : p.cron ≡ Some cron = sym (ap seen_in two) in
+    let listed : p.jobs ≡ r.jobs = sym (ap listed_in two) in
+    let plan = plan_of p cron f.decided seen in
+    let claim = claims_due cron p.jobs p.active p.at p.zone p.steps o.zone time plan o.runs o.known o.latest o.allowed in
+    let key = cron_keyed (writes h) k cron (sym ((store_agrees window h l).crons k) ∙ r.stands) in
+    goes_leads window w k (Some (made_place cron.key time)) h (works_off p)
+    (λ g. IsStarted (state_of window g).store k cron time) (λ t. IsStarted t.store k cron time) l (λ g m x. x)
+    (works_off_go (state_of window h) w k cron p (claim_of cron time) r
+    (starting p cron (claim_of cron time) f.decided seen claim) key seen listed seat claim free
+    (all_of_one (λ (x : JobRef). x.uid ≤ (state_of window h).store.uids) p.steps.cleanup (λ x i.
+    let c = cleans_finished cron p.jobs p.active p.at p.zone p.steps plan x i in
+    let u = ap (λ (z : JobRef). z.uid) c.is in
+    let b = r.old c.job (subst (λ (js : List Job). IsIn c.job js) listed c.listed) in
+    omega (arith, u, b))))

@@ -1,0 +1,110 @@
+-- A sync that nobody disturbs, from a worker's Take of a key to its Finish: Kubernetes CronJob documentation, "Job
+-- creation" and "CronJob limitations"; the calls on the queue are those of client-go's package workqueue (Get, Done).
+use Rattle.std.specs.Prelude.{◌≡◌, ℕ, true, false, List, [], ◌∷◌, Option, Some, None}
+use Rattle.std.specs.FinMap as map
+use Rattle.cj_types.specs.Keys.{Place}
+use Rattle.cj_types.specs.Made.{made_place}
+use Rattle.cj_types.specs.Uids.{uid_text}
+use Rattle.cj_types.specs.declared.cron.CronJob.{CronJob}
+use Rattle.cj_types.specs.declared.job.Job.{Job}
+use Rattle.cj_types.specs.declared.policy.Policy.{Policy}
+use Rattle.cj_types.specs.declared.policy.Policy.TheVariants.{Allow, Forbid, Replace}
+use Rattle.cj_types.specs.declared.policy.Reason.{Reason}
+use Rattle.cj_zone.specs.declared.zone.Zone.{Zone}
+use Rattle.cj_status.specs.declared.refs.JobRef.{JobRef}
+use Rattle.cj_status.specs.Mine.{is_running}
+use Rattle.cj_store.specs.Content.{Content}
+use Rattle.cj_queue.specs.Queue.{first}
+use Rattle.cj_decide.specs.Decision.{Planned, IsDecided, running_of}
+use Rattle.cj_decide.specs.laws.Fits.{IsAt}
+use Rattle.cj_decide.specs.laws.Laws.{IsClaimed}
+use Rattle.cj_calls.specs.Rows.{Told}
+use Rattle.cj_calls.specs.declared.call.Call.{Call}
+use Rattle.cj_calls.specs.declared.call.Call.TheVariants as Of
+use Rattle.cj_calls.specs.declared.end.End.TheVariants.{Well}
+use Rattle.cj_state.specs.declared.phases.seat.Phase.TheVariants.{Checked}
+use Rattle.cj_state.specs.phases.Steps.{Step, drops, makes, sets, all_steps}
+use Rattle.cj_state.specs.Legal.{IsLegal, answer_of, state_of}
+use Rattle.cj_world_laws.specs.legal.Seats.{seat}
+use Rattle.cj_world_laws.specs.once.Once.{is_ok}
+use Rattle.cj_history.specs.progress.Undisturbed.{worker, entry, Leads}
+
+-- ---- the calls
+
+abbrev pub call_of : Step → Call
+call_of (drops r) = Of.DropNext
+call_of (makes d) = Of.MakeNext
+call_of (sets f) = Of.SetStatus
+
+-- the calls for the steps of a plan that are left, and the end
+abbrev pub calls_left : List Reason → List Step → List Call
+calls_left reasons [] = Of.Finish Well reasons ∷ []
+calls_left reasons (x ∷ xs) = call_of x ∷ calls_left reasons xs
+
+-- the readings after the Take
+abbrev pub readings : List Call
+readings = Of.SeeCron ∷ Of.SeeJobs ∷ Of.SeeActive ∷ []
+
+-- the claim of a plan, its steps in their order, and the end
+-- rule: sync-makes-job
+abbrev pub works_off : Planned → List Call
+works_off p = Of.Claim p ∷ calls_left p.steps.reasons (all_steps p.steps)
+
+-- ---- where it begins
+
+-- the worker holds no key, and the first of the line is one whose CronJob stands
+pub record IsReady (window : ℕ) (h : List Told) (w : ℕ) (k : Place) (cron : CronJob) : Type 0 where
+  pub idle : seat h w ≡ None
+  pub line : first (state_of window h).queue.row.line ≡ Some k
+  pub stands : map.get (state_of window h).store.crons k ≡ Some cron
+
+-- the plan is the decision of the three answers that the worker got, at any moment and with any zone
+pub record IsFor (h : List Told) (w : ℕ) (k : Place) (p : Planned) : Type 0 where
+  pub decided : IsDecided p
+  pub rests : seat h w ≡ Some (record { key = k; phase = Checked p.cron p.jobs p.active })
+
+-- the policy lets a Job start: always under Allow and Replace, and under Forbid where none runs
+-- rule: sync-makes-job
+abbrev pub IsLet : Policy → List JobRef → Type 0
+IsLet Allow running = Unit {0}
+IsLet Forbid running = running ≡ []
+IsLet Replace running = Unit {0}
+
+-- the time is the latest one missed at the plan's moment and in its zone, of a CronJob that isn't suspended, and its
+-- policy lets a Job start beside what the live read found
+-- rule: sync-makes-job
+pub record IsOpen (cron : CronJob) (p : Planned) (time : ℕ) : Type 0 where
+  pub runs : cron.spec.suspend ≡ false
+  pub zone : Zone
+  pub known : p.zone ≡ Some zone
+  pub latest : IsClaimed cron p.at zone time
+  pub allowed : IsLet cron.spec.policy (running_of cron p.active)
+
+-- ---- where it ends
+
+-- the Job for the time stands, whose controller is the CronJob and which hasn't ended; and the CronJob's status has the
+-- time as its last, and the Job's name in `active`
+-- rule: sync-makes-job
+pub record IsStarted (s : Content) (k : Place) (cron : CronJob) (time : ℕ) : Type 0 where
+  pub job : Job
+  pub made : map.get s.jobs (made_place cron.key time) ≡ Some job
+  pub runs : is_running (uid_text cron.meta.uid) job ≡ true
+  pub now : CronJob
+  pub stands : map.get s.crons k ≡ Some now
+  pub uid : now.meta.uid ≡ cron.meta.uid
+  pub last : now.status.last_schedule_time ≡ Some time
+  pub active : IsAt cron.key.namespace now.status.active (made_place cron.key time)
+
+-- the plans for what the worker was answered make the Job for the latest time missed, where its name isn't taken
+-- rule: sync-makes-job
+abbrev pub PlansMakeJob : ℕ → ℕ → Place → CronJob → List Told → Type 0
+PlansMakeJob window w k cron h = (p : Planned) (time : ℕ) → IsFor h w k p → IsOpen cron p time
+    → map.get (state_of window h).store.jobs (made_place cron.key time) ≡ None
+    → Leads window w k (Some (made_place cron.key time)) h (works_off p) (λ g. IsStarted (state_of window g).store k cron time)
+
+-- who takes the key is answered all calls of its sync, and the latest time missed gets its Job
+-- rule: sync-makes-job
+abbrev pub MakesJob : Type 0
+MakesJob = (window : ℕ) (h : List Told) (w : ℕ) (k : Place) (cron : CronJob) → IsLegal window h → IsReady window h w k cron
+    → (is_ok (answer_of window h (worker w) Of.Take) ≡ true)
+    × Leads window w k None (entry window h w Of.Take ∷ h) readings (PlansMakeJob window w k cron)
