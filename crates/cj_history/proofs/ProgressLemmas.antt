@@ -6,5 +6,6 @@ pub mod Calls
 pub mod Aside
 pub mod Steps
 pub mod Started
+pub mod Taken
 pub mod Whole
 pub mod SyncSample

@@ -14,10 +14,11 @@ use Rattle.cj_world_laws.specs.once.Once.{is_ok}
 use Rattle.cj_world_laws.proofs.LegalLemmas.Seated.{seats_agree}
 use Rattle.cj_world_laws.proofs.OnceLemmas.Maps.{seat_here}
 use Rattle.cj_history.specs.progress.Undisturbed.{worker, entry}
-use Rattle.cj_history.specs.progress.Syncs.{readings, PlansMakeJob, MakesJob}
+use Rattle.cj_history.specs.progress.Syncs.{readings, PlansWork, MakesJob}
 use Rattle.cj_history.proofs.ProgressLemmas.Calls.{sat, take_is}
 use Rattle.cj_history.proofs.ProgressLemmas.Aside.{Goes, goes_leads, ok_entered}
 use Rattle.cj_history.proofs.ProgressLemmas.Started.{IsRead, readings_go, plans_make_job}
+use Rattle.cj_history.proofs.ProgressLemmas.Taken.{plans_find_taken}
 
 -- For progress_law: the latest time missed gets its Job, where the Job's name isn't taken.
 pub makes_job : MakesJob
@@ -27,9 +28,9 @@ makes_job window h w k cron l r =
     let e = take_is s w k idle r.line in
     let ok : is_ok (step_of s (worker w) Of.Take).answer ≡ true = ap (λ (x : Handled). is_ok x.answer) e in (
       ok,
-      goes_leads window w k None (entry window h w Of.Take ∷ h) readings (PlansMakeJob window w k cron) (IsRead w k cron)
+      goes_leads window w k None (entry window h w Of.Take ∷ h) readings (PlansWork window w k cron) (IsRead w k cron)
           (refl, ok_entered (step_of s (worker w) Of.Take).answer ok, l)
-          (λ g m x. plans_make_job window w k cron g m x)
+          (λ g m x. record { made = plans_make_job window w k cron g m x; taken = plans_find_taken window w k cron g m x })
           (subst (λ (x : Handled). Goes w k None x.state readings (IsRead w k cron)) (sym e)
           (readings_go w k cron (seated (record s { queue = taken s.queue }) w k Held) (seat_here s.seats w (sat k Held)) r.stands)),
     )

@@ -1,7 +1,8 @@
 -- A sync that nobody disturbs, from a worker's Take of a key to its Finish: Kubernetes CronJob documentation, "Job
 -- creation" and "CronJob limitations"; the calls on the queue are those of client-go's package workqueue (Get, Done).
-use Rattle.std.specs.Prelude.{◌≡◌, ℕ, true, false, List, [], ◌∷◌, Option, Some, None}
+use Rattle.std.specs.Prelude.{◌≡◌, ℕ, true, false, List, [], ◌∷◌, ◌++◌, Option, Some, None, Err}
 use Rattle.std.specs.FinMap as map
+use Rattle.cj_base.specs.declared.refusal.Refusal.TheVariants.{AlreadyExists}
 use Rattle.cj_types.specs.Keys.{Place}
 use Rattle.cj_types.specs.Made.{made_place}
 use Rattle.cj_types.specs.Uids.{uid_text}
@@ -27,7 +28,7 @@ use Rattle.cj_state.specs.phases.Steps.{Step, drops, makes, sets, all_steps}
 use Rattle.cj_state.specs.Legal.{IsLegal, answer_of, state_of}
 use Rattle.cj_world_laws.specs.legal.Seats.{seat}
 use Rattle.cj_world_laws.specs.once.Once.{is_ok}
-use Rattle.cj_history.specs.progress.Undisturbed.{worker, entry, Leads}
+use Rattle.cj_history.specs.progress.Undisturbed.{worker, entry, AreAside, Leads}
 
 -- ---- the calls
 
@@ -102,9 +103,28 @@ PlansMakeJob window w k cron h = (p : Planned) (time : ℕ) → IsFor h w k p �
     → map.get (state_of window h).store.jobs (made_place cron.key time) ≡ None
     → Leads window w k (Some (made_place cron.key time)) h (works_off p) (λ g. IsStarted (state_of window g).store k cron time)
 
+-- the worker's making is refused, whatever others call aside
+abbrev pub IsRefused : ℕ → ℕ → Place → Option Place → List Told → Type 0
+IsRefused window w k q h = (es : List Told) → IsLegal window (es ++ h) → AreAside w k q es h
+    → answer_of window (es ++ h) (worker w) Of.MakeNext ≡ Err AlreadyExists
+
+-- the one way to lose the time: its Job's name is taken, and nothing is dropped first; then the claim is accepted, and the
+-- making refused
+-- rule: sync-makes-job
+abbrev pub PlansFindTaken : ℕ → ℕ → Place → CronJob → List Told → Type 0
+PlansFindTaken window w k cron h = (p : Planned) (time : ℕ) (job : Job) → IsFor h w k p → IsOpen cron p time
+    → p.steps.drop_first ≡ [] → map.get (state_of window h).store.jobs (made_place cron.key time) ≡ Some job
+    → Leads window w k (Some (made_place cron.key time)) h (Of.Claim p ∷ [])
+    (IsRefused window w k (Some (made_place cron.key time)))
+
+-- what the worker's plans do after the readings
+pub record PlansWork (window w : ℕ) (k : Place) (cron : CronJob) (h : List Told) : Type 0 where
+  pub made : PlansMakeJob window w k cron h
+  pub taken : PlansFindTaken window w k cron h
+
 -- who takes the key is answered all calls of its sync, and the latest time missed gets its Job
 -- rule: sync-makes-job
 abbrev pub MakesJob : Type 0
 MakesJob = (window : ℕ) (h : List Told) (w : ℕ) (k : Place) (cron : CronJob) → IsLegal window h → IsReady window h w k cron
     → (is_ok (answer_of window h (worker w) Of.Take) ≡ true)
-    × Leads window w k None (entry window h w Of.Take ∷ h) readings (PlansMakeJob window w k cron)
+    × Leads window w k None (entry window h w Of.Take ∷ h) readings (PlansWork window w k cron)
