@@ -4,8 +4,10 @@ pub mod Missed
 pub mod Fair
 pub mod Calls
 pub mod Aside
+pub mod Tidy
 pub mod Steps
 pub mod Started
 pub mod Taken
+pub mod Rest
 pub mod Whole
 pub mod SyncSample

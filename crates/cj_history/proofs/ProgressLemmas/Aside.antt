@@ -31,7 +31,7 @@ use Rattle.cj_history.specs.store.Writes.{entry_written, with_write, writes}
 use Rattle.cj_history.specs.progress.Undisturbed.{worker, object_of, is_of, AreAside, entry, Leads}
 use Rattle.cj_history.proofs.StoreLemmas.Stores.{store_agrees}
 use Rattle.cj_history.proofs.StoreLemmas.Answered.{job_keyed}
-use Rattle.cj_history.proofs.ProgressLemmas.Fair.{listed_uid}
+use Rattle.cj_history.proofs.ProgressLemmas.Fair.{entry_fair, IsNever, never_with, listed_uid}
 
 -- ---- by the entries
 
@@ -110,6 +110,16 @@ seat_aside w k q (e ∷ es) h a =
     ap (λ b. if b then seat_after (seat (es ++ h) w) e.call e.answer else seat (es ++ h) w)
     (apart_false w e.caller.number a.0) ∙ seat_aside w k q es h a.2
 
+-- What others call aside gives a uid that was given out, and that the Job at a key hasn't, to none there.
+never : (w : ℕ) (k : Place) (q : Option Place) (es h : List Told) → AreAside w k q es h → (i : Place) (u : ℕ)
+    → u ≤ made (writes h) → IsNever (writes h) i u → IsNever (writes (es ++ h)) i u
+never w k q [] h a i u l n = n
+never w k q (e ∷ es) h a i u l n =
+    let m = (alike w k q es h a.2).more in
+    never_with (writes (es ++ h)) (entry_written (writes (es ++ h)) (seat (es ++ h) e.caller.number) e.call e.answer) i u
+    (entry_fair (writes (es ++ h)) (seat (es ++ h) e.caller.number) e.call e.answer) (omega (arith, l, m))
+    (never w k q es h a.2 i u l n)
+
 -- ---- by the states
 
 -- each Job stands at its own key
@@ -129,6 +139,8 @@ pub record Same (w : ℕ) (k : Place) (q : Option Place) (s t : State) : Type 0 
   pub more : s.store.uids ≤ t.store.uids
   pub keys : AreKeyed t.store
   pub given : (j : Job) → IsIn j (listed_of t k) → j.meta.uid ≤ t.store.uids
+  pub never : (i : Place) (u : ℕ) → u ≤ s.store.uids → ((x : Job) → map.get s.store.jobs i ≡ Some x → x.meta.uid ≢ u)
+      → (x : Job) → map.get t.store.jobs i ≡ Some x → x.meta.uid ≢ u
 
 -- In a legal history the Job of a name is the one that its writes left.
 job_is : (window : ℕ) (h : List Told) → IsLegal window h → (q : Option Place)
@@ -160,6 +172,8 @@ same_aside window w k q es h l a =
       more = (let c = f.more in omega (arith, c, u, v));
       keys = keyed window (es ++ h) l;
       given = λ j i. listed_uid window (es ++ h) l k j i;
+      never = λ i n b c x e. never w k q es h a i n (subst (λ z. n ≤ z) u b)
+          (λ y g. c y ((store_agrees window h m).jobs i ∙ g)) x (sym ((store_agrees window (es ++ h) l).jobs i) ∙ e);
     }
 
 -- ---- calls by the state alone

@@ -1,5 +1,5 @@
 -- The Jobs that writes left: each has a uid that was given out.
-use Rattle.std.proofs.Common.{◌≡◌, ℕ, zero, suc, ◌+◌, ◌-◌, ◌≤◌, ◌⊎◌, inl, inr, Bool, true, false, cond, List, [], ◌∷◌, drop, Option, Some, None, refl, sym, ap, subst, ◌∙◌, arith}
+use Rattle.std.proofs.Common.{◌≡◌, ◌≢◌, ℕ, zero, suc, ◌+◌, ◌-◌, ◌≤◌, ◌⊎◌, inl, inr, Bool, true, false, cond, List, [], ◌∷◌, drop, Option, Some, None, refl, sym, ap, subst, ◌∙◌, arith}
 use Rattle.std.specs.Prelude.{IfSome, option_map, Result, Ok, Err}
 use Rattle.std.specs.List.{AllByRecursion}
 use Rattle.std.specs.FinMap as map
@@ -13,6 +13,7 @@ use Rattle.cj_types.specs.declared.event.Event.{Event}
 use Rattle.cj_types.specs.declared.event.Event.TheVariants.{Added, Modified, Deleted}
 use Rattle.cj_table.specs.jobs.Owners.{is_job_of}
 use Rattle.cj_queue.specs.Parts.{key_eq}
+use Rattle.cj_queue.proofs.Sets.{eq_true}
 use Rattle.cj_decide.specs.Decision.{Planned}
 use Rattle.cj_decide.specs.declared.start.Claim.{Claim}
 use Rattle.cj_decide.specs.laws.Laws.{IsIn}
@@ -104,7 +105,7 @@ call_fair ws o Of.SetStatus r = seat_fair ws o
 call_fair ws o call r = tt
 
 -- What an entry writes, which is nothing where it was refused, is fair.
-entry_fair : (ws : List Event) (o : Option Seat) (call : Call) (a : Result Reply Refusal)
+pub entry_fair : (ws : List Event) (o : Option Seat) (call : Call) (a : Result Reply Refusal)
     → IfSome (entry_written ws o call a) (Fair ws)
 entry_fair ws o call (Ok r) = call_fair ws o call r
 entry_fair ws o call (Err e) = tt
@@ -170,6 +171,42 @@ uid_step (Deleted (Kind.Job x)) ws k j f h e = by (key_eq x.key k) e
 pub fair_uid : (ws : List Event) → AreFair ws → (k : Place) (j : Job) → current_job ws k ≡ Some j → j.meta.uid ≤ made ws
 fair_uid [] a k j e = absurd (cc e)
 fair_uid (w ∷ ws) a k j e = uid_step w ws k j a.0 (λ q i f. fair_uid ws a.1 q i f) e
+
+-- no Job at the key has the uid
+abbrev pub IsNever : List Event → Place → ℕ → Type 0
+IsNever ws q i = (x : Job) → current_job ws q ≡ Some x → x.meta.uid ≢ i
+
+-- For never_with: a uid that was given out, and that the Job at a key hasn't, isn't given to one there by a write.
+never_step : (w : Event) (ws : List Event) (q : Place) (i : ℕ) → Fair ws w → i ≤ made ws → IsNever ws q i
+    → (x : Job) → job_left w q (current_job ws q) ≡ Some x → x.meta.uid ≢ i
+never_step (Added (Kind.Cron c)) ws q i f l n x e = n x e
+never_step (Modified (Kind.Cron c)) ws q i f l n x e = n x e
+never_step (Deleted (Kind.Cron c)) ws q i f l n x e = n x e
+never_step (Added (Kind.Job j)) ws q i f l n x e = by (key_eq j.key q) e
+  where
+    by : (b : Bool) → cond b (Some j) (current_job ws q) ≡ Some x → x.meta.uid ≢ i
+    by true g m =
+        let same : j ≡ x = cc g in let u = ap (λ (z : Job). z.meta.uid) same in absurd (omega (arith, f, l, m, u))
+    by false g m = n x g m
+never_step (Modified (Kind.Job j)) ws q i f l n x e = by (key_eq j.key q) refl e
+  where
+    by : (b : Bool) → key_eq j.key q ≡ b → cond b (Some j) (current_job ws q) ≡ Some x → x.meta.uid ≢ i
+    by true t g m =
+        let same : j ≡ x = cc g in
+        n f.0 (ap (current_job ws) (sym (eq_true j.key q t)) ∙ f.1)
+        (sym f.2 ∙ ap (λ (z : Job). z.meta.uid) same ∙ m)
+    by false t g m = n x g m
+never_step (Deleted (Kind.Job j)) ws q i f l n x e = by (key_eq j.key q) e
+  where
+    by : (b : Bool) → cond b None (current_job ws q) ≡ Some x → x.meta.uid ≢ i
+    by true g m = absurd (cc g)
+    by false g m = n x g m
+
+-- One write more, or none, doesn't give the uid to a Job at the key.
+pub never_with : (ws : List Event) (o : Option Event) (q : Place) (i : ℕ) → IfSome o (Fair ws) → i ≤ made ws
+    → IsNever ws q i → IsNever (with_write o ws) q i
+never_with ws None q i f l n = n
+never_with ws (Some w) q i f l n = λ x e. never_step w ws q i f l n x e
 
 -- ---- elements of lists
 

@@ -48,13 +48,14 @@ use Rattle.cj_world_laws.proofs.LegalLemmas.Inputs.{rests_exactly}
 use Rattle.cj_world_laws.proofs.LegalLemmas.Seated.{seats_agree}
 use Rattle.cj_world_laws.proofs.OnceLemmas.Maps.{put_at, put_here, removal_at, removal_other, seat_here}
 use Rattle.cj_history.specs.store.Writes.{writes}
-use Rattle.cj_history.specs.progress.Syncs.{calls_left, readings, works_off, IsFor, IsOpen, IsStarted, PlansMakeJob}
+use Rattle.cj_history.specs.progress.Syncs.{calls_left, readings, works_off, IsFor, IsOpen, IsStarted, IsTidied, PlansMakeJob}
 use Rattle.cj_history.proofs.StoreLemmas.Stores.{store_agrees}
 use Rattle.cj_history.proofs.StoreLemmas.Answered.{cron_keyed}
 use Rattle.cj_history.proofs.ProgressLemmas.Missed.{claims_due}
 use Rattle.cj_history.proofs.ProgressLemmas.Fair.{all_of_one}
 use Rattle.cj_history.proofs.ProgressLemmas.Calls.{sat, see_cron_is, see_jobs_is, see_active_is, claim_is, Dropped, absent, found}
 use Rattle.cj_history.proofs.ProgressLemmas.Aside.{AreKeyed, Same, Goes, goes, goes_leads}
+use Rattle.cj_history.proofs.ProgressLemmas.Tidy.{IsTidy, tidy_still, tidy_kept, tidied, still_gone}
 use Rattle.cj_history.proofs.ProgressLemmas.Steps.{Going, drops_go, make_goes, status_goes, finish_goes}
 
 -- ---- before the Job is made
@@ -267,7 +268,7 @@ module _ (w : ℕ) (k : Place) (cron : CronJob) where
 
 -- s is the state at the claim, w the worker, k the key, cron its CronJob, p the plan, and y its claim; so many uids were
 -- given out when the Jobs were listed.
-module _ (s : State) (u w : ℕ) (k : Place) (cron : CronJob) (p : Planned) (y : Claim) (start : Starting p cron y) (key : cron.key ≡ k) (seen : p.cron ≡ Some cron) where
+module _ (s : State) (u w : ℕ) (k : Place) (cron : CronJob) (p : Planned) (y : Claim) (start : Starting p cron y) (key : cron.key ≡ k) (seen : p.cron ≡ Some cron) (olds : (r : JobRef) → IsIn r p.steps.cleanup → r.uid ≤ u) where
   -- the CronJob that the claim leaves
   abbrev new : CronJob
   new = with_status s.store y.status cron
@@ -281,7 +282,11 @@ module _ (s : State) (u w : ℕ) (k : Place) (cron : CronJob) (p : Planned) (y :
   d = draft_of cron y.time
 
   abbrev Q : State → Type 0
-  Q t = IsStarted t.store k cron y.time
+  Q t = IsStarted t.store k cron y.time × IsTidied p.steps.cleanup t.store
+
+  -- the Job stands, and what was cleaned up so far is gone
+  abbrev Left : Job → List JobRef → Content → Type 0
+  Left j rs t = IsThere u k new d.key j rs t × IsTidy u p.steps.cleanup rs t
 
   -- A CronJob that is put at its key stands at the one that the worker holds.
   put_key : (t : Content) (c : CronJob) → c.key ≡ cron.key → map.get (map.insert t.crons c.key c) k ≡ Some c
@@ -289,80 +294,99 @@ module _ (s : State) (u w : ℕ) (k : Place) (cron : CronJob) (p : Planned) (y :
 
   -- With no status left to set, the sync ends as it should.
   settle_none : (j : Job) (e : List Step) (t : State) → is_running (uid_text cron.meta.uid) j ≡ true
-      → Going w k p v t e [] → IsThere u k new d.key j [] t.store
+      → Going w k p v t e [] → Left j [] t.store
       → Goes w k (Some d.key) t (calls_left p.steps.reasons []) Q
   settle_none j e t runs g f =
       finish_goes w k (Some d.key) p v p.steps.reasons Q e t g (λ a z same left.
-      subst (λ (x : Content). IsStarted x k cron y.time) (sym left) (record {
-        job = j;
-        made = same.job ∙ f.job;
-        runs = runs;
-        now = new;
-        stands = same.cron ∙ f.cron;
-        uid = refl;
-        last = start.last;
-        active = start.active;
-      }))
+      subst (λ (x : Content). IsStarted x k cron y.time × IsTidied p.steps.cleanup x) (sym left) (
+        record {
+          job = j;
+          made = same.job ∙ f.0.job;
+          runs = runs;
+          now = new;
+          stands = same.cron ∙ f.0.cron;
+          uid = refl;
+          last = start.last;
+          active = start.active;
+        },
+        still_gone w u k (Some d.key) p.steps.cleanup olds t a same f.1.uids (tidied u p.steps.cleanup t.store f.1),
+      ))
 
   -- With a status to set, it does so too.
   settle_some : (st : CronStatus) → p.steps.status ≡ Some st → (j : Job) (e : List Step) (t : State)
       → is_running (uid_text cron.meta.uid) j ≡ true
-      → Going w k p v t e (sets st ∷ []) → IsThere u k new d.key j [] t.store
+      → Going w k p v t e (sets st ∷ []) → Left j [] t.store
       → Goes w k (Some d.key) t (calls_left p.steps.reasons (sets st ∷ [])) Q
   settle_some st is j e t runs g f =
-      status_goes w k (Some d.key) p v p.steps.reasons Q st cron new e t g seen f.cron refl refl (λ a b e2 same g2 left.
+      status_goes w k (Some d.key) p v p.steps.reasons Q st cron new e t g seen f.0.cron refl refl (λ a b e2 same g2 left.
       finish_goes w k (Some d.key) p v p.steps.reasons Q e2 b g2 (λ a2 z same2 left2.
       let jobs : map.get b.store.jobs d.key ≡ Some j =
-      ap (λ (x : Content). map.get x.jobs d.key) left ∙ same.job ∙ f.job in
+      ap (λ (x : Content). map.get x.jobs d.key) left ∙ same.job ∙ f.0.job in
       let crons : map.get b.store.crons k ≡ Some (with_status a.store st new) =
       ap (λ (x : Content). map.get x.crons k) left ∙ put_key a.store (with_status a.store st new) refl in
-      subst (λ (x : Content). IsStarted x k cron y.time) (sym left2) (record {
-        job = j;
-        made = same2.job ∙ jobs;
-        runs = runs;
-        now = with_status a.store st new;
-        stands = same2.cron ∙ crons;
-        uid = refl;
-        last = start.final_last st is;
-        active = start.final_active st is;
-      })))
+      let gone : IsTidied p.steps.cleanup b.store = subst (λ (x : Content). IsTidied p.steps.cleanup x) (sym left)
+      (still_gone w u k (Some d.key) p.steps.cleanup olds t a same f.1.uids (tidied u p.steps.cleanup t.store f.1)) in
+      let low : u ≤ b.store.uids = subst (λ (x : Content). u ≤ x.uids) (sym left)
+      (let c = f.1.uids in let m = same.more in omega (arith, c, m)) in
+      subst (λ (x : Content). IsStarted x k cron y.time × IsTidied p.steps.cleanup x) (sym left2) (
+        record {
+          job = j;
+          made = same2.job ∙ jobs;
+          runs = runs;
+          now = with_status a.store st new;
+          stands = same2.cron ∙ crons;
+          uid = refl;
+          last = start.final_last st is;
+          active = start.final_active st is;
+        },
+        still_gone w u k (Some d.key) p.steps.cleanup olds b a2 same2 low gone,
+      )))
 
   -- With the status to set, if there is one, the sync ends as it should.
   settle : (o : Option CronStatus) → p.steps.status ≡ o → (j : Job) (e : List Step) (t : State)
       → is_running (uid_text cron.meta.uid) j ≡ true
-      → Going w k p v t e (settings o) → IsThere u k new d.key j [] t.store
+      → Going w k p v t e (settings o) → Left j [] t.store
       → Goes w k (Some d.key) t (calls_left p.steps.reasons (settings o)) Q
   settle None is j e t runs g f = settle_none j e t runs g f
   settle (Some st) is j e t runs g f = settle_some st is j e t runs g f
 
   -- The clean-up is accepted, and leaves the Job.
-  cleanup_goes : (old : AllByRecursion (λ r. r.uid ≤ u) p.steps.cleanup) (e : List Step) (t z : State)
+  cleanup_goes : (e : List Step) (t z : State)
       → Going w k p v z e (map_list drops p.steps.cleanup ++ settings p.steps.status)
       → z.store ≡ after t.store (job_added (new_job t.store d p.at)) → IsFree u k new d.key [] t.store
       → Goes w k (Some d.key) z (calls_left p.steps.reasons (map_list drops p.steps.cleanup ++ settings p.steps.status)) Q
-  cleanup_goes old e t z g is f =
+  cleanup_goes e t z g is f =
       let j : Job = new_job t.store d p.at in
-      drops_go w k (Some d.key) p v p.steps.reasons Q (IsThere u k new d.key j) (there_still w u k new d.key j)
-      (there_kept u k new d.key j) p.steps.cleanup (settings p.steps.status) e z g
-      (subst (IsThere u k new d.key j p.steps.cleanup) (sym is) (there_made u k new d p.at p.steps.cleanup t.store old f))
+      let low : u ≤ t.store.uids = f.uids in
+      let there : IsThere u k new d.key j p.steps.cleanup (after t.store (job_added j)) =
+      there_made u k new d p.at p.steps.cleanup t.store (all_of_one (λ (r : JobRef). r.uid ≤ u) p.steps.cleanup olds) f in
+      drops_go w k (Some d.key) p v p.steps.reasons Q (Left j)
+      (λ rs a b same l. (
+        there_still w u k new d.key j rs a b same l.0,
+        tidy_still w u k (Some d.key) p.steps.cleanup olds rs a b same l.1,
+      ))
+      (λ r rs a b m l. (there_kept u k new d.key j r rs a b m l.0, tidy_kept u p.steps.cleanup r rs a b m l.1))
+      p.steps.cleanup (settings p.steps.status) e z g
+      (subst (Left j p.steps.cleanup) (sym is)
+      (there, record { uids = omega (arith, low); keys = there.keys; gone = λ r i. inl i }))
       (λ a e2 g2 f2. settle p.steps.status refl j e2 a (start.runs t.store p.at) g2 f2)
 
   -- The making is accepted, and so is what comes after it.
-  making_goes : (old : AllByRecursion (λ r. r.uid ≤ u) p.steps.cleanup) (e : List Step) (t : State)
+  making_goes : (e : List Step) (t : State)
       → Going w k p v t e (makes d ∷ (map_list drops p.steps.cleanup ++ settings p.steps.status))
       → IsFree u k new d.key [] t.store
       → Goes w k (Some d.key) t
       (calls_left p.steps.reasons (makes d ∷ (map_list drops p.steps.cleanup ++ settings p.steps.status))) Q
-  making_goes old e t g f =
+  making_goes e t g f =
       make_goes w k (Some d.key) p v p.steps.reasons Q d (map_list drops p.steps.cleanup ++ settings p.steps.status) e t g (λ a same. same.job ∙ f.free)
-      (λ a z e2 same g2 is. cleanup_goes old e2 a z g2 is (free_still w u k new d.key [] t a same f))
+      (λ a z e2 same g2 is. cleanup_goes e2 a z g2 is (free_still w u k new d.key [] t a same f))
 
   -- The steps of the plan are all accepted, and the Job is made.
   steps_go : (t : State) → t.store ≡ after s.store (cron_modified new)
       → Going w k p v t [] (all_steps p.steps) → AreKeyed s.store
-      → map.get s.store.jobs d.key ≡ None → u ≤ s.store.uids → AllByRecursion (λ r. r.uid ≤ u) p.steps.cleanup
+      → map.get s.store.jobs d.key ≡ None → u ≤ s.store.uids
       → Goes w k (Some d.key) t (calls_left p.steps.reasons (all_steps p.steps)) Q
-  steps_go t is g keys free low old =
+  steps_go t is g keys free low =
       let later : List Step = map_list drops p.steps.cleanup ++ settings p.steps.status in
       let all : all_steps p.steps ≡ map_list drops p.steps.drop_first ++ (makes d ∷ later) =
       ap (λ (m : Option JobDraft). map_list drops p.steps.drop_first ++ (makings m ++ later)) start.make in
@@ -375,7 +399,7 @@ module _ (s : State) (u w : ℕ) (k : Place) (cron : CronJob) (p : Planned) (y :
         uids = low;
         keys = keys;
       }))
-      (λ a e2 g2 f2. making_goes old e2 a g2 f2))
+      (λ a e2 g2 f2. making_goes e2 a g2 f2))
 
 -- ---- the sync
 
@@ -404,11 +428,12 @@ works_off_go : (s : State) (w : ℕ) (k : Place) (cron : CronJob) (p : Planned) 
     → Starting p cron y → cron.key ≡ k → p.cron ≡ Some cron → p.jobs ≡ r.jobs
     → seat_of s w ≡ Some (sat k (Checked p.cron p.jobs p.active)) → p.steps.claim ≡ Some y
     → map.get s.store.jobs (made_place cron.key y.time) ≡ None
-    → AllByRecursion (λ r. r.uid ≤ s.store.uids) p.steps.cleanup
-    → Goes w k (Some (made_place cron.key y.time)) s (works_off p) (λ t. IsStarted t.store k cron y.time)
+    → ((x : JobRef) → IsIn x p.steps.cleanup → x.uid ≤ s.store.uids)
+    → Goes w k (Some (made_place cron.key y.time)) s (works_off p)
+    (λ t. IsStarted t.store k cron y.time × IsTidied p.steps.cleanup t.store)
 works_off_go s w k cron p y r start key seen listed seat claim free old =
     goes w k (Some (made_place cron.key y.time)) s (Of.Claim p) (calls_left p.steps.reasons (all_steps p.steps))
-    (λ t. IsStarted t.store k cron y.time) (λ t same.
+    (λ t. IsStarted t.store k cron y.time × IsTidied p.steps.cleanup t.store) (λ t same.
     let z : State = seated (written t (cron_modified (with_status t.store y.status cron))) w k
     (works p (t.store.version + 1) 0) in
     record {
@@ -416,9 +441,9 @@ works_off_go s w k cron p y r start key seen listed seat claim free old =
       is = claim_is t w k p p.cron p.jobs p.active cron y (same.seat ∙ seat)
           ((rests_exactly p p.cron p.jobs p.active).1 (refl, refl, refl)) claim seen (same.cron ∙ r.stands);
       accepted = refl;
-      goes = steps_go t s.store.uids w k cron p y start key seen z refl
+      goes = steps_go t s.store.uids w k cron p y start key seen old z refl
           (record { seat = seat_here t.seats w (sat k (works p (t.store.version + 1) 0)); all = refl })
-          same.keys (same.job ∙ free) same.more old;
+          same.keys (same.job ∙ free) same.more;
     })
 
 -- For makes_job: after the readings, the plans for the answers make the Job of the latest time missed.
@@ -434,11 +459,12 @@ plans_make_job window w k cron h l r p time f o free =
     let claim = claims_due cron p.jobs p.active p.at p.zone p.steps o.zone time plan o.runs o.known o.latest o.allowed in
     let key = cron_keyed (writes h) k cron (sym ((store_agrees window h l).crons k) ∙ r.stands) in
     goes_leads window w k (Some (made_place cron.key time)) h (works_off p)
-    (λ g. IsStarted (state_of window g).store k cron time) (λ t. IsStarted t.store k cron time) l (λ g m x. x)
+    (λ g. IsStarted (state_of window g).store k cron time × IsTidied p.steps.cleanup (state_of window g).store)
+    (λ t. IsStarted t.store k cron time × IsTidied p.steps.cleanup t.store) l (λ g m x. x)
     (works_off_go (state_of window h) w k cron p (claim_of cron time) r
     (starting p cron (claim_of cron time) f.decided seen claim) key seen listed seat claim free
-    (all_of_one (λ (x : JobRef). x.uid ≤ (state_of window h).store.uids) p.steps.cleanup (λ x i.
+    (λ x i.
     let c = cleans_finished cron p.jobs p.active p.at p.zone p.steps plan x i in
     let u = ap (λ (z : JobRef). z.uid) c.is in
     let b = r.old c.job (subst (λ (js : List Job). IsIn c.job js) listed c.listed) in
-    omega (arith, u, b))))
+    omega (arith, u, b)))

@@ -1,6 +1,6 @@
 -- A sync that nobody disturbs, from a worker's Take of a key to its Finish: Kubernetes CronJob documentation, "Job
 -- creation" and "CronJob limitations"; the calls on the queue are those of client-go's package workqueue (Get, Done).
-use Rattle.std.specs.Prelude.{◌≡◌, ℕ, true, false, List, [], ◌∷◌, ◌++◌, Option, Some, None, Err}
+use Rattle.std.specs.Prelude.{◌≡◌, ◌≢◌, ℕ, true, false, List, [], ◌∷◌, ◌++◌, Option, Some, None, Err}
 use Rattle.std.specs.FinMap as map
 use Rattle.cj_base.specs.declared.refusal.Refusal.TheVariants.{AlreadyExists}
 use Rattle.cj_types.specs.Keys.{Place}
@@ -18,7 +18,7 @@ use Rattle.cj_store.specs.Content.{Content}
 use Rattle.cj_queue.specs.Queue.{first}
 use Rattle.cj_decide.specs.Decision.{Planned, IsDecided, running_of}
 use Rattle.cj_decide.specs.laws.Fits.{IsAt}
-use Rattle.cj_decide.specs.laws.Laws.{IsClaimed}
+use Rattle.cj_decide.specs.laws.Laws.{IsClaimed, IsIn}
 use Rattle.cj_calls.specs.Rows.{Told}
 use Rattle.cj_calls.specs.declared.call.Call.{Call}
 use Rattle.cj_calls.specs.declared.call.Call.TheVariants as Of
@@ -96,12 +96,18 @@ pub record IsStarted (s : Content) (k : Place) (cron : CronJob) (time : ℕ) : T
   pub last : now.status.last_schedule_time ≡ Some time
   pub active : IsAt cron.key.namespace now.status.active (made_place cron.key time)
 
--- the plans for what the worker was answered make the Job for the latest time missed, where its name isn't taken
+-- none of these Jobs stands any more
+abbrev pub IsTidied : List JobRef → Content → Type 0
+IsTidied rs s = (r : JobRef) → IsIn r rs → (job : Job) → map.get s.jobs r.key ≡ Some job → job.meta.uid ≢ r.uid
+
+-- the plans for what the worker was answered make the Job for the latest time missed, where its name isn't taken, and what
+-- they clean up is gone
 -- rule: sync-makes-job
 abbrev pub PlansMakeJob : ℕ → ℕ → Place → CronJob → List Told → Type 0
 PlansMakeJob window w k cron h = (p : Planned) (time : ℕ) → IsFor h w k p → IsOpen cron p time
     → map.get (state_of window h).store.jobs (made_place cron.key time) ≡ None
-    → Leads window w k (Some (made_place cron.key time)) h (works_off p) (λ g. IsStarted (state_of window g).store k cron time)
+    → Leads window w k (Some (made_place cron.key time)) h (works_off p)
+    (λ g. IsStarted (state_of window g).store k cron time × IsTidied p.steps.cleanup (state_of window g).store)
 
 -- the worker's making is refused, whatever others call aside
 abbrev pub IsRefused : ℕ → ℕ → Place → Option Place → List Told → Type 0
@@ -117,10 +123,17 @@ PlansFindTaken window w k cron h = (p : Planned) (time : ℕ) (job : Job) → Is
     → Leads window w k (Some (made_place cron.key time)) h (Of.Claim p ∷ [])
     (IsRefused window w k (Some (made_place cron.key time)))
 
+-- a plan that claims nothing makes no Job, is worked off, and what it cleans up is gone
+-- rule: sync-makes-job
+abbrev pub PlansRest : ℕ → ℕ → Place → CronJob → List Told → Type 0
+PlansRest window w k cron h = (p : Planned) → IsFor h w k p → p.steps.claim ≡ None
+    → (p.steps.make ≡ None) × Leads window w k None h (works_off p) (λ g. IsTidied p.steps.cleanup (state_of window g).store)
+
 -- what the worker's plans do after the readings
 pub record PlansWork (window w : ℕ) (k : Place) (cron : CronJob) (h : List Told) : Type 0 where
   pub made : PlansMakeJob window w k cron h
   pub taken : PlansFindTaken window w k cron h
+  pub rest : PlansRest window w k cron h
 
 -- who takes the key is answered all calls of its sync, and the latest time missed gets its Job
 -- rule: sync-makes-job
