@@ -31,7 +31,7 @@ use Rattle.cj_history.specs.store.Writes.{entry_written, with_write, writes}
 use Rattle.cj_history.specs.progress.Undisturbed.{worker, object_of, is_of, AreAside, entry, Leads}
 use Rattle.cj_history.proofs.StoreLemmas.Stores.{store_agrees}
 use Rattle.cj_history.proofs.StoreLemmas.Answered.{job_keyed}
-use Rattle.cj_history.proofs.ProgressLemmas.Fair.{entry_fair, IsNever, never_with, listed_uid}
+use Rattle.cj_history.proofs.ProgressLemmas.Fair.{entry_fair, are_fair, fair_uid, IsNever, never_with, listed_uid}
 
 -- ---- by the entries
 
@@ -139,6 +139,7 @@ pub record Same (w : ℕ) (k : Place) (q : Option Place) (s t : State) : Type 0 
   pub more : s.store.uids ≤ t.store.uids
   pub keys : AreKeyed t.store
   pub given : (j : Job) → IsIn j (listed_of t k) → j.meta.uid ≤ t.store.uids
+  pub stored : (i : Place) (x : Job) → map.get t.store.jobs i ≡ Some x → x.meta.uid ≤ t.store.uids
   pub never : (i : Place) (u : ℕ) → u ≤ s.store.uids → ((x : Job) → map.get s.store.jobs i ≡ Some x → x.meta.uid ≢ u)
       → (x : Job) → map.get t.store.jobs i ≡ Some x → x.meta.uid ≢ u
 
@@ -172,6 +173,8 @@ same_aside window w k q es h l a =
       more = (let c = f.more in omega (arith, c, u, v));
       keys = keyed window (es ++ h) l;
       given = λ j i. listed_uid window (es ++ h) l k j i;
+      stored = λ i x e. subst (λ z. x.meta.uid ≤ z) (sym v)
+          (fair_uid (writes (es ++ h)) (are_fair (es ++ h)) i x (sym ((store_agrees window (es ++ h) l).jobs i) ∙ e));
       never = λ i n b c x e. never w k q es h a i n (subst (λ z. n ≤ z) u b)
           (λ y g. c y ((store_agrees window h m).jobs i ∙ g)) x (sym ((store_agrees window (es ++ h) l).jobs i) ∙ e);
     }

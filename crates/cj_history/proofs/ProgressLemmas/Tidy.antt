@@ -1,14 +1,16 @@
 -- What a plan cleans up is gone after its drops, and stays so.
-use Rattle.std.proofs.Common.{◌≡◌, ◌≢◌, ◌⊎◌, inl, inr, ℕ, ◌≤◌, List, [], ◌∷◌, Some, refl, sym, ap, subst, arith}
-use Rattle.std.specs.Prelude.{Option}
+use Rattle.std.proofs.Common.{◌≡◌, ◌≢◌, ◌⊎◌, inl, inr, ℕ, ◌≤◌, List, [], ◌∷◌, Option, Some, refl, sym, ap, subst, ◌∙◌, arith}
 use Rattle.std.specs.FinMap as map
 use Rattle.cj_types.specs.Keys.{Place}
 use Rattle.cj_types.specs.declared.job.Job.{Job}
+use Rattle.cj_types.specs.declared.job.JobDraft.{JobDraft}
 use Rattle.cj_store.specs.Content.{Content}
+use Rattle.cj_store.specs.Change.{after, job_added}
+use Rattle.cj_store.specs.Jobs.{new_job}
 use Rattle.cj_status.specs.declared.refs.JobRef.{JobRef}
 use Rattle.cj_decide.specs.laws.Laws.{IsIn}
 use Rattle.cj_state.specs.declared.state.State.{State}
-use Rattle.cj_world_laws.proofs.OnceLemmas.Maps.{removal_at}
+use Rattle.cj_world_laws.proofs.OnceLemmas.Maps.{put_at, removal_at}
 use Rattle.cj_history.specs.progress.Syncs.{IsTidied}
 use Rattle.cj_history.proofs.ProgressLemmas.Calls.{Dropped, absent, found}
 use Rattle.cj_history.proofs.ProgressLemmas.Aside.{AreKeyed, Same}
@@ -82,3 +84,28 @@ tidied u all s f r i = by (f.gone r i)
 pub still_gone : (w u : ℕ) (k : Place) (o : Option Place) (all : List JobRef) → ((r : JobRef) → IsIn r all → r.uid ≤ u)
     → (s t : State) → Same w k o s t → u ≤ s.store.uids → IsTidied all s.store → IsTidied all t.store
 still_gone w u k o all old s t same l g r i = same.never r.key r.uid (let a = old r i in omega (arith, a, l)) (g r i)
+
+-- What is gone stays so when a Job is made, whose uid is a new one.
+pub tidy_made : (u : ℕ) (all rs : List JobRef) → ((r : JobRef) → IsIn r all → r.uid ≤ u) → (s : Content) (d : JobDraft) (at : ℕ)
+    → IsTidy u all rs s → IsTidy u all rs (after s (job_added (new_job s d at)))
+tidy_made u all rs old s d at f = record {
+  uids = (let a = f.uids in omega (arith, a));
+  keys = λ q x h. key q x (put_at s.jobs d.key q (new_job s d at) x h);
+  gone = λ r i. by r (old r i) (f.gone r i);
+}
+  where
+    key : (q : Place) (x : Job) → ((q ≡ d.key) × (new_job s d at ≡ x)) ⊎ ((q ≢ d.key) × (map.get s.jobs q ≡ Some x))
+        → x.key ≡ q
+    key q x (inl e) = ap (λ (z : Job). z.key) (sym e.1) ∙ sym e.0
+    key q x (inr e) = f.keys q x e.1
+
+    one : (r : JobRef) → r.uid ≤ u → IsGone r s → (x : Job)
+        → ((r.key ≡ d.key) × (new_job s d at ≡ x)) ⊎ ((r.key ≢ d.key) × (map.get s.jobs r.key ≡ Some x)) → x.meta.uid ≢ r.uid
+    one r l g x (inl e) n =
+        let a = f.uids in let b = ap (λ (z : Job). z.meta.uid) e.1 in absurd (omega (arith, a, b, l, n))
+    one r l g x (inr e) n = g x e.1 n
+
+    by : (r : JobRef) → r.uid ≤ u → IsIn r rs ⊎ IsGone r s
+        → IsIn r rs ⊎ IsGone r (after s (job_added (new_job s d at)))
+    by r l (inl i) = inl i
+    by r l (inr g) = inr (λ x h. one r l g x (put_at s.jobs d.key r.key (new_job s d at) x h))

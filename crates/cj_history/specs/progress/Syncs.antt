@@ -100,22 +100,33 @@ pub record IsStarted (s : Content) (k : Place) (cron : CronJob) (time : ℕ) : T
 abbrev pub IsTidied : List JobRef → Content → Type 0
 IsTidied rs s = (r : JobRef) → IsIn r rs → (job : Job) → map.get s.jobs r.key ≡ Some job → job.meta.uid ≢ r.uid
 
--- the plans for what the worker was answered make the Job for the latest time missed, where its name isn't taken, and what
--- they clean up is gone
+-- under Replace none of those that ran before stands any more
+abbrev pub IsReplaced : Policy → List JobRef → Content → Type 0
+IsReplaced Allow running s = Unit {0}
+IsReplaced Forbid running s = Unit {0}
+IsReplaced Replace running s = IsTidied running s
+
+-- the Job is started, what the plan cleans up is gone, and under Replace so is what the live read found unfinished
+-- rule: sync-makes-job
+pub record IsMade (p : Planned) (k : Place) (cron : CronJob) (time : ℕ) (s : Content) : Type 0 where
+  pub started : IsStarted s k cron time
+  pub cleaned : IsTidied p.steps.cleanup s
+  pub replaced : IsReplaced cron.spec.policy (running_of cron p.active) s
+
+-- the plans for what the worker was answered make the Job for the latest time missed, where its name isn't taken
 -- rule: sync-makes-job
 abbrev pub PlansMakeJob : ℕ → ℕ → Place → CronJob → List Told → Type 0
 PlansMakeJob window w k cron h = (p : Planned) (time : ℕ) → IsFor h w k p → IsOpen cron p time
     → map.get (state_of window h).store.jobs (made_place cron.key time) ≡ None
-    → Leads window w k (Some (made_place cron.key time)) h (works_off p)
-    (λ g. IsStarted (state_of window g).store k cron time × IsTidied p.steps.cleanup (state_of window g).store)
+    → Leads window w k (Some (made_place cron.key time)) h (works_off p) (λ g. IsMade p k cron time (state_of window g).store)
 
 -- the worker's making is refused, whatever others call aside
 abbrev pub IsRefused : ℕ → ℕ → Place → Option Place → List Told → Type 0
 IsRefused window w k q h = (es : List Told) → IsLegal window (es ++ h) → AreAside w k q es h
     → answer_of window (es ++ h) (worker w) Of.MakeNext ≡ Err AlreadyExists
 
--- the one way to lose the time: its Job's name is taken, and nothing is dropped first; then the claim is accepted, and the
--- making refused
+-- the time is lost where its Job's name is taken, and nothing is dropped first: the claim is accepted, and the making
+-- refused
 -- rule: sync-makes-job
 abbrev pub PlansFindTaken : ℕ → ℕ → Place → CronJob → List Told → Type 0
 PlansFindTaken window w k cron h = (p : Planned) (time : ℕ) (job : Job) → IsFor h w k p → IsOpen cron p time

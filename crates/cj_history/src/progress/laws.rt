@@ -12,7 +12,7 @@ pub fn no_key_is_lost_law()
 /// A worker that holds no key takes the first of the line, whose CronJob stands, and calls its sync, while others
 /// call what they like, but write neither that CronJob nor, from the claim on, the Job of the name that is to be
 /// made. Each of its calls is accepted, and in the end the Job for the latest time missed stands, unfinished, and
-/// the CronJob's status names it; what the plan cleans up is gone. Where the name of that Job is taken, the claim
+/// the CronJob's status names it; what the plan cleans up is gone, and under Replace what ran. Where the name of that Job is taken, the claim
 /// is accepted and the making refused. A plan that claims nothing makes no Job, and is worked off likewise.
 pub fn progress_law()
     ensures { MakesJob }
