@@ -9,5 +9,6 @@ pub mod Steps
 pub mod Started
 pub mod Taken
 pub mod Rest
+pub mod Closed
 pub mod Whole
 pub mod SyncSample

@@ -28,7 +28,7 @@ use Rattle.cj_history.specs.progress.Syncs.{IsLet}
 -- ---- the latest time missed
 
 -- A text is a schedule with one value of Sets at most.
-one_schedule : (text : List ℕ) (s t : Sets) → IsSchedule text s → IsSchedule text t → s ≡ t
+pub one_schedule : (text : List ℕ) (s t : Sets) → IsSchedule text s → IsSchedule text t → s ≡ t
 one_schedule text s t h k =
     let same = only_by text (Ok s) t (h.lists, lists_complete text h.lists h.short h.fields, h.sets) k in
     cc
@@ -47,7 +47,7 @@ one_latest s z lo hi t u h k =
     ]
 
 -- Where a time is due in a window, a time is missed in it.
-some_missed : (s : Sets) (z : Zone) (lo hi t : ℕ) → IsLatestDue s z lo hi t → 1 ≤ missed_count s z lo hi
+pub some_missed : (s : Sets) (z : Zone) (lo hi t : ℕ) → IsLatestDue s z lo hi t → 1 ≤ missed_count s z lo hi
 some_missed s z lo hi t h =
     let above = h.above in
     let within = h.within in

@@ -11,8 +11,14 @@ use Rattle.cj_types.specs.declared.job.Job.{Job}
 use Rattle.cj_types.specs.declared.policy.Policy.{Policy}
 use Rattle.cj_types.specs.declared.policy.Policy.TheVariants.{Allow, Forbid, Replace}
 use Rattle.cj_types.specs.declared.policy.Reason.{Reason}
+use Rattle.cj_types.specs.declared.policy.Reason.TheVariants.{UnknownTimeZone, JobAlreadyActive}
+use Rattle.cj_schedule.specs.Matches.{Sets}
+use Rattle.cj_schedule.specs.Grammar.{IsSchedule}
 use Rattle.cj_zone.specs.declared.zone.Zone.{Zone}
+use Rattle.cj_due.specs.Due.{missed_count}
+use Rattle.cj_due.specs.Window.{window_of}
 use Rattle.cj_status.specs.declared.refs.JobRef.{JobRef}
+use Rattle.cj_status.specs.Refs.{has_any}
 use Rattle.cj_status.specs.Mine.{is_running}
 use Rattle.cj_store.specs.Content.{Content}
 use Rattle.cj_queue.specs.Queue.{first}
@@ -140,11 +146,35 @@ abbrev pub PlansRest : ℕ → ℕ → Place → CronJob → List Told → Type 
 PlansRest window w k cron h = (p : Planned) → IsFor h w k p → p.steps.claim ≡ None
     → (p.steps.make ≡ None) × Leads window w k None h (works_off p) (λ g. IsTidied p.steps.cleanup (state_of window g).store)
 
+-- why a plan starts no Job: the CronJob is suspended; its zone isn't known; no time was missed; or one was, but the
+-- policy is Forbid and the live read found an unfinished Job
+-- rule: sync-makes-job
+pub data Closed (cron : CronJob) (p : Planned) : Type 0 where
+  suspended : cron.spec.suspend ≡ true → Closed cron p
+  zoneless : cron.spec.suspend ≡ false → p.zone ≡ None → Closed cron p
+  unmissed : (zone : Zone) (sets : Sets) → cron.spec.suspend ≡ false → p.zone ≡ Some zone → IsSchedule cron.spec.schedule sets
+      → missed_count sets zone (window_of cron p.at) p.at ≡ 0 → Closed cron p
+  forbidden : (zone : Zone) (time : ℕ) → cron.spec.suspend ≡ false → p.zone ≡ Some zone → IsClaimed cron p.at zone time
+      → cron.spec.policy ≡ Forbid → has_any (running_of cron p.active) ≡ true → Closed cron p
+
+-- the reason that is told of it
+abbrev pub Says : {cron : CronJob} {p : Planned} → Closed cron p → List Reason → Type 0
+Says (suspended a) reasons = Unit {0}
+Says (zoneless a b) reasons = IsIn UnknownTimeZone reasons
+Says (unmissed z s a b c d) reasons = Unit {0}
+Says (forbidden z t a b c d e) reasons = IsIn JobAlreadyActive reasons
+
+-- such a plan claims nothing, and says why
+-- rule: sync-makes-job
+abbrev pub PlansStay : ℕ → Place → CronJob → List Told → Type 0
+PlansStay w k cron h = (p : Planned) → IsFor h w k p → (y : Closed cron p) → (p.steps.claim ≡ None) × Says y p.steps.reasons
+
 -- what the worker's plans do after the readings
 pub record PlansWork (window w : ℕ) (k : Place) (cron : CronJob) (h : List Told) : Type 0 where
   pub made : PlansMakeJob window w k cron h
   pub taken : PlansFindTaken window w k cron h
   pub rest : PlansRest window w k cron h
+  pub stay : PlansStay w k cron h
 
 -- who takes the key is answered all calls of its sync, and the latest time missed gets its Job
 -- rule: sync-makes-job

@@ -11,9 +11,11 @@ pub fn no_key_is_lost_law()
 
 /// A worker that holds no key takes the first of the line, whose CronJob stands, and calls its sync, while others
 /// call what they like, but write neither that CronJob nor, from the claim on, the Job of the name that is to be
-/// made. Each of its calls is accepted, and in the end the Job for the latest time missed stands, unfinished, and
-/// the CronJob's status names it; what the plan cleans up is gone, and under Replace what ran. Where the name of that Job is taken, the claim
-/// is accepted and the making refused. A plan that claims nothing makes no Job, and is worked off likewise.
+/// made. Each of its calls is accepted. Where a time was missed, and neither the CronJob nor its policy keeps a Job
+/// from being started, the Job for the latest one stands in the end, unfinished, and the CronJob's status names it;
+/// what the plan cleans up is gone, and under Replace what ran. Where the name of that Job is taken, the claim is
+/// accepted and the making refused. Where the CronJob is suspended, its zone isn't known, nothing was missed, or
+/// Forbid keeps a Job from being started, nothing is claimed, no Job is made, and the plan is worked off likewise.
 pub fn progress_law()
     ensures { MakesJob }
 {}
