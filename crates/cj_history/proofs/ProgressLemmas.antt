@@ -3,6 +3,7 @@ pub mod Sample
 pub mod Missed
 pub mod Fair
 pub mod Calls
+pub mod Ages
 pub mod Aside
 pub mod Tidy
 pub mod Steps
@@ -10,5 +11,6 @@ pub mod Started
 pub mod Taken
 pub mod Rest
 pub mod Closed
+pub mod Spare
 pub mod Whole
 pub mod SyncSample

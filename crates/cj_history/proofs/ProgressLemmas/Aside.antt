@@ -1,6 +1,6 @@
 -- What others call aside leaves the worker's seat, its CronJob and the Job's name as they were; and a worker's calls by
 -- the state alone.
-use Rattle.std.proofs.Common.{◌≡◌, ◌≢◌, ℕ, ◌+◌, ◌≤◌, ◌==◌, Bool, true, false, cond, List, [], ◌∷◌, ◌++◌, Option, Some, None, refl, sym, ap, subst, ◌∙◌, arith}
+use Rattle.std.proofs.Common.{◌≡◌, ◌≢◌, ℕ, ◌≤◌, ◌==◌, Bool, true, false, cond, List, [], ◌∷◌, ◌++◌, Option, Some, None, refl, sym, ap, subst, ◌∙◌, arith}
 use Rattle.std.specs.Prelude.{IfSome, Result, Ok, Err, if◌then◌else◌}
 use Rattle.std.proofs.lemmas.Bool.Decides.{nat_tests}
 use Rattle.std.specs.FinMap as map
@@ -12,12 +12,10 @@ use Rattle.cj_types.specs.declared.event.Event.{Event}
 use Rattle.cj_types.specs.declared.event.Event.TheVariants.{Added, Modified, Deleted}
 use Rattle.cj_types.specs.declared.event.Object.TheVariants as Kind
 use Rattle.cj_store.specs.Content.{Content}
-use Rattle.cj_queue.specs.Parts.{key_eq}
 use Rattle.cj_decide.specs.laws.Laws.{IsIn}
 use Rattle.cj_calls.specs.declared.call.Call.{Call}
 use Rattle.cj_calls.specs.declared.reply.Reply.{Reply}
 use Rattle.cj_calls.specs.Rows.{Told}
-use Rattle.cj_state.specs.declared.phases.seat.Seat.{Seat}
 use Rattle.cj_state.specs.declared.state.State.{State}
 use Rattle.cj_state.specs.WorkerCalls.{Handled, seat_of}
 use Rattle.cj_state.specs.Readings.{listed_of}
@@ -31,6 +29,7 @@ use Rattle.cj_history.specs.store.Writes.{entry_written, with_write, writes}
 use Rattle.cj_history.specs.progress.Undisturbed.{worker, object_of, is_of, AreAside, entry, Leads}
 use Rattle.cj_history.proofs.StoreLemmas.Stores.{store_agrees}
 use Rattle.cj_history.proofs.StoreLemmas.Answered.{job_keyed}
+use Rattle.cj_history.proofs.ProgressLemmas.Ages.{IsSettled, settled_on, listed_settled}
 use Rattle.cj_history.proofs.ProgressLemmas.Fair.{entry_fair, are_fair, fair_uid, IsNever, never_with, listed_uid}
 
 -- ---- by the entries
@@ -139,6 +138,8 @@ pub record Same (w : ℕ) (k : Place) (q : Option Place) (s t : State) : Type 0 
   pub more : s.store.uids ≤ t.store.uids
   pub keys : AreKeyed t.store
   pub given : (j : Job) → IsIn j (listed_of t k) → j.meta.uid ≤ t.store.uids
+  pub settled : (j : Job) → IsIn j (listed_of t k) → IsSettled j t.store
+  pub ages : (j : Job) → j.meta.uid ≤ s.store.uids → IsSettled j s.store → IsSettled j t.store
   pub stored : (i : Place) (x : Job) → map.get t.store.jobs i ≡ Some x → x.meta.uid ≤ t.store.uids
   pub never : (i : Place) (u : ℕ) → u ≤ s.store.uids → ((x : Job) → map.get s.store.jobs i ≡ Some x → x.meta.uid ≢ u)
       → (x : Job) → map.get t.store.jobs i ≡ Some x → x.meta.uid ≢ u
@@ -173,6 +174,8 @@ same_aside window w k q es h l a =
       more = (let c = f.more in omega (arith, c, u, v));
       keys = keyed window (es ++ h) l;
       given = λ j i. listed_uid window (es ++ h) l k j i;
+      settled = λ j i. listed_settled window (es ++ h) l k j i;
+      ages = λ j b c. settled_on window es h l m j b c;
       stored = λ i x e. subst (λ z. x.meta.uid ≤ z) (sym v)
           (fair_uid (writes (es ++ h)) (are_fair (es ++ h)) i x (sym ((store_agrees window (es ++ h) l).jobs i) ∙ e));
       never = λ i n b c x e. never w k q es h a i n (subst (λ z. n ≤ z) u b)

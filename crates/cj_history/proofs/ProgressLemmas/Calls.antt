@@ -1,5 +1,5 @@
 -- What each call of a sync answers and leaves, where its worker has come so far.
-use Rattle.std.proofs.Common.{◌≡◌, ◌≢◌, ℕ, ◌+◌, ◌==◌, Bool, true, false, List, [], ◌∷◌, Option, Some, None, is_some, refl, sym, ap, subst, ◌∙◌, arith}
+use Rattle.std.proofs.Common.{◌≡◌, ◌≢◌, ℕ, ◌+◌, ◌==◌, Bool, true, false, List, Option, Some, None, is_some, refl, sym, ap, ◌∙◌, arith}
 use Rattle.std.specs.Prelude.{Result, Ok, Err, if◌then◌else◌}
 use Rattle.std.proofs.lemmas.Bool.Decides.{nat_tests}
 use Rattle.std.specs.FinMap as map
@@ -16,14 +16,13 @@ use Rattle.cj_types.specs.Events.{version_of}
 use Rattle.cj_store.specs.Content.{Content}
 use Rattle.cj_store.specs.Change.{after, map_ok, cron_modified, job_added, job_gone}
 use Rattle.cj_store.specs.Crons.{with_status, status_set, status_set_from}
-use Rattle.cj_store.specs.Jobs.{job_made, new_job, job_deleted, job_deleted_from, last_job}
+use Rattle.cj_store.specs.Jobs.{new_job, job_deleted, job_deleted_from, last_job}
 use Rattle.cj_queue.specs.Queue.{first, taken, finished_ok}
 use Rattle.cj_status.specs.declared.refs.JobRef.{JobRef}
 use Rattle.cj_decide.specs.Decision.{Planned}
 use Rattle.cj_decide.specs.declared.start.Claim.{Claim}
 use Rattle.cj_calls.specs.declared.call.Call.TheVariants as Of
 use Rattle.cj_calls.specs.declared.end.End.TheVariants.{Well}
-use Rattle.cj_calls.specs.declared.reply.Reply.{Reply}
 use Rattle.cj_calls.specs.declared.reply.Reply.TheVariants as Say
 use Rattle.cj_state.specs.phases.Inputs.{rests_on}
 use Rattle.cj_state.specs.phases.Steps.{Step, drops, makes, sets, step_at, as_drop, as_make, as_status, is_over}

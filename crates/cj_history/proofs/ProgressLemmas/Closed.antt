@@ -1,10 +1,9 @@
 -- A plan claims nothing where its CronJob is suspended, its zone isn't known, no time was missed, or Forbid forbids it.
-use Rattle.std.proofs.Common.{◌≡◌, inl, inr, ℕ, ◌<◌, Bool, true, false, List, [], ◌∷◌, ◌++◌, Option, Some, None, option_map, refl, sym, ap, subst, ◌∙◌, arith}
+use Rattle.std.proofs.Common.{◌≡◌, inl, inr, ℕ, ◌<◌, Bool, true, false, List, ◌++◌, Option, Some, None, option_map, refl, sym, ap, subst, ◌∙◌, arith}
 use Rattle.cj_types.specs.Keys.{Place}
 use Rattle.cj_types.specs.declared.cron.CronJob.{CronJob}
-use Rattle.cj_types.specs.declared.job.Job.{Job}
 use Rattle.cj_types.specs.declared.policy.Policy.{Policy}
-use Rattle.cj_types.specs.declared.policy.Policy.TheVariants.{Allow, Forbid, Replace}
+use Rattle.cj_types.specs.declared.policy.Policy.TheVariants.{Forbid}
 use Rattle.cj_types.specs.declared.policy.Reason.{Reason}
 use Rattle.cj_types.specs.declared.policy.Reason.TheVariants.{UnknownTimeZone, JobAlreadyActive}
 use Rattle.cj_schedule.specs.Matches.{Sets}
@@ -20,14 +19,14 @@ use Rattle.cj_decide.specs.declared.start_decision.StartDecision.{StartDecision}
 use Rattle.cj_decide.specs.declared.steps.Steps.{Steps}
 use Rattle.cj_decide.specs.StartDecisions.{by_missed, IsByText, IsByZone, IsUnlessSuspended}
 use Rattle.cj_decide.specs.Start.{claim_of}
-use Rattle.cj_decide.specs.Decision.{Planned, many_of, reason_of, reasons_of, running_of, IsDecision}
+use Rattle.cj_decide.specs.Decision.{Planned, many_of, reason_of, running_of, IsDecision}
 use Rattle.cj_decide.specs.laws.Laws.{IsIn, IsClaimed}
 use Rattle.cj_calls.specs.Rows.{Told}
 use Rattle.cj_state.specs.declared.phases.seat.Phase.TheVariants.{Checked}
 use Rattle.cj_state.specs.WorkerCalls.{seat_of}
 use Rattle.cj_state.specs.Legal.{IsLegal, state_of}
 use Rattle.cj_world_laws.proofs.LegalLemmas.Seated.{seats_agree}
-use Rattle.cj_history.specs.progress.Syncs.{IsFor, Closed, suspended, zoneless, unmissed, forbidden, Says, PlansStay}
+use Rattle.cj_history.specs.progress.Syncs.{Closed, suspended, zoneless, unmissed, forbidden, Says, PlansStay}
 use Rattle.cj_history.proofs.ProgressLemmas.Missed.{one_schedule, some_missed}
 use Rattle.cj_history.proofs.ProgressLemmas.Calls.{sat}
 use Rattle.cj_history.proofs.ProgressLemmas.Started.{IsRead, plan_of, seen_in}

@@ -1,5 +1,5 @@
 -- The Jobs that writes left: each has a uid that was given out.
-use Rattle.std.proofs.Common.{◌≡◌, ◌≢◌, ℕ, zero, suc, ◌+◌, ◌-◌, ◌≤◌, ◌⊎◌, inl, inr, Bool, true, false, cond, List, [], ◌∷◌, drop, Option, Some, None, refl, sym, ap, subst, ◌∙◌, arith}
+use Rattle.std.proofs.Common.{◌≡◌, ◌≢◌, ℕ, zero, suc, ◌+◌, ◌-◌, ◌≤◌, inl, inr, Bool, true, false, cond, List, [], ◌∷◌, drop, Option, Some, None, refl, sym, ap, subst, ◌∙◌, arith}
 use Rattle.std.specs.Prelude.{IfSome, option_map, Result, Ok, Err}
 use Rattle.std.specs.List.{AllByRecursion}
 use Rattle.std.specs.FinMap as map
@@ -133,7 +133,7 @@ fair_rest (suc n) [] a = tt
 fair_rest (suc n) (w ∷ ws) a = fair_rest n ws a.1
 
 -- The earlier ones of some writes made no more objects than all.
-made_rest : (n : ℕ) (ws : List Event) → made (drop n ws) ≤ made ws
+pub made_rest : (n : ℕ) (ws : List Event) → made (drop n ws) ≤ made ws
 made_rest zero [] = omega arith
 made_rest zero (w ∷ ws) = omega arith
 made_rest (suc n) [] = omega arith

@@ -1,5 +1,5 @@
 -- What was added and not taken since is kept by the queue, and what waits is added at its time.
-use Rattle.std.proofs.Common.{◌≡◌, ◌⊎◌, inl, inr, ℕ, ◌+◌, ◌*◌, ◌<◌, ◌≤◌, min, max, nat_le, Bool, true, false, cond, not, ◌&&◌, ◌||◌, List, [], ◌∷◌, ◌++◌, Option, Some, None, is_some, refl, sym, ap, subst, ◌∙◌, arith}
+use Rattle.std.proofs.Common.{◌≡◌, ◌⊎◌, inl, inr, ℕ, ◌*◌, ◌<◌, ◌≤◌, max, nat_le, Bool, true, false, cond, not, ◌&&◌, ◌||◌, List, [], ◌∷◌, ◌++◌, Option, Some, None, is_some, refl, sym, ap, subst, ◌∙◌, arith}
 use Rattle.std.specs.Prelude.{Result, Ok, Err}
 use Rattle.std.proofs.lemmas.Bool.Decides.{nat_tests}
 use Rattle.cj_base.specs.declared.refusal.Refusal.{Refusal}
@@ -22,10 +22,9 @@ use Rattle.cj_world_laws.specs.legal.Seats.{seat}
 use Rattle.cj_history.specs.queue.Deeds.{Deed, adds, ticks, takes, ends, fails, shuts, nothing, accepted, deed, finish, next_of, Operation, operations}
 use Rattle.cj_history.specs.queue.LookBacks.{is_take, is_finish, is_by, is_shut, is_within, is_add, adds_in, later, later_in, waits_in, waits_more, marks, holder, held, dirty, shut, mark, failures, ready_at}
 use Rattle.cj_history.specs.queue.Laws.{IsQueue}
-use Rattle.cj_history.specs.progress.Kept.{operation, IsAdd, IsTick, IsEnd, Adds, by_name, by_moment, at_once, NoneTakes, IsWanted, IsDone, IsLined, IsKept, Waits, KeepsKeys, NoKeyIsLost}
+use Rattle.cj_history.specs.progress.Kept.{operation, IsAdd, IsTick, IsEnd, Adds, by_name, by_moment, at_once, NoneTakes, IsWanted, IsDone, IsLined, IsKept, Waits, NoKeyIsLost}
 use Rattle.cj_history.proofs.QueueLemmas.Turns.{key_of}
 use Rattle.cj_history.proofs.QueueLemmas.Holders.{holds, holder_after}
-use Rattle.cj_history.proofs.QueueLemmas.Whole.{Stands}
 use Rattle.cj_history.proofs.QueueLemmas.Agreed.{stands, queue_agrees}
 
 -- ---- tests

@@ -1,5 +1,5 @@
 -- A plan claims the latest time missed, where its CronJob isn't suspended, its zone is known and its policy lets it.
-use Rattle.std.proofs.Common.{◌≡◌, inl, inr, ℕ, ◌+◌, ◌-◌, ◌<◌, ◌≤◌, Bool, true, false, List, [], ◌∷◌, ◌++◌, length, length-append, Option, Some, None, option_map, Ok, refl, sym, ap, subst, ◌∙◌, arith}
+use Rattle.std.proofs.Common.{◌≡◌, inl, inr, ℕ, ◌-◌, ◌≤◌, Bool, true, false, List, [], ◌∷◌, ◌++◌, length, length-append, Option, Some, option_map, Ok, refl, ap, subst, ◌∙◌, arith}
 use Rattle.std.proofs.lemmas.Bool.{cases_order}
 use Rattle.cj_types.specs.declared.cron.CronJob.{CronJob}
 use Rattle.cj_types.specs.declared.job.Job.{Job}
@@ -21,7 +21,7 @@ use Rattle.cj_decide.specs.declared.start_decision.StartDecision.{StartDecision}
 use Rattle.cj_decide.specs.declared.steps.Steps.{Steps}
 use Rattle.cj_decide.specs.StartDecisions.{by_policy, by_missed, IsByText, IsByZone, IsUnlessSuspended}
 use Rattle.cj_decide.specs.Start.{claim_of}
-use Rattle.cj_decide.specs.Decision.{running_of, claim_by, IsDecision}
+use Rattle.cj_decide.specs.Decision.{running_of, IsDecision}
 use Rattle.cj_decide.specs.laws.Laws.{IsClaimed}
 use Rattle.cj_history.specs.progress.Syncs.{IsLet}
 

@@ -1,5 +1,5 @@
 -- A sync whose plan claims nothing is accepted call by call, and cleans up.
-use Rattle.std.proofs.Common.{◌≡◌, ◌≢◌, ◌⊎◌, inl, inr, ℕ, ◌≤◌, List, [], ◌∷◌, ◌++◌, map as map_list, Option, Some, None, refl, sym, ap, subst, ◌∙◌, arith}
+use Rattle.std.proofs.Common.{◌≡◌, inl, ℕ, ◌≤◌, List, [], ◌++◌, map as map_list, Option, Some, None, refl, sym, ap, subst, ◌∙◌, arith}
 use Rattle.std.specs.FinMap as map
 use Rattle.cj_types.specs.Keys.{Place}
 use Rattle.cj_types.specs.declared.cron.CronJob.{CronJob}
@@ -7,9 +7,6 @@ use Rattle.cj_types.specs.declared.cron.CronStatus.{CronStatus}
 use Rattle.cj_types.specs.declared.job.Job.{Job}
 use Rattle.cj_types.specs.declared.job.JobDraft.{JobDraft}
 use Rattle.cj_store.specs.Content.{Content}
-use Rattle.cj_store.specs.Change.{after, cron_modified, job_gone}
-use Rattle.cj_store.specs.Crons.{with_status}
-use Rattle.cj_store.specs.Jobs.{last_job}
 use Rattle.cj_status.specs.declared.refs.JobRef.{JobRef}
 use Rattle.cj_decide.specs.Decision.{Planned}
 use Rattle.cj_decide.specs.laws.Laws.{IsIn}
@@ -17,7 +14,7 @@ use Rattle.cj_decide.proofs.LawsLemmas.Claims.{no_claim}
 use Rattle.cj_decide.proofs.LawsLemmas.Ends.{cleans_finished}
 use Rattle.cj_calls.specs.declared.call.Call.TheVariants as Of
 use Rattle.cj_calls.specs.Rows.{Told}
-use Rattle.cj_state.specs.phases.Steps.{Step, drops, sets, makings, settings, all_steps}
+use Rattle.cj_state.specs.phases.Steps.{Step, drops, makings, settings, all_steps}
 use Rattle.cj_state.specs.declared.phases.seat.Phase.TheVariants.{Checked}
 use Rattle.cj_state.specs.declared.state.State.{State}
 use Rattle.cj_state.specs.WorkerCalls.{seat_of, seated, works, seen_version}
@@ -25,9 +22,9 @@ use Rattle.cj_state.specs.Legal.{IsLegal, state_of}
 use Rattle.cj_world_laws.proofs.LegalLemmas.Inputs.{rests_exactly}
 use Rattle.cj_world_laws.proofs.LegalLemmas.Seated.{seats_agree}
 use Rattle.cj_world_laws.proofs.OnceLemmas.Maps.{seat_here}
-use Rattle.cj_history.specs.progress.Syncs.{calls_left, works_off, IsFor, IsTidied, PlansRest}
+use Rattle.cj_history.specs.progress.Syncs.{calls_left, works_off, IsTidied, PlansRest}
 use Rattle.cj_history.proofs.ProgressLemmas.Calls.{sat, claim_none_is, Dropped, absent, found}
-use Rattle.cj_history.proofs.ProgressLemmas.Aside.{AreKeyed, Same, Goes, goes, goes_leads}
+use Rattle.cj_history.proofs.ProgressLemmas.Aside.{AreKeyed, Goes, goes, goes_leads}
 use Rattle.cj_history.proofs.ProgressLemmas.Steps.{Going, drops_go, status_goes, finish_goes}
 use Rattle.cj_history.proofs.ProgressLemmas.Tidy.{IsTidy, tidy_still, tidy_kept, tidied, still_gone}
 use Rattle.cj_history.proofs.ProgressLemmas.Started.{IsRead, plan_of, seen_in, listed_in}

@@ -1,5 +1,5 @@
 -- Histories of a few calls, which are legal, and in which a key was added and not taken since.
-use Rattle.std.proofs.Common.{◌≡◌, true, false, [], ◌∷◌, Some, None, refl, sym, arith}
+use Rattle.std.proofs.Common.{[], refl, sym, arith}
 use Rattle.std.specs.Prelude.{Ok}
 use Rattle.cj_calls.specs.declared.caller.Role.TheVariants.{Informer, Worker}
 use Rattle.cj_calls.specs.declared.call.Call.TheVariants as Of
@@ -8,7 +8,7 @@ use Rattle.cj_calls.specs.declared.reply.Reply.TheVariants as Say
 use Rattle.cj_state.specs.Step.{step_of}
 use Rattle.cj_state.specs.Legal.{IsLegal, state_of}
 use Rattle.cj_history.specs.progress.Kept.{by_name, by_moment, IsWanted, IsKept}
-use Rattle.cj_history.proofs.QueueLemmas.Sample.{a, told, taken, added_again, failed, early, due, legal_take}
+use Rattle.cj_history.proofs.QueueLemmas.Sample.{a, told, taken, added_again, early, due, legal_take}
 use Rattle.cj_history.proofs.QueueLemmas.Answered.{answers_agree}
 use Rattle.cj_history.proofs.ProgressLemmas.Kept.{none_lost}
 

@@ -1,7 +1,6 @@
 -- A sync whose plan claims a time makes its Job, where the name is free, whatever others call aside.
 use Rattle.std.proofs.Common.{◌≡◌, ◌≢◌, ◌⊎◌, inl, inr, ℕ, ◌+◌, ◌<◌, ◌≤◌, Bool, true, false, cond, ◌&&◌, List, [], ◌∷◌, ◌++◌, map as map_list, Option, Some, None, refl, sym, ap, subst, ◌∙◌, arith}
-use Rattle.std.specs.Prelude.{Result, Ok, if◌then◌else◌}
-use Rattle.std.specs.Str.{bytes_eq}
+use Rattle.std.specs.Prelude.{if◌then◌else◌}
 use Rattle.std.proofs.lemmas.Slice.Eq.{bytes_eq-Decides}
 use Rattle.std.specs.List.{AllByRecursion}
 use Rattle.std.specs.FinMap as map
@@ -12,11 +11,10 @@ use Rattle.cj_types.specs.declared.cron.CronJob.{CronJob}
 use Rattle.cj_types.specs.declared.cron.CronStatus.{CronStatus}
 use Rattle.cj_types.specs.declared.job.Job.{Job}
 use Rattle.cj_types.specs.declared.job.JobDraft.{JobDraft}
-use Rattle.cj_types.specs.declared.policy.Reason.{Reason}
 use Rattle.cj_store.specs.Content.{Content}
-use Rattle.cj_store.specs.Change.{after, cron_modified, job_added, job_gone}
+use Rattle.cj_store.specs.Change.{after, cron_modified, job_added}
 use Rattle.cj_store.specs.Crons.{with_status}
-use Rattle.cj_store.specs.Jobs.{new_job, last_job}
+use Rattle.cj_store.specs.Jobs.{new_job}
 use Rattle.cj_queue.specs.Parts.{key_eq}
 use Rattle.cj_queue.proofs.Sets.{get_off}
 use Rattle.cj_types.specs.declared.policy.Policy.{Policy}
@@ -29,7 +27,6 @@ use Rattle.cj_status.specs.Refs.{precedes}
 use Rattle.cj_decide.proofs.LawsLemmas.Members.{in_left, in_parts, in_ordered, in_gathered}
 use Rattle.cj_status.specs.Mine.{has_uid, is_mine, is_running, present}
 use Rattle.cj_decide.specs.declared.start.Claim.{Claim}
-use Rattle.cj_decide.specs.declared.start_decision.StartDecision.{StartDecision}
 use Rattle.cj_decide.specs.declared.steps.Steps.{Steps}
 use Rattle.cj_decide.specs.Start.{claim_of, draft_of}
 use Rattle.cj_decide.specs.Finally.{standing, final, IsStatusStep}
@@ -39,10 +36,8 @@ use Rattle.cj_decide.specs.laws.Fits.{IsAt, FitsFor, FitsWith, Starts}
 use Rattle.cj_decide.proofs.LawsLemmas.Claims.{claims_latest}
 use Rattle.cj_decide.proofs.LawsLemmas.Ends.{cleans_finished}
 use Rattle.cj_decide.proofs.LawsLemmas.Fitting.{decided_fits}
-use Rattle.cj_calls.specs.declared.call.Call.{Call}
 use Rattle.cj_calls.specs.declared.call.Call.TheVariants as Of
 use Rattle.cj_calls.specs.Rows.{Told}
-use Rattle.cj_state.specs.phases.Inputs.{rests_on}
 use Rattle.cj_state.specs.phases.Steps.{Step, drops, makes, sets, makings, settings, all_steps}
 use Rattle.cj_state.specs.declared.phases.seat.Seat.{Seat}
 use Rattle.cj_state.specs.declared.phases.seat.Phase.{Phase}
@@ -55,10 +50,11 @@ use Rattle.cj_world_laws.proofs.LegalLemmas.Inputs.{rests_exactly}
 use Rattle.cj_world_laws.proofs.LegalLemmas.Seated.{seats_agree}
 use Rattle.cj_world_laws.proofs.OnceLemmas.Maps.{put_at, put_here, removal_at, removal_other, seat_here}
 use Rattle.cj_history.specs.store.Writes.{writes}
-use Rattle.cj_history.specs.progress.Syncs.{calls_left, readings, works_off, IsFor, IsOpen, IsStarted, IsTidied, IsReplaced, IsMade, PlansMakeJob}
+use Rattle.cj_history.specs.progress.Syncs.{calls_left, readings, works_off, IsStarted, IsTidied, IsReplaced, IsMade, PlansMakeJob}
 use Rattle.cj_history.proofs.StoreLemmas.Stores.{store_agrees}
 use Rattle.cj_history.proofs.StoreLemmas.Answered.{cron_keyed}
 use Rattle.cj_history.proofs.ProgressLemmas.Missed.{claims_due}
+use Rattle.cj_history.proofs.ProgressLemmas.Ages.{IsSettled}
 use Rattle.cj_history.proofs.ProgressLemmas.Fair.{all_of_one}
 use Rattle.cj_history.proofs.ProgressLemmas.Calls.{sat, see_cron_is, see_jobs_is, see_active_is, claim_is, Dropped, absent, found}
 use Rattle.cj_history.proofs.ProgressLemmas.Aside.{AreKeyed, Same, Goes, goes, goes_leads}
@@ -251,14 +247,16 @@ pub record IsRead (w : ℕ) (k : Place) (cron : CronJob) (s : State) : Type 0 wh
   pub stands : map.get s.store.crons k ≡ Some cron
   pub old : (j : Job) → IsIn j jobs → j.meta.uid ≤ s.store.uids
   pub low : (j : Job) → IsIn j (present live) → j.meta.uid ≤ s.store.uids
+  pub settled : (j : Job) → IsIn j jobs → IsSettled j s.store
 
 -- w is the worker, k its key, and cron the CronJob there.
 module _ (w : ℕ) (k : Place) (cron : CronJob) where
   -- A SeeActive after the listing ends the readings.
   active_goes : (s : State) (js : List Job) → seat_of s w ≡ Some (sat k (Listed (Some cron) js))
       → map.get s.store.crons k ≡ Some cron → ((j : Job) → IsIn j js → j.meta.uid ≤ s.store.uids)
+      → ((j : Job) → IsIn j js → IsSettled j s.store)
       → Goes w k None s (Of.SeeActive ∷ []) (IsRead w k cron)
-  active_goes s js seat at old = goes w k None s Of.SeeActive [] (IsRead w k cron) (λ t same. record {
+  active_goes s js seat at old ends = goes w k None s Of.SeeActive [] (IsRead w k cron) (λ t same. record {
     handled = _;
     is = see_active_is t w k (Some cron) js (same.seat ∙ seat);
     accepted = refl;
@@ -267,6 +265,7 @@ module _ (w : ℕ) (k : Place) (cron : CronJob) where
       live = active_of t.store (Some cron);
       seat = seat_here t.seats w (sat k (Checked (Some cron) js (active_of t.store (Some cron))));
       stands = same.cron ∙ at;
+      settled = λ j i. same.ages j (old j i) (ends j i);
       old = λ j i. (let a = old j i in let b = same.more in omega (arith, a, b));
       low = λ j i. found_low t.store (uid_text cron.meta.uid) cron.key.namespace cron.status.active same.stored j i;
     };
@@ -280,7 +279,7 @@ module _ (w : ℕ) (k : Place) (cron : CronJob) where
     is = see_jobs_is t w k (Some cron) (same.seat ∙ seat);
     accepted = refl;
     goes = active_goes (seated t w k (Listed (Some cron) (listed_of t k))) (listed_of t k)
-        (seat_here t.seats w (sat k (Listed (Some cron) (listed_of t k)))) (same.cron ∙ at) same.given;
+        (seat_here t.seats w (sat k (Listed (Some cron) (listed_of t k)))) (same.cron ∙ at) same.given same.settled;
   })
 
   -- After its Take a worker's readings are answered.

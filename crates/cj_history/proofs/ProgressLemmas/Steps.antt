@@ -24,7 +24,7 @@ use Rattle.cj_state.specs.WorkerCalls.{Handled, seat_of, written, works, next_se
 use Rattle.cj_world_laws.proofs.OnceLemmas.Maps.{seat_here}
 use Rattle.cj_history.specs.progress.Syncs.{calls_left}
 use Rattle.cj_history.proofs.ProgressLemmas.Calls.{sat, drop_is, make_is, status_is, finish_is, Dropped, drop_made}
-use Rattle.cj_history.proofs.ProgressLemmas.Aside.{AreKeyed, Same, Goes, Next, goes}
+use Rattle.cj_history.proofs.ProgressLemmas.Aside.{Same, Goes, goes}
 
 abbrev pub work_at : Planned → ℕ → List Step → Work
 work_at p v done = record { plan = p; version = v; place = length done }

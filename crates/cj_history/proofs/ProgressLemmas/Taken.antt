@@ -1,17 +1,15 @@
 -- Where the name of the Job is taken, the claim is accepted and the making is refused.
-use Rattle.std.proofs.Common.{◌≡◌, ℕ, ◌+◌, List, [], ◌∷◌, ◌++◌, map as map_list, Option, Some, None, is_some, refl, sym, ap, subst, ◌∙◌}
-use Rattle.std.specs.Prelude.{Result, Ok, Err, if◌then◌else◌}
+use Rattle.std.proofs.Common.{◌≡◌, ℕ, ◌+◌, List, [], ◌∷◌, ◌++◌, map as map_list, Option, Some, is_some, refl, sym, ap, ◌∙◌}
+use Rattle.std.specs.Prelude.{Ok, Err, if◌then◌else◌}
 use Rattle.std.specs.List.{slice_get}
 use Rattle.std.specs.FinMap as map
-use Rattle.cj_base.specs.declared.refusal.Refusal.{Refusal}
 use Rattle.cj_base.specs.declared.refusal.Refusal.TheVariants.{AlreadyExists}
 use Rattle.cj_types.specs.Keys.{Place}
 use Rattle.cj_types.specs.Made.{made_place}
 use Rattle.cj_types.specs.declared.cron.CronJob.{CronJob}
 use Rattle.cj_types.specs.declared.job.Job.{Job}
 use Rattle.cj_types.specs.declared.job.JobDraft.{JobDraft}
-use Rattle.cj_store.specs.Change.{map_ok, cron_modified, job_added}
-use Rattle.cj_store.specs.Crons.{with_status}
+use Rattle.cj_store.specs.Change.{map_ok, job_added}
 use Rattle.cj_store.specs.Jobs.{new_job}
 use Rattle.cj_status.specs.declared.refs.JobRef.{JobRef}
 use Rattle.cj_decide.specs.Decision.{Planned}
@@ -19,23 +17,22 @@ use Rattle.cj_decide.specs.Start.{claim_of, draft_of}
 use Rattle.cj_decide.specs.declared.start.Claim.{Claim}
 use Rattle.cj_calls.specs.declared.call.Call.TheVariants as Of
 use Rattle.cj_calls.specs.Rows.{Told}
-use Rattle.cj_state.specs.phases.Inputs.{rests_on}
-use Rattle.cj_state.specs.phases.Steps.{Step, drops, makes, makings, settings, all_steps, step_at, as_make}
+use Rattle.cj_state.specs.phases.Steps.{Step, drops, makes, makings, settings, step_at, as_make}
 use Rattle.cj_state.specs.declared.phases.seat.Seat.{Seat}
 use Rattle.cj_state.specs.declared.phases.seat.Work.{Work}
 use Rattle.cj_state.specs.declared.phases.seat.Phase.TheVariants.{Checked, Works}
 use Rattle.cj_state.specs.declared.state.State.{State}
-use Rattle.cj_state.specs.WorkerCalls.{Handled, refused, seat_of, seated, written, works, by_seat, next_seat, steps_on, event_reply, make_where, make_in, make_next}
+use Rattle.cj_state.specs.WorkerCalls.{Handled, refused, seat_of, works, by_seat, next_seat, steps_on, event_reply, make_where, make_in, make_next}
 use Rattle.cj_state.specs.Step.{step_of}
 use Rattle.cj_state.specs.Legal.{IsLegal, state_of}
 use Rattle.cj_world_laws.proofs.LegalLemmas.Inputs.{rests_exactly}
 use Rattle.cj_world_laws.proofs.LegalLemmas.Seated.{seats_agree}
 use Rattle.cj_world_laws.proofs.OnceLemmas.Maps.{seat_here}
 use Rattle.cj_history.specs.progress.Undisturbed.{worker}
-use Rattle.cj_history.specs.progress.Syncs.{IsFor, IsOpen, IsRefused, PlansFindTaken}
+use Rattle.cj_history.specs.progress.Syncs.{IsRefused, PlansFindTaken}
 use Rattle.cj_history.proofs.ProgressLemmas.Missed.{claims_due}
 use Rattle.cj_history.proofs.ProgressLemmas.Calls.{sat, claim_is}
-use Rattle.cj_history.proofs.ProgressLemmas.Aside.{Same, Goes, goes, goes_leads, same_aside}
+use Rattle.cj_history.proofs.ProgressLemmas.Aside.{goes, goes_leads, same_aside}
 use Rattle.cj_history.proofs.ProgressLemmas.Started.{IsRead, Starting, plan_of, starting, seen_in}
 
 -- A MakeNext of a Job whose name is taken is refused.

@@ -1,10 +1,7 @@
 -- A worker's Take and its readings are answered, and its plans do what they should.
-use Rattle.std.proofs.Common.{◌≡◌, ℕ, true, List, [], ◌∷◌, Some, None, refl, sym, ap, subst, ◌∙◌}
-use Rattle.cj_types.specs.Keys.{Place}
-use Rattle.cj_types.specs.declared.cron.CronJob.{CronJob}
+use Rattle.std.proofs.Common.{◌≡◌, true, ◌∷◌, None, refl, sym, ap, subst, ◌∙◌}
 use Rattle.cj_queue.specs.Queue.{taken}
 use Rattle.cj_calls.specs.declared.call.Call.TheVariants as Of
-use Rattle.cj_calls.specs.Rows.{Told}
 use Rattle.cj_state.specs.declared.phases.seat.Phase.TheVariants.{Held}
 use Rattle.cj_state.specs.declared.state.State.{State}
 use Rattle.cj_state.specs.WorkerCalls.{Handled, seat_of, seated}
@@ -21,6 +18,7 @@ use Rattle.cj_history.proofs.ProgressLemmas.Started.{IsRead, readings_go, plans_
 use Rattle.cj_history.proofs.ProgressLemmas.Taken.{plans_find_taken}
 use Rattle.cj_history.proofs.ProgressLemmas.Rest.{plans_rest}
 use Rattle.cj_history.proofs.ProgressLemmas.Closed.{plans_stay}
+use Rattle.cj_history.proofs.ProgressLemmas.Spare.{plans_spare}
 
 -- For progress_law: the latest time missed gets its Job, where the Job's name isn't taken.
 pub makes_job : MakesJob
@@ -32,7 +30,7 @@ makes_job window h w k cron l r =
       ok,
       goes_leads window w k None (entry window h w Of.Take ∷ h) readings (PlansWork window w k cron) (IsRead w k cron)
           (refl, ok_entered (step_of s (worker w) Of.Take).answer ok, l)
-          (λ g m x. record { made = plans_make_job window w k cron g m x; taken = plans_find_taken window w k cron g m x; rest = plans_rest window w k cron g m x; stay = plans_stay window w k cron g m x })
+          (λ g m x. record { made = plans_make_job window w k cron g m x; taken = plans_find_taken window w k cron g m x; rest = plans_rest window w k cron g m x; stay = plans_stay window w k cron g m x; spare = plans_spare window w k cron g m x })
           (subst (λ (x : Handled). Goes w k None x.state readings (IsRead w k cron)) (sym e)
           (readings_go w k cron (seated (record s { queue = taken s.queue }) w k Held) (seat_here s.seats w (sat k Held)) r.stands)),
     )

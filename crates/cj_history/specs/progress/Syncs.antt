@@ -169,12 +169,20 @@ Says (forbidden z t a b c d e) reasons = IsIn JobAlreadyActive reasons
 abbrev pub PlansStay : ℕ → Place → CronJob → List Told → Type 0
 PlansStay w k cron h = (p : Planned) → IsFor h w k p → (y : Closed cron p) → (p.steps.claim ≡ None) × Says y p.steps.reasons
 
+-- whatever is called later, by whomever: what a plan cleans up is no unfinished Job of the CronJob
+-- rule: sync-makes-job
+abbrev pub PlansSpare : ℕ → ℕ → Place → CronJob → List Told → Type 0
+PlansSpare window w k cron h = (p : Planned) → IsFor h w k p → (es : List Told) → IsLegal window (es ++ h)
+    → (r : JobRef) → IsIn r p.steps.cleanup → (job : Job) → map.get (state_of window (es ++ h)).store.jobs r.key ≡ Some job
+    → job.meta.uid ≡ r.uid → is_running (uid_text cron.meta.uid) job ≡ false
+
 -- what the worker's plans do after the readings
 pub record PlansWork (window w : ℕ) (k : Place) (cron : CronJob) (h : List Told) : Type 0 where
   pub made : PlansMakeJob window w k cron h
   pub taken : PlansFindTaken window w k cron h
   pub rest : PlansRest window w k cron h
   pub stay : PlansStay w k cron h
+  pub spare : PlansSpare window w k cron h
 
 -- who takes the key is answered all calls of its sync, and the latest time missed gets its Job
 -- rule: sync-makes-job

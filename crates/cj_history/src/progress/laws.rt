@@ -16,6 +16,7 @@ pub fn no_key_is_lost_law()
 /// what the plan cleans up is gone, and under Replace what ran. Where the name of that Job is taken, the claim is
 /// accepted and the making refused. Where the CronJob is suspended, its zone isn't known, nothing was missed, or
 /// Forbid keeps a Job from being started, nothing is claimed, no Job is made, and the plan is worked off likewise.
+/// What a plan cleans up is never an unfinished Job of the CronJob, whatever others call.
 pub fn progress_law()
     ensures { MakesJob }
 {}

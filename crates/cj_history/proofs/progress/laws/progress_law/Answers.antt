@@ -1,6 +1,6 @@
 -- progress_law: its clause MakesJob, that an undisturbed sync makes the Job of the latest time missed; and the samples.
 use Rattle.cj_history.proofs.ProgressLemmas.Whole.{makes_job}
-use Rattle.cj_history.proofs.ProgressLemmas.SyncSample.{legal_ready, is_ready, takes, tick_aside}
+use Rattle.cj_history.proofs.ProgressLemmas.SyncSample.{is_ready, takes, tick_aside}
 use Rattle.cj_history.proofs.progress.laws.progress_law.Goals as goal
 
 pub returns : goal.returns
