@@ -1,6 +1,16 @@
 -- A history after which a worker may begin a sync: a CronJob is created and its key added; and a call aside.
-use Rattle.std.proofs.Common.{◌≡◌, List, [], ◌∷◌, None, refl, ap, ◌∙◌, arith}
-use Rattle.std.specs.Prelude.{Ok, true}
+use Rattle.std.proofs.Common.{◌≡◌, ℕ, Bool, true, false, List, [], ◌∷◌, Some, None, refl, sym, ap, subst, ◌∙◌, arith}
+use Rattle.std.specs.Prelude.{Ok}
+use Rattle.cj_types.specs.Keys.{Place}
+use Rattle.cj_types.specs.declared.cron.CronJob.{CronJob}
+use Rattle.cj_types.specs.declared.policy.Reason.TheVariants.{UnknownTimeZone}
+use Rattle.cj_decide.specs.declared.start_decision.StartDecision.{StartDecision}
+use Rattle.cj_decide.specs.StartDecisions.{rests, IsUnlessSuspended, IsStartDecision}
+use Rattle.cj_decide.specs.Decision.{Planned}
+use Rattle.cj_decide.proofs.Decided.{some_plan}
+use Rattle.cj_world_laws.proofs.LegalLemmas.Seated.{seats_agree}
+use Rattle.cj_history.proofs.ProgressLemmas.Aside.{ok_entered}
+use Rattle.cj_history.proofs.ProgressLemmas.Started.{IsRead}
 use Rattle.cj_types.specs.declared.cron.CronJobDraft.{CronJobDraft}
 use Rattle.cj_queue.specs.Queue.{Queue, first}
 use Rattle.cj_calls.specs.declared.caller.Role.TheVariants.{Informer}
@@ -8,10 +18,10 @@ use Rattle.cj_calls.specs.declared.call.Call.TheVariants as Of
 use Rattle.cj_calls.specs.declared.reply.Reply.TheVariants as Say
 use Rattle.cj_calls.specs.Rows.{Told}
 use Rattle.cj_state.specs.Step.{step_of}
-use Rattle.cj_state.specs.Legal.{IsLegal, answer_of}
+use Rattle.cj_state.specs.Legal.{IsLegal, answer_of, state_of}
 use Rattle.cj_world_laws.specs.once.Once.{is_ok}
 use Rattle.cj_history.specs.progress.Undisturbed.{worker, entry, AreAside}
-use Rattle.cj_history.specs.progress.Syncs.{IsReady}
+use Rattle.cj_history.specs.progress.Syncs.{IsReady, IsFor, Closed, zoneless}
 use Rattle.cj_history.proofs.QueueLemmas.Sample.{in_line}
 use Rattle.cj_history.proofs.QueueLemmas.Agreed.{operations_agree}
 use Rattle.cj_history.proofs.StoreLemmas.Sample.{a, told, created, new, legal_created}
@@ -44,3 +54,30 @@ module _ (d : CronJobDraft) where
   -- A tick of an informer after it is aside.
   pub tick_aside : AreAside 5 a None (told 2 Informer (Of.Tick 7) (Ok Say.Done) ∷ []) (entry 3 ready 5 Of.Take ∷ ready)
   tick_aside = ((λ e. absurd (omega (arith, e))), tt, tt)
+
+  -- With that tick the history is legal.
+  pub legal_tick : IsLegal 3 (told 2 Informer (Of.Tick 7) (Ok Say.Done) ∷ entry 3 ready 5 Of.Take ∷ ready)
+  unfolding step_of
+  legal_tick = (refl, refl, (refl, ok_entered (answer_of 3 ready (worker 5) Of.Take) takes, legal_ready))
+
+  -- So the worker's SeeCron after it is accepted.
+  pub sees : is_ok (answer_of 3 (told 2 Informer (Of.Tick 7) (Ok Say.Done) ∷ entry 3 ready 5 Of.Take ∷ ready) (worker 5)
+      Of.SeeCron) ≡ true
+  sees = ((makes_job 3 ready 5 a (new d 1 1) legal_ready is_ready).1 (told 2 Informer (Of.Tick 7) (Ok Say.Done) ∷ [])
+      legal_tick tick_aside).0
+
+-- After the readings there is a plan for the answers: at any moment, for a CronJob that isn't suspended, one whose
+-- zone isn't known.
+pub has_plan : (window w : ℕ) (k : Place) (cron : CronJob) (h : List Told) → IsLegal window h
+    → IsRead w k cron (state_of window h) → cron.spec.suspend ≡ false → (now : ℕ)
+    → (p : Planned) × IsFor h w k p × Closed cron p × (p.at ≡ now)
+has_plan window w k cron h l r e now =
+    let v : StartDecision = rests (Some UnknownTimeZone) None in
+    let is : (b : Bool) → IsStartDecision cron None b now v =
+    λ b. subst (λ x. IsUnlessSuspended x cron None b now v) (sym e) refl in
+    let d = some_plan cron r.jobs r.live now None v v (is true) (is false) in (
+      record { cron = Some cron; jobs = r.jobs; active = r.live; at = now; zone = None; steps = d.0 },
+      record { decided = d.1; rests = sym (seats_agree window h l w) ∙ r.seat },
+      zoneless e refl,
+      refl,
+    )
