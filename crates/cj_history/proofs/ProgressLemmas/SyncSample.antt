@@ -1,25 +1,38 @@
 -- A history after which a worker may begin a sync: a CronJob is created and its key added; and a call aside.
 use Rattle.std.proofs.Common.{◌≡◌, ℕ, Bool, true, false, List, [], ◌∷◌, Some, None, refl, sym, ap, subst, ◌∙◌, arith}
-use Rattle.std.specs.Prelude.{Ok}
+use Rattle.std.specs.Prelude.{Result, Ok, ◌||◌}
+use Rattle.cj_base.specs.declared.refusal.Refusal.{Refusal}
 use Rattle.cj_types.specs.Keys.{Place}
 use Rattle.cj_types.specs.declared.cron.CronJob.{CronJob}
+use Rattle.cj_types.specs.declared.policy.Reason.{Reason}
 use Rattle.cj_types.specs.declared.policy.Reason.TheVariants.{UnknownTimeZone}
 use Rattle.cj_decide.specs.declared.start_decision.StartDecision.{StartDecision}
 use Rattle.cj_decide.specs.StartDecisions.{rests, IsUnlessSuspended, IsStartDecision}
 use Rattle.cj_decide.specs.Decision.{Planned}
 use Rattle.cj_decide.proofs.Decided.{some_plan}
 use Rattle.cj_world_laws.proofs.LegalLemmas.Seated.{seats_agree}
+use Rattle.cj_history.proofs.ProgressLemmas.Calls.{sat, finish_is}
 use Rattle.cj_history.proofs.ProgressLemmas.Aside.{ok_entered}
 use Rattle.cj_history.proofs.ProgressLemmas.Started.{IsRead}
 use Rattle.cj_types.specs.declared.cron.CronJobDraft.{CronJobDraft}
 use Rattle.cj_queue.specs.Queue.{Queue, first}
 use Rattle.cj_calls.specs.declared.caller.Role.TheVariants.{Informer}
 use Rattle.cj_calls.specs.declared.call.Call.TheVariants as Of
+use Rattle.cj_calls.specs.declared.end.End.TheVariants.{Well}
+use Rattle.cj_calls.specs.declared.reply.Reply.{Reply}
 use Rattle.cj_calls.specs.declared.reply.Reply.TheVariants as Say
 use Rattle.cj_calls.specs.Rows.{Told}
+use Rattle.cj_state.specs.phases.Steps.{step_at}
+use Rattle.cj_state.specs.declared.phases.seat.Work.{Work}
+use Rattle.cj_state.specs.declared.phases.seat.Phase.TheVariants.{Works}
+use Rattle.cj_state.specs.WorkerCalls.{Handled}
 use Rattle.cj_state.specs.Step.{step_of}
 use Rattle.cj_state.specs.Legal.{IsLegal, answer_of, state_of}
 use Rattle.cj_world_laws.specs.once.Once.{is_ok}
+use Rattle.cj_world_laws.specs.legal.Seats.{seat}
+use Rattle.cj_history.specs.queue.Deeds.{deed, next_of, operations}
+use Rattle.cj_history.specs.queue.LookBacks.{is_shut, shut}
+use Rattle.cj_history.specs.progress.Kept.{IsDone}
 use Rattle.cj_history.specs.progress.Undisturbed.{worker, entry, AreAside}
 use Rattle.cj_history.specs.progress.Syncs.{IsReady, IsFor, Closed, zoneless}
 use Rattle.cj_history.proofs.QueueLemmas.Sample.{in_line}
@@ -81,3 +94,22 @@ has_plan window w k cron h l r e now =
       zoneless e refl,
       refl,
     )
+
+-- After the Finish of a worker that made all steps of a plan with a next time, its CronJob's sync ended well with it.
+pub is_done : (window : ℕ) (h : List Told) (w : ℕ) (k : Place) (work : Work) (reasons : List Reason) (t : ℕ) → IsLegal window h
+    → seat h w ≡ Some (sat k (Works work)) → step_at work.plan.steps work.place ≡ None → work.plan.steps.next ≡ Some t
+    → shut (operations h) ≡ false → IsDone (entry window h w (Of.Finish Well reasons) ∷ h) k t
+is_done window h w k work reasons t l at over next runs =
+    let answer : answer_of window h (worker w) (Of.Finish Well reasons) ≡ Ok Say.Done = ap (λ (x : Handled). x.answer)
+    (finish_is (state_of window h) w k work reasons (seats_agree window h l w ∙ at) over) in
+    record {
+      after = [];
+      entry = entry window h w (Of.Finish Well reasons);
+      before = h;
+      is = refl;
+      end = record { sits = sat k (Works work); held = at; key = refl; reasons = reasons; call = refl; answer = answer };
+      next = ap next_of at ∙ next;
+      runs = ap (λ (a : Result Reply Refusal). is_shut (deed (seat h w) (Of.Finish Well reasons) a) || shut (operations h))
+          answer ∙ runs;
+      untaken = tt;
+    }
