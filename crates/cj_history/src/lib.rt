@@ -5,6 +5,8 @@
 //! Here belongs a second reading of what the crates below define by a state: of what is written (`store`) and queued
 //! (`queue`), and that what is written of a created object reads back (`manifests`). No crate rests on it; `legal_law`
 //! and `answer_law` say that the two readings agree.
+//! What is sure to come stands here too (`progress`): the queue forgets nothing that is due, and a sync that nobody
+//! disturbs makes its Job.
 #![tactic(auto)]
 
 mod laws;
