@@ -1,4 +1,3 @@
 pub mod Orders
 pub mod Sorts
 pub mod NotKept
-pub mod UidTexts

@@ -12,11 +12,11 @@ mod mine;
 mod order;
 mod refs;
 mod success;
-mod uids;
 
 pub use active::{active_of, names_with, still_active};
 pub use history::{HistoryLimits, surplus};
 pub use listing::{Pick, listed, picked, running_found};
+pub use mine::is_mine;
 pub use order::Sorting;
 pub use refs::{JobRef, JobRefs};
 pub use success::last_success;

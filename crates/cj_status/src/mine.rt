@@ -2,15 +2,14 @@ ghost use Rattle.std.specs.Prelude.{◌≡◌};
 ghost use Rattle.cj_types.specs.Uids.{uid_text};
 ghost use Rattle.cj_status.specs.Mine.{is_complete, is_failed, is_mine, is_running};
 
-use crate::uids::is_text_of;
 use cj_types::{Job, Outcome, Uid};
 
 /// Whether the Job's controller has the uid.
-pub(crate) fn is_mine(uid: &Uid, job: &Job) -> bool
+pub fn is_mine(uid: &Uid, job: &Job) -> bool
     ensures { result ≡ is_mine (uid_text uid.now) job.now }
 {
     match job.owners.controller() {
-        Some(owner) => is_text_of(owner.uid.as_str(), uid),
+        Some(owner) => uid.has_text(owner.uid.as_str()),
         None => false,
     }
 }

@@ -3,3 +3,5 @@ pub mod LabelEnds
 pub mod LabelPlaces
 pub mod MadeNames
 pub mod UidTexts
+pub mod UidDigits
+pub mod HexWrites

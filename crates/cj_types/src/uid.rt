@@ -1,9 +1,10 @@
-ghost use Rattle.std.specs.Prelude.{◌≡◌, ℕ, ◌≤◌, ◌<◌, ◌++◌, IfSome, IsSome, ◌↔◌, IfOk, IfErr, OnOk, string_bytes};
+ghost use Rattle.std.specs.Prelude.{◌≡◌, ℕ, ◌≤◌, ◌<◌, IfSome, IsSome, ◌↔◌, IfOk, IfErr};
+ghost use Rattle.std.specs.Str.{bytes_eq};
 ghost use Rattle.cj_types.specs.Uids.{last_uid, uid_text, hex_digit, hex_digits};
 ghost use Rattle.cj_base.specs.declared.refusal.Refusal.TheVariants.{OutOfMemory};
 
 use cj_base::{Refusal, Text};
-use std::alloc::{AllocError, Global};
+use std::alloc::Global;
 use std::marker::Model;
 
 /// What tells one object from every other that ever stood: the count of creations up to its own, from 1 to 2^40.
@@ -53,9 +54,20 @@ impl Uid {
         ensures ok { IfOk result (λ t. t ≡ uid_text self) }
         ensures err { IfErr result (λ e. e ≡ OutOfMemory) }
     {
-        let mut text = String::from_str(alloc, "00000000-0000-0000-0000-")?;
-        push_digits(&mut text, 12, self.get())?;
+        let count = self.get();
+        let text = format!(in alloc; "00000000-0000-0000-0000-{count:012x}")?;
         Ok(Text::from_string(text))
+    }
+
+    /// Whether this is the uid's text; it takes no memory.
+    pub fn has_text(self, text: &str) -> bool
+        ensures { result ≡ bytes_eq text.now (uid_text self) }
+    {
+        let front = "00000000-0000-0000-0000-";
+        match text.as_bytes().strip_prefix(front.as_bytes()) {
+            Some(digits) => are_digits(digits, 12, self.get()),
+            None => false,
+        }
     }
 }
 
@@ -70,15 +82,18 @@ fn hex_digit(digit: u64) -> u8
     }
 }
 
-// Appends the last `count` hexadecimal digits of the number.
-#[tactic(auto, unfolding(crate::specs::Uids::hex_digits))]
-fn push_digits(text: &mut String, count: u8, number: u64) -> Result<(), AllocError>
-    ensures { OnOk result (string_bytes text.new
-        ≡ string_bytes text.old ++ hex_digits count number) }
+// Whether the bytes are the last `count` hexadecimal digits of the number.
+fn are_digits(bytes: &[u8], count: u8, number: u64) -> bool
+    ensures { result ≡ bytes_eq bytes.now (hex_digits count number) }
 {
     if count == 0 {
-        return Ok(());
+        return bytes.is_empty();
     }
-    push_digits(text, count - 1, number / 16)?;
-    text.push(char::from(hex_digit(number % 16)))
+    match bytes.split_last() {
+        Some((last, rest)) => {
+            let ends = *last == hex_digit(number % 16);
+            ends && are_digits(rest, count - 1, number / 16)
+        }
+        None => false,
+    }
 }

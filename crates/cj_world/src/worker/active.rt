@@ -1,28 +1,20 @@
 ghost use Rattle.std.specs.Prelude.{◌≡◌, IfOk, IfErr, option_copied, map};
 ghost use Rattle.cj_base.specs.declared.refusal.Refusal.TheVariants.{OutOfMemory};
-ghost use Rattle.cj_status.specs.Mine.{is_mine};
+ghost use Rattle.cj_types.specs.Uids.{uid_text};
 ghost use Rattle.cj_state.specs.Readings.{if_mine, active_job, active_of};
 
+use cj_status::is_mine;
 use cj_store::Store;
-use cj_types::{CronJob, Job, Key, Listing, ObjectName, Refusal, Shared, TryCopy};
+use cj_types::{CronJob, Job, Key, Listing, ObjectName, Refusal, Shared, TryCopy, Uid};
 use std::alloc::{AllocError, Global};
 
-// Whether the Job's controller has the uid, which is given as a text.
-fn is_mine(uid: &str, job: &Job) -> bool
-    ensures { result ≡ is_mine uid.now job.now }
-{
-    match job.owners.controller() {
-        Some(owner) => owner.uid.as_str() == uid,
-        None => false,
-    }
-}
-
+// The Job, where it is one of the CronJob with the uid.
 fn if_mine(
     alloc: Global,
-    uid: &str,
+    uid: &Uid,
     job: Option<&Shared<Job>>,
 ) -> Result<Option<Shared<Job>>, Refusal>
-    ensures ok { IfOk result (λ j. j ≡ if_mine uid.now (option_copied job.entry)) }
+    ensures ok { IfOk result (λ j. j ≡ if_mine (uid_text uid.now) (option_copied job.entry)) }
     ensures err { IfErr result (λ e. e ≡ OutOfMemory) }
 {
     match job {
@@ -34,11 +26,11 @@ fn if_mine(
 fn active_job(
     alloc: Global,
     store: &Store,
-    uid: &str,
+    uid: &Uid,
     cron: &Key,
     name: &ObjectName,
 ) -> Result<Option<Shared<Job>>, Refusal>
-    ensures ok { IfOk result (λ j. j ≡ active_job store.now uid.now cron.now.namespace name.now) }
+    ensures ok { IfOk result (λ j. j ≡ active_job store.now (uid_text uid.now) cron.now.namespace name.now) }
     ensures err { IfErr result (λ e. e ≡ OutOfMemory) }
 {
     let key = cron.beside(alloc, name)?;
@@ -48,11 +40,11 @@ fn active_job(
 fn active_jobs(
     alloc: Global,
     store: &Store,
-    uid: &str,
+    uid: &Uid,
     cron: &Key,
     names: &[ObjectName],
 ) -> Result<Vec<Option<Shared<Job>>>, Refusal>
-    ensures ok { IfOk result (λ js. js.items ≡ map (active_job store.now uid.now cron.now.namespace)
+    ensures ok { IfOk result (λ js. js.items ≡ map (active_job store.now (uid_text uid.now) cron.now.namespace)
         names.now) }
     ensures err { IfErr result (λ e. e ≡ OutOfMemory) }
 {
@@ -77,8 +69,7 @@ pub(crate) fn active_of(
         return Listing::new(alloc, Vec::new(alloc));
     };
     let cron = cron.get();
-    let uid = cron.meta.uid.text(alloc)?;
     let names = cron.status.active.as_slice();
-    let jobs = active_jobs(alloc, store, uid.as_str(), cron.key.key(), names)?;
+    let jobs = active_jobs(alloc, store, &cron.meta.uid, cron.key.key(), names)?;
     Listing::new(alloc, jobs)
 }

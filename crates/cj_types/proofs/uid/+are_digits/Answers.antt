@@ -1,7 +1,7 @@
 -- are_digits: its one clause, where the count is 0, by the last digit, and where there is none.
 use Rattle.std.proofs.Common.{◌∙◌, ◌-◌, arith}
-use Rattle.cj_status.proofs.UidTexts.{same_digit, other_digit, no_digits, all_digits}
-use Rattle.cj_status.proofs.uids.+are_digits.Goals as goal
+use Rattle.cj_types.proofs.UidDigits.{same_digit, other_digit, no_digits, all_digits}
+use Rattle.cj_types.proofs.uid.+are_digits.Goals as goal
 
 pub returns-then-count-eq0 : goal.returns-then-count-eq0
 returns-then-count-eq0 t c =

@@ -91,7 +91,7 @@ front_eq [] xs ys = refl
 front_eq (x ∷ front) xs ys =
     ap (λ b. b && bytes_eq (front ++ xs) (front ++ ys)) (eq-eqb x x refl) ∙ front_eq front xs ys
 
--- For is_text_of: a text that begins with the front is compared by what stands behind it.
+-- For Uid::has_text: a text that begins with the front is compared by what stands behind it.
 pub with_front : (front text digits rest : List ℕ) → bytes_eq (take (length front) text) front ≡ true
     → digits ≡ drop (length front) text → bytes_eq digits rest ≡ bytes_eq text (front ++ rest)
 with_front front text digits rest s d =
