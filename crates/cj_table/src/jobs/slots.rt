@@ -1,18 +1,16 @@
-ghost use Rattle.std.specs.Prelude.{◌≡◌, ◌<◌, ◌++◌, [], length, None, Some, IfOk, IfErr, IfSome, IsSome, OnOk, OnErr, option_copied, option_to_list};
+ghost use Rattle.std.specs.Prelude.{◌≡◌, ◌++◌, [], None, Some, IfOk, IfErr, IsSome, OnOk, OnErr, option_copied, option_to_list};
 ghost use Rattle.cj_base.specs.declared.refusal.Refusal.TheVariants.{OutOfMemory};
 ghost use Rattle.cj_table.specs.jobs.Slots.{job_at, Writes};
 
 use crate::jobs::slot::Slot;
 use cj_types::{Job, Refusal, Shared};
+use slab::Slab;
 use std::alloc::Global;
 use std::marker::Model;
 
-// Jobs by the number of their slot. A slot without a Job is free, and is taken again before there is a new one. Contracts
-// see slot by slot the Job that stands there, if one does.
+// Jobs by the number of their slot. Contracts see slot by slot the Job that stands there, if one does.
 pub(crate) struct Slots {
-    jobs: Vec<Option<Shared<Job>>>,
-    // Free slots, to be taken first.
-    free: Vec<Slot>,
+    jobs: Slab<Shared<Job>>,
 }
 
 impl Model for Slots {
@@ -25,15 +23,14 @@ impl Model for Slots {
 
     ghost coded = { coded_list (coded_option job.coded) };
 
-    ghost view = { λ s. s.jobs.items };
+    ghost view = { λ s. s.jobs.slots };
 }
 
 // A function of its own, so that whoever gives up slots makes one call and not one for each part.
 impl Drop for Slots {
     fn drop(self) {
-        let Slots { jobs, free } = self;
+        let Slots { jobs } = self;
         drop(jobs);
-        drop(free);
     }
 }
 
@@ -43,8 +40,7 @@ impl Slots {
         ensures { result ≡ [] }
     {
         Slots {
-            jobs: Vec::new(alloc),
-            free: Vec::new(alloc),
+            jobs: Slab::new(alloc),
         }
     }
 
@@ -52,10 +48,7 @@ impl Slots {
     pub(crate) fn get(&self, slot: Slot) -> Option<&Shared<Job>>
         ensures { option_copied result ≡ job_at self.now slot }
     {
-        match self.jobs.get(slot.number()) {
-            Some(Some(job)) => Some(job),
-            _ => None,
-        }
+        self.jobs.get(slot.number())
     }
 
     // The Job at the slot once more, if one stands there, behind those that were found before.
@@ -70,19 +63,6 @@ impl Slots {
         }
     }
 
-    // The slot that was noted as free last, if it is, which is noted no longer.
-    fn take_free(&mut self) -> Option<Slot>
-        ensures same { self.new ≡ self.old }
-        ensures free { IfSome result (λ slot.
-            (slot < length self.old) × (job_at self.old slot ≡ None)) }
-    {
-        let slot = self.free.pop()?;
-        match self.jobs.get(slot.number()) {
-            Some(None) => Some(slot),
-            _ => None,
-        }
-    }
-
     // Puts the Job in a free slot. Where there is no memory all is as it was.
     pub(crate) fn put(&mut self, job: Shared<Job>) -> Result<Slot, Refusal>
         ensures free { IfOk result (λ slot. job_at self.old slot ≡ None) }
@@ -90,14 +70,8 @@ impl Slots {
         ensures err { OnErr result (self.new ≡ self.old) }
         ensures memory { IfErr result (λ e. e ≡ OutOfMemory) }
     {
-        let there = Some(job);
-        if let Some(slot) = self.take_free() {
-            self.jobs[slot.number()] = there;
-            return Ok(slot);
-        }
-        let slot = Slot::new(self.jobs.len());
-        match self.jobs.push(there) {
-            Ok(()) => Ok(slot),
+        match self.jobs.insert(job) {
+            Ok(number) => Ok(Slot::new(number)),
             Err(_) => Err(Refusal::OutOfMemory),
         }
     }
@@ -107,16 +81,16 @@ impl Slots {
         requires { IsSome (job_at self.old slot) }
         ensures { Writes (Some job) self.old self.new slot }
     {
-        self.jobs[slot.number()] = Some(job);
+        if let Some(there) = self.jobs.get_mut(slot.number()) {
+            *there = job;
+        }
     }
 
-    // Takes the Job out of the slot where it stands, which is free then. This needs no memory: where there is none to
-    // note the slot, it isn't taken again.
+    // Takes the Job out of the slot where it stands, which is free then. This needs no memory.
     pub(crate) fn clear(&mut self, slot: Slot)
         requires { IsSome (job_at self.old slot) }
         ensures { Writes None self.old self.new slot }
     {
-        self.jobs[slot.number()] = None;
-        let _ = self.free.push(slot);
+        let _ = self.jobs.try_remove(slot.number());
     }
 }
