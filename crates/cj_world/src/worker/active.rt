@@ -30,7 +30,8 @@ fn active_job(
     cron: &Key,
     name: &ObjectName,
 ) -> Result<Option<Shared<Job>>, Refusal>
-    ensures ok { IfOk result (λ j. j ≡ active_job store.now (uid_text uid.now) cron.now.namespace name.now) }
+    ensures ok { IfOk result (λ j. j ≡ active_job store.now (uid_text uid.now) cron.now.namespace
+        name.now) }
     ensures err { IfErr result (λ e. e ≡ OutOfMemory) }
 {
     let key = cron.beside(alloc, name)?;
@@ -44,8 +45,8 @@ fn active_jobs(
     cron: &Key,
     names: &[ObjectName],
 ) -> Result<Vec<Option<Shared<Job>>>, Refusal>
-    ensures ok { IfOk result (λ js. js.items ≡ map (active_job store.now (uid_text uid.now) cron.now.namespace)
-        names.now) }
+    ensures ok { IfOk result (λ js. js.items
+        ≡ map (active_job store.now (uid_text uid.now) cron.now.namespace) names.now) }
     ensures err { IfErr result (λ e. e ≡ OutOfMemory) }
 {
     let mut jobs = Vec::new(alloc);
