@@ -1,3 +1,4 @@
 pub mod Answers
 pub mod Seats
 pub mod Exclusive
+pub mod Callers
