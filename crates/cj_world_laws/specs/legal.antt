@@ -2,3 +2,4 @@ pub mod Answers
 pub mod Seats
 pub mod Exclusive
 pub mod Callers
+pub mod Rest
