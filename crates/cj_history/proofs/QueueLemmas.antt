@@ -6,5 +6,6 @@ pub mod Holders
 pub mod Whole
 pub mod Firsts
 pub mod Agreed
+pub mod Rest
 pub mod Answered
 pub mod Sample

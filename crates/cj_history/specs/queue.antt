@@ -3,3 +3,4 @@ pub mod LookBacks
 pub mod Laws
 pub mod Answers
 pub mod Calls
+pub mod Rest

@@ -18,5 +18,5 @@ pub mod store;
 pub use laws::{answer_law, exclusive_law, legal_law, once_law, time_law};
 pub use manifests::created_laws;
 pub use progress::{no_key_is_lost_law, progress_law};
-pub use queue::{call_law, queue_law};
+pub use queue::{call_law, queue_law, rest_law};
 pub use store::{event_law, mirror_law, number_law, store_law};

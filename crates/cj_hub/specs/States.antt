@@ -1,6 +1,6 @@
 -- How far the work on a hub is, as one who has followed the writes up to a version sees it.
 use Rattle.std.specs.Prelude.{◌≡◌, ℕ, true, false}
-use Rattle.cj_world.specs.Worlds.{IsAtRest}
+use Rattle.cj_world_laws.specs.legal.Rest.{IsAtRest}
 use Rattle.cj_hub.specs.declared.state.HubState.{HubState}
 use Rattle.cj_hub.specs.declared.state.HubState.TheVariants.{Broken, Behind, Quiet, Busy}
 use Rattle.cj_hub.specs.Books.{BookView, state_in}

@@ -48,8 +48,8 @@ impl State {
     pub fn write(&mut self, alloc: Global, change: Change) -> Result<(), Refusal>
         requires room { HasRoom self.old.store }
         requires planned { IsFor self.old.store change }
-        requires numbered { version_of change ≡ self.old.watch.count + 1 }
-        ensures ok { OnOk result (self.new ≡ written self.old change) }
+        requires numbered { version_of change.event ≡ self.old.watch.count + 1 }
+        ensures ok { OnOk result (self.new ≡ written self.old change.event) }
         ensures err { OnErr result (self.new ≡ self.old) }
         ensures memory { IfErr result (λ e. e ≡ OutOfMemory) }
     {
@@ -69,9 +69,9 @@ impl State {
     ) -> Result<Answered, Refusal>
         requires room { HasRoom self.old.store }
         requires planned { IsFor self.old.store change }
-        requires numbered { version_of change ≡ self.old.watch.count + 1 }
+        requires numbered { version_of change.event ≡ self.old.watch.count + 1 }
         ensures same { IfOk result (λ t. t ≡ answer) }
-        ensures ok { OnOk result (self.new ≡ written self.old change) }
+        ensures ok { OnOk result (self.new ≡ written self.old change.event) }
         ensures err { OnErr result (self.new ≡ self.old) }
         ensures memory { IfErr result (λ e. e ≡ OutOfMemory) }
     {
@@ -90,10 +90,10 @@ impl State {
     ) -> Result<Answered, Refusal>
         requires room { HasRoom self.old.store }
         requires planned { IsFor self.old.store change }
-        requires numbered { version_of change ≡ self.old.watch.count + 1 }
+        requires numbered { version_of change.event ≡ self.old.watch.count + 1 }
         requires there { IsSome (map.get self.old.seats worker) }
         ensures same { IfOk result (λ t. t ≡ answer) }
-        ensures ok { OnOk result (self.new ≡ record (written self.old change) {
+        ensures ok { OnOk result (self.new ≡ record (written self.old change.event) {
           seats = map.insert self.old.seats worker seat;
         }) }
         ensures err { OnErr result (self.new ≡ self.old) }

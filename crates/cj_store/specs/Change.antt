@@ -1,7 +1,8 @@
--- What a planned write makes of the content. A change is told as the event that a watch gives of the write.
-use Rattle.std.specs.Prelude.{◌≡◌, ◌+◌, ◌≤◌, List, Option, Some, None, Result, Ok, Err}
+-- What a planned write makes of the content. A write is told as the event that a watch gives of it.
+use Rattle.std.specs.Prelude.{◌≡◌, ◌+◌, ◌≤◌, List, Option, Some, None, Result, Ok, Err, refl}
 use Rattle.std.specs.FinMap as map
 use Rattle.std.specs.Option.{option_map}
+use Rattle.std.specs.Coded.{Coded, code_by, coded×}
 use Rattle.cj_base.specs.declared.refusal.Refusal.{Refusal}
 use Rattle.cj_types.specs.Keys.{Place}
 use Rattle.cj_types.specs.Events.{version_of}
@@ -9,9 +10,10 @@ use Rattle.cj_types.specs.declared.cron.CronJob.{CronJob}
 use Rattle.cj_types.specs.declared.job.Job.{Job}
 use Rattle.cj_types.specs.declared.owners.OwnerRef.{OwnerRef}
 use Rattle.cj_types.specs.declared.event.Event.{Event}
+use Rattle.cj_types.specs.contracts.event.Event.{the_row as event_row}
 use Rattle.cj_types.specs.declared.event.Event.TheVariants.{Added, Modified, Deleted}
 use Rattle.cj_types.specs.declared.event.Object.TheVariants as Of
-use Rattle.cj_store.specs.Content.{Content, CronAt, JobAt, uid_at}
+use Rattle.cj_store.specs.Content.{Content, coded_content, CronAt, JobAt, uid_at}
 
 -- the events of writes on either kind
 abbrev pub cron_added : CronJob → Event
@@ -61,7 +63,20 @@ Stands s (Added (Of.Job j)) = (map.get s.jobs j.key ≡ None) × (j.meta.uid ≡
 Stands s (Modified (Of.Job j)) = (owners_at s j.key ≡ Some j.owners) × (uid_at s (JobAt j.key) ≡ Some j.meta.uid) × (j.meta.generation ≤ s.version + 1)
 Stands s (Deleted (Of.Job j)) = (owners_at s j.key ≡ Some j.owners) × (uid_at s (JobAt j.key) ≡ Some j.meta.uid)
 
--- the content is the one that the change was planned for, as far as numbers tell: its version is that of the next write
+-- the event is of a write that can come next on the content: it has the next version, and its object stands so
 -- rule: planned-change
-abbrev pub IsFor : Content → Event → Type 0
-IsFor s e = (version_of e ≡ s.version + 1) × Stands s e
+abbrev pub IsNext : Content → Event → Type 0
+IsNext s e = (version_of e ≡ s.version + 1) × Stands s e
+
+-- a write that was planned: the content that it was planned on, and its event
+pub record PlannedWrite : Type 0 where
+  pub before : Content
+  pub event : Event
+
+abbrev pub coded_write : Coded PlannedWrite
+coded_write = code_by (Content × Event) (coded× coded_content event_row.coded) (λ w. (w.before, w.event)) (λ p. record { before = p.0; event = p.1 }) (λ _. refl)
+
+-- the content is the very one that the write was planned on: the same objects, the same counts
+-- rule: planned-change
+abbrev pub IsFor : Content → PlannedWrite → Type 0
+IsFor s change = change.before ≡ s

@@ -1,7 +1,7 @@
 ghost use Rattle.std.specs.Prelude.{◌≡◌, ◌+◌, IfErr, OnOk, OnErr};
 ghost use Rattle.cj_base.specs.declared.refusal.Refusal.TheVariants.{OutOfMemory};
 ghost use Rattle.cj_store.specs.Content.{HasRoom};
-ghost use Rattle.cj_store.specs.Change.{after, IsFor, cron_added, cron_modified, cron_gone, job_added, job_modified, job_gone};
+ghost use Rattle.cj_store.specs.Change.{after, IsFor, IsNext, cron_added, cron_modified, cron_gone, job_added, job_modified, job_gone};
 
 use crate::{Change, Store};
 use cj_types::{CronJob, Event, Job, Key, Object, Refusal, Shared, TryCopy};
@@ -14,11 +14,12 @@ fn key_of(cron: &Shared<CronJob>) -> &Key
 }
 
 impl Store {
-    /// Makes the write that was planned. Where there is no memory the store is as it was.
+    /// Makes the write that was planned, on the content that it was planned on and no other. Where there is no memory
+    /// the store is as it was.
     pub fn commit(&mut self, alloc: Global, change: Change) -> Result<(), Refusal>
         requires room { HasRoom self.old }
         requires planned { IsFor self.old change }
-        ensures ok { OnOk result (self.new ≡ after self.old change) }
+        ensures ok { OnOk result (self.new ≡ after self.old change.event) }
         ensures err { OnErr result (self.new ≡ self.old) }
         ensures memory { IfErr result (λ e. e ≡ OutOfMemory) }
     {
@@ -28,7 +29,7 @@ impl Store {
     // Makes the write that the event tells of.
     pub(crate) fn apply(&mut self, alloc: Global, event: Event) -> Result<(), Refusal>
         requires room { HasRoom self.old }
-        requires planned { IsFor self.old event }
+        requires planned { IsNext self.old event }
         ensures ok { OnOk result (self.new ≡ after self.old event) }
         ensures err { OnErr result (self.new ≡ self.old) }
         ensures memory { IfErr result (λ e. e ≡ OutOfMemory) }
@@ -51,7 +52,7 @@ impl Store {
 
     fn put_cron(&mut self, alloc: Global, cron: Shared<CronJob>) -> Result<(), Refusal>
         requires room { HasRoom self.old }
-        requires planned { IsFor self.old (cron_modified cron) }
+        requires planned { IsNext self.old (cron_modified cron) }
         ensures ok { OnOk result (self.new ≡ after self.old (cron_modified cron)) }
         ensures err { OnErr result (self.new ≡ self.old) }
         ensures memory { IfErr result (λ e. e ≡ OutOfMemory) }
@@ -64,7 +65,7 @@ impl Store {
 
     fn add_cron(&mut self, alloc: Global, cron: Shared<CronJob>) -> Result<(), Refusal>
         requires room { HasRoom self.old }
-        requires planned { IsFor self.old (cron_added cron) }
+        requires planned { IsNext self.old (cron_added cron) }
         ensures ok { OnOk result (self.new ≡ after self.old (cron_added cron)) }
         ensures err { OnErr result (self.new ≡ self.old) }
         ensures memory { IfErr result (λ e. e ≡ OutOfMemory) }
@@ -86,7 +87,7 @@ impl Store {
 
     fn put_job(&mut self, job: Shared<Job>)
         requires room { HasRoom self.old }
-        requires planned { IsFor self.old (job_modified job) }
+        requires planned { IsNext self.old (job_modified job) }
         ensures { self.new ≡ after self.old (job_modified job) }
     {
         self.jobs.replace(job);
@@ -95,7 +96,7 @@ impl Store {
 
     fn add_job(&mut self, alloc: Global, job: Shared<Job>) -> Result<(), Refusal>
         requires room { HasRoom self.old }
-        requires planned { IsFor self.old (job_added job) }
+        requires planned { IsNext self.old (job_added job) }
         ensures ok { OnOk result (self.new ≡ after self.old (job_added job)) }
         ensures err { OnErr result (self.new ≡ self.old) }
         ensures memory { IfErr result (λ e. e ≡ OutOfMemory) }
@@ -108,7 +109,7 @@ impl Store {
 
     fn remove_job(&mut self, alloc: Global, job: Shared<Job>) -> Result<(), Refusal>
         requires room { HasRoom self.old }
-        requires planned { IsFor self.old (job_gone job) }
+        requires planned { IsNext self.old (job_gone job) }
         ensures ok { OnOk result (self.new ≡ after self.old (job_gone job)) }
         ensures err { OnErr result (self.new ≡ self.old) }
         ensures memory { IfErr result (λ e. e ≡ OutOfMemory) }

@@ -3,7 +3,7 @@ ghost use Rattle.std.specs.FinMap as map;
 ghost use Rattle.cj_types.specs.Current.{is_current};
 ghost use Rattle.cj_base.specs.declared.refusal.Refusal.TheVariants.{OutOfMemory};
 ghost use Rattle.cj_store.specs.Content.{HasRoom};
-ghost use Rattle.cj_store.specs.Change.{IsFor, cron_added, cron_modified, cron_gone};
+ghost use Rattle.cj_store.specs.Change.{IsNext, cron_added, cron_modified, cron_gone};
 ghost use Rattle.cj_store.specs.Crons.{new_cron, cron_created, cron_updated, with_status, status_set, last_cron, cron_deleted};
 
 use crate::Store;
@@ -60,7 +60,7 @@ impl Store {
         ensures ok { IfOk result (λ c. cron_created self.now draft now ≡ Ok c) }
         ensures err { IfErr result (λ e. e ≢ OutOfMemory →
             cron_created self.now draft now ≡ Err e) }
-        ensures planned { IfOk result (λ c. IsFor self.now (cron_added c)) }
+        ensures planned { IfOk result (λ c. IsNext self.now (cron_added c)) }
     {
         self.is_new_cron(alloc, &draft)?;
         Ok(self.new_cron(alloc, draft, now))
@@ -99,7 +99,7 @@ impl Store {
         requires { HasRoom self.now }
         ensures ok { IfOk result (λ c. cron_updated self.now draft ≡ Ok c) }
         ensures err { IfErr result (λ e. e ≢ OutOfMemory → cron_updated self.now draft ≡ Err e) }
-        ensures planned { IfOk result (λ c. IsFor self.now (cron_modified c)) }
+        ensures planned { IfOk result (λ c. IsNext self.now (cron_modified c)) }
     {
         let (found, status) = self.replaced_cron(alloc, &draft)?;
         let is_same = is_same_cron_spec(&draft.spec, &found.spec);
@@ -148,7 +148,7 @@ impl Store {
         ensures ok { IfOk result (λ c. status_set self.now key.now uid version status ≡ Ok c) }
         ensures err { IfErr result (λ e. e ≢ OutOfMemory →
             status_set self.now key.now uid version status ≡ Err e) }
-        ensures planned { IfOk result (λ c. IsFor self.now (cron_modified c)) }
+        ensures planned { IfOk result (λ c. IsNext self.now (cron_modified c)) }
     {
         let Some(found) = self.get_cron(key) else {
             return Err(Refusal::NotFound);
@@ -176,7 +176,7 @@ impl Store {
         requires { HasRoom self.now }
         ensures ok { IfOk result (λ c. cron_deleted self.now key.now ≡ Ok c) }
         ensures err { IfErr result (λ e. e ≢ OutOfMemory → cron_deleted self.now key.now ≡ Err e) }
-        ensures planned { IfOk result (λ c. IsFor self.now (cron_gone c)) }
+        ensures planned { IfOk result (λ c. IsNext self.now (cron_gone c)) }
     {
         match self.get_cron(key) {
             Some(found) => self.last_cron(alloc, found),

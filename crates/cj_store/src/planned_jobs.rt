@@ -6,7 +6,7 @@ ghost use Rattle.cj_store.specs.Equal.{same_owners};
 ghost use Rattle.cj_base.specs.declared.refusal.Refusal.TheVariants.{OutOfMemory};
 ghost use Rattle.cj_store.specs.Content.{Content, HasRoom};
 ghost use Rattle.cj_store.specs.Jobs.{new_job, job_made, job_created, job_updated, is_asked, last_job, job_deleted, ended_at, job_ended};
-ghost use Rattle.cj_store.specs.Change.{IsFor, job_added, job_modified, job_gone};
+ghost use Rattle.cj_store.specs.Change.{IsNext, job_added, job_modified, job_gone};
 
 use crate::Store;
 use crate::equal::{are_same_owners, is_same_job_spec};
@@ -74,7 +74,7 @@ impl Store {
     pub(crate) fn job_made(&self, draft: JobDraft, now: Seconds) -> Result<Job, Refusal>
         requires { HasRoom self.now }
         ensures answer { job_made self.now draft now ≡ result }
-        ensures planned { IfOk result (λ j. IsFor self.now (job_added j)) }
+        ensures planned { IfOk result (λ j. IsNext self.now (job_added j)) }
     {
         if self.get_job(&draft.key).is_some() {
             return Err(Refusal::AlreadyExists);
@@ -91,7 +91,7 @@ impl Store {
         requires { HasRoom self.now }
         ensures ok { IfOk result (λ j. job_created self.now draft now ≡ Ok j) }
         ensures err { IfErr result (λ e. e ≢ OutOfMemory → job_created self.now draft now ≡ Err e) }
-        ensures planned { IfOk result (λ j. IsFor self.now (job_added j)) }
+        ensures planned { IfOk result (λ j. IsNext self.now (job_added j)) }
     {
         is_of_a_user(alloc, &draft)?;
         self.job_made(draft, now)
@@ -129,7 +129,7 @@ impl Store {
         requires { HasRoom self.now }
         ensures ok { IfOk result (λ j. job_updated self.now draft ≡ Ok j) }
         ensures err { IfErr result (λ e. e ≢ OutOfMemory → job_updated self.now draft ≡ Err e) }
-        ensures planned { IfOk result (λ j. IsFor self.now (job_modified j)) }
+        ensures planned { IfOk result (λ j. IsNext self.now (job_modified j)) }
     {
         let (found, owners) = self.replaced_job(alloc, &draft)?;
         let is_same = is_same_job_spec(&draft.spec, &found.spec);
@@ -186,7 +186,7 @@ impl Store {
         ensures ok { IfOk result (λ j. job_deleted self.now key.now uid ≡ Ok j) }
         ensures err { IfErr result (λ e. e ≢ OutOfMemory →
             job_deleted self.now key.now uid ≡ Err e) }
-        ensures planned { IfOk result (λ j. IsFor self.now (job_gone j)) }
+        ensures planned { IfOk result (λ j. IsNext self.now (job_gone j)) }
     {
         let Some(found) = self.get_job(key) else {
             return Err(Refusal::NotFound);
@@ -210,7 +210,7 @@ impl Store {
         ensures ok { IfOk result (λ j. job_ended self.now key.now uid outcome now ≡ Ok j) }
         ensures err { IfErr result (λ e. e ≢ OutOfMemory →
             job_ended self.now key.now uid outcome now ≡ Err e) }
-        ensures planned { IfOk result (λ j. IsFor self.now (job_modified j)) }
+        ensures planned { IfOk result (λ j. IsNext self.now (job_modified j)) }
     {
         let Some(found) = self.get_job(key) else {
             return Err(Refusal::NotFound);

@@ -1,6 +1,5 @@
 -- A world as its callers see it, and what one call adds to it.
 use Rattle.std.specs.Prelude.{◌≡◌, ◌≢◌, ◌↔◌, ◌≤◌, true, false, List, [], ◌∷◌, length, Result, Err, Option, Some, None, if◌then◌else◌}
-use Rattle.std.specs.FinMap as map
 use Rattle.cj_base.specs.declared.refusal.Refusal.{Refusal}
 use Rattle.cj_base.specs.declared.refusal.Refusal.TheVariants.{Empty, HistoryFull}
 use Rattle.cj_types.specs.WorldLimits.{Kept, last_history}
@@ -25,11 +24,6 @@ told caller call answer = record { caller = caller; call = call; answer = answer
 -- rule: objects
 abbrev pub state_in : WorldLog → State
 state_in w = state_of w.limits.window w.history
-
--- no key is in the line, and nobody holds one
--- rule: objects
-abbrev pub IsAtRest : State → Type 0
-IsAtRest s = (s.queue.row.line ≡ []) × (s.seats ≡ map.empty)
 
 -- what a world keeps
 pub record Stands (limits : Kept) (h : List Told) (s : State) : Type 0 where

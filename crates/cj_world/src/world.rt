@@ -5,9 +5,10 @@ ghost use Rattle.cj_base.specs.declared.refusal.Refusal.TheVariants.{Empty, Hist
 ghost use Rattle.cj_types.specs.WorldLimits.{last_history};
 ghost use Rattle.cj_state.specs.Legal.{IsLegal, IsPlanned, ArePlanned, is_entered};
 ghost use Rattle.cj_world_laws.specs.legal.Exclusive.{Exclusive};
+ghost use Rattle.cj_world_laws.specs.legal.Rest.{IsAtRest};
 ghost use Rattle.cj_world_laws.specs.once.Once.{Once, Alone};
 ghost use Rattle.cj_world_laws.specs.once.Times.{Timely};
-ghost use Rattle.cj_world.specs.Worlds.{Applied, Entered, IsAtRest, receipts_of, state_in};
+ghost use Rattle.cj_world.specs.Worlds.{Applied, Entered, receipts_of, state_in};
 
 use crate::advance::{Made, advance};
 use cj_base::both;
@@ -235,7 +236,8 @@ impl World {
         self.state.mirror.version()
     }
 
-    /// Whether no key is in the line, and nobody holds one.
+    /// Whether no key is in the line, and nobody holds one. By the history alone: no key is queued and none is held
+    /// (`rest_law` of cj_history).
     pub fn at_rest(&self) -> bool
         ensures { IsTrue result ↔ IsAtRest (state_in self.now) }
     {

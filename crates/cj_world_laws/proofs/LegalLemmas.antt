@@ -7,3 +7,4 @@ pub mod Seatings
 pub mod Seated
 pub mod Hands
 pub mod Inputs
+pub mod Callers

@@ -1,3 +1,5 @@
 pub mod Answers
 pub mod Seats
 pub mod Exclusive
+pub mod Callers
+pub mod Rest

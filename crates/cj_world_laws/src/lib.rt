@@ -9,5 +9,5 @@
 mod legal;
 mod once;
 
-pub use legal::{answer_law, exclusive_law, input_law, seat_law, sound_law};
+pub use legal::{answer_law, caller_law, exclusive_law, input_law, seat_law, sound_law};
 pub use once::{once_law, time_law};

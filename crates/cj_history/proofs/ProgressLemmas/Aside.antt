@@ -2,7 +2,7 @@
 -- the state alone.
 use Rattle.std.proofs.Common.{◌≡◌, ◌≢◌, ℕ, ◌≤◌, ◌==◌, Bool, true, false, cond, List, [], ◌∷◌, ◌++◌, Option, Some, None, refl, sym, ap, subst, ◌∙◌, arith}
 use Rattle.std.specs.Prelude.{IfSome, Result, Ok, Err, if◌then◌else◌}
-use Rattle.std.proofs.lemmas.Bool.Decides.{nat_tests}
+use Rattle.std.proofs.lemmas.Bool.{eqb-true}
 use Rattle.std.specs.FinMap as map
 use Rattle.cj_base.specs.declared.refusal.Refusal.{Refusal}
 use Rattle.cj_types.specs.Keys.{Place}
@@ -13,6 +13,9 @@ use Rattle.cj_types.specs.declared.event.Event.TheVariants.{Added, Modified, Del
 use Rattle.cj_types.specs.declared.event.Object.TheVariants as Kind
 use Rattle.cj_store.specs.Content.{Content}
 use Rattle.cj_decide.specs.laws.Laws.{IsIn}
+use Rattle.cj_calls.specs.declared.caller.Caller.{Caller}
+use Rattle.cj_calls.specs.declared.caller.Role.{Role}
+use Rattle.cj_calls.specs.declared.caller.Role.TheVariants.{Worker}
 use Rattle.cj_calls.specs.declared.call.Call.{Call}
 use Rattle.cj_calls.specs.declared.reply.Reply.{Reply}
 use Rattle.cj_calls.specs.Rows.{Told}
@@ -24,6 +27,7 @@ use Rattle.cj_state.specs.Legal.{IsLegal, is_entered, state_of}
 use Rattle.cj_world_laws.specs.legal.Seats.{seat, seat_after}
 use Rattle.cj_world_laws.specs.once.Once.{is_ok}
 use Rattle.cj_world_laws.proofs.LegalLemmas.Seated.{seats_agree}
+use Rattle.cj_world_laws.proofs.LegalLemmas.Callers.{idle}
 use Rattle.cj_history.specs.store.Written.{made, current_cron, current_job, cron_left, job_left}
 use Rattle.cj_history.specs.store.Writes.{entry_written, with_write, writes}
 use Rattle.cj_history.specs.progress.Undisturbed.{worker, object_of, is_of, AreAside, entry, Leads}
@@ -94,20 +98,21 @@ alike w k q (e ∷ es) h a =
     alike_with k q (writes h) (writes (es ++ h))
     (entry_written (writes (es ++ h)) (seat (es ++ h) e.caller.number) e.call e.answer) a.1 (alike w k q es h a.2)
 
--- Different numbers are told apart.
-apart_false : (a b : ℕ) → b ≢ a → (a == b) ≡ false
-apart_false a b n = by (a == b) refl
-  where
-    by : (t : Bool) → (a == b) ≡ t → t ≡ false
-    by true e = absurd (n (grind (arith, nat_tests, e)))
-    by false e = refl
+-- A caller of a worker's number and role is that worker.
+caller_is : (w : ℕ) (c : Caller) → (w == c.number) ≡ true → c.role ≡ Worker → c ≡ worker w
+caller_is w c n r = ap (λ (x : Role). record { number = c.number; role = x }) r
+    ∙ ap (λ (x : ℕ). record { number = x; role = Worker }) (sym (eqb-true w c.number n))
 
--- What others call leaves the worker's seat.
-seat_aside : (w : ℕ) (k : Place) (q : Option Place) (es h : List Told) → AreAside w k q es h → seat (es ++ h) w ≡ seat h w
-seat_aside w k q [] h a = refl
-seat_aside w k q (e ∷ es) h a =
-    ap (λ b. if b then seat_after (seat (es ++ h) w) e.call e.answer else seat (es ++ h) w)
-    (apart_false w e.caller.number a.0) ∙ seat_aside w k q es h a.2
+-- What others call leaves the worker's seat: those of another number, and those of its number and another role.
+seat_aside : (window w : ℕ) (k : Place) (q : Option Place) (es h : List Told) → IsLegal window (es ++ h)
+    → AreAside w k q es h → seat (es ++ h) w ≡ seat h w
+seat_aside window w k q [] h l a = refl
+seat_aside window w k q (e ∷ es) h l a = left (w == e.caller.number) refl ∙ seat_aside window w k q es h l.2 a.2
+  where
+    left : (b : Bool) → (w == e.caller.number) ≡ b
+        → (if b then seat_after (seat (es ++ h) w) e.call e.answer else seat (es ++ h) w) ≡ seat (es ++ h) w
+    left true n = (idle window e (es ++ h) l (λ r. a.0 (caller_is w e.caller n r))).seats (seat (es ++ h) w)
+    left false n = refl
 
 -- What others call aside gives a uid that was given out, and that the Job at a key hasn't, to none there.
 never : (w : ℕ) (k : Place) (q : Option Place) (es h : List Told) → AreAside w k q es h → (i : Place) (u : ℕ)
@@ -168,7 +173,7 @@ same_aside window w k q es h l a =
     let u = (store_agrees window h m).uids in
     let v = (store_agrees window (es ++ h) l).uids in
     record {
-      seat = seats_agree window (es ++ h) l w ∙ seat_aside w k q es h a ∙ sym (seats_agree window h m w);
+      seat = seats_agree window (es ++ h) l w ∙ seat_aside window w k q es h l a ∙ sym (seats_agree window h m w);
       cron = (store_agrees window (es ++ h) l).crons k ∙ f.cron ∙ sym ((store_agrees window h m).crons k);
       job = job_is window (es ++ h) l q ∙ f.job ∙ sym (job_is window h m q);
       more = (let c = f.more in omega (arith, c, u, v));

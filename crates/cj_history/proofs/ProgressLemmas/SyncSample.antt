@@ -1,5 +1,5 @@
 -- A history after which a worker may begin a sync: a CronJob is created and its key added; and a call aside.
-use Rattle.std.proofs.Common.{◌≡◌, ℕ, Bool, true, false, List, [], ◌∷◌, Some, None, refl, sym, ap, subst, ◌∙◌, arith}
+use Rattle.std.proofs.Common.{◌≡◌, ℕ, Bool, true, false, List, [], ◌∷◌, Some, None, refl, sym, ap, subst, ◌∙◌}
 use Rattle.std.specs.Prelude.{Result, Ok, ◌||◌}
 use Rattle.cj_base.specs.declared.refusal.Refusal.{Refusal}
 use Rattle.cj_types.specs.Keys.{Place}
@@ -16,7 +16,9 @@ use Rattle.cj_history.proofs.ProgressLemmas.Aside.{ok_entered}
 use Rattle.cj_history.proofs.ProgressLemmas.Started.{IsRead}
 use Rattle.cj_types.specs.declared.cron.CronJobDraft.{CronJobDraft}
 use Rattle.cj_queue.specs.Queue.{Queue, first}
-use Rattle.cj_calls.specs.declared.caller.Role.TheVariants.{Informer}
+use Rattle.cj_calls.specs.declared.caller.Caller.{Caller}
+use Rattle.cj_calls.specs.declared.caller.Role.{Role}
+use Rattle.cj_calls.specs.declared.caller.Role.TheVariants.{Informer, Worker}
 use Rattle.cj_calls.specs.declared.call.Call.TheVariants as Of
 use Rattle.cj_calls.specs.declared.end.End.TheVariants.{Well}
 use Rattle.cj_calls.specs.declared.reply.Reply.{Reply}
@@ -64,19 +66,19 @@ module _ (d : CronJobDraft) where
   pub takes : is_ok (answer_of 3 ready (worker 5) Of.Take) ≡ true
   takes = (makes_job 3 ready 5 a (new d 1 1) legal_ready is_ready).0
 
-  -- A tick of an informer after it is aside.
-  pub tick_aside : AreAside 5 a None (told 2 Informer (Of.Tick 7) (Ok Say.Done) ∷ []) (entry 3 ready 5 Of.Take ∷ ready)
-  tick_aside = ((λ e. absurd (omega (arith, e))), tt, tt)
+  -- A tick of an informer after it is aside, of the worker's number too.
+  pub tick_aside : AreAside 5 a None (told 5 Informer (Of.Tick 7) (Ok Say.Done) ∷ []) (entry 3 ready 5 Of.Take ∷ ready)
+  tick_aside = ((λ e. let role : ◌≡◌ {A = Role} Informer Worker = ap (λ (c : Caller). c.role) e in absurd (cc role)), tt, tt)
 
   -- With that tick the history is legal.
-  pub legal_tick : IsLegal 3 (told 2 Informer (Of.Tick 7) (Ok Say.Done) ∷ entry 3 ready 5 Of.Take ∷ ready)
+  pub legal_tick : IsLegal 3 (told 5 Informer (Of.Tick 7) (Ok Say.Done) ∷ entry 3 ready 5 Of.Take ∷ ready)
   unfolding step_of
   legal_tick = (refl, refl, (refl, ok_entered (answer_of 3 ready (worker 5) Of.Take) takes, legal_ready))
 
   -- So the worker's SeeCron after it is accepted.
-  pub sees : is_ok (answer_of 3 (told 2 Informer (Of.Tick 7) (Ok Say.Done) ∷ entry 3 ready 5 Of.Take ∷ ready) (worker 5)
+  pub sees : is_ok (answer_of 3 (told 5 Informer (Of.Tick 7) (Ok Say.Done) ∷ entry 3 ready 5 Of.Take ∷ ready) (worker 5)
       Of.SeeCron) ≡ true
-  sees = ((makes_job 3 ready 5 a (new d 1 1) legal_ready is_ready).1 (told 2 Informer (Of.Tick 7) (Ok Say.Done) ∷ [])
+  sees = ((makes_job 3 ready 5 a (new d 1 1) legal_ready is_ready).1 (told 5 Informer (Of.Tick 7) (Ok Say.Done) ∷ [])
       legal_tick tick_aside).0
 
 -- After the readings there is a plan for the answers: at any moment, for a CronJob that isn't suspended, one whose

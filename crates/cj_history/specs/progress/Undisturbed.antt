@@ -1,6 +1,7 @@
--- A worker's calls that nobody disturbs. Others may call anything between them, in any number, but for writes of the
--- CronJob whose key the worker holds and of the Job that is to be made: what a controller must expect of an object that
--- it writes is in Kubernetes API conventions, "Concurrency Control and Consistency".
+-- A worker's calls that nobody disturbs. Others, of another number or another role, may call anything between them, as
+-- often as they like, but for writes of the CronJob whose key the worker holds and of the Job that is to be made: what a
+-- controller must expect of an object that it writes is in Kubernetes API conventions, "Concurrency Control and
+-- Consistency".
 use Rattle.std.specs.Prelude.{◌≡◌, ◌≢◌, ℕ, Bool, true, false, List, [], ◌∷◌, ◌++◌, Option, Some, None, IfSome}
 use Rattle.cj_types.specs.Keys.{Place}
 use Rattle.cj_types.specs.declared.event.Event.{Event}
@@ -37,7 +38,7 @@ is_of k (Some q) (Kind.Job j) = key_eq j.key q
 abbrev pub AreAside : ℕ → Place → Option Place → List Told → List Told → Type 0
 AreAside w k q [] h = Unit {0}
 AreAside w k q (e ∷ es) h =
-    (e.caller.number ≢ w)
+    (e.caller ≢ worker w)
     × IfSome (entry_written (writes (es ++ h)) (seat (es ++ h) e.caller.number) e.call e.answer) (λ x. is_of k q (object_of x) ≡ false)
     × AreAside w k q es h
 

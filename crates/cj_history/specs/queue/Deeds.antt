@@ -53,7 +53,8 @@ abbrev pub deed : Option Seat → Call → Result Reply Refusal → Deed
 deed o call (Ok reply) = accepted o call reply
 deed o call (Err refusal) = nothing
 
--- who did it, and what
+-- who did it, by number, and what; takes and ends are a worker's, so that there one number is one caller (caller_law of
+-- cj_world_laws)
 pub record Operation : Type 0 where
   pub by : ℕ
   pub deed : Deed

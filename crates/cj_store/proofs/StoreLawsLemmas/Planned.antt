@@ -17,7 +17,7 @@ use Rattle.cj_store.specs.Content.{Content, IsSound, CronAt, JobAt, uid_at}
 use Rattle.cj_store.specs.Equal.{same_cron_spec, same_job_spec}
 use Rattle.cj_store.specs.Crons.{cron_created, cron_updated, status_set, cron_deleted}
 use Rattle.cj_store.specs.Jobs.{job_created, job_made, job_updated, job_deleted, job_ended}
-use Rattle.cj_store.specs.Change.{after, map_ok, IsFor, cron_added, cron_modified, cron_gone, job_added, job_modified, job_gone}
+use Rattle.cj_store.specs.Change.{after, map_ok, IsNext, cron_added, cron_modified, cron_gone, job_added, job_modified, job_gone}
 use Rattle.cj_store.proofs.Kept.{put_cron_sound, remove_cron_sound, put_job_sound, remove_job_sound, new_sound, standing_uid, updated_generation, cron_uid_there, job_uid_there, owners_there}
 use Rattle.cj_store.specs.store_laws.Sound.{BeginsSound, StaysSound, PlansSound}
 use Rattle.cj_store.proofs.StoreLawsLemmas.Answered.{cron_answers, job_answers}
@@ -27,7 +27,7 @@ pub begins_sound : BeginsSound
 begins_sound = new_sound map.empty map.empty refl refl
 
 -- After a write of any kind that was planned on it a sound content is sound.
-stays : (s : Content) (e : Event) → IsSound s → IsFor s e → IsSound (after s e)
+stays : (s : Content) (e : Event) → IsSound s → IsNext s e → IsSound (after s e)
 stays s (Added (Of.Cron c)) sound p =
     let version : c.meta.version ≡ s.version + 1 = p.0 in
     let uid : c.meta.uid ≡ s.uids + 1 = p.1.1 in
@@ -76,18 +76,18 @@ own_job s k j sound there = ap (map.get s.jobs) (sound.jobs k j there).0 ∙ the
 
 -- What a create of a CronJob plans on a content is for that content.
 created_for : (s : Content) (draft : CronJobDraft) (now : ℕ) (x : CronJob) → cron_created s draft now ≡ Ok x
-    → IsFor s (cron_added x)
+    → IsNext s (cron_added x)
 created_for s draft now x h =
     let a = (cron_answers s).created draft now x h in
-    subst (λ (c : CronJob). IsFor s (cron_added c)) a.1 (refl, (a.0, refl, refl))
+    subst (λ (c : CronJob). IsNext s (cron_added c)) a.1 (refl, (a.0, refl, refl))
 
 -- What an update of a CronJob plans on a sound content is for that content.
 updated_for : (s : Content) (draft : CronJobDraft) (x : CronJob) → IsSound s → cron_updated s draft ≡ Ok x
-    → IsFor s (cron_modified x)
+    → IsNext s (cron_modified x)
 updated_for s draft x sound h =
     let a = (cron_answers s).updated draft x h in
     let dated : a.old.meta.generation ≤ s.version = (sound.crons draft.key a.old a.there).1 in
-    subst (λ (c : CronJob). IsFor s (cron_modified c)) a.is (
+    subst (λ (c : CronJob). IsNext s (cron_modified c)) a.is (
       refl,
       (
         own_uid s draft.key a.old sound a.there,
@@ -98,32 +98,32 @@ updated_for s draft x sound h =
 
 -- What a setting of a CronJob's status plans on a sound content is for that content.
 set_for : (s : Content) (k : Place) (u v : ℕ) (status : CronStatus) (x : CronJob) → IsSound s
-    → status_set s k u v status ≡ Ok x → IsFor s (cron_modified x)
+    → status_set s k u v status ≡ Ok x → IsNext s (cron_modified x)
 set_for s k u v status x sound h =
     let a = (cron_answers s).status k u v status x h in
     let dated : a.old.meta.generation ≤ s.version = (sound.crons k a.old a.there).1 in
-    subst (λ (c : CronJob). IsFor s (cron_modified c)) a.is (refl, (own_uid s k a.old sound a.there, omega arith))
+    subst (λ (c : CronJob). IsNext s (cron_modified c)) a.is (refl, (own_uid s k a.old sound a.there, omega arith))
 
 -- What a deletion of a CronJob plans on a sound content is for that content.
-deleted_for : (s : Content) (k : Place) (x : CronJob) → IsSound s → cron_deleted s k ≡ Ok x → IsFor s (cron_gone x)
+deleted_for : (s : Content) (k : Place) (x : CronJob) → IsSound s → cron_deleted s k ≡ Ok x → IsNext s (cron_gone x)
 deleted_for s k x sound h =
     let a = (cron_answers s).deleted k x h in
-    subst (λ (c : CronJob). IsFor s (cron_gone c)) a.is (refl, own_uid s k a.old sound a.there)
+    subst (λ (c : CronJob). IsNext s (cron_gone c)) a.is (refl, own_uid s k a.old sound a.there)
 
 -- What a create of a Job plans on a content is for that content.
-made_for : (s : Content) (draft : JobDraft) (now : ℕ) (x : Job) → job_made s draft now ≡ Ok x → IsFor s (job_added x)
+made_for : (s : Content) (draft : JobDraft) (now : ℕ) (x : Job) → job_made s draft now ≡ Ok x → IsNext s (job_added x)
 made_for s draft now x h =
     let a = (job_answers s).made draft now x h in
-    subst (λ (j : Job). IsFor s (job_added j)) a.1 (refl, (a.0, refl, refl))
+    subst (λ (j : Job). IsNext s (job_added j)) a.1 (refl, (a.0, refl, refl))
 
 -- What an update of a Job plans on a sound content is for that content.
 job_updated_for : (s : Content) (draft : JobDraft) (x : Job) → IsSound s → job_updated s draft ≡ Ok x
-    → IsFor s (job_modified x)
+    → IsNext s (job_modified x)
 job_updated_for s draft x sound h =
     let a = (job_answers s).updated draft x h in
     let there = own_job s draft.key a.old sound a.there in
     let dated : a.old.meta.generation ≤ s.version = (sound.jobs draft.key a.old a.there).1 in
-    subst (λ (j : Job). IsFor s (job_modified j)) a.is (
+    subst (λ (j : Job). IsNext s (job_modified j)) a.is (
       refl,
       (
         owners_there s a.old.key a.old there,
@@ -134,39 +134,39 @@ job_updated_for s draft x sound h =
 
 -- What a deletion of a Job plans on a sound content is for that content.
 job_deleted_for : (s : Content) (k : Place) (u : Option ℕ) (x : Job) → IsSound s → job_deleted s k u ≡ Ok x
-    → IsFor s (job_gone x)
+    → IsNext s (job_gone x)
 job_deleted_for s k u x sound h =
     let a = (job_answers s).deleted k u x h in
     let there = own_job s k a.old sound a.there in
-    subst (λ (j : Job). IsFor s (job_gone j)) a.is
+    subst (λ (j : Job). IsNext s (job_gone j)) a.is
     (refl, (owners_there s a.old.key a.old there, job_uid_there s a.old.key a.old there))
 
 -- What an end of a Job plans on a sound content is for that content.
 ended_for : (s : Content) (k : Place) (u : ℕ) (out : Outcome) (now : ℕ) (x : Job) → IsSound s
-    → job_ended s k u out now ≡ Ok x → IsFor s (job_modified x)
+    → job_ended s k u out now ≡ Ok x → IsNext s (job_modified x)
 ended_for s k u out now x sound h =
     let a = (job_answers s).ended k u out now x h in
     let there = own_job s k a.old sound a.there in
     let dated : a.old.meta.generation ≤ s.version = (sound.jobs k a.old a.there).1 in
-    subst (λ (j : Job). IsFor s (job_modified j)) a.is
+    subst (λ (j : Job). IsNext s (job_modified j)) a.is
     (refl, (owners_there s a.old.key a.old there, job_uid_there s a.old.key a.old there, omega arith))
 
 -- For sound_laws, clause planned: what any call plans on a sound content is for that content.
 pub plans_sound : PlansSound
 plans_sound s sound = record {
-  cron_created = λ draft now e h. mapped cron_added (cron_created s draft now) e (IsFor s) h
+  cron_created = λ draft now e h. mapped cron_added (cron_created s draft now) e (IsNext s) h
       (λ x is. created_for s draft now x is);
-  cron_updated = λ draft e h. mapped cron_modified (cron_updated s draft) e (IsFor s) h
+  cron_updated = λ draft e h. mapped cron_modified (cron_updated s draft) e (IsNext s) h
       (λ x is. updated_for s draft x sound is);
-  status_set = λ k u v status e h. mapped cron_modified (status_set s k u v status) e (IsFor s) h
+  status_set = λ k u v status e h. mapped cron_modified (status_set s k u v status) e (IsNext s) h
       (λ x is. set_for s k u v status x sound is);
-  cron_deleted = λ k e h. mapped cron_gone (cron_deleted s k) e (IsFor s) h (λ x is. deleted_for s k x sound is);
-  job_created = λ draft now e h. mapped job_added (job_created s draft now) e (IsFor s) h
+  cron_deleted = λ k e h. mapped cron_gone (cron_deleted s k) e (IsNext s) h (λ x is. deleted_for s k x sound is);
+  job_created = λ draft now e h. mapped job_added (job_created s draft now) e (IsNext s) h
       (λ x is. made_for s draft now x ((job_answers s).created draft now x is).1);
-  job_made = λ draft now e h. mapped job_added (job_made s draft now) e (IsFor s) h (λ x is. made_for s draft now x is);
-  job_updated = λ draft e h. mapped job_modified (job_updated s draft) e (IsFor s) h
+  job_made = λ draft now e h. mapped job_added (job_made s draft now) e (IsNext s) h (λ x is. made_for s draft now x is);
+  job_updated = λ draft e h. mapped job_modified (job_updated s draft) e (IsNext s) h
       (λ x is. job_updated_for s draft x sound is);
-  job_deleted = λ k u e h. mapped job_gone (job_deleted s k u) e (IsFor s) h (λ x is. job_deleted_for s k u x sound is);
-  job_ended = λ k u out now e h. mapped job_modified (job_ended s k u out now) e (IsFor s) h
+  job_deleted = λ k u e h. mapped job_gone (job_deleted s k u) e (IsNext s) h (λ x is. job_deleted_for s k u x sound is);
+  job_ended = λ k u out now e h. mapped job_modified (job_ended s k u out now) e (IsNext s) h
       (λ x is. ended_for s k u out now x sound is);
 }

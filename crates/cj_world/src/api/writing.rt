@@ -19,9 +19,9 @@ pub(crate) fn write_object(
 ) -> Result<Answered, Refusal>
     requires room { HasRoom state.old.store }
     requires planned { IsFor state.old.store change }
-    requires numbered { version_of change ≡ state.old.watch.count + 1 }
-    ensures answer { IfOk result (λ t. t ≡ Ok (event_reply change)) }
-    ensures ok { OnOk result (state.new ≡ written state.old change) }
+    requires numbered { version_of change.event ≡ state.old.watch.count + 1 }
+    ensures answer { IfOk result (λ t. t ≡ Ok (event_reply change.event)) }
+    ensures ok { OnOk result (state.new ≡ written state.old change.event) }
     ensures err { OnErr result (state.new ≡ state.old) }
     ensures memory { IfErr result (λ e. e ≡ OutOfMemory) }
 {
@@ -37,9 +37,9 @@ pub(crate) fn write_deletion(
 ) -> Result<Answered, Refusal>
     requires room { HasRoom state.old.store }
     requires planned { IsFor state.old.store change }
-    requires numbered { version_of change ≡ state.old.watch.count + 1 }
-    ensures answer { IfOk result (λ t. t ≡ Ok (version_reply change)) }
-    ensures ok { OnOk result (state.new ≡ written state.old change) }
+    requires numbered { version_of change.event ≡ state.old.watch.count + 1 }
+    ensures answer { IfOk result (λ t. t ≡ Ok (version_reply change.event)) }
+    ensures ok { OnOk result (state.new ≡ written state.old change.event) }
     ensures err { OnErr result (state.new ≡ state.old) }
     ensures memory { IfErr result (λ e. e ≡ OutOfMemory) }
 {

@@ -53,7 +53,8 @@ abbrev pub seat_after : Option Seat → Call → Result Reply Refusal → Option
 seat_after o call (Ok r) = accepted o call r
 seat_after o call (Err e) = o
 
--- the seat of a worker after a history, from its own entries alone
+-- the seat of a worker after a history, from the entries of its number alone: they change it only where the role is
+-- Worker too (Callers)
 abbrev pub seat : List Told → ℕ → Option Seat
 seat [] w = None
 seat (e ∷ h) w = if w == e.caller.number then seat_after (seat h w) e.call e.answer else seat h w
@@ -62,6 +63,6 @@ seat (e ∷ h) w = if w == e.caller.number then seat_after (seat h w) e.call e.a
 abbrev pub SeatLaw : Type 0
 SeatLaw = (window : ℕ) (h : List Told) → IsLegal window h → (w : ℕ) → map.get (state_of window h).seats w ≡ seat h w
 
--- no two workers hold one key
+-- no two workers hold one key; nobody else holds any (Callers)
 abbrev pub HeldLaw : Type 0
 HeldLaw = (window : ℕ) (h : List Told) → IsLegal window h → (v w : ℕ) (a b : Seat) → seat h v ≡ Some a → seat h w ≡ Some b → a.key ≡ b.key → v ≡ w

@@ -44,7 +44,7 @@ abbrev pub claim_after : Content → Call → Result Reply Refusal → Option Cl
 claim_after s (Of.Claim p) answer before = claim_answered s p answer before
 claim_after s call answer before = before
 
--- the caller's last accepted claim
+-- the caller's last accepted claim, by its number: only a worker's entries change it (legal/Callers)
 -- rule: once
 abbrev pub claim_of : ℕ → List Told → ℕ → Option Claimed
 claim_of window [] w = None

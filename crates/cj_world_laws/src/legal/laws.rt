@@ -7,6 +7,7 @@ ghost use Rattle.cj_state.specs.phases.Inputs.{rests_on, RestsOnThree};
 ghost use Rattle.cj_state.specs.Sound.{IsSound};
 ghost use Rattle.cj_state.specs.Legal.{state_of};
 ghost use Rattle.cj_world_laws.specs.legal.Answers.{AnswersFit};
+ghost use Rattle.cj_world_laws.specs.legal.Callers.{CallerLaw};
 ghost use Rattle.cj_world_laws.specs.legal.Seats.{SeatLaw, HeldLaw};
 ghost use Rattle.cj_world_laws.specs.legal.Exclusive.{AlwaysExclusive};
 
@@ -34,6 +35,13 @@ pub fn answer_law()
 pub fn seat_law()
     ensures seats { SeatLaw }
     ensures held { HeldLaw }
+{}
+
+/// Callers are told apart by number and role, and for the calls of a sync the number is enough: who is answered one
+/// that is accepted is a worker. A worker's seat and its claim by the entries of its number and role are those by the
+/// entries of its number, and a caller of another role has neither.
+pub fn caller_law()
+    ensures { CallerLaw }
 {}
 
 /// Between two Takes of a key its first taker has ended its sync.

@@ -1,0 +1,202 @@
+-- Accepted calls of a sync are a worker's, so that numbers alone tell workers apart.
+use Rattle.std.proofs.Common.{◌≡◌, ◌⊎◌, inl, inr, ℕ, ◌==◌, Bool, true, false, ◌&&◌, List, [], ◌∷◌, refl, sym, ap, ◌∙◌}
+use Rattle.std.specs.Prelude.{◌≢◌, Option, Some, None, Result, Ok, Err, if◌then◌else◌}
+use Rattle.cj_base.specs.declared.refusal.Refusal.{Refusal}
+use Rattle.cj_store.specs.Content.{Content}
+use Rattle.cj_calls.specs.declared.caller.Caller.{Caller}
+use Rattle.cj_calls.specs.declared.caller.Role.{Role}
+use Rattle.cj_calls.specs.declared.caller.Role.TheVariants.{User, Runner, Informer, Worker}
+use Rattle.cj_calls.specs.declared.call.Call.{Call}
+use Rattle.cj_calls.specs.declared.call.Call.TheVariants as Of
+use Rattle.cj_calls.specs.declared.reply.Reply.{Reply}
+use Rattle.cj_calls.specs.Rows.{Told}
+use Rattle.cj_state.specs.declared.phases.seat.Seat.{Seat}
+use Rattle.cj_state.specs.declared.state.State.{State}
+use Rattle.cj_state.specs.Step.{step_of, by_role, by_user, by_runner, by_informer}
+use Rattle.cj_state.specs.Legal.{IsLegal, answer_of, state_of}
+use Rattle.cj_world_laws.specs.legal.Seats.{accepted, seat, seat_after}
+use Rattle.cj_world_laws.specs.legal.Callers.{is_of_sync, WorkersAlone, same_role, same_caller, seat_by, claim_by, worker, AreOfCallers, CallerLaw}
+use Rattle.cj_world_laws.specs.once.Once.{Claimed, claim_after, claim_of, is_ok}
+
+-- ---- who makes the calls of a sync
+
+-- A user's call of a sync is refused.
+of_user : (s : State) (call : Call) → is_of_sync call ≡ true → is_ok (by_user s call).answer ≡ false
+of_user s Of.Take i = refl
+of_user s Of.SeeCron i = refl
+of_user s Of.SeeJobs i = refl
+of_user s Of.SeeActive i = refl
+of_user s (Of.Claim p) i = refl
+of_user s Of.DropNext i = refl
+of_user s Of.MakeNext i = refl
+of_user s Of.SetStatus i = refl
+of_user s (Of.Finish end rs) i = refl
+of_user s call i = absurd (cc i)
+
+-- A runner's call of a sync is refused.
+of_runner : (s : State) (call : Call) → is_of_sync call ≡ true → is_ok (by_runner s call).answer ≡ false
+of_runner s Of.Take i = refl
+of_runner s Of.SeeCron i = refl
+of_runner s Of.SeeJobs i = refl
+of_runner s Of.SeeActive i = refl
+of_runner s (Of.Claim p) i = refl
+of_runner s Of.DropNext i = refl
+of_runner s Of.MakeNext i = refl
+of_runner s Of.SetStatus i = refl
+of_runner s (Of.Finish end rs) i = refl
+of_runner s call i = absurd (cc i)
+
+-- An informer's call of a sync is refused.
+of_informer : (s : State) (call : Call) → is_of_sync call ≡ true → is_ok (by_informer s call).answer ≡ false
+of_informer s Of.Take i = refl
+of_informer s Of.SeeCron i = refl
+of_informer s Of.SeeJobs i = refl
+of_informer s Of.SeeActive i = refl
+of_informer s (Of.Claim p) i = refl
+of_informer s Of.DropNext i = refl
+of_informer s Of.MakeNext i = refl
+of_informer s Of.SetStatus i = refl
+of_informer s (Of.Finish end rs) i = refl
+of_informer s call i = absurd (cc i)
+
+-- An accepted call of a sync, which isn't refused, has a worker's role.
+by_workers : (s : State) (r : Role) (w : ℕ) (call : Call) → is_of_sync call ≡ true
+    → is_ok (by_role s r w call).answer ≡ true → r ≡ Worker
+by_workers s Worker w call i ok = refl
+by_workers s User w call i ok = absurd (let no = of_user s call i in cc (sym ok ∙ no))
+by_workers s Runner w call i ok = absurd (let no = of_runner s call i in cc (sym ok ∙ no))
+by_workers s Informer w call i ok = absurd (let no = of_informer s call i in cc (sym ok ∙ no))
+
+-- In any state who is answered a call of a sync is a worker.
+worker_called : (s : State) (c : Caller) (call : Call) → is_of_sync call ≡ true → is_ok (step_of s c call).answer ≡ true
+    → c.role ≡ Worker
+unfolding step_of
+worker_called s c call i ok = by_workers s c.role c.number call i ok
+
+-- In a legal history each accepted call of a sync is a worker's.
+workers_alone : (window : ℕ) (h : List Told) → IsLegal window h → WorkersAlone h
+workers_alone window [] l = tt
+workers_alone window (e ∷ h) l = (
+  λ i ok. worker_called (state_of window h) e.caller e.call i (ap is_ok (sym l.0) ∙ ok),
+  workers_alone window h l.2,
+)
+
+-- ---- what other calls leave
+
+-- An answer to a call that is none of a sync says nothing of a seat.
+seat_kept : (o : Option Seat) (call : Call) (r : Reply) → is_of_sync call ≡ false → accepted o call r ≡ o
+seat_kept o Of.Take r i = absurd (cc i)
+seat_kept o Of.SeeCron r i = absurd (cc i)
+seat_kept o Of.SeeJobs r i = absurd (cc i)
+seat_kept o Of.SeeActive r i = absurd (cc i)
+seat_kept o (Of.Claim p) r i = absurd (cc i)
+seat_kept o Of.DropNext r i = absurd (cc i)
+seat_kept o Of.MakeNext r i = absurd (cc i)
+seat_kept o Of.SetStatus r i = absurd (cc i)
+seat_kept o (Of.Finish end rs) r i = absurd (cc i)
+seat_kept o call r i = refl
+
+-- A refused call leaves the claim as it was.
+claim_refused : (s : Content) (call : Call) (x : Refusal) (b : Option Claimed) → claim_after s call (Err x) b ≡ b
+claim_refused s (Of.Claim p) x b = refl
+claim_refused s call x b = refl
+
+-- A call that is none of a sync leaves the claim as it was.
+claim_kept : (s : Content) (call : Call) (a : Result Reply Refusal) (b : Option Claimed) → is_of_sync call ≡ false
+    → claim_after s call a b ≡ b
+claim_kept s (Of.Claim p) a b i = absurd (cc i)
+claim_kept s call a b i = refl
+
+-- an entry that leaves each seat and each claim as it was
+pub record Idle (s : Content) (call : Call) (a : Result Reply Refusal) : Type 0 where
+  pub seats : (o : Option Seat) → seat_after o call a ≡ o
+  pub claims : (b : Option Claimed) → claim_after s call a b ≡ b
+
+-- For idle: an entry whose caller is no worker, by whether its call is one of a sync and its answer.
+idle_by : (s : Content) (call : Call) (a : Result Reply Refusal) (b : Bool) → is_of_sync call ≡ b
+    → (b ≡ true → is_ok a ≡ true → ⊥) → Idle s call a
+idle_by s call (Err x) b i no = record { seats = λ o. refl; claims = claim_refused s call x }
+idle_by s call (Ok r) true i no = absurd (no refl refl)
+idle_by s call (Ok r) false i no = record {
+  seats = λ o. seat_kept o call r i;
+  claims = λ c. claim_kept s call (Ok r) c i;
+}
+
+-- An entry of a legal history whose caller is no worker leaves each seat and each claim as it was.
+pub idle : (window : ℕ) (e : Told) (h : List Told) → IsLegal window (e ∷ h) → e.caller.role ≢ Worker
+    → Idle (state_of window h).store e.call e.answer
+idle window e h l no = idle_by (state_of window h).store e.call e.answer (is_of_sync e.call) refl
+    (λ i ok. no (worker_called (state_of window h) e.caller e.call i (ap is_ok (sym l.0) ∙ ok)))
+
+-- ---- by the caller and by the number
+
+-- Roles that the test takes for the same are the same.
+role_is : (a b : Role) → same_role a b ≡ true → a ≡ b
+role_is User User e = refl
+role_is Runner Runner e = refl
+role_is Informer Informer e = refl
+role_is Worker Worker e = refl
+role_is a b e = absurd (cc e)
+
+-- Where two tests hold, the second does.
+second : (a b : Bool) → (a && b) ≡ true → b ≡ true
+second true b e = e
+second false b e = absurd (cc e)
+
+module _ {X : Type 0} (f : X → X) where
+  -- A worker's value by its caller is the one by its number, where entries of others change none.
+  as_numbered : (b : Bool) (r : Role) (x y : X) → x ≡ y → (r ≢ Worker → (z : X) → f z ≡ z)
+      → (if b && same_role Worker r then f x else x) ≡ (if b then f y else y)
+  as_numbered true Worker x y e no = ap f e
+  as_numbered true User x y e no = e ∙ sym (no (λ i. cc i) y)
+  as_numbered true Runner x y e no = e ∙ sym (no (λ i. cc i) y)
+  as_numbered true Informer x y e no = e ∙ sym (no (λ i. cc i) y)
+  as_numbered false r x y e no = e
+
+  -- The value of a caller that is no worker stays what it was.
+  as_before : (b : Bool) (x y : X) → x ≡ y → (b ≡ true → (z : X) → f z ≡ z) → (if b then f x else x) ≡ y
+  as_before true x y e no = no refl x ∙ e
+  as_before false x y e no = e
+
+-- A caller of the same role as one that is no worker is none.
+none_either : (c d : Caller) → c.role ≢ Worker → same_caller c d ≡ true → d.role ≢ Worker
+none_either c d no same is = no (role_is c.role d.role (second (c.number == d.number) (same_role c.role d.role) same) ∙ is)
+
+-- A worker's seat by its caller is the one by its number.
+seats_by : (window : ℕ) (h : List Told) → IsLegal window h → (w : ℕ) → seat_by h (worker w) ≡ seat h w
+seats_by window [] l w = refl
+seats_by window (e ∷ h) l w =
+    as_numbered (λ (o : Option Seat). seat_after o e.call e.answer) (w == e.caller.number) e.caller.role (seat_by h (worker w)) (seat h w)
+    (seats_by window h l.2 w) (λ no. (idle window e h l no).seats)
+
+-- A worker's claim by its caller is the one by its number.
+claims_by : (window : ℕ) (h : List Told) → IsLegal window h → (w : ℕ) → claim_by window h (worker w) ≡ claim_of window h w
+claims_by window [] l w = refl
+claims_by window (e ∷ h) l w =
+    as_numbered (claim_after (state_of window h).store e.call e.answer) (w == e.caller.number) e.caller.role
+    (claim_by window h (worker w)) (claim_of window h w)
+    (claims_by window h l.2 w) (λ no. (idle window e h l no).claims)
+
+-- A caller that is no worker has no seat.
+no_seat : (window : ℕ) (h : List Told) → IsLegal window h → (c : Caller) → c.role ≢ Worker → seat_by h c ≡ None
+no_seat window [] l c no = refl
+no_seat window (e ∷ h) l c no =
+    as_before (λ (o : Option Seat). seat_after o e.call e.answer) (same_caller c e.caller) (seat_by h c) None (no_seat window h l.2 c no)
+    (λ same. (idle window e h l (none_either c e.caller no same)).seats)
+
+-- A caller that is no worker has no claim.
+no_claim : (window : ℕ) (h : List Told) → IsLegal window h → (c : Caller) → c.role ≢ Worker → claim_by window h c ≡ None
+no_claim window [] l c no = refl
+no_claim window (e ∷ h) l c no =
+    as_before (claim_after (state_of window h).store e.call e.answer) (same_caller c e.caller) (claim_by window h c) None
+    (no_claim window h l.2 c no) (λ same. (idle window e h l (none_either c e.caller no same)).claims)
+
+-- For caller_law: in a legal history a worker's seat and claim are those of its number, and nobody else has any.
+pub callers_apart : CallerLaw
+callers_apart window h l = record {
+  alone = workers_alone window h l;
+  seats = seats_by window h l;
+  claims = claims_by window h l;
+  seatless = no_seat window h l;
+  claimless = no_claim window h l;
+}
