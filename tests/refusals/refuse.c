@@ -1,6 +1,7 @@
 /*
  * Preloaded into a built program: refuses one of its requests. REFUSE_MEMORY=N refuses the Nth request for memory,
- * REFUSE_READ=N the Nth read, REFUSE_WRITE=N the Nth write; where SHORT_WRITES is set, a write takes one byte.
+ * REFUSE_READ=N the Nth read, REFUSE_WRITE=N the Nth write; where SHORT_WRITES is set, a write takes one byte. Where
+ * BETWEEN_WRITES is set, only the requests for memory after the first write and before the second count.
  * At its end the program leaves in the file REFUSE_COUNT how many of each it made.
  */
 #define _GNU_SOURCE
@@ -15,7 +16,7 @@ enum kind { MEMORY, READ, WRITE, KINDS };
 
 static const char *const names[KINDS] = {"REFUSE_MEMORY", "REFUSE_READ", "REFUSE_WRITE"};
 static long wanted[KINDS], made[KINDS];
-static int known;
+static int known, between;
 
 static void learn(void)
 {
@@ -23,6 +24,7 @@ static void learn(void)
         const char *text = getenv(names[kind]);
         wanted[kind] = text ? atol(text) : 0;
     }
+    between = getenv("BETWEEN_WRITES") != NULL;
     known = 1;
 }
 
@@ -31,6 +33,8 @@ static int refused(enum kind kind)
 {
     if (!known)
         learn();
+    if (kind == MEMORY && between && made[WRITE] != 1)
+        return 0;
     return __sync_add_and_fetch(&made[kind], 1) == wanted[kind];
 }
 

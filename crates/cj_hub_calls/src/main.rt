@@ -1,64 +1,71 @@
-//! Makes eleven calls through one pass of a hub, and closes it. The exit status is the number of calls that
-//! were entered, 20 where there was no memory for a hub and a pass, 30 where the pass counts another number
-//! than was entered, and 31 where the hub isn't closed. So the tests can refuse each request for memory in
-//! turn, and see that a refused call leaves pass and hub as they were.
+//! Makes calls while somebody outside refuses a request for memory, for the tests that refuse each in turn.
+//!
+//! Without arguments it makes eleven calls through one pass of a hub, and closes it. The exit status is the
+//! number of calls that were entered, 20 where there was no memory for a hub and a pass, 30 where the pass
+//! counts another number than was entered, and 31 where the hub isn't closed. So the tests can see that a
+//! refused call leaves pass and hub as they were.
+//!
+//! With the arguments FILE PLACE CALL DETAIL it makes one call on a world, at the place of a step of the script
+//! in the file: `trials` says what is compared. It writes what the call is usually answered, then makes the
+//! call, and then writes what came of it: memory that is refused between the two writes is refused to the call
+//! alone. The exit status is 0 where all was as it should be, 1 where it wasn't, and 20 where the arguments
+//! say no call, or there was no memory beside the call.
 #![tactic(auto)]
 
-use cj_calls::{Call, Role};
-use cj_hub::{Hub, Pass};
-use cj_types::{Heap, Limits, Refusal};
+mod asks;
+mod boxed;
+mod hubs;
+mod trials;
+mod twins;
+mod words;
+
+use asks::Ask;
+use cj_types::Refusal;
 use std::alloc::Global;
-use std::mem;
 use std::process::ExitCode;
 use std::sync::Wait;
+use trials::try_call;
 
-// How many calls are made.
-const CALLS: u8 = 11;
+// The status of a program that came to nothing.
+const NOTHING: u8 = 20;
 
-// Makes one call, and answers whether it was entered.
-fn is_entered<R: Wait>(rt: &R, hub: &Hub, pass: &mut Pass) -> bool {
-    hub.call(rt, pass, Call::ListJobs).is_ok()
+fn arguments(rt: &HostRuntime) -> Option<Vec<String>> {
+    let args = std::env::args(rt).ok()?;
+    args.collect(rt.alloc()).ok()
 }
 
-// How many of the calls were entered.
-fn entered<R: Wait>(rt: &R, hub: &Hub, pass: &mut Pass) -> u8 {
-    let mut count: u8 = 0;
-    for _ in 0..CALLS {
-        if is_entered(rt, hub, pass) {
-            count = count.saturating_add(1);
+// Makes the call that the arguments name.
+fn tried(
+    rt: &HostRuntime,
+    alloc: Global,
+    file: &str,
+    place: &str,
+    ask: &Ask<'_>,
+) -> Result<u8, Refusal> {
+    let place = place.parse::<usize>().map_err(|_| Refusal::Syntax)?;
+    let text = std::fs::read_to_string(rt, file).map_err(|_| Refusal::Syntax)?;
+    try_call(rt, alloc, text.as_bytes(), place, ask)
+}
+
+fn status<R: Wait>(wait: &R, rt: &HostRuntime, args: &[String]) -> Result<u8, Refusal> {
+    match args {
+        [_, file, place, call, detail] => {
+            let ask = Ask {
+                call: call.as_str(),
+                detail: detail.as_str(),
+            };
+            tried(rt, rt.alloc(), file.as_str(), place.as_str(), &ask)
         }
+        _ => hubs::called(wait, rt.alloc()),
     }
-    count
-}
-
-// The status where so many calls were entered. The process ends then, so nothing is given back.
-fn closed(hub: Hub, passes: Vec<Pass>, count: u8) -> u8 {
-    let counted = passes.as_slice().first().map(|pass| pass.receipts().len());
-    let result = hub.close(passes);
-    let is_closed = result.is_ok();
-    mem::forget(result);
-    if counted != Some(usize::from(count)) {
-        30
-    } else if is_closed {
-        count
-    } else {
-        31
-    }
-}
-
-fn called<R: Wait>(rt: &R, alloc: Global) -> Result<u8, Refusal> {
-    let mut passes = Vec::new(alloc);
-    let limits = Limits::new(1_000, 100).unwrap();
-    let hub = Heap::new(alloc, Hub::new(alloc, limits)?)?;
-    let pass = hub.get().enroll(rt, Role::User)?;
-    passes.push(pass).map_err(|_| Refusal::OutOfMemory)?;
-    let count = entered(rt, hub.get(), &mut passes[0]);
-    Ok(closed(hub.into_inner(), passes, count))
 }
 
 fn main(rt: HostRuntime) -> ExitCode {
-    match called(&rt, rt.alloc()) {
+    let Some(args) = arguments(&rt) else {
+        return ExitCode::from(NOTHING);
+    };
+    match status(&rt, &rt, args.as_slice()) {
         Ok(status) => ExitCode::from(status),
-        Err(_) => ExitCode::from(20),
+        Err(_) => ExitCode::from(NOTHING),
     }
 }

@@ -1,5 +1,7 @@
 // Tests of the values below the stored types, of zones and due times: what no command shows.
 #[cfg(test)]
+mod counts;
+#[cfg(test)]
 mod lower_ends;
 #[cfg(test)]
 mod values;

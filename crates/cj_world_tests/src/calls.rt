@@ -72,7 +72,8 @@ pub fn edit(rt: &impl Abort, alloc: Global, name: &str) -> Call {
     Call::UpdateCron(cron(rt, alloc, name, Policy::Replace))
 }
 
-fn key(rt: &impl Abort, alloc: Global, name: &str) -> Key {
+/// The key of the name.
+pub fn key(rt: &impl Abort, alloc: Global, name: &str) -> Key {
     Key::new(alloc, "default", name).expect(rt, "a key")
 }
 

@@ -10,6 +10,7 @@ pub fn word_of(refusal: &Refusal) -> &'static str {
     match refusal {
         Refusal::Empty => "Empty",
         Refusal::Estranged => "Estranged",
+        Refusal::Expired(_) => "Expired",
         Refusal::HistoryFull => "HistoryFull",
         Refusal::ShutDown => "ShutDown",
         _ => "another refusal",

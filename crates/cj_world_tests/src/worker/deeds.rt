@@ -105,7 +105,8 @@ fn count(entries: &[Entry], sought: Sought) -> usize {
     count
 }
 
-fn closed(rt: &impl Abort, hub: Hub, passes: Vec<Pass>) -> Closed {
+/// What the hub, whose passes are these, has once it is closed.
+pub fn closed(rt: &impl Abort, hub: Hub, passes: Vec<Pass>) -> Closed {
     match hub.close(passes) {
         Ok(closed) => closed,
         Err(refused) => {

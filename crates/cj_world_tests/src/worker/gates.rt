@@ -1,4 +1,4 @@
-// Gates that stop a sync, or disturb it.
+// A gate that disturbs a sync.
 use crate::worker::fixtures::made;
 use cj_calls::Call;
 use cj_hub::{Hub, Pass};
@@ -7,25 +7,6 @@ use cj_worker::{Gate, Point, Turn};
 use std::alloc::Global;
 use std::process::Abort;
 use std::sync::{Mutex, Wait};
-
-/// Stops the sync of one key at one point.
-#[derive(Clone, Copy)]
-pub struct StopsAt {
-    pub point: Point,
-    pub name: &'static str,
-}
-
-impl Gate for StopsAt {
-    ghost may_stop = { λ _ _ _. Unit {0} };
-
-    fn at(&self, point: Point, key: &Key) -> Turn {
-        if point == self.point && key.name() == self.name {
-            Turn::Stop
-        } else {
-            Turn::Go
-        }
-    }
-}
 
 /// Makes calls of another pass when a sync is at the point. They are accepted.
 #[derive(Drop)]

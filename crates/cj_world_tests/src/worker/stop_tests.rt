@@ -1,74 +1,125 @@
 use crate::calls::{FIRST, SECOND, add};
-use crate::hubs::pass_of;
-use crate::worker::deeds::{Deed, Sought, counts};
+use crate::worker::clocks::{Moving, clock_between};
+use crate::worker::deeds::closed;
 use crate::worker::fixtures::{Fixture, fixture_of, made};
-use crate::worker::gates::StopsAt;
-use crate::worker::syncs::synced;
-use cj_calls::{Call, Role};
-use cj_hub::{Hub, Pass};
-use cj_worker::{OpenGate, Point};
+use crate::worker::stops::StopsAt;
+use crate::worker::worker_ends::{last_of, two_workers};
+use cj_calls::Call;
+use cj_hub::{Closed, Hub, Pass};
+use cj_types::{CronJob, Job, Shared};
+use cj_worker::Point;
 use std::alloc::Global;
+use std::mem;
 use std::process::Abort;
 use std::sync::Wait;
+use std::thread::{self, Threads};
 
-// The ends of another worker's syncs: one in the first minute, two in the second, before which both keys are
-// added again.
-fn other_ends(
+// Moves the workers' clock to the second minute and adds both keys again, once `a` is stopped and `b` has a Job; shuts the
+// queue once `b` has two. Answers whether it came to both.
+fn is_led(
     rt: &(impl Wait + Abort),
     alloc: Global,
     hub: &Hub,
     informer: &mut Pass,
-    other: &mut Pass,
-) -> [&'static str; 3] {
-    let first = synced(rt, alloc, hub, other, &OpenGate, FIRST);
+    gate: &StopsAt,
+    clock: &Moving,
+) -> bool {
+    let has_first = gate.waits_for(1);
+    clock.move_on();
     made(rt, hub, informer, add(rt, alloc, "a"));
     made(rt, hub, informer, add(rt, alloc, "b"));
+    let has_second = gate.waits_for(2);
     made(rt, hub, informer, Call::Shut);
-    let second = synced(rt, alloc, hub, other, &OpenGate, SECOND);
-    let third = synced(rt, alloc, hub, other, &OpenGate, SECOND);
-    [first, second, third]
+    has_first && has_second
 }
 
-// How the sync of `a` ended that is stopped at the point, and then those of another worker; and how often the
-// history tells that the stopped worker claimed a time, that the Job of `a` was made, and each of the two of
-// `b`.
-type Row = (&'static str, [&'static str; 3], [usize; 4]);
+// The last scheduled time of the first CronJob, 0 for none.
+fn last_time(crons: &[Shared<CronJob>]) -> u64 {
+    match crons.first() {
+        Some(cron) => cron
+            .get()
+            .status
+            .last_schedule_time
+            .map_or(0, |time| time.get()),
+        None => 0,
+    }
+}
 
-fn stopped_at(rt: &(impl Wait + Abort), alloc: Global, point: Point) -> Row {
+// How many Jobs have a name that begins so.
+fn count(jobs: &[Shared<Job>], beginning: &str) -> usize {
+    let mut count = 0usize;
+    for job in jobs {
+        if job.get().key.name().starts_with(beginning) {
+            count = count.saturating_add(1);
+        }
+    }
+    count
+}
+
+// The last scheduled time of `a`, and how many Jobs `a` and `b` have.
+type Left = (u64, [usize; 2]);
+
+fn left(rt: &impl Abort, closed: &Closed) -> Left {
+    let (crons, jobs) = closed.objects().ok().expect(rt, "memory");
+    let time = last_time(crons.as_slice());
+    let counts = [count(jobs.as_slice(), "a-"), count(jobs.as_slice(), "b-")];
+    mem::forget(crons);
+    mem::forget(jobs);
+    (time, counts)
+}
+
+// Whether it went on within the polls; how one of the workers ended and with which call, and then the other, which found the
+// queue shut; and what is left.
+type Row = (bool, [&'static str; 2], [&'static str; 2], Left);
+
+fn stopped_at(rt: &(impl Threads + Wait + Abort + Sync), alloc: Global, point: Point) -> Row {
     let Fixture {
         hub,
         user,
         mut informer,
     } = fixture_of(rt, alloc, &["a", "b"]);
-    let mut stopped = pass_of(rt, &hub, Role::Worker);
-    let mut other = pass_of(rt, &hub, Role::Worker);
-    let gate = StopsAt { point, name: "a" };
-    let end = synced(rt, alloc, &hub, &mut stopped, &gate, FIRST);
-    let ends = other_ends(rt, alloc, &hub, &mut informer, &mut other);
-    let sought = [
-        Sought::By(stopped.caller().number, Deed::Claimed),
-        Sought::Job("a-28401121"),
-        Sought::Job("b-28401121"),
-        Sought::Job("b-28401122"),
-    ];
-    let passes = vec![in alloc; user, informer, stopped, other].expect(rt, "memory");
-    (end, ends, counts(rt, hub, passes, sought))
+    let gate = StopsAt::new(point);
+    let clock = clock_between(rt, FIRST, SECOND);
+    let (mut workers, is_led) = thread::join(
+        rt,
+        || two_workers(rt, alloc, &hub, &gate, &clock),
+        || is_led(rt, alloc, &hub, &mut informer, &gate, &clock),
+    );
+    let mut passes = vec![in alloc; user, informer].expect(rt, "memory");
+    let two = last_of(rt, &mut workers, &mut passes);
+    let one = last_of(rt, &mut workers, &mut passes);
+    mem::forget(workers);
+    let closed = closed(rt, hub, passes);
+    let left = left(rt, &closed);
+    mem::forget(closed);
+    let (stopped, other) = if one.end == "ShutDown" {
+        (two, one)
+    } else {
+        (one, two)
+    };
+    (
+        is_led,
+        [stopped.end, stopped.call],
+        [other.end, other.call],
+        left,
+    )
 }
 
-const ENDS: [&str; 3] = ["Done", "Done", "ShutDown"];
+const OTHER: [&str; 2] = ["ShutDown", "Take"];
 
 const ROWS: [Row; 5] = [
-    ("Taken", ENDS, [0, 0, 1, 1]),
-    ("Seen", ENDS, [0, 0, 1, 1]),
-    ("Listed", ENDS, [0, 0, 1, 1]),
-    ("Claimed", ENDS, [1, 0, 1, 1]),
-    ("Made", ENDS, [1, 1, 1, 1]),
+    (true, ["Taken", "Take"], OTHER, (0, [0, 2])),
+    (true, ["Seen", "SeeCron"], OTHER, (0, [0, 2])),
+    (true, ["Listed", "SeeJobs"], OTHER, (0, [0, 2])),
+    (true, ["Claimed", "Claim"], OTHER, (FIRST, [0, 2])),
+    (true, ["Made", "MakeNext"], OTHER, (FIRST, [1, 2])),
 ];
 
-// A sync of `a` that is stopped at one of the five points makes no further call: of `a` there is no Job and
-// no claim up to Listed, a claim without a Job at Claimed, one Job at Made. The key stays held: another
-// worker never gets it, though it is added again, and makes both Jobs of `b`.
-// rule: stopped-sync
+// Two workers on threads, in the first minute and then in the second. The sync of `a` that is stopped at one of the five
+// points makes no further call, and its worker none at all: it ends there, with that call as its last. `a` has no last time
+// and no Job up to Listed, the first minute and no Job at Claimed, one Job at Made. Its key stays held: the other worker never
+// gets it, though it is added again, makes both Jobs of `b`, and ends once the queue is shut.
+// rules: stopped-sync, worker-ends
 #[test]
 fn stopped_at_each_point(rt: HostRuntime) {
     let alloc = rt.alloc();

@@ -1,50 +1,15 @@
 use crate::calls::FIRST;
-use crate::hubs::pass_of;
 use crate::worker::clocks::clock_at;
 use crate::worker::deeds::{Deed, Sought, counts};
 use crate::worker::fixtures::{Fixture, fixture_of, made};
-use crate::worker::syncs::word;
 use crate::worker::two_keys::TwoKeys;
-use cj_calls::{Call, Role};
-use cj_hub::{Hub, Pass};
-use cj_worker::{WorkerEnd, run_workers};
-use cj_zone::ZoneTable;
+use crate::worker::worker_ends::{last_of, two_workers};
+use cj_calls::Call;
 use std::alloc::Global;
 use std::mem;
 use std::process::Abort;
 use std::sync::Wait;
 use std::thread::Threads;
-
-// What came of two workers, each with a thread of its own.
-fn work(
-    rt: &(impl Threads + Wait + Abort + Sync),
-    alloc: Global,
-    hub: &Hub,
-    gate: &TwoKeys,
-) -> Vec<WorkerEnd> {
-    let one = pass_of(rt, hub, Role::Worker);
-    let two = pass_of(rt, hub, Role::Worker);
-    let passes = vec![in alloc; one, two].expect(rt, "memory");
-    let clock = clock_at(rt, FIRST);
-    let zones = ZoneTable::new(alloc).expect(rt, "memory");
-    let ends = run_workers(rt, alloc, hub, passes, gate, &clock, &zones);
-    mem::forget(zones);
-    ends.ok().expect(rt, "threads")
-}
-
-// The last of the workers: how it ended, its number, and its pass, which comes to the others.
-fn last_of(
-    rt: &impl Abort,
-    ends: &mut Vec<WorkerEnd>,
-    passes: &mut Vec<Pass>,
-) -> (&'static str, u64) {
-    let WorkerEnd { pass, end } = ends.pop().expect(rt, "a worker");
-    let number = pass.caller().number;
-    passes.push(pass).expect(rt, "memory");
-    let told = (word(&end), number);
-    mem::forget(end);
-    told
-}
 
 // Whether the polls ran out, how each worker ended, and how often the history tells of each that it ended a
 // sync well, and of each key that its Job was made.
@@ -58,18 +23,19 @@ fn told(rt: &(impl Threads + Wait + Abort + Sync), alloc: Global) -> Told {
     } = fixture_of(rt, alloc, &["a", "b"]);
     made(rt, &hub, &mut informer, Call::Shut);
     let gate = TwoKeys::new();
-    let mut workers = work(rt, alloc, &hub, &gate);
+    let clock = clock_at(rt, FIRST);
+    let mut workers = two_workers(rt, alloc, &hub, &gate, &clock);
     let mut passes = vec![in alloc; user, informer].expect(rt, "memory");
-    let (two_end, two) = last_of(rt, &mut workers, &mut passes);
-    let (one_end, one) = last_of(rt, &mut workers, &mut passes);
+    let two = last_of(rt, &mut workers, &mut passes);
+    let one = last_of(rt, &mut workers, &mut passes);
     mem::forget(workers);
     let sought = [
-        Sought::By(one, Deed::Finished),
-        Sought::By(two, Deed::Finished),
+        Sought::By(one.number, Deed::Finished),
+        Sought::By(two.number, Deed::Finished),
         Sought::Job("a-28401121"),
         Sought::Job("b-28401121"),
     ];
-    let ends = [one_end, two_end];
+    let ends = [one.end, two.end];
     (gate.has_given_up(), ends, counts(rt, hub, passes, sought))
 }
 

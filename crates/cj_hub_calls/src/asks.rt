@@ -1,0 +1,89 @@
+// The call at the place of a step.
+use crate::boxed::boxed;
+use cj_calls::Call;
+use cj_replay::Snapshots;
+use cj_script::{Operation, Snapshot, Step, call_of, key_of};
+use cj_types::{Job, Key, Refusal, Shared};
+use cj_world::World;
+use cj_zone::ZoneTable;
+use std::alloc::Global;
+
+/// Which call is made at the place of a step, by the step's caller: `step`, its own; `seenBy`, its own for what
+/// the worker of the number has seen; or `getCron`, `getJob`, `listCrons` or `listJobs` in place of it. The
+/// detail is the number, or the key.
+#[derive(Clone, Copy)]
+pub struct Ask<'a> {
+    pub call: &'a str,
+    pub detail: &'a str,
+}
+
+// The Job that an operation ends, if one stands at its key.
+fn job_of<'w>(world: &'w World, operation: &Operation) -> Option<&'w Shared<Job>> {
+    match operation {
+        Operation::Ends(key, _, _) => world.job(key),
+        _ => None,
+    }
+}
+
+// The call of the step for what the worker of the number has seen.
+fn seen_call(
+    alloc: Global,
+    zones: &ZoneTable,
+    world: &World,
+    snapshots: &Snapshots,
+    number: u64,
+    step: &Step,
+) -> Result<Box<Call, Global>, Refusal> {
+    let job = job_of(world, &step.operation);
+    let call = match snapshots.get(number) {
+        Some(snapshot) => call_of(alloc, zones, snapshot, job, &step.operation),
+        None => call_of(alloc, zones, &Snapshot::unseen(), job, &step.operation),
+    };
+    boxed(alloc, call?)
+}
+
+/// The step's own call.
+pub fn step_call(
+    alloc: Global,
+    zones: &ZoneTable,
+    world: &World,
+    snapshots: &Snapshots,
+    step: &Step,
+) -> Result<Box<Call, Global>, Refusal> {
+    seen_call(alloc, zones, world, snapshots, step.caller.number, step)
+}
+
+fn key_in(alloc: Global, text: &str) -> Result<Key, Refusal> {
+    key_of(alloc, text)?.ok_or(Refusal::Syntax)
+}
+
+// A reading.
+fn reading(alloc: Global, ask: &Ask<'_>) -> Result<Box<Call, Global>, Refusal> {
+    let call = match ask.call {
+        "getCron" => Call::GetCron(key_in(alloc, ask.detail)?),
+        "getJob" => Call::GetJob(key_in(alloc, ask.detail)?),
+        "listCrons" => Call::ListCrons,
+        "listJobs" => Call::ListJobs,
+        _ => return Err(Refusal::Syntax),
+    };
+    boxed(alloc, call)
+}
+
+/// The call that is asked for at the place of the step.
+pub fn asked_call(
+    alloc: Global,
+    zones: &ZoneTable,
+    world: &World,
+    snapshots: &Snapshots,
+    ask: &Ask<'_>,
+    step: &Step,
+) -> Result<Box<Call, Global>, Refusal> {
+    match ask.call {
+        "step" => step_call(alloc, zones, world, snapshots, step),
+        "seenBy" => {
+            let number = ask.detail.parse::<u64>().map_err(|_| Refusal::Syntax)?;
+            seen_call(alloc, zones, world, snapshots, number, step)
+        }
+        _ => reading(alloc, ask),
+    }
+}
