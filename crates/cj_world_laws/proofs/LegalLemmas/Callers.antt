@@ -63,9 +63,9 @@ of_informer s call i = absurd (cc i)
 by_workers : (s : State) (r : Role) (w : ℕ) (call : Call) → is_of_sync call ≡ true
     → is_ok (by_role s r w call).answer ≡ true → r ≡ Worker
 by_workers s Worker w call i ok = refl
-by_workers s User w call i ok = absurd (let no = of_user s call i in cc (sym ok ∙ no))
-by_workers s Runner w call i ok = absurd (let no = of_runner s call i in cc (sym ok ∙ no))
-by_workers s Informer w call i ok = absurd (let no = of_informer s call i in cc (sym ok ∙ no))
+by_workers s User w call i ok = absurd (let other = of_user s call i in cc (sym ok ∙ other))
+by_workers s Runner w call i ok = absurd (let other = of_runner s call i in cc (sym ok ∙ other))
+by_workers s Informer w call i ok = absurd (let other = of_informer s call i in cc (sym ok ∙ other))
 
 -- In any state who is answered a call of a sync is a worker.
 worker_called : (s : State) (c : Caller) (call : Call) → is_of_sync call ≡ true → is_ok (step_of s c call).answer ≡ true
@@ -115,9 +115,9 @@ pub record Idle (s : Content) (call : Call) (a : Result Reply Refusal) : Type 0 
 -- For idle: an entry whose caller is no worker, by whether its call is one of a sync and its answer.
 idle_by : (s : Content) (call : Call) (a : Result Reply Refusal) (b : Bool) → is_of_sync call ≡ b
     → (b ≡ true → is_ok a ≡ true → ⊥) → Idle s call a
-idle_by s call (Err x) b i no = record { seats = λ o. refl; claims = claim_refused s call x }
-idle_by s call (Ok r) true i no = absurd (no refl refl)
-idle_by s call (Ok r) false i no = record {
+idle_by s call (Err x) b i other = record { seats = λ o. refl; claims = claim_refused s call x }
+idle_by s call (Ok r) true i other = absurd (other refl refl)
+idle_by s call (Ok r) false i other = record {
   seats = λ o. seat_kept o call r i;
   claims = λ c. claim_kept s call (Ok r) c i;
 }
@@ -125,8 +125,8 @@ idle_by s call (Ok r) false i no = record {
 -- An entry of a legal history whose caller is no worker leaves each seat and each claim as it was.
 pub idle : (window : ℕ) (e : Told) (h : List Told) → IsLegal window (e ∷ h) → e.caller.role ≢ Worker
     → Idle (state_of window h).store e.call e.answer
-idle window e h l no = idle_by (state_of window h).store e.call e.answer (is_of_sync e.call) refl
-    (λ i ok. no (worker_called (state_of window h) e.caller e.call i (ap is_ok (sym l.0) ∙ ok)))
+idle window e h l other = idle_by (state_of window h).store e.call e.answer (is_of_sync e.call) refl
+    (λ i ok. other (worker_called (state_of window h) e.caller e.call i (ap is_ok (sym l.0) ∙ ok)))
 
 -- ---- by the caller and by the number
 
@@ -147,27 +147,27 @@ module _ {X : Type 0} (f : X → X) where
   -- A worker's value by its caller is the one by its number, where entries of others change none.
   as_numbered : (b : Bool) (r : Role) (x y : X) → x ≡ y → (r ≢ Worker → (z : X) → f z ≡ z)
       → (if b && same_role Worker r then f x else x) ≡ (if b then f y else y)
-  as_numbered true Worker x y e no = ap f e
-  as_numbered true User x y e no = e ∙ sym (no (λ i. cc i) y)
-  as_numbered true Runner x y e no = e ∙ sym (no (λ i. cc i) y)
-  as_numbered true Informer x y e no = e ∙ sym (no (λ i. cc i) y)
-  as_numbered false r x y e no = e
+  as_numbered true Worker x y e other = ap f e
+  as_numbered true User x y e other = e ∙ sym (other (λ i. cc i) y)
+  as_numbered true Runner x y e other = e ∙ sym (other (λ i. cc i) y)
+  as_numbered true Informer x y e other = e ∙ sym (other (λ i. cc i) y)
+  as_numbered false r x y e other = e
 
   -- The value of a caller that is no worker stays what it was.
   as_before : (b : Bool) (x y : X) → x ≡ y → (b ≡ true → (z : X) → f z ≡ z) → (if b then f x else x) ≡ y
-  as_before true x y e no = no refl x ∙ e
-  as_before false x y e no = e
+  as_before true x y e other = other refl x ∙ e
+  as_before false x y e other = e
 
 -- A caller of the same role as one that is no worker is none.
 none_either : (c d : Caller) → c.role ≢ Worker → same_caller c d ≡ true → d.role ≢ Worker
-none_either c d no same is = no (role_is c.role d.role (second (c.number == d.number) (same_role c.role d.role) same) ∙ is)
+none_either c d other same is = other (role_is c.role d.role (second (c.number == d.number) (same_role c.role d.role) same) ∙ is)
 
 -- A worker's seat by its caller is the one by its number.
 seats_by : (window : ℕ) (h : List Told) → IsLegal window h → (w : ℕ) → seat_by h (worker w) ≡ seat h w
 seats_by window [] l w = refl
 seats_by window (e ∷ h) l w =
     as_numbered (λ (o : Option Seat). seat_after o e.call e.answer) (w == e.caller.number) e.caller.role (seat_by h (worker w)) (seat h w)
-    (seats_by window h l.2 w) (λ no. (idle window e h l no).seats)
+    (seats_by window h l.2 w) (λ other. (idle window e h l other).seats)
 
 -- A worker's claim by its caller is the one by its number.
 claims_by : (window : ℕ) (h : List Told) → IsLegal window h → (w : ℕ) → claim_by window h (worker w) ≡ claim_of window h w
@@ -175,21 +175,21 @@ claims_by window [] l w = refl
 claims_by window (e ∷ h) l w =
     as_numbered (claim_after (state_of window h).store e.call e.answer) (w == e.caller.number) e.caller.role
     (claim_by window h (worker w)) (claim_of window h w)
-    (claims_by window h l.2 w) (λ no. (idle window e h l no).claims)
+    (claims_by window h l.2 w) (λ other. (idle window e h l other).claims)
 
 -- A caller that is no worker has no seat.
 no_seat : (window : ℕ) (h : List Told) → IsLegal window h → (c : Caller) → c.role ≢ Worker → seat_by h c ≡ None
-no_seat window [] l c no = refl
-no_seat window (e ∷ h) l c no =
-    as_before (λ (o : Option Seat). seat_after o e.call e.answer) (same_caller c e.caller) (seat_by h c) None (no_seat window h l.2 c no)
-    (λ same. (idle window e h l (none_either c e.caller no same)).seats)
+no_seat window [] l c other = refl
+no_seat window (e ∷ h) l c other =
+    as_before (λ (o : Option Seat). seat_after o e.call e.answer) (same_caller c e.caller) (seat_by h c) None (no_seat window h l.2 c other)
+    (λ same. (idle window e h l (none_either c e.caller other same)).seats)
 
 -- A caller that is no worker has no claim.
 no_claim : (window : ℕ) (h : List Told) → IsLegal window h → (c : Caller) → c.role ≢ Worker → claim_by window h c ≡ None
-no_claim window [] l c no = refl
-no_claim window (e ∷ h) l c no =
+no_claim window [] l c other = refl
+no_claim window (e ∷ h) l c other =
     as_before (claim_after (state_of window h).store e.call e.answer) (same_caller c e.caller) (claim_by window h c) None
-    (no_claim window h l.2 c no) (λ same. (idle window e h l (none_either c e.caller no same)).claims)
+    (no_claim window h l.2 c other) (λ same. (idle window e h l (none_either c e.caller other same)).claims)
 
 -- For caller_law: in a legal history a worker's seat and claim are those of its number, and nobody else has any.
 pub callers_apart : CallerLaw
