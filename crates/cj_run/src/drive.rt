@@ -110,7 +110,8 @@ fn live_at<R: Threads + Wait + Sync>(
 ) -> Result<(), Halt>
     requires { IsInstant simulation.now.span n }
     ensures { OnOk result (Does simulation.now.zones
-        (edits_at simulation.now.edits.items (instant simulation.now.span n)) participants.old.user participants.new.user) }
+        (edits_at simulation.now.edits.items (instant simulation.now.span n))
+        participants.old.user participants.new.user) }
 {
     let now = simulation.span.instant(n).unwrap();
     live(rt, alloc, hub, clock, simulation, participants, now)

@@ -117,7 +117,8 @@ fn passes_of(
     ends: Vec<WorkerEnd>,
 ) -> Result<Vec<Pass>, Failure>
     ensures all { IfOk result (λ ps. ps.items
-        ≡ all_passes participants.follower.pass participants.runners.items ends.items participants.user) }
+        ≡ all_passes participants.follower.pass participants.runners.items ends.items
+        participants.user) }
     ensures last { IfOk result (λ ps. (others : List PassView)
         × (ps.items ≡ others ++ participants.user ∷ [])) }
 {
