@@ -1,8 +1,13 @@
--- work: its ensures where a sync is the worker's last.
-use Rattle.cj_worker.proofs.Passes.{went_after}
+-- work: its ensures where a sync is the worker's last, and its loop's invariant.
+use Rattle.cj_worker.proofs.Passes.{went_after, extends_after}
+use Rattle.cj_worker.proofs.Synced.{all_synced, more_synced, none_synced}
+use Rattle.cj_worker.specs.Syncs.{IsSync}
 use Rattle.cj_worker.proofs.work.work.Goals as goal
 
 pub returns-in-Some-sync_on : goal.returns-in-Some-sync_on
 returns-in-Some-sync_on g c =
-    went_after c.args.pass c.loop.pass (record { pass = c.sync_on.new.pass; end = c.in-Some-sync_on.end })
-    c.loop.invariant.longer c.in-Some-sync_on.ensures.longer c.in-Some-sync_on.ensures.ended
+    went_after (g.C.Clock.gives c.args.clock.now) (g.G.Gate.may_stop c.args.gate.now) c.args.zones.now c.args.pass
+    c.loop.pass (record { pass = c.sync_on.new.pass; end = c.in-Some-sync_on.end })
+    c.loop.invariant.longer c.in-Some-sync_on.ensures.longer
+    (all_synced _ _ _ _ _ _ c.in-Some-sync_on.is c.loop.invariant.syncs c.in-Some-sync_on.ensures.synced)
+    c.in-Some-sync_on.ensures.ended
