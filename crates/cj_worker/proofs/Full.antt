@@ -30,7 +30,7 @@ finish_row ms rs r P row = tt
 -- For Held::retry: the refusal of a hitch at a Finish is HistoryFull only where the history is full.
 pub finish_full : (ms : ℕ) (rs : List Reason) (h : Hitch) (es : List Told) (P : Type 0)
     → IsHitched (Of.Finish (Again ms) rs) h es → HitchFull h P → IfFull (why_of h) P
-finish_full ms rs (Refused r) es P one is = finish_row ms rs r P (rw (one.of, one.says) at one.row)
+finish_full ms rs (Refused r) es P one is = finish_row ms rs r P (rw one.says at one.row)
 finish_full ms rs Starved es P one is = tt
 finish_full ms rs (Lost r) es P one is = is
 

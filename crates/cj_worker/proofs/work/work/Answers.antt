@@ -1,5 +1,6 @@
 -- work: its ensures where a sync is the worker's last, and its loop's invariant.
-use Rattle.cj_worker.proofs.Passes.{went_after, extends_after}
+use Rattle.std.proofs.Common.{rules}
+use Rattle.cj_worker.proofs.Passes.{went_after, extends_after, longer}
 use Rattle.cj_worker.proofs.Synced.{all_synced, more_synced, none_synced}
 use Rattle.cj_worker.specs.Syncs.{IsSync}
 use Rattle.cj_worker.proofs.work.work.Goals as goal
@@ -11,3 +12,12 @@ returns-in-Some-sync_on g c =
     c.loop.invariant.longer c.in-Some-sync_on.ensures.longer
     (all_synced _ _ _ _ _ _ c.in-Some-sync_on.is c.loop.invariant.syncs c.in-Some-sync_on.ensures.synced)
     c.in-Some-sync_on.ensures.ended
+
+pub loop-init : goal.loop-init
+loop-init g c =
+    let none = none_synced (IsSync (g.C.Clock.gives c.args.clock.now) (g.G.Gate.may_stop c.args.gate.now)
+    c.args.zones.now) c.args.pass in
+    record { can = search rules; ends = search rules; longer = longer none; syncs = none }
+
+pub loop-preserved : goal.loop-preserved
+loop-preserved g c = ?

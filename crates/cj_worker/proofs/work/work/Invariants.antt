@@ -10,5 +10,5 @@ invariant-loop g l = record {
   can : (goal.iterator-loop g).can_next l.iterator';
   ends : (goal.iterator-loop g).is_finite l.iterator';
   longer : Extends l.fn.pass l.pass;
-  syncs : Gets l.fn.pass l.pass (SoFar (IsSync (g.C.Clock.gives l.clock.now) (g.G.Gate.may_stop l.gate.now) l.zones.now));
+  syncs : Gets l.fn.pass l.pass (SoFar (IsSync (g.C.Clock.gives l.clock) (g.G.Gate.may_stop l.gate) l.zones));
 }

@@ -8,8 +8,8 @@ use Rattle.cj_worker.proofs.workers.fn.run_scoped.scope.Given as goal
 
 abbrev pub invariant-loop-pass : goal.invariant-loop-pass
 invariant-loop-pass g l = IsPart (map (λ h. h.promise.pass.value) l.started.items) l.yielded
-    × AllByRecursion (λ h. (h.promise.clock.value ≡ l.clock.entry.now) × (h.promise.gate.value ≡ l.gate.entry.now)
-    × (h.promise.zones.value ≡ l.zones.entry.now)) l.started.items
+    × AllByRecursion (λ h. (h.promise.clock.value ≡ l.clock.now) × (h.promise.gate.value ≡ l.gate.now)
+    × (h.promise.zones.value ≡ l.zones.now)) l.started.items
 
 abbrev pub invariant-loop-child : goal.invariant-loop-child
 invariant-loop-child g l = AllZip (λ h e. Went (g.C.Clock.gives h.promise.clock.value)
