@@ -3,3 +3,4 @@ pub mod Finds
 pub mod Entered
 pub mod Runs
 pub mod Closing
+pub mod Full

@@ -1,5 +1,5 @@
 -- What calls through a desk add.
-use Rattle.std.specs.Prelude.{◌≡◌, Bool, IsTrue, List, [], ◌∷◌, ◌++◌, Result, Ok, Err, IsOk, IsErr, map}
+use Rattle.std.specs.Prelude.{◌≡◌, ◌≤◌, Bool, IsTrue, List, [], ◌∷◌, ◌++◌, Result, Ok, Err, IsOk, IsErr, length, map}
 use Rattle.std.specs.List.{AllByRecursion}
 use Rattle.cj_base.specs.declared.refusal.Refusal.{Refusal}
 use Rattle.cj_base.specs.declared.refusal.Refusal.TheVariants.{Empty, HistoryFull, Estranged, OutOfMemory}
@@ -29,6 +29,58 @@ IsWaitRefusal HistoryFull = Unit {0}
 IsWaitRefusal Estranged = Unit {0}
 IsWaitRefusal OutOfMemory = Unit {0}
 IsWaitRefusal _ = ⊥
+
+-- the history has as many entries as its limit
+-- rule: desks
+abbrev pub IsFullHistory : WorldLog → Type 0
+IsFullHistory w = w.limits.history ≤ length w.history
+
+-- a history that is told is full, and the desk shows that it answered so
+-- rule: desks
+abbrev pub FoundFull : Bool → WorldLog → Type 0 → Type 0
+FoundFull tells w shown = (IsTrue tells → IsFullHistory w) × shown
+
+-- where the refusal is HistoryFull, this is so
+-- rule: desks
+abbrev pub IfFull : Refusal → Type 0 → Type 0
+IfFull HistoryFull P = P
+IfFull _ P = Unit {0}
+
+-- where the answer is HistoryFull, this is so
+-- rule: desks
+abbrev pub TellsFull : {X : Type 0} → Result X Refusal → Type 0 → Type 0
+TellsFull (Ok x) P = Unit {0}
+TellsFull (Err e) P = IfFull e P
+
+-- a refusal at a full history: HistoryFull, or Estranged to a pass that isn't known
+-- rule: desks
+abbrev pub IsFullRefusal : Refusal → Type 0
+IsFullRefusal HistoryFull = Unit {0}
+IsFullRefusal Estranged = Unit {0}
+IsFullRefusal _ = ⊥
+
+-- the answer is such a refusal
+-- rule: desks
+abbrev pub IsTurnedAway : {X : Type 0} → Result X Refusal → Type 0
+IsTurnedAway (Ok x) = ⊥
+IsTurnedAway (Err e) = IsFullRefusal e
+
+-- the same of what a call came to that wasn't accepted
+abbrev pub HaltFull : Halt → Type 0 → Type 0
+HaltFull (Refused r) P = Unit {0}
+HaltFull (Unentered e) P = IfFull e P
+
+abbrev pub HaltsFull : {X : Type 0} → Result X Halt → Type 0 → Type 0
+HaltsFull (Ok x) P = Unit {0}
+HaltsFull (Err h) P = HaltFull h P
+
+abbrev pub IsFullHalt : Halt → Type 0
+IsFullHalt (Refused r) = ⊥
+IsFullHalt (Unentered e) = IsFullRefusal e
+
+abbrev pub IsHaltedFull : {X : Type 0} → Result X Halt → Type 0
+IsHaltedFull (Ok x) = ⊥
+IsHaltedFull (Err h) = IsFullHalt h
 
 -- a history with these entries more, one after the other
 abbrev pub more : List Told → List Told → List Told

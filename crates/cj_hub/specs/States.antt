@@ -5,6 +5,12 @@ use Rattle.cj_hub.specs.declared.state.HubState.{HubState}
 use Rattle.cj_hub.specs.declared.state.HubState.TheVariants.{Broken, Behind, Quiet, Busy}
 use Rattle.cj_hub.specs.Books.{BookView, state_in}
 
+-- a book as it was, and a version
+-- rule: hub-state
+pub record Rest : Type 0 where
+  pub book : BookView
+  pub seen : ℕ
+
 -- the version is that of the last write, and the listings know of all writes
 -- rule: hub-state
 abbrev pub IsFollowed : BookView → ℕ → Type 0

@@ -2,7 +2,7 @@
 ghost use Rattle.std.specs.Prelude.{◌≡◌, IsTrue, Err};
 ghost use Rattle.cj_world.specs.Worlds.{state_in};
 ghost use Rattle.cj_hub.specs.Books.{FindsNothing};
-ghost use Rattle.cj_hub.specs.Runs.{Adds, IsAsked, IsDone};
+ghost use Rattle.cj_hub.specs.Runs.{Adds, FoundFull, HaltsFull, IsAsked, IsDone, IsFullHistory, IsHaltedFull};
 
 use crate::desk::Desk;
 use crate::pass::Pass;
@@ -25,6 +25,9 @@ pub fn ask<D: Desk>(desk: &mut D, pass: &mut Pass, call: Call) -> Result<Receipt
         (IsAsked call result) }
     ensures empty { IsTrue D.tells → result ≡ Err (Halt.Unentered Refusal.Empty) →
         FindsNothing (state_in (D.history desk.old)) call }
+    ensures full { HaltsFull result
+        (FoundFull D.tells (D.history desk.new) (D.refused_full desk.new)) }
+    ensures no_room { IsTrue D.tells → IsFullHistory (D.history desk.old) → IsHaltedFull result }
 {
     match desk.call(pass, call) {
         Ok(receipt) => {
@@ -40,9 +43,14 @@ pub fn ask<D: Desk>(desk: &mut D, pass: &mut Pass, call: Call) -> Result<Receipt
 
 /// Makes one call of whose reply nothing is kept.
 pub fn enter<D: Desk>(desk: &mut D, pass: &mut Pass, call: Call) -> Result<(), Halt>
-    ensures { Adds D.tells (D.history desk.old) (D.history desk.new) pass.old pass.new
+    ensures adds { Adds D.tells (D.history desk.old) (D.history desk.new) pass.old pass.new
         (IsDone call result) }
+    ensures full { HaltsFull result
+        (FoundFull D.tells (D.history desk.new) (D.refused_full desk.new)) }
+    ensures no_room { IsTrue D.tells → IsFullHistory (D.history desk.old) → IsHaltedFull result }
 {
-    let _receipt = ask(desk, pass, call)?;
-    Ok(())
+    match ask(desk, pass, call) {
+        Ok(_receipt) => Ok(()),
+        Err(halt) => Err(halt),
+    }
 }

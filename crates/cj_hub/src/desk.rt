@@ -1,12 +1,12 @@
 //! What calls go through: a hub that threads share, or a book of one's own.
-ghost use Rattle.std.specs.Prelude.{◌≡◌, [], ◌∷◌, ◌++◌, Bool, true, false, IsTrue, IfOk, IfErr, OnOk, OnErr, length};
+ghost use Rattle.std.specs.Prelude.{◌≡◌, [], ◌∷◌, ◌++◌, Bool, true, false, Err, IsTrue, IfOk, IfErr, OnOk, OnErr, length};
 ghost use Rattle.cj_base.specs.declared.refusal.Refusal.TheVariants.{OutOfMemory};
 ghost use Rattle.cj_types.specs.WorldLimits.{kept};
 ghost use Rattle.cj_calls.specs.Rows.{is_in_row};
 ghost use Rattle.cj_world.specs.Worlds.{WorldLog, state_in};
 ghost use Rattle.cj_hub.specs.Receipts.{fresh, IsReceipt};
-ghost use Rattle.cj_hub.specs.Books.{BookView, FindsNothing};
-ghost use Rattle.cj_hub.specs.Runs.{IsDeskRefusal};
+ghost use Rattle.cj_hub.specs.Books.{BookView, FindsNothing, IsFull};
+ghost use Rattle.cj_hub.specs.Runs.{FoundFull, IsDeskRefusal, IsFullHistory, IsTurnedAway, TellsFull};
 
 use crate::book::Book;
 use crate::hub::Hub;
@@ -27,10 +27,14 @@ pub trait Desk {
     /// The history with its limits, where the desk tells it.
     ghost history: { Self → WorldLog };
 
+    /// What the desk shows where its last call was answered HistoryFull.
+    ghost refused_full: { Self → Type 0 };
+
     /// Makes one call of the pass. Its receipt names the caller and the call, stands after the pass's last
     /// one, and is the pass's too; its answer is one that the call can have. A refusal leaves the pass as it
     /// was. A history that is told gains just the receipt's entry, and nothing at a refusal; Empty is
-    /// answered only where the line is empty and the queue isn't shut.
+    /// answered only where the line is empty and the queue isn't shut, and HistoryFull only where the
+    /// history is full, as every call is answered there of a pass that isn't Estranged.
     fn call(&mut self, pass: &mut Pass, call: Call) -> Result<Receipt, Refusal>
         ensures ok { IfOk result (λ r. IsReceipt pass.old call r pass.new) }
         ensures row { IfOk result (λ r. IsTrue (is_in_row call r.entry.answer)) }
@@ -42,7 +46,11 @@ pub trait Desk {
             }) }
         ensures kept { IsTrue tells → OnErr result (history self.new ≡ history self.old) }
         ensures empty { IsTrue tells → result ≡ Err Refusal.Empty →
-            FindsNothing (state_in (history self.old)) call };
+            FindsNothing (state_in (history self.old)) call }
+        ensures full { TellsFull result
+            (FoundFull tells (history self.new) (refused_full self.new)) }
+        ensures no_room { IsTrue tells → IsFullHistory (history self.old) →
+            IsTurnedAway result };
 }
 
 /// A hub that threads share, with the handle for waiting. A Take waits for a key.
@@ -50,13 +58,39 @@ pub trait Desk {
 pub struct HubDesk<'a, R: Wait> {
     hub: &'a Hub,
     rt: &'a R,
+    // Whether the last call was answered HistoryFull.
+    full: bool,
 }
 
 impl<'a, R: Wait> HubDesk<'a, R> {
     /// Calls go through the hub.
     pub fn new(hub: &'a Hub, rt: &'a R) -> HubDesk<'a, R> {
-        HubDesk { hub, rt }
+        HubDesk {
+            hub,
+            rt,
+            full: false,
+        }
     }
+
+    // Makes the call at the hub.
+    fn ask_hub(&self, pass: &mut Pass, call: Call) -> Result<Receipt, Refusal>
+        ensures ok { IfOk result (λ r. IsReceipt pass.old call r pass.new) }
+        ensures row { IfOk result (λ r. IsTrue (is_in_row call r.entry.answer)) }
+        ensures which { IfErr result (IsDeskRefusal call) }
+        ensures err { OnErr result (pass.new ≡ pass.old) }
+    {
+        if let Call::Take = &call {
+            self.hub.take_wait(self.rt, pass)
+        } else {
+            self.hub.call(self.rt, pass, call)
+        }
+    }
+}
+
+fn is_full(answer: &Result<Receipt, Refusal>) -> bool
+    ensures { TellsFull answer.now (result ≡ true) }
+{
+    matches!(answer, Err(Refusal::HistoryFull))
 }
 
 impl<'a, R: Wait> Desk for HubDesk<'a, R> {
@@ -64,12 +98,12 @@ impl<'a, R: Wait> Desk for HubDesk<'a, R> {
 
     ghost history = { λ _. record { limits = kept 0 0; history = [] } };
 
+    ghost refused_full = { λ d. d.full ≡ true };
+
     fn call(&mut self, pass: &mut Pass, call: Call) -> Result<Receipt, Refusal> {
-        if let Call::Take = &call {
-            self.hub.take_wait(self.rt, pass)
-        } else {
-            self.hub.call(self.rt, pass, call)
-        }
+        let result = self.ask_hub(pass, call);
+        self.full = is_full(&result);
+        result
     }
 }
 
@@ -133,6 +167,9 @@ impl Desk for PlainDesk {
 
     ghost history = { λ d. record { limits = d.limits; history = d.history } };
 
+    ghost refused_full = { IsFull };
+
+    #[tactic(auto, using(crate::proofs::Full::no_room, crate::proofs::Full::found_full))]
     fn call(&mut self, pass: &mut Pass, call: Call) -> Result<Receipt, Refusal> {
         laws::step(&mut self.book, pass, call)
     }

@@ -1,4 +1,4 @@
-ghost use Rattle.std.specs.Prelude.{◌≡◌, All, IsTrue, IfOk, IfErr, OnErr};
+ghost use Rattle.std.specs.Prelude.{◌≡◌, ◌≢◌, All, IsTrue, IfOk, IfErr, OnErr};
 ghost use Rattle.cj_base.specs.declared.refusal.Refusal.TheVariants.{Estranged, OutOfMemory};
 ghost use Rattle.cj_calls.specs.Rows.{is_in_row};
 ghost use Rattle.cj_calls.specs.declared.call.Call.TheVariants as Of;
@@ -8,12 +8,14 @@ ghost use Rattle.cj_world_laws.specs.once.Once.{Once, Alone};
 ghost use Rattle.cj_hub.specs.Receipts.{fresh, IsExact, IsReceipt};
 ghost use Rattle.cj_hub.specs.Books.{Fits};
 ghost use Rattle.cj_hub.specs.Runs.{IsDeskRefusal, IsWaitRefusal};
+ghost use Rattle.cj_hub.specs.States.{IsState};
 
 use crate::book::Book;
 use crate::closed::{Closed, NotClosed};
 use crate::laws;
 use crate::pass::Pass;
 use crate::receipt::Receipt;
+use crate::rest::AtRest;
 use crate::state::HubState;
 use cj_calls::{Call, Role};
 use cj_types::{Limits, Refusal, Version};
@@ -146,6 +148,15 @@ impl Hub {
     /// How far the work is, for one who has seen the writes up to the version.
     pub fn state(&self, rt: &impl Wait, seen: Version) -> HubState {
         laws::state(&self.book.lock(rt), seen)
+    }
+
+    /// What shows that the hub is quiet, for one who has seen the writes up to the version, exactly where the state
+    /// of the book under the lock is Quiet; else that state.
+    pub fn at_rest(&self, rt: &impl Wait, seen: Version) -> Result<AtRest, HubState>
+        ensures quiet { IfOk result (λ r. IsState r.book seen HubState.Quiet) }
+        ensures err { IfErr result (λ s. s ≢ HubState.Quiet) }
+    {
+        laws::at_rest(&self.book.lock(rt), seen)
     }
 
     /// Closes the book, where the passes fit it: then its history is legal, no key was in two workers' hands,

@@ -1,5 +1,5 @@
 //! What a call of the hub does to the book under its lock.
-ghost use Rattle.std.specs.Prelude.{◌≡◌, ◌↔◌, true, Err, IsTrue, IfOk, IfErr, OnErr};
+ghost use Rattle.std.specs.Prelude.{◌≡◌, ◌≢◌, ◌↔◌, true, Err, IsTrue, IfOk, IfErr, OnErr};
 ghost use Rattle.cj_base.specs.declared.refusal.Refusal.TheVariants.{Estranged, HistoryFull};
 ghost use Rattle.cj_calls.specs.Rows.{is_in_row};
 ghost use Rattle.cj_hub.specs.Receipts.{Follows};
@@ -9,6 +9,7 @@ ghost use Rattle.cj_hub.specs.States.{IsState};
 use crate::book::Book;
 use crate::pass::Pass;
 use crate::receipt::Receipt;
+use crate::rest::{AtRest, rest_of};
 use crate::state::HubState;
 use cj_calls::Call;
 use cj_types::{Refusal, Version};
@@ -54,4 +55,14 @@ pub fn state(book: &Book, seen: Version) -> HubState
     ensures { IsState book.now seen result }
 {
     book.state(seen)
+}
+
+/// What shows that the book is quiet, for one who has seen the writes up to the version, exactly where its state
+/// is Quiet; else its state. Nothing is entered.
+pub fn at_rest(book: &Book, seen: Version) -> Result<AtRest, HubState>
+    ensures ok { IfOk result (λ r. r ≡ record { book = book.now; seen = seen }) }
+    ensures quiet { IfOk result (λ r. IsState book.now seen HubState.Quiet) }
+    ensures err { IfErr result (λ s. (s ≢ HubState.Quiet) × IsState book.now seen s) }
+{
+    rest_of(book, seen)
 }

@@ -14,6 +14,7 @@ mod hub;
 pub mod laws;
 mod pass;
 mod receipt;
+mod rest;
 mod seat;
 mod state;
 
@@ -24,4 +25,5 @@ pub use desk::{Desk, HubDesk, PlainDesk};
 pub use hub::Hub;
 pub use pass::Pass;
 pub use receipt::Receipt;
+pub use rest::AtRest;
 pub use state::HubState;

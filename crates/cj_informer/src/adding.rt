@@ -1,7 +1,7 @@
 //! Keys that are added to the work queue.
 ghost use Rattle.std.specs.Prelude.{[], ◌∷◌, IfErr};
 ghost use Rattle.std.specs.List.{filter_map};
-ghost use Rattle.cj_hub.specs.Runs.{Adds};
+ghost use Rattle.cj_hub.specs.Runs.{Adds, FoundFull, TellsFull};
 ghost use Rattle.cj_informer.specs.Exchanges.{Goes};
 ghost use Rattle.cj_informer.specs.Informs.{adds, add_both};
 ghost use Rattle.cj_informer.specs.Outcomes.{IsStepRefusal};
@@ -22,6 +22,8 @@ fn add_one<D: Desk, T: Concerns>(
     ensures adds { Adds D.tells (D.history desk.old) (D.history desk.new) pass.old pass.new
         (Goes (adds (filter_map T.concerned (item.now ∷ []))) result) }
     ensures which { IfErr result IsStepRefusal }
+    ensures full { TellsFull result
+        (FoundFull D.tells (D.history desk.new) (D.refused_full desk.new)) }
 {
     match item.key(alloc) {
         Ok(Some(key)) => add(desk, pass, key),
@@ -40,6 +42,8 @@ pub(crate) fn add_all<D: Desk, T: Concerns>(
     ensures adds { Adds D.tells (D.history desk.old) (D.history desk.new) pass.old pass.new
         (Goes (adds (filter_map T.concerned items.now)) result) }
     ensures which { IfErr result IsStepRefusal }
+    ensures full { TellsFull result
+        (FoundFull D.tells (D.history desk.new) (D.refused_full desk.new)) }
 {
     for item in items {
         add_one(desk, alloc, pass, item)?;
@@ -58,6 +62,8 @@ pub(crate) fn add_listed<D: Desk>(
     ensures adds { Adds D.tells (D.history desk.old) (D.history desk.new) pass.old pass.new
         (Goes (add_both crons.now jobs.now) result) }
     ensures which { IfErr result IsStepRefusal }
+    ensures full { TellsFull result
+        (FoundFull D.tells (D.history desk.new) (D.refused_full desk.new)) }
 {
     add_all(desk, alloc, pass, crons)?;
     add_all(desk, alloc, pass, jobs)

@@ -1,9 +1,9 @@
 //! The calls of an informer, each with what is kept of its reply.
-ghost use Rattle.std.specs.Prelude.{◌≡◌, true, IfErr};
+ghost use Rattle.std.specs.Prelude.{◌≡◌, true, IfErr, IsTrue};
 ghost use Rattle.cj_base.specs.declared.refusal.Refusal.TheVariants.{Expired};
 ghost use Rattle.cj_calls.specs.declared.call.Call.TheVariants as Of;
 ghost use Rattle.cj_calls.specs.declared.reply.Reply.TheVariants as Is;
-ghost use Rattle.cj_hub.specs.Runs.{Adds};
+ghost use Rattle.cj_hub.specs.Runs.{Adds, FoundFull, IsFullHistory, IsTurnedAway, TellsFull};
 ghost use Rattle.cj_informer.specs.Exchanges.{HasSaid, Says};
 ghost use Rattle.cj_informer.specs.Outcomes.{is_plain, IsStepRefusal, IsWatchRefusal};
 
@@ -17,6 +17,10 @@ pub(crate) fn say<D: Desk>(desk: &mut D, pass: &mut Pass, call: Call) -> Result<
     ensures adds { Adds D.tells (D.history desk.old) (D.history desk.new) pass.old pass.new
         (HasSaid call result) }
     ensures which { IfErr result IsStepRefusal }
+    ensures full { TellsFull result
+        (FoundFull D.tells (D.history desk.new) (D.refused_full desk.new)) }
+    ensures no_room { IsTrue D.tells → IsFullHistory (D.history desk.old) →
+        IsTurnedAway result }
 {
     match ask(desk, pass, call) {
         Ok(receipt) => Ok(receipt),
@@ -29,6 +33,10 @@ pub(crate) fn tick<D: Desk>(desk: &mut D, pass: &mut Pass, now: Millis) -> Resul
     ensures adds { Adds D.tells (D.history desk.old) (D.history desk.new) pass.old pass.new
         (Says (Of.Tick now) (λ _. Is.Done) result) }
     ensures which { IfErr result IsStepRefusal }
+    ensures full { TellsFull result
+        (FoundFull D.tells (D.history desk.new) (D.refused_full desk.new)) }
+    ensures no_room { IsTrue D.tells → IsFullHistory (D.history desk.old) →
+        IsTurnedAway result }
 {
     let receipt = say(desk, pass, Call::Tick(now))?;
     match receipt.answer() {
@@ -41,6 +49,8 @@ pub(crate) fn add<D: Desk>(desk: &mut D, pass: &mut Pass, key: Key) -> Result<()
     ensures adds { Adds D.tells (D.history desk.old) (D.history desk.new) pass.old pass.new
         (Says (Of.Add key) (λ _. Is.Done) result) }
     ensures which { IfErr result IsStepRefusal }
+    ensures full { TellsFull result
+        (FoundFull D.tells (D.history desk.new) (D.refused_full desk.new)) }
 {
     let receipt = say(desk, pass, Call::Add(key))?;
     match receipt.answer() {
@@ -54,6 +64,8 @@ pub(crate) fn feed<D: Desk>(desk: &mut D, pass: &mut Pass, max: Max) -> Result<V
     ensures adds { Adds D.tells (D.history desk.old) (D.history desk.new) pass.old pass.new
         (Says (Of.Feed max) (λ v. Is.Version v) result) }
     ensures which { IfErr result IsStepRefusal }
+    ensures full { TellsFull result
+        (FoundFull D.tells (D.history desk.new) (D.refused_full desk.new)) }
 {
     let receipt = say(desk, pass, Call::Feed(max))?;
     match receipt.answer() {
@@ -72,6 +84,8 @@ pub(crate) fn ask_events<D: Desk>(
     ensures adds { Adds D.tells (D.history desk.old) (D.history desk.new) pass.old pass.new
         (HasSaid (Of.Watch from max) result) }
     ensures which { IfErr result IsWatchRefusal }
+    ensures full { TellsFull result
+        (FoundFull D.tells (D.history desk.new) (D.refused_full desk.new)) }
 {
     match ask(desk, pass, Call::Watch(from, max)) {
         Ok(receipt) => Ok(receipt),

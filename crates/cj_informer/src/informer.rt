@@ -1,5 +1,5 @@
-ghost use Rattle.std.specs.Prelude.{◌≡◌, None, IfErr, unwrap_or};
-ghost use Rattle.cj_hub.specs.Runs.{Adds};
+ghost use Rattle.std.specs.Prelude.{◌≡◌, None, IfErr, unwrap_or, IsTrue};
+ghost use Rattle.cj_hub.specs.Runs.{Adds, FoundFull, IsFullHistory, IsTurnedAway, TellsFull};
 ghost use Rattle.cj_informer.specs.Outcomes.{HasLooked, HasStepped, IsStepRefusal};
 
 use crate::asking::tick;
@@ -58,7 +58,8 @@ impl Informer {
     /// of the two, or a Feed brings nothing more; and the key of each CronJob and of each Job's owner is
     /// added. Then the version seen is that of the last event, or of the first listing.
     ///
-    /// The step ends at the first other refusal, and the informer is then as it was.
+    /// The step ends at the first other refusal, and the informer is then as it was. It is HistoryFull only where the
+    /// step's last call was answered so.
     pub fn step<D: Desk>(
         &mut self,
         desk: &mut D,
@@ -68,6 +69,10 @@ impl Informer {
         ensures adds { Adds D.tells (D.history desk.old) (D.history desk.new) pass.old pass.new
             (HasStepped self.old now self.new result) }
         ensures which { IfErr result IsStepRefusal }
+        ensures full { TellsFull result
+            (FoundFull D.tells (D.history desk.new) (D.refused_full desk.new)) }
+        ensures no_room { IsTrue D.tells → IsFullHistory (D.history desk.old) →
+            IsTurnedAway result }
     {
         let seen = look(self, desk, pass, now)?;
         self.seen = Some(seen);
@@ -85,6 +90,10 @@ fn look<D: Desk>(
     ensures adds { Adds D.tells (D.history desk.old) (D.history desk.new) pass.old pass.new
         (HasLooked informer.now now result) }
     ensures which { IfErr result IsStepRefusal }
+    ensures full { TellsFull result
+        (FoundFull D.tells (D.history desk.new) (D.refused_full desk.new)) }
+    ensures no_room { IsTrue D.tells → IsFullHistory (D.history desk.old) →
+        IsTurnedAway result }
 {
     tick(desk, pass, now)?;
     match informer.seen {

@@ -1,6 +1,6 @@
 //! A listing of all objects, as a reflector makes it at the start and where events have expired.
 ghost use Rattle.std.specs.Prelude.{IfErr};
-ghost use Rattle.cj_hub.specs.Runs.{Adds};
+ghost use Rattle.cj_hub.specs.Runs.{Adds, FoundFull, TellsFull};
 ghost use Rattle.cj_informer.specs.Outcomes.{HasCaughtUp, HasFed, HasListed, HasListedJobs, IsStepRefusal};
 
 use crate::adding::add_listed;
@@ -20,6 +20,8 @@ fn feed_up_to<D: Desk>(
     ensures adds { Adds D.tells (D.history desk.old) (D.history desk.new) pass.old pass.new
         (HasFed max wanted result) }
     ensures which { IfErr result IsStepRefusal }
+    ensures full { TellsFull result
+        (FoundFull D.tells (D.history desk.new) (D.refused_full desk.new)) }
 {
     let mut fed = feed(desk, pass, max)?;
     while fed.get() < wanted.get() {
@@ -45,6 +47,8 @@ fn catch_up<D: Desk>(
     ensures adds { Adds D.tells (D.history desk.old) (D.history desk.new) pass.old pass.new
         (HasCaughtUp max seen crons.now jobs.now result) }
     ensures which { IfErr result IsStepRefusal }
+    ensures full { TellsFull result
+        (FoundFull D.tells (D.history desk.new) (D.refused_full desk.new)) }
 {
     feed_up_to(desk, pass, max, seen)?;
     add_listed(desk, alloc, pass, crons, jobs)?;
@@ -62,6 +66,8 @@ fn list_jobs<D: Desk>(
     ensures adds { Adds D.tells (D.history desk.old) (D.history desk.new) pass.old pass.new
         (HasListedJobs max seen crons.now result) }
     ensures which { IfErr result IsStepRefusal }
+    ensures full { TellsFull result
+        (FoundFull D.tells (D.history desk.new) (D.refused_full desk.new)) }
 {
     let receipt = say(desk, pass, Call::ListJobs)?;
     match receipt.answer() {
@@ -83,6 +89,8 @@ pub(crate) fn list<D: Desk>(
     ensures adds { Adds D.tells (D.history desk.old) (D.history desk.new) pass.old pass.new
         (HasListed max result) }
     ensures which { IfErr result IsStepRefusal }
+    ensures full { TellsFull result
+        (FoundFull D.tells (D.history desk.new) (D.refused_full desk.new)) }
 {
     let receipt = say(desk, pass, Call::ListCrons)?;
     match receipt.answer() {

@@ -1,6 +1,6 @@
 //! What came since the last step, as events.
 ghost use Rattle.std.specs.Prelude.{◌≡◌, Some, IfErr};
-ghost use Rattle.cj_hub.specs.Runs.{Adds};
+ghost use Rattle.cj_hub.specs.Runs.{Adds, FoundFull, TellsFull};
 ghost use Rattle.cj_informer.specs.Informs.{last_version};
 ghost use Rattle.cj_informer.specs.Outcomes.{HasFollowed, HasGoneOn, IsStepRefusal};
 
@@ -33,6 +33,8 @@ fn follow<D: Desk>(
     ensures adds { Adds D.tells (D.history desk.old) (D.history desk.new) pass.old pass.new
         (HasFollowed max from events.now result) }
     ensures which { IfErr result IsStepRefusal }
+    ensures full { TellsFull result
+        (FoundFull D.tells (D.history desk.new) (D.refused_full desk.new)) }
 {
     let _fed = feed(desk, pass, max)?;
     add_all(desk, alloc, pass, events)?;
@@ -50,6 +52,8 @@ pub(crate) fn watch<D: Desk>(
     ensures adds { Adds D.tells (D.history desk.old) (D.history desk.new) pass.old pass.new
         (HasGoneOn (record { max = max; seen = Some from }) result) }
     ensures which { IfErr result IsStepRefusal }
+    ensures full { TellsFull result
+        (FoundFull D.tells (D.history desk.new) (D.refused_full desk.new)) }
 {
     match ask_events(desk, pass, from, max) {
         Ok(receipt) => match receipt.answer() {

@@ -1,7 +1,7 @@
 ghost use Rattle.std.specs.Prelude.{◌≡◌};
 ghost use Rattle.cj_run.specs.Readings.{HasInstant};
 
-use crate::rest::AtRest;
+use cj_hub::AtRest;
 use cj_script::Span;
 use cj_types::{Millis, Seconds};
 use cj_worker::{Clock, Reading};

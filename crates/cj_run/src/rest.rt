@@ -1,20 +1,9 @@
 // Waiting until the work of an instant is done.
-ghost use Rattle.std.specs.Prelude.{◌≡◌};
-ghost use Rattle.cj_hub.specs.declared.state.HubState.TheVariants.{Quiet};
-
-use cj_hub::{Hub, HubDesk, HubState, Pass};
+use cj_hub::{AtRest, Hub, HubDesk, HubState, Pass};
 use cj_informer::Informer;
 use cj_types::{Millis, Refusal};
 use std::sync::Wait;
 use std::thread;
-
-/// Shows that the hub was quiet when it was asked: nobody had given up, the informer and the listings had
-/// seen every write, no key was in the line, and none was held.
-#[derive(Drop)]
-pub(crate) struct AtRest {
-    state: HubState,
-    ghost quiet: { state ≡ Quiet },
-}
 
 /// Why a run goes no further.
 #[derive(Drop)]
@@ -47,18 +36,18 @@ impl Follower {
 
     // Asks how far the work is. Where there are writes to follow the informer makes a step.
     fn look<R: Wait>(&mut self, rt: &R, hub: &Hub, now: Millis) -> Result<Option<AtRest>, Halt> {
-        let state = hub.state(rt, self.informer.seen());
-        match state {
-            HubState::Broken => Err(Halt::GivenUp),
-            HubState::Behind => {
+        match hub.at_rest(rt, self.informer.seen()) {
+            Ok(rest) => Ok(Some(rest)),
+            Err(HubState::Broken) => Err(Halt::GivenUp),
+            Err(HubState::Behind) => {
                 self.step(rt, hub, now)?;
                 Ok(None)
             }
-            HubState::Busy => {
+            Err(HubState::Busy) => {
                 thread::yield_now();
                 Ok(None)
             }
-            HubState::Quiet => Ok(Some(AtRest { state })),
+            Err(HubState::Quiet) => unreachable!(),
         }
     }
 

@@ -1,6 +1,8 @@
 -- Passes as threads hand them back.
 use Rattle.std.proofs.Common.{◌≡◌, List, [], ◌∷◌, ◌++◌, Bool, Option, IfSome, map, refl, ap, sym, subst, ◌∙◌, inl, inr, append_assoc}
 use Rattle.std.specs.List.{AllZip}
+use Rattle.cj_types.specs.Keys.{Place}
+use Rattle.cj_zone.specs.declared.table.ZoneTable.{ZoneTable}
 use Rattle.cj_calls.specs.Rows.{Told}
 use Rattle.cj_world.specs.Worlds.{WorldLog}
 use Rattle.cj_hub.specs.Receipts.{PassView}
@@ -10,7 +12,10 @@ use Rattle.cj_worker.specs.Ends.{EndsBy, IsShown}
 use Rattle.cj_worker.specs.Sequences.{IsShut, IsAt}
 use Rattle.cj_worker.specs.declared.ending.SyncEnd.{SyncEnd}
 use Rattle.cj_worker.specs.declared.ending.SyncEnd.TheVariants.{Idle, ShutDown, Done, Retried, Broken, Stopped}
-use Rattle.cj_worker.specs.Workers.{Extends, HasEnd, Went, IsPart, last_end}
+use Rattle.cj_worker.specs.Syncs.{IsSync}
+use Rattle.cj_worker.specs.declared.gate.Point.{Point}
+use Rattle.cj_worker.specs.declared.gate.Reading.{Reading}
+use Rattle.cj_worker.specs.Workers.{AreSyncs, Extends, Gets, HasEnd, Went, IsPart, last_end}
 use Rattle.cj_worker.specs.declared.workers.WorkerEnd.{WorkerEnd}
 
 -- For sync_on: a pass through which entries were added is as it was with new receipts behind.
@@ -62,10 +67,13 @@ pub extends_after : (p p1 q : PassView) → Extends p p1 → Extends p1 q → Ex
 extends_after p p1 q one two = (one.0 ++ two.0, longer_after p p1 q one.0 two.0 one.1 two.1)
 
 -- For work: what a worker hands back is right for the pass it was given, as it is for a later one.
-pub went_after : (p p1 : PassView) (e : WorkerEnd) → Extends p p1 → Extends p1 e.pass → HasEnd e.end p1 e.pass
-    → Went p e
-went_after p p1 e one two h = record {
+pub went_after : (gives : Reading → Type 0) (may : Point → Place → Type 0) (zones : ZoneTable) (p p1 : PassView)
+    (e : WorkerEnd) → Extends p p1 → Extends p1 e.pass
+    → Gets p e.pass (λ es. AreSyncs (IsSync gives may zones) es e.end) → HasEnd e.end p1 e.pass
+    → Went gives may zones p e
+went_after gives may zones p p1 e one two syncs h = record {
   longer = extends_after p p1 e.pass one two;
+  syncs = syncs;
   ended = end_after p p1 e.pass e.end one h;
 }
 
@@ -101,16 +109,3 @@ part_kept (x ∷ xs) (z ∷ ys) y h = elim h [
 pub kept_more : {X : Type 0} (f : X → PassView) (hs hs' : List X) (h : X) (ys : List PassView) (y : PassView)
     → hs' ≡ hs ++ h ∷ [] → f h ≡ y → IsPart (map f hs) ys → IsPart (map f hs') (ys ++ y ∷ [])
 kept_more f hs hs' h ys y more is part = rw (more, map_more f hs h, is) (part_kept (map f hs) ys y part)
-
--- For ended_more: ends go with passes one by one also with one more of both at the end.
-ends_push : (ps : List PassView) (es : List WorkerEnd) (p : PassView) (e : WorkerEnd) → AllZip Went ps es → Went p e
-    → AllZip Went (ps ++ p ∷ []) (es ++ e ∷ [])
-ends_push [] [] p e all one = (one, tt)
-ends_push [] (x ∷ es) p e all one = absurd all
-ends_push (q ∷ ps) [] p e all one = absurd all
-ends_push (q ∷ ps) (x ∷ es) p e all one = (all.0, ends_push ps es p e all.1 one)
-
--- For run_scoped: ends go with the passes of the joined threads also with one thread more joined.
-pub ended_more : {X : Type 0} (f : X → PassView) (hs : List X) (h : X) (es es' : List WorkerEnd) (e : WorkerEnd)
-    → es' ≡ es ++ e ∷ [] → Went (f h) e → AllZip Went (map f hs) es → AllZip Went (map f (hs ++ h ∷ [])) es'
-ended_more f hs h es es' e more one all = rw (more, map_more f hs h) (ends_push (map f hs) es (f h) e all one)

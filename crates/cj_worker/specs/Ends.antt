@@ -4,6 +4,7 @@ use Rattle.cj_base.specs.declared.refusal.Refusal.{Refusal}
 use Rattle.cj_base.specs.declared.refusal.Refusal.TheVariants as No
 use Rattle.cj_calls.specs.Rows.{Told}
 use Rattle.cj_hub.specs.Receipts.{PassView}
+use Rattle.cj_hub.specs.Runs.{IfFull, IsFullRefusal}
 use Rattle.cj_hub.specs.declared.receipt.Receipt.{Receipt}
 use Rattle.cj_worker.specs.declared.ending.SyncEnd.{SyncEnd}
 use Rattle.cj_worker.specs.declared.ending.SyncEnd.TheVariants.{Idle, ShutDown, Done, Retried, Broken, Stopped}
@@ -26,6 +27,18 @@ IsBreaking No.HistoryFull = Unit {0}
 IsBreaking No.Estranged = Unit {0}
 IsBreaking No.OutOfMemory = Unit {0}
 IsBreaking _ = ⊥
+
+-- where the sync is Broken by HistoryFull, this is so
+-- rule: sync-ends
+abbrev pub EndsFull : SyncEnd → Type 0 → Type 0
+EndsFull (Broken r) P = IfFull r P
+EndsFull _ P = Unit {0}
+
+-- the sync is Broken by what is answered at a full history
+-- rule: sync-ends
+abbrev pub IsBrokenFull : SyncEnd → Type 0
+IsBrokenFull (Broken r) = IsFullRefusal r
+IsBrokenFull _ = ⊥
 
 -- the last receipt shows the end; an idle sync leaves the pass as it was
 -- rule: sync-ends

@@ -15,7 +15,7 @@ use Rattle.cj_calls.specs.Rows.{Told}
 use Rattle.cj_hub.specs.declared.asking.Halt.{Halt}
 use Rattle.cj_hub.specs.declared.asking.Halt.TheVariants as At
 use Rattle.cj_hub.specs.declared.receipt.Receipt.{Receipt}
-use Rattle.cj_hub.specs.Runs.{IsOne}
+use Rattle.cj_hub.specs.Runs.{IfFull, IsOne}
 use Rattle.cj_worker.specs.declared.gate.Point.{Point}
 use Rattle.cj_worker.specs.declared.gate.Point.TheVariants.{Made}
 use Rattle.cj_worker.specs.declared.gate.Reading.{Reading}
@@ -61,6 +61,16 @@ is_active _ = false
 abbrev pub IsPlainHalt : Halt → Type 0
 IsPlainHalt (At.Refused r) = IsTrue (is_plain r.entry.answer)
 IsPlainHalt (At.Unentered r) = Unit {0}
+
+-- where the history takes nothing more since it is full, this is so
+abbrev pub HitchFull : Hitch → Type 0 → Type 0
+HitchFull (Refused r) P = Unit {0}
+HitchFull Starved P = Unit {0}
+HitchFull (Lost r) P = IfFull r P
+
+abbrev pub HitchesFull : {X : Type 0} → Result X Hitch → Type 0 → Type 0
+HitchesFull (Ok x) P = Unit {0}
+HitchesFull (Err h) P = HitchFull h P
 
 -- what one such call adds that isn't accepted
 abbrev pub IsHitched : Call → Hitch → List Told → Type 0

@@ -1,8 +1,8 @@
 //! The calls of a worker that holds a key.
 ghost use Rattle.std.specs.Prelude.{◌≡◌, IsTrue, IfOk, IfErr, Ok};
 ghost use Rattle.cj_calls.specs.declared.reply.Reply.TheVariants as Is;
-ghost use Rattle.cj_hub.specs.Runs.{Adds};
-ghost use Rattle.cj_worker.specs.Hitches.{is_inner, is_cron, is_jobs, is_active, HasAsked, HasDone, HasCron, HasJobs, HasActive};
+ghost use Rattle.cj_hub.specs.Runs.{Adds, FoundFull};
+ghost use Rattle.cj_worker.specs.Hitches.{is_inner, is_cron, is_jobs, is_active, HasAsked, HasDone, HasCron, HasJobs, HasActive, HitchesFull};
 
 use crate::hitch::{Hitch, hitch_of, refusal_of};
 use cj_calls::{Answer, Call, Reply};
@@ -11,10 +11,13 @@ use cj_types::{CronJob, Job, Listing, Shared, TryCopy};
 use std::alloc::Global;
 
 /// Makes one call; where it is accepted, the receipt has the reply.
+#[tactic(auto, using(crate::proofs::Full::lost_full))]
 pub(crate) fn call_on<D: Desk>(desk: &mut D, pass: &mut Pass, call: Call) -> Result<Receipt, Hitch>
     requires { IsTrue (is_inner call) }
-    ensures { Adds D.tells (D.history desk.old) (D.history desk.new) pass.old pass.new
+    ensures adds { Adds D.tells (D.history desk.old) (D.history desk.new) pass.old pass.new
         (HasAsked call result) }
+    ensures full { HitchesFull result
+        (FoundFull D.tells (D.history desk.new) (D.refused_full desk.new)) }
 {
     match ask(desk, pass, call) {
         Ok(receipt) => Ok(receipt),
@@ -26,8 +29,10 @@ pub(crate) fn call_on<D: Desk>(desk: &mut D, pass: &mut Pass, call: Call) -> Res
 /// Makes one call of whose reply nothing is kept.
 pub(crate) fn make<D: Desk>(desk: &mut D, pass: &mut Pass, call: Call) -> Result<(), Hitch>
     requires { IsTrue (is_inner call) }
-    ensures { Adds D.tells (D.history desk.old) (D.history desk.new) pass.old pass.new
+    ensures adds { Adds D.tells (D.history desk.old) (D.history desk.new) pass.old pass.new
         (HasDone call result) }
+    ensures full { HitchesFull result
+        (FoundFull D.tells (D.history desk.new) (D.refused_full desk.new)) }
 {
     match call_on(desk, pass, call) {
         Ok(_receipt) => Ok(()),
@@ -86,8 +91,10 @@ pub(crate) fn see_cron<D: Desk>(
     desk: &mut D,
     pass: &mut Pass,
 ) -> Result<Option<Shared<CronJob>>, Hitch>
-    ensures { Adds D.tells (D.history desk.old) (D.history desk.new) pass.old pass.new
+    ensures adds { Adds D.tells (D.history desk.old) (D.history desk.new) pass.old pass.new
         (HasCron result) }
+    ensures full { HitchesFull result
+        (FoundFull D.tells (D.history desk.new) (D.refused_full desk.new)) }
 {
     match call_on(desk, pass, Call::SeeCron) {
         Ok(receipt) => cron_in(alloc, receipt.answer()),
@@ -101,8 +108,10 @@ pub(crate) fn see_jobs<D: Desk>(
     desk: &mut D,
     pass: &mut Pass,
 ) -> Result<Listing<Shared<Job>>, Hitch>
-    ensures { Adds D.tells (D.history desk.old) (D.history desk.new) pass.old pass.new
+    ensures adds { Adds D.tells (D.history desk.old) (D.history desk.new) pass.old pass.new
         (HasJobs result) }
+    ensures full { HitchesFull result
+        (FoundFull D.tells (D.history desk.new) (D.refused_full desk.new)) }
 {
     match call_on(desk, pass, Call::SeeJobs) {
         Ok(receipt) => jobs_in(alloc, receipt.answer()),
@@ -116,8 +125,10 @@ pub(crate) fn see_active<D: Desk>(
     desk: &mut D,
     pass: &mut Pass,
 ) -> Result<Listing<Option<Shared<Job>>>, Hitch>
-    ensures { Adds D.tells (D.history desk.old) (D.history desk.new) pass.old pass.new
+    ensures adds { Adds D.tells (D.history desk.old) (D.history desk.new) pass.old pass.new
         (HasActive result) }
+    ensures full { HitchesFull result
+        (FoundFull D.tells (D.history desk.new) (D.refused_full desk.new)) }
 {
     match call_on(desk, pass, Call::SeeActive) {
         Ok(receipt) => active_in(alloc, receipt.answer()),

@@ -2,10 +2,11 @@
 ghost use Rattle.std.specs.Prelude.{◌≡◌, [], ◌∷◌, ◌++◌, map, IsTrue};
 ghost use Rattle.cj_calls.specs.declared.call.Call.TheVariants as Of;
 ghost use Rattle.cj_calls.specs.declared.end.End.TheVariants.{Well};
-ghost use Rattle.cj_hub.specs.Runs.{Adds};
+ghost use Rattle.cj_hub.specs.Runs.{Adds, FoundFull};
+ghost use Rattle.cj_worker.specs.Ends.{EndsFull};
 ghost use Rattle.cj_worker.specs.Outlines.{IsOutline, call_by};
 ghost use Rattle.cj_worker.specs.Syncs.{IsEarly, IsRest, calls_of, is_key, key_in, reasons_by, reasons_with};
-ghost use Rattle.cj_worker.specs.Hitches.{FromChecked, FromHeld, FromListed, FromSeen, HasFailed, reasons_at};
+ghost use Rattle.cj_worker.specs.Hitches.{FromChecked, FromHeld, FromListed, FromSeen, HasFailed, HitchFull, reasons_at};
 
 use crate::asking::{make, see_active, see_cron, see_jobs};
 use crate::ending::SyncEnd;
@@ -101,8 +102,10 @@ impl Held {
         why: Refusal,
         reasons: Reasons,
     ) -> SyncEnd
-        ensures { Adds D.tells (D.history desk.old) (D.history desk.new) pass.old pass.new
+        ensures adds { Adds D.tells (D.history desk.old) (D.history desk.new) pass.old pass.new
             (λ es. IsEarly (C.gives clock.now) reasons why es result) }
+        ensures full { EndsFull result
+            (FoundFull D.tells (D.history desk.new) (D.refused_full desk.new)) }
     {
         let Held { took: _ } = self;
         let reading = clock.now();
@@ -125,8 +128,12 @@ impl Held {
         hitch: Hitch,
         reasons: Reasons,
     ) -> SyncEnd
-        ensures { Adds D.tells (D.history desk.old) (D.history desk.new) pass.old pass.new
+        requires { HitchFull hitch
+            (FoundFull D.tells (D.history desk.old) (D.refused_full desk.old)) }
+        ensures adds { Adds D.tells (D.history desk.old) (D.history desk.new) pass.old pass.new
             (λ es. HasFailed (C.gives clock.now) reasons hitch es result) }
+        ensures full { EndsFull result
+            (FoundFull D.tells (D.history desk.new) (D.refused_full desk.new)) }
     {
         match hitch {
             Hitch::Refused(why) => self.retry(desk, pass, clock, why, reasons),
@@ -148,8 +155,10 @@ impl Held {
         clock: &C,
         zones: &ZoneTable,
     ) -> SyncEnd
-        ensures { Adds D.tells (D.history desk.old) (D.history desk.new) pass.old pass.new
+        ensures adds { Adds D.tells (D.history desk.old) (D.history desk.new) pass.old pass.new
             (λ es. FromHeld (C.gives clock.now) (G.may_stop gate.now) zones.now self es result) }
+        ensures full { EndsFull result
+            (FoundFull D.tells (D.history desk.new) (D.refused_full desk.new)) }
     {
         match see_cron(alloc, desk, pass) {
             Ok(cron) => match gate.at(Point::Seen, self.key()) {
@@ -172,9 +181,11 @@ impl Seen {
         clock: &C,
         zones: &ZoneTable,
     ) -> SyncEnd
-        ensures { Adds D.tells (D.history desk.old) (D.history desk.new) pass.old pass.new
+        ensures adds { Adds D.tells (D.history desk.old) (D.history desk.new) pass.old pass.new
             (λ es. FromSeen (C.gives clock.now) (G.may_stop gate.now) zones.now self.held self.cron
             es result) }
+        ensures full { EndsFull result
+            (FoundFull D.tells (D.history desk.new) (D.refused_full desk.new)) }
     {
         let Seen { held, cron } = self;
         match see_jobs(alloc, desk, pass) {
@@ -201,9 +212,11 @@ impl Listed {
         clock: &C,
         zones: &ZoneTable,
     ) -> SyncEnd
-        ensures { Adds D.tells (D.history desk.old) (D.history desk.new) pass.old pass.new
+        ensures adds { Adds D.tells (D.history desk.old) (D.history desk.new) pass.old pass.new
             (λ es. FromListed (C.gives clock.now) (G.may_stop gate.now) zones.now self.held
             self.cron self.jobs es result) }
+        ensures full { EndsFull result
+            (FoundFull D.tells (D.history desk.new) (D.refused_full desk.new)) }
     {
         let Listed { held, cron, jobs } = self;
         match see_active(alloc, desk, pass) {
@@ -232,9 +245,11 @@ impl Checked {
         clock: &C,
         zones: &ZoneTable,
     ) -> SyncEnd
-        ensures { Adds D.tells (D.history desk.old) (D.history desk.new) pass.old pass.new
+        ensures adds { Adds D.tells (D.history desk.old) (D.history desk.new) pass.old pass.new
             (λ es. FromChecked (C.gives clock.now) (G.may_stop gate.now) zones.now self.held
             self.cron self.jobs self.active es result) }
+        ensures full { EndsFull result
+            (FoundFull D.tells (D.history desk.new) (D.refused_full desk.new)) }
     {
         let Checked {
             held,
@@ -258,9 +273,11 @@ fn claim<D: Desk, G: Gate, C: Clock>(
     decided: Decided,
 ) -> SyncEnd
     requires { IsOutline decided.plan decided.outline }
-    ensures { Adds D.tells (D.history desk.old) (D.history desk.new) pass.old pass.new
+    ensures adds { Adds D.tells (D.history desk.old) (D.history desk.new) pass.old pass.new
         (λ es. IsRest (C.gives clock.now) (λ point. G.may_stop gate.now point held)
         (reasons_with decided.plan) (calls_of decided.plan) es result) }
+    ensures full { EndsFull result
+        (FoundFull D.tells (D.history desk.new) (D.refused_full desk.new)) }
 {
     let Decided { plan, outline } = decided;
     match make(desk, pass, Call::Claim(plan)) {
@@ -281,12 +298,14 @@ impl Claimed {
         gate: &G,
         clock: &C,
     ) -> SyncEnd
-        ensures { Adds D.tells (D.history desk.old) (D.history desk.new) pass.old pass.new
+        ensures adds { Adds D.tells (D.history desk.old) (D.history desk.new) pass.old pass.new
             (λ es. IsRest (C.gives clock.now)
             (λ point. G.may_stop gate.now point self.held)
             (reasons_by self.outline.retry self.outline.failed)
             (map call_by self.outline.steps.items ++ Of.Finish Well self.outline.done ∷ []) es
             result) }
+        ensures full { EndsFull result
+            (FoundFull D.tells (D.history desk.new) (D.refused_full desk.new)) }
     {
         let Claimed { held, outline } = self;
         match take_steps(desk, pass, gate, held.key(), outline.steps.as_slice()) {
@@ -305,9 +324,11 @@ fn finish<D: Desk, G: Gate, C: Clock>(
     held: Held,
     outline: Outline,
 ) -> SyncEnd
-    ensures { Adds D.tells (D.history desk.old) (D.history desk.new) pass.old pass.new
+    ensures adds { Adds D.tells (D.history desk.old) (D.history desk.new) pass.old pass.new
         (λ es. IsRest (C.gives clock.now) (λ point. G.may_stop _gate.now point held)
         (reasons_by outline.retry outline.failed) (Of.Finish Well outline.done ∷ []) es result) }
+    ensures full { EndsFull result
+        (FoundFull D.tells (D.history desk.new) (D.refused_full desk.new)) }
 {
     let Outline {
         steps: _,
@@ -336,9 +357,13 @@ fn fail_with<D: Desk, C: Clock>(
     hitch: Hitch,
     outline: Outline,
 ) -> SyncEnd
-    ensures { Adds D.tells (D.history desk.old) (D.history desk.new) pass.old pass.new
+    requires { HitchFull hitch
+        (FoundFull D.tells (D.history desk.old) (D.refused_full desk.old)) }
+    ensures adds { Adds D.tells (D.history desk.old) (D.history desk.new) pass.old pass.new
         (λ es. HasFailed (C.gives clock.now) (reasons_at outline.retry outline.failed hitch) hitch
         es result) }
+    ensures full { EndsFull result
+        (FoundFull D.tells (D.history desk.new) (D.refused_full desk.new)) }
 {
     let Outline {
         steps: _,

@@ -1,8 +1,8 @@
 //! The steps of a claimed plan.
 ghost use Rattle.std.specs.Prelude.{[], ◌∷◌, map};
-ghost use Rattle.cj_hub.specs.Runs.{Adds};
+ghost use Rattle.cj_hub.specs.Runs.{Adds, FoundFull};
 ghost use Rattle.cj_worker.specs.Outlines.{call_by};
-ghost use Rattle.cj_worker.specs.Hitches.{HasStepped};
+ghost use Rattle.cj_worker.specs.Hitches.{HasStepped, HitchesFull};
 
 use crate::asking::make;
 use crate::gate::{Gate, Point, Turn};
@@ -19,8 +19,10 @@ fn take_step<D: Desk, G: Gate>(
     key: &Key,
     step: Next,
 ) -> Result<Turn, Hitch>
-    ensures { Adds D.tells (D.history desk.old) (D.history desk.new) pass.old pass.new
+    ensures adds { Adds D.tells (D.history desk.old) (D.history desk.new) pass.old pass.new
         (HasStepped (G.may_stop gate.now Point.Made key.now) (call_by step ∷ []) result) }
+    ensures full { HitchesFull result
+        (FoundFull D.tells (D.history desk.new) (D.refused_full desk.new)) }
 {
     match step {
         Next::Drop => {
@@ -46,8 +48,10 @@ pub(crate) fn take_steps<D: Desk, G: Gate>(
     key: &Key,
     steps: &[Next],
 ) -> Result<Turn, Hitch>
-    ensures { Adds D.tells (D.history desk.old) (D.history desk.new) pass.old pass.new
+    ensures adds { Adds D.tells (D.history desk.old) (D.history desk.new) pass.old pass.new
         (HasStepped (G.may_stop gate.now Point.Made key.now) (map call_by steps.now) result) }
+    ensures full { HitchesFull result
+        (FoundFull D.tells (D.history desk.new) (D.refused_full desk.new)) }
 {
     for step in steps {
         match take_step(desk, pass, gate, key, *step) {

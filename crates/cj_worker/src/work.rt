@@ -1,5 +1,6 @@
 ghost use Rattle.std.specs.Prelude.{◌≡◌, IfSome};
-ghost use Rattle.cj_worker.specs.Workers.{Extends, HasEnd, Went, last_end};
+ghost use Rattle.cj_worker.specs.Syncs.{IsSync};
+ghost use Rattle.cj_worker.specs.Workers.{Extends, Gets, HasEnd, HasSynced, Went, last_end};
 
 use crate::ending::SyncEnd;
 use crate::gate::{Clock, Gate};
@@ -43,6 +44,8 @@ fn sync_on<R: Wait, G: Gate, C: Clock>(
     zones: &ZoneTable,
 ) -> Option<SyncEnd>
     ensures longer { Extends pass.old pass.new }
+    ensures synced { Gets pass.old pass.new
+        (λ es. HasSynced (IsSync (C.gives clock.now) (G.may_stop gate.now) zones.now) es result) }
     ensures ended { IfSome result (λ e. HasEnd e pass.old pass.new) }
 {
     let mut desk = HubDesk::new(hub, rt);
@@ -60,7 +63,7 @@ pub(crate) fn work<R: Wait, G: Gate, C: Clock>(
     clock: &C,
     zones: &ZoneTable,
 ) -> WorkerEnd
-    ensures { Went pass result }
+    ensures { Went (C.gives clock.now) (G.may_stop gate.now) zones.now pass result }
 {
     let mut pass = pass;
     for _ in rt.forever() {

@@ -21,12 +21,44 @@ pub struct WorkerEnd {
     pub end: SyncEnd,
 }
 
-// What a worker that was given the pass hands back.
-#[derive(Drop)]
-struct WentFrom(Snapshot<Pass>);
+// What a worker that was given the pass hands back, by its gate, clock and zones.
+struct WentFrom<G, C> {
+    pass: Snapshot<Pass>,
+    gate: Snapshot<G>,
+    clock: Snapshot<C>,
+    zones: Snapshot<ZoneTable>,
+}
 
-impl Promise<WorkerEnd> for WentFrom {
-    ghost kept_by = { λ p e. Went p.0.value e };
+impl<G, C> Drop for WentFrom<G, C> {
+    fn drop(self) {
+        let WentFrom {
+            pass: _,
+            gate: _,
+            clock: _,
+            zones: _,
+        } = self;
+    }
+}
+
+impl<G, C> WentFrom<G, C> {
+    fn new(pass: &Pass, gate: &G, clock: &C, zones: &ZoneTable) -> WentFrom<G, C>
+        ensures pass { result.pass.value ≡ pass.now }
+        ensures gate { result.gate.value ≡ gate.now }
+        ensures clock { result.clock.value ≡ clock.now }
+        ensures zones { result.zones.value ≡ zones.now }
+    {
+        WentFrom {
+            pass: Snapshot::of(pass),
+            gate: Snapshot::of(gate),
+            clock: Snapshot::of(clock),
+            zones: Snapshot::of(zones),
+        }
+    }
+}
+
+impl<G: Gate, C: Clock> Promise<WorkerEnd> for WentFrom<G, C> {
+    ghost kept_by = { λ p e. Went (C.gives p.clock.value) (G.may_stop p.gate.value) p.zones.value
+        p.pass.value e };
 }
 
 // Each pass in a thread of its own. All memory that this takes is there before the first thread is started.
@@ -39,19 +71,21 @@ fn run_scoped<R: Threads + Wait + Sync, G: Gate + Sync, C: Clock + Sync>(
     clock: &C,
     zones: &ZoneTable,
 ) -> Result<Vec<WorkerEnd>, AllocError>
-    ensures { IfOk result (λ v. WentSome passes.items v.items) }
+    ensures { IfOk result (λ v. WentSome (C.gives clock.now) (G.may_stop gate.now) zones.now
+        passes.items v.items) }
 {
     thread::scope(
         thread::scope_env(),
         rt,
         |scope| -> Result<Vec<WorkerEnd>, AllocError>
-            ensures { IfOk result (λ v. WentSome passes.items v.items) }
+            ensures { IfOk result (λ v. WentSome (C.gives clock.entry.now)
+                (G.may_stop gate.entry.now) zones.entry.now passes.items v.items) }
         {
             let count = passes.as_slice().len();
             let mut started = Vec::with_capacity(alloc, count)?;
             let mut ends = Vec::with_capacity(alloc, count)?;
             for pass in passes {
-                let promise = WentFrom(Snapshot::of(&pass));
+                let promise = WentFrom::new(&pass, gate, clock, zones);
                 if let Ok(child) = scope.spawn_with(
                     promise,
                     move || work(rt, alloc, hub, pass, gate, clock, zones),
@@ -71,8 +105,9 @@ fn run_scoped<R: Threads + Wait + Sync, G: Gate + Sync, C: Clock + Sync>(
 
 /// Workers, each with a pass of its own in a thread of its own, until the queue is shut and has no key.
 ///
-/// A worker goes on after a sync that is done or to be tried again, and ends after one that broke or was
-/// stopped. The passes come back in order, each with the end of its worker's last sync. One whose thread
+/// A worker makes one whole sync after the other. It goes on after one that is done or to be tried again, and
+/// ends after one that broke or was stopped. The passes come back in order, each with the receipts of its
+/// worker's syncs, one after the other, and with the end of the last one. One whose thread
 /// can't be started is lost. Work on the hub is given up where not every worker can be started, where a sync
 /// broke, and where one lacked memory. Refused `OutOfMemory` where the threads can't be listed; no thread is
 /// started then, and all passes are lost.
@@ -85,7 +120,8 @@ pub fn run_workers<R: Threads + Wait + Sync, G: Gate + Sync, C: Clock + Sync>(
     clock: &C,
     zones: &ZoneTable,
 ) -> Result<Vec<WorkerEnd>, Refusal>
-    ensures ok { IfOk result (λ v. WentSome passes.items v.items) }
+    ensures ok { IfOk result (λ v. WentSome (C.gives clock.now) (G.may_stop gate.now) zones.now
+        passes.items v.items) }
     ensures err { IfErr result (λ e. e ≡ OutOfMemory) }
 {
     match run_scoped(rt, alloc, hub, passes, gate, clock, zones) {

@@ -3,22 +3,22 @@ use Rattle.cj_hub.proofs.Runs.{adds-then, adds-weaker}
 use Rattle.cj_worker.proofs.Rests.{claim_more, claim_stop, claim_failed}
 use Rattle.cj_worker.proofs.states.claim.Goals as goal
 
-pub returns-in-Go : goal.returns-in-Go
-returns-in-Go g c =
-    adds-then c.in-Ok.ensures c.go_on.ensures (λ es fs h k. claim_more (g.C.Clock.gives c.args.clock.now)
+pub returns-in-Go-clause-adds : goal.returns-in-Go-clause-adds
+returns-in-Go-clause-adds g c =
+    adds-then c.in-Ok.ensures.adds c.go_on.ensures.adds (λ es fs h k. claim_more (g.C.Clock.gives c.args.clock.now)
     (λ point. g.G.Gate.may_stop c.args.gate.now point c.args.held) c.args.decided.plan c.args.decided.outline es fs _
     c.requires h k)
 
-pub returns-in-Stop : goal.returns-in-Stop
-returns-in-Stop g c =
+pub returns-in-Stop-clause-adds : goal.returns-in-Stop-clause-adds
+returns-in-Stop-clause-adds g c =
     let can = rw c.key.ensures at (c.at.ensures c.in-Stop.is) in
-    adds-weaker c.in-Ok.ensures (λ es h. rw c.abandon.ensures
+    adds-weaker c.in-Ok.ensures.adds (λ es h. rw c.abandon.ensures
     (claim_stop (g.C.Clock.gives c.args.clock.now) (λ point. g.G.Gate.may_stop c.args.gate.now point c.args.held)
     c.args.decided.plan es h can))
 
-pub returns-in-Err : goal.returns-in-Err
-returns-in-Err g c =
-    adds-then c.in-Err.ensures c.fail_with.ensures
+pub returns-in-Err-clause-adds : goal.returns-in-Err-clause-adds
+returns-in-Err-clause-adds g c =
+    adds-then c.in-Err.ensures.adds c.fail_with.ensures.adds
     (λ es fs h k. claim_failed (g.C.Clock.gives c.args.clock.now)
     (λ point. g.G.Gate.may_stop c.args.gate.now point c.args.held) c.args.decided.plan c.args.decided.outline es fs
     c.in-Err.hitch _ c.requires h k)

@@ -8,11 +8,11 @@ use Rattle.cj_worker.specs.Hitches.{reasons_at}
 use Rattle.cj_worker.proofs.Rests.{IsRest-failed, Suits-by, hitched_first}
 use Rattle.cj_worker.proofs.states.finish.Goals as goal
 
-pub returns : goal.returns
-returns g c =
+pub returns-clause-adds : goal.returns-clause-adds
+returns-clause-adds g c =
     let o = c.args.outline in
-    let k = rw c.reasons_for-reasons.ensures at c.fail.ensures in
-    adds-then c.in-Err.ensures k (λ es fs h k.
+    let k = rw c.reasons_for-reasons.ensures at c.fail.ensures.adds in
+    adds-then c.in-Err.ensures.adds k (λ es fs h k.
     IsRest-failed (g.C.Clock.gives c.args.clock.now) (λ point. g.G.Gate.may_stop c.args._gate.now point c.args.held)
     (reasons_by o.retry o.failed) (Finish Well o.done ∷ []) es fs (reasons_at o.retry o.failed c.in-Err.hitch)
     c.in-Err.hitch _ (Suits-by o.retry o.failed c.in-Err.hitch)

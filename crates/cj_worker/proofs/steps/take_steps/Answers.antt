@@ -8,20 +8,20 @@ use Rattle.cj_worker.proofs.steps.take_steps.Goals as goal
 
 pub loop-step-preserved : goal.loop-step-preserved
 loop-step-preserved g c =
-    let stepped = rw c.in-Ok-Go.field-0-is at c.in-Ok-Go.ensures in
+    let stepped = rw c.in-Ok-Go.field-0-is at c.in-Ok-Go.ensures.adds in
     adds-then c.loop-step.invariant stepped (λ es fs h k. step_more
     (g.G.Gate.may_stop c.args.gate.now Made c.args.key.now) c.args.steps.now c.loop-step.step-index es fs (Ok Go)
     (omega arith) h k)
 
-pub returns-in-Ok-Stop : goal.returns-in-Ok-Stop
-returns-in-Ok-Stop g c =
-    let stepped = rw c.in-Ok-Stop.field-0-is at c.in-Ok-Stop.ensures in
+pub returns-in-Ok-Stop-clause-adds : goal.returns-in-Ok-Stop-clause-adds
+returns-in-Ok-Stop-clause-adds g c =
+    let stepped = rw c.in-Ok-Stop.field-0-is at c.in-Ok-Stop.ensures.adds in
     adds-then c.loop-step.invariant stepped (λ es fs h k. step_last
     (g.G.Gate.may_stop c.args.gate.now Made c.args.key.now) c.args.steps.now c.loop-step.step-index es fs (Ok Stop)
     (omega arith) (λ is. cc) h k)
 
-pub returns-in-Err : goal.returns-in-Err
-returns-in-Err g c =
-    adds-then c.loop-step.invariant c.in-Err.ensures
+pub returns-in-Err-clause-adds : goal.returns-in-Err-clause-adds
+returns-in-Err-clause-adds g c =
+    adds-then c.loop-step.invariant c.in-Err.ensures.adds
     (λ es fs h k. step_last (g.G.Gate.may_stop c.args.gate.now Made c.args.key.now) c.args.steps.now
     c.loop-step.step-index es fs (Err c.in-Err.hitch) (omega arith) (λ is. cc) h k)

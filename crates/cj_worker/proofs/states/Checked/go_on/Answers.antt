@@ -4,19 +4,19 @@ use Rattle.cj_hub.proofs.Runs.{adds-weaker}
 use Rattle.cj_worker.proofs.Rests.{From-early}
 use Rattle.cj_worker.proofs.states.Checked.go_on.Goals as goal
 
-pub returns-in-Ok : goal.returns-in-Ok
-returns-in-Ok g c =
-    adds-weaker c.claim.ensures (λ es h. record {
+pub returns-in-Ok-clause-adds : goal.returns-in-Ok-clause-adds
+returns-in-Ok-clause-adds g c =
+    adds-weaker c.claim.ensures.adds (λ es h. record {
       plan = Some c.in-Ok.decided.plan;
       timely = c.in-Ok.ensures.timely;
       seen = c.in-Ok.ensures.inputs;
       rest = h;
     })
 
-pub returns-in-Err : goal.returns-in-Err
-returns-in-Err g c =
+pub returns-in-Err-clause-adds : goal.returns-in-Err-clause-adds
+returns-in-Err-clause-adds g c =
     let none = c.new.ensures in
-    adds-weaker c.retry.ensures (λ es h. From-early (g.C.Clock.gives c.args.clock.now)
+    adds-weaker c.retry.ensures.adds (λ es h. From-early (g.C.Clock.gives c.args.clock.now)
     (λ point. g.G.Gate.may_stop c.args.gate.now point c.args.self.held) c.args.zones.now
     (λ p xs. (p.cron ≡ c.args.self.cron) × (p.jobs ≡ c.args.self.jobs) × (p.active ≡ c.args.self.active)) es
     c.in-Err.why _ c.in-Err.ensures.memory (rw none at h))

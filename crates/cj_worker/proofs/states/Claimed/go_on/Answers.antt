@@ -10,26 +10,26 @@ use Rattle.cj_worker.specs.declared.gate.Point.TheVariants.{Made}
 use Rattle.cj_worker.proofs.Rests.{IsRest-after, IsRest-failed, Suits-by, HaltedBy-longer, StopsAt-longer, steps_go_on}
 use Rattle.cj_worker.proofs.states.Claimed.go_on.Goals as goal
 
-pub returns-in-Ok-Go : goal.returns-in-Ok-Go
-returns-in-Ok-Go g c =
+pub returns-in-Ok-Go-clause-adds : goal.returns-in-Ok-Go-clause-adds
+returns-in-Ok-Go-clause-adds g c =
     let o = c.args.self.outline in
-    let stepped = rw (c.in-Ok-Go.field-0-is, c.as_slice.ensures.value) at c.in-Ok-Go.ensures in
-    adds-then stepped c.finish.ensures (λ es fs h k. IsRest-after (g.C.Clock.gives c.args.clock.now)
+    let stepped = rw (c.in-Ok-Go.field-0-is, c.as_slice.ensures.value) at c.in-Ok-Go.ensures.adds in
+    adds-then stepped c.finish.ensures.adds (λ es fs h k. IsRest-after (g.C.Clock.gives c.args.clock.now)
     (λ point. g.G.Gate.may_stop c.args.gate.now point c.args.self.held) (reasons_by o.retry o.failed)
     (map call_by o.steps.items) (Finish Well o.done ∷ []) es fs _ (steps_go_on o.steps.items) h k)
 
-pub returns-in-Ok-Stop : goal.returns-in-Ok-Stop
-returns-in-Ok-Stop g c =
+pub returns-in-Ok-Stop-clause-adds : goal.returns-in-Ok-Stop-clause-adds
+returns-in-Ok-Stop-clause-adds g c =
     let o = c.args.self.outline in
-    let stepped = rw (c.in-Ok-Stop.field-0-is, c.as_slice.ensures.value, c.key.ensures) at c.in-Ok-Stop.ensures in
+    let stepped = rw (c.in-Ok-Stop.field-0-is, c.as_slice.ensures.value, c.key.ensures) at c.in-Ok-Stop.ensures.adds in
     adds-weaker stepped (λ es h. rw c.abandon.ensures
     (StopsAt-longer Made (map call_by o.steps.items) (Finish Well o.done ∷ []) es h.0, h.1))
 
-pub returns-in-Err : goal.returns-in-Err
-returns-in-Err g c =
+pub returns-in-Err-clause-adds : goal.returns-in-Err-clause-adds
+returns-in-Err-clause-adds g c =
     let o = c.args.self.outline in
-    let stepped = rw c.as_slice.ensures.value at c.in-Err.ensures in
-    adds-then stepped c.fail_with.ensures (λ es fs h k.
+    let stepped = rw c.as_slice.ensures.value at c.in-Err.ensures.adds in
+    adds-then stepped c.fail_with.ensures.adds (λ es fs h k.
     IsRest-failed (g.C.Clock.gives c.args.clock.now) (λ point. g.G.Gate.may_stop c.args.gate.now point c.args.self.held)
     (reasons_by o.retry o.failed) (map call_by o.steps.items ++ Finish Well o.done ∷ []) es fs
     (reasons_at o.retry o.failed c.in-Err.hitch) c.in-Err.hitch _ (Suits-by o.retry o.failed c.in-Err.hitch)

@@ -6,14 +6,14 @@ use Rattle.cj_worker.specs.Syncs.{SeesCron}
 use Rattle.cj_worker.proofs.Rests.{held_more, From-failed}
 use Rattle.cj_worker.proofs.states.Held.go_on.Goals as goal
 
-pub returns-in-Go : goal.returns-in-Go
-returns-in-Go g c =
-    adds-then c.in-Ok.ensures c.go_on.ensures (λ es fs h k. held_more (g.C.Clock.gives c.args.clock.now)
+pub returns-in-Go-clause-adds : goal.returns-in-Go-clause-adds
+returns-in-Go-clause-adds g c =
+    adds-then c.in-Ok.ensures.adds c.go_on.ensures.adds (λ es fs h k. held_more (g.C.Clock.gives c.args.clock.now)
     (λ point. g.G.Gate.may_stop c.args.gate.now point c.args.self) c.args.zones.now c.in-Ok.cron es fs _ h k)
 
-pub returns-in-Err : goal.returns-in-Err
-returns-in-Err g c =
+pub returns-in-Err-clause-adds : goal.returns-in-Err-clause-adds
+returns-in-Err-clause-adds g c =
     let none = c.new.ensures in
-    adds-then c.in-Err.ensures c.fail.ensures (λ es fs h k. From-failed (g.C.Clock.gives c.args.clock.now)
+    adds-then c.in-Err.ensures.adds c.fail.ensures.adds (λ es fs h k. From-failed (g.C.Clock.gives c.args.clock.now)
     (λ point. g.G.Gate.may_stop c.args.gate.now point c.args.self) c.args.zones.now SeesCron SeeCron
     (SeeJobs ∷ SeeActive ∷ []) es fs c.in-Err.hitch _ h (rw none at k))

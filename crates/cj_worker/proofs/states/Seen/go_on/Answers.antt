@@ -6,16 +6,16 @@ use Rattle.cj_worker.specs.Syncs.{SeesJobs}
 use Rattle.cj_worker.proofs.Rests.{seen_more, From-failed}
 use Rattle.cj_worker.proofs.states.Seen.go_on.Goals as goal
 
-pub returns-in-Go : goal.returns-in-Go
-returns-in-Go g c =
-    adds-then c.in-Ok.ensures c.go_on.ensures (λ es fs h k. seen_more (g.C.Clock.gives c.args.clock.now)
+pub returns-in-Go-clause-adds : goal.returns-in-Go-clause-adds
+returns-in-Go-clause-adds g c =
+    adds-then c.in-Ok.ensures.adds c.go_on.ensures.adds (λ es fs h k. seen_more (g.C.Clock.gives c.args.clock.now)
     (λ point. g.G.Gate.may_stop c.args.gate.now point c.args.self.held) c.args.zones.now c.args.self.cron c.in-Ok.jobs
     es fs _ h k)
 
-pub returns-in-Err : goal.returns-in-Err
-returns-in-Err g c =
+pub returns-in-Err-clause-adds : goal.returns-in-Err-clause-adds
+returns-in-Err-clause-adds g c =
     let none = c.new.ensures in
-    adds-then c.in-Err.ensures c.fail.ensures (λ es fs h k. From-failed (g.C.Clock.gives c.args.clock.now)
+    adds-then c.in-Err.ensures.adds c.fail.ensures.adds (λ es fs h k. From-failed (g.C.Clock.gives c.args.clock.now)
     (λ point. g.G.Gate.may_stop c.args.gate.now point c.args.self.held) c.args.zones.now
     (λ p xs. (p.cron ≡ c.args.self.cron) × SeesJobs p xs) SeeJobs (SeeActive ∷ []) es fs c.in-Err.hitch _ h
     (rw none at k))
