@@ -9,6 +9,8 @@ use std::mem;
 use std::process::Abort;
 use std::sync::Wait;
 
+const NAMES: &[&str] = &["a", "b", "c"];
+
 fn watch(rt: &impl Abort, version: u64) -> Call {
     let max = Max::new(500).expect(rt, "a number");
     Call::Watch(Version::new(version), max)
@@ -28,7 +30,7 @@ fn told(rt: &(impl Wait + Abort), alloc: Global) -> [&'static str; 4] {
     let limits = Limits::new(100, 2).expect(rt, "limits");
     let hub = Hub::new(alloc, limits).expect(rt, "memory");
     let mut user = pass_of(rt, &hub, Role::User);
-    for name in ["a", "b", "c"] {
+    for name in NAMES {
         called(rt, &hub, &mut user, create(rt, alloc, name));
     }
     let answers = answers(rt, &hub, &mut user);

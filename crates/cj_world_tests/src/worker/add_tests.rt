@@ -11,6 +11,7 @@ use cj_worker::OpenGate;
 use std::alloc::Global;
 use std::mem;
 use std::process::Abort;
+use std::sync::atomic::{AtomicU64, Ordering};
 use std::sync::{Mutex, Wait};
 
 // Two minutes after the first.
@@ -26,9 +27,9 @@ fn three_adds(rt: &impl Abort, alloc: Global) -> [Call; 5] {
     [first, tick_one, second, tick_two, third]
 }
 
-// How the worker's sync ends during which the informer makes the calls, and the other worker tries to take after each; what
-// that is answered; and both passes.
-type Held = (&'static str, [&'static str; 5], Pass, Pass);
+// How the worker's sync ends during which the informer makes the calls, and the other worker tries to take after
+// each; how often that found nothing; and both passes.
+type Held = (&'static str, u64, Pass, Pass);
 
 fn while_held(
     rt: &(impl Wait + Abort),
@@ -39,31 +40,28 @@ fn while_held(
     other: Pass,
 ) -> Held {
     let calls = three_adds(rt, alloc);
-    let callers = Mutex::new((informer, other));
-    let answers = Mutex::new([""; 5]);
+    let informer = Mutex::new(informer);
+    let other = Mutex::new(other);
+    let empty = AtomicU64::new(0);
     let gate = Tries {
         rt,
         alloc,
         hub,
-        callers: &callers,
+        informer: &informer,
+        other: &other,
         calls: &calls,
-        answers: &answers,
+        empty: &empty,
     };
     let end = synced(rt, alloc, hub, worker, &gate, FIRST);
     mem::forget(calls);
-    let (informer, other) = callers.into_inner();
-    (end, answers.into_inner(), informer, other)
+    let count = empty.load(Ordering::SeqCst);
+    (end, count, informer.into_inner(), other.into_inner())
 }
 
-// How the syncs ended, with the answers to the Takes that were tried meanwhile; the answer to a Take after the second sync;
-// and how often the history tells that the key was added, that each worker took it, and that the Job of two minutes later was
-// made.
-type Told = (
-    [&'static str; 2],
-    [&'static str; 5],
-    &'static str,
-    [usize; 4],
-);
+// How the syncs ended, and how often it was tried in vain to take meanwhile; the answer to a Take after the second
+// sync; and how often the history tells that the key was added, that each worker took it, and that the Job of two
+// minutes later was made.
+type Told = ([&'static str; 2], u64, &'static str, [usize; 4]);
 
 fn told(rt: &(impl Wait + Abort), alloc: Global) -> Told {
     let Fixture {
@@ -94,14 +92,12 @@ fn told(rt: &(impl Wait + Abort), alloc: Global) -> Told {
     ([first, second], tries, third, counts)
 }
 
-const TRIES: [&str; 5] = ["Empty"; 5];
-
-// A key is added three times, and the clocks move on by two minutes, while a worker holds it. After each of that another worker
-// tries to take, and finds nothing. After the Finish it takes the key once, and makes the Job of two minutes later; then
-// there is nothing to take.
+// A key is added three times, and the clocks move on by two minutes, while a worker holds it. After each of that
+// another worker tries to take, and finds nothing. After the Finish it takes the key once, and makes the Job of two
+// minutes later; then there is nothing to take.
 // rules: queue-done, queue-line, add-while-held
 #[test]
 fn added_while_it_is_held(rt: HostRuntime) {
     let told = told(&rt, rt.alloc());
-    assert!(rt; told == (["Done", "Done"], TRIES, "Empty", [4, 1, 1, 1]));
+    assert!(rt; told == (["Done", "Done"], 5, "Empty", [4, 1, 1, 1]));
 }

@@ -7,29 +7,36 @@ use cj_types::{Key, TryCopy};
 use cj_worker::{Gate, Point, Turn};
 use std::alloc::Global;
 use std::process::Abort;
+use std::sync::atomic::{AtomicU64, Ordering};
 use std::sync::{Mutex, Wait};
 
-/// When the time is claimed, the first of the callers makes each of the calls, which is accepted, and after each the second
-/// tries to take. The answers to that are kept.
+/// When the time is claimed, the informer makes each of the calls, which is accepted, and after each the other
+/// worker tries to take. It is counted how often that found nothing.
 #[derive(Drop)]
 pub struct Tries<'a, R: Wait + Abort> {
     pub rt: &'a R,
     pub alloc: Global,
     pub hub: &'a Hub,
-    pub callers: &'a Mutex<(Pass, Pass)>,
-    pub calls: &'a [Call; 5],
-    pub answers: &'a Mutex<[&'static str; 5]>,
+    pub informer: &'a Mutex<Pass>,
+    pub other: &'a Mutex<Pass>,
+    pub calls: &'a [Call],
+    pub empty: &'a AtomicU64,
 }
 
 impl<'a, R: Wait + Abort> Tries<'a, R> {
-    fn try_each(&self) {
-        let mut callers = self.callers.lock(self.rt);
-        let (informer, worker) = &mut *callers;
-        let mut answers = self.answers.lock(self.rt);
-        for (number, call) in self.calls.iter().enumerate() {
+    fn try_to_take(&self) {
+        let mut other = self.other.lock(self.rt);
+        if called(self.rt, self.hub, &mut other, Call::Take) == "Empty" {
+            self.empty.fetch_add(1, Ordering::SeqCst);
+        }
+    }
+
+    fn go_on(&self) {
+        let mut informer = self.informer.lock(self.rt);
+        for call in self.calls {
             let call = call.try_copy(self.alloc).expect(self.rt, "memory");
-            made(self.rt, self.hub, informer, call);
-            answers[number % 5] = called(self.rt, self.hub, worker, Call::Take);
+            made(self.rt, self.hub, &mut informer, call);
+            self.try_to_take();
         }
     }
 }
@@ -39,7 +46,7 @@ impl<'a, R: Wait + Abort> Gate for Tries<'a, R> {
 
     fn at(&self, point: Point, _key: &Key) -> Turn {
         if point == Point::Claimed {
-            self.try_each();
+            self.go_on();
         }
         Turn::Go
     }

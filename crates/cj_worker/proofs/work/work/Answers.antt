@@ -1,5 +1,5 @@
 -- work: its ensures where a sync is the worker's last, and its loop's invariant.
-use Rattle.std.proofs.Common.{rules}
+use Rattle.std.proofs.Common.{Some, None, refl, rules}
 use Rattle.cj_worker.proofs.Passes.{went_after, extends_after, longer}
 use Rattle.cj_worker.proofs.Synced.{all_synced, more_synced, none_synced}
 use Rattle.cj_worker.specs.Syncs.{IsSync}
@@ -10,7 +10,9 @@ returns-in-Some-sync_on g c =
     went_after (g.C.Clock.gives c.args.clock.now) (g.G.Gate.may_stop c.args.gate.now) c.args.zones.now c.args.pass
     c.loop.pass (record { pass = c.sync_on.new.pass; end = c.in-Some-sync_on.end })
     c.loop.invariant.longer c.in-Some-sync_on.ensures.longer
-    (all_synced _ _ _ _ _ _ c.in-Some-sync_on.is c.loop.invariant.syncs c.in-Some-sync_on.ensures.synced)
+    (all_synced (IsSync (g.C.Clock.gives c.args.clock.now) (g.G.Gate.may_stop c.args.gate.now) c.args.zones.now)
+    c.args.pass c.loop.pass c.sync_on.new.pass (Some c.in-Some-sync_on.end) c.in-Some-sync_on.end refl
+    c.loop.invariant.syncs c.in-Some-sync_on.ensures.synced)
     c.in-Some-sync_on.ensures.ended
 
 pub loop-init : goal.loop-init
@@ -20,4 +22,10 @@ loop-init g c =
     record { can = search rules; ends = search rules; longer = longer none; syncs = none }
 
 pub loop-preserved : goal.loop-preserved
-loop-preserved g c = ?
+loop-preserved g c = record {
+  can = search rules;
+  ends = search rules;
+  longer = extends_after c.args.pass c.loop.pass c.sync_on.new.pass c.loop.invariant.longer c.in_default.ensures.longer;
+  syncs = more_synced (IsSync (g.C.Clock.gives c.args.clock.now) (g.G.Gate.may_stop c.args.gate.now) c.args.zones.now)
+      c.args.pass c.loop.pass c.sync_on.new.pass None refl c.loop.invariant.syncs c.in_default.ensures.synced;
+}
