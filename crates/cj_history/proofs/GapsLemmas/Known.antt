@@ -24,7 +24,7 @@ use Rattle.cj_history.specs.gaps.Known.{mark_cmp, claim_by, has_in, has, Claims,
 -- ---- marks
 
 -- Numbers compare as equal just where they are one.
-eq_nat : (a b : ℕ) → is_eq (nat_cmp a b) ≡ (a == b)
+pub eq_nat : (a b : ℕ) → is_eq (nat_cmp a b) ≡ (a == b)
 eq_nat a b = grind (arith, nat_tests)
 
 -- Two orders, one asked after the other, say equal just where both do.

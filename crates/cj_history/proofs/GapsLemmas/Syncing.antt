@@ -8,6 +8,8 @@ use Rattle.cj_zone.specs.declared.zone.Zone.{Zone}
 use Rattle.cj_types.specs.declared.cron.CronJob.{CronJob}
 use Rattle.cj_decide.specs.Decision.{Planned}
 use Rattle.cj_history.specs.declared.gaps.moments.Moments.{Moments}
+use Rattle.std.proofs.lemmas.Bool.{eqb-true}
+use Rattle.cj_history.proofs.GapsLemmas.Known.{eq_nat}
 use Rattle.cj_history.specs.gaps.Syncs.{moment_by}
 use Rattle.cj_history.specs.gaps.Reached.{moment_of, Comes, ComesBy, Knows}
 
@@ -34,3 +36,17 @@ comes_nowhere p a none = λ u. by p.cron u ∙ ap (λ (o : Option Zone). moment_
     by : (c : Option CronJob) (u : ℕ) → moment_of a u ≡ moment_by c None p.at u (moment_of a u)
     by None u = refl
     by (Some cron) u = refl
+
+-- For sync: with the later moment put in for a CronJob.
+pub sync_comes : (u at v : ℕ) (a b : Moments) → tree.Updates nat_cmp a.moments b.moments u (Some v)
+    → v ≡ max (moment_of a u) at → Comes u at a b
+sync_comes u at v a b up e = λ q.
+    ap (λ (o : Option ℕ). unwrap_or o 0) (up.0 q) ∙ by q (is_eq (nat_cmp u q)) (u == q) (eq_nat u q) refl
+  where
+    by : (q : ℕ) (x y : Bool) → x ≡ y → (u == q) ≡ y
+        → unwrap_or (cond x (Some v) (tree.get nat_cmp a.moments q)) 0
+        ≡ (if y then max (moment_of a q) at else moment_of a q)
+    by q true true s t = e ∙ ap (λ (w : ℕ). max (moment_of a w) at) (eqb-true u q t)
+    by q false false s t = refl
+    by q true false s t = absurd (cc s)
+    by q false true s t = absurd (cc s)

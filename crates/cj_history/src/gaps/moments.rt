@@ -1,9 +1,8 @@
 // How far the syncs of each CronJob came, read once from the oldest entry on.
-ghost use Rattle.std.specs.Prelude.{◌≡◌, [], ◌∷◌, List, IfErr, OnOk, option_copied};
+ghost use Rattle.std.specs.Prelude.{◌≡◌, [], max, unwrap_or, IfErr, OnOk, option_copied};
 ghost use Rattle.cj_base.specs.declared.refusal.Refusal.TheVariants.{OutOfMemory};
-ghost use Rattle.cj_calls.specs.Rows.{Told};
 ghost use Rattle.cj_history.specs.gaps.Reached as known;
-ghost use Rattle.cj_history.specs.gaps.Syncs.{seen_by, moment_by};
+ghost use Rattle.cj_history.specs.gaps.Syncs.{seen_by};
 
 use cj_decide::Plan;
 use cj_types::{CronJob, Refusal, Seconds, Uid};
@@ -14,6 +13,16 @@ use std::collections::BTreeMap;
 #[derive(Drop)]
 pub(crate) struct Moments {
     moments: BTreeMap<Uid, Seconds>,
+}
+
+// The later of a moment, if there is one, and another.
+fn later(was: Option<&Seconds>, at: Seconds) -> Seconds
+    ensures { result ≡ max (unwrap_or (option_copied was.entry) 0) at }
+{
+    match was {
+        Some(was) => at.max(*was),
+        None => at,
+    }
 }
 
 impl Moments {
@@ -42,10 +51,7 @@ impl Moments {
         ensures ok { OnOk result (known.Comes uid at self.old self.new) }
         ensures err { IfErr result (λ e. e ≡ OutOfMemory) }
     {
-        let at = match self.moments.get(&uid) {
-            Some(was) => at.max(*was),
-            None => at,
-        };
+        let at = later(self.moments.get(&uid), at);
         match self.moments.insert(uid, at) {
             Ok(_) => Ok(()),
             Err(_) => Err(Refusal::OutOfMemory),
