@@ -1,0 +1,4 @@
+pub mod Known
+pub mod Syncing
+pub mod Among
+pub mod Whole
