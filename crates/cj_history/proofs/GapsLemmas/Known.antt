@@ -1,6 +1,6 @@
 -- A history that is read once, from its oldest entry on: what it tells, and how far its syncs came.
-use Rattle.std.proofs.Common.{◌≡◌, ◌∙◌, ◌&&◌, ◌||◌, ℕ, Bool, true, false, cond, if◌then◌else◌, List, [], ◌∷◌, Option, Some, None, Result, refl, sym, ap, arith}
-use Rattle.std.specs.Prelude.{◌==◌, max}
+use Rattle.std.proofs.Common.{◌≡◌, ◌∙◌, ◌&&◌, ◌||◌, ℕ, Bool, true, false, cond, if◌then◌else◌, List, [], ◌∷◌, Option, Some, None, refl, ap, arith}
+use Rattle.std.specs.Prelude.{◌==◌}
 use Rattle.std.proofs.lemmas.Bool.Decides.{nat_tests}
 use Rattle.std.specs.Ordering.{nat_cmp, is_eq, ordering_then}
 use Rattle.std.specs.declared.cmp.Ordering.{Ordering}
@@ -9,8 +9,6 @@ use Rattle.std.specs.BTreeMap as tree
 use Rattle.std.specs.BTreeSet as set
 use Rattle.std.specs.List.{list_any}
 use Rattle.std.specs.Map.{lookup}
-use Rattle.cj_base.specs.declared.refusal.Refusal.{Refusal}
-use Rattle.cj_calls.specs.declared.reply.Reply.{Reply}
 use Rattle.cj_calls.specs.Rows.{Told}
 use Rattle.cj_history.specs.declared.gaps.mark.Deed.{Deed}
 use Rattle.cj_history.specs.declared.gaps.mark.Deed.TheVariants.{Claimed, Refused, Made}
@@ -18,8 +16,8 @@ use Rattle.cj_history.specs.declared.gaps.mark.Start.{Start}
 use Rattle.cj_history.specs.declared.gaps.mark.Mark.{Mark}
 use Rattle.cj_history.specs.declared.gaps.marks.Marks.{Marks}
 use Rattle.cj_history.specs.contracts.gaps.mark.DeedOrd.TheImpl as deed
-use Rattle.cj_history.specs.gaps.Marks.{is_deed, is_mark, newer, start_in, claim_mark, making_mark, mark_of, says, last_claimed, is_told}
-use Rattle.cj_history.specs.gaps.Known.{mark_cmp, claim_by, has_in, has, Claims, Tells, Knows}
+use Rattle.cj_history.specs.gaps.Marks.{is_deed, is_mark, newer, start_in, claim_mark, making_mark, mark_of, says}
+use Rattle.cj_history.specs.gaps.Known.{mark_cmp, claim_by, has_in, Claims, Tells, Knows}
 
 -- ---- marks
 

@@ -1,5 +1,5 @@
 -- How far the syncs of each CronJob came, with one sync more.
-use Rattle.std.proofs.Common.{◌≡◌, ◌∙◌, ℕ, ◌≤◌, Bool, true, false, cond, if◌then◌else◌, List, [], Option, Some, None, refl, sym, ap, arith}
+use Rattle.std.proofs.Common.{◌≡◌, ◌∙◌, ℕ, Bool, true, false, cond, if◌then◌else◌, List, [], Option, Some, None, refl, sym, ap}
 use Rattle.std.specs.Prelude.{◌==◌, max, unwrap_or}
 use Rattle.std.specs.Ordering.{nat_cmp, is_eq}
 use Rattle.std.specs.BTreeMap as tree

@@ -1,5 +1,5 @@
 -- The gaps that are listed are just the gaps of the history, and those of each CronJob rise.
-use Rattle.std.proofs.Common.{◌≡◌, ◌∙◌, ◌⊎◌, inl, inr, ℕ, ◌<◌, ◌≤◌, Bool, true, false, cond, if◌then◌else◌, List, [], ◌∷◌, ◌++◌, Option, Some, None, refl, sym, ap, subst, arith, append-nil}
+use Rattle.std.proofs.Common.{◌≡◌, ◌∙◌, inl, inr, ℕ, ◌<◌, ◌≤◌, Bool, true, false, if◌then◌else◌, List, [], ◌∷◌, Option, Some, None, refl, sym, ap, subst, arith}
 use Rattle.std.specs.Prelude.{◌↔◌, ◌==◌, max, Ok}
 use Rattle.std.proofs.lemmas.Bool.Decides.{nat_tests}
 use Rattle.cj_types.specs.declared.cron.CronJob.{CronJob}
@@ -13,7 +13,6 @@ use Rattle.cj_decide.specs.laws.Laws.{IsIn}
 use Rattle.cj_decide.proofs.LawsLemmas.Members.{in_left, in_parts}
 use Rattle.cj_calls.specs.Rows.{Told}
 use Rattle.cj_history.specs.declared.gaps.gap.Gap.{Gap}
-use Rattle.cj_history.specs.declared.gaps.gap.Why.{Why}
 use Rattle.cj_history.specs.declared.gaps.mark.Mark.{Mark}
 use Rattle.cj_history.specs.declared.gaps.marks.Marks.{Marks}
 use Rattle.cj_history.specs.declared.gaps.moments.Moments.{Moments}
@@ -36,7 +35,7 @@ one_schedule text s t h k =
 -- ---- how far the syncs came
 
 -- A number tests as equal to itself.
-same_nat : (u : ℕ) → (u == u) ≡ true
+pub same_nat : (u : ℕ) → (u == u) ≡ true
 same_nat u = grind (arith, nat_tests)
 
 -- The greater of two is no less than each.
@@ -242,37 +241,24 @@ just_gaps t h moments gs knows goes =
 
 -- ---- an entry more
 
-module _ (told : Mark → Bool) (e : Told) (h : List Told) where
-  -- After an entry that isn't an accepted claim, the same is known and listed.
-  pub goes_on : (m : Moments) (gs : List Gap) → None ≡ plan_in e.call e.answer → Goes told h m gs → Goes told (e ∷ h) m gs
-  goes_on m gs none g = record {
-    syncs = λ u. g.syncs u ∙ ap (λ (o : Option Planned). moment_in o u (synced h u)) none;
-    gaps = (
-      gs,
-      [],
-      g.gaps,
-      subst (λ (o : Option Planned). GapsOf told (seen_upto h) o []) none refl,
-      sym (append-nil gs),
-    );
-  }
-
-  -- After an accepted claim, with the gaps at it and its sync.
-  pub goes_with : (p : Planned) (a b : Moments) (gs after : List Gap) → Some p ≡ plan_in e.call e.answer
-      → Adds (GapsBy told (seen_by (moment_of a)) p p.cron p.zone) gs after → ComesBy p a b → Goes told h a gs
-      → Goes told (e ∷ h) b after
-  goes_with p a b gs after sync (new, at, is) comes g =
-      let known : moment_of a ≡ synced h = λ i. λ u. g.syncs u i in
-      record {
-        syncs = λ u.
-            comes u
-            ∙ ap (λ (x : ℕ). moment_in (Some p) u x) (g.syncs u)
-            ∙ ap (λ (o : Option Planned). moment_in o u (synced h u)) sync;
-        gaps = (
-          gs,
-          new,
-          g.gaps,
-          subst (λ (o : Option Planned). GapsOf told (seen_upto h) o new) sync
-              (subst (λ (f : ℕ → ℕ). GapsBy told (seen_by f) p p.cron p.zone new) known at),
-          is,
-        );
-      }
+-- For note_entry: after an accepted claim, with the gaps at it and its sync, what is known and listed is that of the
+-- entries with it.
+pub goes_with : (told : Mark → Bool) (e : Told) (p : Planned) (a b : Moments) (gs after : List Gap)
+    → Some p ≡ plan_in e.call e.answer → Adds (GapsBy told (seen_by (moment_of a)) p p.cron p.zone) gs after
+    → ComesBy p a b → (h : List Told) → Goes told h a gs → Goes told (e ∷ h) b after
+goes_with told e p a b gs after sync (new, at, is) comes h g =
+    let known : moment_of a ≡ synced h = λ i. λ u. g.syncs u i in
+    record {
+      syncs = λ u.
+          comes u
+          ∙ ap (λ (x : ℕ). moment_in (Some p) u x) (g.syncs u)
+          ∙ ap (λ (o : Option Planned). moment_in o u (synced h u)) sync;
+      gaps = (
+        gs,
+        new,
+        g.gaps,
+        subst (λ (o : Option Planned). GapsOf told (seen_upto h) o new) sync
+            (subst (λ (f : ℕ → ℕ). GapsBy told (seen_by f) p p.cron p.zone new) known at),
+        is,
+      );
+    }

@@ -1,6 +1,6 @@
 -- Why a due time got no Job: Kubernetes CronJob documentation, "Schedule suspension", "Deadline for delayed Job start",
 -- "Concurrency policy" and "CronJob limitations".
-use Rattle.std.specs.Prelude.{ℕ, Bool, true, false, nat_le, if◌then◌else◌, List}
+use Rattle.std.specs.Prelude.{ℕ, Bool, true, false, nat_le, if◌then◌else◌}
 use Rattle.std.specs.List.{list_any}
 use Rattle.cj_types.specs.declared.cron.CronJob.{CronJob}
 use Rattle.cj_types.specs.declared.policy.Reason.{Reason}

@@ -1,7 +1,7 @@
 -- The syncs of a CronJob in a history, and how far they came: a sync reads the schedule, the zone and the moment that
 -- its claim rests on, and looks at all times up to that moment (Kubernetes CronJob documentation, "CronJob
 -- limitations": how many schedules it missed "in the duration from its last scheduled time until now").
-use Rattle.std.specs.Prelude.{ℕ, ◌==◌, if◌then◌else◌, max, List, [], ◌∷◌, Option, Some, None, Result, Ok, Err}
+use Rattle.std.specs.Prelude.{ℕ, ◌==◌, if◌then◌else◌, max, List, [], ◌∷◌, Option, Some, None, Result, Ok}
 use Rattle.cj_base.specs.declared.refusal.Refusal.{Refusal}
 use Rattle.cj_types.specs.declared.cron.CronJob.{CronJob}
 use Rattle.cj_zone.specs.declared.zone.Zone.{Zone}

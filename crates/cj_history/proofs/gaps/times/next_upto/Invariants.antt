@@ -3,8 +3,8 @@ use Rattle.std.proofs.Common.{◌≤◌, ◌-◌}
 use Rattle.cj_due.specs.Due.{IsQuiet}
 use Rattle.cj_history.proofs.gaps.times.next_upto.Given as goal
 
-abbrev pub invariant-loop-at : goal.invariant-loop-at
-invariant-loop-at l = record { quiet : IsQuiet l.schedule l.zone l.fn.lo l.at; low : l.fn.lo ≤ l.at }
+abbrev pub invariant-loop-hi : goal.invariant-loop-hi
+invariant-loop-hi l = record { quiet : IsQuiet l.schedule l.zone l.fn.lo l.at; low : l.fn.lo ≤ l.at }
 
-abbrev pub decreases-loop-at : goal.decreases-loop-at
-decreases-loop-at l = l.hi - l.at
+abbrev pub decreases-loop-hi : goal.decreases-loop-hi
+decreases-loop-hi l = l.hi - l.at
