@@ -127,17 +127,6 @@ module _ (told : Mark → Bool) (cron : CronJob) (p : Planned) where
       sym (ap (λ (l : List ℕ). gs ++ gaps_among told cron p l)
       (missed_times-none s z lo lo (λ t a b. absurd (omega (arith, a, b)))) ∙ append-nil gs)
 
-  -- For note_time: a time that got its Job has no gap.
-  pub gap_absent : (t : ℕ) (gs : List Gap) → has_job told cron.meta.uid t ≡ true → gs ≡ gs ++ gap_if told cron p t
-  gap_absent t gs e = sym (ap (λ (b : Bool). gs ++ cond b [] (gap_of told cron p t ∷ [])) e ∙ append-nil gs)
-
-  -- For note_time: a time that got none has one.
-  pub gap_present : (t : ℕ) (g : Gap) (gs after : List Gap) → has_job told cron.meta.uid t ≡ false
-      → g ≡ gap_of told cron p t → after ≡ gs ++ g ∷ [] → after ≡ gs ++ gap_if told cron p t
-  gap_present t g gs after e is push =
-      push ∙ ap (λ (x : Gap). gs ++ x ∷ []) is
-      ∙ sym (ap (λ (b : Bool). gs ++ cond b [] (gap_of told cron p t ∷ [])) e)
-
   -- A gap among the times is that of one of them, which got no Job.
   pub among_is : (ts : List ℕ) (g : Gap) → IsIn g (gaps_among told cron p ts)
       → IsIn g.time ts × (has_job told cron.meta.uid g.time ≡ false) × (gap_of told cron p g.time ≡ g)
