@@ -8,6 +8,7 @@ pub mod Aside
 pub mod Tidy
 pub mod Steps
 pub mod Started
+pub mod Only
 pub mod Taken
 pub mod Rest
 pub mod Closed

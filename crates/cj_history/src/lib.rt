@@ -6,15 +6,17 @@
 //! (`queue`), and that what is written of a created object reads back (`manifests`). No crate rests on it; `legal_law`
 //! and `answer_law` say that the two readings agree.
 //! What is sure to come stands here too (`progress`): the queue forgets nothing that is due, and a sync that nobody
-//! disturbs makes its Job.
+//! disturbs makes its Job; and which due times got no Job, and why (`gaps`), for whoever reports of a history.
 #![tactic(auto)]
 
+pub mod gaps;
 mod laws;
 mod manifests;
 pub mod progress;
 pub mod queue;
 pub mod store;
 
+pub use gaps::{Gap, Why, gaps_of};
 pub use laws::{answer_law, exclusive_law, legal_law, once_law, time_law};
 pub use manifests::created_laws;
 pub use progress::{no_key_is_lost_law, progress_law};

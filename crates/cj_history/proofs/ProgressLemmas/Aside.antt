@@ -99,7 +99,7 @@ alike w k q (e ∷ es) h a =
     (entry_written (writes (es ++ h)) (seat (es ++ h) e.caller.number) e.call e.answer) a.1 (alike w k q es h a.2)
 
 -- A caller of a worker's number and role is that worker.
-caller_is : (w : ℕ) (c : Caller) → (w == c.number) ≡ true → c.role ≡ Worker → c ≡ worker w
+pub caller_is : (w : ℕ) (c : Caller) → (w == c.number) ≡ true → c.role ≡ Worker → c ≡ worker w
 caller_is w c n r = ap (λ (x : Role). record { number = c.number; role = x }) r
     ∙ ap (λ (x : ℕ). record { number = x; role = Worker }) (sym (eqb-true w c.number n))
 

@@ -15,6 +15,7 @@ use Rattle.cj_history.specs.progress.Syncs.{readings, PlansWork, MakesJob}
 use Rattle.cj_history.proofs.ProgressLemmas.Calls.{sat, take_is}
 use Rattle.cj_history.proofs.ProgressLemmas.Aside.{Goes, goes_leads, ok_entered}
 use Rattle.cj_history.proofs.ProgressLemmas.Started.{IsRead, readings_go, plans_make_job}
+use Rattle.cj_history.proofs.ProgressLemmas.Only.{plans_make_one}
 use Rattle.cj_history.proofs.ProgressLemmas.Taken.{plans_find_taken}
 use Rattle.cj_history.proofs.ProgressLemmas.Rest.{plans_rest}
 use Rattle.cj_history.proofs.ProgressLemmas.Closed.{plans_stay}
@@ -30,7 +31,7 @@ makes_job window h w k cron l r =
       ok,
       goes_leads window w k None (entry window h w Of.Take ∷ h) readings (PlansWork window w k cron) (IsRead w k cron)
           (refl, ok_entered (step_of s (worker w) Of.Take).answer ok, l)
-          (λ g m x. record { made = plans_make_job window w k cron g m x; taken = plans_find_taken window w k cron g m x; rest = plans_rest window w k cron g m x; stay = plans_stay window w k cron g m x; spare = plans_spare window w k cron g m x })
+          (λ g m x. record { made = plans_make_job window w k cron g m x; one = plans_make_one window w k cron g m x; taken = plans_find_taken window w k cron g m x; rest = plans_rest window w k cron g m x; stay = plans_stay window w k cron g m x; spare = plans_spare window w k cron g m x })
           (subst (λ (x : Handled). Goes w k None x.state readings (IsRead w k cron)) (sym e)
           (readings_go w k cron (seated (record s { queue = taken s.queue }) w k Held) (seat_here s.seats w (sat k Held)) r.stands)),
     )

@@ -1,11 +1,11 @@
 -- A sync that nobody disturbs, from a worker's Take of a key to its Finish: Kubernetes CronJob documentation, "Job
 -- creation" and "CronJob limitations"; the calls on the queue are those of client-go's package workqueue (Get, Done).
-use Rattle.std.specs.Prelude.{◌≡◌, ◌≢◌, ℕ, true, false, List, [], ◌∷◌, ◌++◌, Option, Some, None, Err}
+use Rattle.std.specs.Prelude.{◌≡◌, ◌≢◌, ℕ, ◌≤◌, ◌==◌, ◌&&◌, Bool, true, false, List, [], ◌∷◌, ◌++◌, length, filter, Option, Some, None, Err}
 use Rattle.std.specs.FinMap as map
 use Rattle.cj_base.specs.declared.refusal.Refusal.TheVariants.{AlreadyExists}
 use Rattle.cj_types.specs.Keys.{Place}
 use Rattle.cj_types.specs.Made.{made_place}
-use Rattle.cj_types.specs.Uids.{uid_text}
+use Rattle.cj_types.specs.Uids.{uid_text, last_uid}
 use Rattle.cj_types.specs.declared.cron.CronJob.{CronJob}
 use Rattle.cj_types.specs.declared.job.Job.{Job}
 use Rattle.cj_types.specs.declared.policy.Policy.{Policy}
@@ -31,9 +31,10 @@ use Rattle.cj_calls.specs.declared.call.Call.TheVariants as Of
 use Rattle.cj_calls.specs.declared.end.End.TheVariants.{Well}
 use Rattle.cj_state.specs.declared.phases.seat.Phase.TheVariants.{Checked}
 use Rattle.cj_state.specs.phases.Steps.{Step, drops, makes, sets, all_steps}
-use Rattle.cj_state.specs.Legal.{IsLegal, answer_of, state_of}
+use Rattle.cj_state.specs.Legal.{IsLegal, ArePlanned, answer_of, state_of}
 use Rattle.cj_world_laws.specs.legal.Seats.{seat}
-use Rattle.cj_world_laws.specs.once.Once.{is_ok}
+use Rattle.cj_world_laws.specs.once.Once as once
+use Rattle.cj_world_laws.specs.once.Once.{Claimed, is_ok}
 use Rattle.cj_history.specs.progress.Undisturbed.{worker, entry, AreAside, Leads}
 
 -- ---- the calls
@@ -126,6 +127,22 @@ PlansMakeJob window w k cron h = (p : Planned) (time : ℕ) → IsFor h w k p �
     → map.get (state_of window h).store.jobs (made_place cron.key time) ≡ None
     → Leads window w k (Some (made_place cron.key time)) h (works_off p) (λ g. IsMade p k cron time (state_of window g).store)
 
+-- a claim of the CronJob with this uid, for that time
+abbrev pub is_for : ℕ → ℕ → Claimed → Bool
+is_for u time m = (m.owner == u) && (m.time == time)
+
+-- one Job, no more and no fewer, was made for that CronJob and that time, as long as there are uids
+-- rule: sync-makes-job
+abbrev pub IsOnly : ℕ → ℕ → ℕ → List Told → Type 0
+IsOnly window u time h = length h ≤ last_uid → ArePlanned h → length (filter (is_for u time) (once.makes window h)) ≡ 1
+
+-- the Job that such plans make is the only one
+-- rule: sync-makes-job
+abbrev pub PlansMakeOne : ℕ → ℕ → Place → CronJob → List Told → Type 0
+PlansMakeOne window w k cron h = (p : Planned) (time : ℕ) → IsFor h w k p → IsOpen cron p time
+    → map.get (state_of window h).store.jobs (made_place cron.key time) ≡ None
+    → Leads window w k (Some (made_place cron.key time)) h (works_off p) (IsOnly window cron.meta.uid time)
+
 -- the worker's making is refused, whatever others call aside
 abbrev pub IsRefused : ℕ → ℕ → Place → Option Place → List Told → Type 0
 IsRefused window w k q h = (es : List Told) → IsLegal window (es ++ h) → AreAside w k q es h
@@ -179,6 +196,7 @@ PlansSpare window w k cron h = (p : Planned) → IsFor h w k p → (es : List To
 -- what the worker's plans do after the readings
 pub record PlansWork (window w : ℕ) (k : Place) (cron : CronJob) (h : List Told) : Type 0 where
   pub made : PlansMakeJob window w k cron h
+  pub one : PlansMakeOne window w k cron h
   pub taken : PlansFindTaken window w k cron h
   pub rest : PlansRest window w k cron h
   pub stay : PlansStay w k cron h

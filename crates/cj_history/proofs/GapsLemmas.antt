@@ -1,0 +1,6 @@
+pub mod Known
+pub mod Syncing
+pub mod Among
+pub mod Listing
+pub mod Whole
+pub mod Sample

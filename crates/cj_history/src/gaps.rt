@@ -1,0 +1,10 @@
+// The due times of a history that got no Job, each with its cause.
+mod find;
+mod gap;
+mod mark;
+mod marks;
+mod moments;
+mod times;
+
+pub use find::gaps_of;
+pub use gap::{Gap, Why};
