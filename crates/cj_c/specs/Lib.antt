@@ -1,0 +1,4 @@
+pub mod Held
+pub mod Faults
+pub mod Opening
+pub mod Shown

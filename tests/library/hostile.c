@@ -1,0 +1,133 @@
+// Calls libcronsim as no caller should, and with each request for memory refused in turn. Linked with -Wl,--wrap=malloc and
+// -Wl,--wrap=realloc, so that the requests of the library come here.
+#include "cronsim.h"
+#include <stdio.h>
+#include <stdlib.h>
+#include <string.h>
+
+void *__real_malloc(size_t size);
+void *__real_realloc(void *block, size_t size);
+
+static long asked, refused_one;
+
+static bool is_refused(void) { return ++asked == refused_one; }
+
+void *__wrap_malloc(size_t size) { return is_refused() ? NULL : __real_malloc(size); }
+
+void *__wrap_realloc(void *block, size_t size) { return is_refused() ? NULL : __real_realloc(block, size); }
+
+static void want(const char *what, unsigned long long got, unsigned long long wanted) {
+    if (got != wanted) {
+        fprintf(stderr, "library: hostile: %s: %llu, not %llu\n", what, got, wanted);
+        exit(1);
+    }
+}
+
+static const uint8_t *text(const char *bytes) { return (const uint8_t *)bytes; }
+
+static void want_fault(const char *what, uint32_t status, cronsim_fault fault, uint64_t field, uint64_t cause) {
+    want(what, status, CRONSIM_REFUSED);
+    want(what, fault.field, field);
+    want(what, fault.cause, cause);
+    want(what, fault.byte, 0);
+}
+
+// Whether the handle keeps the minute at midnight in UTC, and no other.
+static bool is_midnight(cronsim_cron *cron) {
+    bool midnight = false, after = true, before = true;
+    want("midnight", cronsim_matches(cron, 86400 + 59, &midnight), CRONSIM_DONE);
+    want("after", cronsim_matches(cron, 86400 + 60, &after), CRONSIM_DONE);
+    want("before", cronsim_matches(cron, 86400 - 1, &before), CRONSIM_DONE);
+    return midnight && !after && !before;
+}
+
+// A handle with nothing behind it answers so, and leaves what a call would write to.
+static void closed(void) {
+    cronsim_cron cron = CRONSIM_CRON_INIT;
+    bool is_match = true;
+    want("matches, closed", cronsim_matches(&cron, 0, &is_match), CRONSIM_CLOSED);
+    want("nothing written", is_match, true);
+    cronsim_close(&cron);
+    cronsim_close(&cron);
+}
+
+// Lengths of 0 and of a thousand million, and bytes that aren't UTF-8, beside a handle that keeps what it kept.
+static void lengths(void) {
+    cronsim_cron cron = CRONSIM_CRON_INIT;
+    cronsim_fault fault = {0, 0, 0};
+    const size_t many = 1000000000;
+    want("opened", cronsim_open(&cron, text("0 0 * * *"), 9, &fault), CRONSIM_DONE);
+    want_fault("no bytes", cronsim_open(&cron, text(""), 0, &fault), fault, 0, CRONSIM_EMPTY);
+    want_fault("1 GB", cronsim_open(&cron, text("* * * * *"), many, &fault), fault, 0, CRONSIM_LENGTH);
+    want_fault("SIZE_MAX / 2", cronsim_open(&cron, text("* * * * *"), SIZE_MAX / 2, &fault), fault, 0, CRONSIM_LENGTH);
+    want_fault("no UTF-8", cronsim_open(&cron, text("* * * * \xff"), 9, &fault), fault, 0, CRONSIM_NO_TEXT);
+    want_fault("half a character", cronsim_open(&cron, text("* * * * \xc3"), 9, &fault), fault, 0, CRONSIM_NO_TEXT);
+    want_fault("a zero byte, in Latin", cronsim_open(&cron, text("\0\xe9"), 2, &fault), fault, 0, CRONSIM_NO_TEXT);
+    want_fault("no rule", cronsim_open_rule(&cron, text("* * * * *"), 9, text(""), 0, &fault), fault, 6, CRONSIM_NO_ZONE);
+    want_fault("rule of 1 GB", cronsim_open_rule(&cron, text("* * * * *"), 9, text("UTC0"), many, &fault), fault, 6, CRONSIM_NO_ZONE);
+    want_fault("rule, no UTF-8", cronsim_open_rule(&cron, text("* * * * *"), 9, text("\xffTC0"), 4, &fault), fault, 6, CRONSIM_NO_ZONE);
+    want_fault("no file", cronsim_open_file(&cron, text("* * * * *"), 9, text(""), 0, &fault), fault, 6, CRONSIM_NO_ZONE);
+    want_fault("file of 1 GB", cronsim_open_file(&cron, text("* * * * *"), 9, text("TZif"), many, &fault), fault, 6, CRONSIM_NO_ZONE);
+    want_fault("no zone file", cronsim_open_file(&cron, text("* * * * *"), 9, text("TZif2"), 5, &fault), fault, 6, CRONSIM_NO_ZONE);
+    want("still midnight", is_midnight(&cron), 1);
+    cronsim_close(&cron);
+}
+
+// Moments past the last one.
+static void ranges(void) {
+    cronsim_cron cron = CRONSIM_CRON_INIT;
+    cronsim_fault fault = {0, 0, 0};
+    const uint64_t last = 253370764799u;
+    bool is_match = false;
+    want("opened", cronsim_open(&cron, text("* * * * *"), 9, &fault), CRONSIM_DONE);
+    want("past the end", cronsim_matches(&cron, last + 1, &is_match), CRONSIM_RANGE);
+    want("UINT64_MAX", cronsim_matches(&cron, UINT64_MAX, &is_match), CRONSIM_RANGE);
+    want("nothing written", is_match, false);
+    want("the end", cronsim_matches(&cron, last, &is_match) == CRONSIM_DONE && is_match, 1);
+    cronsim_close(&cron);
+}
+
+// A first and a second opening, by each call in turn, with the request for memory of this number refused; tells whether one was.
+static bool opens(int call, const uint8_t *file, size_t file_length) {
+    cronsim_cron cron = CRONSIM_CRON_INIT;
+    cronsim_fault fault = {7, 8, 9};
+    uint32_t status;
+    long number = refused_one;
+    refused_one = 0;
+    want("opened", cronsim_open(&cron, text("0 0 * * *"), 9, &fault), CRONSIM_DONE);
+    asked = 0;
+    refused_one = number;
+    if (call == 0) status = cronsim_open(&cron, text("30 2 * * *"), 10, &fault);
+    else if (call == 1) status = cronsim_open_rule(&cron, text("30 2 * * *"), 10, text("CET-1CEST,M3.5.0,M10.5.0/3"), 26, &fault);
+    else if (call == 2) status = cronsim_open_file(&cron, text("30 2 * * *"), 10, file, file_length, &fault);
+    else status = cronsim_open_file(&cron, text("30 2 * * *"), 10, text("no zone file"), 12, &fault);
+    bool was_refused = asked >= number;
+    if (was_refused) want("refused memory", status, CRONSIM_MEMORY);
+    else want("with memory", status, call == 3 ? CRONSIM_REFUSED : CRONSIM_DONE);
+    if (status == CRONSIM_MEMORY) want("the fault stays", fault.field == 7 && fault.cause == 8 && fault.byte == 9, 1);
+    long before = asked;
+    want("what is kept", is_midnight(&cron), status != CRONSIM_DONE);
+    cronsim_close(&cron);
+    want("no memory but to open", asked, before);
+    return was_refused;
+}
+
+int main(int count, char **words) {
+    static uint8_t file[1 << 20];
+    size_t file_length = 0;
+    FILE *input = count > 1 ? fopen(words[1], "rb") : NULL;
+    if (input) {
+        file_length = fread(file, 1, sizeof file, input);
+        fclose(input);
+    }
+    closed();
+    lengths();
+    ranges();
+    long refusals = 0;
+    for (int call = 0; call < 4; call++) {
+        if (call == 2 && !file_length) continue;
+        for (refused_one = 1; opens(call, file, file_length); refused_one++) refusals++;
+    }
+    printf("library: hostile: each answer as stated, with %ld requests for memory refused\n", refusals);
+    return refusals ? 0 : 1;
+}

@@ -1,0 +1,109 @@
+// Runs the cases on standard input through libcronsim, by cgo.
+package main
+
+/*
+#include "cronsim.h"
+*/
+import "C"
+
+import (
+	"bufio"
+	"encoding/hex"
+	"fmt"
+	"os"
+	"strconv"
+	"strings"
+	"unsafe"
+)
+
+// Where a text begins: never nil, also where it is empty.
+func start(text []byte) *C.uint8_t {
+	return (*C.uint8_t)(unsafe.Pointer(&append(text, 0)[0]))
+}
+
+func text(digits string) []byte {
+	if digits == "." {
+		return nil
+	}
+	bytes, err := hex.DecodeString(digits)
+	if err != nil {
+		panic(err)
+	}
+	return bytes
+}
+
+func number(word string) uint64 {
+	value, err := strconv.ParseUint(word, 10, 64)
+	if err != nil {
+		panic(err)
+	}
+	return value
+}
+
+func open(cron *C.cronsim_cron, schedule []byte, rule string) (C.uint32_t, C.cronsim_fault) {
+	var fault C.cronsim_fault
+	length := C.size_t(len(schedule))
+	if rule == "-" {
+		return C.cronsim_open(cron, start(schedule), length, &fault), fault
+	}
+	zone := text(rule)
+	return C.cronsim_open_rule(cron, start(schedule), length, start(zone), C.size_t(len(zone)), &fault), fault
+}
+
+func matches(cron *C.cronsim_cron, at uint64) bool {
+	var isMatch C.bool
+	return C.cronsim_matches(cron, C.uint64_t(at), &isMatch) == C.CRONSIM_DONE && bool(isMatch)
+}
+
+// Whether the due times are minutes that match, and of those between two of them (the first 500) none does.
+func times(cron *C.cronsim_cron, after uint64, wanted []string) bool {
+	at := after
+	for _, word := range wanted {
+		if word == "none" {
+			break
+		}
+		due, first := number(word), at/60*60+60
+		if !matches(cron, due) || !matches(cron, due+59) {
+			return false
+		}
+		for minute := first; minute < min(due, first+500*60); minute += 60 {
+			if matches(cron, minute) {
+				return false
+			}
+		}
+		at = due
+	}
+	return true
+}
+
+func isRight(cron *C.cronsim_cron, line string) bool {
+	words := strings.Split(line, "\t")
+	status, fault := open(cron, text(words[0]), words[1])
+	told := []string{fmt.Sprint(fault.field), fmt.Sprint(fault.byte), fmt.Sprint(fault.cause)}
+	switch words[4] {
+	case "times":
+		return status == C.CRONSIM_DONE && times(cron, number(words[2]), words[5:])
+	case "fault":
+		return status == C.CRONSIM_REFUSED && strings.Join(told, " ") == strings.Join(words[5:], " ")
+	}
+	return status == C.CRONSIM_REFUSED && strings.Join(told, " ") == "6 0 10"
+}
+
+func main() {
+	var cron C.cronsim_cron
+	count := 0
+	lines := bufio.NewScanner(os.Stdin)
+	lines.Buffer(nil, 1<<20)
+	for lines.Scan() {
+		count++
+		if !isRight(&cron, lines.Text()) {
+			fmt.Fprintf(os.Stderr, "library: Go: case %d: %s\n", count, lines.Text())
+			os.Exit(1)
+		}
+	}
+	C.cronsim_close(&cron)
+	fmt.Printf("library: Go: %d rows\n", count)
+	if count == 0 {
+		os.Exit(1)
+	}
+}
