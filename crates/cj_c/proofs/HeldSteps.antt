@@ -2,21 +2,20 @@
 --     E, FromParts, FromHeld     a box of a timetable, its parts, and what keeps it
 --     held_word, held_typed      the machine value of what keeps it, which is of its type
 --     held_open, held_close      it, taken apart into the handle and what it owns, and put together
-use mathlib.Core.Path.{◌≡◌, refl, sym, ap, subst}
-use Prim.Native.Nat.{ℕ}
-use mathlib.Core.Bool.{Bool, true, false}
+use mathlib.Core.Path.{◌≡◌, refl, subst}
+use mathlib.Core.Bool.{Bool}
 use mathlib.Core.List.{List, [], ◌∷◌, ◌++◌}
 use lib.Dec.{T, lit<}
 use seplogic.Ra.Ura.{Ura}
 use mir.Syntax.{Ty, impl, tnil, tcons, dnil, ty_ptr, ty_bool, ty_struct}
 use mir.Val.{Val, vbool, vstruct, vnil, vcons, of_list, has_ty, WT}
-use base.Fml.{Fml, ftrue, fsep, feq}
+use base.Fml.{Fml}
 use types.Logic.{Logic}
-use types.Kit.{Goal, Step, step, Seq, Item, ‵, ◌$◌, move, drop, rewrite, fsplit, fjoin, fpick, fpack, feq_l, feq_i}
+use types.Kit.{Goal, Step, step, Seq, Item, ‵, ◌$◌, move, drop, fsplit, fjoin, fpick, fpack, feq_l, feq_i}
 use denote.Builtin.{bool}
 use denote.Laws.{Is}
 use denote.Plain.{bool_Makes}
-use denote.RattleType.{RattleType, Valss}
+use denote.RattleType.{Valss}
 use denote.RawPtr.{Ptr, RawPtr, block_ptr, null_ptr, ptr_val}
 use denote.Signature.{Slot, plain}
 use denote.Steps.{nothing, owned}

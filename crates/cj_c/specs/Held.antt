@@ -1,5 +1,5 @@
 -- What a handle owns: where it is full, the same as a box of the timetable.
-use Rattle.std.specs.Prelude.{Bool, true, false, [], Option, None, Some, if◌then◌else◌}
+use Rattle.std.specs.Prelude.{Bool, true, false, []}
 use base.Fml.{Fml, ftrue}
 use base.Stored.{Coded}
 use denote.RawPtr.{Ptr}

@@ -1,43 +1,34 @@
 -- `of_parts` moves two fields, and what they own goes with them.
-use mathlib.Core.Path.{◌≡◌, refl, sym, subst, ap}
-use Prim.Native.Nat.{ℕ}
-use mathlib.Core.Bool.{Bool, true, false}
+use mathlib.Core.Path.{refl, sym, subst}
+use mathlib.Core.Bool.{true}
 use mathlib.Core.List.{List, [], ◌∷◌, ◌++◌}
-use lib.Dec.{T, lit<}
 use seplogic.Ra.Ura.{Ura}
-use mir.Val.{Val, vbool, vstruct, vnil, vcons, of_list}
-use base.Logic.{SProp, ent, emp, id⊢, never, fst∗}
-use base.Fml.{ftrue, fsep, feq}
+use mir.Val.{Val}
+use base.Logic.{SProp, ent, emp, id⊢}
+use base.Fml.{ftrue, fsep}
 use prog.Memory.{Memory}
 use prog.Routine.{Routine}
 use prog.Wp.{WpFn, Tables}
-use types.Logic.{Logic, sem}
-use contract.Monad.{Fun, fact}
+use types.Logic.{Logic}
+use contract.Monad.{Fun}
 use contract.Running.{tables, tables_of}
 use sound.WpLaws.{WpFn-mono}
 use types.Kit.{Item, ‵, raw, ◌⊛◌, ◌$◌, ◌∵◌, !, qed, by, move, drop, use1, join, split, rewrite, fsplit, fjoin, fpack, feq_i, suffices, done}
 use types.Part.{whole, sub, agg}
-use types.Run.{stop, fld, no_more, and_then, of_opd, lit, true_lit, false_lit, returns, enter}
+use types.Run.{stop, fld, no_more, and_then, of_opd, true_lit, returns, enter}
 use types.ByLocal.{alloc_all, pass_all, free_all, look_at, get, get_in, sets}
-use denote.Builtin.{bool}
 use denote.Exit.{yes}
-use denote.Laws.{Is}
-use denote.Plain.{bool_Makes}
-use denote.RattleType.{RattleType, Valss, flat, owns}
-use denote.RawPtr.{Ptr, block_ptr, null_ptr, in_a_block}
-use denote.Signature.{type_at}
-use denote.Steps.{heard, nothing, owned}
+use denote.RawPtr.{Ptr, block_ptr}
+use denote.Steps.{nothing}
 use denote.Triple.Spec.{triple_of}
 use denote.Triple.Table.{entered}
 use denote.Triple.Walked.{says, Stays, stay_dropped, walk_of, ends_at, Goes-dropped, walk_Meets}
-use mir.Raw.{raw as bare}
 use Rattle.core.proofs.alloc.Calls.{token}
 use Rattle.std_alloc.specs.Box.Ownership.{box_owns}
-use Rattle.std_alloc.proofs.BoxSteps.Form.{D, R, B, τ, word, box_typed}
-use Rattle.std_alloc.proofs.BoxSteps.Steps.{box_out, box_in}
-use Rattle.cj_c.specs.Held.{held_owns}
+use Rattle.std_alloc.proofs.BoxSteps.Form.{D, R, B, word, box_typed}
+use Rattle.std_alloc.proofs.BoxSteps.Steps.{box_out}
 use Rattle.cj_c.specs.contracts.held.Held.{the_row as H-row}
-use Rattle.cj_c.proofs.HeldSteps.{E, FromParts, FromHeld, held_word, held_typed, ptr_typed, beside, held_open, held_close}
+use Rattle.cj_c.proofs.HeldSteps.{E, FromParts, held_word, held_typed, beside, held_close}
 use Rattle.cj_c.specs.contracts.held.Held.of_parts as F
 use Rattle.cj_c.specs.contracts.held.Held.of_parts.Key.{name as #self}
 use Rattle.cj_c.proofs.held.Held.of_parts.Statement as stated
