@@ -1,6 +1,6 @@
 /*
- * libcronsim: crontab schedules, as a Kubernetes CronJob has them, in any zone. It is proved that a text is a schedule or
- * has the one fault that is told, and that a moment matches just where the zone's clock shows an allowed minute.
+ * libcronsim: due times of crontab schedules, as a Kubernetes CronJob has them, in any zone. What is found is proved:
+ * the next due time is the least one, the previous one the greatest, and "none" is answered only where there is none.
  *
  * Times are whole seconds since 1970-01-01T00:00:00Z, up to 253370764799, the last second of the year 9998.
  *
@@ -34,6 +34,7 @@ extern "C" {
 /* What a call answers. */
 enum {
     CRONSIM_DONE = 0,    /* done */
+    CRONSIM_NONE = 1,    /* there is no such time */
     CRONSIM_REFUSED = 2, /* the schedule or the zone is refused, as the fault says */
     CRONSIM_MEMORY = 3,  /* memory was asked for and refused */
     CRONSIM_RANGE = 4,   /* a time is after the year 9998 */
@@ -71,6 +72,12 @@ typedef struct cronsim_fault {
     uint64_t byte;  /* where in the schedule, in bytes from 0, the faulty element begins; else 0 */
 } cronsim_fault;
 
+/* How many times were missed, and the latest of them. */
+typedef struct cronsim_missed_times {
+    uint64_t count;  /* from 0 to 100, or 101 where they are more */
+    uint64_t latest; /* 0 where none was missed */
+} cronsim_missed_times;
+
 /*
  * Keeps a schedule in UTC behind the handle, in the place of what was kept there.
  * CRONSIM_DONE; CRONSIM_REFUSED with the one fault of the schedule; CRONSIM_MEMORY. At the last two the handle keeps
@@ -89,6 +96,19 @@ uint32_t cronsim_open_file(cronsim_cron *cron, const uint8_t *schedule, size_t s
 
 /* Gives up what is kept behind the handle, if anything is. The handle may be opened again, and closed again. */
 void cronsim_close(cronsim_cron *cron);
+
+/*
+ * The least due time after `after` and within 3,000 days (259,200,000 seconds).
+ * CRONSIM_DONE; CRONSIM_NONE, where there is none; CRONSIM_RANGE; CRONSIM_CLOSED.
+ */
+uint32_t cronsim_next(cronsim_cron *cron, uint64_t after, uint64_t *due);
+
+/* The greatest due time after `after` and up to `until`. CRONSIM_DONE; CRONSIM_NONE; CRONSIM_RANGE; CRONSIM_CLOSED. */
+uint32_t cronsim_previous(cronsim_cron *cron, uint64_t after, uint64_t until, uint64_t *due);
+
+/* How many times are due after `after` and up to `until`, as a controller counts the times that it missed, and the
+ * latest. CRONSIM_DONE; CRONSIM_RANGE; CRONSIM_CLOSED. */
+uint32_t cronsim_missed(cronsim_cron *cron, uint64_t after, uint64_t until, cronsim_missed_times *missed);
 
 /* Whether the zone's clock shows a minute that the schedule allows. CRONSIM_DONE; CRONSIM_RANGE; CRONSIM_CLOSED. */
 uint32_t cronsim_matches(cronsim_cron *cron, uint64_t at, bool *is_match);

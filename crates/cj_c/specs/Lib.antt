@@ -2,3 +2,4 @@ pub mod Held
 pub mod Faults
 pub mod Opening
 pub mod Shown
+pub mod Times

@@ -2,6 +2,8 @@
 
 /// Done.
 pub(crate) const DONE: u32 = 0;
+/// There is no such time.
+pub(crate) const NONE: u32 = 1;
 /// A text is refused, as the fault says.
 pub(crate) const REFUSED: u32 = 2;
 /// Memory was asked for and refused.
