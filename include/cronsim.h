@@ -7,18 +7,18 @@
  * Texts are bytes with their length. They need no zero at the end, are read during the call alone, and may be of any
  * content: what is no schedule, no rule, no zone file or no UTF-8 is refused. The pointer isn't NULL, also where the
  * length is 0, and there are as many bytes as the length says, or the length is greater than the most that a call
- * takes: then it is refused before a byte is read.
+ * takes, and at most PTRDIFF_MAX: then it is refused before a byte is read.
  *
  * What a call writes to is initialised before it (a bool to false), and stays as it is unless the call is done; a fault
  * is written only where CRONSIM_REFUSED is answered. No two pointers of a call overlap, and none is NULL.
  *
- * Memory comes from malloc, realloc and free, from the calls that open alone. A call that finds none answers
- * CRONSIM_MEMORY and leaves all as it was. No call prints, waits, locks, starts a thread, sets errno or ends the
- * process, and none keeps a pointer that it is given.
+ * Memory comes from malloc, realloc and free; the calls that open ask for it, and no other. A call that finds none
+ * answers CRONSIM_MEMORY and leaves all as it was. But for what these three do, no call prints, waits, locks, starts a
+ * thread, sets errno or ends the process, and none keeps a pointer that it is given.
  *
  * Threads: calls on different handles may run at the same time. A handle is given to one call at a time, also to one
  * that only looks for times, and may go from one thread to another where the caller orders that, by a lock or a join.
- * No call is made from a signal handler.
+ * No call is made from a signal handler, nor from the forked child of a process that has threads.
  */
 #ifndef CRONSIM_H
 #define CRONSIM_H
@@ -56,7 +56,7 @@ enum {
     CRONSIM_NO_TEXT = 11 /* the schedule isn't UTF-8 */
 };
 
-/* A schedule in its zone, which was read once and is kept. The members are the library's own. */
+/* A schedule in its zone, which was read once and is kept. The members are the library's own; a copy is no handle. */
 typedef struct cronsim_cron {
     void *at;
     bool full;

@@ -32,21 +32,17 @@ static void want_fault(const char *what, uint32_t status, cronsim_fault fault, u
     want(what, fault.byte, 0);
 }
 
-// Whether the handle keeps the minute at midnight in UTC, and no other.
-static bool is_midnight(cronsim_cron *cron) {
-    bool midnight = false, after = true, before = true;
-    want("midnight", cronsim_matches(cron, 86400 + 59, &midnight), CRONSIM_DONE);
-    want("after", cronsim_matches(cron, 86400 + 60, &after), CRONSIM_DONE);
-    want("before", cronsim_matches(cron, 86400 - 1, &before), CRONSIM_DONE);
-    return midnight && !after && !before;
-}
-
 // A handle with nothing behind it answers so, and leaves what a call would write to.
 static void closed(void) {
     cronsim_cron cron = CRONSIM_CRON_INIT;
+    cronsim_missed_times missed = {7, 8};
+    uint64_t due = 9;
     bool is_match = true;
+    want("next, closed", cronsim_next(&cron, 0, &due), CRONSIM_CLOSED);
+    want("previous, closed", cronsim_previous(&cron, 0, 60, &due), CRONSIM_CLOSED);
+    want("missed, closed", cronsim_missed(&cron, 0, 60, &missed), CRONSIM_CLOSED);
     want("matches, closed", cronsim_matches(&cron, 0, &is_match), CRONSIM_CLOSED);
-    want("nothing written", is_match, true);
+    want("nothing written", due == 9 && is_match && missed.count == 7 && missed.latest == 8, 1);
     cronsim_close(&cron);
     cronsim_close(&cron);
 }
@@ -55,6 +51,7 @@ static void closed(void) {
 static void lengths(void) {
     cronsim_cron cron = CRONSIM_CRON_INIT;
     cronsim_fault fault = {0, 0, 0};
+    uint64_t due = 0;
     const size_t many = 1000000000;
     want("opened", cronsim_open(&cron, text("0 0 * * *"), 9, &fault), CRONSIM_DONE);
     want_fault("no bytes", cronsim_open(&cron, text(""), 0, &fault), fault, 0, CRONSIM_EMPTY);
@@ -69,21 +66,31 @@ static void lengths(void) {
     want_fault("no file", cronsim_open_file(&cron, text("* * * * *"), 9, text(""), 0, &fault), fault, 6, CRONSIM_NO_ZONE);
     want_fault("file of 1 GB", cronsim_open_file(&cron, text("* * * * *"), 9, text("TZif"), many, &fault), fault, 6, CRONSIM_NO_ZONE);
     want_fault("no zone file", cronsim_open_file(&cron, text("* * * * *"), 9, text("TZif2"), 5, &fault), fault, 6, CRONSIM_NO_ZONE);
-    want("still midnight", is_midnight(&cron), 1);
+    bool is_match = true;
+    want("still midnight", cronsim_next(&cron, 1, &due) == CRONSIM_DONE && due == 86400, 1);
+    want("a minute past", cronsim_matches(&cron, 86460, &is_match) == CRONSIM_DONE && !is_match, 1);
+    want("in its minute", cronsim_matches(&cron, 86459, &is_match) == CRONSIM_DONE && is_match, 1);
     cronsim_close(&cron);
 }
 
-// Moments past the last one.
+// Times past the last one.
 static void ranges(void) {
     cronsim_cron cron = CRONSIM_CRON_INIT;
     cronsim_fault fault = {0, 0, 0};
-    const uint64_t last = 253370764799u;
+    cronsim_missed_times missed = {7, 8};
+    uint64_t due = 9, last = 253370764799u;
     bool is_match = false;
     want("opened", cronsim_open(&cron, text("* * * * *"), 9, &fault), CRONSIM_DONE);
-    want("past the end", cronsim_matches(&cron, last + 1, &is_match), CRONSIM_RANGE);
-    want("UINT64_MAX", cronsim_matches(&cron, UINT64_MAX, &is_match), CRONSIM_RANGE);
-    want("nothing written", is_match, false);
-    want("the end", cronsim_matches(&cron, last, &is_match) == CRONSIM_DONE && is_match, 1);
+    want("next after the end", cronsim_next(&cron, last, &due), CRONSIM_NONE);
+    want("next, past the end", cronsim_next(&cron, last + 1, &due), CRONSIM_RANGE);
+    want("next, UINT64_MAX", cronsim_next(&cron, UINT64_MAX, &due), CRONSIM_RANGE);
+    want("previous, past the end", cronsim_previous(&cron, 0, UINT64_MAX, &due), CRONSIM_RANGE);
+    want("missed, past the end", cronsim_missed(&cron, UINT64_MAX, 0, &missed), CRONSIM_RANGE);
+    want("matches, past the end", cronsim_matches(&cron, UINT64_MAX, &is_match), CRONSIM_RANGE);
+    want("previous, turned round", cronsim_previous(&cron, 600, 60, &due), CRONSIM_NONE);
+    want("nothing written", due == 9 && !is_match && missed.count == 7 && missed.latest == 8, 1);
+    want("missed, turned round", cronsim_missed(&cron, 600, 60, &missed) == CRONSIM_DONE && missed.count == 0, 1);
+    want("all since 1970", cronsim_missed(&cron, 0, last, &missed) == CRONSIM_DONE && missed.count == 101, 1);
     cronsim_close(&cron);
 }
 
@@ -91,6 +98,7 @@ static void ranges(void) {
 static bool opens(int call, const uint8_t *file, size_t file_length) {
     cronsim_cron cron = CRONSIM_CRON_INIT;
     cronsim_fault fault = {7, 8, 9};
+    uint64_t due = 0;
     uint32_t status;
     long number = refused_one;
     refused_one = 0;
@@ -106,7 +114,8 @@ static bool opens(int call, const uint8_t *file, size_t file_length) {
     else want("with memory", status, call == 3 ? CRONSIM_REFUSED : CRONSIM_DONE);
     if (status == CRONSIM_MEMORY) want("the fault stays", fault.field == 7 && fault.cause == 8 && fault.byte == 9, 1);
     long before = asked;
-    want("what is kept", is_midnight(&cron), status != CRONSIM_DONE);
+    want("next", cronsim_next(&cron, 1, &due), CRONSIM_DONE);
+    want("what is kept", due == 86400, status != CRONSIM_DONE);
     cronsim_close(&cron);
     want("no memory but to open", asked, before);
     return was_refused;

@@ -26,23 +26,30 @@ static size_t bytes_of(char *digits) {
     return count;
 }
 
-// Whether the minute that begins at an instant matches.
-static bool matches(cronsim_cron *cron, uint64_t at) {
-    bool is_match = false;
-    want("matches", cronsim_matches(cron, at, &is_match), CRONSIM_DONE);
-    return is_match;
-}
-
-// The due times are minutes that match, and of those between two of them (the first 500) none does.
+// The times that have to come, each by the call for the next one, and the same looked at from the other end.
 static void times(cronsim_cron *cron, uint64_t after) {
-    uint64_t at = after;
-    for (char *word = strtok(NULL, "\t\n"); word && strcmp(word, "none") != 0; word = strtok(NULL, "\t\n")) {
-        uint64_t due = strtoull(word, NULL, 10), minute = at / 60 * 60 + 60;
-        for (int left = 500; minute < due && left > 0; minute += 60, left--) want("a minute between", matches(cron, minute), false);
-        want("a due time", matches(cron, due), true);
-        want("its last second", matches(cron, due + 59), true);
+    uint64_t at = after, due = 0, back = 0, count = 0;
+    cronsim_missed_times missed = {7, 7};
+    for (char *word = strtok(NULL, "\t\n"); word; word = strtok(NULL, "\t\n")) {
+        if (strcmp(word, "none") == 0) {
+            due = 7;
+            want("no next time", cronsim_next(cron, at, &due), CRONSIM_NONE);
+            want("a due time where there is none", due, 7);
+            break;
+        }
+        bool is_match = false;
+        want("next", cronsim_next(cron, at, &due), CRONSIM_DONE);
+        want("due", due, strtoull(word, NULL, 10));
+        want("matches", cronsim_matches(cron, due, &is_match), CRONSIM_DONE);
+        want("a due time matches", is_match, true);
+        want("previous", cronsim_previous(cron, at, due, &back), CRONSIM_DONE);
+        want("the latest up to a due time", back, due);
         at = due;
+        count++;
     }
+    want("missed", cronsim_missed(cron, after, at, &missed), CRONSIM_DONE);
+    want("how many were missed", missed.count, count > 100 ? 101 : count);
+    want("the latest missed", missed.latest, count ? at : 0);
 }
 
 // A refusal leaves the fault stated, and what was kept before.

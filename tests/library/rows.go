@@ -50,30 +50,37 @@ func open(cron *C.cronsim_cron, schedule []byte, rule string) (C.uint32_t, C.cro
 	return C.cronsim_open_rule(cron, start(schedule), length, start(zone), C.size_t(len(zone)), &fault), fault
 }
 
-func matches(cron *C.cronsim_cron, at uint64) bool {
-	var isMatch C.bool
-	return C.cronsim_matches(cron, C.uint64_t(at), &isMatch) == C.CRONSIM_DONE && bool(isMatch)
-}
-
-// Whether the due times are minutes that match, and of those between two of them (the first 500) none does.
+// Whether these times come, each by the call for the next one, and the same looked at from the other end.
 func times(cron *C.cronsim_cron, after uint64, wanted []string) bool {
-	at := after
+	at, count := C.uint64_t(after), 0
+	var due, back C.uint64_t
+	var isMatch C.bool
+	var missed C.cronsim_missed_times
 	for _, word := range wanted {
 		if word == "none" {
-			break
-		}
-		due, first := number(word), at/60*60+60
-		if !matches(cron, due) || !matches(cron, due+59) {
-			return false
-		}
-		for minute := first; minute < min(due, first+500*60); minute += 60 {
-			if matches(cron, minute) {
+			if C.cronsim_next(cron, at, &due) != C.CRONSIM_NONE {
 				return false
 			}
+			break
+		}
+		if C.cronsim_next(cron, at, &due) != C.CRONSIM_DONE || uint64(due) != number(word) {
+			return false
+		}
+		if C.cronsim_matches(cron, due, &isMatch) != C.CRONSIM_DONE || !bool(isMatch) {
+			return false
+		}
+		if C.cronsim_previous(cron, at, due, &back) != C.CRONSIM_DONE || back != due {
+			return false
 		}
 		at = due
+		count++
 	}
-	return true
+	latest := at
+	if count == 0 {
+		latest = 0
+	}
+	status := C.cronsim_missed(cron, C.uint64_t(after), at, &missed)
+	return status == C.CRONSIM_DONE && int(missed.count) == min(count, 101) && missed.latest == latest
 }
 
 func isRight(cron *C.cronsim_cron, line string) bool {

@@ -17,7 +17,14 @@ struct Fault {
     byte: u64,
 }
 
-unsafe extern "C" {
+#[repr(C)]
+#[derive(Default)]
+struct Missed {
+    count: u64,
+    latest: u64,
+}
+
+extern "C" {
     fn cronsim_open(cron: &mut Cron, schedule: *const u8, length: usize, fault: &mut Fault) -> u32;
     fn cronsim_open_rule(
         cron: &mut Cron,
@@ -28,10 +35,14 @@ unsafe extern "C" {
         fault: &mut Fault,
     ) -> u32;
     fn cronsim_close(cron: &mut Cron);
+    fn cronsim_next(cron: &mut Cron, after: u64, due: &mut u64) -> u32;
+    fn cronsim_previous(cron: &mut Cron, after: u64, until: u64, due: &mut u64) -> u32;
+    fn cronsim_missed(cron: &mut Cron, after: u64, until: u64, missed: &mut Missed) -> u32;
     fn cronsim_matches(cron: &mut Cron, at: u64, is_match: &mut bool) -> u32;
 }
 
 const DONE: u32 = 0;
+const NONE: u32 = 1;
 const REFUSED: u32 = 2;
 const NO_ZONE: u64 = 10;
 
@@ -57,10 +68,28 @@ impl Timetable {
         (status, fault)
     }
 
+    fn next(&mut self, after: u64) -> (u32, u64) {
+        let mut due = 0;
+        let status = unsafe { cronsim_next(&mut self.0, after, &mut due) };
+        (status, due)
+    }
+
+    fn previous(&mut self, after: u64, until: u64) -> (u32, u64) {
+        let mut due = 0;
+        let status = unsafe { cronsim_previous(&mut self.0, after, until, &mut due) };
+        (status, due)
+    }
+
     fn matches(&mut self, at: u64) -> (u32, bool) {
         let mut is_match = false;
         let status = unsafe { cronsim_matches(&mut self.0, at, &mut is_match) };
         (status, is_match)
+    }
+
+    fn missed(&mut self, after: u64, until: u64) -> (u32, u64, u64) {
+        let mut missed = Missed::default();
+        let status = unsafe { cronsim_missed(&mut self.0, after, until, &mut missed) };
+        (status, missed.count, missed.latest)
     }
 }
 
@@ -72,20 +101,25 @@ fn text(digits: &str) -> Option<Vec<u8>> {
     pairs.map(|pair| u8::from_str_radix(std::str::from_utf8(pair).ok()?, 16).ok()).collect()
 }
 
-/// Whether the due times are minutes that match, and of those between two of them (the first 500) none does.
+/// Whether these times come, each by the call for the next one, and the same looked at from the other end.
 fn times(cron: &mut Timetable, after: u64, wanted: &[&str]) -> bool {
-    let mut at = after;
-    for word in wanted.iter().take_while(|word| **word != "none") {
-        let Ok(due) = word.parse::<u64>() else { return false };
-        let first = at / 60 * 60 + 60;
-        let between = (first..due.min(first + 500 * 60)).step_by(60);
-        let is_quiet = between.map(|minute| cron.matches(minute)).all(|it| it == (DONE, false));
-        if !is_quiet || cron.matches(due) != (DONE, true) || cron.matches(due + 59) != (DONE, true) {
+    let (mut at, mut count) = (after, 0);
+    for word in wanted {
+        if *word == "none" {
+            if cron.next(at).0 != NONE {
+                return false;
+            }
+            break;
+        }
+        let (status, due) = cron.next(at);
+        let is_due = status == DONE && word.parse() == Ok(due);
+        if !is_due || cron.matches(due) != (DONE, true) || cron.previous(at, due) != (DONE, due) {
             return false;
         }
         at = due;
+        count += 1;
     }
-    true
+    cron.missed(after, at) == (DONE, count.min(101), if count == 0 { 0 } else { at })
 }
 
 fn is_right(cron: &mut Timetable, line: &str) -> Option<bool> {
