@@ -43,11 +43,14 @@ func number(word string) uint64 {
 func open(cron *C.cronsim_cron, schedule []byte, rule string) (C.uint32_t, C.cronsim_fault) {
 	var fault C.cronsim_fault
 	length := C.size_t(len(schedule))
+	var status C.uint32_t
 	if rule == "-" {
-		return C.cronsim_open(cron, start(schedule), length, &fault), fault
+		status = C.cronsim_open(cron, start(schedule), length, &fault)
+	} else {
+		zone := text(rule)
+		status = C.cronsim_open_rule(cron, start(schedule), length, start(zone), C.size_t(len(zone)), &fault)
 	}
-	zone := text(rule)
-	return C.cronsim_open_rule(cron, start(schedule), length, start(zone), C.size_t(len(zone)), &fault), fault
+	return status, fault
 }
 
 // Whether these times come, each by the call for the next one, and the same looked at from the other end.
