@@ -1,6 +1,8 @@
 // Calls libcronsim as no caller should, and with each request for memory refused in turn. Linked with -Wl,--wrap=malloc and
 // -Wl,--wrap=realloc, so that the requests of the library come here.
 #include "cronsim.h"
+#include <pthread.h>
+#include <stdatomic.h>
 #include <stdio.h>
 #include <stdlib.h>
 #include <string.h>
@@ -8,7 +10,7 @@
 void *__real_malloc(size_t size);
 void *__real_realloc(void *block, size_t size);
 
-static long asked, refused_one;
+static _Atomic long asked, refused_one;
 
 static bool is_refused(void) { return ++asked == refused_one; }
 
@@ -94,6 +96,33 @@ static void ranges(void) {
     cronsim_close(&cron);
 }
 
+// Opens handles of its own, each for another hour, and looks through three days of each: what a thread does.
+static void *alone(void *first) {
+    const uint64_t day = 86400;
+    for (int turn = 0; turn < 240; turn++) {
+        cronsim_cron cron = CRONSIM_CRON_INIT;
+        cronsim_fault fault = {0, 0, 0};
+        uint64_t due = day, hour = (uint64_t)(*(int *)first + turn) % 24;
+        char schedule[16];
+        int length = snprintf(schedule, sizeof schedule, "0 %d * * *", (int)hour);
+        want("opened by a thread", cronsim_open(&cron, text(schedule), (size_t)length, &fault), CRONSIM_DONE);
+        for (uint64_t days = 1; days < 4; days++) {
+            want("next in a thread", cronsim_next(&cron, due, &due), CRONSIM_DONE);
+            want("due in a thread", due, (days + (hour == 0)) * day + hour * 3600);
+        }
+        cronsim_close(&cron);
+    }
+    return NULL;
+}
+
+// Handles of different threads, at the same time.
+static void threads(void) {
+    pthread_t all[4];
+    int firsts[4] = {0, 5, 11, 17};
+    for (int i = 0; i < 4; i++) want("a thread", (unsigned)pthread_create(&all[i], NULL, alone, &firsts[i]), 0);
+    for (int i = 0; i < 4; i++) pthread_join(all[i], NULL);
+}
+
 // A first and a second opening, by each call in turn, with the request for memory of this number refused; tells whether one was.
 static bool opens(int call, const uint8_t *file, size_t file_length) {
     cronsim_cron cron = CRONSIM_CRON_INIT;
@@ -132,6 +161,7 @@ int main(int count, char **words) {
     closed();
     lengths();
     ranges();
+    threads();
     long refusals = 0;
     for (int call = 0; call < 4; call++) {
         if (call == 2 && !file_length) continue;
