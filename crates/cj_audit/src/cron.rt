@@ -101,7 +101,8 @@ fn note_singles(
     notes: &mut BTreeSet<Finding>,
 ) -> Result<(), Refusal>
     ensures ok { OnOk result (Notes (AnyOf (λ run f. IsUndueNote (option_copied schedule.entry)
-        (option_copied zone.entry) cron.now run f ⊎ IsEarlyRun cron.now run f) runs.now) notes.old notes.new) }
+        (option_copied zone.entry) cron.now run f ⊎ IsEarlyRun cron.now run f) runs.now)
+        notes.old notes.new) }
     ensures memory { IfErr result (λ e. e ≡ OutOfMemory) }
 {
     for run in runs {

@@ -1,0 +1,5 @@
+pub mod Held
+pub mod Faults
+pub mod Opening
+pub mod Shown
+pub mod Times

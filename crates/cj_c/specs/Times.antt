@@ -1,0 +1,43 @@
+-- What the exported functions answer that look for due times, by the definitions of `cj_due`.
+use Rattle.std.specs.Prelude.{◌≡◌, ◌⊎◌, ℕ, ◌+◌, ◌<◌, ◌≤◌}
+use Rattle.cj_base.specs.Instant.{last_second}
+use Rattle.cj_due.specs.Due.{reach, missed_count, IsQuiet, IsLeastDue, IsLatestDue}
+use Rattle.cj_c.specs.declared.times.CronMissed.{CronMissed}
+use Rattle.cj_c.specs.declared.timetable.Timetable.{Timetable}
+
+-- the least due time after an instant and within 3,000 days; or there is none; or the instant is out of range
+-- rule: library-next
+abbrev pub IsNextDue : Timetable → ℕ → ℕ → ℕ → ℕ → Type 0
+IsNextDue t after old new status =
+    ((status ≡ 0) × IsLeastDue t.schedule t.zone after (after + reach) new)
+    ⊎ (((status ≡ 1) × IsQuiet t.schedule t.zone after (after + reach) × (new ≡ old))
+    ⊎ ((status ≡ 4) × (last_second < after) × (new ≡ old)))
+
+-- one of two instants is out of range
+abbrev pub IsPastEnd : ℕ → ℕ → Type 0
+IsPastEnd lo hi = (last_second < lo) ⊎ (last_second < hi)
+
+-- the greatest due time after an instant and up to another; or there is none; or one of them is out of range
+-- rule: library-previous
+abbrev pub IsPreviousDue : Timetable → ℕ → ℕ → ℕ → ℕ → ℕ → Type 0
+IsPreviousDue t lo hi old new status =
+    ((status ≡ 0) × IsLatestDue t.schedule t.zone lo hi new)
+    ⊎ (((status ≡ 1) × IsQuiet t.schedule t.zone lo hi × (new ≡ old))
+    ⊎ ((status ≡ 4) × IsPastEnd lo hi × (new ≡ old)))
+
+-- none, which is told as 0; or their number, from 1 to 100, and the greatest; or more than 100, told as 101, and the
+-- greatest
+-- rule: library-missed
+abbrev pub IsMissedTold : Timetable → ℕ → ℕ → CronMissed → Type 0
+IsMissedTold t lo hi m =
+    ((m.count ≡ 0) × (m.latest ≡ 0) × (missed_count t.schedule t.zone lo hi ≡ 0))
+    ⊎ (((m.count ≡ missed_count t.schedule t.zone lo hi) × (0 < m.count) × (m.count ≤ 100)
+    × IsLatestDue t.schedule t.zone lo hi m.latest)
+    ⊎ ((m.count ≡ 101) × (100 < missed_count t.schedule t.zone lo hi)
+    × IsLatestDue t.schedule t.zone lo hi m.latest))
+
+-- rule: library-missed
+abbrev pub IsMissedDue : Timetable → ℕ → ℕ → CronMissed → CronMissed → ℕ → Type 0
+IsMissedDue t lo hi old new status =
+    ((status ≡ 0) × IsMissedTold t lo hi new)
+    ⊎ ((status ≡ 4) × IsPastEnd lo hi × (new ≡ old))

@@ -1,0 +1,23 @@
+//! `libcronsim`: due times for callers that aren't Rattle, by the names of C.
+//!
+//! Here belongs what an exported function takes and gives, and what such a caller keeps: a schedule in its zone, behind
+//! a handle. Which times are due belongs to `cj_due`, which texts are schedules to `cj_schedule`, and what a zone is to
+//! `cj_zone`, whose clauses the exports state again. `include/cronsim.h` declares them for C, and says what a caller
+//! owes. Nothing here prints, waits, locks or keeps a pointer of its caller.
+#![tactic(auto)]
+
+mod fault;
+mod held;
+mod opening;
+mod parts;
+mod shown;
+mod status;
+mod times;
+mod timetable;
+mod zones;
+
+pub use fault::CronFault;
+pub use held::Held;
+pub use opening::{cronsim_close, cronsim_open, cronsim_open_file, cronsim_open_rule};
+pub use shown::cronsim_matches;
+pub use times::{CronMissed, cronsim_missed, cronsim_next, cronsim_previous};
