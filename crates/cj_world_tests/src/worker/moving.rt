@@ -1,5 +1,5 @@
 // A desk that moves the clock on.
-ghost use Rattle.std.specs.Prelude.{false, []};
+ghost use Rattle.std.specs.Prelude.{◌≡◌, true, false, []};
 ghost use Rattle.cj_types.specs.WorldLimits.{kept};
 
 use crate::worker::clocks::Moving;
@@ -19,6 +19,8 @@ impl<'a, R: Wait> Desk for Moves<'a, R> {
     ghost tells = { false };
 
     ghost history = { λ _. record { limits = kept 0 0; history = [] } };
+
+    ghost refused_full = { λ m. m.desk.full ≡ true };
 
     fn call(&mut self, pass: &mut Pass, call: Call) -> Result<Receipt, Refusal> {
         let is_last = matches!(&call, Call::SeeActive);
