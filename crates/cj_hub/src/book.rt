@@ -1,8 +1,10 @@
-ghost use Rattle.std.specs.Prelude.{◌≡◌, ◌↔◌, ◌+◌, ◌<◌, ◌^◌, ◌==◌, if◌then◌else◌, ℕ, [], ◌∷◌, ◌++◌, true, false, Some, length, All, IfOk, OnOk, OnErr, IfErr, IsTrue, IsOk, slice_get, slice_index_or, map, vec_len};
+ghost use Rattle.std.specs.Prelude.{◌≡◌, ◌↔◌, ◌+◌, ◌<◌, ◌^◌, ◌==◌, if◌then◌else◌, ℕ, [], ◌∷◌, ◌++◌, true, false, Some, length, All, IfOk, OnOk, OnErr, IfErr, IsTrue, IsOk, is_some, slice_get, slice_index_or, map, vec_len};
 ghost use mathlib.Core.List.{reverse};
 ghost use Rattle.cj_base.specs.declared.refusal.Refusal.TheVariants.{Estranged, OutOfMemory};
+ghost use Rattle.cj_queue.specs.Queue.{first};
 ghost use Rattle.cj_state.specs.Legal.{IsLegal};
 ghost use Rattle.cj_world_laws.specs.legal.Exclusive.{Exclusive};
+ghost use Rattle.cj_world_laws.specs.legal.Rest.{IsAtRest};
 ghost use Rattle.cj_world_laws.specs.once.Once.{Once, Alone};
 ghost use Rattle.cj_hub.specs.Receipts.{fresh, IsExact};
 ghost use Rattle.cj_hub.specs.Books.{no_seat, state_in, Fits, IsEnrolled, IsEntered, IsFull, IsUnentered, Knows};
@@ -228,6 +230,30 @@ impl Book {
         }
     }
 
+    /// Whether work on the book was given up, or the history has as many entries as its limit.
+    pub(crate) fn is_over(&self) -> bool {
+        self.given_up || self.is_full()
+    }
+
+    /// Whether a key is in the line.
+    pub(crate) fn has_next(&self) -> bool
+        ensures { result ≡ is_some (first (state_in self.now).queue.row.line) }
+    {
+        self.world.has_next()
+    }
+
+    /// Whether no key is in the line, and nobody holds one.
+    pub(crate) fn at_rest(&self) -> bool
+        ensures { IsTrue result ↔ IsAtRest (state_in self.now) }
+    {
+        self.world.at_rest()
+    }
+
+    /// How many writes came after the version.
+    pub(crate) fn writes_after(&self, seen: Version) -> u64 {
+        self.world.version().get().saturating_sub(seen.get())
+    }
+
     /// Marks that work on the book was given up.
     pub(crate) fn give_up(&mut self)
         ensures { self.new ≡ record self.old { given_up = true } }
@@ -247,7 +273,7 @@ impl Book {
         if !(stored && fed) {
             return HubState::Behind;
         }
-        if self.world.at_rest() {
+        if self.at_rest() {
             HubState::Quiet
         } else {
             HubState::Busy

@@ -49,8 +49,8 @@ impl Closed {
 
     /// All entries, the oldest first, with what holds of every history: each answer is the one that the
     /// entries before it give, and each plan that came in is a decision; no key is in two workers' hands; no
-    /// scheduled time of a CronJob got two Jobs; a Job that was made under Forbid or Replace was made alone;
-    /// and the time of each accepted claim is the greatest one missed by the CronJob that stood then.
+    /// scheduled time of a CronJob got two Jobs; a Job that was claimed under Forbid or Replace was made
+    /// alone; and the time of each accepted claim is the greatest one missed by the CronJob that stood then.
     pub fn history(&self) -> &[Entry]
         ensures entries { reverse result.now ≡ self.now.history }
         ensures legal { IsLegal self.now.limits.window self.now.history }

@@ -12,59 +12,34 @@ ghost use Rattle.cj_hub.specs.States.{IsState};
 
 use crate::book::Book;
 use crate::closed::{Closed, NotClosed};
-use crate::laws;
 use crate::pass::Pass;
 use crate::receipt::Receipt;
 use crate::rest::AtRest;
+use crate::room::{NOBODY, Room, Takers, Wake};
 use crate::state::HubState;
 use cj_calls::{Call, Role};
 use cj_types::{Limits, Refusal, Version};
 use std::alloc::Global;
 use std::sync::{Condvar, Mutex, Wait};
 
-// Whom a call concerns of those that wait for something to take.
-#[derive(Clone, Copy)]
-enum Wake {
-    Nobody,
-    One,
-    Everybody,
-}
-
-// Whom a call concerns that was entered: after an Add or a Finish a key more may be in the line for one of
-// them; a moment, the end of the queue and a history that is full by now concern them all.
-fn concerned(book: &Book, receipt: &Receipt) -> Wake {
-    if book.is_full() {
-        return Wake::Everybody;
-    }
-    match receipt.call() {
-        Call::Add(_) | Call::Finish(..) => Wake::One,
-        Call::Tick(_) | Call::Shut => Wake::Everybody,
-        _ => Wake::Nobody,
-    }
-}
-
-// Whom the end of a waiting Take concerns: one that was refused may have been woken for a key that another can take.
-fn after_take(book: &Book, taken: &Result<Receipt, Refusal>) -> Wake {
-    match taken {
-        Ok(receipt) => concerned(book, receipt),
-        Err(_) => Wake::One,
-    }
-}
-
 /// A book that threads share. Each of its calls takes the lock once and may wait for it.
 ///
 /// A contract knows of the book under the lock what its type keeps; what one call does to it is said at `laws`.
 pub struct Hub {
-    book: Mutex<Book>,
-    changed: Condvar,
+    room: Mutex<Room>,
+    // A key is in the line for one who waits for it, or there will be none.
+    keys: Condvar,
+    // Those who wait for rest are to look again.
+    rest: Condvar,
 }
 
 // A function of its own, so that whoever gives up a hub makes one call and not one for each part.
 impl Drop for Hub {
     fn drop(self) {
         let Hub {
-            book: _,
-            changed: _,
+            room: _,
+            keys: _,
+            rest: _,
         } = self;
     }
 }
@@ -74,9 +49,11 @@ impl Hub {
     pub fn new(alloc: Global, limits: Limits) -> Result<Hub, Refusal>
         ensures { IfErr result (λ e. e ≡ OutOfMemory) }
     {
+        let book = Book::new(alloc, limits)?;
         Ok(Hub {
-            book: Mutex::new(Book::new(alloc, limits)?),
-            changed: Condvar::new(),
+            room: Mutex::new(Room::new(book)),
+            keys: Condvar::new(),
+            rest: Condvar::new(),
         })
     }
 
@@ -85,16 +62,29 @@ impl Hub {
         ensures ok { IfOk result (λ p. p ≡ fresh p.number role) }
         ensures err { IfErr result (λ e. e ≡ OutOfMemory) }
     {
-        self.book.lock(rt).enroll(role)
+        self.room.lock(rt).enroll(role)
     }
 
-    // Wakes whom a call concerned.
-    fn wake(&self, whom: Wake) {
-        match whom {
-            Wake::Nobody => {}
-            Wake::One => self.changed.notify_one(),
-            Wake::Everybody => self.changed.notify_all(),
+    // Wakes those who wait for something to take.
+    fn wake_takers(&self, takers: Takers) {
+        match takers {
+            Takers::Nobody => {}
+            Takers::One => self.keys.notify_one(),
+            Takers::All => self.keys.notify_all(),
         }
+    }
+
+    // Wakes those who wait for rest.
+    fn wake_rest(&self, woken: bool) {
+        if woken {
+            self.rest.notify_all();
+        }
+    }
+
+    // Wakes whom a change concerned.
+    fn wake(&self, wake: Wake) {
+        self.wake_takers(wake.takers);
+        self.wake_rest(wake.rest);
     }
 
     /// Makes one call of the pass. Its receipt names the caller and the call, stands after the pass's last
@@ -106,34 +96,34 @@ impl Hub {
         ensures which { IfErr result (IsDeskRefusal call) }
         ensures err { OnErr result (pass.new ≡ pass.old) }
     {
-        let mut book = self.book.lock(rt);
-        let result = laws::step(&mut book, pass, call);
-        let whom = match &result {
-            Ok(receipt) => concerned(&book, receipt),
-            Err(_) => Wake::Nobody,
+        let mut room = self.room.lock(rt);
+        let result = room.step(pass, call);
+        let wake = match &result {
+            Ok(receipt) => room.after(receipt),
+            Err(_) => NOBODY,
         };
-        drop(book);
-        self.wake(whom);
+        drop(room);
+        self.wake(wake);
         result
     }
 
-    /// Makes a Take of the pass, and makes it again after each other call that may concern it while there is
-    /// nothing to take.
+    /// Makes a Take of the pass, and makes it again when it is woken while there is nothing to take.
     pub fn take_wait(&self, rt: &impl Wait, pass: &mut Pass) -> Result<Receipt, Refusal>
         ensures ok { IfOk result (λ r. IsReceipt pass.old Of.Take r pass.new) }
         ensures row { IfOk result (λ r. IsTrue (is_in_row Of.Take r.entry.answer)) }
         ensures which { IfErr result IsWaitRefusal }
         ensures err { OnErr result (pass.new ≡ pass.old) }
     {
-        let mut book = self.book.lock(rt);
+        let mut room = self.room.lock(rt);
         for _ in rt.forever() {
-            let result = laws::step(&mut book, pass, Call::Take);
+            let result = room.step(pass, Call::Take);
             if let Err(Refusal::Empty) = &result {
-                book = self.changed.wait(rt, book);
+                room.wait_for_key();
+                room = self.keys.wait(rt, room);
             } else {
-                let whom = after_take(&book, &result);
-                drop(book);
-                self.wake(whom);
+                let wake = room.after_take(&result);
+                drop(room);
+                self.wake(wake);
                 return result;
             }
         }
@@ -142,12 +132,13 @@ impl Hub {
 
     /// Marks that work was given up.
     pub fn give_up(&self, rt: &impl Wait) {
-        laws::give_up(&mut self.book.lock(rt));
+        let woken = self.room.lock(rt).give_up();
+        self.wake_rest(woken);
     }
 
     /// How far the work is, for one who has seen the writes up to the version.
     pub fn state(&self, rt: &impl Wait, seen: Version) -> HubState {
-        laws::state(&self.book.lock(rt), seen)
+        self.room.lock(rt).state(seen)
     }
 
     /// What shows that the hub is quiet, for one who has seen the writes up to the version, exactly where the state
@@ -156,11 +147,27 @@ impl Hub {
         ensures quiet { IfOk result (λ r. IsState r.book seen HubState.Quiet) }
         ensures err { IfErr result (λ s. s ≢ HubState.Quiet) }
     {
-        laws::at_rest(&self.book.lock(rt), seen)
+        self.room.lock(rt).at_rest(seen)
+    }
+
+    /// As `at_rest`, but while work goes on it waits: as long as a key is in the line or held, nobody gave up, the
+    /// history has room, and there are fewer than 256 writes after the version.
+    pub fn rest_wait(&self, rt: &impl Wait, seen: Version) -> Result<AtRest, HubState>
+        ensures quiet { IfOk result (λ r. IsState r.book seen HubState.Quiet) }
+        ensures err { IfErr result (λ s. s ≢ HubState.Quiet) }
+    {
+        let mut room = self.room.lock(rt);
+        for _ in rt.forever() {
+            if !room.wait_for_rest(seen) {
+                return room.at_rest(seen);
+            }
+            room = self.rest.wait(rt, room);
+        }
+        unreachable!()
     }
 
     /// Closes the book, where the passes fit it: then its history is legal, no key was in two workers' hands,
-    /// no scheduled time got two Jobs, what was made under Forbid or Replace was made alone, and the entries
+    /// no scheduled time got two Jobs, what was claimed under Forbid or Replace was made alone, and the entries
     /// of each pass are exactly its receipts, in order, each at its place.
     pub fn close(self, passes: Vec<Pass>) -> Result<Closed, NotClosed>
         ensures exact { IfOk result (λ c. All (IsExact c.history) passes.items) }
@@ -172,7 +179,11 @@ impl Hub {
         ensures refused { IfErr result (λ e. (All (Fits e.book) e.passes.items → ⊥)
             × (e.refusal ≡ Estranged)) }
     {
-        let Hub { book, changed: _ } = self;
-        book.into_inner().close(passes)
+        let Hub {
+            room,
+            keys: _,
+            rest: _,
+        } = self;
+        room.into_inner().into_book().close(passes)
     }
 }

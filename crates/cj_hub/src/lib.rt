@@ -2,7 +2,7 @@
 //!
 //! Here belongs how threads share a world: who is enrolled, what a call does under the lock, who waits and is woken,
 //! and how a history is closed. What is called, and why, belongs to the crates above. They rest on `Desk` and its
-//! `ask`, on `Hub::call` and `take_wait`, and on `Hub::close`, whose history keeps the promise.
+//! `ask`, on `Hub::call`, `take_wait` and `rest_wait`, and on `Hub::close`, whose history keeps the promise.
 #![tactic(auto)]
 
 mod asking;
@@ -15,6 +15,7 @@ pub mod laws;
 mod pass;
 mod receipt;
 mod rest;
+mod room;
 mod seat;
 mod state;
 

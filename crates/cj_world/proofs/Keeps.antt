@@ -218,7 +218,7 @@ by_entered : (caller : Caller) (call : Call) (r : Result Reply Refusal) (p : Tol
 by_entered caller call r p true e f = (e, cc (sym f))
 by_entered caller call r p false e f = absurd (cc f)
 
--- For World::enter: a call that has receipts was entered with them.
+-- For World::enter_shared: a call that has receipts was entered with them.
 pub entered_by : (limits : Kept) (h : List Told) (caller : Caller) (call : Call) (r : Result Reply Refusal) (p : Told
     × Told) (h' : List Told)
     → Applied limits h caller call r h' → receipts_of caller call r ≡ Some p → Entered limits h caller call p h'

@@ -1,8 +1,9 @@
-ghost use Rattle.std.specs.Prelude.{◌≡◌, ◌≢◌, ◌≤◌, ◌↔◌, [], false, IsTrue, IfOk, IfErr, Err, length, option_copied};
+ghost use Rattle.std.specs.Prelude.{◌≡◌, ◌≢◌, ◌≤◌, ◌↔◌, [], false, IsTrue, IfOk, IfErr, Err, length, is_some, option_copied};
 ghost use Rattle.std.specs.FinMap as map;
 ghost use mathlib.Core.List.{reverse};
 ghost use Rattle.cj_base.specs.declared.refusal.Refusal.TheVariants.{Empty, HistoryFull, OutOfMemory};
 ghost use Rattle.cj_types.specs.WorldLimits.{last_history};
+ghost use Rattle.cj_queue.specs.Queue.{first};
 ghost use Rattle.cj_state.specs.Legal.{IsLegal, IsPlanned, ArePlanned, is_entered};
 ghost use Rattle.cj_world_laws.specs.legal.Exclusive.{Exclusive};
 ghost use Rattle.cj_world_laws.specs.legal.Rest.{IsAtRest};
@@ -98,9 +99,9 @@ impl World {
 
     /// All entries, the oldest first, with what holds of every history: it is within its limit; each answer
     /// is the one that the entries before it give, and each plan that came in is a decision; no key is in two
-    /// workers' hands; no scheduled time of a CronJob got two Jobs; a Job that was made under Forbid or
-    /// Replace was made alone; and the time of each accepted claim is the greatest one missed by the CronJob
-    /// that stood then.
+    /// workers' hands; no scheduled time of a CronJob got two Jobs; a Job that was claimed under Forbid
+    /// or Replace was made alone; and the time of each accepted claim is the greatest one missed by the
+    /// CronJob that stood then.
     pub fn history(&self) -> &[Entry]
         ensures entries { reverse result.now ≡ self.now.history }
         ensures short { (length self.now.history ≤ self.now.limits.history)
@@ -234,6 +235,13 @@ impl World {
         ensures { result ≡ (state_in self.now).mirror.fed }
     {
         self.state.mirror.version()
+    }
+
+    /// Whether a key is in the line.
+    pub fn has_next(&self) -> bool
+        ensures { result ≡ is_some (first (state_in self.now).queue.row.line) }
+    {
+        self.state.queue.front().is_some()
     }
 
     /// Whether no key is in the line, and nobody holds one. By the history alone: no key is queued and none is held

@@ -1,4 +1,4 @@
--- Each legal history has each time once, and what is made under Forbid or Replace is made alone.
+-- Each legal history has each time once, and what was claimed under Forbid or Replace is made alone.
 use Rattle.std.proofs.Common.{◌≡◌, ℕ, ◌+◌, ◌≤◌, ◌==◌, Bool, true, false, cond, List, [], ◌∷◌, length, Option, None, refl, ap, sym, subst, ◌∙◌, arith}
 use Rattle.std.specs.Prelude.{Result, Err}
 use Rattle.std.specs.FinMap as map
@@ -249,7 +249,7 @@ once window (e ∷ h) short legal fit = (
   once window h (omega arith) legal.2 fit.1,
 )
 
--- For both: what is made under Forbid or Replace is made beside no unfinished Job of its owner.
+-- For both: what was claimed under Forbid or Replace is made beside no unfinished Job of its owner.
 alone : (window : ℕ) (h : List Told) → length h ≤ last_uid → IsLegal window h → DoFit h → Alone window h
 alone window [] short legal fit = tt
 alone window (e ∷ h) short legal fit = (

@@ -85,7 +85,7 @@ Once window (e ∷ h) = (is_making e ≡ true → (m : Claimed) × (claim_of win
 abbrev pub NoneRuns : ℕ → map.FinMap place_cmp Job → Type 0
 NoneRuns u jobs = (q : Place) (j : Job) → map.get jobs q ≡ Some j → runs u j ≡ false
 
--- what is made under Forbid or Replace is made where no Job of its owner is unfinished
+-- what was claimed under Forbid or Replace is made where no Job of its owner is unfinished
 -- rule: alone
 abbrev pub Alone : ℕ → List Told → Type 0
 Alone window [] = Unit {0}
