@@ -76,6 +76,12 @@ does_then zones operations operations' p q r a b = record {
 
 -- ---- one more of a list
 
+-- At an instant, two joined lists have the operations of the one, then of the other.
+pub edits_append : (es es' : List Edit) (at : ℕ) → edits_at (es ++ es') at ≡ edits_at es at ++ edits_at es' at
+unfolding edits_at
+edits_append es es' at = ap (map (λ (e : Edit). e.operation)) (filter-append (λ (e : Edit). e.at == at) es es')
+    ∙ map-append (λ (e : Edit). e.operation) (filter (λ (e : Edit). e.at == at) es) (filter (λ (e : Edit). e.at == at) es')
+
 module _ (zones : ZoneTable) (p q r : PassView) (i : ℕ) where
   -- For create_all: with the CronJobs of the first i drafts created, then the next draft's, those
   -- of the first i + 1 are.
@@ -88,12 +94,6 @@ module _ (zones : ZoneTable) (p q r : PassView) (i : ℕ) where
       (sym (ap (creations at) (take_more drafts i draft lt ∙ ap (λ (x : CronJobDraft). take i drafts ++ x ∷ [])
       (sym is)) ∙ map-append (creation at) (take i drafts) (draft ∷ [])))
       (does_then zones (creations at (take i drafts)) (creation at draft ∷ []) p q r a b)
-
-  -- For edit_more: at an instant, two joined lists have the operations of the one, then of the other.
-  edits_append : (es es' : List Edit) (at : ℕ) → edits_at (es ++ es') at ≡ edits_at es at ++ edits_at es' at
-  unfolding edits_at
-  edits_append es es' at = ap (map (λ (e : Edit). e.operation)) (filter-append (λ (e : Edit). e.at == at) es es')
-      ∙ map-append (λ (e : Edit). e.operation) (filter (λ (e : Edit). e.at == at) es) (filter (λ (e : Edit). e.at == at) es')
 
   -- For edit_all: with the operations at an instant of the first i edits done and then the next edit's,
   -- those of the first i + 1 are.

@@ -1,3 +1,6 @@
 pub mod Done
+pub mod Followed
+pub mod Looked
 pub mod Noted
 pub mod Ran
+pub mod Went

@@ -1,17 +1,25 @@
--- What was done through a pass.
-use Rattle.std.specs.Prelude.{◌≡◌, ◌<◌, ◌↔◌, ℕ, List, [], ◌∷◌, ◌++◌}
+-- What those who call in a run do, beside its workers.
+use Rattle.std.specs.Prelude.{◌≡◌, ℕ, All, List, [], ◌++◌, None}
 use Rattle.std.specs.List.{AllZip}
 use Rattle.cj_zone.specs.declared.table.ZoneTable.{ZoneTable}
 use Rattle.cj_calls.specs.declared.call.Call.{Call}
+use Rattle.cj_calls.specs.declared.call.Call.TheVariants.{Shut}
 use Rattle.cj_calls.specs.declared.caller.Role.{Role}
 use Rattle.cj_calls.specs.declared.caller.Role.TheVariants.{User}
 use Rattle.cj_script.specs.declared.operations.operation.Operation.{Operation}
 use Rattle.cj_hub.specs.Receipts.{IsReceipt, PassView}
 use Rattle.cj_hub.specs.declared.receipt.Receipt.{Receipt}
 use Rattle.cj_script.specs.operations.Calls.{IsUnseenCall}
-use Rattle.cj_script.specs.simulation.Spans.{IsInstant}
 use Rattle.cj_script.specs.declared.simulation.scenario.Simulation.{Simulation}
+use Rattle.cj_run.specs.Follows.{FollowsAll}
+use Rattle.cj_run.specs.Lineups.{notes_of, watch_of}
+use Rattle.cj_run.specs.Made.{Notes, no_notes}
+use Rattle.cj_run.specs.Rounds.{GoesRounds, watch}
 use Rattle.cj_run.specs.Simulations.{operations_below}
+use Rattle.cj_run.specs.Turns.{AllInstants}
+use Rattle.cj_run.specs.declared.crew.Crew.{Crew}
+use Rattle.cj_run.specs.declared.drive.Participants.{Participants}
+use Rattle.cj_run.specs.declared.rest.Follower.{Follower}
 
 -- the call was entered, and the pass got its receipt
 pub record Called (call : Call) (p p' : PassView) : Type 0 where
@@ -33,17 +41,53 @@ pub record Does (zones : ZoneTable) (operations : List Operation) (p p' : PassVi
   pub kept : p' ≡ record p { receipts = p.receipts ++ news }
   pub are : AreOf p.role zones operations news
 
--- the user did all that the scenario says, up to the clock's last instant
--- rule: run-edits
-pub record HasDriven (c : Simulation) (p p' : PassView) : Type 0 where
+-- up to the clock's last instant the user did all that the scenario says, the runners went their rounds, and the
+-- informer followed
+pub record HasDriven (c : Simulation) (a b : Participants) : Type 0 where
   pub instants : ℕ
-  pub all : (n : ℕ) → (n < instants) ↔ IsInstant c.span n
-  pub did : Does c.zones (operations_below c instants) p p'
+  pub all : AllInstants c.span instants
+  pub did : Does c.zones (operations_below c instants) a.user b.user
+  pub rounds : GoesRounds c instants (watch_of a) (watch_of b)
+  pub followed : FollowsAll c instants a.follower b.follower
 
--- a user who had done nothing before did so
-abbrev pub HasDone : Simulation → PassView → Type 0
-HasDone c p' = (p : PassView) × (p.receipts ≡ []) × (p.role ≡ User) × HasDriven c p p'
+-- and then the informer shut the queue
+pub record HasLived (c : Simulation) (a b : Participants) : Type 0 where
+  pub last : Follower
+  pub driven : HasDriven c a (record b { follower = last })
+  pub shut : Called Shut last.pass b.follower.pass
 
--- the last of the passes is such a user's
-abbrev pub AreDone : Simulation → List PassView → Type 0
-AreDone c ps = (others : List PassView) × (user : PassView) × (ps ≡ others ++ user ∷ []) × HasDone c user
+abbrev pub IsUnused : PassView → Type 0
+IsUnused p = p.receipts ≡ []
+
+-- the informer has done nothing yet; it asks for at most 500 events at once
+pub record IsFresh (f : Follower) : Type 0 where
+  pub informer : f.informer ≡ record { max = 500; seen = None }
+  pub unused : IsUnused f.pass
+
+-- nobody has done anything yet
+pub record AreFresh (p : Participants) : Type 0 where
+  pub user : IsUnused p.user
+  pub role : p.user.role ≡ User
+  pub follower : IsFresh p.follower
+  pub runners : All IsUnused p.runners.items
+  pub made : notes_of p ≡ no_notes
+
+-- those who had done nothing before did so
+pub record HaveLived (c : Simulation) (b : Participants) : Type 0 where
+  pub before : Participants
+  pub fresh : AreFresh before
+  pub lived : HasLived c before b
+
+-- all that user, runners and informer of a run did, with so many instants
+-- rules: run-clock, run-edits, run-jobs
+pub record HasDone (c : Simulation) (instants : ℕ) (crew : Crew) : Type 0 where
+  pub did : AreOf User c.zones (operations_below c instants) crew.user.receipts
+  pub idle : List PassView
+  pub idle_still : All IsUnused idle
+  pub made : Notes
+  pub rounds : GoesRounds c instants (watch idle no_notes) (watch crew.runners.items made)
+  pub first : Follower
+  pub fresh : IsFresh first
+  pub last : Follower
+  pub followed : FollowsAll c instants first last
+  pub shut : Called Shut last.pass crew.informer

@@ -1,5 +1,12 @@
 pub mod Simulations
-pub mod Deeds
+pub mod Turns
 pub mod Made
+pub mod Rounds
+pub mod Lineups
+pub mod Follows
+pub mod Deeds
+pub mod Works
+pub mod Crews
+pub mod Looks
 pub mod Readings
 pub mod Runs

@@ -1,8 +1,11 @@
 // The instants of a run, one after the other.
-ghost use Rattle.std.specs.Prelude.{◌≡◌, OnOk};
+ghost use Rattle.std.specs.Prelude.{◌≡◌, ◌*◌, IfOk, OnOk};
 ghost use Rattle.cj_script.specs.simulation.Spans.{instant, IsInstant};
 ghost use Rattle.cj_run.specs.Simulations.{edits_at};
 ghost use Rattle.cj_run.specs.Deeds.{Does, HasDriven};
+ghost use Rattle.cj_run.specs.Follows.{Follows};
+ghost use Rattle.cj_run.specs.Lineups.{watch_of};
+ghost use Rattle.cj_run.specs.Rounds.{EndsDue, GoesRound, Lists, NotesMade, jobs_in};
 
 use crate::clock::RunClock;
 use crate::ends::end_jobs;
@@ -28,14 +31,27 @@ pub(crate) struct Participants {
 }
 
 // The Jobs of a listing.
-fn jobs_in(receipt: &Receipt) -> &[Shared<Job>] {
+fn jobs_in(receipt: &Receipt) -> &[Shared<Job>]
+    ensures { result.now ≡ jobs_in receipt.now.entry.answer }
+{
     match receipt.answer() {
         Ok(Reply::Jobs(jobs, _)) => jobs.as_slice(),
         _ => &[],
     }
 }
 
+// The first of the runners lists the Jobs.
+fn list<R: Wait>(rt: &R, hub: &Hub, runners: &mut Vec<Pass>) -> Result<Receipt, Refusal>
+    ensures { IfOk result (λ r. Lists runners.old.items r runners.new.items) }
+{
+    if runners.is_empty() {
+        return Err(Refusal::OutOfMemory);
+    }
+    hub.call(rt, &mut runners[0], Call::ListJobs)
+}
+
 // Notes the Jobs that were made at the moment.
+#[tactic(auto, using(crate::proofs::Went::notes_made))]
 fn note<R: Wait>(
     rt: &R,
     alloc: Global,
@@ -44,15 +60,19 @@ fn note<R: Wait>(
     participants: &mut Participants,
     now: Seconds,
 ) -> Result<(), Refusal>
-    ensures { participants.new.user ≡ participants.old.user }
+    ensures user { participants.new.user ≡ participants.old.user }
+    ensures follower { participants.new.follower ≡ participants.old.follower }
+    ensures made { OnOk result (NotesMade simulation.now.runs now (watch_of participants.old)
+        (watch_of participants.new)) }
 {
-    let receipt = hub.call(rt, &mut participants.follower.pass, Call::ListJobs)?;
+    let receipt = list(rt, hub, &mut participants.runners)?;
     participants
         .made
         .note_all(alloc, &simulation.runs, now, jobs_in(&receipt))
 }
 
 // Ends the Jobs that are due at the moment.
+#[tactic(auto, using(crate::proofs::Went::ends_due))]
 fn end<R: Threads + Wait + Sync>(
     rt: &R,
     alloc: Global,
@@ -60,7 +80,10 @@ fn end<R: Threads + Wait + Sync>(
     participants: &mut Participants,
     now: Seconds,
 ) -> Result<(), Refusal>
-    ensures { participants.new.user ≡ participants.old.user }
+    ensures user { participants.new.user ≡ participants.old.user }
+    ensures follower { participants.new.follower ≡ participants.old.follower }
+    ensures ended { OnOk result (EndsDue now (watch_of participants.old)
+        (watch_of participants.new)) }
 {
     let runners = mem::replace(&mut participants.runners, Vec::new(alloc));
     let (runners, result) = end_jobs(rt, alloc, hub, runners, &mut participants.made, now);
@@ -70,6 +93,7 @@ fn end<R: Threads + Wait + Sync>(
 
 // All of an instant: the ends that are due, the edits, and then the work of informer and workers until the
 // hub is at rest.
+#[tactic(auto, using(crate::proofs::Went::goes_round))]
 fn live<R: Threads + Wait + Sync>(
     rt: &R,
     alloc: Global,
@@ -79,8 +103,12 @@ fn live<R: Threads + Wait + Sync>(
     participants: &mut Participants,
     now: Seconds,
 ) -> Result<(), Halt>
-    ensures { OnOk result (Does simulation.now.zones (edits_at simulation.now.edits.items now)
-        participants.old.user participants.new.user) }
+    ensures edits { OnOk result (Does simulation.now.zones
+        (edits_at simulation.now.edits.items now) participants.old.user participants.new.user) }
+    ensures round { OnOk result (GoesRound simulation.now.runs now (watch_of participants.old)
+        (watch_of participants.new)) }
+    ensures followed { OnOk result (Follows (now * 1000) participants.old.follower
+        participants.new.follower) }
 {
     end(rt, alloc, hub, participants, now)?;
     edit_all(
@@ -109,9 +137,13 @@ fn live_at<R: Threads + Wait + Sync>(
     n: u64,
 ) -> Result<(), Halt>
     requires { IsInstant simulation.now.span n }
-    ensures { OnOk result (Does simulation.now.zones
-        (edits_at simulation.now.edits.items (instant simulation.now.span n))
-        participants.old.user participants.new.user) }
+    ensures edits { OnOk result (Does simulation.now.zones
+        (edits_at simulation.now.edits.items (instant simulation.now.span n)) participants.old.user
+        participants.new.user) }
+    ensures round { OnOk result (GoesRound simulation.now.runs (instant simulation.now.span n)
+        (watch_of participants.old) (watch_of participants.new)) }
+    ensures followed { OnOk result (Follows (instant simulation.now.span n * 1000)
+        participants.old.follower participants.new.follower) }
 {
     let now = simulation.span.instant(n).unwrap();
     live(rt, alloc, hub, clock, simulation, participants, now)
@@ -126,7 +158,7 @@ pub(crate) fn drive<R: Threads + Wait + Sync>(
     simulation: &Simulation,
     participants: &mut Participants,
 ) -> Result<(), Halt>
-    ensures { OnOk result (HasDriven simulation.now participants.old.user participants.new.user) }
+    ensures { OnOk result (HasDriven simulation.now participants.old participants.new) }
 {
     let start = simulation.span.start();
     create_all(

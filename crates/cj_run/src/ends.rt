@@ -3,6 +3,8 @@ ghost use Rattle.std.specs.Prelude.{◌≡◌, [], ◌∷◌, ◌++◌, List, If
 ghost use Rattle.cj_hub.specs.declared.receipt.Receipt.{Receipt};
 ghost use Rattle.cj_runner.specs.Dues.{is_due};
 ghost use Rattle.cj_runner.specs.Ends.{AreEnded};
+ghost use Rattle.cj_run.specs.Lineups.{noted_in};
+ghost use Rattle.cj_run.specs.Rounds.{without_due};
 
 use crate::made::Made;
 use cj_hub::{Hub, Pass};
@@ -53,6 +55,7 @@ fn sort_out(alloc: Global, running: Vec<Running>, now: Seconds) -> Result<Sorted
 }
 
 /// Ends the Jobs that are due, and forgets them.
+#[tactic(auto, using(crate::proofs::Went::all_ended))]
 pub(crate) fn end_jobs<R: Threads + Wait + Sync>(
     rt: &R,
     alloc: Global,
@@ -62,10 +65,8 @@ pub(crate) fn end_jobs<R: Threads + Wait + Sync>(
     now: Seconds,
 ) -> (Vec<Pass>, Result<(), Refusal>)
     ensures ended { OnOk result.1 ((receipts : List Receipt)
-        × AreEnded now (filter (is_due now) made.old.running.items) runners.items result.0.items
-        receipts) }
-    ensures others { OnOk result.1 (made.new.running.items
-        ≡ filter (λ r. not (is_due now r)) made.old.running.items) }
+        × AreEnded now made.old.running.items runners.items result.0.items receipts) }
+    ensures others { OnOk result.1 (noted_in made.new ≡ without_due now (noted_in made.old)) }
 {
     let running = mem::replace(&mut made.running, Vec::new(alloc));
     let Ok(Sorted { due, others }) = sort_out(alloc, running, now) else {

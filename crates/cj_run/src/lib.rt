@@ -4,16 +4,21 @@
 //! Here belongs who calls in a run and when: the threads, the clock, the user's edits, which Job takes which run.
 //! How a sync, an informer's step or a runner's round goes, and how a report is written, belongs to the crates
 //! below. The program rests on `run_simulation`: its text is the report of a history that keeps what is promised
-//! of every history, and in which the user did just what the scenario says.
+//! of every history, that has the calls of an informer, two runners, the workers and a user alone, each at its time,
+//! and in which the user did just what the scenario says, and the runners ended just the Jobs that were due.
 #![tactic(auto)]
 
 mod clock;
+mod crew;
 mod drive;
 mod ends;
+mod look;
 mod made;
 mod rest;
 mod run;
 mod threads;
+mod turns;
 mod user;
+mod work;
 
 pub use run::run_simulation;

@@ -1,4 +1,7 @@
 // Waiting until the work of an instant is done.
+ghost use Rattle.std.specs.Prelude.{OnOk};
+ghost use Rattle.cj_run.specs.Follows.{Follows, StepsOn, StepsOrStays};
+
 use cj_hub::{AtRest, Hub, HubDesk, HubState, Pass};
 use cj_informer::Informer;
 use cj_types::{Millis, Refusal};
@@ -29,14 +32,20 @@ pub(crate) struct Follower {
 
 impl Follower {
     // One step of the informer.
-    fn step<R: Wait>(&mut self, rt: &R, hub: &Hub, now: Millis) -> Result<(), Refusal> {
+    #[tactic(auto, using(crate::proofs::Followed::steps_on))]
+    fn step<R: Wait>(&mut self, rt: &R, hub: &Hub, now: Millis) -> Result<(), Refusal>
+        ensures { OnOk result (StepsOn now self.old self.new) }
+    {
         let mut desk = HubDesk::new(hub, rt);
         self.informer.step(&mut desk, &mut self.pass, now)
     }
 
-    // Asks how far the work is. Where there are writes to follow the informer makes a step.
-    fn look<R: Wait>(&mut self, rt: &R, hub: &Hub, now: Millis) -> Result<Option<AtRest>, Halt> {
-        match hub.at_rest(rt, self.informer.seen()) {
+    // Waits until the work is done, or there is something to look at: where there are writes to follow the informer
+    // makes a step.
+    fn look<R: Wait>(&mut self, rt: &R, hub: &Hub, now: Millis) -> Result<Option<AtRest>, Halt>
+        ensures { OnOk result (StepsOrStays now self.old self.new) }
+    {
+        match hub.rest_wait(rt, self.informer.seen()) {
             Ok(rest) => Ok(Some(rest)),
             Err(HubState::Broken) => Err(Halt::GivenUp),
             Err(HubState::Behind) => {
@@ -52,12 +61,10 @@ impl Follower {
     }
 
     /// Follows the writes of the moment until the hub is at rest.
-    pub(crate) fn settle<R: Wait>(
-        &mut self,
-        rt: &R,
-        hub: &Hub,
-        now: Millis,
-    ) -> Result<AtRest, Halt> {
+    #[tactic(auto, using(crate::proofs::Followed::follows_first, crate::proofs::Followed::follows_more))]
+    pub(crate) fn settle<R: Wait>(&mut self, rt: &R, hub: &Hub, now: Millis) -> Result<AtRest, Halt>
+        ensures { OnOk result (Follows now self.old self.new) }
+    {
         self.step(rt, hub, now)?;
         for _ in rt.forever() {
             if let Some(rest) = self.look(rt, hub, now)? {

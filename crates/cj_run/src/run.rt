@@ -1,18 +1,22 @@
 // A run, from its scenario to its report.
-ghost use Rattle.std.specs.Prelude.{◌≡◌, List, [], ◌∷◌, ◌++◌, IfOk, IsOk, OnOk, map, string_bytes};
-ghost use Rattle.cj_hub.specs.Receipts.{PassView};
+ghost use Rattle.std.specs.Prelude.{◌≡◌, [], ◌∷◌, ◌++◌, All, Err, IfErr, IfOk, IsOk, OnOk, map, string_bytes};
+ghost use Rattle.cj_hub.specs.Receipts.{IsExact, caller_of};
 ghost use Rattle.cj_world_laws.specs.Promise.{KeepsPromise};
 ghost use Rattle.cj_report.specs.Reports.{report_of};
-ghost use Rattle.cj_calls.specs.declared.caller.Role.TheVariants.{User};
-ghost use Rattle.cj_run.specs.Deeds.{AreDone, HasDone};
-ghost use Rattle.cj_run.specs.Runs.{IsClosed, IsReport, IsRun, all_passes, pass_at};
+ghost use Rattle.cj_io.specs.declared.failure.Failure.TheVariants.{Memory};
+ghost use Rattle.cj_run.specs.Crews.{AreNumbered};
+ghost use Rattle.cj_run.specs.Deeds.{AreFresh, HaveLived, IsFresh, IsUnused};
+ghost use Rattle.cj_run.specs.Looks.{IsKept};
+ghost use Rattle.cj_run.specs.Runs.{HasRun, IsReport, IsRun, pass_at};
 
 use crate::clock::RunClock;
+use crate::crew::{Crew, RUNNERS, are_numbered, callers_of, is_crew, passes_of};
 use crate::drive::Participants;
+use crate::look::is_kept;
 use crate::made::Made;
 use crate::rest::{Follower, Halt};
 use crate::threads::{ThreadResults, WorkerEnds, run_threads};
-use cj_calls::Role;
+use cj_calls::{Caller, Role};
 use cj_hub::{Closed, Hub, HubState, Pass};
 use cj_informer::Informer;
 use cj_io::Failure;
@@ -24,8 +28,15 @@ use std::alloc::Global;
 use std::sync::Wait;
 use std::thread::Threads;
 
-// How many runners a run has.
-const RUNNERS: u64 = 2;
+// One pass more.
+fn put(passes: &mut Vec<Pass>, pass: Pass) -> Result<(), Refusal>
+    ensures { OnOk result (passes.new.items ≡ passes.old.items ++ pass ∷ []) }
+{
+    match passes.push(pass) {
+        Ok(()) => Ok(()),
+        Err(_) => Err(Refusal::OutOfMemory),
+    }
+}
 
 // So many passes of a role.
 fn enroll<R: Wait>(
@@ -34,16 +45,19 @@ fn enroll<R: Wait>(
     hub: &Hub,
     role: Role,
     count: u64,
-) -> Result<Vec<Pass>, Refusal> {
+) -> Result<Vec<Pass>, Refusal>
+    ensures { IfOk result (λ ps. All IsUnused ps.items) }
+{
     let mut passes = Vec::new(alloc);
     for _ in 0..count {
-        let pass = hub.enroll(rt, role)?;
-        passes.push(pass).map_err(|_| Refusal::OutOfMemory)?;
+        put(&mut passes, hub.enroll(rt, role)?)?;
     }
     Ok(passes)
 }
 
-fn new_follower<R: Wait>(rt: &R, alloc: Global, hub: &Hub) -> Result<Follower, Refusal> {
+fn new_follower<R: Wait>(rt: &R, alloc: Global, hub: &Hub) -> Result<Follower, Refusal>
+    ensures { IfOk result IsFresh }
+{
     let max = Max::new(500).unwrap();
     Ok(Follower {
         informer: Informer::new(alloc, max),
@@ -52,8 +66,7 @@ fn new_follower<R: Wait>(rt: &R, alloc: Global, hub: &Hub) -> Result<Follower, R
 }
 
 fn new_participants<R: Wait>(rt: &R, alloc: Global, hub: &Hub) -> Result<Participants, Refusal>
-    ensures unused { IfOk result (λ c. c.user.receipts ≡ []) }
-    ensures user { IfOk result (λ c. c.user.role ≡ User) }
+    ensures { IfOk result AreFresh }
 {
     let runners = enroll(rt, alloc, hub, Role::Runner, RUNNERS)?;
     let follower = new_follower(rt, alloc, hub)?;
@@ -71,7 +84,9 @@ fn found_full(end: &WorkerEnd) -> bool {
 }
 
 // Why workers gave up.
-fn failure_of(ends: &WorkerEnds) -> Failure {
+fn failure_of(ends: &WorkerEnds) -> Failure
+    ensures lost { IfErr ends.now (λ _. result ≡ Memory) }
+{
     match ends {
         Ok(ends) => {
             if ends.as_slice().iter().any(found_full) {
@@ -110,31 +125,31 @@ fn passes_at(alloc: Global, ends: Vec<WorkerEnd>) -> Result<Vec<Pass>, Failure>
     Ok(passes)
 }
 
-// All passes of a run: the informer's, the runners', the workers', and the user's last.
-fn passes_of(
-    alloc: Global,
-    participants: Participants,
-    ends: Vec<WorkerEnd>,
-) -> Result<Vec<Pass>, Failure>
-    ensures all { IfOk result (λ ps. ps.items
-        ≡ all_passes participants.follower.pass participants.runners.items ends.items
-        participants.user) }
-    ensures last { IfOk result (λ ps. (others : List PassView)
-        × (ps.items ≡ others ++ participants.user ∷ [])) }
+// Who called in a run. Where nothing came of the workers, memory was wanting.
+fn crew_of(alloc: Global, participants: Participants, ends: WorkerEnds) -> Result<Crew, Failure>
+    ensures workers { IfOk ends (λ es. IfOk result (λ c. c.workers.items ≡ map pass_at es.items)) }
+    ensures lost { IfErr ends (λ _. result ≡ Err Memory) }
+    ensures runners { IfOk result (λ c. c.runners.items ≡ participants.runners.items) }
+    ensures informer { IfOk result (λ c. c.informer ≡ participants.follower.pass) }
+    ensures user { IfOk result (λ c. c.user ≡ participants.user) }
 {
+    let Ok(ends) = ends else {
+        return Err(Failure::Memory);
+    };
     let Participants {
         user,
         follower,
-        mut runners,
+        runners,
         made: _,
     } = participants;
-    let mut workers = passes_at(alloc, ends)?;
-    let mut passes = Vec::new(alloc);
-    passes.push(follower.pass)?;
-    passes.append(&mut runners)?;
-    passes.append(&mut workers)?;
-    passes.push(user)?;
-    Ok(passes)
+    let workers = passes_at(alloc, ends)?;
+    let informer = follower.pass;
+    Ok(Crew {
+        workers,
+        runners,
+        informer,
+        user,
+    })
 }
 
 #[tactic(auto, unfolding(cj_report::specs::Reports::report_of))]
@@ -148,7 +163,7 @@ fn closed_report(alloc: Global, closed: &Closed) -> Result<String, Refusal>
 
 // Closes the hub with these passes.
 fn close(alloc: Global, hub: Heap<Hub>, passes: Vec<Pass>) -> Result<Heap<Closed>, Failure>
-    ensures { IfOk result (λ c. IsClosed passes.items c.limits.window c.history) }
+    ensures { IfOk result (λ c. All (IsExact c.history) passes.items) }
 {
     match hub.into_inner().close(passes) {
         Ok(closed) => Ok(Heap::new(alloc, closed)?),
@@ -163,17 +178,59 @@ fn promised(closed: &Closed)
     closed.history();
 }
 
-// Closes the hub, and reports of its history.
-fn report(alloc: Global, hub: Heap<Hub>, passes: Vec<Pass>) -> Result<String, Failure>
-    ensures { IfOk result (λ s. IsReport passes.items (string_bytes s)) }
+// Looks over a closed history: whether it has the entries of these callers alone, made at their times. None that the
+// threads of a run made is refused.
+fn look_over(
+    alloc: Global,
+    simulation: &Simulation,
+    callers: &[Caller],
+    user: u64,
+    closed: &Closed,
+) -> Result<(), Failure>
+    ensures { OnOk result (IsKept simulation.now callers.now user closed.now.history) }
 {
+    if is_kept(alloc, simulation, callers, user, closed.history())? {
+        Ok(())
+    } else {
+        Err(Failure::Memory)
+    }
+}
+
+// The callers of these passes, which are numbered by their places.
+fn numbered(alloc: Global, passes: &[Pass]) -> Result<Vec<Caller>, Failure>
+    ensures callers { IfOk result (λ cs. cs.items ≡ map caller_of passes.now) }
+    ensures numbered { IfOk result (λ cs. AreNumbered 0 cs.items) }
+{
+    let callers = callers_of(alloc, passes)?;
+    if are_numbered(callers.as_slice()) {
+        Ok(callers)
+    } else {
+        Err(Failure::Memory)
+    }
+}
+
+// Closes the hub, and reports of its history.
+#[tactic(auto, using(crate::proofs::Ran::reported))]
+fn report(
+    alloc: Global,
+    hub: Heap<Hub>,
+    simulation: &Simulation,
+    crew: Crew,
+) -> Result<String, Failure>
+    ensures { IfOk result (λ s. IsReport simulation.now crew (string_bytes s)) }
+{
+    let user = crew.user.caller().number;
+    let passes = passes_of(alloc, crew)?;
+    let callers = numbered(alloc, passes.as_slice())?;
     let closed = close(alloc, hub, passes)?;
     promised(closed.get());
+    look_over(alloc, simulation, callers.as_slice(), user, closed.get())?;
     let text = closed_report(alloc, closed.get())?;
     Ok(text)
 }
 
 // Enrolls all who call in a run, and runs their threads on the hub.
+#[tactic(auto, using(crate::proofs::Ran::have_lived))]
 fn run_on_hub<R: Threads + Wait + Sync>(
     rt: &R,
     alloc: Global,
@@ -181,7 +238,7 @@ fn run_on_hub<R: Threads + Wait + Sync>(
     simulation: &Simulation,
     workers: u64,
 ) -> Result<Heap<ThreadResults>, Refusal>
-    ensures { IfOk result (λ r. OnOk r.instants (HasDone simulation.now r.participants.user)) }
+    ensures { IfOk result (λ r. OnOk r.instants (HaveLived simulation.now r.participants)) }
 {
     let passes = enroll(rt, alloc, hub, Role::Worker, workers)?;
     let participants = new_participants(rt, alloc, hub)?;
@@ -190,24 +247,44 @@ fn run_on_hub<R: Threads + Wait + Sync>(
     Heap::new(alloc, results)
 }
 
-// What a run on the hub leaves: all its passes, the user's last.
-fn passes_left<R: Threads + Wait + Sync>(
+// Runs all threads on the hub, where all instants are lived through and nobody gives up.
+fn live_through<R: Threads + Wait + Sync>(
     rt: &R,
     alloc: Global,
     hub: &Hub,
     simulation: &Simulation,
     workers: u64,
-) -> Result<Vec<Pass>, Failure>
-    ensures { IfOk result (λ ps. AreDone simulation.now ps.items) }
+) -> Result<Heap<ThreadResults>, Failure>
+    ensures { IfOk result (λ r. HaveLived simulation.now r.participants) }
 {
     let results = run_on_hub(rt, alloc, hub, simulation, workers)?;
     check_results(rt, hub, results.get())?;
+    Ok(results)
+}
+
+// Who called in a run on the hub.
+#[tactic(auto, using(crate::proofs::Ran::has_run))]
+fn crew_left<R: Threads + Wait + Sync>(
+    rt: &R,
+    alloc: Global,
+    hub: &Hub,
+    simulation: &Simulation,
+    workers: u64,
+) -> Result<Crew, Failure>
+    ensures { IfOk result (λ c. HasRun simulation.now workers c) }
+{
+    let results = live_through(rt, alloc, hub, simulation, workers)?;
     let ThreadResults {
         participants,
-        workers,
-        ..
+        workers: ends,
+        instants: _,
     } = results.into_inner();
-    passes_of(alloc, participants, workers?)
+    let crew = crew_of(alloc, participants, ends)?;
+    if is_crew(&crew, workers) {
+        Ok(crew)
+    } else {
+        Err(Failure::Memory)
+    }
 }
 
 /// Runs a scenario on an empty world with so many workers, and gives the report of the end: a line for each
@@ -217,17 +294,17 @@ fn passes_left<R: Threads + Wait + Sync>(
 /// and the workers go on until the hub is at rest; only then does the clock move. Each thread has ended when
 /// this returns. There is no report where a call found the history full, or where memory was wanting or a
 /// thread couldn't be started.
-#[tactic(auto, using(crate::proofs::Ran::done_report))]
+#[tactic(auto, using(crate::proofs::Ran::run_of))]
 pub fn run_simulation<R: Threads + Wait + Sync>(
     rt: &R,
     alloc: Global,
     simulation: &Simulation,
     workers: u64,
 ) -> Result<String, Failure>
-    ensures { IfOk result (λ s. IsRun simulation.now (string_bytes s)) }
+    ensures { IfOk result (λ s. IsRun simulation.now workers (string_bytes s)) }
 {
     let limits = Limits::new(16_777_216, 1_000).unwrap();
     let hub = Heap::new(alloc, Hub::new(alloc, limits)?)?;
-    let passes = passes_left(rt, alloc, hub.get(), simulation, workers)?;
-    report(alloc, hub, passes)
+    let crew = crew_left(rt, alloc, hub.get(), simulation, workers)?;
+    report(alloc, hub, simulation, crew)
 }

@@ -1,6 +1,8 @@
 // The threads of a run.
-ghost use Rattle.std.specs.Prelude.{IfOk, OnOk};
-ghost use Rattle.cj_run.specs.Deeds.{HasDriven};
+ghost use Rattle.std.specs.Prelude.{◌≡◌, Err, IfErr, IfOk, OnOk};
+ghost use Rattle.cj_base.specs.declared.refusal.Refusal.TheVariants.{OutOfMemory};
+ghost use Rattle.cj_calls.specs.declared.call.Call.TheVariants as Of;
+ghost use Rattle.cj_run.specs.Deeds.{Called, HasLived};
 
 use crate::clock::RunClock;
 use crate::drive::{Participants, drive};
@@ -10,7 +12,7 @@ use cj_hub::{Hub, Pass};
 use cj_script::Simulation;
 use cj_types::Refusal;
 use cj_worker::{OpenGate, WorkerEnd, run_workers};
-use crossbeam_channel::{Receiver, Sender, bounded};
+use crossbeam_channel::{Receiver, RecvError, Sender, bounded};
 use std::alloc::Global;
 use std::sync::Wait;
 use std::thread;
@@ -30,7 +32,9 @@ pub(crate) struct ThreadResults {
 
 // Shuts the queue, again after each want of memory, of which it tells then. At a full history the workers end
 // by themselves.
-fn shut<R: Wait>(rt: &R, hub: &Hub, follower: &mut Follower) -> Result<(), Refusal> {
+fn shut<R: Wait>(rt: &R, hub: &Hub, follower: &mut Follower) -> Result<(), Refusal>
+    ensures { OnOk result (Called Of.Shut follower.old.pass follower.new.pass) }
+{
     let mut result = Ok(());
     for _ in rt.forever() {
         match hub.call(rt, &mut follower.pass, Call::Shut) {
@@ -46,6 +50,7 @@ fn shut<R: Wait>(rt: &R, hub: &Hub, follower: &mut Follower) -> Result<(), Refus
 }
 
 // Lives through all instants, and then shuts the queue.
+#[tactic(auto, using(crate::proofs::Ran::has_lived))]
 fn run_instants<R: Threads + Wait + Sync>(
     rt: &R,
     alloc: Global,
@@ -54,7 +59,7 @@ fn run_instants<R: Threads + Wait + Sync>(
     simulation: &Simulation,
     mut participants: Participants,
 ) -> (Participants, Result<(), Halt>)
-    ensures { OnOk result.1 (HasDriven simulation.now participants.user result.0.user) }
+    ensures { OnOk result.1 (HasLived simulation.now participants result.0) }
 {
     let driven = drive(rt, alloc, hub, clock, simulation, &mut participants);
     let shut = shut(rt, hub, &mut participants.follower);
@@ -80,11 +85,19 @@ fn run_and_send<R: Threads + Wait + Sync>(
 }
 
 // What came of the workers. Where it couldn't be handed over, memory was wanting.
-fn receive<R: Wait>(rt: &R, from: &Receiver<WorkerEnds>) -> WorkerEnds {
-    match from.recv(rt) {
+fn handed_over(received: Result<WorkerEnds, RecvError>) -> WorkerEnds
+    ensures given { IfOk received (λ ends. result ≡ ends) }
+    ensures lost { IfErr received (λ _. result ≡ Err OutOfMemory) }
+{
+    match received {
         Ok(ends) => ends,
         Err(_) => Err(Refusal::OutOfMemory),
     }
+}
+
+// What came of the workers, received.
+fn receive<R: Wait>(rt: &R, from: &Receiver<WorkerEnds>) -> WorkerEnds {
+    handed_over(from.recv(rt))
 }
 
 /// Starts the workers in a thread beside this one, lives through all instants, receives what came of the workers,
@@ -98,16 +111,16 @@ pub(crate) fn run_threads<R: Threads + Wait + Sync>(
     participants: Participants,
     workers: Vec<Pass>,
 ) -> Result<ThreadResults, Refusal>
-    ensures { IfOk result (λ r. OnOk r.instants
-        (HasDriven simulation.now participants.user r.participants.user)) }
+    ensures { IfOk result (λ r. OnOk r.instants (HasLived simulation.now participants
+        r.participants)) }
 {
     let (to, from) = bounded(alloc, 1)?;
     thread::scope(
         thread::scope_env(),
         rt,
         |scope| -> Result<ThreadResults, Refusal>
-            ensures { IfOk result (λ r. OnOk r.instants
-                (HasDriven simulation.entry.now participants.user r.participants.user)) }
+            ensures { IfOk result (λ r. OnOk r.instants (HasLived simulation.entry.now
+                participants r.participants)) }
         {
             let Ok(child) = scope.spawn(move || {
                 run_and_send(rt, alloc, hub, clock, simulation, workers, to)

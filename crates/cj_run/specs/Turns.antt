@@ -1,0 +1,126 @@
+-- When calls are made in a run, by its clock. An instant begins with the informer's first Tick at it, and is over with a
+-- runner's listing of the Jobs. Within an instant informer and workers call; between two of them runners and user do.
+use Rattle.std.specs.Prelude.{◌≡◌, ◌<◌, ◌↔◌, ◌==◌, ◌+◌, ◌-◌, ◌*◌, ◌&&◌, nat_le, not, ℕ, zero, suc, Bool, true, false, if◌then◌else◌, List, [], ◌∷◌, ◌++◌, Result, Ok, Err, map}
+use Rattle.cj_base.specs.declared.refusal.Refusal.{Refusal}
+use Rattle.cj_calls.specs.Rows.{Told}
+use Rattle.cj_calls.specs.declared.call.Call.{Call}
+use Rattle.cj_calls.specs.declared.call.Call.TheVariants as Of
+use Rattle.cj_calls.specs.declared.end.End.TheVariants.{Again}
+use Rattle.cj_calls.specs.declared.caller.Role.{Role}
+use Rattle.cj_calls.specs.declared.caller.Role.TheVariants.{Informer, Runner, User, Worker}
+use Rattle.cj_calls.specs.declared.reply.Reply.{Reply}
+use Rattle.cj_script.specs.simulation.Spans.{SpanView, IsInstant, instant}
+use Rattle.cj_script.specs.declared.simulation.scenario.Simulation.{Simulation}
+use Rattle.cj_run.specs.Simulations.{edits_at}
+use Rattle.cj_run.specs.declared.turns.Progress.{Progress}
+
+-- the clock has an instant of that number, and it is that moment, in milliseconds
+abbrev pub is_moment : SpanView → ℕ → ℕ → Bool
+is_moment s n millis = nat_le (instant s n) s.end && (instant s n * 1000 == millis)
+
+-- ---- how far a run is
+
+abbrev pub progress : ℕ → Bool → Progress
+progress begun on = record { begun = begun; on = on }
+
+-- where no instant goes on, the next one begins with a Tick at it
+-- rule: run-clock
+abbrev pub begins : SpanView → Progress → Role → Call → Bool
+begins s p Informer (Of.Tick at) = not p.on && is_moment s p.begun at
+begins s p role call = false
+
+-- one that goes on is over with a runner's listing of the Jobs
+-- rule: run-clock
+abbrev pub ends : Progress → Role → Call → Bool
+ends p Runner Of.ListJobs = p.on
+ends p role call = false
+
+-- how far a run is with the call
+abbrev pub progress_after : SpanView → Progress → Role → Call → Progress
+progress_after s p role call =
+    if begins s p role call then progress (p.begun + 1) true
+    else (if ends p role call then progress p.begun false else p)
+
+-- how far it is with a history
+abbrev pub progress_of : SpanView → List Told → Progress
+progress_of s [] = progress 0 false
+progress_of s (e ∷ h) = progress_after s (progress_of s h) e.caller.role e.call
+
+-- how many instants have begun
+abbrev pub turn : SpanView → List Told → ℕ
+turn s h = (progress_of s h).begun
+
+-- ---- calls at their times
+
+abbrev pub is_refusal : Result Reply Refusal → Bool
+is_refusal (Ok reply) = false
+is_refusal (Err refusal) = true
+
+-- within the instant of that number: informer and workers, by its moment, and the listing
+-- rule: run-clock
+abbrev pub is_within : SpanView → ℕ → Role → Call → Bool
+is_within s n Informer (Of.Tick at) = is_moment s n at
+is_within s n Informer Of.Shut = false
+is_within s n Informer call = true
+is_within s n Worker (Of.Claim plan) = is_moment s n (plan.at * 1000)
+is_within s n Worker (Of.Finish (Again at) reasons) = is_moment s n at
+is_within s n Worker call = true
+is_within s n Runner Of.ListJobs = true
+is_within s n Runner call = false
+is_within s n User call = false
+
+-- before it, where none goes on: the ends of Jobs, by its moment, and the user; its first Tick, or the end of the queue,
+-- and then a worker's Take that is refused
+-- rule: run-clock
+abbrev pub is_before : SpanView → ℕ → Role → Call → Result Reply Refusal → Bool
+is_before s n Informer (Of.Tick at) answer = is_moment s n at
+is_before s n Informer Of.Shut answer = true
+is_before s n Informer call answer = false
+is_before s n Worker Of.Take answer = is_refusal answer
+is_before s n Worker call answer = false
+is_before s n Runner (Of.EndJob key uid outcome at) answer = is_moment s n (at * 1000)
+is_before s n Runner call answer = false
+is_before s n User call answer = true
+
+-- a call is at its time
+-- rule: run-clock
+abbrev pub is_timely : SpanView → Progress → Role → Call → Result Reply Refusal → Bool
+is_timely s p role call answer = if p.on then is_within s (p.begun - 1) role call else is_before s p.begun role call answer
+
+-- so is each entry of a history
+-- rule: run-clock
+abbrev pub are_timely : SpanView → List Told → Bool
+are_timely s [] = true
+are_timely s (e ∷ h) = are_timely s h && is_timely s (progress_of s h) e.caller.role e.call e.answer
+
+-- ---- the user's calls
+
+-- for each call of the caller with that number, the oldest first: how many instants had begun before it
+-- rule: run-edits
+abbrev pub turns_after : ℕ → ℕ → List ℕ → Told → List ℕ
+turns_after number n ns e = if e.caller.number == number then ns ++ n ∷ [] else ns
+
+abbrev pub turns_of : SpanView → ℕ → List Told → List ℕ
+turns_of s number [] = []
+turns_of s number (e ∷ h) = turns_after number (turn s h) (turns_of s number h) e
+
+-- how many should have: none before a creation, and before an edit those before its instant
+-- rule: run-edits
+abbrev pub turns_below : Simulation → ℕ → List ℕ
+turns_below c zero = map (λ _. 0) c.crons.items
+turns_below c (suc n) = turns_below c n ++ map (λ _. n) (edits_at c.edits.items (instant c.span n))
+
+-- ---- all of it
+
+-- the clock has so many instants
+abbrev pub AllInstants : SpanView → ℕ → Type 0
+AllInstants s count = (n : ℕ) → (n < count) ↔ IsInstant s n
+
+-- all instants of the clock begin and are over, one after the other, each call is at its time, and so is each of the
+-- user's
+-- rules: run-clock, run-edits
+pub record KeepsTime (c : Simulation) (user : ℕ) (h : List Told) : Type 0 where
+  pub all : AllInstants c.span (turn c.span h)
+  pub over : (progress_of c.span h).on ≡ false
+  pub timely : are_timely c.span h ≡ true
+  pub turns : turns_of c.span user h ≡ turns_below c (turn c.span h)

@@ -1,0 +1,202 @@
+// When the calls of a run are made, by its clock.
+ghost use Rattle.std.specs.Prelude.{◌≡◌, ◌+◌, ◌<◌, ◌≤◌, ◌^◌, false};
+ghost use Rattle.cj_calls.specs.declared.caller.Role.TheVariants.{Informer, Runner, Worker};
+ghost use Rattle.cj_run.specs.Turns.{begins, ends, is_before, is_moment, is_refusal, is_timely, is_within, progress_after};
+
+use cj_calls::{Answer, Call, End, Role};
+use cj_script::Span;
+use cj_types::Millis;
+
+/// How far a run is.
+#[derive(Clone, Copy, Debug, PartialEq, Eq)]
+pub(crate) struct Progress {
+    /// How many instants have begun.
+    pub begun: u64,
+    /// Whether the last of them goes on.
+    pub on: bool,
+}
+
+// Whether the clock has an instant of that number, and it is that moment.
+fn is_moment(span: &Span, n: u64, at: Millis) -> bool
+    ensures { result ≡ is_moment span.now n at }
+{
+    match span.instant(n) {
+        Some(instant) => Millis::from(instant) == at,
+        None => false,
+    }
+}
+
+fn is_refusal(answer: &Answer) -> bool
+    ensures { result ≡ is_refusal answer.now }
+{
+    match answer {
+        Ok(_) => false,
+        Err(_) => true,
+    }
+}
+
+// Whether an informer's call is within the instant.
+fn informer_is_within(span: &Span, n: u64, call: &Call) -> bool
+    ensures { result ≡ is_within span.now n Informer call.now }
+{
+    match call {
+        Call::Tick(at) => is_moment(span, n, *at),
+        Call::Shut => false,
+        _ => true,
+    }
+}
+
+// Whether a worker's is.
+fn worker_is_within(span: &Span, n: u64, call: &Call) -> bool
+    ensures { result ≡ is_within span.now n Worker call.now }
+{
+    match call {
+        Call::Claim(plan) => is_moment(span, n, Millis::from(plan.get().moment())),
+        Call::Finish(End::Again(at), _) => is_moment(span, n, *at),
+        _ => true,
+    }
+}
+
+// Whether a runner's is.
+fn runner_is_within(span: &Span, n: u64, call: &Call) -> bool
+    ensures { result ≡ is_within span.now n Runner call.now }
+{
+    matches!(call, Call::ListJobs)
+}
+
+// Whether a call is within the instant of that number.
+fn is_within(span: &Span, n: u64, role: Role, call: &Call) -> bool
+    ensures { result ≡ is_within span.now n role call.now }
+{
+    match role {
+        Role::Informer => informer_is_within(span, n, call),
+        Role::Worker => worker_is_within(span, n, call),
+        Role::Runner => runner_is_within(span, n, call),
+        Role::User => false,
+    }
+}
+
+// Whether an informer's call is before the instant.
+fn informer_is_before(span: &Span, n: u64, call: &Call, answer: &Answer) -> bool
+    ensures { result ≡ is_before span.now n Informer call.now answer.now }
+{
+    match call {
+        Call::Tick(at) => is_moment(span, n, *at),
+        Call::Shut => true,
+        _ => false,
+    }
+}
+
+// Whether a worker's is.
+fn worker_is_before(span: &Span, n: u64, call: &Call, answer: &Answer) -> bool
+    ensures { result ≡ is_before span.now n Worker call.now answer.now }
+{
+    match call {
+        Call::Take => is_refusal(answer),
+        _ => false,
+    }
+}
+
+// Whether a runner's is.
+fn runner_is_before(span: &Span, n: u64, call: &Call, answer: &Answer) -> bool
+    ensures { result ≡ is_before span.now n Runner call.now answer.now }
+{
+    match call {
+        Call::EndJob(_, _, _, at) => is_moment(span, n, Millis::from(*at)),
+        _ => false,
+    }
+}
+
+// Whether a call is before the instant of that number, where none goes on.
+fn is_before(span: &Span, n: u64, role: Role, call: &Call, answer: &Answer) -> bool
+    ensures { result ≡ is_before span.now n role call.now answer.now }
+{
+    match role {
+        Role::Informer => informer_is_before(span, n, call, answer),
+        Role::Worker => worker_is_before(span, n, call, answer),
+        Role::Runner => runner_is_before(span, n, call, answer),
+        Role::User => true,
+    }
+}
+
+// Whether a Tick is at an instant that begins with it.
+fn tick_begins(span: &Span, progress: Progress, call: &Call) -> bool
+    ensures { result ≡ begins span.now progress Informer call.now }
+{
+    match call {
+        Call::Tick(at) => !progress.on && is_moment(span, progress.begun, *at),
+        _ => false,
+    }
+}
+
+fn begins(span: &Span, progress: Progress, role: Role, call: &Call) -> bool
+    ensures { result ≡ begins span.now progress role call.now }
+{
+    match role {
+        Role::Informer => tick_begins(span, progress, call),
+        _ => false,
+    }
+}
+
+// Whether a listing is made where an instant goes on, which is over with it.
+fn listing_ends(progress: Progress, call: &Call) -> bool
+    ensures { result ≡ ends progress Runner call.now }
+{
+    match call {
+        Call::ListJobs => progress.on,
+        _ => false,
+    }
+}
+
+fn ends(progress: Progress, role: Role, call: &Call) -> bool
+    ensures { result ≡ ends progress role call.now }
+{
+    match role {
+        Role::Runner => listing_ends(progress, call),
+        _ => false,
+    }
+}
+
+impl Progress {
+    /// No instant has begun.
+    pub(crate) fn new() -> Progress
+        ensures { result ≡ record { begun = 0; on = false } }
+    {
+        Progress {
+            begun: 0,
+            on: false,
+        }
+    }
+
+    /// Whether a call is at its time.
+    pub(crate) fn is_timely(self, span: &Span, role: Role, call: &Call, answer: &Answer) -> bool
+        ensures { result ≡ is_timely span.now self role call.now answer.now }
+    {
+        if self.on {
+            is_within(span, self.begun.saturating_sub(1), role, call)
+        } else {
+            is_before(span, self.begun, role, call, answer)
+        }
+    }
+
+    /// How far the run is with a call more.
+    pub(crate) fn after(self, span: &Span, role: Role, call: &Call) -> Progress
+        requires { self.begun + 1 < 2 ^ 64 }
+        ensures value { result ≡ progress_after span.now self role call.now }
+        ensures short { result.begun ≤ self.begun + 1 }
+    {
+        if begins(span, self, role, call) {
+            return Progress {
+                begun: self.begun + 1,
+                on: true,
+            };
+        }
+        if ends(self, role, call) {
+            return Progress {
+                begun: self.begun,
+                on: false,
+            };
+        }
+        self
+    }
+}
