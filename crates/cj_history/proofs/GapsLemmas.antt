@@ -3,4 +3,5 @@ pub mod Syncing
 pub mod Among
 pub mod Listing
 pub mod Whole
+pub mod Late
 pub mod Sample

@@ -15,3 +15,13 @@ pub mod Closed
 pub mod Spare
 pub mod Whole
 pub mod SyncSample
+pub mod Stretches
+pub mod Makers
+pub mod Restated
+pub mod Others
+pub mod Led
+pub mod Synced
+pub mod Since
+pub mod Near
+pub mod HourSample
+pub mod EverySample

@@ -54,7 +54,7 @@ Once (e ∷ h) = (is_making e ≡ true → (m : Claimed) × (claim_of h e.caller
 abbrev pub NoneRuns : ℕ → List Event → Type 0
 NoneRuns u ws = (q : Place) (j : Job) → current_job ws q ≡ Some j → runs u j ≡ false
 
--- what is made under Forbid or Replace is made where no Job of its CronJob is unfinished
+-- what was claimed under Forbid or Replace is made where no Job of its CronJob is unfinished
 -- rule: looking-back
 abbrev pub Alone : List Told → Type 0
 Alone [] = Unit {0}

@@ -1,3 +1,4 @@
 pub mod Kept
 pub mod Undisturbed
 pub mod Syncs
+pub mod Every

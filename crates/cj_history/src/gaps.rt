@@ -1,6 +1,7 @@
 // The due times of a history that got no Job, each with its cause.
 mod find;
 mod gap;
+mod late;
 mod mark;
 mod marks;
 mod moments;
@@ -8,3 +9,4 @@ mod times;
 
 pub use find::gaps_of;
 pub use gap::{Gap, Why};
+pub use late::late_of;

@@ -5,8 +5,9 @@
 //! Here belongs a second reading of what the crates below define by a state: of what is written (`store`) and queued
 //! (`queue`), and that what is written of a created object reads back (`manifests`). No crate rests on it; `legal_law`
 //! and `answer_law` say that the two readings agree.
-//! What is sure to come stands here too (`progress`): the queue forgets nothing that is due, and a sync that nobody
-//! disturbs makes its Job; and which due times got no Job, and why (`gaps`), for whoever reports of a history.
+//! What is sure to come stands here too (`progress`): the queue forgets nothing that is due, a sync that nobody disturbs
+//! makes its Job, and such syncs, one after the other, just those of the due times; and which due times got no Job, and
+//! why (`gaps`), for whoever reports of a history.
 #![tactic(auto)]
 
 pub mod gaps;
@@ -16,9 +17,9 @@ pub mod progress;
 pub mod queue;
 pub mod store;
 
-pub use gaps::{Gap, Why, gaps_of};
+pub use gaps::{Gap, Why, gaps_of, late_of};
 pub use laws::{answer_law, exclusive_law, legal_law, once_law, time_law};
 pub use manifests::created_laws;
-pub use progress::{no_key_is_lost_law, progress_law};
+pub use progress::{every_time_law, no_key_is_lost_law, progress_law};
 pub use queue::{call_law, queue_law, rest_law};
 pub use store::{event_law, mirror_law, number_law, store_law};

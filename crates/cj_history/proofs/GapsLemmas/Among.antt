@@ -7,14 +7,14 @@ use Rattle.cj_schedule.specs.Matches.{Sets}
 use Rattle.cj_zone.specs.declared.zone.Zone.{Zone}
 use Rattle.cj_due.specs.Due.{due, missed_times, IsQuiet, IsLeastDue}
 use Rattle.cj_due.proofs.MissedLemmas.{missed_times-none, missed_times-split, missed_times-one}
-use Rattle.cj_decide.specs.Decision.{Planned}
 use Rattle.cj_decide.specs.laws.Laws.{IsIn}
 use Rattle.cj_decide.proofs.LawsLemmas.Members.{in_left, in_parts, in_filtered, filtered_in}
 use Rattle.cj_history.specs.declared.gaps.gap.Gap.{Gap}
+use Rattle.cj_history.specs.declared.gaps.gap.Why.{Why}
 use Rattle.cj_history.specs.declared.gaps.mark.Mark.{Mark}
 use Rattle.cj_history.specs.gaps.Marks.{has_job}
 use Rattle.cj_history.specs.gaps.Gaps.{IsLater, Rise}
-use Rattle.cj_history.specs.gaps.Listed.{gap_of, gap_if, gaps_among}
+use Rattle.cj_history.specs.gaps.reading.Listed.{gap_by, gap_if, gaps_with}
 
 -- ---- lists
 
@@ -86,84 +86,84 @@ missed_next s z lo at hi t low least =
 
 -- ---- the gaps among times
 
-module _ (told : Mark → Bool) (cron : CronJob) (p : Planned) where
+module _ (told : Mark → Bool) (cron : CronJob) (why : ℕ → Why) where
   -- The gaps among the times of two lists are those among the one, then those among the other.
   pub among_append : (xs ys : List ℕ)
-      → gaps_among told cron p (xs ++ ys) ≡ gaps_among told cron p xs ++ gaps_among told cron p ys
+      → gaps_with told cron why (xs ++ ys) ≡ gaps_with told cron why xs ++ gaps_with told cron why ys
   among_append [] ys = refl
   among_append (x ∷ xs) ys =
-      ap (λ (l : List Gap). gap_if told cron p x ++ l) (among_append xs ys)
-      ∙ sym (append_assoc (gap_if told cron p x) (gaps_among told cron p xs) (gaps_among told cron p ys))
+      ap (λ (l : List Gap). gap_if told cron why x ++ l) (among_append xs ys)
+      ∙ sym (append_assoc (gap_if told cron why x) (gaps_with told cron why xs) (gaps_with told cron why ys))
 
   -- For note_times: with the next time gone through.
   pub among_next : (s : Sets) (z : Zone) (lo at hi t : ℕ) (first before after : List Gap) → lo ≤ at → IsLeastDue s z at hi t
-      → before ≡ first ++ gaps_among told cron p (missed_times s z lo at)
-      → after ≡ before ++ gap_if told cron p t
-      → after ≡ first ++ gaps_among told cron p (missed_times s z lo t)
+      → before ≡ first ++ gaps_with told cron why (missed_times s z lo at)
+      → after ≡ before ++ gap_if told cron why t
+      → after ≡ first ++ gaps_with told cron why (missed_times s z lo t)
   among_next s z lo at hi t first before after low least was is =
-      let old = gaps_among told cron p (missed_times s z lo at) in
-      let new = gap_if told cron p t in
+      let old = gaps_with told cron why (missed_times s z lo at) in
+      let new = gap_if told cron why t in
       is
       ∙ ap (λ (l : List Gap). l ++ new) was
       ∙ append_assoc first old new
       ∙ ap (λ (l : List Gap). first ++ l) (
       ap (λ (l : List Gap). old ++ l) (sym (append-nil new))
       ∙ sym (among_append (missed_times s z lo at) (t ∷ []))
-      ∙ ap (λ (l : List ℕ). gaps_among told cron p l) (sym (missed_next s z lo at hi t low least))
+      ∙ ap (λ (l : List ℕ). gaps_with told cron why l) (sym (missed_next s z lo at hi t low least))
       )
 
   -- For note_times: where nothing is due any more, all times are gone through.
   pub among_rest : (s : Sets) (z : Zone) (lo at hi end : ℕ) (first gs : List Gap) → lo ≤ at → (lo < at → at ≤ hi)
-      → IsQuiet s z at hi → hi ≡ end → gs ≡ first ++ gaps_among told cron p (missed_times s z lo at)
-      → gs ≡ first ++ gaps_among told cron p (missed_times s z lo end)
+      → IsQuiet s z at hi → hi ≡ end → gs ≡ first ++ gaps_with told cron why (missed_times s z lo at)
+      → gs ≡ first ++ gaps_with told cron why (missed_times s z lo end)
   among_rest s z lo at hi end first gs low high quiet e is =
-      is ∙ ap (λ (l : List ℕ). first ++ gaps_among told cron p l)
+      is ∙ ap (λ (l : List ℕ). first ++ gaps_with told cron why l)
       (missed_rest s z lo at hi low high quiet ∙ ap (λ (x : ℕ). missed_times s z lo x) e)
 
   -- For note_times: before the first turn.
   pub among_none : (s : Sets) (z : Zone) (lo : ℕ) (gs : List Gap)
-      → gs ≡ gs ++ gaps_among told cron p (missed_times s z lo lo)
+      → gs ≡ gs ++ gaps_with told cron why (missed_times s z lo lo)
   among_none s z lo gs =
-      sym (ap (λ (l : List ℕ). gs ++ gaps_among told cron p l)
+      sym (ap (λ (l : List ℕ). gs ++ gaps_with told cron why l)
       (missed_times-none s z lo lo (λ t a b. absurd (omega (arith, a, b)))) ∙ append-nil gs)
 
   -- A gap among the times is that of one of them, which got no Job.
-  pub among_is : (ts : List ℕ) (g : Gap) → IsIn g (gaps_among told cron p ts)
-      → IsIn g.time ts × (has_job told cron.meta.uid g.time ≡ false) × (gap_of told cron p g.time ≡ g)
+  pub among_is : (ts : List ℕ) (g : Gap) → IsIn g (gaps_with told cron why ts)
+      → IsIn g.time ts × (has_job told cron.meta.uid g.time ≡ false) × (gap_by cron why g.time ≡ g)
   among_is [] g h = absurd h
-  among_is (t ∷ ts) g h = by (λ k. among_is ts g k) (in_parts g (gap_if told cron p t) (gaps_among told cron p ts) h)
+  among_is (t ∷ ts) g h = by (λ k. among_is ts g k) (in_parts g (gap_if told cron why t) (gaps_with told cron why ts) h)
     where
-      here : (b : Bool) → has_job told cron.meta.uid t ≡ b → IsIn g (cond b [] (gap_of told cron p t ∷ []))
-          → IsIn g.time (t ∷ ts) × (has_job told cron.meta.uid g.time ≡ false) × (gap_of told cron p g.time ≡ g)
+      here : (b : Bool) → has_job told cron.meta.uid t ≡ b → IsIn g (cond b [] (gap_by cron why t ∷ []))
+          → IsIn g.time (t ∷ ts) × (has_job told cron.meta.uid g.time ≡ false) × (gap_by cron why g.time ≡ g)
       here true e k = absurd k
       here false e (inl same) =
           let at : t ≡ g.time = ap (λ (x : Gap). x.time) same in (
             inl at,
             ap (λ (x : ℕ). has_job told cron.meta.uid x) (sym at) ∙ e,
-            ap (λ (x : ℕ). gap_of told cron p x) (sym at) ∙ same,
+            ap (λ (x : ℕ). gap_by cron why x) (sym at) ∙ same,
           )
       here false e (inr k) = absurd k
 
-      by : (IsIn g (gaps_among told cron p ts)
-          → IsIn g.time ts × (has_job told cron.meta.uid g.time ≡ false) × (gap_of told cron p g.time ≡ g))
-          → IsIn g (gap_if told cron p t) ⊎ IsIn g (gaps_among told cron p ts)
-          → IsIn g.time (t ∷ ts) × (has_job told cron.meta.uid g.time ≡ false) × (gap_of told cron p g.time ≡ g)
+      by : (IsIn g (gaps_with told cron why ts)
+          → IsIn g.time ts × (has_job told cron.meta.uid g.time ≡ false) × (gap_by cron why g.time ≡ g))
+          → IsIn g (gap_if told cron why t) ⊎ IsIn g (gaps_with told cron why ts)
+          → IsIn g.time (t ∷ ts) × (has_job told cron.meta.uid g.time ≡ false) × (gap_by cron why g.time ≡ g)
       by rest (inl k) = here (has_job told cron.meta.uid t) refl k
       by rest (inr k) = let r = rest k in (inr r.0, r.1, r.2)
 
   -- And the gap of each of them that got no Job is among them.
   pub is_among : (ts : List ℕ) (t : ℕ) → IsIn t ts → has_job told cron.meta.uid t ≡ false
-      → IsIn (gap_of told cron p t) (gaps_among told cron p ts)
+      → IsIn (gap_by cron why t) (gaps_with told cron why ts)
   is_among [] t h e = absurd h
   is_among (x ∷ ts) t (inl same) e =
-      in_left (gap_of told cron p t) (gap_if told cron p x) (gaps_among told cron p ts)
+      in_left (gap_by cron why t) (gap_if told cron why x) (gaps_with told cron why ts)
       (here (has_job told cron.meta.uid x) (ap (λ (y : ℕ). has_job told cron.meta.uid y) same ∙ e))
     where
-      here : (b : Bool) → b ≡ false → IsIn (gap_of told cron p t) (cond b [] (gap_of told cron p x ∷ []))
+      here : (b : Bool) → b ≡ false → IsIn (gap_by cron why t) (cond b [] (gap_by cron why x ∷ []))
       here true f = absurd (cc f)
-      here false f = inl (ap (λ (y : ℕ). gap_of told cron p y) same)
+      here false f = inl (ap (λ (y : ℕ). gap_by cron why y) same)
   is_among (x ∷ ts) t (inr h) e =
-      in_right (gap_of told cron p t) (gap_if told cron p x) (gaps_among told cron p ts) (is_among ts t h e)
+      in_right (gap_by cron why t) (gap_if told cron why x) (gaps_with told cron why ts) (is_among ts t h e)
 
 -- ---- rising times
 
@@ -211,14 +211,14 @@ unfolding missed_times
 missed_rises s z lo hi = filter_rises (due s z) (range_with_len (lo + 1) (hi - lo)) (range_rises (lo + 1) (hi - lo))
 
 -- The gaps among times that rise are for times that rise.
-pub among_rises : (told : Mark → Bool) (cron : CronJob) (p : Planned) (ts : List ℕ) → Rising ts
-    → Rise (gaps_among told cron p ts)
-among_rises told cron p [] r = tt
-among_rises told cron p (t ∷ ts) r =
-    rise_append (gap_if told cron p t) (gaps_among told cron p ts) (one (has_job told cron.meta.uid t))
-    (among_rises told cron p ts r.1) later
+pub among_rises : (told : Mark → Bool) (cron : CronJob) (why : ℕ → Why) (ts : List ℕ) → Rising ts
+    → Rise (gaps_with told cron why ts)
+among_rises told cron why [] r = tt
+among_rises told cron why (t ∷ ts) r =
+    rise_append (gap_if told cron why t) (gaps_with told cron why ts) (one (has_job told cron.meta.uid t))
+    (among_rises told cron why ts r.1) later
   where
-    one : (b : Bool) → Rise (cond b [] (gap_of told cron p t ∷ []))
+    one : (b : Bool) → Rise (cond b [] (gap_by cron why t ∷ []))
     one true = tt
     one false = (tt, tt)
 
@@ -226,8 +226,8 @@ among_rises told cron p (t ∷ ts) r =
     at a (inl e) = sym e
     at a (inr i) = absurd i
 
-    later : (a b : Gap) → IsIn a (gap_if told cron p t) → IsIn b (gaps_among told cron p ts) → IsLater a b
+    later : (a b : Gap) → IsIn a (gap_if told cron why t) → IsIn b (gaps_with told cron why ts) → IsLater a b
     later a b i j = λ same.
-        (let e = at a (among_is told cron p (t ∷ []) a (in_left a (gap_if told cron p t) [] i)).0 in
-        let l = r.0 b.time (among_is told cron p ts b j).0 in
+        (let e = at a (among_is told cron why (t ∷ []) a (in_left a (gap_if told cron why t) [] i)).0 in
+        let l = r.0 b.time (among_is told cron why ts b j).0 in
         omega (arith, e, l))

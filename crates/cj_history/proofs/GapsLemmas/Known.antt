@@ -17,7 +17,7 @@ use Rattle.cj_history.specs.declared.gaps.mark.Mark.{Mark}
 use Rattle.cj_history.specs.declared.gaps.marks.Marks.{Marks}
 use Rattle.cj_history.specs.contracts.gaps.mark.DeedOrd.TheImpl as deed
 use Rattle.cj_history.specs.gaps.Marks.{is_deed, is_mark, newer, start_in, claim_mark, making_mark, mark_of, says}
-use Rattle.cj_history.specs.gaps.Known.{mark_cmp, claim_by, has_in, Claims, Tells, Knows}
+use Rattle.cj_history.specs.gaps.reading.Known.{mark_cmp, claim_by, has_in, Claims, Tells, Knows}
 
 -- ---- marks
 

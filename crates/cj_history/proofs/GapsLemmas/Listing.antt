@@ -8,7 +8,7 @@ use Rattle.cj_due.specs.Due.{missed_times}
 use Rattle.cj_decide.specs.Decision.{Planned}
 use Rattle.cj_history.specs.declared.gaps.gap.Gap.{Gap}
 use Rattle.cj_history.specs.declared.gaps.mark.Mark.{Mark}
-use Rattle.cj_history.specs.gaps.Listed.{gaps_among, Adds, GapsFrom, GapsBy}
+use Rattle.cj_history.specs.gaps.reading.Listed.{gaps_among, Adds, GapsFrom, GapsBy}
 
 module _ (told : Mark → Bool) (p : Planned) (gs after : List Gap) where
   -- For note_cron: where the text of the CronJob, as it was read, is a schedule.

@@ -16,12 +16,14 @@ use Rattle.cj_calls.specs.declared.reply.Reply.TheVariants as Say
 use Rattle.cj_calls.specs.Rows.{Told}
 use Rattle.cj_history.specs.declared.gaps.gap.Gap.{Gap}
 use Rattle.cj_history.specs.declared.gaps.gap.Why.{Why}
-use Rattle.cj_history.specs.declared.gaps.gap.Why.TheVariants.{Suspended, TooLate, Forbidden, Earlier}
+use Rattle.cj_history.specs.declared.gaps.gap.Why.TheVariants.{Suspended, TooLate, Forbidden, Earlier, NeverSynced}
 use Rattle.cj_history.specs.declared.gaps.mark.Deed.TheVariants.{Made}
 use Rattle.cj_history.specs.gaps.Marks.{is_told, has_job, claimed_for, claim_mark, making_mark, newer, says}
 use Rattle.cj_history.specs.gaps.Causes.{is_forbidden, is_late}
 use Rattle.cj_history.specs.gaps.Gaps.{IsGap}
+use Rattle.cj_history.specs.gaps.Late.{IsLate}
 use Rattle.cj_history.proofs.GapsLemmas.Whole.{same_nat}
+use Rattle.cj_history.proofs.ProgressLemmas.HourSample.{hourly, utc, due_hour}
 
 abbrev by_worker : Call → Result Reply Refusal → Told
 by_worker call answer = record { caller = record { number = 1; role = Worker }; call = call; answer = answer }
@@ -47,7 +49,7 @@ module _ (cron : CronJob) (p : Planned) (s : Sets) (z : Zone) (t : ℕ) (reads :
   left = by_worker (Of.Claim p) (Ok (Say.Claimed None)) ∷ []
 
   -- The time is a gap of it: under Forbid, where the CronJob isn't suspended and its deadline wasn't over.
-  pub left_is_gap : cron.spec.suspend ≡ false → is_late cron p t ≡ false → is_forbidden p ≡ true
+  left_is_gap : cron.spec.suspend ≡ false → is_late cron p t ≡ false → is_forbidden p ≡ true
       → IsGap left (record { cron = cron; time = t; why = Forbidden })
   left_is_gap runs early forbids = inl (record {
     plan = p;
@@ -106,3 +108,25 @@ module _ (cron : CronJob) (p : Planned) (s : Sets) (z : Zone) (t : ℕ) (reads :
       by (inl a) = no a.jobless
       by (inr (inl a)) = no a.jobless
       by (inr (inr k)) = absurd k
+
+-- One o'clock is such a gap of an hourly CronJob in UTC: its due time computes.
+pub hour_is_gap : (cron : CronJob) (p : Planned) → IsSchedule cron.spec.schedule hourly → p.cron ≡ Some cron → p.zone ≡ Some utc
+    → cron.meta.created < 3_600 → 3_600 ≤ p.at → cron.spec.suspend ≡ false → is_late cron p 3_600 ≡ false
+    → is_forbidden p ≡ true
+    → IsGap (by_worker (Of.Claim p) (Ok (Say.Claimed None)) ∷ []) (record { cron = cron; time = 3_600; why = Forbidden })
+hour_is_gap cron p reads stands known above within runs early forbids =
+    left_is_gap cron p hourly utc 3_600 reads stands known due_hour above within runs early forbids
+
+-- And where no sync looked at it, it is late.
+pub hour_is_late : (cron : CronJob) (upto : ℕ) → IsSchedule cron.spec.schedule hourly → cron.meta.created < 3_600 → 3_600 ≤ upto
+    → IsLate [] cron utc upto (record { cron = cron; time = 3_600; why = NeverSynced })
+hour_is_late cron upto reads above within = record {
+  of = refl;
+  schedule = hourly;
+  reads = reads;
+  is_due = due_hour;
+  above = omega (arith, above);
+  within = within;
+  jobless = refl;
+  why = refl;
+}

@@ -6,7 +6,7 @@ use Rattle.std.specs.BTreeMap as tree
 use Rattle.cj_history.specs.declared.gaps.moments.Moments.{Moments}
 use Rattle.std.proofs.lemmas.Bool.{eqb-true}
 use Rattle.cj_history.proofs.GapsLemmas.Known.{eq_nat}
-use Rattle.cj_history.specs.gaps.Reached.{moment_of, Comes}
+use Rattle.cj_history.specs.gaps.reading.Reached.{moment_of, Comes}
 
 -- For sync: with the later moment put in for a CronJob.
 pub sync_comes : (u at v : ℕ) (a b : Moments) → tree.Updates nat_cmp a.moments b.moments u (Some v)

@@ -20,14 +20,14 @@ use Rattle.cj_history.specs.gaps.Marks.{has_job, is_told}
 use Rattle.cj_history.specs.gaps.Syncs.{plan_in, moment_by, moment_in, synced, seen_by, seen_upto}
 use Rattle.cj_history.specs.gaps.Causes.{cause}
 use Rattle.cj_history.specs.gaps.Gaps.{IsDueIn, IsGapAt, IsGapIn, IsGap, Rise}
-use Rattle.cj_history.specs.gaps.Goes.{Goes}
-use Rattle.cj_history.specs.gaps.Known.{has, Knows}
-use Rattle.cj_history.specs.gaps.Listed.{gap_of, gaps_among, Adds, GapsFrom, GapsBy, GapsOf, AreGaps}
-use Rattle.cj_history.specs.gaps.Reached.{moment_of, ComesBy}
+use Rattle.cj_history.specs.gaps.reading.Goes.{Goes}
+use Rattle.cj_history.specs.gaps.reading.Known.{has, Knows}
+use Rattle.cj_history.specs.gaps.reading.Listed.{gap_of, gaps_among, Adds, GapsFrom, GapsBy, GapsOf, AreGaps}
+use Rattle.cj_history.specs.gaps.reading.Reached.{moment_of, ComesBy}
 use Rattle.cj_history.proofs.GapsLemmas.Among.{in_right, in_missed, missed_in, among_is, is_among, among_rises, missed_rises, rise_append}
 
 -- A text is a schedule with one value of Sets at most.
-one_schedule : (text : List ℕ) (s t : Sets) → IsSchedule text s → IsSchedule text t → s ≡ t
+pub one_schedule : (text : List ℕ) (s t : Sets) → IsSchedule text s → IsSchedule text t → s ≡ t
 one_schedule text s t h k =
     let same = only_by text (Ok s) t (h.lists, lists_complete text h.lists h.short h.fields, h.sets) k in
     cc
@@ -130,7 +130,7 @@ module _ (told : Mark → Bool) where
           → gs ≡ gaps_among told c p (missed_times s z (seen_upto h c) p.at) → AreHere h e gs
       read_here s reads are = record {
         is = λ g i. (
-            let r = among_is told c p (missed_times s z (seen_upto h c) p.at) g (subst (IsIn g) are i) in
+            let r = among_is told c (cause told c p) (missed_times s z (seen_upto h c) p.at) g (subst (IsIn g) are i) in
             let q = in_missed s z (seen_upto h c) p.at g.time r.0 in
             let cron : c ≡ g.cron = ap (λ (x : Gap). x.cron) r.2 in
             let is_due : IsDueIn h c p g.time = record {
@@ -170,9 +170,9 @@ module _ (told : Mark → Bool) where
             λ i. record { cron = cron i; time = g.time; why = why i } in
             subst (IsIn g) (sym are)
             (subst (λ (x : Gap). IsIn x (gaps_among told c p (missed_times s z (seen_upto h c) p.at))) one
-            (is_among told c p (missed_times s z (seen_upto h c) p.at) g.time
+            (is_among told c (cause told c p) (missed_times s z (seen_upto h c) p.at) g.time
             (missed_in s z (seen_upto h c) p.at g.time above within is_due) jobless)));
-        rise = subst Rise (sym are) (among_rises told c p (missed_times s z (seen_upto h c) p.at)
+        rise = subst Rise (sym are) (among_rises told c (cause told c p) (missed_times s z (seen_upto h c) p.at)
             (missed_rises s z (seen_upto h c) p.at));
       }
 

@@ -50,7 +50,7 @@ record Alike (k : Place) (q : Option Place) (vs ws : List Event) : Type 0 where
   more : made vs ≤ made ws
 
 -- A write of another CronJob leaves the one at the key.
-cron_aside : (w : Event) (k : Place) (q : Option Place) (was : Option CronJob) → is_of k q (object_of w) ≡ false
+pub cron_aside : (w : Event) (k : Place) (q : Option Place) (was : Option CronJob) → is_of k q (object_of w) ≡ false
     → cron_left w k was ≡ was
 cron_aside (Added (Kind.Cron c)) k q was e = ap (λ b. cond b (Some c) was) e
 cron_aside (Modified (Kind.Cron c)) k q was e = ap (λ b. cond b (Some c) was) e
@@ -104,7 +104,7 @@ caller_is w c n r = ap (λ (x : Role). record { number = c.number; role = x }) r
     ∙ ap (λ (x : ℕ). record { number = x; role = Worker }) (sym (eqb-true w c.number n))
 
 -- What others call leaves the worker's seat: those of another number, and those of its number and another role.
-seat_aside : (window w : ℕ) (k : Place) (q : Option Place) (es h : List Told) → IsLegal window (es ++ h)
+pub seat_aside : (window w : ℕ) (k : Place) (q : Option Place) (es h : List Told) → IsLegal window (es ++ h)
     → AreAside w k q es h → seat (es ++ h) w ≡ seat h w
 seat_aside window w k q [] h l a = refl
 seat_aside window w k q (e ∷ es) h l a = left (w == e.caller.number) refl ∙ seat_aside window w k q es h l.2 a.2

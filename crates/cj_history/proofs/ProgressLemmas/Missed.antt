@@ -1,5 +1,5 @@
 -- A plan claims the latest time missed, where its CronJob isn't suspended, its zone is known and its policy lets it.
-use Rattle.std.proofs.Common.{◌≡◌, inl, inr, ℕ, ◌-◌, ◌≤◌, Bool, true, false, List, [], ◌∷◌, ◌++◌, length, length-append, Option, Some, option_map, Ok, refl, ap, subst, ◌∙◌, arith}
+use Rattle.std.proofs.Common.{◌≡◌, inl, inr, ℕ, ◌-◌, ◌<◌, ◌≤◌, Bool, true, false, List, [], ◌∷◌, ◌++◌, length, length-append, Option, Some, option_map, Ok, refl, ap, subst, ◌∙◌, arith}
 use Rattle.std.proofs.lemmas.Bool.{cases_order}
 use Rattle.cj_types.specs.declared.cron.CronJob.{CronJob}
 use Rattle.cj_types.specs.declared.job.Job.{Job}
@@ -34,11 +34,11 @@ one_schedule text s t h k =
     cc
 
 -- No test is both false and true.
-clash : (b : Bool) → b ≡ false → b ≡ true → ⊥
+pub clash : (b : Bool) → b ≡ false → b ≡ true → ⊥
 clash b f t = absurd (cc)
 
 -- There is one latest due time at most in a window.
-one_latest : (s : Sets) (z : Zone) (lo hi t u : ℕ) → IsLatestDue s z lo hi t → IsLatestDue s z lo hi u → t ≡ u
+pub one_latest : (s : Sets) (z : Zone) (lo hi t u : ℕ) → IsLatestDue s z lo hi t → IsLatestDue s z lo hi u → t ≡ u
 one_latest s z lo hi t u h k =
     elim (cases_order t u) [
       | inl same ↦ same
@@ -47,22 +47,24 @@ one_latest s z lo hi t u h k =
     ]
 
 -- Where a time is due in a window, a time is missed in it.
-pub some_missed : (s : Sets) (z : Zone) (lo hi t : ℕ) → IsLatestDue s z lo hi t → 1 ≤ missed_count s z lo hi
-some_missed s z lo hi t h =
-    let above = h.above in
-    let within = h.within in
+pub due_counts : (s : Sets) (z : Zone) (lo hi t : ℕ) → lo < t → t ≤ hi → due s z t ≡ true → 1 ≤ missed_count s z lo hi
+due_counts s z lo hi t above within is_due =
     let a = missed_times-split s z lo (t - 1) hi (omega (arith, above)) (omega (arith, within)) in
     let b = missed_times-split s z (t - 1) t hi (omega arith) within in
     let c = missed_times-one s z (t - 1) t t (record {
       above = omega (arith, above);
       within = omega arith;
-      is_due = h.is_due;
+      is_due = is_due;
       least = λ k x y. absurd (omega (arith, x, y));
     }) in
     let e = ap (λ (l : List ℕ). length l)
     (a ∙ ap (λ (l : List ℕ). missed_times s z lo (t - 1) ++ l) (b ∙ ap (λ (l : List ℕ). l ++ missed_times s z t hi) c)) in
     let f = length-append (missed_times s z lo (t - 1)) (t ∷ missed_times s z t hi) in
     omega (arith, e, f)
+
+-- Where the latest is due in it, one is.
+pub some_missed : (s : Sets) (z : Zone) (lo hi t : ℕ) → IsLatestDue s z lo hi t → 1 ≤ missed_count s z lo hi
+some_missed s z lo hi t h = due_counts s z lo hi t h.above h.within h.is_due
 
 -- ---- the claim
 

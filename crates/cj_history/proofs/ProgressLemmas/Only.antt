@@ -26,7 +26,7 @@ use Rattle.cj_world_laws.proofs.LegalLemmas.Seated.{seats_agree}
 use Rattle.cj_world_laws.proofs.OnceLemmas.Whole.{both}
 use Rattle.cj_history.specs.store.Writes.{writes}
 use Rattle.cj_history.specs.progress.Undisturbed.{worker, entry, AreAside, Leads}
-use Rattle.cj_history.specs.progress.Syncs.{calls_left, works_off, is_for, IsOnly, PlansMakeOne}
+use Rattle.cj_history.specs.progress.Syncs.{calls_left, works_off, is_for, IsFor, IsOpen, IsOnly, PlansMakeOne}
 use Rattle.cj_history.proofs.StoreLemmas.Stores.{store_agrees}
 use Rattle.cj_history.proofs.StoreLemmas.Answered.{cron_keyed}
 use Rattle.cj_history.proofs.ProgressLemmas.Missed.{claims_due}
@@ -129,7 +129,7 @@ module _ (m : Claimed) where
 -- ---- the claim of the worker
 
 -- What others call aside leaves the worker's claim.
-claim_aside : (window w : ℕ) (k : Place) (q : Option Place) (es h : List Told) → IsLegal window (es ++ h)
+pub claim_aside : (window w : ℕ) (k : Place) (q : Option Place) (es h : List Told) → IsLegal window (es ++ h)
     → AreAside w k q es h → claim_of window (es ++ h) w ≡ claim_of window h w
 claim_aside window w k q [] h l a = refl
 claim_aside window w k q (e ∷ es) h l a = left (w == e.caller.number) refl ∙ claim_aside window w k q es h l.2 a.2
@@ -142,19 +142,19 @@ claim_aside window w k q (e ∷ es) h l a = left (w == e.caller.number) refl ∙
     left false n = refl
 
 -- A choice of the same is that.
-either : (b : Bool) (o : Option Claimed) → cond b o o ≡ o
+pub either : (b : Bool) (o : Option Claimed) → cond b o o ≡ o
 either true o = refl
 either false o = refl
 
 -- one of the steps makes a Job
-abbrev Makes : List Step → Type 0
+abbrev pub Makes : List Step → Type 0
 Makes [] = ⊥
 Makes (drops r ∷ xs) = Makes xs
 Makes (makes_job d ∷ xs) = Unit {0}
 Makes (sets f ∷ xs) = Makes xs
 
 -- One after some drops does.
-makes_after : (rs : List JobRef) (d : JobDraft) (xs : List Step) → Makes (map_list drops rs ++ (makes_job d ∷ xs))
+pub makes_after : (rs : List JobRef) (d : JobDraft) (xs : List Step) → Makes (map_list drops rs ++ (makes_job d ∷ xs))
 makes_after [] d xs = tt
 makes_after (r ∷ rs) d xs = makes_after rs d xs
 
@@ -223,6 +223,31 @@ module _ (window w : ℕ) (k : Place) (q : Option Place) (m : Claimed) (P : List
 
 -- ---- the sync
 
+-- After the claim of its plan the worker's claim is of the latest time missed by its CronJob.
+pub claim_made : (window w : ℕ) (k : Place) (cron : CronJob) (h : List Told) → IsLegal window h
+    → IsRead w k cron (state_of window h) → (p : Planned) (time : ℕ) → IsFor h w k p → IsOpen cron p time
+    → (q : Option Place) (es : List Told) → IsLegal window (es ++ h) → AreAside w k q es h
+    → claim_of window (entry window (es ++ h) w (Of.Claim p) ∷ (es ++ h)) w
+    ≡ Some (record { owner = cron.meta.uid; time = time; policy = cron.spec.policy })
+claim_made window w k cron h l r p time f o q es n a =
+    let seat : seat_of (state_of window h) w ≡ Some (sat k (Checked p.cron p.jobs p.active)) =
+    seats_agree window h l w ∙ f.rests in
+    let seen : p.cron ≡ Some cron = sym (ap seen_in (sym r.seat ∙ seat)) in
+    let plan = plan_of p cron f.decided seen in
+    let claim = claims_due cron p.jobs p.active p.at p.zone p.steps o.zone time plan o.runs o.known o.latest o.allowed in
+    let key = cron_keyed (writes h) k cron (sym ((store_agrees window h l).crons k) ∙ r.stands) in
+    let t : State = state_of window (es ++ h) in
+    let same : Same w k q (state_of window h) t = same_aside window w k q es h n a in
+    let is = claim_is t w k p p.cron p.jobs p.active cron (claim_for cron time) (same.seat ∙ seat)
+    ((rests_exactly p p.cron p.jobs p.active).1 (refl, refl, refl)) claim seen (same.cron ∙ r.stands) in
+    let was : Option Claimed = claim_of window (es ++ h) w in
+    ap (λ (b : Bool). cond b (claim_after t.store (Of.Claim p) (answer_of window (es ++ h) (worker w) (Of.Claim p)) was) was)
+    (same_nat w)
+    ∙ ap (λ (x : Handled). claim_after t.store (Of.Claim p) x.answer was) is
+    ∙ ap (λ (c : Option CronJob). claimed_of t.store time c) seen
+    ∙ ap (λ (c : Option CronJob). claimed_under cron.meta.uid time c)
+    (ap (λ (x : Place). map.get t.store.crons x) key ∙ same.cron ∙ r.stands)
+
 -- For makes_job: the Job that the plans make is the only one for its CronJob and its time.
 pub plans_make_one : (window w : ℕ) (k : Place) (cron : CronJob) (h : List Told) → IsLegal window h
     → IsRead w k cron (state_of window h) → PlansMakeOne window w k cron h
@@ -234,23 +259,11 @@ plans_make_one window w k cron h l r p time f o free =
     let seen : p.cron ≡ Some cron = sym (ap seen_in (sym r.seat ∙ seat)) in
     let plan = plan_of p cron f.decided seen in
     let claim = claims_due cron p.jobs p.active p.at p.zone p.steps o.zone time plan o.runs o.known o.latest o.allowed in
-    let key = cron_keyed (writes h) k cron (sym ((store_agrees window h l).crons k) ∙ r.stands) in
     let start : Starting p cron (claim_for cron time) = starting p cron (claim_for cron time) f.decided seen claim in
     let later : List Step = map_list drops p.steps.cleanup ++ settings p.steps.status in
     let all : all_steps p.steps ≡ map_list drops p.steps.drop_first ++ (makes_job _ ∷ later) =
     ap (λ (d : Option JobDraft). map_list drops p.steps.drop_first ++ (makings d ++ later)) start.make in
     leads_only window w k q m _ p h
     (subst Makes (sym all) (makes_after p.steps.drop_first _ later))
-    (λ es n a.
-    (let t : State = state_of window (es ++ h) in
-    let same : Same w k q (state_of window h) t = same_aside window w k q es h n a in
-    let is = claim_is t w k p p.cron p.jobs p.active cron (claim_for cron time) (same.seat ∙ seat)
-    ((rests_exactly p p.cron p.jobs p.active).1 (refl, refl, refl)) claim seen (same.cron ∙ r.stands) in
-    let was : Option Claimed = claim_of window (es ++ h) w in
-    ap (λ (b : Bool). cond b (claim_after t.store (Of.Claim p) (answer_of window (es ++ h) (worker w) (Of.Claim p)) was) was)
-    (same_nat w)
-    ∙ ap (λ (x : Handled). claim_after t.store (Of.Claim p) x.answer was) is
-    ∙ ap (λ (c : Option CronJob). claimed_of t.store time c) seen
-    ∙ ap (λ (c : Option CronJob). claimed_under cron.meta.uid time c)
-    (ap (λ (x : Place). map.get t.store.crons x) key ∙ same.cron ∙ r.stands)))
+    (claim_made window w k cron h l r p time f o q)
     (plans_make_job window w k cron h l r p time f o free)

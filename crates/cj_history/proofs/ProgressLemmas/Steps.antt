@@ -52,7 +52,7 @@ longer done x = let e = length-append done (x ∷ []) in omega (arith, e)
 -- holds in the end.
 module _ (w : ℕ) (k : Place) (q : Option Place) (p : Planned) (v : ℕ) (reasons : List Reason) (Q : State → Type 0) where
   -- The next step is the first of those that are left.
-  step_is : (s : State) (done : List Step) (x : Step) (rest : List Step) → Going w k p v s done (x ∷ rest)
+  pub step_is : (s : State) (done : List Step) (x : Step) (rest : List Step) → Going w k p v s done (x ∷ rest)
       → step_at p.steps (length done) ≡ Some x
   unfolding step_at
   step_is s done x rest g = ap (λ (l : List Step). slice_get l (length done)) g.all ∙ at_end done x rest
@@ -63,7 +63,7 @@ module _ (w : ℕ) (k : Place) (q : Option Place) (p : Planned) (v : ℕ) (reaso
   step_none s done g = ap (λ (l : List Step). slice_get l (length done)) g.all ∙ past_end done
 
   -- After the next step the rest is left.
-  going_on : (s t : State) (done : List Step) (x : Step) (rest : List Step) → Going w k p v s done (x ∷ rest)
+  pub going_on : (s t : State) (done : List Step) (x : Step) (rest : List Step) → Going w k p v s done (x ∷ rest)
       → seat_of t w ≡ Some (next_seat k (work_at p v done)) → Going w k p v t (done ++ x ∷ []) rest
   going_on s t done x rest g e = record {
     seat = e ∙ ap (λ n. Some (sat k (works p v n))) (longer done x);

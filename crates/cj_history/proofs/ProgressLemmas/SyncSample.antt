@@ -46,7 +46,7 @@ use Rattle.cj_history.proofs.ProgressLemmas.Whole.{makes_job}
 -- d is the draft of the CronJob.
 module _ (d : CronJobDraft) where
   -- the history in which a CronJob is created and its key added
-  abbrev ready : List Told
+  abbrev pub ready : List Told
   ready = told 2 Informer (Of.Add a) (Ok Say.Done) ∷ created d
 
   -- It is legal.

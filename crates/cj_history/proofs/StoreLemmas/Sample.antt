@@ -32,7 +32,7 @@ user = record { number = 1; role = User }
 -- d is a draft, whose labels, annotations and spec the created CronJobs have.
 module _ (d : CronJobDraft) where
   -- the draft, with the key a, no uid and no version
-  abbrev named : CronJobDraft
+  abbrev pub named : CronJobDraft
   named = record d {
     key = a;
     meta = record {

@@ -1,6 +1,6 @@
 -- A sync that nobody disturbs, from a worker's Take of a key to its Finish: Kubernetes CronJob documentation, "Job
 -- creation" and "CronJob limitations"; the calls on the queue are those of client-go's package workqueue (Get, Done).
-use Rattle.std.specs.Prelude.{◌≡◌, ◌≢◌, ℕ, ◌≤◌, ◌==◌, ◌&&◌, Bool, true, false, List, [], ◌∷◌, ◌++◌, length, filter, Option, Some, None, Err}
+use Rattle.std.specs.Prelude.{◌≡◌, ◌≢◌, ℕ, ◌≤◌, ◌==◌, ◌&&◌, Bool, true, false, List, [], ◌∷◌, ◌++◌, length, filter, map as map_list, Option, Some, None, Err}
 use Rattle.std.specs.FinMap as map
 use Rattle.cj_base.specs.declared.refusal.Refusal.TheVariants.{AlreadyExists}
 use Rattle.cj_types.specs.Keys.{Place}
@@ -148,20 +148,34 @@ abbrev pub IsRefused : ℕ → ℕ → Place → Option Place → List Told → 
 IsRefused window w k q h = (es : List Told) → IsLegal window (es ++ h) → AreAside w k q es h
     → answer_of window (es ++ h) (worker w) Of.MakeNext ≡ Err AlreadyExists
 
--- the time is lost where its Job's name is taken, and nothing is dropped first: the claim is accepted, and the making
--- refused
+-- the claim of a plan, and its drops before the making
+abbrev pub claims_and_drops : Planned → List Call
+claims_and_drops p = Of.Claim p ∷ map_list (λ r. Of.DropNext) p.steps.drop_first
+
+-- the time is lost where its Job's name is taken, by a Job that isn't dropped first: the claim and the drops before the
+-- making are accepted, and the making is refused
 -- rule: sync-makes-job
 abbrev pub PlansFindTaken : ℕ → ℕ → Place → CronJob → List Told → Type 0
 PlansFindTaken window w k cron h = (p : Planned) (time : ℕ) (job : Job) → IsFor h w k p → IsOpen cron p time
-    → p.steps.drop_first ≡ [] → map.get (state_of window h).store.jobs (made_place cron.key time) ≡ Some job
-    → Leads window w k (Some (made_place cron.key time)) h (Of.Claim p ∷ [])
+    → ((r : JobRef) → IsIn r p.steps.drop_first → r.key ≡ made_place cron.key time → r.uid ≡ job.meta.uid → ⊥)
+    → map.get (state_of window h).store.jobs (made_place cron.key time) ≡ Some job
+    → Leads window w k (Some (made_place cron.key time)) h (claims_and_drops p)
     (IsRefused window w k (Some (made_place cron.key time)))
 
--- a plan that claims nothing makes no Job, is worked off, and what it cleans up is gone
+-- the CronJob stands, with the last time that was scheduled for it before
+-- rule: sync-makes-job
+pub record IsUnclaimed (s : Content) (k : Place) (cron : CronJob) : Type 0 where
+  pub now : CronJob
+  pub stands : map.get s.crons k ≡ Some now
+  pub uid : now.meta.uid ≡ cron.meta.uid
+  pub last : now.status.last_schedule_time ≡ cron.status.last_schedule_time
+
+-- a plan that claims nothing makes no Job, is worked off, leaves the last time, and what it cleans up is gone
 -- rule: sync-makes-job
 abbrev pub PlansRest : ℕ → ℕ → Place → CronJob → List Told → Type 0
 PlansRest window w k cron h = (p : Planned) → IsFor h w k p → p.steps.claim ≡ None
-    → (p.steps.make ≡ None) × Leads window w k None h (works_off p) (λ g. IsTidied p.steps.cleanup (state_of window g).store)
+    → (p.steps.make ≡ None) × Leads window w k None h (works_off p)
+    (λ g. IsUnclaimed (state_of window g).store k cron × IsTidied p.steps.cleanup (state_of window g).store)
 
 -- why a plan starts no Job: the CronJob is suspended; its zone isn't known; no time was missed; or one was, but the
 -- policy is Forbid and the live read found an unfinished Job

@@ -10,10 +10,10 @@ ghost use Rattle.cj_decide.specs.laws.Laws.{IsIn};
 ghost use Rattle.cj_history.specs.declared.gaps.gap.Gap.{Gap};
 ghost use Rattle.cj_history.specs.gaps.Causes.{is_forbidden, is_late, why_left, cause};
 ghost use Rattle.cj_history.specs.gaps.Gaps.{IsGap, Rise};
-ghost use Rattle.cj_history.specs.gaps.Goes.{Goes};
-ghost use Rattle.cj_history.specs.gaps.Known.{has};
-ghost use Rattle.cj_history.specs.gaps.Listed.{gap_if, gaps_among, Adds, GapsFrom, GapsBy, GapsOf};
-ghost use Rattle.cj_history.specs.gaps.Reached.{moment_of};
+ghost use Rattle.cj_history.specs.gaps.reading.Goes.{Goes};
+ghost use Rattle.cj_history.specs.gaps.reading.Known.{has};
+ghost use Rattle.cj_history.specs.gaps.reading.Listed.{gap_if, gaps_among, Adds, GapsFrom, GapsBy, GapsOf};
+ghost use Rattle.cj_history.specs.gaps.reading.Reached.{moment_of};
 ghost use Rattle.cj_history.specs.gaps.Syncs.{plan_in, seen_by};
 
 use crate::gaps::gap::{Gap, Why};
@@ -61,7 +61,7 @@ fn why_left(cron: &CronJob, plan: &Plan, time: Seconds) -> Why
     }
 }
 
-fn mark_of(cron: &CronJob, time: Seconds, deed: Deed) -> Mark
+pub(crate) fn mark_of(cron: &CronJob, time: Seconds, deed: Deed) -> Mark
     ensures { result ≡ record { uid = cron.now.meta.uid; time = time; deed = deed } }
 {
     Mark {
@@ -94,7 +94,8 @@ fn note_time(
     gaps: &mut Vec<Gap>,
 ) -> Result<(), Refusal>
     ensures ok { OnOk result (gaps.new.items
-        ≡ gaps.old.items ++ gap_if (has marks.now) cron.now plan.now time) }
+        ≡ gaps.old.items ++ gap_if (has marks.now) cron.now
+        (cause (has marks.now) cron.now plan.now) time) }
     ensures err { IfErr result (λ e. e ≡ OutOfMemory) }
 {
     if marks.has(mark_of(cron.get(), time, Deed::Made)) {
@@ -132,7 +133,7 @@ fn note_times(
 }
 
 // The schedule of a CronJob, if its text is one.
-fn schedule_of(cron: &CronJob) -> Option<Schedule>
+pub(crate) fn schedule_of(cron: &CronJob) -> Option<Schedule>
     ensures found { (s : Sets) → result ≡ Some s → IsSchedule cron.now.spec.schedule s }
     ensures only { (s : Sets) → IsSchedule cron.now.spec.schedule s → result ≡ Some s }
 {
@@ -181,7 +182,7 @@ fn note_plan(
 }
 
 // The plan of an accepted claim.
-fn plan_in<'a>(call: &'a Call, answer: &Answer) -> Option<&'a Plan>
+pub(crate) fn plan_in<'a>(call: &'a Call, answer: &Answer) -> Option<&'a Plan>
     ensures { option_copied result ≡ plan_in call.now answer.now }
 {
     match (call, answer) {
@@ -215,7 +216,7 @@ fn note_entry(
 /// first; the gaps come in the order of those syncs, and of each CronJob in the order of time.
 ///
 /// A sync counts once its claim was accepted, also where it claimed nothing, and where its zone was known. Times after
-/// the last one aren't looked at. Takes memory in proportion to the claims and the gaps.
+/// the last one aren't looked at; `late_of` tells those. Takes memory in proportion to the claims and the gaps.
 ///
 /// # Errors
 ///

@@ -15,12 +15,14 @@ pub enum Why {
     NameTaken,
     /// It was claimed, and its worker made no Job.
     NotMade,
+    /// No sync looked at it yet.
+    NeverSynced,
 }
 
 /// A due time of a CronJob that got no Job.
 #[derive(Drop)]
 pub struct Gap {
-    /// The CronJob, as the first sync that looked at the time saw it.
+    /// The CronJob, as the first sync that looked at the time saw it, or as it stands where none did.
     pub cron: Shared<CronJob>,
     /// The due time.
     pub time: Seconds,

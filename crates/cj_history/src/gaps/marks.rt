@@ -4,7 +4,7 @@ ghost use mathlib.Core.List.{reverse};
 ghost use Rattle.cj_base.specs.declared.refusal.Refusal.TheVariants.{OutOfMemory};
 ghost use Rattle.cj_calls.specs.Rows.{Told};
 ghost use Rattle.cj_history.specs.gaps.Marks as said;
-ghost use Rattle.cj_history.specs.gaps.Known as known;
+ghost use Rattle.cj_history.specs.gaps.reading.Known as known;
 
 use crate::gaps::mark::{Deed, Mark, Start};
 use cj_calls::{Answer, Call, Entry, Reply};

@@ -1,9 +1,13 @@
 // How far the syncs of each CronJob came, read once from the oldest entry on.
-ghost use Rattle.std.specs.Prelude.{◌≡◌, [], max, unwrap_or, IfErr, OnOk, option_copied};
+ghost use Rattle.std.specs.Prelude.{◌≡◌, List, [], ◌∷◌, max, unwrap_or, IfOk, IfErr, OnOk, option_copied};
+ghost use mathlib.Core.List.{reverse};
 ghost use Rattle.cj_base.specs.declared.refusal.Refusal.TheVariants.{OutOfMemory};
-ghost use Rattle.cj_history.specs.gaps.Reached as known;
+ghost use Rattle.cj_calls.specs.Rows.{Told};
+ghost use Rattle.cj_history.specs.gaps.reading.Reached as known;
 ghost use Rattle.cj_history.specs.gaps.Syncs.{seen_by};
 
+use crate::gaps::find::plan_in;
+use cj_calls::Entry;
 use cj_decide::Plan;
 use cj_types::{CronJob, Refusal, Seconds, Uid};
 use std::alloc::Global;
@@ -67,5 +71,29 @@ impl Moments {
             (Some(cron), Some(_)) => self.sync(cron.get().meta.uid, plan.moment()),
             _ => Ok(()),
         }
+    }
+
+    // An entry more, which follows those that were read.
+    fn note_entry(&mut self, entry: &Entry) -> Result<(), Refusal>
+        ensures ok { OnOk result ((h : List Told) → known.Knows self.old h →
+            known.Knows self.new (entry.now ∷ h)) }
+        ensures err { IfErr result (λ e. e ≡ OutOfMemory) }
+    {
+        match plan_in(entry.call(), entry.answer()) {
+            Some(plan) => self.note(plan),
+            None => Ok(()),
+        }
+    }
+
+    /// The syncs of the entries, of which the oldest is the first.
+    pub(crate) fn read(alloc: Global, entries: &[Entry]) -> Result<Moments, Refusal>
+        ensures ok { IfOk result (λ t. known.Knows t (reverse entries.now)) }
+        ensures err { IfErr result (λ e. e ≡ OutOfMemory) }
+    {
+        let mut moments = Moments::new(alloc);
+        for entry in entries {
+            moments.note_entry(entry)?;
+        }
+        Ok(moments)
     }
 }

@@ -1,8 +1,8 @@
 -- gaps_of, its loop over the entries: the syncs of those gone through are known, and their gaps listed.
 use Rattle.std.proofs.Common.{take}
 use mathlib.Core.List.{reverse}
-use Rattle.cj_history.specs.gaps.Goes.{Goes}
-use Rattle.cj_history.specs.gaps.Known.{has}
+use Rattle.cj_history.specs.gaps.reading.Goes.{Goes}
+use Rattle.cj_history.specs.gaps.reading.Known.{has}
 use Rattle.cj_history.proofs.gaps.find.gaps_of.Given as goal
 
 abbrev pub invariant-loop-entry : goal.invariant-loop-entry

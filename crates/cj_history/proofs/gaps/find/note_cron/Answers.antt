@@ -1,7 +1,7 @@
 -- note_cron: its clause ok, where the CronJob's text is a schedule and where it isn't.
 use Rattle.std.proofs.Common.{refl}
 use Rattle.std.proofs.lemmas.Result.{on_ok_weaker}
-use Rattle.cj_history.specs.gaps.Known.{has}
+use Rattle.cj_history.specs.gaps.reading.Known.{has}
 use Rattle.cj_history.proofs.GapsLemmas.Listing.{adds_read, adds_none}
 use Rattle.cj_history.proofs.gaps.find.note_cron.Goals as goal
 

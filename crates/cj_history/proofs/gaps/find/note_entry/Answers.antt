@@ -4,7 +4,7 @@ use Rattle.std.proofs.lemmas.Result.{on_ok_weaker}
 use Rattle.cj_base.specs.declared.refusal.Refusal.{Refusal}
 use Rattle.cj_calls.specs.declared.call.Call.{Call}
 use Rattle.cj_calls.specs.declared.reply.Reply.{Reply}
-use Rattle.cj_history.specs.gaps.Known.{has}
+use Rattle.cj_history.specs.gaps.reading.Known.{has}
 use Rattle.cj_history.specs.gaps.Syncs.{plan_in}
 use Rattle.cj_history.proofs.GapsLemmas.Whole.{goes_with}
 use Rattle.cj_history.proofs.gaps.find.note_entry.Goals as goal

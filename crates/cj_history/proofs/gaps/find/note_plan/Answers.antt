@@ -1,8 +1,8 @@
 -- note_plan: its clause ok, where the CronJob and the zone of the plan are known.
 use Rattle.std.proofs.Common.{◌∙◌, sym}
 use Rattle.std.proofs.lemmas.Result.{on_ok_weaker}
-use Rattle.cj_history.specs.gaps.Known.{has}
-use Rattle.cj_history.specs.gaps.Reached.{moment_of}
+use Rattle.cj_history.specs.gaps.reading.Known.{has}
+use Rattle.cj_history.specs.gaps.reading.Reached.{moment_of}
 use Rattle.cj_history.specs.gaps.Syncs.{seen_by}
 use Rattle.cj_history.proofs.GapsLemmas.Listing.{adds_by}
 use Rattle.cj_history.proofs.gaps.find.note_plan.Goals as goal

@@ -1,8 +1,8 @@
 -- note_times: at each turn the gaps among the due times up to the instant at are noted.
 use Rattle.std.proofs.Common.{◌≡◌, ◌≤◌, ◌<◌, ◌-◌, ◌++◌}
 use Rattle.cj_due.specs.Due.{missed_times}
-use Rattle.cj_history.specs.gaps.Known.{has}
-use Rattle.cj_history.specs.gaps.Listed.{gaps_among}
+use Rattle.cj_history.specs.gaps.reading.Known.{has}
+use Rattle.cj_history.specs.gaps.reading.Listed.{gaps_among}
 use Rattle.cj_history.proofs.gaps.find.note_times.Given as goal
 
 abbrev pub invariant-loop-time : goal.invariant-loop-time

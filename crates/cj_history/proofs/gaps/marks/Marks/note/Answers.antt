@@ -7,8 +7,8 @@ use Rattle.cj_calls.specs.declared.caller.Caller.{Caller}
 use Rattle.cj_calls.specs.declared.reply.Reply.{Reply}
 use Rattle.cj_history.specs.declared.gaps.mark.Mark.{Mark}
 use Rattle.cj_history.specs.declared.gaps.mark.Start.{Start}
-use Rattle.cj_history.specs.gaps.Known as known
-use Rattle.cj_history.specs.gaps.Known.{Tells}
+use Rattle.cj_history.specs.gaps.reading.Known as known
+use Rattle.cj_history.specs.gaps.reading.Known.{Tells}
 use Rattle.cj_history.specs.gaps.Marks as said
 use Rattle.cj_history.proofs.GapsLemmas.Known.{knows_more}
 use Rattle.cj_history.proofs.gaps.marks.Marks.note.Goals as goal

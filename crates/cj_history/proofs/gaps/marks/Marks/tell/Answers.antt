@@ -1,6 +1,6 @@
 -- Marks::tell: its clause marks, from what an insert does to the set.
 use Rattle.std.proofs.Common.{sym, subst}
-use Rattle.cj_history.specs.gaps.Known.{Tells}
+use Rattle.cj_history.specs.gaps.reading.Known.{Tells}
 use Rattle.cj_history.proofs.GapsLemmas.Known.{tells_one}
 use Rattle.cj_history.proofs.gaps.marks.Marks.tell.Goals as goal
 

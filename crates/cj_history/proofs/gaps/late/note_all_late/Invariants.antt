@@ -1,0 +1,18 @@
+-- note_all_late: at each turn the gaps among the due times up to the instant at are noted.
+use Rattle.std.proofs.Common.{◌≡◌, ◌≤◌, ◌<◌, ◌-◌, ◌++◌}
+use Rattle.cj_due.specs.Due.{missed_times}
+use Rattle.cj_history.specs.gaps.Late.{unsynced}
+use Rattle.cj_history.specs.gaps.reading.Known.{has}
+use Rattle.cj_history.specs.gaps.reading.Listed.{gaps_with}
+use Rattle.cj_history.proofs.gaps.late.note_all_late.Given as goal
+
+abbrev pub invariant-loop-time : goal.invariant-loop-time
+invariant-loop-time l = record {
+  noted : l.gaps.items ≡ l.fn.gaps.items
+      ++ gaps_with (has l.marks) l.cron unsynced (missed_times l.schedule l.zone l.fn.lo l.at);
+  low : l.fn.lo ≤ l.at;
+  high : l.fn.lo < l.at → l.at ≤ l.hi;
+}
+
+abbrev pub decreases-loop-time : goal.decreases-loop-time
+decreases-loop-time l = l.hi - l.at
