@@ -1,0 +1,14 @@
+pub mod Places
+pub mod Members
+pub mod Orders
+pub mod Noting
+pub mod Walks
+pub mod Noted
+pub mod Steady
+pub mod Within
+pub mod Telling
+pub mod NextLemmas
+pub mod Fullest
+pub mod Said
+pub mod Naming
+pub mod OfCron

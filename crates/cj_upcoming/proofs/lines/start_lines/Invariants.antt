@@ -1,0 +1,7 @@
+-- start_lines: its loop; at each turn the text so far and that of the rest are all.
+use Rattle.std.proofs.Common.{◌≡◌, ◌++◌, drop, string_bytes}
+use Rattle.cj_upcoming.specs.Lines.{start_lines}
+use Rattle.cj_upcoming.proofs.lines.start_lines.Given as goal
+
+abbrev pub invariant-loop-minute : goal.invariant-loop-minute
+invariant-loop-minute l = string_bytes l.text ++ start_lines l.crons l.starts (drop l.minute-index l.minutes) ≡ start_lines l.crons l.starts l.minutes
