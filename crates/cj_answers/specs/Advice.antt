@@ -7,6 +7,7 @@ use Rattle.cj_zone.specs.declared.zone.Zone.{Zone}
 use Rattle.cj_manifest.specs.declared.manifest.Manifest.{Manifest}
 use Rattle.cj_manifest.specs.declared.manifest.Manifest.TheVariants as Of
 use Rattle.cj_answers.specs.Coming.{IsScheduleAdvice}
+use Rattle.cj_answers.specs.Suggestion.{suggestion}
 
 abbrev pub suspend_advice : Bool → List ℕ
 suspend_advice true = codes "spec.suspend: true starts no Job\n"
@@ -43,12 +44,16 @@ abbrev pub IsAdvice : Manifest → List Zone → List ℕ → Type 0
 IsAdvice (Of.CronJob draft) zones words = IsCronAdvice draft.spec zones words
 IsAdvice (Of.Job draft) zones words = words ≡ []
 
--- a member that is dropped, by its path
--- rule: explain-advice
-abbrev pub dropped_words : List ℕ → List ℕ
+-- a member that isn't known, by its path, with words on what it may be meant to be
+unfoldable pub unknown_words : List ℕ → List ℕ → List ℕ
+unknown_words path meant = path ++ (codes ": no member that is known here, so it is dropped" ++ (meant ++ codes "\n"))
+
+-- a member that is dropped, by its path, and what it may be meant to be
+-- rules: explain-advice, explain-suggestion
+unfoldable pub dropped_words : List ℕ → List ℕ
 dropped_words path =
     if bytes_eq path (codes "apiVersion") then codes "apiVersion: read as batch/v1; Kubernetes 1.25 dropped batch/v1beta1\n"
-    else path ++ codes ": no member that is known here, so it is dropped\n"
+    else unknown_words path (suggestion path)
 
 abbrev pub dropped_words_all : List (List ℕ) → List ℕ
 dropped_words_all [] = []

@@ -5,14 +5,14 @@ use Rattle.cj_zone.specs.declared.zone.Zone.{Zone}
 use Rattle.cj_audit.specs.declared.finding.Finding.{Finding}
 use Rattle.cj_audit.specs.Findings.{IsAudit}
 use Rattle.cj_audit.specs.Lines.{audit_lines}
+use Rattle.cj_audit.specs.Manual.{manual_lines}
 use Rattle.cj_audit.specs.Words.{audit_words}
 use Rattle.cj_cluster.specs.kubectl.Reading.{IsClusterList}
 use Rattle.cj_cluster.specs.declared.kubectl.list.ClusterList.{ClusterList}
 use Rattle.cj_args.specs.declared.request.AuditRequest.{AuditRequest}
 use Rattle.cj_io.specs.declared.zone_files.file.ZoneFile.{ZoneFile}
 use Rattle.cj_answers.specs.declared.answer.Ending.{Ending}
-use Rattle.cj_answers.specs.declared.answer.Ending.TheVariants.{Done, Refused}
-use Rattle.cj_answers.specs.Clusters.{RefusesList, is_read, note_lines, note_words}
+use Rattle.cj_answers.specs.Clusters.{RefusesList, ending_by, is_read, note_lines, note_words}
 use Rattle.cj_answers.specs.Given.{AreGiven, IsNoneGiven, pair_words}
 use Rattle.cj_answers.specs.Outcome.{Outcome, explained, refusal}
 
@@ -20,32 +20,42 @@ abbrev pub is_clean : List Finding → Bool
 is_clean [] = true
 is_clean (f ∷ fs) = false
 
-abbrev pub ending_by : Bool → Ending
-ending_by true = Done
-ending_by false = Refused
-
 -- done where nothing was found and no item was refused
 -- rule: audit-status
 abbrev pub ending_of : ClusterList → List Finding → Ending
 ending_of list findings = ending_by (is_clean findings && is_read list.notes)
 
--- the items that can't be used, then the findings and how many there are
--- rule: audit-lines
+-- the items that can't be used, the Jobs that somebody made by hand, then the findings and how many there are
+-- rules: audit-lines, audit-manual
 abbrev pub audited : ClusterList → List Finding → Outcome
 audited list findings = record {
   ending = ending_of list findings;
   printed = note_lines list.notes
-      ++ audit_lines (length (map.values list.cluster.crons)) (length (map.values list.cluster.jobs)) findings;
+      ++ (manual_lines list.cluster.times (map.values list.cluster.jobs)
+      ++ audit_lines (length (map.values list.cluster.crons)) (length (map.values list.cluster.jobs)) findings);
   said = [];
 }
+
+-- what a line of a Job made by hand means, where there is one
+-- rule: audit-explained
+abbrev pub manual_words : List ℕ → List ℕ
+manual_words [] = []
+manual_words (x ∷ xs) = codes "manual: somebody made such a Job, as kubectl create job --from does; no controller did, so no finding is of it\n"
+
+-- what is wrong with the items that can't be used, what a Job made by hand means, and what the findings do
+-- rule: audit-explained
+abbrev pub words_of : ClusterList → List Finding → List ℕ
+words_of list findings =
+    note_words list.notes
+    ++ (manual_words (manual_lines list.cluster.times (map.values list.cluster.jobs)) ++ audit_words findings)
 
 -- of a list that was read
 pub record AuditsList (explain : Bool) (zones : List Zone) (bytes : List ℕ) (o : Outcome) : Type 0 where
   pub list : ClusterList
   pub read : IsClusterList zones bytes list
   pub findings : List Finding
-  pub found : IsAudit zones list.cluster findings
-  pub answer : o ≡ explained explain (note_words list.notes ++ audit_words findings) (audited list findings)
+  pub found : IsAudit zones list.cluster list.notes findings
+  pub answer : o ≡ explained explain (words_of list findings) (audited list findings)
 
 -- what the bytes of a list are answered
 abbrev pub IsAuditedOf : Bool → List Zone → List ℕ → Outcome → Type 0

@@ -1,5 +1,5 @@
 -- What `check` answers of a manifest.
-use Rattle.std.specs.Prelude.{◌≡◌, ◌⊎◌, ℕ, ◌≤◌, List, [], ◌∷◌, ◌++◌, length, Option, IfSome, Bool, codes, decimal}
+use Rattle.std.specs.Prelude.{◌≡◌, ◌⊎◌, ℕ, ◌≤◌, ◌==◌, nat_lt, ◌&&◌, if◌then◌else◌, List, [], ◌∷◌, ◌++◌, length, Option, IfSome, Bool, codes, decimal}
 use Rattle.cj_base.specs.declared.cause.Cause.{Cause}
 use Rattle.cj_base.specs.declared.cause.Cause.TheVariants as Why
 use Rattle.cj_base.specs.declared.faults.FieldFault.{FieldFault}
@@ -12,16 +12,18 @@ use Rattle.cj_zone.specs.declared.zone.Zone.{Zone}
 use Rattle.cj_manifest.specs.declared.manifest.Manifest.{Manifest}
 use Rattle.cj_manifest.specs.Either.{key_of, kind_of, manifest_draft, manifest_faults, manifest_warnings}
 use Rattle.cj_manifest.specs.Reading.{IsReading, IsRefused}
-use Rattle.cj_answers.specs.declared.answer.Ending.TheVariants.{Refused}
+use Rattle.cj_answers.specs.declared.answer.Ending.{Ending}
+use Rattle.cj_answers.specs.declared.answer.Ending.TheVariants.{Done, Refused}
 use Rattle.cj_args.specs.declared.request.CheckRequest.{CheckRequest}
 use Rattle.cj_scenario.specs.declared.detection.form.Form.TheVariants as A
 use Rattle.cj_scenario.specs.detection.Detections.{IsDetection}
 use Rattle.cj_explain.specs.Faults.{faults_words}
+use Rattle.cj_answers.specs.FieldCount.{IsCounted}
 use Rattle.cj_answers.specs.Json.{IsJsonWords, yaml_words}
 use Rattle.cj_answers.specs.Advice.{IsAdvice, dropped_words_all}
 use Rattle.cj_io.specs.declared.zone_files.file.ZoneFile.{ZoneFile}
 use Rattle.cj_answers.specs.Given.{AreGiven, IsNoneGiven, pair_words}
-use Rattle.cj_answers.specs.Outcome.{Outcome, done, explained, refusal}
+use Rattle.cj_answers.specs.Outcome.{Outcome, explained, refusal}
 
 -- ---- lines
 
@@ -64,6 +66,22 @@ ok_line kind key = codes "ok " ++ (kind ++ (codes " " ++ (key.namespace ++ (code
 
 -- ---- the answer
 
+-- how a manifest with these warnings ends: a warning refuses it where that is wanted
+-- rule: check-strict
+abbrev pub fine_ending : Bool → List (List ℕ) → Ending
+fine_ending strict warnings = if strict && nat_lt 0 (length warnings) then Refused else Done
+
+-- what isn't looked at, where one file alone is checked
+-- rule: explain-pod
+abbrev pub pod_words : ℕ → List ℕ
+pod_words files =
+    if files == 1 then codes "FILE: of the Pod only its restartPolicy was looked at; kubectl apply --dry-run=server -f FILE checks the rest\n"
+    else []
+
+-- printed, with an ending and nothing on standard error
+abbrev pub ended : Ending → List ℕ → Outcome
+ended ending lines = record { ending = ending; printed = lines; said = [] }
+
 -- refused on standard output, as what a manifest's faults are for
 abbrev pub faulty : List ℕ → Outcome
 faulty lines = record { ending = Refused; printed = lines; said = [] }
@@ -79,27 +97,35 @@ pub record IsNoManifest (explain : Bool) (zones : List Zone) (bytes : List ℕ) 
   pub refused : IsRefused (manifest_faults zones) bytes Syntax
   pub says : IsNoJson explain o
 
+-- how many fields a schedule has, where it hasn't five, and what the text is, where it is no manifest
+pub record IsBesideFaults (bytes words : List ℕ) : Type 0 where
+  pub counted : List ℕ
+  pub counts : IsCounted bytes counted
+  pub seen : List ℕ
+  pub looked : IsDetection A.Manifest bytes seen
+  pub are : words ≡ counted ++ seen
+
 -- every fault is named; people are told what the text is, where it is no manifest
 pub record IsFaulty (explain : Bool) (zones : List Zone) (bytes : List ℕ) (o : Outcome) : Type 0 where
   pub faults : List FieldFault
   pub refused : IsRefused (manifest_faults zones) bytes (Invalid faults)
-  pub seen : List ℕ
-  pub looked : IsDetection A.Manifest bytes seen
-  pub answer : o ≡ explained explain (faults_words faults ++ seen) (faulty (fault_lines faults))
+  pub beside : List ℕ
+  pub told : IsBesideFaults bytes beside
+  pub answer : o ≡ explained explain (faults_words faults ++ beside) (faulty (fault_lines faults))
 
 -- there is none, and every member that is dropped is named; people are told what is worth a look
-pub record IsFine (explain : Bool) (zones : List Zone) (bytes : List ℕ) (o : Outcome) : Type 0 where
+pub record IsFine (r : CheckRequest) (zones : List Zone) (bytes : List ℕ) (o : Outcome) : Type 0 where
   pub manifest : Manifest
   pub warnings : List (List ℕ)
   pub reading : IsReading Manifest (manifest_faults zones) manifest_draft manifest_warnings bytes manifest warnings
   pub words : List ℕ
   pub advice : IsAdvice manifest zones words
-  pub answer : o ≡ explained explain (dropped_words_all warnings ++ words)
-      (done (ok_line (kind_of manifest) (key_of manifest) ++ warning_lines warnings))
+  pub answer : o ≡ explained r.explain (dropped_words_all warnings ++ (words ++ pod_words (length r.files.items)))
+      (ended (fine_ending r.strict warnings) (ok_line (kind_of manifest) (key_of manifest) ++ warning_lines warnings))
 
--- what the bytes of a manifest are answered under these zones, its faults explained or not
-abbrev pub IsChecked : Bool → List Zone → List ℕ → Outcome → Type 0
-IsChecked explain zones bytes o = IsNoManifest explain zones bytes o ⊎ IsFaulty explain zones bytes o ⊎ IsFine explain zones bytes o
+-- what the bytes of a manifest are answered under these zones
+abbrev pub IsChecked : CheckRequest → List Zone → List ℕ → Outcome → Type 0
+IsChecked r zones bytes o = IsNoManifest r.explain zones bytes o ⊎ IsFaulty r.explain zones bytes o ⊎ IsFine r zones bytes o
 
 -- a zone is refused first, and nothing is read then
 pub record RefusesNamedZone (r : CheckRequest) (files : List ZoneFile) (o : Outcome) : Type 0 where
@@ -113,9 +139,9 @@ pub record ChecksInput (r : CheckRequest) (files : List ZoneFile) (input : Optio
   pub bytes : List ℕ
   pub bytes_are : IfSome input (λ xs. bytes ≡ xs)
   pub fits : length bytes ≤ 16_777_216
-  pub checked : IsChecked r.explain zones bytes o
+  pub checked : IsChecked r zones bytes o
 
--- what `check` answers, where the input is known
+-- what `check` answers of one file, where the input is known
 -- rule: check-lines
 abbrev pub IsCheckOutcome : CheckRequest → List ZoneFile → Option (List ℕ) → Outcome → Type 0
 IsCheckOutcome r files input o = RefusesNamedZone r files o ⊎ ChecksInput r files input o

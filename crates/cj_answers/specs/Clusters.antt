@@ -9,6 +9,8 @@ use Rattle.cj_cluster.specs.declared.kubectl.notes.Said.TheVariants as Was
 use Rattle.cj_cluster.specs.declared.kubectl.fault.ListFault.{ListFault}
 use Rattle.cj_cluster.specs.declared.kubectl.fault.ListFault.TheVariants as Why
 use Rattle.cj_cluster.specs.kubectl.Reading.{IsRefusedList}
+use Rattle.cj_answers.specs.declared.answer.Ending.{Ending}
+use Rattle.cj_answers.specs.declared.answer.Ending.TheVariants.{Done, Refused}
 use Rattle.cj_answers.specs.Check.{fault_line}
 use Rattle.cj_answers.specs.Json.{IsJsonWords}
 use Rattle.cj_answers.specs.Outcome.{Outcome, explained, refusal}
@@ -54,9 +56,13 @@ is_other (Was.Kind kind) = true
 is_other (Was.Refused faults) = false
 
 -- no item was refused
--- rule: audit-status
+-- rules: audit-status, why-status
 abbrev pub is_read : List ItemNote → Bool
 is_read notes = list_all (λ note. is_other note.said) notes
+
+abbrev pub ending_by : Bool → Ending
+ending_by true = Done
+ending_by false = Refused
 
 -- ---- bytes that are no list
 
@@ -67,11 +73,18 @@ list_line Why.Form = codes "cronsim: list\n"
 list_line Why.Memory = codes "cronsim: out of memory\n"
 
 abbrev pub wanted_list : List ℕ
-wanted_list = codes "FILE: want what kubectl get cronjobs,jobs -o json prints: a List, or one CronJob or Job\n"
+wanted_list = codes "FILE: want what kubectl get cronjobs,jobs -o json prints, without -w: a List, or one CronJob or Job\n"
+
+-- where it is no JSON, and what is wanted: `kubectl get -w` prints one object behind the other, which is none
+-- rule: cluster-explained
+pub record IsSyntaxWords (words : List ℕ) : Type 0 where
+  pub place : List ℕ
+  pub said : IsJsonWords place
+  pub are : words ≡ place ++ wanted_list
 
 -- rule: cluster-explained
 abbrev pub IsListWords : ListFault → List ℕ → Type 0
-IsListWords Why.Syntax words = IsJsonWords words
+IsListWords Why.Syntax words = IsSyntaxWords words
 IsListWords Why.Form words = words ≡ wanted_list
 IsListWords Why.Memory words = words ≡ []
 

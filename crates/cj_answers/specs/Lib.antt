@@ -5,8 +5,16 @@ pub mod Clusters
 pub mod Coming
 pub mod Given
 pub mod Json
+pub mod Marks
+pub mod Moments
+pub mod Nearest
 pub mod NextText
 pub mod Outcome
 pub mod Dropped
+pub mod FieldCount
 pub mod Plan
+pub mod Several
+pub mod Strays
+pub mod Suggestion
+pub mod Times
 pub mod Why

@@ -17,6 +17,7 @@ use Rattle.cj_io.specs.declared.zone_files.file.ZoneFile.{ZoneFile}
 use Rattle.cj_io.specs.zone_files.Files.{IsTableWith}
 use Rattle.cj_explain.specs.Schedules.{IsExplained}
 use Rattle.cj_answers.specs.NextText.{IsNextText}
+use Rattle.cj_answers.specs.Times.{IsTimeWords}
 use Rattle.cj_answers.specs.declared.answer.Answer.{Answer}
 use Rattle.cj_answers.specs.declared.answer.Ending.{Ending}
 use Rattle.cj_answers.specs.declared.answer.Ending.TheVariants.{Done, Refused}
@@ -109,6 +110,13 @@ pub record IsScheduleRefusal (explain : Bool) (text : List ℕ) (fault : Schedul
   pub are : IsExplained text fault words
   pub answer : o ≡ explained explain words (refusal (schedule_line fault))
 
+-- a time is refused, with what is wanted of it and what may be meant
+-- rule: explain-time
+pub record IsTimeRefusal (explain : Bool) (want option text : List ℕ) (o : Outcome) : Type 0 where
+  pub meant : List ℕ
+  pub words : IsTimeWords option text meant
+  pub answer : o ≡ explained explain (want ++ meant) (refusal (codes "cronsim: time\n"))
+
 -- what a start has to be
 -- rule: explain
 abbrev pub after_words : List ℕ
@@ -140,7 +148,7 @@ pub record RefusesTime (r : NextRequest) (o : Outcome) : Type 0 where
   pub sets : Sets
   pub schedule : IsSchedule r.schedule.now sets
   pub start : IsNoTime r.after.now
-  pub answer : o ≡ explained r.explain after_words (refusal (codes "cronsim: time\n"))
+  pub told : IsTimeRefusal r.explain after_words (codes "--after") r.after.now o
 
 -- then the zone
 pub record RefusesZone (r : NextRequest) (files : List ZoneFile) (o : Outcome) : Type 0 where

@@ -26,7 +26,8 @@ use Rattle.cj_answers.specs.Dropped.{IsAskedDropped}
 use Rattle.cj_answers.specs.Given.{IsReadUnder, RefusesRule}
 use Rattle.cj_explain.specs.Faults.{fault_words}
 use Rattle.cj_answers.specs.Json.{IsJsonWords}
-use Rattle.cj_answers.specs.Outcome.{IsNoTime, IsTime, Outcome, done, explained, refusal}
+use Rattle.cj_answers.specs.Strays.{IsStrays}
+use Rattle.cj_answers.specs.Outcome.{IsNoTime, IsTime, IsTimeRefusal, Outcome, done, explained, refusal}
 
 -- ---- lines
 
@@ -68,13 +69,27 @@ now_words = codes "--now: want a UTC time like 2024-01-01T00:00:00Z\n"
 -- why a Job is started or not, where people ask for it
 -- rule: explain-why
 abbrev pub IsAskedWhy : Bool → CronJob → Option Zone → List (Option Job) → ℕ → List ℕ → Type 0
-IsAskedWhy true cron z found now words = IsWhy cron z (running_of cron found) now words
+IsAskedWhy true cron z found now words = IsWhy cron z (running_of cron found) [] now words
 IsAskedWhy false cron z found now words = words ≡ []
 
--- the members that nobody reads, where people ask for them
+-- of a run the keys of its `runs` that aren't used
+-- rule: explain-runs
+abbrev pub IsUnused : Form → List ℕ → List ℕ → Type 0
+IsUnused A.Simulation bytes words = IsStrays bytes words
+IsUnused _ bytes words = words ≡ []
+
+-- the members that nobody reads, and what isn't used
+pub record IsSeen (wanted : Form) (bytes words : List ℕ) : Type 0 where
+  pub detected : List ℕ
+  pub looked : IsDetection wanted bytes detected
+  pub unused : List ℕ
+  pub strays : IsUnused wanted bytes unused
+  pub are : words ≡ detected ++ unused
+
+-- that, where people ask for it
 -- rule: explain-ignored
 abbrev pub IsAskedDetection : Bool → Form → List ℕ → List ℕ → Type 0
-IsAskedDetection true wanted bytes words = IsDetection wanted bytes words
+IsAskedDetection true wanted bytes words = IsSeen wanted bytes words
 IsAskedDetection false wanted bytes words = words ≡ []
 
 -- the members of a scenario that nobody reads, and those of its manifest that are dropped
@@ -111,7 +126,7 @@ IsPlannedFor explain given bytes now o = RefusesScene explain given bytes o ⊎ 
 -- the moment is refused first, and nothing is read then
 pub record RefusesMoment (r : PlanRequest) (o : Outcome) : Type 0 where
   pub moment : IsNoTime r.moment.now
-  pub answer : o ≡ explained r.explain now_words (refusal (codes "cronsim: time\n"))
+  pub told : IsTimeRefusal r.explain now_words (codes "--now") r.moment.now o
 
 -- then a zone, and nothing is read then
 pub record RefusesPlanZone (r : PlanRequest) (o : Outcome) : Type 0 where

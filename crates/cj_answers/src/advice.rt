@@ -1,9 +1,10 @@
 // What people are told of a manifest without a fault: the members that are dropped, and what is worth a look.
 ghost use Rattle.std.specs.Prelude.{◌≡◌, ◌++◌, IfOk, string_bytes};
 ghost use Rattle.cj_zone.specs.Table.{zones_of};
-ghost use Rattle.cj_answers.specs.Advice.{IsAdvice, IsCronAdvice, cron_advice, deadline_advice, dropped_words, dropped_words_all, failed_advice, successful_advice, suspend_advice};
+ghost use Rattle.cj_answers.specs.Advice.{IsAdvice, IsCronAdvice, cron_advice, deadline_advice, dropped_words, dropped_words_all, failed_advice, successful_advice, suspend_advice, unknown_words};
 
 use crate::coming::schedule_advice;
+use crate::suggestion::suggested;
 use cj_manifest::{Manifest, Warning};
 use cj_types::{CronSpec, Deadline};
 use cj_zone::ZoneTable;
@@ -64,6 +65,15 @@ fn cron_advice(alloc: Global, spec: &CronSpec) -> Result<String, AllocError>
     format!(in alloc; "{suspend}{deadline}{successful}{failed}")
 }
 
+// Of a member that isn't known.
+#[tactic(auto, unfolding(crate::specs::Advice::unknown_words))]
+fn unknown_words(alloc: Global, path: &str, meant: &str) -> Result<String, AllocError>
+    ensures { IfOk result (λ s. string_bytes s ≡ unknown_words path.now meant.now) }
+{
+    format!(in alloc; "{path}: no member that is known here, so it is dropped{meant}\n")
+}
+
+#[tactic(auto, unfolding(crate::specs::Advice::dropped_words))]
 fn dropped_words(alloc: Global, warning: &Warning) -> Result<String, AllocError>
     ensures { IfOk result (λ s. string_bytes s ≡ dropped_words warning.now) }
 {
@@ -74,7 +84,8 @@ fn dropped_words(alloc: Global, warning: &Warning) -> Result<String, AllocError>
             "apiVersion: read as batch/v1; Kubernetes 1.25 dropped batch/v1beta1\n",
         );
     }
-    format!(in alloc; "{path}: no member that is known here, so it is dropped\n")
+    let meant = suggested(alloc, path)?;
+    unknown_words(alloc, path, meant.as_str())
 }
 
 /// A line for each member that is dropped.

@@ -4,18 +4,19 @@ ghost use Rattle.std.specs.FinMap as map;
 ghost use Rattle.cj_base.specs.declared.refusal.Refusal.TheVariants.{OutOfMemory};
 ghost use Rattle.cj_zone.specs.Table.{zones_of};
 ghost use Rattle.cj_audit.specs.Lines.{audit_lines};
+ghost use Rattle.cj_audit.specs.Manual.{manual_lines};
 ghost use Rattle.cj_audit.specs.Words.{audit_words};
 ghost use Rattle.cj_cluster.specs.kubectl.Reading.{IsClusterList};
-ghost use Rattle.cj_answers.specs.Audit.{AuditsList, IsAuditOutcome, IsAuditedOf, audited, is_clean, ending_by};
+ghost use Rattle.cj_answers.specs.Audit.{AuditsList, IsAuditOutcome, IsAuditedOf, audited, is_clean, manual_words, words_of};
 ghost use Rattle.cj_answers.specs.Clusters as told;
 ghost use Rattle.cj_answers.specs.Outcome.{explained, outcome_of};
 
-use crate::answer::{Answer, Ending};
-use crate::clusters::{is_read, note_lines, note_words, refused_list};
+use crate::answer::Answer;
+use crate::clusters::{ending_by, is_read, note_lines, note_words, refused_list};
 use crate::given::{given_zones, refused_pair};
 use crate::why::{MOST_LIST_BYTES, MOST_LIST_READS, joined};
 use cj_args::AuditRequest;
-use cj_audit::{Finding, Findings, audit, audit_text, audit_words};
+use cj_audit::{Finding, Findings, audit, audit_text, audit_words, manual_text};
 use cj_base::{Refusal, both};
 use cj_cluster::{ClusterList, read_cluster};
 use cj_io::{Failure, ZoneFile, read_input};
@@ -29,18 +30,8 @@ fn is_clean(findings: &[Finding]) -> bool
     findings.is_empty()
 }
 
-fn ending_by(is_well: bool) -> Ending
-    ensures { result ≡ ending_by is_well }
-{
-    if is_well {
-        Ending::Done
-    } else {
-        Ending::Refused
-    }
-}
-
 // The findings and how many there are, and of how many CronJobs and Jobs.
-fn found_text(alloc: Global, list: &ClusterList, findings: &Findings) -> Result<String, Refusal>
+fn counted_text(alloc: Global, list: &ClusterList, findings: &Findings) -> Result<String, Refusal>
     ensures ok { IfOk result (λ s. string_bytes s
         ≡ audit_lines (length (map.values list.now.cluster.crons))
         (length (map.values list.now.cluster.jobs)) findings.now) }
@@ -51,7 +42,21 @@ fn found_text(alloc: Global, list: &ClusterList, findings: &Findings) -> Result<
     audit_text(alloc, crons, jobs, findings)
 }
 
-// The items that can't be used, then the findings and how many there are.
+// The Jobs that somebody made by hand, then the findings and how many there are.
+fn found_text(alloc: Global, list: &ClusterList, findings: &Findings) -> Result<String, Refusal>
+    ensures ok { IfOk result (λ s. string_bytes s
+        ≡ manual_lines list.now.cluster.times (map.values list.now.cluster.jobs)
+        ++ audit_lines (length (map.values list.now.cluster.crons))
+        (length (map.values list.now.cluster.jobs)) findings.now) }
+    ensures err { IfErr result (λ e. e ≡ OutOfMemory) }
+{
+    let mut text = manual_text(alloc, &list.cluster)?;
+    let found = counted_text(alloc, list, findings)?;
+    text.push_str(found.as_str())?;
+    Ok(text)
+}
+
+// The items that can't be used, then those.
 fn printed(alloc: Global, list: &ClusterList, findings: &Findings) -> Result<Answer, Failure>
     ensures { IfOk result (λ a. outcome_of a ≡ audited list.now findings.now) }
 {
@@ -68,12 +73,34 @@ fn printed(alloc: Global, list: &ClusterList, findings: &Findings) -> Result<Ans
     })
 }
 
+// What such a line means, where there is one.
+fn manual_words(lines: &str) -> &'static str
+    ensures { result.now ≡ manual_words lines.now }
+{
+    if lines.is_empty() {
+        ""
+    } else {
+        "manual: somebody made such a Job, as kubectl create job --from does; no controller did, so no finding is of it\n"
+    }
+}
+
+// What those lines and the findings mean.
+fn found_words(alloc: Global, list: &ClusterList, findings: &Findings) -> Result<String, Refusal>
+    ensures ok { IfOk result (λ s. string_bytes s
+        ≡ manual_words (manual_lines list.now.cluster.times (map.values list.now.cluster.jobs))
+        ++ audit_words findings.now) }
+    ensures err { IfErr result (λ e. e ≡ OutOfMemory) }
+{
+    let lines = manual_text(alloc, &list.cluster)?;
+    let found = audit_words(alloc, findings)?;
+    Ok(joined(alloc, manual_words(lines.as_str()), found.as_str())?)
+}
+
 fn words(alloc: Global, list: &ClusterList, findings: &Findings) -> Result<String, Failure>
-    ensures { IfOk result (λ s. string_bytes s
-        ≡ told.note_words list.now.notes ++ audit_words findings.now) }
+    ensures { IfOk result (λ s. string_bytes s ≡ words_of list.now findings.now) }
 {
     let notes = note_words(alloc, list.notes.as_slice())?;
-    let found = audit_words(alloc, findings)?;
+    let found = found_words(alloc, list, findings)?;
     Ok(joined(alloc, notes.as_str(), found.as_str())?)
 }
 
@@ -101,7 +128,7 @@ fn list_audited(
     requires { IsClusterList (zones_of zones.now) bytes.now list.now }
     ensures { IfOk result (λ a. AuditsList explain (zones_of zones.now) bytes.now (outcome_of a)) }
 {
-    let findings = audit(alloc, zones, &list.cluster)?;
+    let findings = audit(alloc, zones, &list.cluster, list.notes.as_slice())?;
     let words = words(alloc, list, &findings)?;
     told_of(alloc, explain, list, &findings, words.as_str())
 }

@@ -1,4 +1,4 @@
-ghost use Rattle.std.specs.Prelude.{◌≡◌, ◌++◌, ℕ, List, IfOk, codes, string_bytes};
+ghost use Rattle.std.specs.Prelude.{◌≡◌, ◌++◌, ℕ, List, length, IfOk, codes, string_bytes};
 ghost use Rattle.cj_base.specs.declared.refusal.Refusal.TheVariants.{Invalid};
 ghost use Rattle.cj_manifest.specs.Either.{key_of, kind_of, manifest_draft, manifest_faults, manifest_warnings};
 ghost use Rattle.cj_manifest.specs.Reading.{IsReading, IsRefused};
@@ -7,11 +7,12 @@ ghost use Rattle.cj_zone.specs.Table.{zones_of};
 ghost use Rattle.cj_explain.specs.Faults.{faults_words};
 ghost use Rattle.cj_answers.specs.Json.{yaml_words};
 ghost use Rattle.cj_answers.specs.Advice.{dropped_words_all};
-ghost use Rattle.cj_answers.specs.Check.{IsCheckOutcome, IsChecked, IsNoJson, fault_lines, faulty, ok_line, warning_lines};
-ghost use Rattle.cj_answers.specs.Outcome.{done, explained, outcome_of};
+ghost use Rattle.cj_answers.specs.Check.{IsBesideFaults, IsCheckOutcome, IsChecked, IsNoJson, ended, fault_lines, faulty, fine_ending, ok_line, pod_words, warning_lines};
+ghost use Rattle.cj_answers.specs.Outcome.{explained, outcome_of};
 
 use crate::advice::{advice, all_dropped_words};
 use crate::answer::{Answer, Ending};
+use crate::fields::counted;
 use crate::given::{given_zones, refused_pair};
 use crate::json::json_words;
 use crate::lines::{print_faults, print_ok, print_warnings};
@@ -40,28 +41,64 @@ fn fine_lines(
     Ok(printed)
 }
 
+// How a manifest with these warnings ends.
+fn fine_ending(strict: bool, warnings: &[Warning]) -> Ending
+    ensures { result ≡ fine_ending strict warnings.now }
+{
+    if strict && !warnings.is_empty() {
+        Ending::Refused
+    } else {
+        Ending::Done
+    }
+}
+
+// What isn't looked at, where one file alone is checked.
+fn pod_words(files: usize) -> &'static str
+    ensures { result.now ≡ pod_words files }
+{
+    if files == 1 {
+        "FILE: of the Pod only its restartPolicy was looked at; kubectl apply --dry-run=server -f FILE checks the rest\n"
+    } else {
+        ""
+    }
+}
+
+// What people are told of a manifest without a fault.
+fn fine_words(
+    alloc: Global,
+    check: &CheckRequest<'_>,
+    warnings: &[Warning],
+    advice: &str,
+) -> Result<String, AllocError>
+    ensures { IfOk result (λ s. string_bytes s ≡ dropped_words_all warnings.now
+        ++ (advice.now ++ pod_words (length check.now.files.items))) }
+{
+    let mut words = all_dropped_words(alloc, warnings)?;
+    words.push_str(advice)?;
+    words.push_str(pod_words(check.files.len()))?;
+    Ok(words)
+}
+
 // A manifest without a fault, and the members of it that are dropped.
 fn fine(
     alloc: Global,
-    explain: bool,
+    check: &CheckRequest<'_>,
     manifest: &Manifest,
     warnings: &[Warning],
-    words: &str,
+    advice: &str,
 ) -> Result<Answer, Failure>
-    ensures { IfOk result (λ a. outcome_of a ≡ explained explain
-        (dropped_words_all warnings.now ++ words.now)
-        (done (ok_line (kind_of manifest.now) (key_of manifest.now)
-        ++ warning_lines warnings.now))) }
+    ensures { IfOk result (λ a. outcome_of a ≡ explained check.now.explain
+        (dropped_words_all warnings.now ++ (advice.now ++ pod_words (length check.now.files.items)))
+        (ended (fine_ending check.now.strict warnings.now)
+        (ok_line (kind_of manifest.now) (key_of manifest.now) ++ warning_lines warnings.now))) }
 {
-    let mut dropped = all_dropped_words(alloc, warnings)?;
-    dropped.push_str(words)?;
-    let printed = fine_lines(alloc, manifest, warnings)?;
+    let words = fine_words(alloc, check, warnings, advice)?;
     let answer = Answer {
-        ending: Ending::Done,
-        printed,
+        ending: fine_ending(check.strict, warnings),
+        printed: fine_lines(alloc, manifest, warnings)?,
         said: String::new(alloc),
     };
-    Ok(answer.explained(explain, dropped.as_str())?)
+    Ok(answer.explained(check.explain, words.as_str())?)
 }
 
 // A manifest that is refused, with what is printed of it.
@@ -100,67 +137,77 @@ fn no_json(alloc: Global, explain: bool, bytes: &[u8]) -> Result<Answer, Failure
     Ok(with_place(alloc, explain, place.as_str())?)
 }
 
-// The faults, and what was seen of the text.
+// How many fields a schedule has, where it hasn't five, and what was seen of the text.
+fn beside_faults(alloc: Global, bytes: &[u8]) -> Result<String, Failure>
+    ensures { IfOk result (λ s. IsBesideFaults bytes.now (string_bytes s)) }
+{
+    let mut words = counted(alloc, bytes)?;
+    let seen = detect(alloc, Form::Manifest, bytes)?;
+    words.push_str(seen.as_str())?;
+    Ok(words)
+}
+
+// The faults, and what stands beside them.
 fn with_faults(
     alloc: Global,
     explain: bool,
     faults: &[FieldFault],
-    seen: &str,
+    beside: &str,
 ) -> Result<Answer, AllocError>
     ensures { IfOk result (λ a. outcome_of a ≡ explained explain
-        (faults_words faults.now ++ seen.now) (faulty (fault_lines faults.now))) }
+        (faults_words faults.now ++ beside.now) (faulty (fault_lines faults.now))) }
 {
     let printed = print_faults(alloc, faults)?;
     let mut words = explain_faults(alloc, faults)?;
-    words.push_str(seen)?;
+    words.push_str(beside)?;
     faulty(alloc, printed).explained(explain, words.as_str())
 }
 
 fn refused_manifest(
     alloc: Global,
-    explain: bool,
+    check: &CheckRequest<'_>,
     zones: &ZoneTable,
     bytes: &[u8],
     faults: &[FieldFault],
 ) -> Result<Answer, Failure>
     requires { IsRefused (manifest_faults (zones_of zones.now)) bytes.now (Invalid faults.now) }
-    ensures { IfOk result (λ a. IsChecked explain (zones_of zones.now) bytes.now (outcome_of a)) }
+    ensures { IfOk result (λ a. IsChecked check.now (zones_of zones.now) bytes.now (outcome_of a)) }
 {
-    let seen = detect(alloc, Form::Manifest, bytes)?;
-    Ok(with_faults(alloc, explain, faults, seen.as_str())?)
+    let beside = beside_faults(alloc, bytes)?;
+    Ok(with_faults(alloc, check.explain, faults, beside.as_str())?)
 }
 
 // What a manifest without a fault is answered.
 fn fine_answer(
     alloc: Global,
-    explain: bool,
+    check: &CheckRequest<'_>,
     zones: &ZoneTable,
     manifest: &Manifest,
     warnings: &[Warning],
 ) -> Result<Answer, Failure>
     ensures { (bytes : List ℕ) → IsReading Said (manifest_faults (zones_of zones.now))
         manifest_draft manifest_warnings bytes manifest.now warnings.now →
-        IfOk result (λ a. IsChecked explain (zones_of zones.now) bytes (outcome_of a)) }
+        IfOk result (λ a. IsChecked check.now (zones_of zones.now) bytes (outcome_of a)) }
 {
     let words = advice(alloc, zones, manifest)?;
-    fine(alloc, explain, manifest, warnings, words.as_str())
+    fine(alloc, check, manifest, warnings, words.as_str())
 }
 
 // What bytes are answered that are refused.
 fn refused_answer(
     alloc: Global,
-    explain: bool,
+    check: &CheckRequest<'_>,
     zones: &ZoneTable,
     bytes: &[u8],
     refusal: &Refusal,
 ) -> Result<Answer, Failure>
     requires { IsRefused (manifest_faults (zones_of zones.now)) bytes.now refusal.now }
-    ensures { IfOk result (λ a. IsChecked explain (zones_of zones.now) bytes.now (outcome_of a)) }
+    ensures { IfOk result (λ a. IsChecked check.now (zones_of zones.now) bytes.now (outcome_of a)) }
 {
     match refusal {
-        Refusal::Syntax => no_json(alloc, explain, bytes),
+        Refusal::Syntax => no_json(alloc, check.explain, bytes),
         Refusal::Invalid(faults) => {
-            refused_manifest(alloc, explain, zones, bytes, faults.as_slice())
+            refused_manifest(alloc, check, zones, bytes, faults.as_slice())
         }
         _ => Err(Failure::Memory),
     }
@@ -169,21 +216,21 @@ fn refused_answer(
 // What a manifest is answered under these zones.
 fn manifest_answer(
     alloc: Global,
-    explain: bool,
+    check: &CheckRequest<'_>,
     bytes: &[u8],
     zones: &ZoneTable,
 ) -> Result<Answer, Failure>
-    ensures { IfOk result (λ a. IsChecked explain (zones_of zones.now) bytes.now (outcome_of a)) }
+    ensures { IfOk result (λ a. IsChecked check.now (zones_of zones.now) bytes.now (outcome_of a)) }
 {
     match read_manifest(alloc, bytes, zones) {
         Ok((manifest, warnings)) => {
-            fine_answer(alloc, explain, zones, &manifest, warnings.as_slice())
+            fine_answer(alloc, check, zones, &manifest, warnings.as_slice())
         }
-        Err(refusal) => refused_answer(alloc, explain, zones, bytes, &refusal),
+        Err(refusal) => refused_answer(alloc, check, zones, bytes, &refusal),
     }
 }
 
-/// What the command `check` answers: the zones are looked at first, then all of the input is read.
+/// What the command `check` answers of one file: the zones are looked at first, then all of the input is read.
 pub fn check_answer<R: Read>(
     alloc: Global,
     check: &CheckRequest<'_>,
@@ -197,5 +244,5 @@ pub fn check_answer<R: Read>(
         return refused_pair(alloc, check.explain);
     };
     let bytes = read_input(alloc, input, MOST_BYTES, MOST_READS)?;
-    manifest_answer(alloc, check.explain, bytes.as_slice(), &zones)
+    manifest_answer(alloc, check, bytes.as_slice(), &zones)
 }

@@ -5,7 +5,7 @@ ghost use Rattle.cj_cluster.specs.declared.kubectl.fault.ListFault.TheVariants a
 ghost use Rattle.cj_answers.specs.Clusters as told;
 ghost use Rattle.cj_answers.specs.Outcome.{explained, outcome_of, refusal};
 
-use crate::answer::Answer;
+use crate::answer::{Answer, Ending};
 use crate::json::json_words;
 use crate::lines::print_fault;
 use cj_base::FieldFault;
@@ -134,9 +134,29 @@ pub(crate) fn is_read(notes: &[ItemNote]) -> bool
     notes.iter().all(|note| is_other(&note.said))
 }
 
+/// Done where all is well.
+pub(crate) fn ending_by(is_well: bool) -> Ending
+    ensures { result ≡ told.ending_by is_well }
+{
+    if is_well {
+        Ending::Done
+    } else {
+        Ending::Refused
+    }
+}
+
 // What a list has to be.
 const WANTED_LIST: &str =
-    "FILE: want what kubectl get cronjobs,jobs -o json prints: a List, or one CronJob or Job\n";
+    "FILE: want what kubectl get cronjobs,jobs -o json prints, without -w: a List, or one CronJob or Job\n";
+
+// Where bytes are no JSON, and what is wanted.
+fn syntax_words(alloc: Global, bytes: &[u8]) -> Result<String, Failure>
+    ensures { IfOk result (λ s. told.IsSyntaxWords (string_bytes s)) }
+{
+    let mut words = json_words(alloc, bytes)?;
+    words.push_str(WANTED_LIST)?;
+    Ok(words)
+}
 
 fn no_json(alloc: Global, explain: bool, words: &str) -> Result<Answer, AllocError>
     ensures { IfOk result (λ a. outcome_of a ≡ explained explain words.now
@@ -164,7 +184,7 @@ pub(crate) fn refused_list(
 {
     match fault {
         ListFault::Syntax => {
-            let words = json_words(alloc, bytes)?;
+            let words = syntax_words(alloc, bytes)?;
             Ok(no_json(alloc, explain, words.as_str())?)
         }
         ListFault::Form => Ok(no_list(alloc, explain)?),

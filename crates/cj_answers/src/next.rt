@@ -6,10 +6,11 @@ ghost use Rattle.cj_zone.specs.declared.zone.Zone.{Zone};
 ghost use Rattle.cj_zone.specs.Made.{IsMade};
 ghost use Rattle.cj_zone.specs.Table.{local_zone};
 ghost use Rattle.cj_zone.specs.Zones.{utc_zone};
-ghost use Rattle.cj_answers.specs.Outcome.{IsLookedUp, IsNextOutcome, IsNextZone, IsNoNextZone, IsNoRule, IsScheduleRefusal, IsZoneOf, after_words, explained, next_zone_words, outcome_of, refusal, schedule_line};
+ghost use Rattle.cj_answers.specs.Outcome.{IsLookedUp, IsNextOutcome, IsNextZone, IsNoNextZone, IsNoRule, IsScheduleRefusal, IsZoneOf, explained, next_zone_words, outcome_of, refusal, schedule_line};
 
 use crate::answer::{Answer, Ending};
 use crate::next_lines::next_text;
+use crate::times::refused_time;
 use cj_args::NextRequest;
 use cj_base::{Refusal, ScheduleFault};
 use cj_explain::explain_schedule;
@@ -44,13 +45,6 @@ const AFTER_WORDS: &str = "--after: want a UTC time like 2024-01-01T00:00:00Z\n"
 
 // What a rule has to be.
 const RULE_WORDS: &str = "--zone: want UTC or a POSIX rule like CET-1CEST,M3.5.0,M10.5.0/3\n";
-
-fn refused_time(alloc: Global, explain: bool) -> Result<Answer, AllocError>
-    ensures { IfOk result (λ a. outcome_of a ≡ explained explain after_words
-        (refusal (codes "cronsim: time\n"))) }
-{
-    Answer::refused(alloc, "cronsim: time\n")?.explained(explain, AFTER_WORDS)
-}
 
 // What the name of a zone has to be.
 const TIME_ZONE_WORDS: &str =
@@ -154,7 +148,7 @@ pub fn next_answer(
         }
     };
     let Some(after) = read_time(next.after) else {
-        return Ok(refused_time(alloc, next.explain)?);
+        return refused_time(alloc, next.explain, AFTER_WORDS, "--after", next.after);
     };
     let table = match next_zones(alloc, next.time_zone, next.zone, files) {
         Ok(table) => table,

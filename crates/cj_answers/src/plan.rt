@@ -10,13 +10,15 @@ ghost use Rattle.cj_answers.specs.Outcome.{done, explained, outcome_of, refusal}
 ghost use Rattle.cj_why.specs.reviews.PlanLines.{plan_lines};
 ghost use Rattle.cj_why.specs.reviews.ZoneFor.{zone_for};
 ghost use Rattle.cj_io.specs.declared.zone_files.given.GivenZones.{GivenZones};
-ghost use Rattle.cj_answers.specs.Plan.{IsAskedDetection, IsAskedWhy, IsBeside, IsFormWords, IsPlanOutcome, IsPlannedFor, IsSceneRefusal, now_words, scene_line};
+ghost use Rattle.cj_answers.specs.Plan.{IsAskedDetection, IsAskedWhy, IsBeside, IsFormWords, IsPlanOutcome, IsPlannedFor, IsSceneRefusal, IsSeen, IsUnused, now_words, scene_line};
 
 use crate::answer::{Answer, Ending};
 use crate::dropped::asked_dropped;
 use crate::given::{given_for, refused_pair};
 use crate::json::json_words;
 use crate::lines::print_fault;
+use crate::strays::strays;
+use crate::times::refused_time;
 use cj_args::PlanRequest;
 use cj_decide::{Plan, Steps, decide};
 use cj_explain::{explain_fault, look};
@@ -56,7 +58,7 @@ fn asked_why(
         now (string_bytes s)) }
 {
     if explain {
-        Ok(why(alloc, cron, zone, active, now)?)
+        Ok(why(alloc, cron, zone, active, &[], now)?)
     } else {
         Ok(String::new(alloc))
     }
@@ -200,6 +202,25 @@ pub fn refused_scene(
     }
 }
 
+// Of a run the keys that aren't used.
+fn unused(alloc: Global, wanted: Form, bytes: &[u8]) -> Result<String, Failure>
+    ensures { IfOk result (λ s. IsUnused wanted bytes.now (string_bytes s)) }
+{
+    match wanted {
+        Form::Simulation => strays(alloc, bytes),
+        _ => Ok(String::new(alloc)),
+    }
+}
+
+fn seen(alloc: Global, wanted: Form, bytes: &[u8]) -> Result<String, Failure>
+    ensures { IfOk result (λ s. IsSeen wanted bytes.now (string_bytes s)) }
+{
+    let mut words = detect(alloc, wanted, bytes)?;
+    let unused = unused(alloc, wanted, bytes)?;
+    words.push_str(unused.as_str())?;
+    Ok(words)
+}
+
 /// What is seen of the bytes, where people ask for it.
 pub fn asked_detection(
     alloc: Global,
@@ -210,7 +231,7 @@ pub fn asked_detection(
     ensures { IfOk result (λ s. IsAskedDetection explain wanted bytes.now (string_bytes s)) }
 {
     if explain {
-        Ok(detect(alloc, wanted, bytes)?)
+        seen(alloc, wanted, bytes)
     } else {
         Ok(String::new(alloc))
     }
@@ -279,7 +300,7 @@ pub fn plan_answer<R: Read>(
         (outcome_of a)) }
 {
     let Some(now) = read_time(plan.moment) else {
-        return Ok(refused_moment(alloc, plan.explain)?);
+        return refused_time(alloc, plan.explain, NOW_WORDS, "--now", plan.moment);
     };
     let Some(given) = given_for(alloc, &plan.zones, files)? else {
         return refused_pair(alloc, plan.explain);

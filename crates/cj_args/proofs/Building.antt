@@ -1,6 +1,7 @@
 -- What each step that builds the command line adds to an argument or to a command.
-use Rattle.std.proofs.Common.{◌≡◌, ◌∙◌, ◌∷◌, [], ap, false, true, Bool, Some, Option, Result, Ok, IfOk, Bor}
-use Rattle.std.specs.Prelude.{◌||◌}
+use Rattle.std.proofs.Common.{◌≡◌, ◌∙◌, ℕ, ◌∷◌, [], ap, false, true, Bool, Some, Option, Result, Ok, IfOk, Bor}
+use Rattle.std.specs.Prelude.{◌||◌, None, IsSomeAnd}
+use Rattle.clap.specs.declared.builder.range.ValueRange.{ValueRange}
 use Rattle.std.proofs.lemmas.Result.{IfOk-weaker}
 use Rattle.clap.specs.Words.{AddsArg, AddsSubcommand, App, Rule, Text, app_of, new_app, new_rule, rule_of, with_rule, with_subcommand}
 use Rattle.clap.specs.Simple.{app_of_fields}
@@ -29,6 +30,14 @@ pub long_is : (r : Rule) (old new : Arg) (name : Bor Text) → new ≡ record ol
     → IsArg (record r { long = Some name.now }) new
 long_is r old new name is at = record {
   rule = ap rule_of is ∙ ap (λ (x : Rule). record x { long = Some name.now }) at.rule;
+  local = ap (λ (a : Arg). a.global) is ∙ at.local;
+}
+
+-- so is a letter
+pub short_is : (r : Rule) (old new : Arg) (letter : ℕ) → new ≡ record old { short = Some letter } → IsArg r old
+    → IsArg (record r { short = Some letter }) new
+short_is r old new letter is at = record {
+  rule = ap rule_of is ∙ ap (λ (x : Rule). record x { short = Some letter }) at.rule;
   local = ap (λ (a : Arg). a.global) is ∙ at.local;
 }
 
@@ -72,6 +81,22 @@ parser_is r old new p q is given same at = record {
       ∙ ap (λ (x : Rule). record x { parser = Some p }) at.rule;
   local = ap (λ (a : Arg). a.global) is ∙ at.local;
 }
+
+-- For range_is: some value that is this one.
+some_and : {X : Type 0} (given : Option X) (x : X) → IsSomeAnd given (λ y. y ≡ x) → given ≡ Some x
+some_and None x h = absurd h
+some_and (Some y) x h = ap Some h
+
+-- so is how many values a use takes
+pub range_is : (r : Rule) (old new : Arg) (range : ValueRange)
+    → (new ≡ record old { num_vals = new.num_vals }) × IsSomeAnd new.num_vals (λ x. x ≡ range) → IsArg r old
+    → IsArg (record r { range = Some range }) new
+range_is r old new range (is, given) at =
+    let given : new.num_vals ≡ Some range = some_and new.num_vals range given in record {
+      rule = ap rule_of is ∙ ap (λ (x : Option ValueRange). record (rule_of old) { range = x }) given
+          ∙ ap (λ (x : Rule). record x { range = Some range }) at.rule;
+      local = ap (λ (a : Arg). a.global) is ∙ at.local;
+    }
 
 -- a new command has no rule yet
 pub new_command_is : (c : Command) (name : Text) → app_of c ≡ new_app name → (out-Command c).has_globals ≡ false

@@ -1,7 +1,8 @@
 -- The command line, as `clap` reads it.
 use Rattle.std.specs.Prelude.{◌≡◌, ℕ, ◌≤◌, List, [], ◌∷◌, codes, Option, None, Some, option_map, Bool, true, false, bytes_eq}
-use Rattle.std.specs.Prelude.{⊤, ◌≢◌, map, unwrap_or}
+use Rattle.std.specs.Prelude.{⊤, ◌≢◌, map, unwrap_or, slice_get}
 use Rattle.std.specs.Str.Parse.{IsNumeral, digits_value, without_leading_plus}
+use Rattle.clap.specs.Lexer.{usize_max}
 use Rattle.clap.specs.Words.{App, Row, Rule, Text, all_of, first_of, new_app, new_rule, with_rule, with_subcommand, subcommand_of, takes}
 use Rattle.clap.specs.declared.builder.action.ArgAction.TheVariants.{Append, SetTrue}
 use Rattle.clap.specs.declared.builder.value_parser.ValueParser.TheVariants.{Unsigned}
@@ -72,9 +73,19 @@ next_app =
 abbrev pub file_rule : Rule
 file_rule = record (new_rule (codes "file")) { required = true; value_names = 1 }
 
--- `cronsim check FILE [--zone NAME=RULE].. [--zoneinfo DIR] [--explain]`
+-- a flag, whose long name is its id
+abbrev pub flag_rule : Text → Rule
+flag_rule id = record (new_rule id) { long = Some id; action = Some SetTrue }
+
+-- one file or more
+-- rule: check-several
+abbrev pub files_rule : Rule
+files_rule = record file_rule { range = Some (record { start_inclusive = 1; end_inclusive = usize_max }) }
+
+-- `cronsim check FILE.. [--strict] [--zone NAME=RULE].. [--zoneinfo DIR] [--explain]`
+-- rule: check-strict
 abbrev pub check_app : App
-check_app = with_zones (with_rule (new_app (codes "check")) file_rule)
+check_app = with_zones (with_rule (with_rule (new_app (codes "check")) files_rule) (flag_rule (codes "strict")))
 
 abbrev pub now_rule : Rule
 now_rule = record (new_rule (codes "now")) { long = Some (codes "now"); required = true; value_names = 1 }
@@ -99,12 +110,38 @@ workers_rule = record (new_rule (codes "workers")) {
 abbrev pub run_app : App
 run_app = with_zones (with_rule (with_rule (new_app (codes "run")) file_rule) workers_rule)
 
-abbrev pub cron_rule : Rule
-cron_rule = record (new_rule (codes "cron")) { long = Some (codes "cron"); value_names = 1 }
+-- a moment that may be left out
+abbrev pub moment_rule : Rule
+moment_rule = record (new_rule (codes "now")) { long = Some (codes "now"); value_names = 1 }
 
--- `cronsim why FILE --now TIME [--cron NAMESPACE/NAME] [--zone NAME=RULE].. [--zoneinfo DIR] [--explain]`
+-- an option that may be given several times
+abbrev pub crons_rule : Rule
+crons_rule = record (new_rule (codes "cron")) { long = Some (codes "cron"); action = Some Append; value_names = 1 }
+
+-- the namespace, by the letter that `kubectl` has for it
+abbrev pub namespace_rule : Rule
+namespace_rule =
+    record (new_rule (codes "namespace")) { long = Some (codes "namespace"); short = Some 110; value_names = 1 }
+
+-- the form of what is printed, by the letter that `kubectl` has for it
+abbrev pub output_rule : Rule
+output_rule = record (new_rule (codes "output")) {
+  long = Some (codes "output");
+  short = Some 111;
+  value_names = 1;
+  defaults = codes "table" ∷ [];
+}
+
+abbrev pub problems_rule : Rule
+problems_rule = record (new_rule (codes "problems")) { long = Some (codes "problems"); action = Some SetTrue }
+
+-- `cronsim why FILE [--now TIME] [--cron [NAMESPACE/]NAME].. [-n NAMESPACE] [-o FORMAT] [--problems] [--zone NAME=RULE]..
+-- [--zoneinfo DIR] [--explain]`
 abbrev pub why_app : App
-why_app = with_zones (with_rule (with_rule (with_rule (new_app (codes "why")) file_rule) now_rule) cron_rule)
+why_app =
+    let of = with_rule (with_rule (new_app (codes "why")) file_rule) moment_rule in
+    let named = with_rule (with_rule of crons_rule) namespace_rule in
+    with_zones (with_rule (with_rule named output_rule) problems_rule)
 
 -- `cronsim audit FILE [--zone NAME=RULE].. [--zoneinfo DIR] [--explain]`
 abbrev pub audit_app : App
@@ -166,7 +203,8 @@ pub record IsNext (rows : List Row) (r : NextRequest) : Type 0 where
 
 -- and for those of `check`
 pub record IsCheck (rows : List Row) (r : CheckRequest) : Type 0 where
-  pub file : first_of (codes "file") rows ≡ Some r.file.now
+  pub files : texts_of (codes "file") rows ≡ map (λ s. s.now) r.files.items
+  pub strict : r.strict ≡ is_given (codes "strict") rows
   pub zones : AreZones rows r.zones
   pub explain : r.explain ≡ is_given (codes "explain") rows
 
@@ -195,8 +233,11 @@ pub record IsRunOf (rows : List Row) (r : RunRequest) : Type 0 where
 -- and for those of `why`
 pub record IsWhy (rows : List Row) (r : WhyRequest) : Type 0 where
   pub file : first_of (codes "file") rows ≡ Some r.file.now
-  pub moment : first_of (codes "now") rows ≡ Some r.moment.now
-  pub cron : first_of (codes "cron") rows ≡ option_map (λ s. s.now) r.cron
+  pub moment : first_of (codes "now") rows ≡ option_map (λ s. s.now) r.moment
+  pub crons : texts_of (codes "cron") rows ≡ map (λ s. s.now) r.crons.items
+  pub namespace : first_of (codes "namespace") rows ≡ option_map (λ s. s.now) r.namespace
+  pub output : first_of (codes "output") rows ≡ Some r.output.now
+  pub problems : r.problems ≡ is_given (codes "problems") rows
   pub zones : AreZones rows r.zones
   pub explain : r.explain ≡ is_given (codes "explain") rows
 
@@ -221,10 +262,14 @@ IsOfRows found (Audit r) = (rows : List Row) × (found ≡ Some (codes "audit", 
 abbrev pub IsOf : List Text → Request → Type 0
 IsOf words r = IsOfRows (subcommand_of cronsim_app words) r
 
--- the name of the file that a request has read, where it has one read
+-- the name of the first file of `check`
+abbrev pub first_file : CheckRequest → Option Text
+first_file r = option_map (λ s. s.now) (slice_get r.files.items 0)
+
+-- the name of the file that a request has read, the first one of several, where it has one read
 abbrev pub file_of : Request → Option Text
 file_of (Next r) = None
-file_of (Check r) = Some r.file.now
+file_of (Check r) = first_file r
 file_of (Plan r) = Some r.file.now
 file_of (Replay r) = Some r.file.now
 file_of (Run r) = Some r.file.now

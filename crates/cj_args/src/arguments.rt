@@ -1,7 +1,8 @@
 // The arguments of the commands.
 ghost use Rattle.cj_args.specs.Building.{IsArg, option_rule, positional_rule, required_rule};
-ghost use Rattle.cj_args.specs.Command.{count_rule, explain_rule, workers_rule, zones_rule};
+ghost use Rattle.cj_args.specs.Command.{count_rule, crons_rule, explain_rule, files_rule, flag_rule, namespace_rule, output_rule, problems_rule, workers_rule, zones_rule};
 
+use crate::help;
 use clap::builder::ValueParser;
 use clap::{Arg, ArgAction};
 use std::alloc::Global;
@@ -70,14 +71,63 @@ pub(crate) fn zones_arg<'a>(alloc: Global) -> Arg<'a>
     .action(ArgAction::Append)
 }
 
+/// The CronJobs that are asked about.
+pub(crate) fn crons_arg<'a>(alloc: Global) -> Arg<'a>
+    ensures { IsArg crons_rule result }
+{
+    option_arg(alloc, "cron", "[NAMESPACE/]NAME", help::CRON).action(ArgAction::Append)
+}
+
+/// The namespace of those that are asked about.
+pub(crate) fn namespace_arg<'a>(alloc: Global) -> Arg<'a>
+    ensures { IsArg namespace_rule result }
+{
+    option_arg(alloc, "namespace", "NAMESPACE", help::NAMESPACE).short('n')
+}
+
+/// How the CronJobs are printed.
+pub(crate) fn output_arg<'a>(alloc: Global) -> Arg<'a>
+    ensures { IsArg output_rule result }
+{
+    option_arg(alloc, "output", "FORMAT", help::OUTPUT)
+        .short('o')
+        .default_value("table")
+}
+
+/// Whether only those CronJobs are printed that want a look.
+pub(crate) fn problems_arg<'a>(alloc: Global) -> Arg<'a>
+    ensures { IsArg problems_rule result }
+{
+    Arg::new(alloc, "problems")
+        .long("problems")
+        .action(ArgAction::SetTrue)
+        .help(help::PROBLEMS)
+}
+
+/// The files of a command that takes several.
+pub(crate) fn files_arg<'a>(alloc: Global) -> Arg<'a>
+    ensures { IsArg files_rule result }
+{
+    positional_arg(alloc, "file", "FILE", help::MANIFESTS).num_args(1..)
+}
+
+/// A flag.
+pub(crate) fn flag_arg<'a>(alloc: Global, id: &'a str, help: &'a str) -> Arg<'a>
+    ensures { IsArg (flag_rule id.entry.now) result }
+{
+    Arg::new(alloc, id)
+        .long(id)
+        .action(ArgAction::SetTrue)
+        .help(help)
+}
+
 /// Whether a refusal is explained.
 pub(crate) fn explain_arg<'a>(alloc: Global) -> Arg<'a>
     ensures { IsArg explain_rule result }
 {
-    Arg::new(alloc, "explain")
-        .long("explain")
-        .action(ArgAction::SetTrue)
-        .help(
-            "Say of a refusal, on standard error after its line, what is wrong and what is wanted",
-        )
+    flag_arg(
+        alloc,
+        "explain",
+        "Say of a refusal, on standard error after its line, what is wrong and what is wanted",
+    )
 }

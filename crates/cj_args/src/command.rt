@@ -5,7 +5,8 @@ ghost use Rattle.cj_args.specs.Building.{IsArg, IsCommand, bare_app};
 ghost use Rattle.cj_args.specs.Command.{acting_app, audit_app, check_app, cronsim_app, deciding_app, file_rule, next_app, plan_app, reading_app, replay_app, run_app, why_app, with_folder, with_zones};
 
 use crate::arguments::{
-    count_arg, explain_arg, option_arg, positional_arg, required_arg, workers_arg, zones_arg,
+    count_arg, crons_arg, explain_arg, files_arg, flag_arg, namespace_arg, option_arg, output_arg,
+    positional_arg, problems_arg, required_arg, workers_arg, zones_arg,
 };
 use crate::help;
 use clap::{Arg, Command};
@@ -103,13 +104,14 @@ fn next_command<'a>(alloc: Global) -> Result<Command<'a>, AllocError>
 fn check_command<'a>(alloc: Global) -> Result<Command<'a>, AllocError>
     ensures { IfOk result (IsCommand check_app) }
 {
-    let command = file_command(
+    let command = new_command(
         alloc,
         "check",
         "Check the manifest of a CronJob or a Job, and name every fault in it",
         help::CHECK,
-        "File with a manifest in JSON; - is standard input",
     );
+    let command = with_arg(Ok(command), files_arg(alloc));
+    let command = with_arg(command, flag_arg(alloc, "strict", help::STRICT));
     with_zones(alloc, command)
 }
 
@@ -164,11 +166,11 @@ fn why_command<'a>(alloc: Global) -> Result<Command<'a>, AllocError>
         help::WHY,
         help::CLUSTER,
     );
-    let command = with_arg(command, required_arg(alloc, "now", "TIME", help::NOW));
-    let command = with_arg(
-        command,
-        option_arg(alloc, "cron", "NAMESPACE/NAME", help::CRON),
-    );
+    let command = with_arg(command, option_arg(alloc, "now", "TIME", help::NOW));
+    let command = with_arg(command, crons_arg(alloc));
+    let command = with_arg(command, namespace_arg(alloc));
+    let command = with_arg(command, output_arg(alloc));
+    let command = with_arg(command, problems_arg(alloc));
     with_zones(alloc, command)
 }
 

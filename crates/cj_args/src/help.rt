@@ -17,7 +17,15 @@ pub(crate) const TIME_ZONE: &str =
 
 /// The folder of zone files.
 pub(crate) const FOLDER: &str =
-    "Folder with compiled zone files, as /usr/share/zoneinfo, where zones are looked up by name";
+    "Folder with compiled zone files, where zones are looked up by name; where none is given, the one that the environment variable CRONSIM_ZONEINFO names, and for why and audit else /usr/share/zoneinfo";
+
+/// The files of `check`.
+pub(crate) const MANIFESTS: &str =
+    "File with a manifest in JSON; - is standard input; of several, each line begins with its file";
+
+/// Whether warnings refuse a manifest.
+pub(crate) const STRICT: &str =
+    "End with status 1 where there is a warning too; of several files, with a count of them on standard error";
 
 /// The file of `plan`.
 pub(crate) const SCENARIO: &str =
@@ -40,10 +48,23 @@ pub(crate) const MOMENT: &str =
     "The moment that the plan is for: a UTC time, as 2024-01-01T00:00:00Z";
 
 /// The time of `why`.
-pub(crate) const NOW: &str = "The moment that is asked about: a UTC time, as 2024-01-01T00:00:00Z";
+pub(crate) const NOW: &str =
+    "The moment that is asked about: a time, as 2024-01-01T00:00:00Z or 2024-01-01T01:00:00+01:00; a date, as 2024-01-01; or by the clock, as -1h or +2d (s, m, h, d or w); where none is given, now";
 
-/// One CronJob of a cluster.
-pub(crate) const CRON: &str = "Only this CronJob, as default/report";
+/// CronJobs of a cluster.
+pub(crate) const CRON: &str =
+    "Only this CronJob, as default/report, or as report in the namespace of -n, else in default; may be given several times";
+
+/// Their namespace.
+pub(crate) const NAMESPACE: &str = "Only CronJobs of this namespace";
+
+/// How CronJobs are printed.
+pub(crate) const OUTPUT: &str =
+    "How the CronJobs are printed: table, for people, where --explain or a single --cron adds the reasons in full, or lines, for programs";
+
+/// Which of them.
+pub(crate) const PROBLEMS: &str =
+    "Only CronJobs that want a look: not those that are suspended, missed nothing, or start for the one time missed";
 
 /// After the options of `next`.
 pub(crate) const NEXT: &str = "Example:
@@ -56,12 +77,19 @@ Exit status:
   3  writing failed, or memory was wanting";
 
 /// Of `check`.
-pub(crate) const CHECK: &str = "Example:
+pub(crate) const CHECK: &str = "Examples:
   cronsim check docs/examples/manifest.json
+  cronsim check --strict deploy/*.json
+
+What it prints:
+  ok KIND NAMESPACE/NAME   the manifest has no fault
+  warning FIELD            this member isn't known, so it is dropped; --explain names the one that is near
+  refused 2 FIELD CAUSE    a fault in this field
+  refused 1 Syntax         it is no JSON
 
 Exit status:
-  0  the manifest has no fault
-  1  it has one, as standard output says; or a zone is refused, as standard error says; --explain says why
+  0  no manifest has a fault, and with --strict none has a warning
+  1  one has, as standard output says; or a zone is refused, as standard error says; --explain says why
   2  the words are wrong
   3  reading or writing failed, or memory was wanting";
 
@@ -96,18 +124,49 @@ Exit status:
   3  a call found the history full, reading or writing failed, or memory or a thread was wanting";
 
 /// Of `why`.
-pub(crate) const WHY: &str = "Example:
-  cronsim why docs/examples/cluster.json --now 2024-01-01T00:10:00Z
+pub(crate) const WHY: &str = "Examples:
+  kubectl get cronjobs,jobs -A -o json | cronsim why -
+  kubectl get cronjobs,jobs -A -o json | cronsim why - --problems
+  cronsim why docs/examples/cluster.json --now 2024-01-01T00:10:00Z --cron report
+
+Columns of the table:
+  MISSED  how many times each CronJob missed by now: 0 to 100, or >100
+  NEXT    when its schedule comes next
+  WHY     what its next sync does
+
+What WHY says:
+  starts             a Job starts, for the latest time missed
+  replaces           the same, and those that run are deleted first
+  nothing missed     no Job starts
+  suspended          no Job starts, as spec.suspend is true
+  skipped: running   no Job starts, as one runs under Forbid
+  name taken         no Job starts, as another has its name
+  lacks Jobs         not known, as the list lacks Jobs that status.active names
+  never: FIELD       no Job starts at any moment, because of this field
+
+Lines of each CronJob:
+  cron NAMESPACE/NAME missed COUNT since TIME
+  never FIELD   it starts no Job at any moment, because of this field
+  lacks NAME    status.active names this Job, and the list doesn't have it; where that matters, there is no plan
+  ..            and its plan, as of cronsim plan; with --explain the reasons come on standard error
 
 Exit status:
-  0  the lines were printed
-  1  the time, a zone or the input is refused, as standard error says; --explain says why
+  0  they were printed, and every item could be read
+  1  an item was refused, as standard output says; or the format, the time, a zone, a CronJob or the input is refused, as standard error says; --explain says why
   2  the words are wrong
   3  reading or writing failed, or memory was wanting";
 
 /// Of `audit`.
 pub(crate) const AUDIT: &str = "Example:
   kubectl get cronjobs,jobs -A -o json | cronsim audit -
+
+What it prints:
+  manual NAMESPACE/JOB                  somebody made it by hand, so it isn't looked at
+  twice NAMESPACE/NAME TIME JOB JOB     two Jobs have one scheduled time
+  beside NAMESPACE/NAME JOB JOB         two Jobs ran at once, under Forbid or Replace
+  undue NAMESPACE/NAME JOB TIME         the schedule isn't due at the Job's time
+  early NAMESPACE/NAME JOB TIME         the Job was created before its time
+  stray NAMESPACE/JOB NAME              its CronJob isn't in the list
 
 Exit status:
   0  nothing was found and every item could be read

@@ -1,5 +1,6 @@
 // What the words of a command line ask for.
 ghost use Rattle.std.specs.Prelude.{◌≡◌, option_map};
+ghost use Rattle.cj_args.specs.Command.{first_file};
 
 /// What a command line asks for.
 #[derive(Debug, Drop)]
@@ -29,7 +30,7 @@ impl<'a> Request<'a> {
     {
         match self {
             Request::Next(_) => None,
-            Request::Check(check) => Some(check.file),
+            Request::Check(check) => first_file(check),
             Request::Plan(plan) => Some(plan.file),
             Request::Replay(replay) => Some(replay.file),
             Request::Run(run) => Some(run.file),
@@ -115,12 +116,21 @@ pub struct NextRequest<'a> {
 /// The words of the command `check`, as they were given.
 #[derive(Debug, Drop)]
 pub struct CheckRequest<'a> {
-    /// The name of the file with the manifest; `-` is standard input.
-    pub file: &'a str,
-    /// The zones that the manifest may name.
+    /// The names of the files, each with a manifest; `-` is standard input. There is at least one.
+    pub files: Vec<&'a str>,
+    /// Whether a manifest with a warning is refused.
+    pub strict: bool,
+    /// The zones that the manifests may name.
     pub zones: ZoneWords<'a>,
     /// Whether a refusal is explained.
     pub explain: bool,
+}
+
+// The name of the first of the files.
+fn first_file<'a>(check: &CheckRequest<'a>) -> Option<&'a str>
+    ensures { option_map (λ s. s.now) result ≡ first_file check.now }
+{
+    check.files.as_slice().first().copied()
 }
 
 /// The words of the command `plan`, as they were given.
@@ -165,10 +175,16 @@ pub struct RunRequest<'a> {
 pub struct WhyRequest<'a> {
     /// The name of the file with the cluster's objects; `-` is standard input.
     pub file: &'a str,
-    /// The moment that is asked about: a printed time.
-    pub moment: &'a str,
-    /// The one CronJob that is asked about, as NAMESPACE/NAME; all of them where none is given.
-    pub cron: Option<&'a str>,
+    /// The moment that is asked about: a printed time. Where none is given, a program with a clock puts its own here.
+    pub moment: Option<&'a str>,
+    /// The CronJobs that are asked about, each as NAMESPACE/NAME or as NAME; all of them where none is given.
+    pub crons: Vec<&'a str>,
+    /// The namespace of those that are asked about; all of them where none is given.
+    pub namespace: Option<&'a str>,
+    /// How they are printed: `table` or `lines`.
+    pub output: &'a str,
+    /// Whether only those are printed that want a look.
+    pub problems: bool,
     /// The zones that the CronJobs may name.
     pub zones: ZoneWords<'a>,
     /// Whether a refusal is explained.

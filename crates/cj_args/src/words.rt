@@ -124,10 +124,11 @@ fn check_request<'a>(alloc: Global, found: &ArgMatches<'a>) -> Result<CheckReque
     ensures only { IfErr result (λ e. e ≡ Incomplete → (r : CheckRequest) →
         ¬ (IsCheck (rows_of (found_of found.now)) r)) }
 {
-    let file = text(found, "file")?;
+    let strict = is_given(found, "strict");
     let explain = is_given(found, "explain");
     Ok(CheckRequest {
-        file,
+        files: texts(alloc, found, "file")?,
+        strict,
         zones: zone_words(alloc, found)?,
         explain,
     })
@@ -189,13 +190,18 @@ fn why_request<'a>(alloc: Global, found: &ArgMatches<'a>) -> Result<WhyRequest<'
         ¬ (IsWhy (rows_of (found_of found.now)) r)) }
 {
     let file = text(found, "file")?;
-    let moment = text(found, "now")?;
-    let cron = optional_text(found, "cron");
+    let moment = optional_text(found, "now");
+    let namespace = optional_text(found, "namespace");
+    let output = text(found, "output")?;
+    let problems = is_given(found, "problems");
     let explain = is_given(found, "explain");
     Ok(WhyRequest {
         file,
         moment,
-        cron,
+        crons: texts(alloc, found, "cron")?,
+        namespace,
+        output,
+        problems,
         zones: zone_words(alloc, found)?,
         explain,
     })

@@ -9,6 +9,7 @@ use Rattle.std.specs.FinMap as map
 use Rattle.cj_zone.specs.declared.zone.Zone.{Zone}
 use Rattle.cj_cluster.specs.declared.cron.ClusterCron.{ClusterCron}
 use Rattle.cj_cluster.specs.Content.{Content}
+use Rattle.cj_cluster.specs.declared.kubectl.notes.ItemNote.{ItemNote}
 use Rattle.cj_audit.specs.declared.finding.Finding.{Finding}
 use Rattle.cj_audit.specs.Order.{finding_cmp, findings_total}
 use Rattle.cj_audit.specs.Notes.{AnyOf, Notes}
@@ -36,10 +37,10 @@ keys_have f s h = tied_in f s.keys h
 have_keys : (f : Finding) (s : BTreeSet Finding) → IsIn f s.keys → contains finding_cmp s f ≡ true
 have_keys f s h = any_true (is_at (finding_cmp f)) f s.keys h (ap is_eq (tied_itself findings_total f))
 
-module _ (zones : List Zone) (content : Content) where
+module _ (zones : List Zone) (content : Content) (refused : List ItemNote) where
   -- what is noted of CronJobs, then of Jobs
   abbrev Noted : Finding → Type 0
-  Noted f = AnyOf (IsFindingOf zones content) (map.values content.crons) f ⊎ AnyOf (IsStrayJob content) (map.values content.jobs) f
+  Noted f = AnyOf (IsFindingOf zones content) (map.values content.crons) f ⊎ AnyOf (IsStrayJob content refused) (map.values content.jobs) f
 
   -- For finding_of: of a CronJob that stands in the cluster.
   in_cron : (f : Finding) → (c : ClusterCron) × (IsIn c (map.values content.crons) × IsFindingOf zones content c f)
@@ -48,29 +49,29 @@ module _ (zones : List Zone) (content : Content) where
       record { cron = c; there = in_contains c (map.values content.crons) i; finding = h }
 
   -- What is noted is a finding.
-  finding_of : (f : Finding) → Noted f → IsFinding zones content f
+  finding_of : (f : Finding) → Noted f → IsFinding zones content refused f
   finding_of f (inl h) = inl (in_cron f (any_in (IsFindingOf zones content) (map.values content.crons) f h))
   finding_of f (inr h) =
-      let k = any_in (IsStrayJob content) (map.values content.jobs) f h in
+      let k = any_in (IsStrayJob content refused) (map.values content.jobs) f h in
       inr (record { job = k.0; there = in_contains k.0 (map.values content.jobs) (k.1).0; stray = (k.1).1 })
 
   -- A finding is noted.
-  of_finding : (f : Finding) → IsFinding zones content f → Noted f
+  of_finding : (f : Finding) → IsFinding zones content refused f → Noted f
   of_finding f (inl h) = inl (in_any (IsFindingOf zones content) (map.values content.crons) f h.cron
       (contains_in h.cron (map.values content.crons) h.there) h.finding)
-  of_finding f (inr h) = inr (in_any (IsStrayJob content) (map.values content.jobs) f h.job
+  of_finding f (inr h) = inr (in_any (IsStrayJob content refused) (map.values content.jobs) f h.job
       (contains_in h.job (map.values content.jobs) h.there) h.stray)
 
   -- For audit: what is noted in an empty set is what is wrong in the cluster.
   pub audited : (a b c : BTreeSet Finding) → a.keys ≡ []
       → Notes (AnyOf (IsFindingOf zones content) (map.values content.crons)) a b
-      → Notes (AnyOf (IsStrayJob content) (map.values content.jobs)) b c → IsOrdered finding_cmp c
-      → IsAudit zones content c.keys
+      → Notes (AnyOf (IsStrayJob content refused) (map.values content.jobs)) b c → IsOrdered finding_cmp c
+      → IsAudit zones content refused c.keys
   audited a b c empty n m ordered =
       let both = notes_then (AnyOf (IsFindingOf zones content) (map.values content.crons))
-      (AnyOf (IsStrayJob content) (map.values content.jobs)) a b c n m in
+      (AnyOf (IsStrayJob content refused) (map.values content.jobs)) a b c n m in
       record {
-        each = all_in (IsFinding zones content) c.keys (λ f i. elim (both.found f (have_keys f c i)) [
+        each = all_in (IsFinding zones content refused) c.keys (λ f i. elim (both.found f (have_keys f c i)) [
           | inl was ↦ absurd (subst (λ xs. IsIn f xs) empty (keys_have f a was))
           | inr h ↦ finding_of f h
         ]);

@@ -9,6 +9,8 @@ use Rattle.cj_types.specs.declared.job.Job.{Job}
 use Rattle.cj_zone.specs.declared.zone.Zone.{Zone}
 use Rattle.cj_cluster.specs.declared.cron.ClusterCron.{ClusterCron}
 use Rattle.cj_cluster.specs.Content.{Content, is_of}
+use Rattle.cj_cluster.specs.declared.kubectl.notes.ItemNote.{ItemNote}
+use Rattle.cj_cluster.specs.kubectl.Named.{is_of_refused}
 use Rattle.cj_audit.specs.declared.kind.Exclusive.{Exclusive}
 use Rattle.cj_audit.specs.declared.kind.FindingKind.TheVariants.{Stray}
 use Rattle.cj_audit.specs.declared.finding.Finding.{Finding}
@@ -16,6 +18,7 @@ use Rattle.cj_audit.specs.declared.pairing.Pairing.{Pairing}
 use Rattle.cj_audit.specs.declared.pairing.Pairing.TheVariants.{SameTime, SideBySide}
 use Rattle.cj_audit.specs.declared.run.Run.{Run}
 use Rattle.cj_audit.specs.Kinds.{exclusive_of}
+use Rattle.cj_audit.specs.Manual.{is_manual}
 use Rattle.cj_audit.specs.Order.{finding_cmp}
 use Rattle.cj_audit.specs.Runs.{IsRunOf}
 use Rattle.cj_audit.specs.Pairs.{IsPairNote}
@@ -77,11 +80,13 @@ stray_finding job name = record {
 }
 
 -- the controller reference of the Job names a CronJob of batch/v1, and no CronJob of the cluster controls the Job: none
--- is at that key, or one with another uid
+-- is at that key, or one with another uid; nor is it that of an item that can't be used, and nobody made it by hand
 -- rule: audit-stray
-pub record IsStrayJob (content : Content) (job : Job) (f : Finding) : Type 0 where
+pub record IsStrayJob (content : Content) (notes : List ItemNote) (job : Job) (f : Finding) : Type 0 where
   pub name : List ℕ
   pub named : cron_of job ≡ Some name
+  pub made : is_manual content.times job ≡ false
+  pub unlisted : is_of_refused notes job ≡ false
   pub free : has_cron content job ≡ false
   pub is : f ≡ stray_finding job name
 
@@ -93,17 +98,18 @@ pub record IsFindingIn (zones : List Zone) (content : Content) (f : Finding) : T
 
 -- a Job of the cluster whose CronJob isn't there
 -- rule: audit-stray
-pub record IsStray (content : Content) (f : Finding) : Type 0 where
+pub record IsStray (content : Content) (notes : List ItemNote) (f : Finding) : Type 0 where
   pub job : Job
   pub there : Contains (map.values content.jobs) job
-  pub stray : IsStrayJob content job f
+  pub stray : IsStrayJob content notes job f
 
-abbrev pub IsFinding : List Zone → Content → Finding → Type 0
-IsFinding zones content f = IsFindingIn zones content f ⊎ IsStray content f
+abbrev pub IsFinding : List Zone → Content → List ItemNote → Finding → Type 0
+IsFinding zones content notes f = IsFindingIn zones content f ⊎ IsStray content notes f
 
--- what the list has are all findings and nothing else, each once, in their order
+-- what the list has are all findings and nothing else, each once, in their order; the notes are those of the items that
+-- can't be used
 -- rule: audit-order
-pub record IsAudit (zones : List Zone) (content : Content) (findings : List Finding) : Type 0 where
-  pub each : All (IsFinding zones content) findings
-  pub all : (f : Finding) → IsFinding zones content f → Contains findings f
+pub record IsAudit (zones : List Zone) (content : Content) (notes : List ItemNote) (findings : List Finding) : Type 0 where
+  pub each : All (IsFinding zones content notes) findings
+  pub all : (f : Finding) → IsFinding zones content notes f → Contains findings f
   pub rises : IsStrictlySortedBy finding_cmp findings

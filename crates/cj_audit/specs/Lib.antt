@@ -1,6 +1,7 @@
 pub mod Kinds
 pub mod Order
 pub mod Runs
+pub mod Manual
 pub mod Pairs
 pub mod Times
 pub mod Notes

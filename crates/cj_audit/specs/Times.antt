@@ -1,5 +1,5 @@
 -- A Job that was made for a time that isn't due, and one that was made before its time.
-use Rattle.std.specs.Prelude.{◌≡◌, ℕ, ◌<◌, Bool, true, false, not, List, Option, Some, None, codes}
+use Rattle.std.specs.Prelude.{◌≡◌, ◌⊎◌, ℕ, ◌<◌, Bool, true, false, not, List, Option, Some, None, codes}
 use Rattle.cj_schedule.specs.Grammar.{IsSchedule}
 use Rattle.cj_schedule.specs.Matches.{Sets}
 use Rattle.cj_zone.specs.declared.zone.Zone.{Zone}
@@ -63,3 +63,7 @@ pub record IsEarlyRun (c : ClusterCron) (run : Run) (f : Finding) : Type 0 where
   pub scheduled : run.times.scheduled ≡ Some time
   pub early : created run < time
   pub is : f ≡ run_finding Early c run time
+
+-- either of the two
+abbrev pub IsSingleNote : Option Sets → Option Zone → ClusterCron → Run → Finding → Type 0
+IsSingleNote schedule zone c run f = IsUndueNote schedule zone c run f ⊎ IsEarlyRun c run f

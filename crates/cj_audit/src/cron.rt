@@ -1,9 +1,9 @@
-ghost use Rattle.std.specs.Prelude.{◌≡◌, ◌⊎◌, IfOk, IfErr, OnOk, IsTrue, option_copied};
+ghost use Rattle.std.specs.Prelude.{◌≡◌, IfOk, IfErr, OnOk, IsTrue, option_copied};
 ghost use Rattle.cj_base.specs.declared.refusal.Refusal.TheVariants.{OutOfMemory};
 ghost use Rattle.cj_types.specs.Names.{longest_cron};
 ghost use Rattle.cj_types.specs.Keys.{is_place};
 ghost use Rattle.cj_zone.specs.Table.{zones_of};
-ghost use Rattle.cj_audit.specs.Times.{run_finding, IsUndueNote, IsEarlyRun};
+ghost use Rattle.cj_audit.specs.Times.{run_finding, IsUndueNote, IsEarlyRun, IsSingleNote};
 ghost use Rattle.cj_audit.specs.Notes.{Notes, AnyOf};
 ghost use Rattle.cj_audit.specs.Findings.{IsFindingOf};
 
@@ -100,9 +100,8 @@ fn note_singles(
     runs: &[Run],
     notes: &mut BTreeSet<Finding>,
 ) -> Result<(), Refusal>
-    ensures ok { OnOk result (Notes (AnyOf (λ run f. IsUndueNote (option_copied schedule.entry)
-        (option_copied zone.entry) cron.now run f ⊎ IsEarlyRun cron.now run f) runs.now)
-        notes.old notes.new) }
+    ensures ok { OnOk result (Notes (AnyOf (IsSingleNote (option_copied schedule.entry)
+        (option_copied zone.entry) cron.now) runs.now) notes.old notes.new) }
     ensures memory { IfErr result (λ e. e ≡ OutOfMemory) }
 {
     for run in runs {

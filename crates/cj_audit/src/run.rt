@@ -16,7 +16,7 @@ pub(crate) struct Run {
     pub times: JobTimes,
 }
 
-// The Job with its times behind the others, if it is the CronJob's.
+// The Job with its times behind the others, if it is the CronJob's and nobody made it by hand.
 fn push_run(
     cluster: &Cluster,
     cron: &ClusterCron,
@@ -33,6 +33,9 @@ fn push_run(
     let Some(times) = cluster.times(&job.get().key) else {
         return Ok(());
     };
+    if times.get().is_manual {
+        return Ok(());
+    }
     let run = Run {
         job: job.share()?,
         times: *times.get(),
@@ -56,7 +59,7 @@ fn runs_in(
     Ok(runs)
 }
 
-/// The Jobs of the CronJob with their times, in the order of their names.
+/// The Jobs of the CronJob that its controller made, with their times, in the order of their names.
 pub(crate) fn runs_of(
     alloc: Global,
     cluster: &Cluster,

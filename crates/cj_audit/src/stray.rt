@@ -8,8 +8,9 @@ ghost use Rattle.cj_audit.specs.Places.{place_if, AreShort};
 
 use crate::finding::Finding;
 use crate::kind::FindingKind;
+use crate::manual::is_manual;
 use crate::note::note;
-use cj_cluster::Cluster;
+use cj_cluster::{Cluster, ItemNote, is_of_refused};
 use cj_types::{Job, Key, Refusal, Shared, Text, TryCopy};
 use std::alloc::Global;
 use std::collections::BTreeSet;
@@ -56,40 +57,49 @@ fn stray_finding(alloc: Global, job: &Job, name: &Text) -> Result<Finding, Refus
     })
 }
 
-// Notes the Job, if it names a CronJob that doesn't control it or isn't there.
+// Notes the Job, if nobody made it by hand, and it names a CronJob that doesn't control it or isn't there.
 fn note_stray(
     alloc: Global,
     cluster: &Cluster,
+    refused: &[ItemNote],
     job: &Job,
     notes: &mut BTreeSet<Finding>,
 ) -> Result<(), Refusal>
     requires { AreShort cluster.now.crons }
-    ensures ok { OnOk result (Notes (IsStrayJob cluster.now job.now) notes.old notes.new) }
+    ensures ok { OnOk result (Notes (IsStrayJob cluster.now refused.now job.now) notes.old
+        notes.new) }
     ensures memory { IfErr result (λ e. e ≡ OutOfMemory) }
 {
     let Some(name) = job.cron_name() else {
         return Ok(());
     };
+    if is_manual(cluster, job) {
+        return Ok(());
+    }
+    if is_of_refused(refused, job) {
+        return Ok(());
+    }
     if has_cron(alloc, cluster, job, name)? {
         return Ok(());
     }
     note(notes, stray_finding(alloc, job, name)?)
 }
 
-/// Notes the Jobs whose CronJob isn't there.
+/// Notes the Jobs whose CronJob isn't there, neither among those of the cluster nor among the items that can't be used.
 pub(crate) fn note_strays(
     alloc: Global,
     cluster: &Cluster,
+    refused: &[ItemNote],
     notes: &mut BTreeSet<Finding>,
 ) -> Result<(), Refusal>
     requires { AreShort cluster.now.crons }
-    ensures ok { OnOk result (Notes (AnyOf (IsStrayJob cluster.now) (map.values cluster.now.jobs))
-        notes.old notes.new) }
+    ensures ok { OnOk result (Notes (AnyOf (IsStrayJob cluster.now refused.now)
+        (map.values cluster.now.jobs)) notes.old notes.new) }
     ensures memory { IfErr result (λ e. e ≡ OutOfMemory) }
 {
     let jobs = cluster.jobs(alloc)?;
     for job in jobs.as_slice() {
-        note_stray(alloc, cluster, job.get(), notes)?;
+        note_stray(alloc, cluster, refused, job.get(), notes)?;
     }
     Ok(())
 }

@@ -10,7 +10,7 @@ use crate::cron::note_cron;
 use crate::finding::Finding;
 use crate::findings::Findings;
 use crate::stray::note_strays;
-use cj_cluster::Cluster;
+use cj_cluster::{Cluster, ItemNote};
 use cj_types::Refusal;
 use cj_zone::ZoneTable;
 use std::alloc::Global;
@@ -36,13 +36,19 @@ fn note_crons(
 }
 
 /// What is wrong in the cluster: each Job, and each two, that a correct controller would not have made. The zones are
-/// those that its CronJobs may name; one that names none goes by UTC.
-pub fn audit(alloc: Global, zones: &ZoneTable, cluster: &Cluster) -> Result<Findings, Refusal>
-    ensures ok { IfOk result (λ f. IsAudit (zones_of zones.now) cluster.now f) }
+/// those that its CronJobs may name; one that names none goes by UTC. A Job of a CronJob whose item can't be used, by
+/// these notes, is no stray.
+pub fn audit(
+    alloc: Global,
+    zones: &ZoneTable,
+    cluster: &Cluster,
+    refused: &[ItemNote],
+) -> Result<Findings, Refusal>
+    ensures ok { IfOk result (λ f. IsAudit (zones_of zones.now) cluster.now refused.now f) }
     ensures memory { IfErr result (λ e. e ≡ OutOfMemory) }
 {
     let mut notes = BTreeSet::new(alloc);
     note_crons(alloc, zones, cluster, &mut notes)?;
-    note_strays(alloc, cluster, &mut notes)?;
+    note_strays(alloc, cluster, refused, &mut notes)?;
     Findings::of_set(alloc, notes)
 }

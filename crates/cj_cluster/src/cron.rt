@@ -32,7 +32,8 @@ impl TryCopy for ClusterCron {
     }
 }
 
-fn has_uid(uid: &str, job: &Job) -> bool
+/// Whether the Job's controller reference has this uid.
+pub(crate) fn has_uid(uid: &str, job: &Job) -> bool
     ensures { result ≡ has_uid uid.now (controller_of job.now.owners) }
 {
     match job.owners.controller() {

@@ -12,5 +12,8 @@ mod times;
 
 pub use cluster::Cluster;
 pub use cron::ClusterCron;
-pub use kubectl::{ClusterList, ItemNote, ItemNotes, ListFault, Said, read_cluster, read_instant};
+pub use kubectl::{
+    ClusterList, CronName, ItemNote, ItemNotes, ListFault, Said, is_of_refused, read_cluster,
+    read_instant,
+};
 pub use times::JobTimes;

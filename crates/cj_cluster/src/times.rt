@@ -1,10 +1,12 @@
 use cj_types::Seconds;
 
-/// What a cluster says of a Job's times beside that of its creation.
+/// What a cluster says of a Job's times beside that of its creation, and who made it.
 #[derive(Clone, Copy, Debug, PartialEq, Eq)]
 pub struct JobTimes {
     /// The scheduled time that it was made for, where an annotation says it.
     pub scheduled: Option<Seconds>,
     /// When it ended, if it did.
     pub ended: Option<Seconds>,
+    /// Whether somebody made it by hand from the CronJob's template, as its annotation says.
+    pub is_manual: bool,
 }

@@ -31,7 +31,7 @@ cause_of field Why.Fraction = wanted (codes "numbers without a fraction, of 64 b
 cause_of field Why.TooLong = wanted (most field)
 cause_of field Why.Format = wanted (text_form field)
 cause_of field Why.Range = wanted (numbers field)
-cause_of field Why.Zone = wanted (codes "a zone that is known: UTC, or one given by --zone or --zoneinfo")
+cause_of field Why.Zone = wanted (codes "a zone that is known: UTC, one of --zone NAME=RULE, or one with a file in the folder of --zoneinfo, as /usr/share/zoneinfo")
 cause_of field Why.NotAllowed = codes "may not stand here"
 cause_of field (Why.Schedule f) = schedule_words f
 

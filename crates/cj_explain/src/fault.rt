@@ -48,7 +48,7 @@ fn cause_of(alloc: Global, field: Field, cause: Cause) -> Result<String, AllocEr
         Cause::Range => wanted(alloc, numbers(field)),
         Cause::Zone => wanted(
             alloc,
-            "a zone that is known: UTC, or one given by --zone or --zoneinfo",
+            "a zone that is known: UTC, one of --zone NAME=RULE, or one with a file in the folder of --zoneinfo, as /usr/share/zoneinfo",
         ),
         Cause::NotAllowed => String::from_str(alloc, "may not stand here"),
         Cause::Schedule(fault) => schedule_words(alloc, fault),

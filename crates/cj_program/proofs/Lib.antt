@@ -1,3 +1,4 @@
 pub mod Given
 pub mod Runs
 pub mod Scenes
+pub mod GivenFiles

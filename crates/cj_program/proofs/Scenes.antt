@@ -15,8 +15,8 @@ use Rattle.cj_program.specs.Run.{IsRanOf}
 -- fault is why the bytes are refused under the zones that are given; explain says whether words for people are asked for.
 module _ (explain : Bool) (given : GivenZones) (bytes : List ℕ) (fault : SceneFault) where
   -- of `run`: closes what the bytes are answered
-  pub simulation_refused : (r : Result Answer Failure) → IsRefusedSimulation given bytes fault → IfOk r (λ _. fault ≢ Why.Memory)
+  pub simulation_refused : (workers : ℕ) (r : Result Answer Failure) → IsRefusedSimulation given bytes fault → IfOk r (λ _. fault ≢ Why.Memory)
       → IfOk r (λ a. IsSceneRefusal explain A.Simulation bytes fault (outcome_of a))
-      → IfOk r (λ a. IsRanOf explain given bytes (outcome_of a))
-  simulation_refused (Ok a) why told is = inl (record { fault = fault; refused = why; told = told; says = is })
-  simulation_refused (Err e) why told is = search rules
+      → IfOk r (λ a. IsRanOf explain workers given bytes (outcome_of a))
+  simulation_refused workers (Ok a) why told is = inl (record { fault = fault; refused = why; told = told; says = is })
+  simulation_refused workers (Err e) why told is = search rules

@@ -20,19 +20,19 @@ pub record RefusesSimulation (explain : Bool) (given : GivenZones) (bytes : List
   pub told : fault ≢ Why.Memory
   pub says : IsSceneRefusal explain A.Simulation bytes fault o
 
--- the report of a run of the scenario that they are
-pub record PrintsReport (explain : Bool) (given : GivenZones) (bytes : List ℕ) (o : Outcome) : Type 0 where
+-- the report of a run of the scenario that they are, with so many workers
+pub record PrintsReport (explain : Bool) (workers : ℕ) (given : GivenZones) (bytes : List ℕ) (o : Outcome) : Type 0 where
   pub simulation : Simulation
   pub said : IsSimulation given bytes simulation
   pub text : List ℕ
-  pub run : IsRun simulation text
+  pub run : IsRun simulation workers text
   pub seen : List ℕ
   pub looked : IsAskedDetection explain A.Simulation bytes seen
   pub answer : o ≡ explained explain seen (done text)
 
 -- what the bytes are answered under these zones
-abbrev pub IsRanOf : Bool → GivenZones → List ℕ → Outcome → Type 0
-IsRanOf explain given bytes o = RefusesSimulation explain given bytes o ⊎ PrintsReport explain given bytes o
+abbrev pub IsRanOf : Bool → ℕ → GivenZones → List ℕ → Outcome → Type 0
+IsRanOf explain workers given bytes o = RefusesSimulation explain given bytes o ⊎ PrintsReport explain workers given bytes o
 
 -- what is read, all of the input, is run under the zones of the words and the files
 pub record RunsInput (r : RunRequest) (files : List ZoneFile) (input : Option (List ℕ)) (o : Outcome) : Type 0 where
@@ -41,7 +41,7 @@ pub record RunsInput (r : RunRequest) (files : List ZoneFile) (input : Option (L
   pub bytes : List ℕ
   pub bytes_are : IfSome input (λ xs. bytes ≡ xs)
   pub fits : length bytes ≤ 16_777_216
-  pub ran : IsRanOf r.explain given bytes o
+  pub ran : IsRanOf r.explain r.workers given bytes o
 
 -- what `run` answers, where the input is known: a rule of the words is refused first, and nothing is read then
 -- rule: run

@@ -9,17 +9,23 @@
 mod replay;
 mod run;
 mod serving;
+mod several;
 mod told;
 mod writing;
 
-pub use cj_answers::{MOST_LIST_BYTES, MOST_LIST_READS, next_text};
+pub use cj_answers::{
+    FileAnswer, MOST_LIST_BYTES, MOST_LIST_READS, by_clock, check_answer, next_text,
+};
 pub use cj_args::{
     AuditRequest, CheckRequest, NextRequest, PlanRequest, ReplayRequest, Request, RunRequest,
     WhyRequest, WordFault, ZoneWords, parse_words,
 };
 pub use cj_io::{
-    Failure, FileBytes, MOST_READS, ZoneFile, is_file_name, read_input, tell_failure, zones_named,
+    Failure, FileBytes, MOST_BYTES, MOST_READS, ZoneFile, is_file_name, read_input, tell_failure,
+    zones_named,
 };
-pub use cj_types::Text;
+pub use cj_types::{Seconds, Text};
+pub use cj_zone::time_text;
 pub use serving::serve;
+pub use several::serve_several;
 pub use told::tell_fault;

@@ -38,7 +38,8 @@ fn answered<T: Threads + Wait + Sync>(
     simulation: &Simulation,
 ) -> Result<Answer, Failure>
     ensures { (given : GivenZones) → IsSimulation given bytes.now simulation.now →
-        IfOk result (λ a. IsRanOf run.now.explain given bytes.now (outcome_of a)) }
+        IfOk result (λ a. IsRanOf run.now.explain run.now.workers given bytes.now
+        (outcome_of a)) }
 {
     let report = run_simulation(rt, alloc, simulation, u64::from(run.workers))?;
     let seen = asked_detection(alloc, run.explain, Form::Simulation, bytes)?;
@@ -52,7 +53,8 @@ fn bytes_answer<T: Threads + Wait + Sync>(
     given: GivenZones<'_>,
     bytes: &[u8],
 ) -> Result<Answer, Failure>
-    ensures { IfOk result (λ a. IsRanOf run.now.explain given.entry bytes.now (outcome_of a)) }
+    ensures { IfOk result (λ a. IsRanOf run.now.explain run.now.workers given.entry bytes.now
+        (outcome_of a)) }
 {
     match read_simulation(alloc, given, bytes) {
         Ok(simulation) => answered(rt, alloc, run, bytes, &simulation),

@@ -1,6 +1,10 @@
+pub mod Lacking
 pub mod Otherwise
 pub mod PlanLines
 pub mod Review
+pub mod Rows
 pub mod Seen
+pub mod Table
+pub mod Verdict
 pub mod Words
 pub mod ZoneFor

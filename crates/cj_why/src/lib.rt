@@ -11,5 +11,8 @@ mod running;
 mod since;
 mod start;
 
-pub use reviews::{Reviewed, found, listed, plan_text, review, zone_copy, zone_of};
+pub use reviews::{
+    CronRow, Reviewed, Verdict, cron_rows, found, listed, plan_text, problems, review, table_text,
+    zone_copy, zone_of,
+};
 pub use start::why;

@@ -1,13 +1,20 @@
 // What the next sync of each CronJob of a cluster does, and what it missed.
+mod lacking;
 mod otherwise;
 mod reviewing;
+mod rows;
 mod seen;
 mod since;
 mod steps_text;
+mod table;
+mod verdict;
 mod words;
 mod zone_for;
 
 pub use reviewing::{Reviewed, review};
+pub use rows::{CronRow, cron_rows, problems};
 pub use seen::{found, listed};
 pub use steps_text::plan_text;
+pub use table::table_text;
+pub use verdict::Verdict;
 pub use zone_for::{zone_copy, zone_of};

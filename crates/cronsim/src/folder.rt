@@ -1,6 +1,8 @@
 use cj_program::{
     Failure, FileBytes, MOST_READS, Text, ZoneFile, is_file_name, read_input, zones_named,
 };
+use std::env;
+use std::env::VarError;
 use std::fs::File;
 
 // A zone file has at most so many bytes.
@@ -36,6 +38,15 @@ fn push_file(
         }
     }
     Ok(())
+}
+
+/// The folder that the environment names, if it does.
+pub fn folder_set(rt: &HostRuntime) -> Result<Option<String>, Failure> {
+    match env::var(rt, "CRONSIM_ZONEINFO") {
+        Ok(folder) => Ok(Some(folder)),
+        Err(VarError::OutOfMemory) => Err(Failure::Memory),
+        Err(_) => Ok(None),
+    }
 }
 
 /// The file of the zone of that name in the folder, if there is one.

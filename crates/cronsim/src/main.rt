@@ -1,32 +1,56 @@
-//! The program `cronsim`: it takes the words of its command line, opens the file that they name and reads the zone
-//! files that its input names, and has `cj_program` serve the request. Nothing else belongs here, since no
-//! contract can say what a file or a terminal holds.
+//! The program `cronsim`: it takes the words of its command line, opens the file that they name, reads the zone
+//! files that its input names and, where a moment is now or so much before or after it, the clock, and has `cj_program` serve the request.
+//! Nothing else belongs here, since no contract can say what a file, a clock or a terminal holds.
 #![tactic(auto)]
 
+mod clock;
 mod folder;
+mod several;
 mod source;
+mod words;
 
 use cj_program::{
-    Failure, MOST_LIST_BYTES, MOST_LIST_READS, Request, parse_words, read_input, serve,
+    Failure, MOST_BYTES, MOST_LIST_BYTES, MOST_LIST_READS, Request, parse_words, read_input, serve,
     tell_failure, tell_fault,
 };
-use folder::{input_files, named_file};
+use clock::moment_by_clock;
+use folder::{folder_set, input_files, named_file};
+use several::serve_files;
 use source::Input;
-use std::io::{ErrorKind, Write};
+use std::io::Write;
 use std::process::ExitCode;
 use std::sync::Wait;
 use std::thread::Threads;
+use words::{asked, joined};
 
 // The exit status of a failed input or output.
 const FAILED: u8 = 3;
 
-// Says to people why the file of a request that failed could not be opened, where they ask for that.
-fn tell_unopened<E: Write>(request: &Request<'_>, status: u8, input: &Input, err: &mut E) {
+// How many bytes an input may have.
+fn most_bytes(request: &Request<'_>) -> usize {
+    match request {
+        Request::Why(_) | Request::Audit(_) => MOST_LIST_BYTES,
+        _ => MOST_BYTES,
+    }
+}
+
+// Says to people why the file of a request that failed could not be opened, or that it is too long, where they ask for
+// that.
+fn tell_unread<E: Write>(request: &Request<'_>, status: u8, input: &Input, err: &mut E) {
     if status != FAILED || !request.explains() {
         return;
     }
-    if let (Some(file), Some(cause)) = (request.file(), input.cause()) {
+    let Some(file) = request.file() else {
+        return;
+    };
+    let most = most_bytes(request);
+    if let Some(cause) = input.cause() {
         let _ = writeln!(err, "{file}: {cause}");
+    } else if input.is_above(most) {
+        let _ = writeln!(
+            err,
+            "{file}: longer than {most} bytes, the most that is read"
+        );
     }
 }
 
@@ -56,9 +80,17 @@ fn serve_with_folder<T: Threads + Wait + Sync>(
         }
         Err(Failure::Memory) => Err(Failure::Memory),
         Err(_) => {
-            let mut rest = Input::Unopened(ErrorKind::Other);
+            let mut rest = Input::unreadable();
             Ok(serve(threads, alloc, request, &[], &mut rest, out, err))
         }
+    }
+}
+
+// Where zones are looked up whose folder nobody gives: the machine's own, for the commands on a cluster.
+fn machine_folder(request: &Request<'_>) -> Option<&'static str> {
+    match request {
+        Request::Why(_) | Request::Audit(_) => Some("/usr/share/zoneinfo"),
+        _ => None,
     }
 }
 
@@ -70,7 +102,11 @@ fn serve_request<T: Threads + Wait + Sync>(
     input: &mut Input,
 ) -> Result<u8, Failure> {
     let alloc = rt.alloc();
-    match (request, request.folder()) {
+    let set = folder_set(rt)?;
+    let set = set.as_ref().map(|folder| folder.as_str());
+    let folder = request.folder().or(set).or(machine_folder(request));
+    match (request, folder) {
+        (Request::Check(check), _) if check.files.len() > 1 => serve_files(rt, check, folder),
         (Request::Next(next), Some(folder)) => {
             let files = named_file(rt, folder, next.time_zone.unwrap_or(""))?;
             let (out, err) = (&mut rt.stdout(), &mut rt.stderr());
@@ -84,21 +120,57 @@ fn serve_request<T: Threads + Wait + Sync>(
     }
 }
 
+// The moment that a request means by the clock: now, where the words leave it out, or so much before or after it.
+fn clock_moment(rt: &HostRuntime, request: &Request<'_>) -> Result<Option<String>, Failure> {
+    match request {
+        Request::Why(why) => moment_by_clock(rt, why.moment),
+        _ => Ok(None),
+    }
+}
+
+// The file of a request that reads one; of several each is opened when its turn comes.
+fn only_file<'a>(request: &Request<'a>) -> Option<&'a str> {
+    match request {
+        Request::Check(check) if check.files.len() > 1 => None,
+        _ => request.file(),
+    }
+}
+
+// The request with that moment, where it means one.
+fn at_moment<'a>(mut request: Request<'a>, moment: Option<&'a str>) -> Request<'a> {
+    if let Request::Why(why) = &mut request {
+        if moment.is_some() {
+            why.moment = moment;
+        }
+    }
+    request
+}
+
+// Opens the file of a request and serves it.
+fn serve_parsed<T: Threads + Wait + Sync>(
+    threads: &T,
+    rt: &HostRuntime,
+    request: Request<'_>,
+) -> Result<u8, Failure> {
+    let moment = clock_moment(rt, &request)?;
+    let request = at_moment(request, moment.as_ref().map(|text| text.as_str()));
+    let mut input = Input::open(rt, only_file(&request));
+    let status = serve_request(threads, rt, &request, &mut input)?;
+    tell_unread(&request, status, &input, &mut rt.stderr());
+    Ok(status)
+}
+
 // Reads the words of the command line and serves what they ask for.
 fn run<T: Threads + Wait + Sync>(threads: &T, rt: &HostRuntime) -> Result<u8, Failure> {
     let alloc = rt.alloc();
-    let args: Vec<String> = std::env::args(rt)?.collect(alloc)?;
+    let given: Vec<String> = std::env::args(rt)?.collect(alloc)?;
+    let args = joined(alloc, given.as_slice())?;
     let mut words = Vec::new(alloc);
     for arg in &args {
         words.push(arg.as_str())?;
     }
-    match parse_words(alloc, words.as_slice()) {
-        Ok(request) => {
-            let mut input = Input::open(rt, request.file());
-            let status = serve_request(threads, rt, &request, &mut input)?;
-            tell_unopened(&request, status, &input, &mut rt.stderr());
-            Ok(status)
-        }
+    match parse_words(alloc, asked(words.as_slice())) {
+        Ok(request) => serve_parsed(threads, rt, request),
         Err(fault) => Ok(tell_fault(alloc, &fault, &mut rt.stdout(), &mut rt.stderr())),
     }
 }

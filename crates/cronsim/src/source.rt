@@ -2,35 +2,56 @@ use std::fs::File;
 use std::io;
 use std::io::{ErrorKind, Read, Stdin};
 
-/// Where the bytes that a command reads come from.
+/// Where bytes come from.
 #[derive(Drop)]
-pub enum Input {
+enum Source {
     Standard(Stdin),
     File(File),
     /// A file that could not be opened, or is a directory, for this cause: every read fails.
     Unopened(ErrorKind),
 }
 
+/// What a command reads, and how many bytes of it were read.
+#[derive(Drop)]
+pub struct Input {
+    source: Source,
+    count: usize,
+}
+
 impl Input {
     /// The file of that name; standard input where it is `-`, or none is named.
     pub fn open(rt: &HostRuntime, name: Option<&str>) -> Input {
-        match name {
-            None | Some("-") => Input::Standard(rt.stdin()),
+        let source = match name {
+            None | Some("-") => Source::Standard(rt.stdin()),
             Some(name) => match File::open(rt, name) {
-                Ok(file) => Input::File(file),
-                Err(error) => Input::Unopened(error.kind()),
+                Ok(file) => Source::File(file),
+                Err(error) => Source::Unopened(error.kind()),
             },
+        };
+        Input { source, count: 0 }
+    }
+
+    /// One whose every read fails.
+    pub fn unreadable() -> Input {
+        Input {
+            source: Source::Unopened(ErrorKind::Other),
+            count: 0,
         }
+    }
+
+    /// Whether more bytes were read than so many.
+    pub fn is_above(&self, most: usize) -> bool {
+        self.count > most
     }
 
     /// Why the file could not be opened, for people.
     pub fn cause(&self) -> Option<&'static str> {
-        match self {
-            Input::Unopened(ErrorKind::NotFound) => Some("no such file or directory"),
-            Input::Unopened(ErrorKind::PermissionDenied) => Some("permission denied"),
-            Input::Unopened(ErrorKind::IsADirectory) => Some("is a directory"),
-            Input::Unopened(_) => Some("it can't be opened"),
-            Input::Standard(_) | Input::File(_) => None,
+        match self.source {
+            Source::Unopened(ErrorKind::NotFound) => Some("no such file or directory"),
+            Source::Unopened(ErrorKind::PermissionDenied) => Some("permission denied"),
+            Source::Unopened(ErrorKind::IsADirectory) => Some("is a directory"),
+            Source::Unopened(_) => Some("it can't be opened"),
+            Source::Standard(_) | Source::File(_) => None,
         }
     }
 }
@@ -38,15 +59,17 @@ impl Input {
 impl Read for Input {
     // A directory can be opened, and can't be read: that it is one is kept for people.
     fn read(&mut self, buf: &mut [u8]) -> io::Result<usize> {
-        let read = match self {
-            Input::Standard(input) => input.read(buf),
-            Input::File(file) => file.read(buf),
-            Input::Unopened(kind) => Err(io::Error::from(*kind)),
+        let read = match &mut self.source {
+            Source::Standard(input) => input.read(buf),
+            Source::File(file) => file.read(buf),
+            Source::Unopened(kind) => Err(io::Error::from(*kind)),
         };
-        if let Err(error) = &read {
-            if error.kind() == ErrorKind::IsADirectory {
-                *self = Input::Unopened(ErrorKind::IsADirectory);
+        match &read {
+            Ok(count) => self.count = self.count.saturating_add(*count),
+            Err(error) if error.kind() == ErrorKind::IsADirectory => {
+                self.source = Source::Unopened(ErrorKind::IsADirectory);
             }
+            Err(_) => {}
         }
         read
     }

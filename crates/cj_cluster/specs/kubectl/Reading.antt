@@ -30,6 +30,7 @@ use Rattle.cj_cluster.specs.declared.kubectl.times.CronTimes.{CronTimes}
 use Rattle.cj_cluster.specs.declared.kubectl.times.RunTimes.{RunTimes}
 use Rattle.cj_cluster.specs.kubectl.Faults.{cron_server_faults, job_server_faults}
 use Rattle.cj_cluster.specs.kubectl.Lists.{items_of}
+use Rattle.cj_cluster.specs.kubectl.Named.{cron_named}
 use Rattle.cj_cluster.specs.kubectl.Objects.{cron_made, job_made, outcome_of}
 use Rattle.cj_cluster.specs.kubectl.Rows.{AreCronTimes, AreRunTimes, active_of, finish_row}
 
@@ -63,7 +64,8 @@ job_at place d head times =
     job_made place head (value_or 0 times.created) (outcome_of (given (finish_row d)) (given times.ended))
 
 abbrev pub times_of : RunTimes → JobTimes
-times_of times = record { scheduled = given times.scheduled; ended = given times.ended }
+times_of times =
+    record { scheduled = given times.scheduled; ended = given times.ended; is_manual = times.is_manual }
 
 -- what is read of a Job whose head has no fault
 pub record IsSoundJob (place : ℕ) (d : Data) (r : Item) : Type 0 where
@@ -105,36 +107,39 @@ IsItem zones place d r = IsObjectItem zones place (an_object d) r
 abbrev pub start : ClusterList
 start = record { cluster = nothing; notes = [] }
 
--- with a note more
-abbrev pub noted : ℕ → Said → ClusterList → ClusterList
-noted place said s = record { cluster = s.cluster; notes = s.notes ++ record { place = place; said = said } ∷ [] }
+-- with a note more, which tells the CronJob that the item is of
+abbrev pub noted : ℕ → Data → Said → ClusterList → ClusterList
+noted place d said s = record {
+  cluster = s.cluster;
+  notes = s.notes ++ record { place = place; cron = cron_named d; said = said } ∷ [];
+}
 
 -- of a name that another object of the kind has
 abbrev pub taken : Said
 taken = Refused (fault_of At.Name (Some Why.NotAllowed))
 
 -- with a CronJob, where none stands at its key
-abbrev pub adds_cron : ℕ → ClusterCron → Option ClusterCron → ClusterList → ClusterList
-adds_cron place cron None s = record { cluster = with_cron cron s.cluster; notes = s.notes }
-adds_cron place cron (Some other) s = noted place taken s
+abbrev pub adds_cron : ℕ → Data → ClusterCron → Option ClusterCron → ClusterList → ClusterList
+adds_cron place d cron None s = record { cluster = with_cron cron s.cluster; notes = s.notes }
+adds_cron place d cron (Some other) s = noted place d taken s
 
-abbrev pub adds_job : ℕ → Job → JobTimes → Option Job → ClusterList → ClusterList
-adds_job place job times None s = record { cluster = with_job job times s.cluster; notes = s.notes }
-adds_job place job times (Some other) s = noted place taken s
+abbrev pub adds_job : ℕ → Data → Job → JobTimes → Option Job → ClusterList → ClusterList
+adds_job place d job times None s = record { cluster = with_job job times s.cluster; notes = s.notes }
+adds_job place d job times (Some other) s = noted place d taken s
 
 -- with what is read at a place: the first object of a name stands
 -- rule: cluster-list
-abbrev pub adds : ℕ → Item → ClusterList → ClusterList
-adds place (Read.Cron cron) s = adds_cron place cron (map.get s.cluster.crons cron.cron.key) s
-adds place (Read.Run job times) s = adds_job place job times (map.get s.cluster.jobs job.key) s
-adds place (Read.Other kind) s = noted place (Kind kind) s
-adds place (Read.Faulty faults) s = noted place (Refused faults) s
+abbrev pub adds : ℕ → Data → Item → ClusterList → ClusterList
+adds place d (Read.Cron cron) s = adds_cron place d cron (map.get s.cluster.crons cron.cron.key) s
+adds place d (Read.Run job times) s = adds_job place d job times (map.get s.cluster.jobs job.key) s
+adds place d (Read.Other kind) s = noted place d (Kind kind) s
+adds place d (Read.Faulty faults) s = noted place d (Refused faults) s
 
 -- with the item at a place
 pub record AddsItem (zones : List Zone) (place : ℕ) (d : Data) (s more : ClusterList) : Type 0 where
   pub read : Item
   pub is_item : IsItem zones place d read
-  pub more_is : more ≡ adds place read s
+  pub more_is : more ≡ adds place d read s
 
 -- with the items from a place on, one after another: one that is refused ends nothing
 -- rules: cluster-list, cluster-faults

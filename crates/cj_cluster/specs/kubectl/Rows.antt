@@ -1,6 +1,6 @@
 -- What a server says of an object beside its manifest (Kubernetes API reference, `CronJobStatus`, `JobStatus` and
 -- `ObjectMeta`).
-use Rattle.std.specs.Prelude.{◌≡◌, ℕ, List, [], ◌∷◌, codes, bytes_eq, if◌then◌else◌, Option, Some, None, Result, Ok, Err}
+use Rattle.std.specs.Prelude.{◌≡◌, ℕ, List, [], ◌∷◌, codes, bytes_eq, if◌then◌else◌, Bool, true, false, Option, Some, None, option_and_then, Result, Ok, Err}
 use Rattle.std.specs.Result.{result_ok}
 use Rattle.serde_json.specs.Data.{Data, Items, no_items, item}
 use Rattle.serde_json.specs.Find.{as_array, as_str}
@@ -157,8 +157,19 @@ pub record AreCronTimes (d : Data) (times : CronTimes) : Type 0 where
 abbrev pub scheduled_in : Data → Option Data
 scheduled_in d = member_of scheduled_annotation (member_of (codes "annotations") (metadata_of d))
 
--- rule: cluster-job
+-- the annotation by which `kubectl create job --from` tells that somebody made a Job by hand
+abbrev pub manual_text : Data → Option (List ℕ)
+manual_text d =
+    option_and_then as_str
+    (member_of (codes "cronjob.kubernetes.io/instantiate") (member_of (codes "annotations") (metadata_of d)))
+
+abbrev pub says_manual : Option (List ℕ) → Bool
+says_manual None = false
+says_manual (Some text) = bytes_eq text (codes "manual")
+
+-- rules: cluster-job, cluster-manual
 pub record AreRunTimes (d : Data) (times : RunTimes) : Type 0 where
   pub created : IsCreated d times.created
   pub scheduled : IsOptionalTime (scheduled_in d) times.scheduled
   pub ended : IsEndTime (given (finish_row d)) times.ended
+  pub manual : times.is_manual ≡ says_manual (manual_text d)

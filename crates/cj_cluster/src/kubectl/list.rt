@@ -3,13 +3,16 @@ ghost use Rattle.std.specs.Prelude.{◌≡◌, IfErr, IfOk, OnErr, OnOk};
 ghost use Rattle.cj_base.specs.declared.refusal.Refusal.TheVariants.{OutOfMemory};
 ghost use Rattle.cj_cluster.specs.kubectl.Reading.{adds, adds_cron, adds_job, noted, start, taken};
 ghost use Rattle.std.specs.FinMap as map;
+ghost use Rattle.serde_json.specs.View.{view};
 
 use crate::cluster::Cluster;
 use crate::cron::ClusterCron;
 use crate::kubectl::item::Item;
+use crate::kubectl::named::cron_named;
 use crate::kubectl::notes::{ItemNote, ItemNotes, Said};
 use crate::times::JobTimes;
 use cj_types::{Cause, Field, FieldFault, FieldFaults, Job, Refusal, Shared};
+use serde_json::Value;
 use std::alloc::Global;
 
 /// What a list of a cluster's objects says: its CronJobs and Jobs, and a note of each other item.
@@ -37,12 +40,19 @@ pub(crate) fn empty_list(alloc: Global) -> ClusterList
     }
 }
 
-fn note(list: &mut ClusterList, place: u64, said: Said) -> Result<(), Refusal>
-    ensures ok { OnOk result (list.new ≡ noted place said list.old) }
+fn note(
+    alloc: Global,
+    list: &mut ClusterList,
+    place: u64,
+    value: &Value,
+    said: Said,
+) -> Result<(), Refusal>
+    ensures ok { OnOk result (list.new ≡ noted place (view value.now) said list.old) }
     ensures err { OnErr result (list.new ≡ list.old) }
     ensures memory { IfErr result (λ e. e ≡ OutOfMemory) }
 {
-    list.notes.push(ItemNote { place, said })
+    let cron = cron_named(alloc, value)?;
+    list.notes.push(ItemNote { place, cron, said })
 }
 
 // What is said of an object whose name an earlier one of its kind has.
@@ -57,27 +67,34 @@ fn taken_name(alloc: Global) -> Result<Said, Refusal>
 }
 
 // A note of an object whose name is taken.
-fn note_taken(alloc: Global, list: &mut ClusterList, place: u64) -> Result<(), Refusal>
-    ensures ok { OnOk result (list.new ≡ noted place taken list.old) }
+fn note_taken(
+    alloc: Global,
+    list: &mut ClusterList,
+    place: u64,
+    value: &Value,
+) -> Result<(), Refusal>
+    ensures ok { OnOk result (list.new ≡ noted place (view value.now) taken list.old) }
     ensures err { OnErr result (list.new ≡ list.old) }
     ensures memory { IfErr result (λ e. e ≡ OutOfMemory) }
 {
-    note(list, place, taken_name(alloc)?)
+    let said = taken_name(alloc)?;
+    note(alloc, list, place, value, said)
 }
 
 fn add_cron(
     alloc: Global,
     list: &mut ClusterList,
     place: u64,
+    value: &Value,
     cron: ClusterCron,
 ) -> Result<(), Refusal>
-    ensures ok { OnOk result (list.new ≡ adds_cron place cron
+    ensures ok { OnOk result (list.new ≡ adds_cron place (view value.now) cron
         (map.get list.old.cluster.crons cron.cron.key) list.old) }
     ensures err { OnErr result (list.new ≡ list.old) }
     ensures memory { IfErr result (λ e. e ≡ OutOfMemory) }
 {
     if list.cluster.cron(cron.cron.key.key()).is_some() {
-        note_taken(alloc, list, place)
+        note_taken(alloc, list, place, value)
     } else {
         list.cluster.add_cron(alloc, cron)
     }
@@ -87,16 +104,17 @@ fn add_job(
     alloc: Global,
     list: &mut ClusterList,
     place: u64,
+    value: &Value,
     job: Shared<Job>,
     times: Shared<JobTimes>,
 ) -> Result<(), Refusal>
-    ensures ok { OnOk result (list.new ≡ adds_job place job times
+    ensures ok { OnOk result (list.new ≡ adds_job place (view value.now) job times
         (map.get list.old.cluster.jobs job.key) list.old) }
     ensures err { OnErr result (list.new ≡ list.old) }
     ensures memory { IfErr result (λ e. e ≡ OutOfMemory) }
 {
     if list.cluster.job(&job.key).is_some() {
-        note_taken(alloc, list, place)
+        note_taken(alloc, list, place, value)
     } else {
         list.cluster.add_job(alloc, job, times)
     }
@@ -107,16 +125,17 @@ pub(crate) fn add_item(
     alloc: Global,
     list: &mut ClusterList,
     place: u64,
+    value: &Value,
     item: Item,
 ) -> Result<(), Refusal>
-    ensures ok { OnOk result (list.new ≡ adds place item list.old) }
+    ensures ok { OnOk result (list.new ≡ adds place (view value.now) item list.old) }
     ensures err { OnErr result (list.new ≡ list.old) }
     ensures memory { IfErr result (λ e. e ≡ OutOfMemory) }
 {
     match item {
-        Item::Cron(cron) => add_cron(alloc, list, place, cron),
-        Item::Run(job, times) => add_job(alloc, list, place, job, times),
-        Item::Other(kind) => note(list, place, Said::Kind(kind)),
-        Item::Faulty(faults) => note(list, place, Said::Refused(faults)),
+        Item::Cron(cron) => add_cron(alloc, list, place, value, cron),
+        Item::Run(job, times) => add_job(alloc, list, place, value, job, times),
+        Item::Other(kind) => note(alloc, list, place, value, Said::Kind(kind)),
+        Item::Faulty(faults) => note(alloc, list, place, value, Said::Refused(faults)),
     }
 }

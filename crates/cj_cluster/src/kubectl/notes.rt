@@ -1,7 +1,9 @@
 ghost use Rattle.std.specs.Prelude.{◌≡◌, [], ◌∷◌, ◌++◌, IfErr, OnOk, OnErr};
 ghost use Rattle.cj_base.specs.declared.refusal.Refusal.TheVariants.{OutOfMemory};
+ghost use Rattle.cj_cluster.specs.kubectl.Named.{is_of_noted, is_of_refused};
 
-use cj_types::{FieldFaults, Refusal, Text};
+use crate::kubectl::named::CronName;
+use cj_types::{FieldFaults, Job, Refusal, Text};
 use std::alloc::Global;
 use std::marker::Model;
 
@@ -20,7 +22,25 @@ pub enum Said {
 pub struct ItemNote {
     /// The place of the item, from 1.
     pub place: u64,
+    /// The CronJob that it is of, as far as its value tells.
+    pub cron: Option<CronName>,
     pub said: Said,
+}
+
+fn is_of_noted(cron: &Option<CronName>, job: &Job) -> bool
+    ensures { result ≡ is_of_noted cron.now job.now }
+{
+    match cron {
+        Some(cron) => cron.controls(job),
+        None => false,
+    }
+}
+
+/// Whether the Job is of a CronJob whose item can't be used.
+pub fn is_of_refused(notes: &[ItemNote], job: &Job) -> bool
+    ensures { result ≡ is_of_refused notes.now job.now }
+{
+    notes.iter().any(|note| is_of_noted(&note.cron, job))
 }
 
 /// Notes in the order of their items, which contracts see as a list.

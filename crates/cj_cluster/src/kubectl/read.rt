@@ -50,7 +50,7 @@ fn add_value(
         return Err(Refusal::OutOfMemory);
     };
     let item = read_item(alloc, number, value, zones)?;
-    add_item(alloc, list, place, item)
+    add_item(alloc, list, place, value, item)
 }
 
 // The list of the items, one after another.

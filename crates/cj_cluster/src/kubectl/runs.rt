@@ -53,7 +53,14 @@ fn job_times(alloc: Global, times: &RunTimes) -> Result<Shared<JobTimes>, Refusa
 {
     let scheduled = times.scheduled.unwrap_or(None);
     let ended = times.ended.unwrap_or(None);
-    Shared::new(alloc, JobTimes { scheduled, ended })
+    Shared::new(
+        alloc,
+        JobTimes {
+            scheduled,
+            ended,
+            is_manual: times.is_manual,
+        },
+    )
 }
 
 // The same Job with its times.

@@ -4,7 +4,7 @@ ghost use Rattle.serde_json.specs.Find.{as_str};
 ghost use Rattle.serde_json.specs.View.{view};
 ghost use Rattle.cj_manifest.specs.Drafts.{given};
 ghost use Rattle.cj_cluster.specs.kubectl.Finishes.{finish_of};
-ghost use Rattle.cj_cluster.specs.kubectl.Rows.{AreCronTimes, AreRunTimes, IsCreated, IsEndTime, IsOptionalTime, IsRequiredTime, IsTimeRow, finish_row, scheduled_in};
+ghost use Rattle.cj_cluster.specs.kubectl.Rows.{AreCronTimes, AreRunTimes, IsCreated, IsEndTime, IsOptionalTime, IsRequiredTime, IsTimeRow, finish_row, manual_text, says_manual, scheduled_in};
 
 use crate::kubectl::conditions::{FinishAt, finish_row};
 use crate::kubectl::instant::read_instant;
@@ -31,6 +31,8 @@ pub(crate) struct RunTimes {
     pub scheduled: Result<Option<Seconds>, Cause>,
     /// When it ended, if it did.
     pub ended: Result<Option<Seconds>, Cause>,
+    /// Whether it was made by hand, by its annotation.
+    pub is_manual: bool,
 }
 
 fn time(value: &Value) -> Result<Seconds, Cause>
@@ -95,6 +97,23 @@ fn scheduled(value: &Value) -> Result<Option<Seconds>, Cause>
     ))
 }
 
+// The text of the annotation by which a client tells that it made a Job by hand.
+fn manual_text(value: &Value) -> Option<&str>
+    ensures { option_map (λ s. s.now) result ≡ manual_text (view value.now) }
+{
+    let annotations = member(metadata(value).ok(), "annotations");
+    member(annotations, "cronjob.kubernetes.io/instantiate")?.as_str()
+}
+
+fn says_manual(text: Option<&str>) -> bool
+    ensures { result ≡ says_manual (option_map (λ s. s.now) text.entry) }
+{
+    match text {
+        Some(text) => text == "manual",
+        None => false,
+    }
+}
+
 /// The times that a CronJob's value says.
 pub(crate) fn cron_times(value: &Value) -> CronTimes
     ensures { AreCronTimes (view value.now) result }
@@ -115,5 +134,6 @@ pub(crate) fn run_times(value: &Value) -> RunTimes
         created: created(value),
         scheduled: scheduled(value),
         ended: end_time(given_finish(value)),
+        is_manual: says_manual(manual_text(value)),
     }
 }

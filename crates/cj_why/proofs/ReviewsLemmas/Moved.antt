@@ -9,14 +9,15 @@ use Rattle.cj_why.specs.reviews.Otherwise.{otherwise_words}
 use Rattle.cj_why.specs.reviews.Words.{title_line, zone_title}
 use Rattle.cj_why.specs.reviews.ZoneFor.{zone_for}
 
--- For cron_words: why the same CronJob starts a Job, by what was found for the same names.
-pub why_moved : (cron other : CronJob) (zones : List Zone) (found live : List (Option Job)) (now : ℕ) (words : List ℕ)
-    → other ≡ cron → live ≡ found
-    → IsWhy other (zone_for other.spec.time_zone zones) (running_of other live) now words
-    → IsWhy cron (zone_for cron.spec.time_zone zones) (running_of cron found) now words
-why_moved cron other zones found live now words e f h =
-    subst (λ (l : List (Option Job)). IsWhy cron (zone_for cron.spec.time_zone zones) (running_of cron l) now words) f
-    (subst (λ (c : CronJob). IsWhy c (zone_for c.spec.time_zone zones) (running_of c live) now words) e h)
+-- For cron_words: why the same CronJob starts a Job, by what was found for the same names and what is lacking.
+pub why_moved : (cron other : CronJob) (zones : List Zone) (found live : List (Option Job))
+    (lacking hidden : List (List ℕ)) (now : ℕ) (words : List ℕ) → other ≡ cron → live ≡ found → hidden ≡ lacking
+    → IsWhy other (zone_for other.spec.time_zone zones) (running_of other live) hidden now words
+    → IsWhy cron (zone_for cron.spec.time_zone zones) (running_of cron found) lacking now words
+why_moved cron other zones found live lacking hidden now words e f g h =
+    subst (λ (n : List (List ℕ)). IsWhy cron (zone_for cron.spec.time_zone zones) (running_of cron found) n now words) g
+    (subst (λ (l : List (Option Job)). IsWhy cron (zone_for cron.spec.time_zone zones) (running_of cron l) hidden now words) f
+    (subst (λ (c : CronJob). IsWhy c (zone_for c.spec.time_zone zones) (running_of c live) hidden now words) e h))
 
 -- For cron_words: the line of the same CronJob, with the same words behind it.
 pub title_moved : (cron other : CronJob) (words said rest behind text : List ℕ) → other ≡ cron → said ≡ words

@@ -14,8 +14,8 @@ use Rattle.cj_decide.specs.declared.steps.Steps.{Steps}
 use Rattle.cj_decide.specs.Decision.{IsPlan}
 use Rattle.cj_cluster.specs.Content.{Content}
 use Rattle.cj_cluster.specs.declared.cron.ClusterCron.{ClusterCron}
-use Rattle.cj_why.specs.reviews.PlanLines.{plan_lines}
-use Rattle.cj_why.specs.reviews.Seen.{found, listed}
+use Rattle.cj_why.specs.reviews.Lacking.{lines_for, never_line}
+use Rattle.cj_why.specs.reviews.Seen.{found, lacking, listed}
 use Rattle.cj_why.specs.reviews.ZoneFor.{zone_for}
 
 -- ---- how many times were missed
@@ -27,28 +27,26 @@ count_text Kind.None = codes "0"
 count_text (Kind.Some count latest) = decimal count
 count_text (Kind.Many latest) = codes "more"
 
--- of the times since the lower end of those that count
-pub record IsCountSince (cron : CronJob) (s : Sets) (z : Zone) (now : ℕ) (text : List ℕ) : Type 0 where
+-- the times since the lower end of those that count
+pub record IsMissedSince (cron : CronJob) (s : Sets) (z : Zone) (now : ℕ) (missed : Missed) : Type 0 where
   pub past : window_of cron now < now
-  pub missed : Missed
   pub counted : IsMissed s z (window_of cron now) now missed
-  pub are : text ≡ count_text missed
 
 -- no time counts yet
-pub record IsCountBefore (cron : CronJob) (now : ℕ) (text : List ℕ) : Type 0 where
+pub record IsMissedBefore (cron : CronJob) (now : ℕ) (missed : Missed) : Type 0 where
   pub early : now ≤ window_of cron now
-  pub none : text ≡ codes "0"
+  pub none : missed ≡ Kind.None
 
-abbrev pub IsTextCount : CronJob → Zone → ℕ → List ℕ → Type 0
-IsTextCount cron z now text =
-    ((s : Sets) × IsSchedule cron.spec.schedule s × (IsCountBefore cron now text ⊎ IsCountSince cron s z now text))
-    ⊎ (((s : Sets) → IsSchedule cron.spec.schedule s → ⊥) × (text ≡ codes "0"))
+abbrev pub IsTextMissed : CronJob → Zone → ℕ → Missed → Type 0
+IsTextMissed cron z now missed =
+    ((s : Sets) × IsSchedule cron.spec.schedule s × (IsMissedBefore cron now missed ⊎ IsMissedSince cron s z now missed))
+    ⊎ (((s : Sets) → IsSchedule cron.spec.schedule s → ⊥) × (missed ≡ Kind.None))
 
 -- without a zone nothing is known of the times
 -- rule: why-lines
-abbrev pub IsCount : CronJob → Option Zone → ℕ → List ℕ → Type 0
-IsCount cron None now text = text ≡ codes "0"
-IsCount cron (Some z) now text = IsTextCount cron z now text
+abbrev pub IsMissedOf : CronJob → Option Zone → ℕ → Missed → Type 0
+IsMissedOf cron None now missed = missed ≡ Kind.None
+IsMissedOf cron (Some z) now missed = IsTextMissed cron z now missed
 
 -- ---- the lines
 
@@ -59,11 +57,13 @@ head_line key count since =
     codes "cron " ++ (key.namespace ++ (codes "/" ++ (key.name ++ (codes " missed " ++ (count ++ (codes " since "
     ++ (time_text_of since ++ codes "\n")))))))
 
--- of one CronJob: that line, and those of its one plan
--- rule: why-lines
+-- of one CronJob: that line, what keeps it from ever starting a Job, the Jobs that the list lacks, and the lines of its one
+-- plan, where that doesn't rest on them
+-- rules: why-lines, why-lacks, why-never
 pub record IsCronReview (zones : List Zone) (content : Content) (now : ℕ) (c : ClusterCron) (text : List ℕ) : Type 0 where
-  pub count : List ℕ
-  pub counted : IsCount c.cron (zone_for c.cron.spec.time_zone zones) now count
+  pub missed : Missed
+  pub counted : IsMissedOf c.cron (zone_for c.cron.spec.time_zone zones) now missed
   pub steps : Steps
   pub planned : IsPlan (Some c.cron) (listed content c) (found content c) now (zone_for c.cron.spec.time_zone zones) steps
-  pub are : text ≡ head_line c.cron.key count (window_of c.cron now) ++ plan_lines steps
+  pub are : text ≡ head_line c.cron.key (count_text missed) (window_of c.cron now)
+      ++ (never_line c.cron.spec steps.next ++ lines_for (lacking content c) c.cron.spec.policy steps)

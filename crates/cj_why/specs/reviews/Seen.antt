@@ -1,5 +1,5 @@
 -- What a sync of a cluster's CronJob sees. A server's uid is any text; in the decision a number stands for it.
-use Rattle.std.specs.Prelude.{ℕ, List, map, codes, bytes_eq, if◌then◌else◌, Option}
+use Rattle.std.specs.Prelude.{ℕ, List, map, filter, codes, Bool, bytes_eq, is_none, if◌then◌else◌, Option}
 use Rattle.std.specs.Option.{option_map}
 use Rattle.std.specs.FinMap as maps
 use Rattle.cj_types.specs.Keys.{place}
@@ -49,3 +49,11 @@ found_at content c name = option_map (numbered c) (maps.get content.jobs (place 
 -- rule: why-seen
 abbrev pub found : Content → ClusterCron → List (Option Job)
 found content c = map (found_at content c) c.cron.status.active
+
+abbrev pub is_lacking : Content → ClusterCron → List ℕ → Bool
+is_lacking content c name = is_none (maps.get content.jobs (place c.cron.key.namespace name))
+
+-- the names in `status.active` of which the list has no Job: such a Job may run, be gone, or only not be listed
+-- rule: why-lacks
+abbrev pub lacking : Content → ClusterCron → List (List ℕ)
+lacking content c = filter (is_lacking content c) c.cron.status.active

@@ -8,7 +8,7 @@ use Rattle.cj_cluster.specs.Content.{Content}
 use Rattle.cj_cluster.specs.declared.cron.ClusterCron.{ClusterCron}
 use Rattle.cj_why.specs.reviews.Otherwise.{otherwise_words}
 use Rattle.cj_why.specs.reviews.Review.{IsCronReview}
-use Rattle.cj_why.specs.reviews.Seen.{found}
+use Rattle.cj_why.specs.reviews.Seen.{found, lacking}
 use Rattle.cj_why.specs.reviews.ZoneFor.{zone_for}
 
 -- `NAMESPACE/NAME, by the clock of ZONE:`
@@ -25,7 +25,8 @@ zone_title (Some name) = name
 -- rules: why-explained, why-otherwise
 pub record IsCronWords (zones : List Zone) (content : Content) (now : ℕ) (c : ClusterCron) (text : List ℕ) : Type 0 where
   pub why : List ℕ
-  pub reason : IsWhy c.cron (zone_for c.cron.spec.time_zone zones) (running_of c.cron (found content c)) now why
+  pub reason : IsWhy c.cron (zone_for c.cron.spec.time_zone zones) (running_of c.cron (found content c))
+      (lacking content c) now why
   pub are : text ≡ (title_line c.cron.key (zone_title c.cron.spec.time_zone) ++ why)
       ++ otherwise_words c.cron (zone_for c.cron.spec.time_zone zones)
 

@@ -4,18 +4,19 @@ ghost use Rattle.cj_base.specs.declared.refusal.Refusal.TheVariants.{OutOfMemory
 ghost use Rattle.cj_zone.specs.Table.{local_zone, zones_of};
 ghost use Rattle.cj_zone.specs.Zones.{utc_zone};
 ghost use Rattle.cj_decide.specs.Decision.{IsPlan};
+ghost use Rattle.cj_why.specs.reviews.Lacking.{lines_for, never_line};
 ghost use Rattle.cj_why.specs.reviews.Review.{IsCronReview};
 ghost use Rattle.cj_why.specs.reviews.Seen as seen;
 ghost use Rattle.cj_why.specs.reviews.Words.{IsOne, IsReview};
 ghost use Rattle.cj_why.specs.reviews.ZoneFor.{zone_for};
 
-use crate::reviews::seen::{found, listed};
-use crate::reviews::since::{count, head_line};
-use crate::reviews::steps_text::plan_text;
+use crate::reviews::lacking::{lines_for, never_line};
+use crate::reviews::seen::{found, lacking, listed};
+use crate::reviews::since::{count_text, head_line, missed_of};
 use crate::reviews::words::asked_words;
 use crate::reviews::zone_for::{zone_copy, zone_of};
 use cj_cluster::{Cluster, ClusterCron};
-use cj_decide::{Plan, decide};
+use cj_decide::{Plan, Steps, decide};
 use cj_types::{Refusal, Seconds, Shared};
 use cj_zone::ZoneTable;
 use std::alloc::Global;
@@ -27,7 +28,8 @@ pub struct Reviewed {
     pub said: String,
 }
 
-fn plan_of(
+/// The plan of the CronJob's next sync.
+pub(crate) fn plan_of(
     alloc: Global,
     zones: &ZoneTable,
     cluster: &Cluster,
@@ -46,6 +48,25 @@ fn plan_of(
     decide(alloc, Some(cron.cron.share()?), jobs, active, now, zone)
 }
 
+// What keeps the CronJob from ever starting a Job, the Jobs that the list lacks, and the plan.
+fn told_lines(
+    alloc: Global,
+    cluster: &Cluster,
+    cron: &ClusterCron,
+    steps: &Steps,
+) -> Result<String, Refusal>
+    ensures ok { IfOk result (λ s. string_bytes s ≡ never_line cron.now.cron.spec steps.now.next
+        ++ lines_for (seen.lacking cluster.now cron.now) cron.now.cron.spec.policy steps.now) }
+    ensures err { IfErr result (λ e. e ≡ OutOfMemory) }
+{
+    let lacking = lacking(alloc, cluster, cron)?;
+    let spec = cron.cron.spec.get();
+    let lines = lines_for(alloc, lacking.as_slice(), spec.policy, steps)?;
+    let mut text = String::from_str(alloc, never_line(spec, steps.next))?;
+    text.push_str(lines.as_str())?;
+    Ok(text)
+}
+
 fn cron_review(
     alloc: Global,
     zones: &ZoneTable,
@@ -59,10 +80,11 @@ fn cron_review(
     ensures err { IfErr result (λ e. e ≡ OutOfMemory) }
 {
     let zone = zone_of(zones, &cron.cron.spec.time_zone);
-    let count = count(alloc, cron.cron.get(), zone, now)?;
+    let missed = missed_of(cron.cron.get(), zone, now);
+    let count = count_text(alloc, missed)?;
     let mut text = head_line(alloc, cron.cron.get(), count.as_str(), now)?;
     let plan = plan_of(alloc, zones, cluster, cron, now)?;
-    let lines = plan_text(alloc, plan.steps())?;
+    let lines = told_lines(alloc, cluster, cron, plan.steps())?;
     text.push_str(lines.as_str())?;
     Ok(text)
 }

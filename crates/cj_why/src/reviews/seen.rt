@@ -1,10 +1,12 @@
 // What a sync of a cluster's CronJob sees.
-ghost use Rattle.std.specs.Prelude.{◌≡◌, map, IfOk, IfErr};
+ghost use Rattle.std.specs.Prelude.{◌≡◌, filter, map, IfOk, IfErr};
 ghost use Rattle.cj_base.specs.declared.refusal.Refusal.TheVariants.{OutOfMemory};
 ghost use Rattle.cj_why.specs.reviews.Seen as seen;
 
 use cj_cluster::{Cluster, ClusterCron};
-use cj_types::{Job, Listing, ObjectName, OwnerRef, OwnerRefs, Refusal, Shared, Text, TryCopy};
+use cj_types::{
+    Job, Listing, Names, ObjectName, OwnerRef, OwnerRefs, Refusal, Shared, Text, TryCopy,
+};
 use std::alloc::Global;
 
 // The text of the CronJob's number for its own uid, and one that is no number's for any other.
@@ -138,4 +140,48 @@ pub fn found(
 {
     let names = cron.cron.status.active.as_slice();
     Listing::new(alloc, all_found(alloc, cluster, cron, names)?)
+}
+
+fn is_lacking(
+    alloc: Global,
+    cluster: &Cluster,
+    cron: &ClusterCron,
+    name: &ObjectName,
+) -> Result<bool, Refusal>
+    ensures ok { IfOk result (λ b. b ≡ seen.is_lacking cluster.now cron.now name.now) }
+    ensures err { IfErr result (λ e. e ≡ OutOfMemory) }
+{
+    let key = cron.cron.key.key().beside(alloc, name)?;
+    Ok(cluster.job(&key).is_none())
+}
+
+fn all_lacking(
+    alloc: Global,
+    cluster: &Cluster,
+    cron: &ClusterCron,
+    names: &[ObjectName],
+) -> Result<Names, Refusal>
+    ensures ok { IfOk result (λ r. r ≡ filter (seen.is_lacking cluster.now cron.now) names.now) }
+    ensures err { IfErr result (λ e. e ≡ OutOfMemory) }
+{
+    let mut lacking = Names::new(alloc);
+    for name in names {
+        if is_lacking(alloc, cluster, cron, name)? {
+            lacking.push(name.try_copy(alloc)?)?;
+        }
+    }
+    Ok(lacking)
+}
+
+/// The names in the CronJob's `status.active` of which the cluster has no Job.
+pub(crate) fn lacking(
+    alloc: Global,
+    cluster: &Cluster,
+    cron: &ClusterCron,
+) -> Result<Names, Refusal>
+    ensures ok { IfOk result (λ r. r ≡ seen.lacking cluster.now cron.now) }
+    ensures err { IfErr result (λ e. e ≡ OutOfMemory) }
+{
+    let names = cron.cron.status.active.as_slice();
+    all_lacking(alloc, cluster, cron, names)
 }

@@ -2,7 +2,7 @@
 ghost use Rattle.std.specs.Prelude.{◌≡◌, ◌⊎◌, IfOk, IfErr, option_copied, string_bytes};
 ghost use Rattle.cj_base.specs.declared.refusal.Refusal.TheVariants.{OutOfMemory};
 ghost use Rattle.cj_due.specs.Window.{window_of};
-ghost use Rattle.cj_why.specs.reviews.Review.{IsCount, IsCountBefore, IsCountSince, IsTextCount, count_text, head_line};
+ghost use Rattle.cj_why.specs.reviews.Review.{IsMissedBefore, IsMissedOf, IsMissedSince, IsTextMissed, count_text, head_line};
 
 use cj_due::{Missed, missed, window};
 use cj_schedule::Schedule;
@@ -10,7 +10,8 @@ use cj_types::{CronJob, Refusal, Seconds};
 use cj_zone::{Zone, time_text};
 use std::alloc::Global;
 
-fn count_text(alloc: Global, missed: Missed) -> Result<String, Refusal>
+/// How many that are: in digits up to 100, else `more`.
+pub(crate) fn count_text(alloc: Global, missed: Missed) -> Result<String, Refusal>
     ensures ok { IfOk result (λ s. string_bytes s ≡ count_text missed) }
     ensures err { IfErr result (λ e. e ≡ OutOfMemory) }
 {
@@ -21,47 +22,32 @@ fn count_text(alloc: Global, missed: Missed) -> Result<String, Refusal>
     }
 }
 
-fn times_count(
-    alloc: Global,
-    cron: &CronJob,
-    schedule: &Schedule,
-    zone: &Zone,
-    now: Seconds,
-) -> Result<String, Refusal>
-    ensures ok { IfOk result (λ s. IsCountBefore cron.now now (string_bytes s)
-        ⊎ IsCountSince cron.now schedule.now zone.now now (string_bytes s)) }
-    ensures err { IfErr result (λ e. e ≡ OutOfMemory) }
+fn times_missed(cron: &CronJob, schedule: &Schedule, zone: &Zone, now: Seconds) -> Missed
+    ensures { IsMissedBefore cron.now now result
+        ⊎ IsMissedSince cron.now schedule.now zone.now now result }
 {
     match window(cron, now) {
-        None => Ok(String::from_str(alloc, "0")?),
-        Some(since) => count_text(alloc, missed(schedule, zone, since, now)),
+        None => Missed::None,
+        Some(since) => missed(schedule, zone, since, now),
     }
 }
 
-fn text_count(alloc: Global, cron: &CronJob, zone: &Zone, now: Seconds) -> Result<String, Refusal>
-    ensures ok { IfOk result (λ s. IsTextCount cron.now zone.now now (string_bytes s)) }
-    ensures err { IfErr result (λ e. e ≡ OutOfMemory) }
+fn text_missed(cron: &CronJob, zone: &Zone, now: Seconds) -> Missed
+    ensures { IsTextMissed cron.now zone.now now result }
 {
     match Schedule::parse(cron.spec.schedule.as_str()) {
-        Ok(schedule) => times_count(alloc, cron, &schedule, zone, now),
-        Err(_) => Ok(String::from_str(alloc, "0")?),
+        Ok(schedule) => times_missed(cron, &schedule, zone, now),
+        Err(_) => Missed::None,
     }
 }
 
-/// How many times the CronJob missed by this moment, in digits up to 100, else `more`.
-pub(crate) fn count(
-    alloc: Global,
-    cron: &CronJob,
-    zone: Option<&Zone>,
-    now: Seconds,
-) -> Result<String, Refusal>
-    ensures ok { IfOk result (λ s. IsCount cron.now (option_copied zone.entry) now
-        (string_bytes s)) }
-    ensures err { IfErr result (λ e. e ≡ OutOfMemory) }
+/// The times that the CronJob missed by this moment, as far as a controller asks for them.
+pub(crate) fn missed_of(cron: &CronJob, zone: Option<&Zone>, now: Seconds) -> Missed
+    ensures { IsMissedOf cron.now (option_copied zone.entry) now result }
 {
     match zone {
-        Some(zone) => text_count(alloc, cron, zone, now),
-        None => Ok(String::from_str(alloc, "0")?),
+        Some(zone) => text_missed(cron, zone, now),
+        None => Missed::None,
     }
 }
 

@@ -8,8 +8,8 @@ use cj_types::{JobDraft, Reason, Refusal, Seconds};
 use cj_zone::time_text;
 use std::alloc::{AllocError, Global};
 
-// A line of a word and a value, at the end of the text.
-fn push_line(text: &mut String, word: &str, value: &str) -> Result<(), AllocError>
+/// A line of a word and a value, at the end of the text.
+pub(crate) fn push_line(text: &mut String, word: &str, value: &str) -> Result<(), AllocError>
     ensures { OnOk result (string_bytes text.new
         ≡ string_bytes text.old ++ word_line word.now value.now) }
 {
@@ -19,7 +19,8 @@ fn push_line(text: &mut String, word: &str, value: &str) -> Result<(), AllocErro
     text.push_str("\n")
 }
 
-fn push_time(
+/// The same with a time, or `none`.
+pub(crate) fn push_time(
     text: &mut String,
     alloc: Global,
     word: &str,

@@ -10,11 +10,11 @@ ghost use Rattle.cj_why.specs.reviews.Otherwise.{otherwise_words};
 ghost use Rattle.cj_why.specs.reviews.Words.{IsAskedWords, IsCronWords, title_line, zone_title};
 
 use crate::reviews::otherwise::otherwise_words;
-use crate::reviews::seen::found;
+use crate::reviews::seen::{found, lacking};
 use crate::reviews::zone_for::zone_of;
 use crate::start::why;
 use cj_cluster::{Cluster, ClusterCron};
-use cj_types::{CronJob, Job, Key, Refusal, Seconds, Shared, Text};
+use cj_types::{CronJob, Job, Key, ObjectName, Refusal, Seconds, Shared, Text};
 use cj_zone::ZoneTable;
 use std::alloc::Global;
 
@@ -36,22 +36,23 @@ fn title_line(alloc: Global, key: &Key, zone: &str) -> Result<String, Refusal>
     Ok(format!(in alloc; "{namespace}/{name}, by the clock of {zone}:\n")?)
 }
 
-// Why a CronJob starts a Job, or why not, by what a live read found.
+// Why a CronJob starts a Job, or why not, by what a live read found, and by what the list lacks.
 fn why_of(
     alloc: Global,
     zones: &ZoneTable,
     cron: &CronJob,
     found: &[Option<Shared<Job>>],
+    lacking: &[ObjectName],
     now: Seconds,
 ) -> Result<String, Refusal>
     requires { local_zone zones.now ≡ Some (utc_zone (codes "UTC")) }
     ensures ok { IfOk result (λ s. IsWhy cron.now
-        (zone_for cron.now.spec.time_zone (zones_of zones.now)) (running_of cron.now found.now) now
-        (string_bytes s)) }
+        (zone_for cron.now.spec.time_zone (zones_of zones.now)) (running_of cron.now found.now)
+        lacking.now now (string_bytes s)) }
     ensures err { IfErr result (λ e. e ≡ OutOfMemory) }
 {
     let zone = zone_of(zones, &cron.spec.time_zone);
-    why(alloc, cron, zone, found, now)
+    why(alloc, cron, zone, found, lacking, now)
 }
 
 // What Kubernetes' own controller does otherwise with it.
@@ -92,7 +93,15 @@ fn cron_words(
     ensures err { IfErr result (λ e. e ≡ OutOfMemory) }
 {
     let found = found(alloc, cluster, cron)?;
-    let why = why_of(alloc, zones, cron.cron.get(), found.as_slice(), now)?;
+    let lacking = lacking(alloc, cluster, cron)?;
+    let why = why_of(
+        alloc,
+        zones,
+        cron.cron.get(),
+        found.as_slice(),
+        lacking.as_slice(),
+        now,
+    )?;
     let otherwise = otherwise_of(alloc, zones, cron.cron.get())?;
     titled(alloc, cron.cron.get(), why.as_str(), otherwise.as_str())
 }

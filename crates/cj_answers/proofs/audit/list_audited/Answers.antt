@@ -1,6 +1,9 @@
 -- list_audited: its ensures, from the findings of the list that was read and what is told of them.
-use Rattle.std.proofs.Common.{◌∙◌, ap, ℕ, List}
+use Rattle.std.proofs.Common.{◌∙◌, ap, subst, ℕ, List}
 use Rattle.std.proofs.lemmas.Result.{IfOk-weaker}
+use Rattle.cj_zone.specs.Table.{zones_of}
+use Rattle.cj_audit.specs.Findings.{IsAudit}
+use Rattle.cj_cluster.specs.declared.kubectl.notes.ItemNote.{ItemNote}
 use Rattle.cj_answers.specs.Audit.{audited}
 use Rattle.cj_answers.specs.Outcome.{explained}
 use Rattle.cj_answers.proofs.audit.list_audited.Goals as goal
@@ -12,7 +15,8 @@ returns c =
       list = c.args.list.now;
       read = c.requires;
       findings = findings;
-      found = c.in_ok-findings.ensures.ok;
+      found = subst (λ (n : List ItemNote). IsAudit (zones_of c.args.zones.now) c.args.list.now.cluster n findings)
+          c.as_slice.ensures c.in_ok-findings.ensures.ok;
       answer = e ∙ ap (λ (w : List ℕ). explained c.args.explain w (audited c.args.list.now findings))
           (c.as_str.ensures.value ∙ c.in_ok-words.ensures);
     }) c.told_of.ensures

@@ -1,5 +1,7 @@
--- check_command: its ensures, from the file and the options behind it.
+-- check_command: its ensures, from the files, its own flag and the options behind them.
 use Rattle.cj_args.proofs.command.check_command.Goals as goal
 
 pub returns : goal.returns
-returns c = c.with_zones.ensures _ c.file_command-command.ensures
+returns c =
+    let one = c.with_arg-command.ensures _ _ c.new_command-command.ensures c.files_arg.ensures in
+    c.with_zones.ensures _ (c.with_arg-command-2.ensures _ _ one c.flag_arg.ensures)

@@ -1,8 +1,8 @@
 -- note_singles: its clause ok, as the walk over the Jobs ends.
-use Rattle.std.proofs.Common.{◌⊎◌, option_copied, arith}
+use Rattle.std.proofs.Common.{option_copied, arith}
 use Rattle.cj_audit.specs.declared.run.Run.{Run}
 use Rattle.cj_audit.specs.declared.finding.Finding.{Finding}
-use Rattle.cj_audit.specs.Times.{IsUndueNote, IsEarlyRun}
+use Rattle.cj_audit.specs.Times.{IsUndueNote, IsEarlyRun, IsSingleNote}
 use Rattle.cj_audit.specs.Notes.{AnyOf}
 use Rattle.cj_audit.proofs.Noting.{notes_then}
 use Rattle.cj_audit.proofs.Walks.{leads_step, leads_done}
@@ -13,7 +13,8 @@ loop-run-preserved c =
     let U = λ (run : Run) (f : Finding). IsUndueNote (option_copied c.args.schedule) (option_copied c.args.zone)
     c.args.cron.now run f in
     let E = λ (run : Run) (f : Finding). IsEarlyRun c.args.cron.now run f in
-    leads_step (AnyOf (λ run f. U run f ⊎ E run f)) (λ f. U c.run-item.result f ⊎ E c.run-item.result f) c.args.runs.now
+    let S = IsSingleNote (option_copied c.args.schedule) (option_copied c.args.zone) c.args.cron.now in
+    leads_step (AnyOf S) (S c.run-item.result) c.args.runs.now
     c.loop-run.run-index c.run-item.result c.args.notes.now c.loop-run.notes c.note_early.new.notes (λ f h. h) (λ f h. h)
     (omega arith) c.run-item.is c.loop-run.invariant
     (notes_then (U c.run-item.result) (E c.run-item.result) c.loop-run.notes c.note_undue.new.notes
@@ -21,6 +22,6 @@ loop-run-preserved c =
 
 pub returns-clause-ok : goal.returns-clause-ok
 returns-clause-ok c =
-    leads_done (AnyOf (λ (run : Run) (f : Finding). IsUndueNote (option_copied c.args.schedule)
-    (option_copied c.args.zone) c.args.cron.now run f ⊎ IsEarlyRun c.args.cron.now run f)) c.args.runs.now
+    leads_done (AnyOf (IsSingleNote (option_copied c.args.schedule) (option_copied c.args.zone) c.args.cron.now))
+    c.args.runs.now
     c.loop-run.run-index c.args.notes.now c.loop-run.notes (λ f h. h) (omega arith) c.loop-run.invariant

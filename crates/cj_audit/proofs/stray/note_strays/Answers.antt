@@ -7,7 +7,7 @@ use Rattle.cj_audit.proofs.stray.note_strays.Goals as goal
 
 pub loop-job-preserved : goal.loop-job-preserved
 loop-job-preserved c =
-    let P = IsStrayJob c.args.cluster.now in
+    let P = IsStrayJob c.args.cluster.now c.args.refused.now in
     leads_step (AnyOf P) (P c.job-item.result) c.as_slice-job-items.result.now c.loop-job.job-index c.job-item.result
     c.args.notes.now c.loop-job.notes c.note_stray.new.notes (λ f h. h) (λ f h. h) (omega arith) c.job-item.is
     c.loop-job.invariant
@@ -15,7 +15,7 @@ loop-job-preserved c =
 
 pub returns-clause-ok : goal.returns-clause-ok
 returns-clause-ok c =
-    let Q = AnyOf (IsStrayJob c.args.cluster.now) in
+    let Q = AnyOf (IsStrayJob c.args.cluster.now c.args.refused.now) in
     subst (λ xs. Notes (Q xs) c.args.notes.now c.loop-job.notes)
     (c.as_slice-job-items.ensures ∙ c.in_ok-jobs.ensures.ok)
     (leads_done Q c.as_slice-job-items.result.now c.loop-job.job-index c.args.notes.now c.loop-job.notes (λ f h. h)

@@ -5,4 +5,4 @@ use Rattle.cj_audit.proofs.Walks.{Leads}
 use Rattle.cj_audit.proofs.stray.note_strays.Given as goal
 
 abbrev pub invariant-loop-job : goal.invariant-loop-job
-invariant-loop-job l = Leads (AnyOf (IsStrayJob l.cluster)) l.job-items l.job-index l.initial.notes l.notes
+invariant-loop-job l = Leads (AnyOf (IsStrayJob l.cluster l.refused)) l.job-items l.job-index l.initial.notes l.notes

@@ -1,0 +1,77 @@
+-- Moments as people write them: RFC 3339, a date alone, `now`, or so much before or after it.
+use Rattle.std.specs.Prelude.{ℕ, ◌+◌, ◌-◌, ◌*◌, ◌==◌, ℤ, pos, negsuc, List, [], ◌∷◌, ◌++◌, ◌&&◌, Bool, bytes_eq, codes, nat_le, if◌then◌else◌, int_div, Option, None, Some, option_map, Result, Ok, Err}
+use Rattle.cj_base.specs.Instant.{last_second}
+use Rattle.jiff_core.specs.declared.error.Error.{Error}
+use Rattle.jiff_fmt.specs.Temporal.{parse_timestamp}
+
+-- so many seconds, where they are an instant
+abbrev pub second_of : ℤ → Option ℕ
+second_of (pos n) = if nat_le n last_second then Some n else None
+second_of (negsuc n) = None
+
+abbrev pub instant_by : Result ℤ Error → Option ℕ
+instant_by (Ok nanos) = second_of (int_div nanos (pos 1_000_000_000))
+instant_by (Err e) = None
+
+-- an instant of RFC 3339, with `Z` or an offset, as jiff reads it; a fraction of a second is left out
+-- rule: moment-text
+abbrev pub instant_of : List ℕ → Option ℕ
+instant_of text = instant_by (parse_timestamp text)
+
+-- a date alone is its first moment in UTC
+-- rule: moment-text
+abbrev pub or_date : Option ℕ → List ℕ → Option ℕ
+or_date (Some t) text = Some t
+or_date None text = instant_of (text ++ codes "T00:00:00Z")
+
+-- rule: moment-text
+abbrev pub moment_of : List ℕ → Option ℕ
+moment_of text = or_date (instant_of text) text
+
+-- ---- so much before or after the clock
+
+abbrev pub is_digit : ℕ → Bool
+is_digit b = nat_le 48 b && nat_le b 57
+
+-- the seconds of a second, a minute, an hour, a day and a week
+-- rule: moment-text
+abbrev pub unit_of : ℕ → Option ℕ
+unit_of b =
+    if b == 115 then Some 1 else
+    if b == 109 then Some 60 else
+    if b == 104 then Some 3_600 else
+    if b == 100 then Some 86_400 else
+    if b == 119 then Some 604_800 else
+    None
+
+abbrev pub span_end : ℕ → ℕ → List ℕ → Option ℕ
+span_end count unit [] = option_map (λ seconds. count * seconds) (unit_of unit)
+span_end count unit (b ∷ bs) = None
+
+-- digits of a number below some 10^10, then a unit
+abbrev pub span_from : ℕ → List ℕ → Option ℕ
+span_from count [] = None
+span_from count (b ∷ bs) =
+    if is_digit b then (if nat_le count 1_000_000_000 then span_from (count * 10 + (b - 48)) bs else None)
+    else span_end count b bs
+
+abbrev pub before : ℕ → Option ℕ → Option ℕ
+before clock None = None
+before clock (Some span) = if nat_le span clock then Some (clock - span) else None
+
+abbrev pub behind : ℕ → Option ℕ → Option ℕ
+behind clock None = None
+behind clock (Some span) = if nat_le (clock + span) last_second then Some (clock + span) else None
+
+-- `-` or `+`, and how much
+abbrev pub shifted : ℕ → List ℕ → Option ℕ
+shifted clock [] = None
+shifted clock (b ∷ bs) =
+    if b == 45 then before clock (span_from 0 bs) else
+    if b == 43 then behind clock (span_from 0 bs) else
+    None
+
+-- by the clock: `now`, or so much before or after it
+-- rule: moment-text
+abbrev pub by_clock : ℕ → List ℕ → Option ℕ
+by_clock clock text = if bytes_eq text (codes "now") then Some clock else shifted clock text

@@ -1,0 +1,109 @@
+-- In a word, why a CronJob starts a Job at a moment, or why not, and which CronJobs want a look: Kubernetes CronJob
+-- documentation, "Schedule suspension", "Deadline for delayed Job start", "Time zones" and "Concurrency policy".
+use Rattle.std.specs.Prelude.{ℕ, ◌<◌, nat_lt, List, [], ◌∷◌, ◌&&◌, not, Bool, true, false, Option, None, Some, codes, is_some}
+use Rattle.std.specs.List.{list_any}
+use Rattle.std.specs.FinMap as maps
+use Rattle.cj_types.specs.declared.cron.CronSpec.{CronSpec}
+use Rattle.cj_types.specs.declared.job.JobDraft.{JobDraft}
+use Rattle.cj_types.specs.declared.policy.Reason.{Reason}
+use Rattle.cj_types.specs.declared.policy.Reason.TheVariants as Cause
+use Rattle.cj_status.specs.Refs.{has_any}
+use Rattle.cj_due.specs.declared.answer.Missed.{Missed}
+use Rattle.cj_due.specs.declared.answer.Missed.TheVariants as Kind
+use Rattle.cj_decide.specs.declared.start.Claim.{Claim}
+use Rattle.cj_decide.specs.declared.steps.Steps.{Steps}
+use Rattle.cj_cluster.specs.Content.{Content}
+use Rattle.cj_why.specs.Running.{lacks_any}
+use Rattle.cj_why.specs.Why.{is_never}
+use Rattle.cj_why.specs.reviews.Lacking.{is_sure}
+use Rattle.cj_why.specs.declared.reviews.verdict.Verdict.{Verdict}
+use Rattle.cj_why.specs.declared.reviews.verdict.Verdict.TheVariants.{LacksJobs, NameTaken, NeverDue, NeverInTime, NothingMissed, Replaces, SkippedRunning, Starts, Suspended, ZoneUnknown}
+
+-- the list has a Job of the name that is made
+abbrev pub is_taken : Content → Option JobDraft → Bool
+is_taken content None = false
+is_taken content (Some draft) = is_some (maps.get content.jobs draft.key)
+
+abbrev pub is_skipped : Reason → Bool
+is_skipped Cause.JobAlreadyActive = true
+is_skipped Cause.UnknownTimeZone = false
+is_skipped Cause.TooManyMissedTimes = false
+is_skipped Cause.FailedCreate = false
+
+-- a time was missed: whether the plan rests on Jobs that the list lacks, whether the name is taken, and whether those that
+-- run go first
+abbrev pub starting : Bool → Bool → Bool → Verdict
+starting true taken replaces = LacksJobs
+starting false true replaces = NameTaken
+starting false false true = Replaces
+starting false false false = Starts
+
+-- nothing is started: whether that is since a Job runs, and when the schedule comes next
+abbrev pub resting : Bool → Option ℕ → Verdict
+resting true next = SkippedRunning
+resting false None = NeverDue
+resting false (Some time) = NothingMissed
+
+abbrev pub by_claim : Option Claim → Bool → Bool → Steps → Verdict
+by_claim None lacks taken p = resting (list_any is_skipped p.reasons) p.next
+by_claim (Some claim) lacks taken p = starting lacks taken (has_any p.drop_first)
+
+-- whether the zone is known
+abbrev pub by_zone : Bool → Bool → Bool → Steps → Verdict
+by_zone false lacks taken p = ZoneUnknown
+by_zone true lacks taken p = by_claim p.claim lacks taken p
+
+-- whether no time is ever in time
+abbrev pub by_deadline : Bool → Bool → Bool → Bool → Steps → Verdict
+by_deadline true known lacks taken p = NeverInTime
+by_deadline false known lacks taken p = by_zone known lacks taken p
+
+-- the first of these cases that holds
+-- rule: why-verdict
+abbrev pub by_suspension : Bool → Bool → Bool → Bool → Bool → Steps → Verdict
+by_suspension true never known lacks taken p = Suspended
+by_suspension false never known lacks taken p = by_deadline never known lacks taken p
+
+-- of a CronJob's plan: whether its zone is known, and the names of the Jobs that the list lacks
+-- rule: why-verdict
+abbrev pub verdict_of : CronSpec → Bool → List (List ℕ) → Content → Steps → Verdict
+verdict_of spec known lacking content p =
+    by_suspension spec.suspend (is_never spec.starting_deadline_seconds) known
+    (lacks_any lacking && not (is_sure spec.policy p.claim)) (is_taken content p.make) p
+
+-- ---- which want a look
+
+-- more than the one time was missed whose Job starts
+abbrev pub is_behind : Missed → Bool
+is_behind Kind.None = false
+is_behind (Kind.Some count latest) = nat_lt 1 count
+is_behind (Kind.Many latest) = true
+
+-- a suspended CronJob is as somebody wants it
+-- rule: why-problems
+abbrev pub is_problem : Verdict → Missed → Bool
+is_problem Starts missed = is_behind missed
+is_problem Replaces missed = is_behind missed
+is_problem NothingMissed missed = false
+is_problem Suspended missed = false
+is_problem SkippedRunning missed = true
+is_problem NameTaken missed = true
+is_problem LacksJobs missed = true
+is_problem NeverInTime missed = true
+is_problem NeverDue missed = true
+is_problem ZoneUnknown missed = true
+
+-- ---- in words
+
+-- rule: why-verdict
+abbrev pub verdict_text : Verdict → List ℕ
+verdict_text Starts = codes "starts"
+verdict_text Replaces = codes "replaces"
+verdict_text NothingMissed = codes "nothing missed"
+verdict_text Suspended = codes "suspended"
+verdict_text SkippedRunning = codes "skipped: running"
+verdict_text NameTaken = codes "name taken"
+verdict_text LacksJobs = codes "lacks Jobs"
+verdict_text NeverInTime = codes "never: spec.startingDeadlineSeconds"
+verdict_text NeverDue = codes "never: spec.schedule"
+verdict_text ZoneUnknown = codes "zone unknown"

@@ -1,0 +1,85 @@
+// What is printed of a plan where the list lacks Jobs, and what never starts one.
+ghost use Rattle.std.specs.Prelude.{◌≡◌, ◌++◌, IfOk, IfErr, string_bytes};
+ghost use Rattle.cj_base.specs.declared.refusal.Refusal.TheVariants.{OutOfMemory};
+ghost use Rattle.cj_why.specs.reviews.Lacking.{is_sure, lack_lines, lines_for, never_by, never_line, sure_lines};
+
+use crate::reviews::steps_text::{plan_text, push_line, push_time};
+use crate::running::lacks_any;
+use crate::start::is_never;
+use cj_decide::{Claim, Steps};
+use cj_types::{CronSpec, ObjectName, Policy, Refusal, Seconds};
+use std::alloc::{AllocError, Global};
+
+fn lack_lines(alloc: Global, lacking: &[ObjectName]) -> Result<String, AllocError>
+    ensures { IfOk result (λ s. string_bytes s ≡ lack_lines lacking.now) }
+{
+    let mut text = String::new(alloc);
+    for name in lacking {
+        push_line(&mut text, "lacks", name.as_str())?;
+    }
+    Ok(text)
+}
+
+/// Whether the plan that takes Jobs for gone is also that of those that run.
+pub(crate) fn is_sure(policy: Policy, claim: &Option<Claim>) -> bool
+    ensures { result ≡ is_sure policy claim.now }
+{
+    match (policy, claim) {
+        (Policy::Allow, _) => true,
+        (Policy::Forbid, None) => true,
+        (Policy::Forbid, Some(_)) => false,
+        (Policy::Replace, None) => true,
+        (Policy::Replace, Some(_)) => false,
+    }
+}
+
+fn sure_lines(alloc: Global, sure: bool, steps: &Steps) -> Result<String, Refusal>
+    ensures ok { IfOk result (λ s. string_bytes s ≡ sure_lines sure steps.now) }
+    ensures err { IfErr result (λ e. e ≡ OutOfMemory) }
+{
+    if sure {
+        return plan_text(alloc, steps);
+    }
+    let mut text = String::new(alloc);
+    push_time(&mut text, alloc, "next", steps.next)?;
+    Ok(text)
+}
+
+/// The names that the list lacks, and the lines of the plan, where that doesn't rest on them.
+pub(crate) fn lines_for(
+    alloc: Global,
+    lacking: &[ObjectName],
+    policy: Policy,
+    steps: &Steps,
+) -> Result<String, Refusal>
+    ensures ok { IfOk result (λ s. string_bytes s ≡ lines_for lacking.now policy steps.now) }
+    ensures err { IfErr result (λ e. e ≡ OutOfMemory) }
+{
+    let mut text = lack_lines(alloc, lacking)?;
+    let has_all = !lacks_any(lacking);
+    let is_sure = is_sure(policy, &steps.claim);
+    let lines = sure_lines(alloc, has_all || is_sure, steps)?;
+    text.push_str(lines.as_str())?;
+    Ok(text)
+}
+
+fn never_by(is_never: bool, next: Option<Seconds>) -> &'static str
+    ensures { result.now ≡ never_by is_never next }
+{
+    match (is_never, next) {
+        (true, _) => "never spec.startingDeadlineSeconds\n",
+        (false, None) => "never spec.schedule\n",
+        (false, Some(_)) => "",
+    }
+}
+
+/// A line with the field that keeps a CronJob from ever starting a Job, where one does.
+pub(crate) fn never_line(spec: &CronSpec, next: Option<Seconds>) -> &'static str
+    ensures { result.now ≡ never_line spec.now next }
+{
+    if spec.suspend {
+        "never spec.suspend\n"
+    } else {
+        never_by(is_never(spec.starting_deadline_seconds), next)
+    }
+}
