@@ -1,4 +1,3 @@
-pub mod Rows
 pub mod Standing
 pub mod Owning
 pub mod Stored

@@ -13,7 +13,7 @@ pub places_total : IsTotalOrder place_cmp
 places_total = then_total (on_total (λ k. k.namespace) nat_list_cmp_total) (on_total (λ k. k.name) nat_list_cmp_total)
 
 -- Where two orders, one asked after the other, give Equal, each of them is Equal.
-both_equal : (o p : Ordering) → ordering_then o p ≡ Equal → (o ≡ Equal) × (p ≡ Equal)
+pub both_equal : (o p : Ordering) → ordering_then o p ≡ Equal → (o ≡ Equal) × (p ≡ Equal)
 both_equal Less p h = cc
 both_equal Equal p h = (refl, h)
 both_equal Greater p h = cc

@@ -1,4 +1,4 @@
--- What stands in the entries of a map by hash once they are in the order of keys.
+-- What stands in the entries of a table once they are in the order of keys.
 use Rattle.std.proofs.Common.{◌≡◌, ◌<◌, ◌≤◌, ◌+◌, ℕ, List, [], ◌∷◌, Option, Some, None, false, Bor, map as map_list}
 use Rattle.std.proofs.Common.{length, get_or, take, refl, sym, ap, ◌∙◌, subst, arith}
 use Rattle.std.specs.Ordering.{eq_by_cmp, is_lt, is_eq, ordering_reverse}
@@ -11,12 +11,13 @@ use Rattle.std.specs.Map.{lookup, keys_of}
 use Rattle.std.specs.FinMap as map
 use Rattle.std.proofs.lemmas.List.{get_or-map, length-map, take_all}
 use Rattle.std.proofs.lemmas.List.Sorted.{IsPermutation-sym, IsPermutation-map, Contains-permutation}
-use Rattle.std.proofs.lemmas.Map.Keys.{sorted_from_all_adjacent, apart_from_distinct, IsDistinct-IsPermutation}
+use Rattle.std.proofs.lemmas.Map.Keys.{sorted_from_all_adjacent, apart_from_distinct, IsDistinct-IsPermutation, IsDistinct-from_sorted}
 use Rattle.std.proofs.lemmas.Map.Views.{Contains-from_lookup, lookup-from_Contains, tells_apart}
 use Rattle.std.specs.Map.Iter.{deref_pair}
 use Rattle.cj_types.specs.Keys.{Place, place_cmp}
 use Rattle.cj_table.proofs.Order.{places_total, places_exact}
-use Rattle.cj_table.proofs.Rows.{place_eq, one_test}
+use Rattle.cj_table.specs.Tags.{hash_cmp}
+use Rattle.cj_table.proofs.Tags.{one_tie}
 use Rattle.cj_table.proofs.Gets.{same_rows, rows_entries}
 
 -- Of the three orders, one that is not Less from the other side and no tie is Less.
@@ -83,10 +84,10 @@ sorted_map R g key (x ∷ xs) s = λ k d low l.
 module _ {X : Type 0} where
   -- For ordered_rows: references to the rows of a table, in the order of keys, show the entries of its map.
   pub ordered : (es : List (Place × X)) (bs cs : List (Bor Place × Bor X)) → map_list deref_pair bs ≡ es
-      → IsDistinct place_eq (keys_of es) → IsPermutation bs cs → IsSortedByKey (λ r. r.0.now) place_cmp cs
+      → IsStrictlySortedBy hash_cmp (keys_of es) → IsPermutation bs cs → IsSortedByKey (λ r. r.0.now) place_cmp cs
       → map_list deref_pair cs ≡ map.entries (map.from_entries {R = place_cmp} es)
   ordered es bs cs h d p s = sorted_entries places_total places_exact es (map_list deref_pair cs)
-      (subst (λ t. IsDistinct t (keys_of es)) one_test d)
+      (subst (λ t. IsDistinct t (keys_of es)) one_tie (IsDistinct-from_sorted hash_cmp (keys_of es) d))
       (subst (λ t. IsPermutation t (map_list deref_pair cs)) h (IsPermutation-map deref_pair bs cs p))
       (sorted_map place_cmp (λ (e : Place × X). e.0) (λ k. k) (map_list deref_pair cs)
       (sorted_map place_cmp deref_pair (λ (e : Place × X). e.0) cs s))

@@ -4,23 +4,24 @@ ghost use Rattle.std.specs.FinMap as finite;
 ghost use Rattle.cj_base.specs.declared.refusal.Refusal.TheVariants.{OutOfMemory};
 ghost use Rattle.cj_types.specs.Keys.{place_cmp};
 
-use cj_types::{Key, Refusal};
+use crate::tagged::Tagged;
+use cj_types::Refusal;
 use std::alloc::Global;
-use std::collections::HashMap;
+use std::collections::BTreeMap;
 
 // The keys with their values, in the order of keys.
 pub(crate) fn ordered_rows<'a, X>(
     alloc: Global,
-    rows: &'a HashMap<Key, X>,
-) -> Result<Vec<(&'a Key, &'a X)>, Refusal>
+    rows: &'a BTreeMap<Tagged, X>,
+) -> Result<Vec<(&'a Tagged, &'a X)>, Refusal>
     ensures ok { IfOk result (λ v. map deref_pair v.items ≡
         finite.entries (finite.from_entries {R = place_cmp} rows.now.entries)) }
     ensures memory { IfErr result (λ e. e ≡ OutOfMemory) }
 {
-    let mut found: Vec<(&Key, &X)> = rows
+    let mut found: Vec<(&Tagged, &X)> = rows
         .iter()
         .collect(alloc)
         .map_err(|_| Refusal::OutOfMemory)?;
-    found.sort_unstable_by_key(|row| row.0);
+    found.sort_unstable_by(|a, b| a.0.key().cmp(b.0.key()));
     Ok(found)
 }

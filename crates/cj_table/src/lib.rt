@@ -9,6 +9,7 @@ mod in_order;
 mod jobs;
 mod laws;
 mod table;
+mod tagged;
 
 pub use jobs::Jobs;
 pub use laws::{apart_laws, table_laws};

@@ -3,15 +3,18 @@ ghost use Rattle.std.specs.FinMap as map;
 ghost use Rattle.cj_base.specs.declared.refusal.Refusal.TheVariants.{OutOfMemory};
 
 use crate::in_order::ordered_rows;
+use crate::tagged::{Probe, Tagged};
 use cj_types::{Key, Refusal, TryCopy};
 use std::alloc::Global;
-use std::collections::HashMap;
+use std::collections::BTreeMap;
 use std::marker::Model;
 
-/// A value for each of some keys, which are found by hash and listed in their order. Contracts see a finite map.
+/// A value for each of some keys, which stand in the order of their hashes, and those of one hash in the order of keys: so a
+/// key is found by few comparisons of numbers, and nobody can choose names that are slow to find. They are listed in the
+/// order of keys. Contracts see a finite map.
 #[derive(Drop)]
 pub struct Table<X> {
-    rows: HashMap<Key, X>,
+    rows: BTreeMap<Tagged, X>,
 }
 
 impl<X> Model for Table<X> {
@@ -31,16 +34,16 @@ impl<X> Table<X> {
         ensures { result ≡ map.empty }
     {
         Table {
-            rows: HashMap::new(alloc),
+            rows: BTreeMap::new(alloc),
         }
     }
 
     /// The value at the key.
-    #[tactic(auto, using(crate::proofs::Rows::place_rows))]
+    #[tactic(auto, using(crate::proofs::Rows::found_row))]
     pub fn get(&self, key: &Key) -> Option<&X>
         ensures { option_copied result ≡ map.get self.now key.now }
     {
-        self.rows.get(key)
+        self.rows.get(Probe::new(key))
     }
 
     /// Whether there is a value at the key.
@@ -54,25 +57,25 @@ impl<X> Table<X> {
 impl<X: Drop> Table<X> {
     /// Puts the value at the key, in place of the one that stood there. Where there is no memory the table is as it
     /// was; a key that has a value needs none.
-    #[tactic(auto, using(crate::proofs::Rows::inserted_row, crate::proofs::Rows::place_rows))]
+    #[tactic(auto, using(crate::proofs::Rows::put_row, crate::proofs::Rows::found_row))]
     pub fn insert(&mut self, key: Key, value: X) -> Result<(), Refusal>
         ensures ok { OnOk result (self.new ≡ map.insert self.old key value) }
         ensures err { OnErr result (self.new ≡ self.old) }
         ensures memory { IfErr result (λ e. e ≡ OutOfMemory) }
         ensures present { IsSome (map.get self.old key) → IsOk result }
     {
-        match self.rows.insert(key, value) {
+        match self.rows.insert(Tagged::new(key), value) {
             Ok(_) => Ok(()),
             Err(_) => Err(Refusal::OutOfMemory),
         }
     }
 
     /// Takes the key and its value out, if they are there.
-    #[tactic(auto, using(crate::proofs::Rows::removed_row))]
+    #[tactic(auto, using(crate::proofs::Rows::gone_row))]
     pub fn remove(&mut self, key: &Key)
         ensures { self.new ≡ map.remove self.old key.now }
     {
-        let _ = self.rows.remove(key);
+        self.rows.remove(Probe::new(key));
     }
 }
 

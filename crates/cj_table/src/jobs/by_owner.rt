@@ -11,13 +11,13 @@ use crate::jobs::slot::Slot;
 use crate::jobs::slots::Slots;
 use cj_types::{Job, Key, Listing, Refusal, Shared, TryCopy};
 use std::alloc::Global;
-use std::collections::HashMap;
+use std::collections::BTreeMap;
 use std::marker::Model;
 
 // For each owner that has Jobs, the slots of these.
 #[derive(Drop)]
 pub(crate) struct ByOwner {
-    rows: HashMap<Owner, OwnJobs>,
+    rows: BTreeMap<Owner, OwnJobs>,
 }
 
 impl Model for ByOwner {
@@ -39,7 +39,7 @@ impl ByOwner {
         ensures { result ≡ map.empty }
     {
         ByOwner {
-            rows: HashMap::new(alloc),
+            rows: BTreeMap::new(alloc),
         }
     }
 

@@ -41,7 +41,7 @@ impl OwnJobs {
     }
 
     // Whether there is no Job.
-    #[tactic(auto, using(crate::proofs::JobsLemmas::Rows::none_listed))]
+    #[tactic(auto, using(crate::proofs::Rows::none_listed))]
     pub(crate) fn is_empty(&self) -> bool
         ensures { IsTrue result → self.now ≡ map.empty }
     {
@@ -49,7 +49,7 @@ impl OwnJobs {
     }
 
     // Puts the slot at the key, in place of the one that stood there.
-    #[tactic(auto, using(crate::proofs::JobsLemmas::Rows::inserted_row))]
+    #[tactic(auto, using(crate::proofs::Rows::inserted_at))]
     pub(crate) fn insert(&mut self, key: Key, slot: Slot) -> Result<(), Refusal>
         ensures ok { OnOk result (self.new ≡ map.insert self.old key slot) }
         ensures err { OnErr result (self.new ≡ self.old) }
@@ -62,7 +62,7 @@ impl OwnJobs {
     }
 
     // Takes the key and its slot out, if they are there.
-    #[tactic(auto, using(crate::proofs::JobsLemmas::Rows::removed_row))]
+    #[tactic(auto, using(crate::proofs::Rows::removed_at))]
     pub(crate) fn remove(&mut self, key: &Key)
         ensures { self.new ≡ map.remove self.old key.now }
     {

@@ -1,9 +1,10 @@
-ghost use Rattle.std.specs.Prelude.{◌≡◌, ◌++◌, IfOk, IfErr, ◌==◌};
+ghost use Rattle.std.specs.Prelude.{◌≡◌, IfOk, IfErr, ◌==◌};
 ghost use Rattle.std.proofs.Common.{rules};
-ghost use Rattle.std.specs.Cmp.Rules.{comparing, hashing};
-ghost use Rattle.std.specs.Hash as fed;
+ghost use Rattle.std.specs.Cmp.{partial_order_from_own_ties};
+ghost use Rattle.std.specs.Cmp.Rules.{comparing};
 ghost use Rattle.std.specs.Cmp.Lexicographic.{pointwise};
-ghost use Rattle.std.specs.Ordering.{on, eq_of_both};
+ghost use Rattle.std.specs.Ordering.{on, as_partial_cmp, eq_of_both};
+ghost use Rattle.cj_types.specs.Keys.{place_cmp};
 ghost use Rattle.cj_base.specs.declared.refusal.Refusal.TheVariants.{OutOfMemory};
 ghost use Rattle.cj_table.specs.jobs.Slots.{job_at};
 ghost use Rattle.cj_table.specs.jobs.Index.{owner_of, owner_at};
@@ -13,7 +14,7 @@ use crate::jobs::slots::Slots;
 use cj_base::both;
 use cj_types::{Job, Key, Refusal, Shared, Text, TryCopy};
 use std::alloc::Global;
-use std::hash::{Hash, Hasher};
+use std::cmp::Ordering;
 use std::marker::Model;
 
 // Namespace and name of a CronJob that a Job's controller reference names, which need not be well formed.
@@ -89,13 +90,27 @@ impl Eq for Owner {
     ghost laws = { Prim.search (comparing, rules) };
 }
 
-impl Hash for Owner {
-    ghost hash_input = { λ o. fed.str o.namespace ++ fed.str o.name };
+impl Ord for Owner {
+    ghost cmp = { place_cmp };
 
-    ghost respects_eq = { Prim.search (hashing, rules) };
+    ghost total = { Prim.search (comparing, rules) };
 
-    fn hash<H: Hasher>(&self, state: &mut H) {
-        self.namespace.as_str().hash(state);
-        self.name.as_str().hash(state);
+    ghost matches_partial_cmp = { Prim.search (comparing, rules) };
+
+    ghost matches_eq = { Prim.search (comparing, rules) };
+
+    fn cmp(&self, other: &Owner) -> Ordering {
+        let namespaces = self.namespace.as_str().cmp(other.namespace.as_str());
+        namespaces.then(self.name.as_str().cmp(other.name.as_str()))
+    }
+}
+
+impl PartialOrd for Owner {
+    ghost partial_cmp = { as_partial_cmp place_cmp };
+
+    ghost laws = { partial_order_from_own_ties (Prim.search (comparing, rules)) (Prim.search (comparing, rules)) };
+
+    fn partial_cmp(&self, other: &Owner) -> Option<Ordering> {
+        Some(self.cmp(other))
     }
 }

@@ -4,7 +4,7 @@ use Rattle.std.specs.List.{filter_map}
 use Rattle.std.specs.FinMap as map
 use Rattle.std.proofs.lemmas.Result.{IfOk-weaker}
 use Rattle.cj_table.specs.jobs.Slots.{Table, job_at}
-use Rattle.cj_table.proofs.JobsLemmas.Rows.{no_values}
+use Rattle.cj_table.proofs.Rows.{no_values}
 use Rattle.cj_table.proofs.JobsLemmas.Stored.{own_found}
 use Rattle.cj_table.proofs.jobs.by_owner.ByOwner.list.Goals as goal
 

@@ -6,7 +6,7 @@ use Rattle.std.specs.FinMap as map
 use Rattle.std.proofs.lemmas.Result.{IfOk-weaker}
 use Rattle.cj_types.specs.Keys.{place_cmp}
 use Rattle.cj_table.specs.jobs.Slots.{job_at}
-use Rattle.cj_table.proofs.JobsLemmas.Rows.{listed}
+use Rattle.cj_table.proofs.Rows.{listed}
 use Rattle.cj_table.proofs.jobs.own_jobs.OwnJobs.list.Goals as goal
 
 pub returns-clause-ok : goal.returns-clause-ok

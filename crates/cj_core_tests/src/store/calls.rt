@@ -2,10 +2,10 @@ ghost use Rattle.std.specs.Prelude.{IfOk};
 ghost use Rattle.cj_store.specs.Content.{HasRoom};
 ghost use Rattle.cj_store.specs.Change.{IsFor};
 
-use crate::ask::{Ask, name_at};
-use crate::drafts::{cron_draft, job_draft, status};
-use crate::plain::Kind;
-use crate::told::{Answer, change_answer, done, gone, refused};
+use crate::store::ask::{Ask, name_at};
+use crate::store::drafts::{cron_draft, job_draft, status};
+use crate::store::plain::Kind;
+use crate::store::told::{Answer, change_answer, done, gone, refused};
 use cj_store::{Change, Store};
 use cj_types::{Key, Outcome, Refusal, Seconds, Uid, Version};
 use std::alloc::Global;

@@ -1,5 +1,5 @@
-use crate::boxed::boxed;
-use crate::drafts::{owned_draft, seconds};
+use crate::store::boxed::boxed;
+use crate::store::drafts::{owned_draft, seconds};
 use cj_base::both;
 use cj_store::Store;
 use cj_types::{Job, JobDraft, Key, Refusal, Shared};

@@ -1,5 +1,5 @@
-use crate::ask::Ask;
-use crate::told::{Answer, Plain};
+use crate::store::ask::Ask;
+use crate::store::told::{Answer, Plain};
 
 // The calls of the random test.
 #[derive(Clone, Copy, PartialEq, Eq)]

@@ -1,8 +1,8 @@
-use crate::ask::Ask;
-use crate::boxed::boxed;
-use crate::calls::is_answered;
-use crate::plain::Kind;
-use crate::told::{Answer, Plain};
+use crate::store::ask::Ask;
+use crate::store::boxed::boxed;
+use crate::store::calls::is_answered;
+use crate::store::plain::Kind;
+use crate::store::told::{Answer, Plain};
 use cj_store::Store;
 use cj_types::Refusal;
 use std::alloc::Global;

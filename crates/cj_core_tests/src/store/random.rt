@@ -1,9 +1,9 @@
-use crate::ask::{Ask, name_at};
-use crate::boxed::boxed;
-use crate::calls::is_answered;
-use crate::plain::{Kind, Model};
-use crate::rows::none_wrong;
-use crate::told::{Plain, Told};
+use crate::store::ask::{Ask, name_at};
+use crate::store::boxed::boxed;
+use crate::store::calls::is_answered;
+use crate::store::plain::{Kind, Model};
+use crate::store::rows::none_wrong;
+use crate::store::told::{Plain, Told};
 use cj_base::Listing;
 use cj_store::Store;
 use cj_types::{Key, Refusal, Shared};

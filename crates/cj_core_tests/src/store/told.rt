@@ -1,4 +1,4 @@
-use crate::ask::place_of;
+use crate::store::ask::place_of;
 use cj_store::Change;
 use cj_types::{CronJob, Event, Job, Object, Outcome, Refusal, Seconds, Shared, Version};
 

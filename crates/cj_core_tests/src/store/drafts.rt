@@ -1,4 +1,4 @@
-use crate::ask::{Ask, name_at, spec_at};
+use crate::store::ask::{Ask, name_at, spec_at};
 use cj_base::{all_four, all_three, both};
 use cj_types::{
     CronJobDraft, CronKey, CronSpec, CronStatus, DraftMeta, HistoryLimit, JobDraft, JobTemplate,

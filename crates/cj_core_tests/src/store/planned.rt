@@ -1,5 +1,5 @@
-use crate::boxed::boxed;
-use crate::drafts::{owned_draft, seconds};
+use crate::store::boxed::boxed;
+use crate::store::drafts::{owned_draft, seconds};
 use cj_store::{Store, make_both, update_both};
 use cj_types::{Heap, JobDraft, Key, Refusal};
 use std::alloc::Global;

@@ -1,0 +1,22 @@
+// Tests of the store: a worked row of calls, two thousand Jobs, ten thousand calls beside a plain list, and plans that
+// are made in turn.
+#[cfg(test)]
+mod ask;
+#[cfg(test)]
+mod boxed;
+#[cfg(test)]
+mod calls;
+#[cfg(test)]
+mod drafts;
+#[cfg(test)]
+mod listed;
+#[cfg(test)]
+mod plain;
+#[cfg(test)]
+mod planned;
+#[cfg(test)]
+mod random;
+#[cfg(test)]
+mod rows;
+#[cfg(test)]
+mod told;
