@@ -17,8 +17,8 @@ fn counted(rt: &impl Wait, hub: &Hub, worker: &mut Pass, answered: &AtomicU64) -
     word
 }
 
-// Whether so many have an answer, within a million polls.
-fn come(answered: &AtomicU64, count: u64) -> bool {
+/// Whether so many have an answer, within a million polls.
+pub fn come(answered: &AtomicU64, count: u64) -> bool {
     for _ in 0..1_000_000u32 {
         if answered.load(Ordering::SeqCst) >= count {
             return true;
