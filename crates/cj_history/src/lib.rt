@@ -3,8 +3,8 @@
 //! and that a claim is of the greatest time missed. No state stands in these words.
 //!
 //! Here belongs a second reading of what the crates below define by a state: of what is written (`store`) and queued
-//! (`queue`), and that what is written of a created object reads back (`manifests`). No crate rests on it; `legal_law`
-//! and `answer_law` say that the two readings agree.
+//! (`queue`), and that what is written of a created object reads back (`manifests`); `legal_law` and `answer_law` say
+//! that the two readings agree. The program rests on `gaps_of` alone, whose gaps it tells people of a run.
 //! What is sure to come stands here too (`progress`): the queue forgets nothing that is due, a sync that nobody disturbs
 //! makes its Job, and such syncs, one after the other, just those of the due times; and which due times got no Job, and
 //! why (`gaps`), for whoever reports of a history.

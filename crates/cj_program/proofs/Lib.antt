@@ -1,3 +1,5 @@
+pub mod Counted
+pub mod Refusals
 pub mod Given
 pub mod Runs
 pub mod Scenes

@@ -1,3 +1,4 @@
+pub mod remarks
 pub mod Replay
 pub mod Run
 pub mod Answers

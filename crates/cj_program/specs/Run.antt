@@ -1,11 +1,13 @@
 -- What `run` answers of a scenario.
-use Rattle.std.specs.Prelude.{◌≡◌, ◌≢◌, ◌⊎◌, ℕ, ◌≤◌, List, length, Option, IfSome, Bool}
+use Rattle.std.specs.Prelude.{◌≡◌, ◌≢◌, ◌⊎◌, ℕ, ◌≤◌, List, ◌++◌, length, Option, IfSome, Bool}
 use Rattle.cj_scenario.specs.declared.fault.SceneFault.{SceneFault}
 use Rattle.cj_scenario.specs.declared.fault.SceneFault.TheVariants as Why
 use Rattle.cj_scenario.specs.declared.detection.form.Form.TheVariants as A
 use Rattle.cj_script.specs.simulation.Simulations.{IsSimulation, IsRefusedSimulation}
 use Rattle.cj_script.specs.declared.simulation.scenario.Simulation.{Simulation}
+use Rattle.cj_world.specs.Worlds.{WorldLog}
 use Rattle.cj_run.specs.Runs.{IsRun}
+use Rattle.cj_program.specs.remarks.Remarks.{IsAskedRemark, most_lines}
 use Rattle.cj_args.specs.declared.request.RunRequest.{RunRequest}
 use Rattle.cj_io.specs.declared.zone_files.file.ZoneFile.{ZoneFile}
 use Rattle.cj_io.specs.declared.zone_files.given.GivenZones.{GivenZones}
@@ -20,15 +22,19 @@ pub record RefusesSimulation (explain : Bool) (given : GivenZones) (bytes : List
   pub told : fault ≢ Why.Memory
   pub says : IsSceneRefusal explain A.Simulation bytes fault o
 
--- the report of a run of the scenario that they are, with so many workers
+-- the report of a run of the scenario that they are, with so many workers; behind it, where people ask for it, what nobody
+-- read of the scenario, and what its history says of edits, starts, gaps and suspended CronJobs
 pub record PrintsReport (explain : Bool) (workers : ℕ) (given : GivenZones) (bytes : List ℕ) (o : Outcome) : Type 0 where
   pub simulation : Simulation
   pub said : IsSimulation given bytes simulation
+  pub log : WorldLog
   pub text : List ℕ
-  pub run : IsRun simulation workers text
+  pub run : IsRun simulation workers log text
   pub seen : List ℕ
   pub looked : IsAskedDetection explain A.Simulation bytes seen
-  pub answer : o ≡ explained explain seen (done text)
+  pub remark : List ℕ
+  pub remarked : IsAskedRemark explain most_lines simulation.span log remark
+  pub answer : o ≡ explained explain (seen ++ remark) (done text)
 
 -- what the bytes are answered under these zones
 abbrev pub IsRanOf : Bool → ℕ → GivenZones → List ℕ → Outcome → Type 0

@@ -6,6 +6,7 @@
 //! at each status.
 #![tactic(auto)]
 
+mod remarks;
 mod replay;
 mod run;
 mod serving;

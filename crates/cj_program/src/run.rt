@@ -1,14 +1,15 @@
 // Running the whole controller.
-ghost use Rattle.std.specs.Prelude.{◌≡◌, IfOk, string_bytes};
+ghost use Rattle.std.specs.Prelude.{◌≡◌, ◌++◌, IfOk, string_bytes};
 ghost use Rattle.cj_script.specs.simulation.Simulations.{IsSimulation};
 ghost use Rattle.cj_io.specs.declared.zone_files.given.GivenZones.{GivenZones};
 ghost use Rattle.cj_answers.specs.Outcome.{done, explained, outcome_of};
 ghost use Rattle.cj_program.specs.Run.{IsRanOf, IsRunOutcome};
 
+use crate::remarks::asked_remark;
 use cj_answers::{Answer, Ending, asked_detection, given_for, refused_pair, refused_scene};
 use cj_args::RunRequest;
 use cj_io::{Failure, GivenZones, MOST_BYTES, MOST_READS, ZoneFile, read_input};
-use cj_run::run_simulation;
+use cj_run::{Ran, run_simulation};
 use cj_scenario::Form;
 use cj_script::{Simulation, read_simulation};
 use std::alloc::{AllocError, Global};
@@ -16,9 +17,18 @@ use std::io::Read;
 use std::sync::Wait;
 use std::thread::Threads;
 
-// The answer with a report, and with what was seen of the scenario.
-fn reported(alloc: Global, explain: bool, report: String, seen: &str) -> Result<Answer, AllocError>
-    ensures { IfOk result (λ a. outcome_of a ≡ explained explain seen.now
+// The most gaps of one CronJob and one cause that get a line each.
+const MOST_LINES: u64 = 20;
+
+// The answer with a report, with what was seen of the scenario and with what is told of the run.
+fn reported(
+    alloc: Global,
+    explain: bool,
+    report: String,
+    seen: &str,
+    remark: &str,
+) -> Result<Answer, AllocError>
+    ensures { IfOk result (λ a. outcome_of a ≡ explained explain (seen.now ++ remark.now)
         (done (string_bytes report))) }
 {
     let answer = Answer {
@@ -26,7 +36,9 @@ fn reported(alloc: Global, explain: bool, report: String, seen: &str) -> Result<
         printed: report,
         said: String::new(alloc),
     };
-    answer.explained(explain, seen)
+    let mut words = String::from_str(alloc, seen)?;
+    words.push_str(remark)?;
+    answer.explained(explain, words.as_str())
 }
 
 // Runs the scenario that the bytes are.
@@ -41,9 +53,17 @@ fn answered<T: Threads + Wait + Sync>(
         IfOk result (λ a. IsRanOf run.now.explain run.now.workers given bytes.now
         (outcome_of a)) }
 {
-    let report = run_simulation(rt, alloc, simulation, u64::from(run.workers))?;
+    let ran = run_simulation(rt, alloc, simulation, u64::from(run.workers))?;
     let seen = asked_detection(alloc, run.explain, Form::Simulation, bytes)?;
-    Ok(reported(alloc, run.explain, report, seen.as_str())?)
+    let remark = asked_remark(
+        alloc,
+        run.explain,
+        MOST_LINES,
+        &simulation.span,
+        ran.closed.get(),
+    )?;
+    let Ran { report, closed: _ } = ran;
+    Ok(reported(alloc, run.explain, report, seen.as_str(), remark.as_str())?)
 }
 
 fn bytes_answer<T: Threads + Wait + Sync>(

@@ -2,5 +2,5 @@ pub mod Done
 pub mod Followed
 pub mod Looked
 pub mod Noted
-pub mod Ran
+pub mod Reported
 pub mod Went

@@ -16,7 +16,7 @@ use Rattle.cj_run.specs.Turns.{AllInstants, are_timely, is_timely, progress_afte
 use Rattle.cj_run.specs.declared.look.Seen.{Seen}
 use Rattle.cj_run.specs.declared.turns.Progress.{Progress}
 use Rattle.cj_run.proofs.Done.{edits_append}
-use Rattle.cj_run.proofs.Ran.{same_count}
+use Rattle.cj_run.proofs.Reported.{same_count}
 
 -- For Seen::see: with one entry more, what was seen is of the history with that entry.
 pub see_more : (s : SpanView) (callers : List Caller) (user : ℕ) (v v' : Seen) (e : Told) (h : List Told)

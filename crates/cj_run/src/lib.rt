@@ -3,8 +3,8 @@
 //!
 //! Here belongs who calls in a run and when: the threads, the clock, the user's edits, which Job takes which run.
 //! How a sync, an informer's step or a runner's round goes, and how a report is written, belongs to the crates
-//! below. The program rests on `run_simulation`: its text is the report of a history that keeps what is promised
-//! of every history, that has the calls of an informer, two runners, the workers and a user alone, each at its time,
+//! below. The program rests on `run_simulation`: it hands out a history with its report, which keeps what is promised
+//! of every history, which has the calls of an informer, two runners, the workers and a user alone, each at its time,
 //! and in which the user did just what the scenario says, and the runners ended just the Jobs that were due.
 #![tactic(auto)]
 
@@ -21,4 +21,5 @@ mod turns;
 mod user;
 mod work;
 
-pub use run::run_simulation;
+pub use run::{Ran, run_simulation};
+pub use turns::Progress;

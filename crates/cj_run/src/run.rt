@@ -28,6 +28,15 @@ use std::alloc::Global;
 use std::sync::Wait;
 use std::thread::Threads;
 
+/// What came of a run: the report of the end, and the history that it is of.
+#[derive(Drop)]
+pub struct Ran {
+    /// A line for each object and for each reason.
+    pub report: String,
+    /// All calls of the run with their answers.
+    pub closed: Heap<Closed>,
+}
+
 // One pass more.
 fn put(passes: &mut Vec<Pass>, pass: Pass) -> Result<(), Refusal>
     ensures { OnOk result (passes.new.items ≡ passes.old.items ++ pass ∷ []) }
@@ -210,14 +219,14 @@ fn numbered(alloc: Global, passes: &[Pass]) -> Result<Vec<Caller>, Failure>
 }
 
 // Closes the hub, and reports of its history.
-#[tactic(auto, using(crate::proofs::Ran::reported))]
+#[tactic(auto, using(crate::proofs::Reported::reported))]
 fn report(
     alloc: Global,
     hub: Heap<Hub>,
     simulation: &Simulation,
     crew: Crew,
-) -> Result<String, Failure>
-    ensures { IfOk result (λ s. IsReport simulation.now crew (string_bytes s)) }
+) -> Result<Ran, Failure>
+    ensures { IfOk result (λ r. IsReport simulation.now crew r.closed (string_bytes r.report)) }
 {
     let user = crew.user.caller().number;
     let passes = passes_of(alloc, crew)?;
@@ -225,12 +234,12 @@ fn report(
     let closed = close(alloc, hub, passes)?;
     promised(closed.get());
     look_over(alloc, simulation, callers.as_slice(), user, closed.get())?;
-    let text = closed_report(alloc, closed.get())?;
-    Ok(text)
+    let report = closed_report(alloc, closed.get())?;
+    Ok(Ran { report, closed })
 }
 
 // Enrolls all who call in a run, and runs their threads on the hub.
-#[tactic(auto, using(crate::proofs::Ran::have_lived))]
+#[tactic(auto, using(crate::proofs::Reported::have_lived))]
 fn run_on_hub<R: Threads + Wait + Sync>(
     rt: &R,
     alloc: Global,
@@ -263,7 +272,7 @@ fn live_through<R: Threads + Wait + Sync>(
 }
 
 // Who called in a run on the hub.
-#[tactic(auto, using(crate::proofs::Ran::has_run))]
+#[tactic(auto, using(crate::proofs::Reported::has_run))]
 fn crew_left<R: Threads + Wait + Sync>(
     rt: &R,
     alloc: Global,
@@ -287,21 +296,21 @@ fn crew_left<R: Threads + Wait + Sync>(
     }
 }
 
-/// Runs a scenario on an empty world with so many workers, and gives the report of the end: a line for each
-/// object and for each reason that the history tells.
+/// Runs a scenario on an empty world with so many workers, and gives the report of the end, a line for each
+/// object and for each reason that the history tells, with that history.
 ///
 /// At each instant the Jobs end whose time has come, then the user's edits are made, and then the informer
 /// and the workers go on until the hub is at rest; only then does the clock move. Each thread has ended when
 /// this returns. There is no report where a call found the history full, or where memory was wanting or a
 /// thread couldn't be started.
-#[tactic(auto, using(crate::proofs::Ran::run_of))]
+#[tactic(auto, using(crate::proofs::Reported::run_of))]
 pub fn run_simulation<R: Threads + Wait + Sync>(
     rt: &R,
     alloc: Global,
     simulation: &Simulation,
     workers: u64,
-) -> Result<String, Failure>
-    ensures { IfOk result (λ s. IsRun simulation.now workers (string_bytes s)) }
+) -> Result<Ran, Failure>
+    ensures { IfOk result (λ r. IsRun simulation.now workers r.closed (string_bytes r.report)) }
 {
     let limits = Limits::new(16_777_216, 1_000).unwrap();
     let hub = Heap::new(alloc, Hub::new(alloc, limits)?)?;

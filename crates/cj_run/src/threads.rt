@@ -50,7 +50,7 @@ fn shut<R: Wait>(rt: &R, hub: &Hub, follower: &mut Follower) -> Result<(), Refus
 }
 
 // Lives through all instants, and then shuts the queue.
-#[tactic(auto, using(crate::proofs::Ran::has_lived))]
+#[tactic(auto, using(crate::proofs::Reported::has_lived))]
 fn run_instants<R: Threads + Wait + Sync>(
     rt: &R,
     alloc: Global,

@@ -9,7 +9,7 @@ use cj_types::Millis;
 
 /// How far a run is.
 #[derive(Clone, Copy, Debug, PartialEq, Eq)]
-pub(crate) struct Progress {
+pub struct Progress {
     /// How many instants have begun.
     pub begun: u64,
     /// Whether the last of them goes on.
@@ -159,7 +159,7 @@ fn ends(progress: Progress, role: Role, call: &Call) -> bool
 
 impl Progress {
     /// No instant has begun.
-    pub(crate) fn new() -> Progress
+    pub fn new() -> Progress
         ensures { result ≡ record { begun = 0; on = false } }
     {
         Progress {
@@ -180,7 +180,7 @@ impl Progress {
     }
 
     /// How far the run is with a call more.
-    pub(crate) fn after(self, span: &Span, role: Role, call: &Call) -> Progress
+    pub fn after(self, span: &Span, role: Role, call: &Call) -> Progress
         requires { self.begun + 1 < 2 ^ 64 }
         ensures value { result ≡ progress_after span.now self role call.now }
         ensures short { result.begun ≤ self.begun + 1 }

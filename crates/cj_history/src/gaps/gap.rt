@@ -1,7 +1,7 @@
 use cj_types::{CronJob, Seconds, Shared};
 
 /// Why a due time of a CronJob got no Job.
-#[derive(Clone, Copy, Debug, PartialEq, Eq)]
+#[derive(Clone, Copy, Debug, PartialEq, Eq, PartialOrd, Ord)]
 pub enum Why {
     /// The sync that looked at it saw that the CronJob is suspended.
     Suspended,

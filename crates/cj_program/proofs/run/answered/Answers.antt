@@ -1,19 +1,32 @@
--- answered: its ensures, from the report of the run and what was seen of the bytes.
-use Rattle.std.proofs.Common.{◌∙◌, ap, inr, ℕ, List, string_bytes, subst}
+-- answered: its ensures, from the report of the run, what was seen of the bytes and what is told of the history.
+use Rattle.std.proofs.Common.{◌∙◌, ap, inr, ℕ, List, ◌++◌, string_bytes, subst}
+use Rattle.cj_world.specs.Worlds.{WorldLog}
 use Rattle.cj_run.specs.Runs.{IsRun}
 use Rattle.cj_answers.specs.Outcome.{done, explained}
+use Rattle.cj_program.specs.remarks.Remarks.{IsAskedRemark, most_lines}
 use Rattle.cj_program.proofs.run.answered.Goals as goal
 
 pub returns : goal.returns
-returns g c = λ given said. inr (record {
-  simulation = c.args.simulation.now;
-  said = said;
-  text = string_bytes c.in_ok-report.report;
-  run = subst (λ workers. IsRun c.args.simulation.now workers (string_bytes c.in_ok-report.report)) c.from.ensures
-      c.in_ok-report.ensures;
-  seen = string_bytes c.in_ok-seen.seen;
-  looked = c.in_ok-seen.ensures;
-  answer = c.in_ok-reported.ensures
-      ∙ ap (λ (w : List ℕ). explained c.args.run.now.explain w (done (string_bytes c.in_ok-report.report)))
-      c.as_str.ensures.value;
-})
+returns g c = λ given said.
+    let ran = c.in_ok-ran.ran in
+    let simulation = c.args.simulation.now in
+    let explain = c.args.run.now.explain in
+    let seen = string_bytes c.in_ok-seen.seen in
+    let remark = string_bytes c.in_ok-remark.remark in
+    inr (record {
+      simulation = simulation;
+      said = said;
+      log = ran.closed;
+      text = string_bytes ran.report;
+      run = subst (λ (workers : ℕ). IsRun simulation workers ran.closed (string_bytes ran.report)) c.from.ensures
+          c.in_ok-ran.ensures;
+      seen = seen;
+      looked = c.in_ok-seen.ensures;
+      remark = remark;
+      remarked = subst (λ (w : WorldLog). IsAskedRemark explain most_lines simulation.span w remark) c.get.ensures
+          c.in_ok-remark.ensures;
+      answer = c.in_ok-reported.ensures
+          ∙ ap (λ (w : List ℕ). explained explain (w ++ c.as_str-2.result.now) (done (string_bytes ran.report)))
+          c.as_str.ensures.value
+          ∙ ap (λ (w : List ℕ). explained explain (seen ++ w) (done (string_bytes ran.report))) c.as_str-2.ensures.value;
+    })

@@ -2,7 +2,7 @@
 use Rattle.std.proofs.Common.{subst}
 use Rattle.std.specs.Prelude.{IsOk}
 use Rattle.cj_run.specs.declared.threads.ThreadResults.{ThreadResults}
-use Rattle.cj_run.proofs.Ran.{lived_through}
+use Rattle.cj_run.proofs.Reported.{lived_through}
 use Rattle.cj_run.proofs.run.live_through.Goals as goal
 
 pub returns : goal.returns

@@ -4,7 +4,6 @@ use Rattle.std.proofs.lemmas.Bool.{false≢true}
 use Rattle.std.specs.Prelude.{All, IsOk, OnOk, Result, Ok, Err}
 use Rattle.std.specs.List.{AllByRecursion}
 use Rattle.cj_calls.specs.declared.caller.Caller.{Caller}
-use Rattle.cj_calls.specs.Rows.{Told}
 use Rattle.cj_calls.specs.declared.call.Call.TheVariants.{Shut}
 use Rattle.cj_calls.specs.declared.caller.Role.{Role}
 use Rattle.cj_calls.specs.declared.caller.Role.TheVariants.{User}
@@ -14,6 +13,7 @@ use Rattle.cj_script.specs.simulation.Spans.{SpanView}
 use Rattle.cj_script.specs.declared.simulation.scenario.Simulation.{Simulation}
 use Rattle.cj_run.specs.Simulations.{operations_below}
 use Rattle.cj_world_laws.specs.Promise.{KeepsPromise}
+use Rattle.cj_world.specs.Worlds.{WorldLog}
 use Rattle.cj_report.specs.Reports.{report_of}
 use Rattle.cj_run.specs.Crews.{AreNumbered, IsCrew, IsOwn, passes_of}
 use Rattle.cj_run.specs.Deeds.{AreFresh, AreOf, Called, Does, HasDone, HasDriven, HasLived, HaveLived}
@@ -112,42 +112,38 @@ has_run c workers crew b user runners informer whole l = record {
 }
 
 -- For report: the report of a history that was closed with the passes of a crew, and looked over.
-pub reported : (c : Simulation) (crew : Crew) (window : ℕ) (h : List Told) (text : List ℕ) (ps : List PassView) (callers : List Caller)
-    (user : ℕ)
+pub reported : (c : Simulation) (crew : Crew) (w : WorldLog) (text : List ℕ) (ps : List PassView) (callers : List Caller) (user : ℕ)
     → ps ≡ passes_of crew
     → callers ≡ map caller_of ps
     → user ≡ crew.user.number
     → AreNumbered 0 callers
-    → KeepsPromise window h
-    → All (IsExact h) ps
-    → IsKept c callers user h
-    → text ≡ report_of window h
-    → IsReport c crew text
-reported c crew window h text ps callers user are of whose numbered promise exact kept printed =
+    → KeepsPromise w.limits.window w.history
+    → All (IsExact w.history) ps
+    → IsKept c callers user w.history
+    → text ≡ report_of w.limits.window w.history
+    → IsReport c crew w text
+reported c crew w text ps callers user are of whose numbered promise exact kept printed =
     let e : callers ≡ map caller_of (passes_of crew) = of ∙ ap (map caller_of) are in
     record {
-      window = window;
-      history = h;
       promise = promise;
       all = record {
         numbered = subst (λ (cs : List Caller). AreNumbered 0 cs) e numbered;
-        own = subst (λ (cs : List Caller). AllByRecursion (IsOwn cs) h) e kept.own;
-        exact = subst (λ (qs : List PassView). All (IsExact h) qs) are exact;
+        own = subst (λ (cs : List Caller). AllByRecursion (IsOwn cs) w.history) e kept.own;
+        exact = subst (λ (qs : List PassView). All (IsExact w.history) qs) are exact;
       };
-      time = subst (λ (n : ℕ). KeepsTime c n h) whose kept.time;
+      time = subst (λ (n : ℕ). KeepsTime c n w.history) whose kept.time;
       printed = printed;
     }
 
 -- For run_simulation: the report of the history of a crew that did what the scenario says is that of the run.
-pub run_of : (c : Simulation) (workers : ℕ) (crew : Crew) (text : List ℕ) → HasRun c workers crew → IsReport c crew text
-    → IsRun c workers text
-run_of c workers crew text ran r =
-    let e : ran.instants ≡ turn c.span r.history = same_count c.span ran.instants (turn c.span r.history) ran.every r.time.all in
+pub run_of : (c : Simulation) (workers : ℕ) (crew : Crew) (w : WorldLog) (text : List ℕ) → HasRun c workers crew
+    → IsReport c crew w text
+    → IsRun c workers w text
+run_of c workers crew w text ran r =
+    let e : ran.instants ≡ turn c.span w.history = same_count c.span ran.instants (turn c.span w.history) ran.every r.time.all in
     record {
       crew = crew;
       complete = ran.complete;
-      window = r.window;
-      history = r.history;
       promise = r.promise;
       all = r.all;
       time = r.time;

@@ -1,0 +1,11 @@
+// What people are told of a run.
+mod calls;
+mod families;
+mod gaps;
+mod idle;
+mod order;
+mod refused;
+mod suspended;
+mod whole;
+
+pub(crate) use whole::asked_remark;

@@ -1,0 +1,85 @@
+// All that people are told of a run.
+ghost use Rattle.std.specs.Prelude.{◌≡◌, IfOk, string_bytes};
+ghost use Rattle.std.specs.FinMap as map;
+ghost use mathlib.Core.List.{reverse};
+ghost use Rattle.cj_world.specs.Worlds.{state_in};
+ghost use Rattle.cj_program.specs.remarks.Remarks.{IsAskedRemark, IsRemark, remark_words};
+ghost use Rattle.cj_program.specs.remarks.Suspended.{suspended_lines};
+
+use crate::remarks::gaps::gap_text;
+use crate::remarks::idle::idle_text;
+use crate::remarks::order::sort;
+use crate::remarks::refused::refused_text;
+use crate::remarks::suspended::suspended_text;
+use cj_calls::Entry;
+use cj_history::{Gap, gaps_of};
+use cj_hub::Closed;
+use cj_io::Failure;
+use cj_script::Span;
+use cj_types::Refusal;
+use std::alloc::Global;
+
+// What is told of the CronJobs that stand at the end.
+fn end_text(alloc: Global, closed: &Closed) -> Result<String, Refusal>
+    ensures { IfOk result (λ s. string_bytes s
+        ≡ suspended_lines (map.values (state_in closed.now).store.crons)) }
+{
+    let (crons, _) = closed.objects()?;
+    suspended_text(alloc, crons.as_slice())
+}
+
+// The entries of a closed history, the oldest first.
+fn entries_of(closed: &Closed) -> &[Entry]
+    ensures history { reverse result.now ≡ closed.now.history }
+    ensures entries { result.now ≡ reverse closed.now.history }
+{
+    closed.history()
+}
+
+// What is told of a history with these gaps, which are in order.
+fn text_of(
+    alloc: Global,
+    most: u64,
+    span: &Span,
+    closed: &Closed,
+    gaps: &[Gap],
+) -> Result<String, Refusal>
+    ensures { IfOk result (λ s. string_bytes s ≡ remark_words most span.now closed.now gaps.now) }
+{
+    let entries = entries_of(closed);
+    let mut text = refused_text(alloc, span, entries)?;
+    let idle = idle_text(alloc, span, entries, gaps)?;
+    text.push_str(idle.as_str())?;
+    let told = gap_text(alloc, most, gaps)?;
+    text.push_str(told.as_str())?;
+    let end = end_text(alloc, closed)?;
+    text.push_str(end.as_str())?;
+    Ok(text)
+}
+
+// What is told of a closed history.
+fn remark(alloc: Global, most: u64, span: &Span, closed: &Closed) -> Result<String, Refusal>
+    ensures { IfOk result (λ s. IsRemark most span.now closed.now (string_bytes s)) }
+{
+    let mut gaps = gaps_of(alloc, entries_of(closed))?;
+    sort(&mut gaps)?;
+    text_of(alloc, most, span, closed, gaps.as_slice())
+}
+
+/// What people are told of a run under this clock, where they ask for it: of so many gaps of one CronJob and one cause a
+/// line each, and of more one line.
+pub(crate) fn asked_remark(
+    alloc: Global,
+    explain: bool,
+    most: u64,
+    span: &Span,
+    closed: &Closed,
+) -> Result<String, Failure>
+    ensures { IfOk result (λ s. IsAskedRemark explain most span.now closed.now (string_bytes s)) }
+{
+    if explain {
+        Ok(remark(alloc, most, span, closed)?)
+    } else {
+        Ok(String::new(alloc))
+    }
+}
