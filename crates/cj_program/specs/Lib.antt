@@ -1,6 +1,7 @@
 pub mod remarks
 pub mod Replay
 pub mod Run
+pub mod Shown
 pub mod Answers
 pub mod Writing
 pub mod Told

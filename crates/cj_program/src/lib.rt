@@ -11,6 +11,7 @@ mod replay;
 mod run;
 mod serving;
 mod several;
+mod shown;
 mod told;
 mod writing;
 

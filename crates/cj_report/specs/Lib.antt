@@ -5,3 +5,7 @@ pub mod Objects
 pub mod Reasons
 pub mod Tellings
 pub mod Reports
+pub mod Called
+pub mod Columns
+pub mod timeline
+pub mod history

@@ -7,7 +7,7 @@ use cj_types::{CronJob, Job, Outcome, OwnerRefs, Refusal, Seconds, Shared};
 use cj_zone::time_text;
 use std::alloc::Global;
 
-fn moment_text(alloc: Global, time: Option<Seconds>) -> Result<String, Refusal>
+pub(crate) fn moment_text(alloc: Global, time: Option<Seconds>) -> Result<String, Refusal>
     ensures ok { IfOk result (λ s. string_bytes s ≡ said.moment_text time) }
     ensures err { IfErr result (λ e. e ≡ OutOfMemory) }
 {
@@ -32,7 +32,7 @@ fn cron_line(alloc: Global, cron: &CronJob) -> Result<String, Refusal>
     Ok(format!(in alloc; "cron {namespace}/{name} last {last} success {success} active {count}\n")?)
 }
 
-fn owner_text(owners: &OwnerRefs) -> &str
+pub(crate) fn owner_text(owners: &OwnerRefs) -> &str
     ensures { result.now ≡ said.owner_text owners.now }
 {
     match owners.controller() {
@@ -41,7 +41,7 @@ fn owner_text(owners: &OwnerRefs) -> &str
     }
 }
 
-fn state_text(outcome: Option<Outcome>) -> &'static str
+pub(crate) fn state_text(outcome: Option<Outcome>) -> &'static str
     ensures { result.now ≡ said.state_text outcome }
 {
     match outcome {

@@ -59,7 +59,7 @@ fn reasons_in(call: &Call) -> &[Reason]
 }
 
 // The reasons that the entry tells: those of an accepted Finish.
-fn reasons_told(entry: &Entry) -> &[Reason]
+pub(crate) fn reasons_told(entry: &Entry) -> &[Reason]
     ensures { result.now ≡ known.reasons_told entry.now.call entry.now.answer }
 {
     match entry.answer() {
@@ -68,7 +68,7 @@ fn reasons_told(entry: &Entry) -> &[Reason]
     }
 }
 
-fn is_told(reason: Reason, reasons: &[Reason]) -> bool
+pub(crate) fn is_told(reason: Reason, reasons: &[Reason]) -> bool
     ensures { result ≡ said.is_told reason reasons.now }
 {
     reasons.iter().any(|told| told.name() == reason.name())
@@ -114,8 +114,8 @@ impl ReasonSet {
 }
 
 impl Tellings {
-    // Of no entry.
-    fn new(alloc: Global) -> Tellings
+    /// Of no entry.
+    pub(crate) fn new(alloc: Global) -> Tellings
         ensures { known.Knows result [] }
     {
         Tellings {
@@ -168,8 +168,15 @@ impl Tellings {
         self.reasons.insert(key, told)
     }
 
-    // An entry more, which follows those that were read.
-    fn note(&mut self, alloc: Global, entry: &Entry) -> Result<(), Refusal>
+    /// The key that the worker took last.
+    pub(crate) fn held(&self, number: u64) -> Option<&Key>
+        ensures { option_copied result ≡ known.key_of self.now.keys number }
+    {
+        self.keys.get(&number)
+    }
+
+    /// An entry more, which follows those that were read.
+    pub(crate) fn note(&mut self, alloc: Global, entry: &Entry) -> Result<(), Refusal>
         ensures ok { OnOk result ((h : List Told) → known.Knows self.old h →
             known.Knows self.new (entry.now ∷ h)) }
         ensures err { IfErr result (λ e. e ≡ OutOfMemory) }

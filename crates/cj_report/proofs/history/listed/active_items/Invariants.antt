@@ -1,0 +1,7 @@
+-- active_items, its loop: text and the items of those left are the items of all.
+use Rattle.std.proofs.Common.{◌≡◌, ◌++◌, drop, string_bytes}
+use Rattle.cj_report.specs.history.Listed as said
+use Rattle.cj_report.proofs.history.listed.active_items.Given as goal
+
+abbrev pub invariant-loop-job : goal.invariant-loop-job
+invariant-loop-job l = string_bytes l.text ++ said.active_items (drop l.job-index l.jobs) ≡ said.active_items l.jobs
