@@ -1,8 +1,10 @@
 pub mod Checked
 pub mod Comes
+pub mod FilesLemmas
 pub mod LineMarks
 pub mod Nearness
 pub mod NextLemmas
+pub mod Ruled
 pub mod Scenes
 pub mod TimeLemmas
 pub mod Zones

@@ -3,6 +3,8 @@ pub mod Audit
 pub mod Check
 pub mod Clusters
 pub mod Coming
+pub mod CronFiles
+pub mod Describe
 pub mod Given
 pub mod Json
 pub mod Marks
@@ -18,3 +20,5 @@ pub mod Strays
 pub mod Suggestion
 pub mod Times
 pub mod Why
+pub mod Windows
+pub mod Upcoming

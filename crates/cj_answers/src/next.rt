@@ -27,7 +27,7 @@ fn fault_text(alloc: Global, fault: ScheduleFault) -> Result<String, AllocError>
     format!(in alloc; "cronsim: schedule {field} {byte} {cause}\n")
 }
 
-fn refused_schedule(
+pub(crate) fn refused_schedule(
     alloc: Global,
     explain: bool,
     text: &str,
@@ -50,7 +50,7 @@ const RULE_WORDS: &str = "--zone: want UTC or a POSIX rule like CET-1CEST,M3.5.0
 const TIME_ZONE_WORDS: &str =
     "--time-zone: want the name of a zone whose file is in the folder of --zoneinfo, and no --zone beside it\n";
 
-fn zone_words(name: Option<&str>) -> &'static str
+pub(crate) fn zone_words(name: Option<&str>) -> &'static str
     ensures { result.now ≡ next_zone_words name.entry }
 {
     match name {
@@ -59,7 +59,7 @@ fn zone_words(name: Option<&str>) -> &'static str
     }
 }
 
-fn refused_zone(alloc: Global, explain: bool, words: &str) -> Result<Answer, AllocError>
+pub(crate) fn refused_zone(alloc: Global, explain: bool, words: &str) -> Result<Answer, AllocError>
     ensures { IfOk result (λ a. outcome_of a ≡ explained explain words.now
         (refusal (codes "cronsim: zone\n"))) }
 {
@@ -81,7 +81,7 @@ fn zones_of_rule(alloc: Global, rule: &str) -> Result<ZoneTable, Refusal>
 }
 
 // One whose local zone is UTC.
-fn utc(alloc: Global) -> Result<ZoneTable, Refusal>
+pub(crate) fn utc(alloc: Global) -> Result<ZoneTable, Refusal>
     ensures ok { IfOk result (λ table. (zone : Zone) → local_zone table ≡ Some zone →
         zone ≡ utc_zone (codes "UTC")) }
     ensures err { IfErr result (λ e. e ≡ OutOfMemory) }
@@ -102,7 +102,11 @@ fn zones(alloc: Global, rule: Option<&str>) -> Result<ZoneTable, Refusal>
 }
 
 // A table whose local zone is the one of that name among those of the files.
-fn zones_of_name(alloc: Global, name: &str, files: &[ZoneFile]) -> Result<ZoneTable, Refusal>
+pub(crate) fn zones_of_name(
+    alloc: Global,
+    name: &str,
+    files: &[ZoneFile],
+) -> Result<ZoneTable, Refusal>
     ensures ok { IfOk result (λ table. (zone : Zone) → local_zone table ≡ Some zone →
         IsLookedUp name.now files.now (Some zone)) }
     ensures err { IfErr result (λ e. (e ≡ OutOfMemory) ⊎ IsLookedUp name.now files.now None) }

@@ -108,7 +108,7 @@ fn is_meant(
 }
 
 // Those of the CronJobs that are meant.
-fn chosen(
+pub(crate) fn chosen(
     alloc: Global,
     within: Option<&str>,
     texts: &[&str],
@@ -146,14 +146,14 @@ fn is_noted(within: Option<&str>, text: &str, cron: &Option<CronName>) -> bool
     }
 }
 
-fn is_noted_one(within: Option<&str>, text: &str, notes: &[ItemNote]) -> bool
+pub(crate) fn is_noted_one(within: Option<&str>, text: &str, notes: &[ItemNote]) -> bool
     ensures { result ≡ list_any
         (λ note. is_noted (option_map (λ s. s.now) within.entry) text.now note.cron) notes.now }
 {
     notes.iter().any(|note| is_noted(within, text, &note.cron))
 }
 
-fn has_none(crons: &[Shared<ClusterCron>]) -> bool
+pub(crate) fn has_none(crons: &[Shared<ClusterCron>]) -> bool
     ensures { result ≡ is_nothing crons.now }
 {
     crons.is_empty()
@@ -189,7 +189,7 @@ fn unknown_line(alloc: Global, text: &str) -> Result<String, AllocError>
     format!(in alloc; "--cron: no CronJob of the list is {text}{end}")
 }
 
-fn push_where(
+pub(crate) fn push_where(
     alloc: Global,
     lines: &mut String,
     text: &str,
@@ -247,7 +247,7 @@ fn refused_cron(alloc: Global, explain: bool, words: &str) -> Result<Answer, All
 }
 
 // The same with the errors of a request.
-fn refused_unknown(alloc: Global, explain: bool, words: &str) -> Result<Answer, Failure>
+pub(crate) fn refused_unknown(alloc: Global, explain: bool, words: &str) -> Result<Answer, Failure>
     ensures { IfOk result (λ a. outcome_of a ≡ explained explain words.now
         (refusal (codes "cronsim: cron\n"))) }
 {
@@ -437,7 +437,7 @@ fn meant_reviewed(
     reviewed(alloc, why, zones, list, all, meant.as_slice(), now)
 }
 
-fn is_nothing(words: &str) -> bool
+pub(crate) fn is_nothing(words: &str) -> bool
     ensures { result ≡ is_nothing words.now }
 {
     words.is_empty()
@@ -522,7 +522,7 @@ fn bytes_reviewed(
 }
 
 // The moment that is asked about.
-fn asked_moment(alloc: Global, text: Option<&str>) -> Result<Option<Seconds>, AllocError>
+pub(crate) fn asked_moment(alloc: Global, text: Option<&str>) -> Result<Option<Seconds>, AllocError>
     ensures { IfOk result (λ m. m ≡ asked_moment text.entry) }
 {
     match text {

@@ -1,6 +1,7 @@
 -- The command line, as `clap` reads it.
 use Rattle.std.specs.Prelude.{◌≡◌, ℕ, ◌≤◌, List, [], ◌∷◌, codes, Option, None, Some, option_map, Bool, true, false, bytes_eq}
 use Rattle.std.specs.Prelude.{⊤, ◌≢◌, map, unwrap_or, slice_get}
+use Rattle.std.specs.Borrow.{Bor}
 use Rattle.std.specs.Str.Parse.{IsNumeral, digits_value, without_leading_plus}
 use Rattle.clap.specs.Lexer.{usize_max}
 use Rattle.clap.specs.Words.{App, Row, Rule, Text, all_of, first_of, new_app, new_rule, with_rule, with_subcommand, subcommand_of, takes}
@@ -8,14 +9,16 @@ use Rattle.clap.specs.declared.builder.action.ArgAction.TheVariants.{Append, Set
 use Rattle.clap.specs.declared.builder.value_parser.ValueParser.TheVariants.{Unsigned}
 use Rattle.cj_args.specs.declared.request.AuditRequest.{AuditRequest}
 use Rattle.cj_args.specs.declared.request.CheckRequest.{CheckRequest}
+use Rattle.cj_args.specs.declared.request.DescribeRequest.{DescribeRequest}
 use Rattle.cj_args.specs.declared.request.NextRequest.{NextRequest}
 use Rattle.cj_args.specs.declared.request.PlanRequest.{PlanRequest}
 use Rattle.cj_args.specs.declared.request.ReplayRequest.{ReplayRequest}
 use Rattle.cj_args.specs.declared.request.RunRequest.{RunRequest}
+use Rattle.cj_args.specs.declared.request.UpcomingRequest.{UpcomingRequest}
 use Rattle.cj_args.specs.declared.request.WhyRequest.{WhyRequest}
 use Rattle.cj_args.specs.declared.request.ZoneWords.{ZoneWords}
 use Rattle.cj_args.specs.declared.request.Request.{Request}
-use Rattle.cj_args.specs.declared.request.Request.TheVariants.{Audit, Check, Next, Plan, Replay, Run, Why}
+use Rattle.cj_args.specs.declared.request.Request.TheVariants.{Audit, Check, Describe, Next, Plan, Replay, Run, Upcoming, Why}
 use Rattle.cj_args.specs.declared.word_fault.WordFault.{WordFault}
 use Rattle.cj_args.specs.declared.word_fault.WordFault.TheVariants.{Incomplete, OutOfMemory, Refused}
 
@@ -25,12 +28,13 @@ schedule_rule = record (new_rule (codes "schedule")) { required = true; value_na
 abbrev pub after_rule : Rule
 after_rule = record (new_rule (codes "after")) { long = Some (codes "after"); required = true; value_names = 1 }
 
-abbrev pub count_rule : Rule
-count_rule = record (new_rule (codes "count")) {
+-- how many due times, and how many where nobody says it
+abbrev pub count_rule : Text → Rule
+count_rule usual = record (new_rule (codes "count")) {
   long = Some (codes "count");
   value_names = 1;
   parser = Some (Unsigned 1 1_000);
-  defaults = codes "1" ∷ [];
+  defaults = usual ∷ [];
 }
 
 abbrev pub zone_rule : Rule
@@ -68,7 +72,7 @@ with_zones a = with_folder (with_rule a zones_rule)
 abbrev pub next_app : App
 next_app =
     let from = with_rule (with_rule (new_app (codes "next")) schedule_rule) after_rule in
-    with_folder (with_rule (with_rule (with_rule from count_rule) zone_rule) time_zone_rule)
+    with_folder (with_rule (with_rule (with_rule from (count_rule (codes "1"))) zone_rule) time_zone_rule)
 
 abbrev pub file_rule : Rule
 file_rule = record (new_rule (codes "file")) { required = true; value_names = 1 }
@@ -106,9 +110,12 @@ workers_rule = record (new_rule (codes "workers")) {
   parser = Some (Unsigned 1 32);
 }
 
--- `cronsim run FILE --workers N [--zone NAME=RULE].. [--zoneinfo DIR] [--explain]`
+-- `cronsim run FILE --workers N [--timeline] [--history] [--svg] [--zone NAME=RULE].. [--zoneinfo DIR] [--explain]`
 abbrev pub run_app : App
-run_app = with_zones (with_rule (with_rule (new_app (codes "run")) file_rule) workers_rule)
+run_app =
+    let of = with_rule (with_rule (new_app (codes "run")) file_rule) workers_rule in
+    let shown = with_rule (with_rule of (flag_rule (codes "timeline"))) (flag_rule (codes "history")) in
+    with_zones (with_rule shown (flag_rule (codes "svg")))
 
 -- a moment that may be left out
 abbrev pub moment_rule : Rule
@@ -132,20 +139,54 @@ output_rule = record (new_rule (codes "output")) {
   defaults = codes "table" ∷ [];
 }
 
-abbrev pub problems_rule : Rule
-problems_rule = record (new_rule (codes "problems")) { long = Some (codes "problems"); action = Some SetTrue }
-
 -- `cronsim why FILE [--now TIME] [--cron [NAMESPACE/]NAME].. [-n NAMESPACE] [-o FORMAT] [--problems] [--zone NAME=RULE]..
 -- [--zoneinfo DIR] [--explain]`
 abbrev pub why_app : App
 why_app =
     let of = with_rule (with_rule (new_app (codes "why")) file_rule) moment_rule in
     let named = with_rule (with_rule of crons_rule) namespace_rule in
-    with_zones (with_rule (with_rule named output_rule) problems_rule)
+    with_zones (with_rule (with_rule named output_rule) (flag_rule (codes "problems")))
 
 -- `cronsim audit FILE [--zone NAME=RULE].. [--zoneinfo DIR] [--explain]`
 abbrev pub audit_app : App
 audit_app = with_zones (with_rule (new_app (codes "audit")) file_rule)
+
+-- the start of a window, which may be left out
+abbrev pub from_rule : Rule
+from_rule = record (new_rule (codes "from")) { long = Some (codes "from"); value_names = 1 }
+
+-- how long a window is, a day where nobody says it
+-- rule: upcoming-length
+abbrev pub length_rule : Rule
+length_rule =
+    record (new_rule (codes "for")) { long = Some (codes "for"); value_names = 1; defaults = codes "24h" ∷ [] }
+
+-- how many of the fullest minutes, none where nobody says it
+-- rule: upcoming-peaks
+abbrev pub peaks_rule : Rule
+peaks_rule = record (new_rule (codes "peaks")) {
+  long = Some (codes "peaks");
+  value_names = 1;
+  parser = Some (Unsigned 0 1_000);
+  defaults = codes "0" ∷ [];
+}
+
+-- `cronsim upcoming FILE.. [--from TIME] [--for LENGTH] [--cron [NAMESPACE/]NAME].. [-n NAMESPACE] [--peaks N]
+-- [--zone NAME=RULE].. [--zoneinfo DIR] [--explain]`
+abbrev pub upcoming_app : App
+upcoming_app =
+    let of = with_rule (with_rule (with_rule (new_app (codes "upcoming")) files_rule) from_rule) length_rule in
+    with_zones (with_rule (with_rule (with_rule of crons_rule) namespace_rule) peaks_rule)
+
+-- a start that may be left out
+abbrev pub since_rule : Rule
+since_rule = record (new_rule (codes "after")) { long = Some (codes "after"); value_names = 1 }
+
+-- `cronsim describe SCHEDULE [--after TIME] [--count N] [--zone RULE] [--time-zone NAME] [--zoneinfo DIR] [--explain]`
+abbrev pub describe_app : App
+describe_app =
+    let from = with_rule (with_rule (new_app (codes "describe")) schedule_rule) since_rule in
+    with_folder (with_rule (with_rule (with_rule from (count_rule (codes "5"))) zone_rule) time_zone_rule)
 
 -- the commands on a schedule and on a manifest
 abbrev pub reading_app : App
@@ -163,9 +204,13 @@ abbrev pub acting_app : App
 acting_app = with_subcommand (with_subcommand deciding_app replay_app.top) run_app.top
 
 -- those and the commands on a cluster
+abbrev pub clustered_app : App
+clustered_app = with_subcommand (with_subcommand acting_app why_app.top) audit_app.top
+
+-- those and the commands on the times to come
 -- rules: words, help
 abbrev pub cronsim_app : App
-cronsim_app = with_subcommand (with_subcommand acting_app why_app.top) audit_app.top
+cronsim_app = with_subcommand (with_subcommand clustered_app upcoming_app.top) describe_app.top
 
 -- the text is decimal digits, after a plus or none, that spell the number
 abbrev pub IsDecimal : Text → ℕ → Type 0
@@ -227,6 +272,9 @@ pub record IsRunOf (rows : List Row) (r : RunRequest) : Type 0 where
   pub workers : (text : Text) × (first_of (codes "workers") rows ≡ Some text) × IsDecimal text r.workers
   pub least : 1 ≤ r.workers
   pub most : r.workers ≤ 32
+  pub timeline : r.timeline ≡ is_given (codes "timeline") rows
+  pub history : r.history ≡ is_given (codes "history") rows
+  pub svg : r.svg ≡ is_given (codes "svg") rows
   pub zones : AreZones rows r.zones
   pub explain : r.explain ≡ is_given (codes "explain") rows
 
@@ -247,6 +295,30 @@ pub record IsAudit (rows : List Row) (r : AuditRequest) : Type 0 where
   pub zones : AreZones rows r.zones
   pub explain : r.explain ≡ is_given (codes "explain") rows
 
+-- and for those of `upcoming`
+pub record IsUpcoming (rows : List Row) (r : UpcomingRequest) : Type 0 where
+  pub files : texts_of (codes "file") rows ≡ map (λ s. s.now) r.files.items
+  pub from : first_of (codes "from") rows ≡ option_map (λ s. s.now) r.from
+  pub length : first_of (codes "for") rows ≡ Some r.length.now
+  pub crons : texts_of (codes "cron") rows ≡ map (λ s. s.now) r.crons.items
+  pub namespace : first_of (codes "namespace") rows ≡ option_map (λ s. s.now) r.namespace
+  pub peaks : (text : Text) × (first_of (codes "peaks") rows ≡ Some text) × IsDecimal text r.peaks
+  pub most : r.peaks ≤ 1_000
+  pub zones : AreZones rows r.zones
+  pub explain : r.explain ≡ is_given (codes "explain") rows
+
+-- and for those of `describe`
+pub record IsDescribe (rows : List Row) (r : DescribeRequest) : Type 0 where
+  pub schedule : first_of (codes "schedule") rows ≡ Some r.schedule.now
+  pub after : first_of (codes "after") rows ≡ option_map (λ s. s.now) r.after
+  pub count : (text : Text) × (first_of (codes "count") rows ≡ Some text) × IsDecimal text r.count
+  pub least : 1 ≤ r.count
+  pub most : r.count ≤ 1_000
+  pub zone : first_of (codes "zone") rows ≡ option_map (λ s. s.now) r.zone
+  pub time_zone : first_of (codes "time-zone") rows ≡ option_map (λ s. s.now) r.time_zone
+  pub folder : first_of (codes "zoneinfo") rows ≡ option_map (λ s. s.now) r.folder
+  pub explain : r.explain ≡ is_given (codes "explain") rows
+
 -- the request is of the subcommand with that name, and has the values of its arguments
 abbrev pub IsOfRows : Option (Text × List Row) → Request → Type 0
 IsOfRows found (Next r) = (rows : List Row) × (found ≡ Some (codes "next", rows)) × IsNext rows r
@@ -256,25 +328,29 @@ IsOfRows found (Replay r) = (rows : List Row) × (found ≡ Some (codes "replay"
 IsOfRows found (Run r) = (rows : List Row) × (found ≡ Some (codes "run", rows)) × IsRunOf rows r
 IsOfRows found (Why r) = (rows : List Row) × (found ≡ Some (codes "why", rows)) × IsWhy rows r
 IsOfRows found (Audit r) = (rows : List Row) × (found ≡ Some (codes "audit", rows)) × IsAudit rows r
+IsOfRows found (Upcoming r) = (rows : List Row) × (found ≡ Some (codes "upcoming", rows)) × IsUpcoming rows r
+IsOfRows found (Describe r) = (rows : List Row) × (found ≡ Some (codes "describe", rows)) × IsDescribe rows r
 
 -- the request is of the subcommand that `clap` states for the words, with the values that it states
 -- rule: words
 abbrev pub IsOf : List Text → Request → Type 0
 IsOf words r = IsOfRows (subcommand_of cronsim_app words) r
 
--- the name of the first file of `check`
-abbrev pub first_file : CheckRequest → Option Text
-first_file r = option_map (λ s. s.now) (slice_get r.files.items 0)
+-- the name of the first of some files
+abbrev pub first_file : List (Bor Text) → Option Text
+first_file files = option_map (λ s. s.now) (slice_get files 0)
 
 -- the name of the file that a request has read, the first one of several, where it has one read
 abbrev pub file_of : Request → Option Text
 file_of (Next r) = None
-file_of (Check r) = first_file r
+file_of (Check r) = first_file r.files.items
 file_of (Plan r) = Some r.file.now
 file_of (Replay r) = Some r.file.now
 file_of (Run r) = Some r.file.now
 file_of (Why r) = Some r.file.now
 file_of (Audit r) = Some r.file.now
+file_of (Upcoming r) = first_file r.files.items
+file_of (Describe r) = None
 
 -- the zones that the words give, where a command takes them
 -- rule: zoneinfo
@@ -286,6 +362,8 @@ zones_of (Replay r) = Some r.zones
 zones_of (Run r) = Some r.zones
 zones_of (Why r) = Some r.zones
 zones_of (Audit r) = Some r.zones
+zones_of (Upcoming r) = Some r.zones
+zones_of (Describe r) = None
 
 -- the name of the folder in which a request has zones looked up, where one is given
 -- rule: zoneinfo
@@ -297,6 +375,8 @@ folder_of (Replay r) = option_map (λ s. s.now) r.zones.folder
 folder_of (Run r) = option_map (λ s. s.now) r.zones.folder
 folder_of (Why r) = option_map (λ s. s.now) r.zones.folder
 folder_of (Audit r) = option_map (λ s. s.now) r.zones.folder
+folder_of (Upcoming r) = option_map (λ s. s.now) r.zones.folder
+folder_of (Describe r) = option_map (λ s. s.now) r.folder
 
 -- whether a request has its refusal explained
 -- rule: explain
@@ -308,6 +388,8 @@ explains (Replay r) = r.explain
 explains (Run r) = r.explain
 explains (Why r) = r.explain
 explains (Audit r) = r.explain
+explains (Upcoming r) = r.explain
+explains (Describe r) = r.explain
 
 -- when words are refused: `clap` doesn't take them, or no request has the values that it states for them
 -- rule: words

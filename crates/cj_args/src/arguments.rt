@@ -1,6 +1,6 @@
 // The arguments of the commands.
 ghost use Rattle.cj_args.specs.Building.{IsArg, option_rule, positional_rule, required_rule};
-ghost use Rattle.cj_args.specs.Command.{count_rule, crons_rule, explain_rule, files_rule, flag_rule, namespace_rule, output_rule, problems_rule, workers_rule, zones_rule};
+ghost use Rattle.cj_args.specs.Command.{count_rule, crons_rule, explain_rule, files_rule, flag_rule, length_rule, namespace_rule, output_rule, peaks_rule, workers_rule, zones_rule};
 
 use crate::help;
 use clap::builder::ValueParser;
@@ -36,13 +36,29 @@ pub(crate) fn required_arg<'a>(alloc: Global, id: &'a str, value: &'a str, help:
     option_arg(alloc, id, value, help).required(true)
 }
 
-/// How many due times are wanted.
-pub(crate) fn count_arg<'a>(alloc: Global) -> Arg<'a>
-    ensures { IsArg count_rule result }
+/// How many due times are wanted, and how many where nobody says it.
+pub(crate) fn count_arg<'a>(alloc: Global, usual: &'a str) -> Arg<'a>
+    ensures { IsArg (count_rule usual.entry.now) result }
 {
     option_arg(alloc, "count", "N", "How many due times, 1 to 1000")
         .value_parser(ValueParser::unsigned(1, 1_000))
-        .default_value("1")
+        .default_value(usual)
+}
+
+/// How many of the fullest minutes are wanted.
+pub(crate) fn peaks_arg<'a>(alloc: Global) -> Arg<'a>
+    ensures { IsArg peaks_rule result }
+{
+    option_arg(alloc, "peaks", "N", help::PEAKS)
+        .value_parser(ValueParser::unsigned(0, 1_000))
+        .default_value("0")
+}
+
+/// How long the window is.
+pub(crate) fn length_arg<'a>(alloc: Global) -> Arg<'a>
+    ensures { IsArg length_rule result }
+{
+    option_arg(alloc, "for", "LENGTH", help::LENGTH).default_value("24h")
 }
 
 /// How many workers are started.
@@ -94,21 +110,11 @@ pub(crate) fn output_arg<'a>(alloc: Global) -> Arg<'a>
         .default_value("table")
 }
 
-/// Whether only those CronJobs are printed that want a look.
-pub(crate) fn problems_arg<'a>(alloc: Global) -> Arg<'a>
-    ensures { IsArg problems_rule result }
-{
-    Arg::new(alloc, "problems")
-        .long("problems")
-        .action(ArgAction::SetTrue)
-        .help(help::PROBLEMS)
-}
-
 /// The files of a command that takes several.
-pub(crate) fn files_arg<'a>(alloc: Global) -> Arg<'a>
+pub(crate) fn files_arg<'a>(alloc: Global, files: &'a str) -> Arg<'a>
     ensures { IsArg files_rule result }
 {
-    positional_arg(alloc, "file", "FILE", help::MANIFESTS).num_args(1..)
+    positional_arg(alloc, "file", "FILE", files).num_args(1..)
 }
 
 /// A flag.

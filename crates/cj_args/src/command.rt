@@ -2,11 +2,11 @@
 ghost use Rattle.std.specs.Prelude.{◌≡◌, IfOk};
 ghost use Rattle.clap.specs.Words.{App, Rule, app_of, new_app, with_rule, with_subcommand};
 ghost use Rattle.cj_args.specs.Building.{IsArg, IsCommand, bare_app};
-ghost use Rattle.cj_args.specs.Command.{acting_app, audit_app, check_app, cronsim_app, deciding_app, file_rule, next_app, plan_app, reading_app, replay_app, run_app, why_app, with_folder, with_zones};
+ghost use Rattle.cj_args.specs.Command.{acting_app, audit_app, check_app, clustered_app, cronsim_app, deciding_app, describe_app, file_rule, next_app, plan_app, reading_app, replay_app, run_app, upcoming_app, why_app, with_folder, with_zones};
 
 use crate::arguments::{
-    count_arg, crons_arg, explain_arg, files_arg, flag_arg, namespace_arg, option_arg, output_arg,
-    positional_arg, problems_arg, required_arg, workers_arg, zones_arg,
+    count_arg, crons_arg, explain_arg, files_arg, flag_arg, length_arg, namespace_arg, option_arg,
+    output_arg, peaks_arg, positional_arg, required_arg, workers_arg, zones_arg,
 };
 use crate::help;
 use clap::{Arg, Command};
@@ -92,7 +92,7 @@ fn next_command<'a>(alloc: Global) -> Result<Command<'a>, AllocError>
         positional_arg(alloc, "schedule", "SCHEDULE", help::SCHEDULE),
     );
     let command = with_arg(command, required_arg(alloc, "after", "TIME", help::AFTER));
-    let command = with_arg(command, count_arg(alloc));
+    let command = with_arg(command, count_arg(alloc, "1"));
     let command = with_arg(command, option_arg(alloc, "zone", "RULE", help::ZONE));
     let command = with_arg(
         command,
@@ -110,7 +110,7 @@ fn check_command<'a>(alloc: Global) -> Result<Command<'a>, AllocError>
         "Check the manifest of a CronJob or a Job, and name every fault in it",
         help::CHECK,
     );
-    let command = with_arg(Ok(command), files_arg(alloc));
+    let command = with_arg(Ok(command), files_arg(alloc, help::MANIFESTS));
     let command = with_arg(command, flag_arg(alloc, "strict", help::STRICT));
     with_zones(alloc, command)
 }
@@ -153,6 +153,9 @@ fn run_command<'a>(alloc: Global) -> Result<Command<'a>, AllocError>
         help::COURSE,
     );
     let command = with_arg(command, workers_arg(alloc));
+    let command = with_arg(command, flag_arg(alloc, "timeline", help::TIMELINE));
+    let command = with_arg(command, flag_arg(alloc, "history", help::HISTORY));
+    let command = with_arg(command, flag_arg(alloc, "svg", help::SVG));
     with_zones(alloc, command)
 }
 
@@ -170,7 +173,7 @@ fn why_command<'a>(alloc: Global) -> Result<Command<'a>, AllocError>
     let command = with_arg(command, crons_arg(alloc));
     let command = with_arg(command, namespace_arg(alloc));
     let command = with_arg(command, output_arg(alloc));
-    let command = with_arg(command, problems_arg(alloc));
+    let command = with_arg(command, flag_arg(alloc, "problems", help::PROBLEMS));
     with_zones(alloc, command)
 }
 
@@ -185,6 +188,47 @@ fn audit_command<'a>(alloc: Global) -> Result<Command<'a>, AllocError>
         help::CLUSTER,
     );
     with_zones(alloc, command)
+}
+
+fn upcoming_command<'a>(alloc: Global) -> Result<Command<'a>, AllocError>
+    ensures { IfOk result (IsCommand upcoming_app) }
+{
+    let command = new_command(
+        alloc,
+        "upcoming",
+        "Print what starts in the time to come, minute by minute, and which minutes are the fullest",
+        help::UPCOMING,
+    );
+    let command = with_arg(Ok(command), files_arg(alloc, help::LISTS));
+    let command = with_arg(command, option_arg(alloc, "from", "TIME", help::FROM));
+    let command = with_arg(command, length_arg(alloc));
+    let command = with_arg(command, crons_arg(alloc));
+    let command = with_arg(command, namespace_arg(alloc));
+    let command = with_arg(command, peaks_arg(alloc));
+    with_zones(alloc, command)
+}
+
+fn describe_command<'a>(alloc: Global) -> Result<Command<'a>, AllocError>
+    ensures { IfOk result (IsCommand describe_app) }
+{
+    let command = new_command(
+        alloc,
+        "describe",
+        "Say a schedule in a sentence, and print when it comes next by the clock of its zone",
+        help::DESCRIBE,
+    );
+    let command = with_arg(
+        Ok(command),
+        positional_arg(alloc, "schedule", "SCHEDULE", help::SCHEDULE),
+    );
+    let command = with_arg(command, option_arg(alloc, "after", "TIME", help::SINCE));
+    let command = with_arg(command, count_arg(alloc, "5"));
+    let command = with_arg(command, option_arg(alloc, "zone", "RULE", help::ZONE));
+    let command = with_arg(
+        command,
+        option_arg(alloc, "time-zone", "NAME", help::TIME_ZONE),
+    );
+    with_folder(alloc, command)
 }
 
 // The program's command line with no command yet.
@@ -220,10 +264,18 @@ fn acting_command<'a>(alloc: Global) -> Result<Command<'a>, AllocError>
     with_command(command, run_command(alloc))
 }
 
-/// The program's command line: those, and the commands on a cluster.
-pub fn cronsim_command<'a>(alloc: Global) -> Result<Command<'a>, AllocError>
-    ensures { IfOk result (λ c. app_of c ≡ cronsim_app) }
+// Those and the commands on a cluster.
+fn clustered_command<'a>(alloc: Global) -> Result<Command<'a>, AllocError>
+    ensures { IfOk result (IsCommand clustered_app) }
 {
     let command = with_command(acting_command(alloc), why_command(alloc));
     with_command(command, audit_command(alloc))
+}
+
+/// The program's command line: those, and the commands on the times to come.
+pub fn cronsim_command<'a>(alloc: Global) -> Result<Command<'a>, AllocError>
+    ensures { IfOk result (λ c. app_of c ≡ cronsim_app) }
+{
+    let command = with_command(clustered_command(alloc), upcoming_command(alloc));
+    with_command(command, describe_command(alloc))
 }

@@ -17,7 +17,7 @@ pub(crate) const TIME_ZONE: &str =
 
 /// The folder of zone files.
 pub(crate) const FOLDER: &str =
-    "Folder with compiled zone files, where zones are looked up by name; where none is given, the one that the environment variable CRONSIM_ZONEINFO names, and for why and audit else /usr/share/zoneinfo";
+    "Folder with compiled zone files, where zones are looked up by name; where none is given, the one that the environment variable CRONSIM_ZONEINFO names, and for why, audit, upcoming and describe else /usr/share/zoneinfo";
 
 /// The files of `check`.
 pub(crate) const MANIFESTS: &str =
@@ -39,6 +39,10 @@ pub(crate) const SCRIPT: &str =
 pub(crate) const COURSE: &str =
     "File with a scenario in JSON: a clock, CronJobs, how their Jobs run, edits; - is standard input";
 
+/// The files of `upcoming`.
+pub(crate) const LISTS: &str =
+    "File with the manifest of a CronJob in JSON, or with what `kubectl get cronjobs -o json` prints; - is standard input";
+
 /// The file of `why` and of `audit`.
 pub(crate) const CLUSTER: &str =
     "File with what `kubectl get cronjobs,jobs -o json` prints; - is standard input";
@@ -50,6 +54,34 @@ pub(crate) const MOMENT: &str =
 /// The time of `why`.
 pub(crate) const NOW: &str =
     "The moment that is asked about: a time, as 2024-01-01T00:00:00Z or 2024-01-01T01:00:00+01:00; a date, as 2024-01-01; or by the clock, as -1h or +2d (s, m, h, d or w); where none is given, now";
+
+/// The start of the window of `upcoming`.
+pub(crate) const FROM: &str =
+    "Start of the window, itself included: a time, as 2024-01-01T00:00:00Z or 2024-01-01T01:00:00+01:00; a date, as 2024-01-01; or by the clock, as -1h or +2d (s, m, h, d or w); where none is given, now";
+
+/// Its length.
+pub(crate) const LENGTH: &str =
+    "Length of the window: a number of minutes, hours or days, as 90m, 24h or 7d, at most 3000d";
+
+/// How many of its fullest minutes.
+pub(crate) const PEAKS: &str =
+    "Print the N fullest minutes too, with how many CronJobs start in each, 0 to 1000";
+
+/// The start of the search of `describe`.
+pub(crate) const SINCE: &str =
+    "Start, itself excluded: a time, as 2024-01-01T00:00:00Z or 2024-01-01T01:00:00+01:00; a date, as 2024-01-01; or by the clock, as -1h or +2d (s, m, h, d or w); where none is given, now";
+
+/// The time line of a run.
+pub(crate) const TIMELINE: &str =
+    "Print in place of the report what happened when, an event a line";
+
+/// Its history.
+pub(crate) const HISTORY: &str =
+    "Print in place of the report every call and its answer, one a line, in their order; --timeline goes before it";
+
+/// Its picture.
+pub(crate) const SVG: &str =
+    "Print in place of the report a picture of the Jobs over time, as SVG; --timeline and --history go before it";
 
 /// CronJobs of a cluster.
 pub(crate) const CRON: &str =
@@ -173,3 +205,41 @@ Exit status:
   1  something was found or an item was refused, as standard output says; or a zone or the input is refused, as standard error says; --explain says why
   2  the words are wrong
   3  reading or writing failed, or memory was wanting";
+
+/// Of `upcoming`.
+pub(crate) const UPCOMING: &str = "Examples:
+  kubectl get cronjobs -A -o json | cronsim upcoming - --peaks 3
+  cronsim upcoming deploy/*.json --from 2024-01-01 --for 7d
+
+What it prints:
+  item N refused 2 FIELD CAUSE               the item is left out for this fault, which --explain explains; of several files behind FILE:
+  start TIME NAMESPACE/NAME ..               these CronJobs are due in this minute
+  suspended NAMESPACE/NAME                   it starts nothing, as spec.suspend is true
+  never NAMESPACE/NAME                       its schedule comes at no time within 3,000 days
+  skips ZONE LOCAL LOCAL TIME                at TIME, in UTC, this zone's clock goes forward from the one local time to the other
+  repeats ZONE LOCAL LOCAL TIME              at TIME it goes back, and shows the times between twice
+  peak TIME COUNT NAMESPACE/NAME ..          one of the fullest minutes, with how many are due in it
+  from TIME to TIME: N cron jobs, M starts   the window, without its end, and what it has
+
+Exit status:
+  0  they were printed, and every item could be read
+  1  an item was refused, as standard output says; or the time, the length, a zone, a CronJob or the input is refused, as standard error says; --explain says why
+  2  the words are wrong
+  3  reading or writing failed, or memory was wanting";
+
+/// Of `describe`.
+pub(crate) const DESCRIBE: &str = "Examples:
+  cronsim describe '30 2 * * mon-fri' --time-zone Europe/Berlin
+  cronsim describe @daily --after 2024-01-01 --count 3 --zone CET-1CEST,M3.5.0,M10.5.0/3
+
+What it prints behind the sentence:
+  WEEKDAY LOCAL OFFSET TIME in SPAN   a due time: by the zone's clock, how far that is ahead of UTC, in UTC, and how far off
+  skips ZONE LOCAL LOCAL TIME         before it, at TIME, the clock goes forward, from the one local time to the other
+  repeats ZONE LOCAL LOCAL TIME       before it, at TIME, the clock goes back, and shows the times between twice
+  none within 3,000 days              there is no further due time
+
+Exit status:
+  0  they were printed
+  1  the schedule, the time or the zone is refused, as standard error says; --explain says why
+  2  the words are wrong
+  3  writing failed, or memory was wanting";

@@ -12,8 +12,8 @@ mod word_fault;
 mod words;
 
 pub use request::{
-    AuditRequest, CheckRequest, NextRequest, PlanRequest, ReplayRequest, Request, RunRequest,
-    WhyRequest, ZoneWords,
+    AuditRequest, CheckRequest, DescribeRequest, NextRequest, PlanRequest, ReplayRequest, Request,
+    RunRequest, UpcomingRequest, WhyRequest, ZoneWords,
 };
 pub use word_fault::WordFault;
 pub use words::parse_words;

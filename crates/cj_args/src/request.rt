@@ -19,6 +19,10 @@ pub enum Request<'a> {
     Why(WhyRequest<'a>),
     /// What is wrong among the Jobs of a cluster.
     Audit(AuditRequest<'a>),
+    /// What starts in a window of time.
+    Upcoming(UpcomingRequest<'a>),
+    /// A schedule in a sentence, and its next times.
+    Describe(DescribeRequest<'a>),
 }
 
 impl<'a> Request<'a> {
@@ -30,12 +34,14 @@ impl<'a> Request<'a> {
     {
         match self {
             Request::Next(_) => None,
-            Request::Check(check) => first_file(check),
+            Request::Check(check) => first_file(check.files.as_slice()),
             Request::Plan(plan) => Some(plan.file),
             Request::Replay(replay) => Some(replay.file),
             Request::Run(run) => Some(run.file),
             Request::Why(why) => Some(why.file),
             Request::Audit(audit) => Some(audit.file),
+            Request::Upcoming(upcoming) => first_file(upcoming.files.as_slice()),
+            Request::Describe(_) => None,
         }
     }
 
@@ -51,6 +57,8 @@ impl<'a> Request<'a> {
             Request::Run(run) => Some(&run.zones),
             Request::Why(why) => Some(&why.zones),
             Request::Audit(audit) => Some(&audit.zones),
+            Request::Upcoming(upcoming) => Some(&upcoming.zones),
+            Request::Describe(_) => None,
         }
     }
 
@@ -66,6 +74,8 @@ impl<'a> Request<'a> {
             Request::Run(run) => run.zones.folder,
             Request::Why(why) => why.zones.folder,
             Request::Audit(audit) => audit.zones.folder,
+            Request::Upcoming(upcoming) => upcoming.zones.folder,
+            Request::Describe(describe) => describe.folder,
         }
     }
 
@@ -81,6 +91,8 @@ impl<'a> Request<'a> {
             Request::Run(run) => run.explain,
             Request::Why(why) => why.explain,
             Request::Audit(audit) => audit.explain,
+            Request::Upcoming(upcoming) => upcoming.explain,
+            Request::Describe(describe) => describe.explain,
         }
     }
 }
@@ -127,10 +139,10 @@ pub struct CheckRequest<'a> {
 }
 
 // The name of the first of the files.
-fn first_file<'a>(check: &CheckRequest<'a>) -> Option<&'a str>
-    ensures { option_map (λ s. s.now) result ≡ first_file check.now }
+fn first_file<'a>(files: &[&'a str]) -> Option<&'a str>
+    ensures { option_map (λ s. s.now) result ≡ first_file files.now }
 {
-    check.files.as_slice().first().copied()
+    files.first().copied()
 }
 
 /// The words of the command `plan`, as they were given.
@@ -164,6 +176,12 @@ pub struct RunRequest<'a> {
     pub file: &'a str,
     /// How many workers, 1 to 32.
     pub workers: u8,
+    /// Whether the events are printed in place of the report.
+    pub timeline: bool,
+    /// Whether, without those, the calls are.
+    pub history: bool,
+    /// Whether, without either, a picture is.
+    pub svg: bool,
     /// The zones that the CronJobs may name.
     pub zones: ZoneWords<'a>,
     /// Whether a refusal is explained.
@@ -198,6 +216,46 @@ pub struct AuditRequest<'a> {
     pub file: &'a str,
     /// The zones that the CronJobs may name.
     pub zones: ZoneWords<'a>,
+    /// Whether a refusal is explained.
+    pub explain: bool,
+}
+
+/// The words of the command `upcoming`, as they were given.
+#[derive(Debug, Drop)]
+pub struct UpcomingRequest<'a> {
+    /// The names of the files with CronJobs; `-` is standard input. There is at least one.
+    pub files: Vec<&'a str>,
+    /// The start of the window, which is included. Where none is given, a program with a clock puts its own time here.
+    pub from: Option<&'a str>,
+    /// How long the window is, as `24h`.
+    pub length: &'a str,
+    /// The CronJobs that are asked about, each as NAMESPACE/NAME or as NAME; all of them where none is given.
+    pub crons: Vec<&'a str>,
+    /// The namespace of those that are asked about; all of them where none is given.
+    pub namespace: Option<&'a str>,
+    /// How many of the fullest minutes are asked for, 0 to 1,000.
+    pub peaks: u16,
+    /// The zones that the CronJobs may name.
+    pub zones: ZoneWords<'a>,
+    /// Whether a refusal is explained.
+    pub explain: bool,
+}
+
+/// The words of the command `describe`, as they were given.
+#[derive(Debug, Drop)]
+pub struct DescribeRequest<'a> {
+    /// The crontab schedule.
+    pub schedule: &'a str,
+    /// The start, which is excluded. Where none is given, a program with a clock puts its own time here.
+    pub after: Option<&'a str>,
+    /// How many times are asked for, 1 to 1,000.
+    pub count: u16,
+    /// `UTC`, or the POSIX rule of the zone; UTC where neither a rule nor a name is given.
+    pub zone: Option<&'a str>,
+    /// The name of the zone, which is looked up in the folder.
+    pub time_zone: Option<&'a str>,
+    /// The folder with compiled zone files.
+    pub folder: Option<&'a str>,
     /// Whether a refusal is explained.
     pub explain: bool,
 }

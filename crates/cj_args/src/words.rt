@@ -1,21 +1,23 @@
 // The words of a command line, read as what they ask for.
 ghost use Rattle.std.specs.Prelude.{◌≡◌, ◌⊎◌, ℕ, ◌≤◌, map, option_map, IfOk, IfErr, None, Some};
 ghost use Rattle.clap.specs.Words.{first_of, found_of, rows_of, subcommand_rows_of};
-ghost use Rattle.cj_args.specs.Command.{AreZones, IsAudit, IsCheck, IsDecimal, IsNext, IsOf, IsOfRows, IsPlan, IsReplay, IsRunOf, IsWhy, RefusesWords, is_given, texts_of};
+ghost use Rattle.cj_args.specs.Command.{AreZones, IsAudit, IsCheck, IsDecimal, IsDescribe, IsNext, IsOf, IsOfRows, IsPlan, IsReplay, IsRunOf, IsUpcoming, IsWhy, RefusesWords, is_given, texts_of};
 ghost use Rattle.cj_args.specs.declared.request.AuditRequest.{AuditRequest};
 ghost use Rattle.cj_args.specs.declared.request.CheckRequest.{CheckRequest};
+ghost use Rattle.cj_args.specs.declared.request.DescribeRequest.{DescribeRequest};
 ghost use Rattle.cj_args.specs.declared.request.NextRequest.{NextRequest};
 ghost use Rattle.cj_args.specs.declared.request.PlanRequest.{PlanRequest};
 ghost use Rattle.cj_args.specs.declared.request.ReplayRequest.{ReplayRequest};
 ghost use Rattle.cj_args.specs.declared.request.RunRequest.{RunRequest};
+ghost use Rattle.cj_args.specs.declared.request.UpcomingRequest.{UpcomingRequest};
 ghost use Rattle.cj_args.specs.declared.request.WhyRequest.{WhyRequest};
 ghost use Rattle.cj_args.specs.declared.request.Request.{Request};
 ghost use Rattle.cj_args.specs.declared.word_fault.WordFault.TheVariants.{Incomplete, OutOfMemory};
 
 use crate::command::cronsim_command;
 use crate::request::{
-    AuditRequest, CheckRequest, NextRequest, PlanRequest, ReplayRequest, Request, RunRequest,
-    WhyRequest, ZoneWords,
+    AuditRequest, CheckRequest, DescribeRequest, NextRequest, PlanRequest, ReplayRequest, Request,
+    RunRequest, UpcomingRequest, WhyRequest, ZoneWords,
 };
 use crate::word_fault::WordFault;
 use clap::ArgMatches;
@@ -60,6 +62,19 @@ fn count(text: &str) -> Result<u16, WordFault>
 {
     match text.parse::<u16>() {
         Ok(count) if count >= 1 && count <= 1_000 => Ok(count),
+        _ => Err(WordFault::Incomplete),
+    }
+}
+
+// A number of minutes.
+fn peaks(text: &str) -> Result<u16, WordFault>
+    ensures decimal { IfOk result (IsDecimal text.now) }
+    ensures most { IfOk result (λ n. n ≤ 1_000) }
+    ensures refused { IfErr result (λ e. e ≡ Incomplete) }
+    ensures only { IfErr result (λ _. (n : ℕ) → IsDecimal text.now n → n ≤ 1_000 → ⊥) }
+{
+    match text.parse::<u16>() {
+        Ok(peaks) if peaks <= 1_000 => Ok(peaks),
         _ => Err(WordFault::Incomplete),
     }
 }
@@ -174,10 +189,16 @@ fn run_request<'a>(alloc: Global, found: &ArgMatches<'a>) -> Result<RunRequest<'
 {
     let file = text(found, "file")?;
     let workers = workers(text(found, "workers")?)?;
+    let timeline = is_given(found, "timeline");
+    let history = is_given(found, "history");
+    let svg = is_given(found, "svg");
     let explain = is_given(found, "explain");
     Ok(RunRequest {
         file,
         workers,
+        timeline,
+        history,
+        svg,
         zones: zone_words(alloc, found)?,
         explain,
     })
@@ -222,6 +243,51 @@ fn audit_request<'a>(alloc: Global, found: &ArgMatches<'a>) -> Result<AuditReque
     })
 }
 
+fn upcoming_request<'a>(
+    alloc: Global,
+    found: &ArgMatches<'a>,
+) -> Result<UpcomingRequest<'a>, WordFault>
+    ensures stated { IfOk result (IsUpcoming (rows_of (found_of found.now))) }
+    ensures refused { IfErr result (λ e. (e ≡ Incomplete) ⊎ (e ≡ OutOfMemory)) }
+    ensures only { IfErr result (λ e. e ≡ Incomplete → (r : UpcomingRequest) →
+        ¬ (IsUpcoming (rows_of (found_of found.now)) r)) }
+{
+    let from = optional_text(found, "from");
+    let length = text(found, "for")?;
+    let namespace = optional_text(found, "namespace");
+    let peaks = peaks(text(found, "peaks")?)?;
+    let explain = is_given(found, "explain");
+    Ok(UpcomingRequest {
+        files: texts(alloc, found, "file")?,
+        from,
+        length,
+        crons: texts(alloc, found, "cron")?,
+        namespace,
+        peaks,
+        zones: zone_words(alloc, found)?,
+        explain,
+    })
+}
+
+fn describe_request<'a>(found: &ArgMatches<'a>) -> Result<DescribeRequest<'a>, WordFault>
+    ensures stated { IfOk result (IsDescribe (rows_of (found_of found.now))) }
+    ensures refused { IfErr result (λ e. e ≡ Incomplete) }
+    ensures only { IfErr result (λ _. (r : DescribeRequest) →
+        ¬ (IsDescribe (rows_of (found_of found.now)) r)) }
+{
+    let schedule = text(found, "schedule")?;
+    let count = count(text(found, "count")?)?;
+    Ok(DescribeRequest {
+        schedule,
+        after: optional_text(found, "after"),
+        count,
+        zone: optional_text(found, "zone"),
+        time_zone: optional_text(found, "time-zone"),
+        folder: optional_text(found, "zoneinfo"),
+        explain: is_given(found, "explain"),
+    })
+}
+
 // What the words behind the name of a command ask for.
 fn request_named<'a>(
     alloc: Global,
@@ -241,6 +307,8 @@ fn request_named<'a>(
         "run" => run_request(alloc, found).map(Request::Run),
         "why" => why_request(alloc, found).map(Request::Why),
         "audit" => audit_request(alloc, found).map(Request::Audit),
+        "upcoming" => upcoming_request(alloc, found).map(Request::Upcoming),
+        "describe" => describe_request(found).map(Request::Describe),
         _ => Err(WordFault::Incomplete),
     }
 }

@@ -13,3 +13,10 @@ pub given_as : (r : Result Answer Failure) (o : Outcome) (status : ℕ) (out out
     → IsGiven status o out out' err err'
 given_as (Ok a) o status out out' err err' is g = subst (λ (x : Outcome). IsGiven status x out out' err err') is g
 given_as (Err e) o status out out' err err' is g = absurd g
+
+-- For serve_upcoming, clause given: an answer of which this holds, and that was given.
+pub given_one : (r : Result Answer Failure) (Is : Outcome → Type 0) (status : ℕ) (out out' err err' : Option (List ℕ))
+    → IfOk r (λ a. Is (outcome_of a)) → IsOkAnd r (λ a. IsGiven status (outcome_of a) out out' err err')
+    → (o : Outcome) × Is o × IsGiven status o out out' err err'
+given_one (Ok a) Is status out out' err err' is g = (outcome_of a, is, g)
+given_one (Err e) Is status out out' err err' is g = absurd g

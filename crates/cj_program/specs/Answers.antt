@@ -2,14 +2,16 @@
 use Rattle.std.specs.Prelude.{ℕ, List, Option}
 use Rattle.cj_answers.specs.Audit.{IsAuditOutcome}
 use Rattle.cj_answers.specs.Check.{IsCheckOutcome}
+use Rattle.cj_answers.specs.Describe.{IsDescribeOutcome}
 use Rattle.cj_answers.specs.Outcome.{IsNextOutcome, Outcome}
 use Rattle.cj_answers.specs.Plan.{IsPlanOutcome}
+use Rattle.cj_answers.specs.Upcoming.{IsUpcomingOutcome}
 use Rattle.cj_answers.specs.Why.{IsWhyOutcome}
 use Rattle.cj_io.specs.declared.zone_files.file.ZoneFile.{ZoneFile}
 use Rattle.cj_program.specs.Replay.{IsReplayOutcome}
 use Rattle.cj_program.specs.Run.{IsRunOutcome}
 use Rattle.cj_args.specs.declared.request.Request.{Request}
-use Rattle.cj_args.specs.declared.request.Request.TheVariants.{Audit, Check, Next, Plan, Replay, Run, Why}
+use Rattle.cj_args.specs.declared.request.Request.TheVariants.{Audit, Check, Describe, Next, Plan, Replay, Run, Upcoming, Why}
 
 -- the outcome of a request, with the zone files that were read for it, on an input, where what it holds is known
 -- rule: statuses
@@ -21,3 +23,5 @@ IsOutcome (Replay r) files input o = IsReplayOutcome r files input o
 IsOutcome (Run r) files input o = IsRunOutcome r files input o
 IsOutcome (Why r) files input o = IsWhyOutcome r files input o
 IsOutcome (Audit r) files input o = IsAuditOutcome r files input o
+IsOutcome (Upcoming r) files input o = IsUpcomingOutcome r files input o
+IsOutcome (Describe r) files input o = IsDescribeOutcome r files o

@@ -5,7 +5,7 @@ use Rattle.cj_io.specs.declared.failure.Failure.{Failure}
 use Rattle.cj_io.specs.Writing.{AppendsSome, failure_line}
 use Rattle.cj_args.specs.declared.request.ReplayRequest.{ReplayRequest}
 use Rattle.cj_args.specs.declared.request.Request.{Request}
-use Rattle.cj_args.specs.declared.request.Request.TheVariants.{Audit, Check, Next, Plan, Replay, Run, Why}
+use Rattle.cj_args.specs.declared.request.Request.TheVariants.{Audit, Check, Describe, Next, Plan, Replay, Run, Upcoming, Why}
 use Rattle.cj_io.specs.declared.zone_files.file.ZoneFile.{ZoneFile}
 use Rattle.cj_program.specs.Answers.{IsOutcome}
 use Rattle.cj_answers.specs.Outcome.{Outcome, status_of}
@@ -70,3 +70,5 @@ IsFailed (Plan r) files input out out' err err' = FailsAnswer (Plan r) files inp
 IsFailed (Run r) files input out out' err err' = FailsAnswer (Run r) files input out out' err err'
 IsFailed (Why r) files input out out' err err' = FailsAnswer (Why r) files input out out' err err'
 IsFailed (Audit r) files input out out' err err' = FailsAnswer (Audit r) files input out out' err err'
+IsFailed (Upcoming r) files input out out' err err' = FailsAnswer (Upcoming r) files input out out' err err'
+IsFailed (Describe r) files input out out' err err' = FailsAnswer (Describe r) files input out out' err err'

@@ -16,11 +16,11 @@ mod told;
 mod writing;
 
 pub use cj_answers::{
-    FileAnswer, MOST_LIST_BYTES, MOST_LIST_READS, by_clock, check_answer, next_text,
+    CronFile, FileAnswer, MOST_LIST_BYTES, MOST_LIST_READS, by_clock, check_answer, next_text,
 };
 pub use cj_args::{
-    AuditRequest, CheckRequest, NextRequest, PlanRequest, ReplayRequest, Request, RunRequest,
-    WhyRequest, WordFault, ZoneWords, parse_words,
+    AuditRequest, CheckRequest, DescribeRequest, NextRequest, PlanRequest, ReplayRequest, Request,
+    RunRequest, UpcomingRequest, WhyRequest, WordFault, ZoneWords, parse_words,
 };
 pub use cj_io::{
     Failure, FileBytes, MOST_BYTES, MOST_READS, ZoneFile, is_file_name, read_input, tell_failure,
@@ -29,5 +29,5 @@ pub use cj_io::{
 pub use cj_types::{Seconds, Text};
 pub use cj_zone::time_text;
 pub use serving::serve;
-pub use several::serve_several;
+pub use several::{serve_several, serve_upcoming};
 pub use told::tell_fault;

@@ -9,7 +9,8 @@ use crate::replay::serve_replay;
 use crate::run::run_answer;
 use crate::writing::give;
 use cj_answers::{
-    Answer, Ending, audit_answer, check_answer, next_answer, plan_answer, why_answer,
+    Answer, Ending, audit_answer, check_answer, describe_answer, next_answer, plan_answer,
+    upcoming_answer, why_answer,
 };
 use cj_args::Request;
 use cj_io::{Failure, ZoneFile, tell_failure};
@@ -84,5 +85,11 @@ pub fn serve<T: Threads + Wait + Sync, R: Read, W: Write, E: Write>(
         Request::Run(run) => give_answer(run_answer(rt, alloc, run, files, input), out, err),
         Request::Why(why) => give_answer(why_answer(alloc, why, files, input), out, err),
         Request::Audit(audit) => give_answer(audit_answer(alloc, audit, files, input), out, err),
+        Request::Upcoming(upcoming) => {
+            give_answer(upcoming_answer(alloc, upcoming, files, input), out, err)
+        }
+        Request::Describe(describe) => {
+            give_answer(describe_answer(alloc, describe, files), out, err)
+        }
     }
 }

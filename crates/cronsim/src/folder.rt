@@ -56,12 +56,27 @@ pub fn named_file(rt: &HostRuntime, folder: &str, name: &str) -> Result<Vec<Zone
     Ok(files)
 }
 
+/// The files of the zones that an input names, behind those that are there; of a zone that has one none more.
+pub fn push_input_files(
+    rt: &HostRuntime,
+    files: &mut Vec<ZoneFile>,
+    folder: &str,
+    input: &[u8],
+) -> Result<(), Failure> {
+    let names = zones_named(rt.alloc(), input)?;
+    for name in names.as_slice() {
+        let name = name.as_str();
+        let is_there = files.iter().any(|file| file.name.as_str() == name);
+        if !is_there {
+            push_file(rt, files, folder, name)?;
+        }
+    }
+    Ok(())
+}
+
 /// The files of the zones that the input names.
 pub fn input_files(rt: &HostRuntime, folder: &str, input: &[u8]) -> Result<Vec<ZoneFile>, Failure> {
     let mut files = Vec::new(rt.alloc());
-    let names = zones_named(rt.alloc(), input)?;
-    for name in names.as_slice() {
-        push_file(rt, &mut files, folder, name.as_str())?;
-    }
+    push_input_files(rt, &mut files, folder, input)?;
     Ok(files)
 }

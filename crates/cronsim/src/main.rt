@@ -15,7 +15,7 @@ use cj_program::{
 };
 use clock::moment_by_clock;
 use folder::{folder_set, input_files, named_file};
-use several::serve_files;
+use several::{serve_files, serve_upcoming_files};
 use source::Input;
 use std::io::Write;
 use std::process::ExitCode;
@@ -29,7 +29,7 @@ const FAILED: u8 = 3;
 // How many bytes an input may have.
 fn most_bytes(request: &Request<'_>) -> usize {
     match request {
-        Request::Why(_) | Request::Audit(_) => MOST_LIST_BYTES,
+        Request::Why(_) | Request::Audit(_) | Request::Upcoming(_) => MOST_LIST_BYTES,
         _ => MOST_BYTES,
     }
 }
@@ -86,10 +86,22 @@ fn serve_with_folder<T: Threads + Wait + Sync>(
     }
 }
 
-// Where zones are looked up whose folder nobody gives: the machine's own, for the commands on a cluster.
+// Where zones are looked up whose folder nobody gives: the machine's own, for the commands on a cluster and on the times
+// to come.
 fn machine_folder(request: &Request<'_>) -> Option<&'static str> {
     match request {
-        Request::Why(_) | Request::Audit(_) => Some("/usr/share/zoneinfo"),
+        Request::Why(_) | Request::Audit(_) | Request::Upcoming(_) | Request::Describe(_) => {
+            Some("/usr/share/zoneinfo")
+        }
+        _ => None,
+    }
+}
+
+// The name of the zone that a request on one schedule asks for.
+fn time_zone<'a>(request: &Request<'a>) -> Option<&'a str> {
+    match request {
+        Request::Next(next) => next.time_zone,
+        Request::Describe(describe) => describe.time_zone,
         _ => None,
     }
 }
@@ -107,8 +119,11 @@ fn serve_request<T: Threads + Wait + Sync>(
     let folder = request.folder().or(set).or(machine_folder(request));
     match (request, folder) {
         (Request::Check(check), _) if check.files.len() > 1 => serve_files(rt, check, folder),
-        (Request::Next(next), Some(folder)) => {
-            let files = named_file(rt, folder, next.time_zone.unwrap_or(""))?;
+        (Request::Upcoming(upcoming), _) if upcoming.files.len() > 1 => {
+            serve_upcoming_files(rt, upcoming, folder)
+        }
+        (Request::Next(_) | Request::Describe(_), Some(folder)) => {
+            let files = named_file(rt, folder, time_zone(request).unwrap_or(""))?;
             let (out, err) = (&mut rt.stdout(), &mut rt.stderr());
             Ok(serve(threads, alloc, request, files.as_slice(), input, out, err))
         }
@@ -124,6 +139,8 @@ fn serve_request<T: Threads + Wait + Sync>(
 fn clock_moment(rt: &HostRuntime, request: &Request<'_>) -> Result<Option<String>, Failure> {
     match request {
         Request::Why(why) => moment_by_clock(rt, why.moment),
+        Request::Upcoming(upcoming) => moment_by_clock(rt, upcoming.from),
+        Request::Describe(describe) => moment_by_clock(rt, describe.after),
         _ => Ok(None),
     }
 }
@@ -132,15 +149,19 @@ fn clock_moment(rt: &HostRuntime, request: &Request<'_>) -> Result<Option<String
 fn only_file<'a>(request: &Request<'a>) -> Option<&'a str> {
     match request {
         Request::Check(check) if check.files.len() > 1 => None,
+        Request::Upcoming(upcoming) if upcoming.files.len() > 1 => None,
         _ => request.file(),
     }
 }
 
 // The request with that moment, where it means one.
 fn at_moment<'a>(mut request: Request<'a>, moment: Option<&'a str>) -> Request<'a> {
-    if let Request::Why(why) = &mut request {
-        if moment.is_some() {
-            why.moment = moment;
+    if moment.is_some() {
+        match &mut request {
+            Request::Why(why) => why.moment = moment,
+            Request::Upcoming(upcoming) => upcoming.from = moment,
+            Request::Describe(describe) => describe.after = moment,
+            _ => {}
         }
     }
     request

@@ -1,9 +1,14 @@
-use crate::folder::input_files;
+use crate::folder::{input_files, push_input_files};
 use crate::source::Input;
 use cj_program::{
-    CheckRequest, Failure, FileAnswer, MOST_BYTES, MOST_READS, check_answer, read_input,
-    serve_several,
+    CheckRequest, CronFile, Failure, FileAnswer, MOST_BYTES, MOST_LIST_BYTES, MOST_LIST_READS,
+    MOST_READS, UpcomingRequest, check_answer, read_input, serve_several, serve_upcoming,
+    tell_failure,
 };
+use std::io::Write;
+
+// The status where one of several files can't be read.
+const UNREAD: u8 = 3;
 
 // What is answered of one of several files; none where it can't be read.
 fn answer_of<'a>(
@@ -41,6 +46,65 @@ pub fn serve_files(
         rt.alloc(),
         check,
         answers.as_slice(),
+        &mut rt.stdout(),
+        &mut rt.stderr(),
+    ))
+}
+
+// All bytes of one of several files; none where it can't be read, which is told to people who ask.
+fn bytes_of(rt: &HostRuntime, explain: bool, name: &str) -> Result<Option<Vec<u8>>, Failure> {
+    let mut input = Input::open(rt, Some(name));
+    match read_input(rt.alloc(), &mut input, MOST_LIST_BYTES, MOST_LIST_READS) {
+        Ok(bytes) => Ok(Some(bytes)),
+        Err(Failure::Memory) => Err(Failure::Memory),
+        Err(failure) => {
+            let _ = tell_failure(failure, &mut rt.stderr());
+            if explain {
+                let cause = input.cause().unwrap_or("it can't be read, or is too long");
+                let _ = writeln!(&mut rt.stderr(), "{name}: {cause}");
+            }
+            Ok(None)
+        }
+    }
+}
+
+// The bytes of all files; none where one can't be read.
+fn all_bytes(
+    rt: &HostRuntime,
+    upcoming: &UpcomingRequest<'_>,
+) -> Result<Option<Vec<Vec<u8>>>, Failure> {
+    let mut all = Vec::new(rt.alloc());
+    for name in upcoming.files.as_slice() {
+        match bytes_of(rt, upcoming.explain, name)? {
+            Some(bytes) => all.push(bytes)?,
+            None => return Ok(None),
+        }
+    }
+    Ok(Some(all))
+}
+
+/// Serves a request for what several files have start: all of them are read first, then the files of their zones.
+pub fn serve_upcoming_files(
+    rt: &HostRuntime,
+    upcoming: &UpcomingRequest<'_>,
+    folder: Option<&str>,
+) -> Result<u8, Failure> {
+    let alloc = rt.alloc();
+    let Some(all) = all_bytes(rt, upcoming)? else {
+        return Ok(UNREAD);
+    };
+    let mut zone_files = Vec::new(alloc);
+    let mut sources = Vec::new(alloc);
+    for (name, bytes) in upcoming.files.as_slice().iter().zip(all.as_slice()) {
+        let bytes = bytes.as_slice();
+        push_input_files(rt, &mut zone_files, folder.unwrap_or(""), bytes)?;
+        sources.push(CronFile { name: *name, bytes })?;
+    }
+    Ok(serve_upcoming(
+        alloc,
+        upcoming,
+        zone_files.as_slice(),
+        sources.as_slice(),
         &mut rt.stdout(),
         &mut rt.stderr(),
     ))

@@ -16,21 +16,36 @@ fn is_before(word: &str) -> bool {
     bytes.len() > 1 && bytes[0] == b'-' && bytes[1].is_ascii_digit()
 }
 
-/// The words, of `why` with `--now -1h` as `--now=-1h`, since a word that begins with `-` is an option to clap.
+// The option of a command whose value may be a moment by the clock.
+fn moment_option(command: &str) -> &'static str {
+    match command {
+        "why" => "--now",
+        "upcoming" => "--from",
+        "describe" => "--after",
+        _ => "",
+    }
+}
+
+/// The words, with `--now -1h` of `why` as `--now=-1h`, and so of the other commands that take a moment by the clock,
+/// since a word that begins with `-` is an option to clap.
 pub fn joined(alloc: Global, words: &[String]) -> Result<Vec<String>, Failure> {
-    let is_why = words.len() > 1 && words[1].as_str() == "why";
+    let option = match words {
+        [_, command, ..] => moment_option(command.as_str()),
+        _ => "",
+    };
     let mut joined = Vec::new(alloc);
     let mut is_moment = false;
     for word in words {
         let word = word.as_str();
         let mut text = String::new(alloc);
-        if is_why && is_moment && is_before(word) {
+        if is_moment && is_before(word) {
             let _ = joined.pop();
-            text.push_str("--now=")?;
+            text.push_str(option)?;
+            text.push_str("=")?;
         }
         text.push_str(word)?;
         joined.push(text).map_err(|_| Failure::Memory)?;
-        is_moment = word == "--now";
+        is_moment = !option.is_empty() && word == option;
     }
     Ok(joined)
 }

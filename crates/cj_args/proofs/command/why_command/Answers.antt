@@ -7,4 +7,4 @@ returns c =
     let two = c.with_arg-command-2.ensures _ _ one c.crons_arg.ensures in
     let three = c.with_arg-command-3.ensures _ _ two c.namespace_arg.ensures in
     let four = c.with_arg-command-4.ensures _ _ three c.output_arg.ensures in
-    c.with_zones.ensures _ (c.with_arg-command-5.ensures _ _ four c.problems_arg.ensures)
+    c.with_zones.ensures _ (c.with_arg-command-5.ensures _ _ four c.flag_arg.ensures)

@@ -57,3 +57,19 @@ returns-in-Audit-clause-served g c = λ lt. served_at c.args.request.now c.args.
 pub returns-in-Audit-clause-failed : goal.returns-in-Audit-clause-failed
 returns-in-Audit-clause-failed g c = λ e. failed_at c.args.request.now c.args.files.now (g.R.Read.remaining c.args.input.now) _ _ _ _ _
     c.in-Audit.is (cut _ _ _ _ _ _ _ c.audit_answer.result c.audit_answer.ensures (c.give_answer-in-Audit.ensures.failed e))
+
+pub returns-in-Upcoming-clause-served : goal.returns-in-Upcoming-clause-served
+returns-in-Upcoming-clause-served g c = λ lt. served_at c.args.request.now c.args.files.now (g.R.Read.remaining c.args.input.now) _ _ _ _ _
+    c.in-Upcoming.is c.upcoming_answer.result _ c.upcoming_answer.ensures (c.give_answer-in-Upcoming.ensures.given lt)
+
+pub returns-in-Upcoming-clause-failed : goal.returns-in-Upcoming-clause-failed
+returns-in-Upcoming-clause-failed g c = λ e. failed_at c.args.request.now c.args.files.now (g.R.Read.remaining c.args.input.now) _ _ _ _ _
+    c.in-Upcoming.is (cut _ _ _ _ _ _ _ c.upcoming_answer.result c.upcoming_answer.ensures (c.give_answer-in-Upcoming.ensures.failed e))
+
+pub returns-in-Describe-clause-served : goal.returns-in-Describe-clause-served
+returns-in-Describe-clause-served g c = λ lt. served_at c.args.request.now c.args.files.now (g.R.Read.remaining c.args.input.now) _ _ _ _ _
+    c.in-Describe.is c.describe_answer.result _ c.describe_answer.ensures (c.give_answer-in-Describe.ensures.given lt)
+
+pub returns-in-Describe-clause-failed : goal.returns-in-Describe-clause-failed
+returns-in-Describe-clause-failed g c = λ e. failed_at c.args.request.now c.args.files.now (g.R.Read.remaining c.args.input.now) _ _ _ _ _
+    c.in-Describe.is (cut _ _ _ _ _ _ _ c.describe_answer.result c.describe_answer.ensures (c.give_answer-in-Describe.ensures.failed e))

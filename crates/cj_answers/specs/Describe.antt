@@ -1,0 +1,116 @@
+-- What `describe` answers of a schedule.
+use Rattle.std.specs.Prelude.{◌≡◌, ◌⊎◌, ℕ, List, ◌++◌, Option, None, Some, IsNone, Bool, true, false, codes}
+use Rattle.std.specs.Borrow.{Bor}
+use Rattle.jiff_tz.specs.PosixReader.{read_whole}
+use Rattle.cj_base.specs.declared.schedule_fault.ScheduleFault.{ScheduleFault}
+use Rattle.cj_schedule.specs.Matches.{Sets}
+use Rattle.cj_schedule.specs.Grammar.{IsSchedule}
+use Rattle.cj_schedule.specs.Reading.{fault_of}
+use Rattle.cj_zone.specs.declared.source.Source.TheVariants.{Rule}
+use Rattle.cj_zone.specs.declared.zone.Zone.{Zone}
+use Rattle.cj_zone.specs.Made.{IsMade}
+use Rattle.cj_zone.specs.Zones.{is_refused_name, utc_zone}
+use Rattle.cj_io.specs.declared.zone_files.file.ZoneFile.{ZoneFile}
+use Rattle.cj_io.specs.zone_files.Rules.{utc_zones}
+use Rattle.cj_upcoming.specs.Coming.{AreComing}
+use Rattle.cj_upcoming.specs.Sentence.{sentence}
+use Rattle.cj_args.specs.declared.request.DescribeRequest.{DescribeRequest}
+use Rattle.cj_answers.specs.Outcome.{IsLookedUp, IsScheduleRefusal, Outcome, done, explained, is_utc, next_zone_words, refusal}
+use Rattle.cj_answers.specs.Why.{asked_moment}
+
+-- ---- the zone
+
+-- a zone whose clock is what `jiff` makes of the rule, and whose name is the rule
+pub record IsRuled (rule : List ℕ) (zone : Zone) : Type 0 where
+  pub name : zone.name ≡ rule
+  pub source : zone.source ≡ Rule rule
+  pub made : IsMade (Rule rule)
+
+-- there is none: the rule is a name that no zone may have, or `jiff` refuses it
+abbrev pub IsNoRuled : List ℕ → Type 0
+IsNoRuled rule = (is_refused_name utc_zones rule ≡ true) ⊎ IsNone (read_whole rule)
+
+-- UTC by its name, else by the rule
+abbrev pub IsZoneBy : Bool → List ℕ → Zone → Type 0
+IsZoneBy true rule zone = zone ≡ utc_zone (codes "UTC")
+IsZoneBy false rule zone = IsRuled rule zone
+
+abbrev pub IsNoZoneBy : Bool → List ℕ → Type 0
+IsNoZoneBy true rule = ⊥
+IsNoZoneBy false rule = IsNoRuled rule
+
+-- UTC where no rule is given
+abbrev pub IsRuleZone : Option (Bor (List ℕ)) → Zone → Type 0
+IsRuleZone None zone = zone ≡ utc_zone (codes "UTC")
+IsRuleZone (Some rule) zone = IsZoneBy (is_utc rule.now) rule.now zone
+
+abbrev pub IsNoRuleZone : Option (Bor (List ℕ)) → Type 0
+IsNoRuleZone None = ⊥
+IsNoRuleZone (Some rule) = IsNoZoneBy (is_utc rule.now) rule.now
+
+-- by the name of the zone, or by its rule, not by both
+-- rules: describe-zone, zoneinfo
+abbrev pub IsZoneFor : Option (Bor (List ℕ)) → Option (Bor (List ℕ)) → List ZoneFile → Zone → Type 0
+IsZoneFor None rule files zone = IsRuleZone rule zone
+IsZoneFor (Some name) None files zone = IsLookedUp name.now files (Some zone)
+IsZoneFor (Some name) (Some rule) files zone = ⊥
+
+-- there is no zone of the rule or of the name, or both are given
+abbrev pub IsNoZoneFor : Option (Bor (List ℕ)) → Option (Bor (List ℕ)) → List ZoneFile → Type 0
+IsNoZoneFor None rule files = IsNoRuleZone rule
+IsNoZoneFor (Some name) None files = IsLookedUp name.now files None
+IsNoZoneFor (Some name) (Some rule) files = Unit {0}
+
+-- ---- the answer
+
+-- what a start has to be
+-- rules: explain, moment-text
+abbrev pub since_words : List ℕ
+since_words = codes "--after: want a time like 2024-01-01T00:00:00Z or 2024-01-01T01:00:00+01:00, a date like 2024-01-01, now, or -1h or +2d from now\n"
+
+-- the sentence, then the next times
+-- rules: describe-sentence, describe-times
+pub record IsDescribed (sets : Sets) (zone : Zone) (start count : ℕ) (text : List ℕ) : Type 0 where
+  pub times : List ℕ
+  pub coming : AreComing sets zone start start count times
+  pub are : text ≡ sentence sets zone.name ++ times
+
+-- the schedule is refused first
+pub record RefusesText (r : DescribeRequest) (o : Outcome) : Type 0 where
+  pub fault : ScheduleFault
+  pub at : fault_of r.schedule.now ≡ Some fault
+  pub told : IsScheduleRefusal r.explain r.schedule.now fault o
+
+-- then the start
+pub record RefusesSince (r : DescribeRequest) (o : Outcome) : Type 0 where
+  pub sets : Sets
+  pub schedule : IsSchedule r.schedule.now sets
+  pub start : asked_moment r.after ≡ None
+  pub answer : o ≡ explained r.explain since_words (refusal (codes "cronsim: time\n"))
+
+-- then the zone
+pub record RefusesItsZone (r : DescribeRequest) (files : List ZoneFile) (o : Outcome) : Type 0 where
+  pub sets : Sets
+  pub schedule : IsSchedule r.schedule.now sets
+  pub after : ℕ
+  pub start : asked_moment r.after ≡ Some after
+  pub none : IsNoZoneFor r.time_zone r.zone files
+  pub answer : o ≡ explained r.explain (next_zone_words r.time_zone) (refusal (codes "cronsim: zone\n"))
+
+-- else it is described
+pub record Describes (r : DescribeRequest) (files : List ZoneFile) (o : Outcome) : Type 0 where
+  pub sets : Sets
+  pub schedule : IsSchedule r.schedule.now sets
+  pub after : ℕ
+  pub start : asked_moment r.after ≡ Some after
+  pub zone : Zone
+  pub is_zone : IsZoneFor r.time_zone r.zone files zone
+  pub text : List ℕ
+  pub described : IsDescribed sets zone after r.count text
+  pub answer : o ≡ done text
+
+-- what `describe` answers
+-- rules: describe-sentence, describe-times
+abbrev pub IsDescribeOutcome : DescribeRequest → List ZoneFile → Outcome → Type 0
+IsDescribeOutcome r files o =
+    RefusesText r o ⊎ RefusesSince r o ⊎ RefusesItsZone r files o ⊎ Describes r files o

@@ -1,0 +1,122 @@
+// What `describe` answers of a schedule.
+ghost use Rattle.std.specs.Prelude.{◌≡◌, ◌⊎◌, IfErr, IfOk, Some, codes, string_bytes};
+ghost use Rattle.cj_base.specs.declared.refusal.Refusal.TheVariants.{OutOfMemory};
+ghost use Rattle.cj_zone.specs.declared.zone.Zone.{Zone};
+ghost use Rattle.cj_zone.specs.Table.{local_zone};
+ghost use Rattle.cj_answers.specs.Describe.{IsDescribeOutcome, IsDescribed, IsNoRuleZone, IsNoRuled, IsNoZoneFor, IsRuleZone, IsRuled, IsZoneFor, since_words};
+ghost use Rattle.cj_answers.specs.Outcome.{explained, outcome_of, refusal};
+
+use crate::answer::{Answer, Ending};
+use crate::next::{refused_schedule, refused_zone, utc, zone_words, zones_of_name};
+use crate::why::asked_moment;
+use cj_args::DescribeRequest;
+use cj_base::Refusal;
+use cj_io::{Failure, ZoneFile};
+use cj_schedule::Schedule;
+use cj_types::Seconds;
+use cj_upcoming::{coming_text, sentence};
+use cj_zone::{Zone, ZoneTable};
+use std::alloc::{AllocError, Global};
+
+// A table whose local zone is the one of the rule, which is its name too.
+fn zones_of_rule(alloc: Global, rule: &str) -> Result<ZoneTable, Refusal>
+    ensures ok { IfOk result (λ table. (zone : Zone) → local_zone table ≡ Some zone →
+        IsRuled rule.now zone) }
+    ensures err { IfErr result (λ e. (e ≡ OutOfMemory) ⊎ IsNoRuled rule.now) }
+{
+    let mut table = ZoneTable::new(alloc)?;
+    table.add_rule(rule, rule)?;
+    table.set_local(rule)?;
+    Ok(table)
+}
+
+// One of the rule, or of UTC where that is its name or there is none.
+fn zones_by(alloc: Global, rule: Option<&str>) -> Result<ZoneTable, Refusal>
+    ensures ok { IfOk result (λ table. (zone : Zone) → local_zone table ≡ Some zone →
+        IsRuleZone rule.entry zone) }
+    ensures err { IfErr result (λ e. (e ≡ OutOfMemory) ⊎ IsNoRuleZone rule.entry) }
+{
+    match rule {
+        Some(rule) if rule != "UTC" => zones_of_rule(alloc, rule),
+        _ => utc(alloc),
+    }
+}
+
+// A table whose local zone is the one that is asked for.
+fn zones_for(
+    alloc: Global,
+    name: Option<&str>,
+    rule: Option<&str>,
+    files: &[ZoneFile],
+) -> Result<ZoneTable, Refusal>
+    ensures ok { IfOk result (λ table. (zone : Zone) → local_zone table ≡ Some zone →
+        IsZoneFor name.entry rule.entry files.now zone) }
+    ensures err { IfErr result (λ e. (e ≡ OutOfMemory)
+        ⊎ IsNoZoneFor name.entry rule.entry files.now) }
+{
+    match (name, rule) {
+        (None, rule) => zones_by(alloc, rule),
+        (Some(name), None) => zones_of_name(alloc, name, files),
+        (Some(_), Some(_)) => Err(Refusal::NotFound),
+    }
+}
+
+// What a start has to be.
+const SINCE_WORDS: &str =
+    "--after: want a time like 2024-01-01T00:00:00Z or 2024-01-01T01:00:00+01:00, a date like 2024-01-01, now, or -1h or +2d from now\n";
+
+fn refused_start(alloc: Global, explain: bool) -> Result<Answer, AllocError>
+    ensures { IfOk result (λ a. outcome_of a ≡ explained explain since_words
+        (refusal (codes "cronsim: time\n"))) }
+{
+    Answer::refused(alloc, "cronsim: time\n")?.explained(explain, SINCE_WORDS)
+}
+
+// The sentence, then the next times.
+fn described(
+    alloc: Global,
+    schedule: &Schedule,
+    zone: &Zone,
+    start: Seconds,
+    count: u16,
+) -> Result<String, Refusal>
+    ensures { IfOk result (λ s. IsDescribed schedule.now zone.now start count (string_bytes s)) }
+{
+    let mut text = sentence(alloc, schedule, zone.name())?;
+    let times = coming_text(alloc, schedule, zone, start, count)?;
+    text.push_str(times.as_str())?;
+    Ok(text)
+}
+
+/// What the command `describe` answers: the schedule is looked at first, then the start, then the zone.
+pub fn describe_answer(
+    alloc: Global,
+    describe: &DescribeRequest<'_>,
+    files: &[ZoneFile],
+) -> Result<Answer, Failure>
+    ensures { IfOk result (λ a. IsDescribeOutcome describe.now files.now (outcome_of a)) }
+{
+    let schedule = match Schedule::parse(describe.schedule) {
+        Ok(schedule) => schedule,
+        Err(fault) => {
+            return Ok(refused_schedule(alloc, describe.explain, describe.schedule, fault)?);
+        }
+    };
+    let Some(after) = asked_moment(alloc, describe.after)? else {
+        return Ok(refused_start(alloc, describe.explain)?);
+    };
+    let table = match zones_for(alloc, describe.time_zone, describe.zone, files) {
+        Ok(table) => table,
+        Err(Refusal::OutOfMemory) => return Err(Failure::Memory),
+        Err(_) => {
+            let words = zone_words(describe.time_zone);
+            return Ok(refused_zone(alloc, describe.explain, words)?);
+        }
+    };
+    let zone = table.default_zone();
+    Ok(Answer {
+        ending: Ending::Done,
+        printed: described(alloc, &schedule, zone, after, describe.count)?,
+        said: String::new(alloc),
+    })
+}
