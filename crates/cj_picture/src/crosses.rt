@@ -11,31 +11,67 @@ use cj_types::{Key, Reason, Refusal, Seconds};
 use cj_zone::time_text;
 use std::alloc::Global;
 
+/// Why there is a cross.
+#[derive(Clone, Copy, Debug, PartialEq, Eq)]
+enum Cause {
+    /// A sync told it.
+    Told(Reason),
+    /// A due time got no Job.
+    Lost(Why),
+}
+
 /// A cross in a lane.
 #[derive(Clone, Copy, Debug)]
 pub(crate) struct Cross {
     lane: usize,
     at: Seconds,
-    why: &'static str,
+    cause: Cause,
 }
 
-// Why a time got no Job, where no sync told it as a reason.
-fn untold(why: Why) -> Option<&'static str> {
-    match why {
-        Why::Suspended => Some("suspended"),
-        Why::TooLate => Some("too late: spec.startingDeadlineSeconds was over"),
-        Why::Earlier => Some("passed over for a later time"),
-        Why::NotMade => Some("claimed, but not made"),
-        Why::NeverSynced => Some("never looked at"),
-        Why::Forbidden | Why::NameTaken => None,
+// Whether a sync that told this started none; that many times were missed keeps none from it.
+fn keeps_from_starting(reason: Reason) -> bool {
+    match reason {
+        Reason::TooManyMissedTimes => false,
+        Reason::UnknownTimeZone => true,
+        Reason::JobAlreadyActive => true,
+        Reason::FailedCreate => true,
     }
 }
 
-// Why a sync started none; that many times were missed keeps none from it.
-fn told(reason: Reason) -> Option<&'static str> {
-    match reason {
-        Reason::TooManyMissedTimes => None,
-        _ => Some(reason.name()),
+// Whether no sync told this of a due time as a reason.
+fn is_untold(why: Why) -> bool {
+    match why {
+        Why::Forbidden => false,
+        Why::NameTaken => false,
+        _ => true,
+    }
+}
+
+fn why_words(why: Why) -> &'static str {
+    match why {
+        Why::Suspended => "suspended",
+        Why::TooLate => "too late: spec.startingDeadlineSeconds was over",
+        Why::Earlier => "passed over for a later time",
+        Why::NotMade => "claimed, but not made",
+        Why::NeverSynced => "never looked at",
+        Why::Forbidden => "JobAlreadyActive",
+        Why::NameTaken => "FailedCreate",
+    }
+}
+
+fn cause_words(cause: Cause) -> &'static str {
+    match cause {
+        Cause::Told(reason) => reason.name(),
+        Cause::Lost(why) => why_words(why),
+    }
+}
+
+fn push_one(crosses: &mut Vec<Cross>, cross: Cross) -> Result<(), Refusal>
+    ensures err { IfErr result (λ e. e ≡ OutOfMemory) }
+{
+    match crosses.push(cross) {
+        Ok(()) => Ok(()),
+        Err(_) => Err(Refusal::OutOfMemory),
     }
 }
 
@@ -44,16 +80,15 @@ fn push(
     crosses: &mut Vec<Cross>,
     key: &Key,
     at: Seconds,
-    why: &'static str,
+    cause: Cause,
 ) -> Result<(), Refusal>
     ensures err { IfErr result (λ e. e ≡ OutOfMemory) }
 {
-    if let Some(lane) = lane_at(lanes, key.namespace(), key.name()) {
-        lanes[lane].told = true;
-        let cross = Cross { lane, at, why };
-        crosses.push(cross).map_err(|_| Refusal::OutOfMemory)?;
-    }
-    Ok(())
+    let Some(lane) = lane_at(lanes, key.namespace(), key.name()) else {
+        return Ok(());
+    };
+    lanes[lane].told = true;
+    push_one(crosses, Cross { lane, at, cause })
 }
 
 /// A cross for each mark.
@@ -65,8 +100,10 @@ pub(crate) fn place_marks(
     ensures err { IfErr result (λ e. e ≡ OutOfMemory) }
 {
     for mark in marks {
-        if let (Some(at), Some(why)) = (mark.at, told(mark.reason)) {
-            push(lanes, crosses, &mark.key, at, why)?;
+        if let Some(at) = mark.at {
+            if keeps_from_starting(mark.reason) {
+                push(lanes, crosses, &mark.key, at, Cause::Told(mark.reason))?;
+            }
         }
     }
     Ok(())
@@ -81,8 +118,9 @@ pub(crate) fn place_gaps(
     ensures err { IfErr result (λ e. e ≡ OutOfMemory) }
 {
     for gap in gaps {
-        if let Some(why) = untold(gap.why) {
-            push(lanes, crosses, gap.cron.get().key.key(), gap.time, why)?;
+        if is_untold(gap.why) {
+            let key = gap.cron.get().key.key();
+            push(lanes, crosses, key, gap.time, Cause::Lost(gap.why))?;
         }
     }
     Ok(())
@@ -102,7 +140,7 @@ fn push_cross(
     let y = lane.y.saturating_add(lane.height).saturating_sub(8);
     let time = time_text(alloc, cross.at)?;
     let time = time.as_str();
-    let why = cross.why;
+    let why = cause_words(cross.cause);
     let path = format!(in alloc;
         "<path class=\"skip\" d=\"M{x} {y}l6 6m0 -6l-6 6\"><title>{time} {why}</title></path>\n"
     )?;

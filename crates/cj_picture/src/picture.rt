@@ -14,7 +14,6 @@ use cj_types::Refusal;
 use std::alloc::Global;
 
 /// What is drawn, and where.
-#[derive(Drop)]
 struct Scene {
     axis: Axis,
     layout: Layout,
@@ -23,16 +22,74 @@ struct Scene {
     crosses: Vec<Cross>,
 }
 
+// A function of its own, so that whoever gives one up makes one call and not one for each part.
+impl Drop for Scene {
+    fn drop(self) {
+        let Scene {
+            axis: _,
+            layout: _,
+            lanes: _,
+            bars: _,
+            crosses: _,
+        } = self;
+    }
+}
+
+// The bars of the history, in these lanes.
+fn bars_in(
+    alloc: Global,
+    lanes: &mut [Lane],
+    axis: Axis,
+    entries: &[Entry],
+) -> Result<Vec<Placed>, Refusal>
+    ensures err { IfErr result (λ e. e ≡ OutOfMemory) }
+{
+    let bars = bars_of(alloc, entries)?;
+    place_all(alloc, lanes, axis, bars)
+}
+
+fn add_marks(
+    alloc: Global,
+    lanes: &mut [Lane],
+    crosses: &mut Vec<Cross>,
+    entries: &[Entry],
+) -> Result<(), Refusal>
+    ensures err { IfErr result (λ e. e ≡ OutOfMemory) }
+{
+    let marks = marks_of(alloc, entries)?;
+    place_marks(lanes, crosses, marks.as_slice())
+}
+
+fn add_gaps(
+    alloc: Global,
+    lanes: &mut [Lane],
+    crosses: &mut Vec<Cross>,
+    entries: &[Entry],
+) -> Result<(), Refusal>
+    ensures err { IfErr result (λ e. e ≡ OutOfMemory) }
+{
+    let gaps = gaps_of(alloc, entries)?;
+    place_gaps(lanes, crosses, gaps.as_slice())
+}
+
+// The crosses of the history, in these lanes.
+fn crosses_in(alloc: Global, lanes: &mut [Lane], entries: &[Entry]) -> Result<Vec<Cross>, Refusal>
+    ensures err { IfErr result (λ e. e ≡ OutOfMemory) }
+{
+    let mut crosses = Vec::new(alloc);
+    add_marks(alloc, lanes, &mut crosses, entries)?;
+    add_gaps(alloc, lanes, &mut crosses, entries)?;
+    Ok(crosses)
+}
+
 fn scene_of(alloc: Global, entries: &[Entry]) -> Result<Scene, Refusal>
     ensures err { IfErr result (λ e. e ≡ OutOfMemory) }
 {
     let axis = Axis::new(entries);
     let mut lanes = lanes_of(alloc, entries)?;
-    let bars = place_all(alloc, &mut lanes, axis, bars_of(alloc, entries)?)?;
-    let mut crosses = Vec::new(alloc);
-    place_marks(&mut lanes, &mut crosses, &marks_of(alloc, entries)?)?;
-    place_gaps(&mut lanes, &mut crosses, &gaps_of(alloc, entries)?)?;
-    let layout = lay_out(&mut lanes);
+    let bars = bars_in(alloc, lanes.as_mut_slice(), axis, entries)?;
+    let crosses = crosses_in(alloc, lanes.as_mut_slice(), entries)?;
+    let layout = lay_out(lanes.as_mut_slice());
     Ok(Scene {
         axis,
         layout,
@@ -86,6 +143,44 @@ fn push_hidden(alloc: Global, text: &mut String, layout: Layout) -> Result<(), R
     Ok(text.push_str(words.as_str())?)
 }
 
+// What stands behind the bars.
+fn push_ground(alloc: Global, text: &mut String, scene: &Scene) -> Result<(), Refusal>
+    ensures err { IfErr result (λ e. e ≡ OutOfMemory) }
+{
+    push_frame(alloc, text, scene.layout)?;
+    push_caption(alloc, text, scene)?;
+    push_grounds(alloc, text, scene.lanes.as_slice())?;
+    push_ticks(alloc, text, scene.axis, scene.layout.bottom)?;
+    push_heads(alloc, text, scene.layout, scene.lanes.as_slice())
+}
+
+// The bars and the crosses.
+fn push_front(alloc: Global, text: &mut String, scene: &Scene) -> Result<(), Refusal>
+    ensures err { IfErr result (λ e. e ≡ OutOfMemory) }
+{
+    let lanes = scene.lanes.as_slice();
+    push_bars(
+        alloc,
+        text,
+        scene.axis,
+        scene.layout,
+        lanes,
+        scene.bars.as_slice(),
+    )?;
+    push_crosses(alloc, text, scene.axis, lanes, scene.crosses.as_slice())?;
+    push_hidden(alloc, text, scene.layout)
+}
+
+fn scene_text(alloc: Global, scene: &Scene) -> Result<String, Refusal>
+    ensures err { IfErr result (λ e. e ≡ OutOfMemory) }
+{
+    let mut text = String::new(alloc);
+    push_ground(alloc, &mut text, scene)?;
+    push_front(alloc, &mut text, scene)?;
+    text.push_str("</svg>\n")?;
+    Ok(text)
+}
+
 /// A picture of the history, whose oldest entry comes first, as SVG: a lane for each CronJob that a user wrote, by key,
 /// with its name, policy and schedule; a bar for each Job that a worker made for one of them, from its making to the end
 /// of its run, open at the right where it still runs, with a tick at the time that it was due; and a cross where a sync
@@ -101,22 +196,5 @@ pub fn picture_text(alloc: Global, entries: &[Entry]) -> Result<String, Refusal>
     ensures err { IfErr result (λ e. e ≡ OutOfMemory) }
 {
     let scene = scene_of(alloc, entries)?;
-    let mut text = String::new(alloc);
-    push_frame(alloc, &mut text, scene.layout)?;
-    push_caption(alloc, &mut text, &scene)?;
-    push_grounds(alloc, &mut text, &scene.lanes)?;
-    push_ticks(alloc, &mut text, scene.axis, scene.layout.bottom)?;
-    push_heads(alloc, &mut text, scene.layout, &scene.lanes)?;
-    push_bars(
-        alloc,
-        &mut text,
-        scene.axis,
-        scene.layout,
-        &scene.lanes,
-        &scene.bars,
-    )?;
-    push_crosses(alloc, &mut text, scene.axis, &scene.lanes, &scene.crosses)?;
-    push_hidden(alloc, &mut text, scene.layout)?;
-    text.push_str("</svg>\n")?;
-    Ok(text)
+    scene_text(alloc, &scene)
 }
