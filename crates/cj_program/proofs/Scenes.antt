@@ -1,5 +1,5 @@
 -- A scenario that is refused.
-use Rattle.std.proofs.Common.{◌≢◌, inl, rules, ℕ, List, Bool}
+use Rattle.std.proofs.Common.{◌≢◌, inl, rules, ℕ, List}
 use Rattle.std.specs.Prelude.{Result, Ok, Err, IfOk}
 use Rattle.cj_io.specs.declared.failure.Failure.{Failure}
 use Rattle.cj_scenario.specs.declared.fault.SceneFault.{SceneFault}
@@ -10,13 +10,14 @@ use Rattle.cj_script.specs.simulation.Simulations.{IsRefusedSimulation}
 use Rattle.cj_answers.specs.declared.answer.Answer.{Answer}
 use Rattle.cj_answers.specs.Outcome.{outcome_of}
 use Rattle.cj_answers.specs.Plan.{IsSceneRefusal}
+use Rattle.cj_args.specs.declared.request.RunRequest.{RunRequest}
 use Rattle.cj_program.specs.Run.{IsRanOf}
 
--- fault is why the bytes are refused under the zones that are given; explain says whether words for people are asked for.
-module _ (explain : Bool) (given : GivenZones) (bytes : List ℕ) (fault : SceneFault) where
+-- fault is why the bytes are refused under the zones that are given.
+module _ (run : RunRequest) (given : GivenZones) (bytes : List ℕ) (fault : SceneFault) where
   -- of `run`: closes what the bytes are answered
-  pub simulation_refused : (workers : ℕ) (r : Result Answer Failure) → IsRefusedSimulation given bytes fault → IfOk r (λ _. fault ≢ Why.Memory)
-      → IfOk r (λ a. IsSceneRefusal explain A.Simulation bytes fault (outcome_of a))
-      → IfOk r (λ a. IsRanOf explain workers given bytes (outcome_of a))
-  simulation_refused workers (Ok a) why told is = inl (record { fault = fault; refused = why; told = told; says = is })
-  simulation_refused workers (Err e) why told is = search rules
+  pub simulation_refused : (r : Result Answer Failure) → IsRefusedSimulation given bytes fault → IfOk r (λ _. fault ≢ Why.Memory)
+      → IfOk r (λ a. IsSceneRefusal run.explain A.Simulation bytes fault (outcome_of a))
+      → IfOk r (λ a. IsRanOf run given bytes (outcome_of a))
+  simulation_refused (Ok a) why told is = inl (record { fault = fault; refused = why; told = told; says = is })
+  simulation_refused (Err e) why told is = search rules

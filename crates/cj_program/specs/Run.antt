@@ -1,5 +1,5 @@
 -- What `run` answers of a scenario.
-use Rattle.std.specs.Prelude.{◌≡◌, ◌≢◌, ◌⊎◌, ℕ, ◌≤◌, List, ◌++◌, length, Option, IfSome, Bool}
+use Rattle.std.specs.Prelude.{◌≡◌, ◌≢◌, ◌⊎◌, ℕ, ◌≤◌, List, ◌++◌, length, reverse, Option, IfSome, Bool}
 use Rattle.cj_scenario.specs.declared.fault.SceneFault.{SceneFault}
 use Rattle.cj_scenario.specs.declared.fault.SceneFault.TheVariants as Why
 use Rattle.cj_scenario.specs.declared.detection.form.Form.TheVariants as A
@@ -7,6 +7,7 @@ use Rattle.cj_script.specs.simulation.Simulations.{IsSimulation, IsRefusedSimula
 use Rattle.cj_script.specs.declared.simulation.scenario.Simulation.{Simulation}
 use Rattle.cj_world.specs.Worlds.{WorldLog}
 use Rattle.cj_run.specs.Runs.{IsRun}
+use Rattle.cj_program.specs.Shown.{IsShown}
 use Rattle.cj_program.specs.remarks.Remarks.{IsAskedRemark, most_lines}
 use Rattle.cj_args.specs.declared.request.RunRequest.{RunRequest}
 use Rattle.cj_io.specs.declared.zone_files.file.ZoneFile.{ZoneFile}
@@ -22,23 +23,26 @@ pub record RefusesSimulation (explain : Bool) (given : GivenZones) (bytes : List
   pub told : fault ≢ Why.Memory
   pub says : IsSceneRefusal explain A.Simulation bytes fault o
 
--- the report of a run of the scenario that they are, with so many workers; behind it, where people ask for it, what nobody
--- read of the scenario, and what its history says of edits, starts, gaps and suspended CronJobs
-pub record PrintsReport (explain : Bool) (workers : ℕ) (given : GivenZones) (bytes : List ℕ) (o : Outcome) : Type 0 where
+-- the report of a run of the scenario that they are, with so many workers, or what else of its history is asked for; behind
+-- it, where people ask for it, what nobody read of the scenario, and what its history says of edits, starts, gaps and
+-- suspended CronJobs
+pub record PrintsReport (r : RunRequest) (given : GivenZones) (bytes : List ℕ) (o : Outcome) : Type 0 where
   pub simulation : Simulation
   pub said : IsSimulation given bytes simulation
   pub log : WorldLog
   pub text : List ℕ
-  pub run : IsRun simulation workers log text
+  pub run : IsRun simulation r.workers log text
+  pub printed : List ℕ
+  pub shown : IsShown r (reverse log.history) text printed
   pub seen : List ℕ
-  pub looked : IsAskedDetection explain A.Simulation bytes seen
+  pub looked : IsAskedDetection r.explain A.Simulation bytes seen
   pub remark : List ℕ
-  pub remarked : IsAskedRemark explain most_lines simulation.span log remark
-  pub answer : o ≡ explained explain (seen ++ remark) (done text)
+  pub remarked : IsAskedRemark r.explain most_lines simulation.span log remark
+  pub answer : o ≡ explained r.explain (seen ++ remark) (done printed)
 
 -- what the bytes are answered under these zones
-abbrev pub IsRanOf : Bool → ℕ → GivenZones → List ℕ → Outcome → Type 0
-IsRanOf explain workers given bytes o = RefusesSimulation explain given bytes o ⊎ PrintsReport explain workers given bytes o
+abbrev pub IsRanOf : RunRequest → GivenZones → List ℕ → Outcome → Type 0
+IsRanOf r given bytes o = RefusesSimulation r.explain given bytes o ⊎ PrintsReport r given bytes o
 
 -- what is read, all of the input, is run under the zones of the words and the files
 pub record RunsInput (r : RunRequest) (files : List ZoneFile) (input : Option (List ℕ)) (o : Outcome) : Type 0 where
@@ -47,7 +51,7 @@ pub record RunsInput (r : RunRequest) (files : List ZoneFile) (input : Option (L
   pub bytes : List ℕ
   pub bytes_are : IfSome input (λ xs. bytes ≡ xs)
   pub fits : length bytes ≤ 16_777_216
-  pub ran : IsRanOf r.explain r.workers given bytes o
+  pub ran : IsRanOf r given bytes o
 
 -- what `run` answers, where the input is known: a rule of the words is refused first, and nothing is read then
 -- rule: run

@@ -8,4 +8,4 @@ mod refused;
 mod suspended;
 mod whole;
 
-pub(crate) use whole::asked_remark;
+pub(crate) use whole::{asked_remark, entries_of};

@@ -6,10 +6,11 @@ ghost use Rattle.cj_answers.specs.Outcome.{done, explained, outcome_of};
 ghost use Rattle.cj_program.specs.Run.{IsRanOf, IsRunOutcome};
 
 use crate::remarks::asked_remark;
+use crate::shown::shown;
 use cj_answers::{Answer, Ending, asked_detection, given_for, refused_pair, refused_scene};
 use cj_args::RunRequest;
 use cj_io::{Failure, GivenZones, MOST_BYTES, MOST_READS, ZoneFile, read_input};
-use cj_run::{Ran, run_simulation};
+use cj_run::run_simulation;
 use cj_scenario::Form;
 use cj_script::{Simulation, read_simulation};
 use std::alloc::{AllocError, Global};
@@ -20,20 +21,20 @@ use std::thread::Threads;
 // The most gaps of one CronJob and one cause that get a line each.
 const MOST_LINES: u64 = 20;
 
-// The answer with a report, with what was seen of the scenario and with what is told of the run.
+// The answer with what is printed of a run, with what was seen of the scenario and with what is told of the run.
 fn reported(
     alloc: Global,
     explain: bool,
-    report: String,
+    text: String,
     seen: &str,
     remark: &str,
 ) -> Result<Answer, AllocError>
     ensures { IfOk result (λ a. outcome_of a ≡ explained explain (seen.now ++ remark.now)
-        (done (string_bytes report))) }
+        (done (string_bytes text))) }
 {
     let answer = Answer {
         ending: Ending::Done,
-        printed: report,
+        printed: text,
         said: String::new(alloc),
     };
     let mut words = String::from_str(alloc, seen)?;
@@ -50,8 +51,7 @@ fn answered<T: Threads + Wait + Sync>(
     simulation: &Simulation,
 ) -> Result<Answer, Failure>
     ensures { (given : GivenZones) → IsSimulation given bytes.now simulation.now →
-        IfOk result (λ a. IsRanOf run.now.explain run.now.workers given bytes.now
-        (outcome_of a)) }
+        IfOk result (λ a. IsRanOf run.now given bytes.now (outcome_of a)) }
 {
     let ran = run_simulation(rt, alloc, simulation, u64::from(run.workers))?;
     let seen = asked_detection(alloc, run.explain, Form::Simulation, bytes)?;
@@ -62,8 +62,8 @@ fn answered<T: Threads + Wait + Sync>(
         &simulation.span,
         ran.closed.get(),
     )?;
-    let Ran { report, closed: _ } = ran;
-    Ok(reported(alloc, run.explain, report, seen.as_str(), remark.as_str())?)
+    let printed = shown(alloc, run, ran)?;
+    Ok(reported(alloc, run.explain, printed, seen.as_str(), remark.as_str())?)
 }
 
 fn bytes_answer<T: Threads + Wait + Sync>(
@@ -73,8 +73,7 @@ fn bytes_answer<T: Threads + Wait + Sync>(
     given: GivenZones<'_>,
     bytes: &[u8],
 ) -> Result<Answer, Failure>
-    ensures { IfOk result (λ a. IsRanOf run.now.explain run.now.workers given.entry bytes.now
-        (outcome_of a)) }
+    ensures { IfOk result (λ a. IsRanOf run.now given.entry bytes.now (outcome_of a)) }
 {
     match read_simulation(alloc, given, bytes) {
         Ok(simulation) => answered(rt, alloc, run, bytes, &simulation),
@@ -82,8 +81,8 @@ fn bytes_answer<T: Threads + Wait + Sync>(
     }
 }
 
-/// What the command `run` answers: the zones are looked at first, then all of the input is read. A history that a call found full fails it,
-/// as want of memory does.
+/// What the command `run` answers: the zones are looked at first, then all of the input is read. A history that a call found
+/// full fails it, as want of memory does.
 pub(crate) fn run_answer<T: Threads + Wait + Sync, R: Read>(
     rt: &T,
     alloc: Global,

@@ -1,16 +1,19 @@
 // What is printed of a run.
 ghost use Rattle.std.specs.Prelude.{IfOk, string_bytes};
+ghost use mathlib.Core.List.{reverse};
 ghost use Rattle.cj_program.specs.Shown.{IsShown};
 
+use crate::remarks::entries_of;
 use cj_args::RunRequest;
 use cj_calls::Entry;
 use cj_io::Failure;
 use cj_picture::picture_text;
 use cj_report::{history_text, timeline_text};
+use cj_run::Ran;
 use std::alloc::Global;
 
-/// The time line, the entries or a picture of a run's history, or its report: the first of these that the words ask for.
-pub(crate) fn shown_text(
+// The time line, the entries or a picture of a run's history, or its report: the first of these that the words ask for.
+fn shown_text(
     alloc: Global,
     run: &RunRequest<'_>,
     entries: &[Entry],
@@ -28,4 +31,13 @@ pub(crate) fn shown_text(
     } else {
         Ok(report)
     }
+}
+
+/// What is printed of a run: its report, or what else the words ask for.
+pub(crate) fn shown(alloc: Global, run: &RunRequest<'_>, ran: Ran) -> Result<String, Failure>
+    ensures { IfOk result (λ s. IsShown run.now (reverse ran.closed.history)
+        (string_bytes ran.report) (string_bytes s)) }
+{
+    let Ran { report, closed } = ran;
+    shown_text(alloc, run, entries_of(closed.get()), report)
 }

@@ -28,8 +28,8 @@ fn end_text(alloc: Global, closed: &Closed) -> Result<String, Refusal>
     suspended_text(alloc, crons.as_slice())
 }
 
-// The entries of a closed history, the oldest first.
-fn entries_of(closed: &Closed) -> &[Entry]
+/// The entries of a closed history, the oldest first.
+pub(crate) fn entries_of(closed: &Closed) -> &[Entry]
     ensures history { reverse result.now ≡ closed.now.history }
     ensures entries { result.now ≡ reverse closed.now.history }
 {

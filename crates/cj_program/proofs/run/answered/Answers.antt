@@ -13,6 +13,7 @@ returns g c = λ given said.
     let explain = c.args.run.now.explain in
     let seen = string_bytes c.in_ok-seen.seen in
     let remark = string_bytes c.in_ok-remark.remark in
+    let printed = string_bytes c.in_ok-printed.printed in
     inr (record {
       simulation = simulation;
       said = said;
@@ -20,13 +21,15 @@ returns g c = λ given said.
       text = string_bytes ran.report;
       run = subst (λ (workers : ℕ). IsRun simulation workers ran.closed (string_bytes ran.report)) c.from.ensures
           c.in_ok-ran.ensures;
+      printed = printed;
+      shown = c.in_ok-printed.ensures;
       seen = seen;
       looked = c.in_ok-seen.ensures;
       remark = remark;
       remarked = subst (λ (w : WorldLog). IsAskedRemark explain most_lines simulation.span w remark) c.get.ensures
           c.in_ok-remark.ensures;
       answer = c.in_ok-reported.ensures
-          ∙ ap (λ (w : List ℕ). explained explain (w ++ c.as_str-2.result.now) (done (string_bytes ran.report)))
+          ∙ ap (λ (w : List ℕ). explained explain (w ++ c.as_str-2.result.now) (done printed))
           c.as_str.ensures.value
-          ∙ ap (λ (w : List ℕ). explained explain (seen ++ w) (done (string_bytes ran.report))) c.as_str-2.ensures.value;
+          ∙ ap (λ (w : List ℕ). explained explain (seen ++ w) (done printed)) c.as_str-2.ensures.value;
     })
