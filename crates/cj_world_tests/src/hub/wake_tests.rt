@@ -68,7 +68,7 @@ fn add_in_rounds(
         pause(seed);
         let count = (seed >> 33) % 3 + 1;
         add_some(rt, alloc, hub, informer, count as usize);
-        wanted += count;
+        wanted = count.wrapping_add(wanted);
         let is_quiet = hub.rest_wait(rt, Version::new(0)).is_ok();
         if !is_quiet || !come(done, wanted) {
             break;
