@@ -10,5 +10,6 @@ mod strange_tests;
 mod user_tests;
 mod users;
 mod wait_tests;
+mod wake_tests;
 mod window_tests;
 mod woken_tests;
