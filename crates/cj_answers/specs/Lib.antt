@@ -1,6 +1,9 @@
 pub mod Advice
 pub mod Audit
 pub mod Check
+pub mod CheckList
+pub mod CheckOutcome
+pub mod ClockWords
 pub mod Clusters
 pub mod Coming
 pub mod CronFiles
@@ -13,7 +16,7 @@ pub mod Nearest
 pub mod NextText
 pub mod Outcome
 pub mod Dropped
-pub mod FieldCount
+pub mod FaultWords
 pub mod Plan
 pub mod Several
 pub mod Strays
@@ -22,3 +25,4 @@ pub mod Times
 pub mod Why
 pub mod Windows
 pub mod Upcoming
+pub mod as_json

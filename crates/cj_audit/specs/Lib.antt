@@ -7,5 +7,6 @@ pub mod Times
 pub mod Notes
 pub mod Findings
 pub mod Places
+pub mod Json
 pub mod Lines
 pub mod Words

@@ -1,0 +1,5 @@
+pub mod Audit
+pub mod Forms
+pub mod Next
+pub mod Notes
+pub mod Why
