@@ -5,8 +5,6 @@ pub mod LineMarks
 pub mod Nearness
 pub mod NextLemmas
 pub mod Ruled
-pub mod NextTimes
 pub mod Scenes
 pub mod TimeLemmas
 pub mod Zones
-pub mod ItemAnswers

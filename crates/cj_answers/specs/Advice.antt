@@ -6,7 +6,6 @@ use Rattle.cj_types.specs.declared.cron.CronSpec.{CronSpec}
 use Rattle.cj_zone.specs.declared.zone.Zone.{Zone}
 use Rattle.cj_manifest.specs.declared.manifest.Manifest.{Manifest}
 use Rattle.cj_manifest.specs.declared.manifest.Manifest.TheVariants as Of
-use Rattle.cj_answers.specs.ClockWords.{IsClockAdvice}
 use Rattle.cj_answers.specs.Coming.{IsScheduleAdvice}
 use Rattle.cj_answers.specs.Suggestion.{suggestion}
 
@@ -35,13 +34,11 @@ cron_advice s =
     suspend_advice s.suspend ++ (deadline_advice s.starting_deadline_seconds
     ++ (successful_advice s.successful_limit ++ failed_advice s.failed_limit))
 
--- that, whether the schedule comes at all, and which local times that it names are skipped or come twice
+-- that, and whether the schedule comes at all
 pub record IsCronAdvice (spec : CronSpec) (zones : List Zone) (words : List ℕ) : Type 0 where
   pub coming : List ℕ
   pub comes : IsScheduleAdvice spec zones coming
-  pub clock : List ℕ
-  pub clock_is : IsClockAdvice spec zones clock
-  pub are : words ≡ cron_advice spec ++ (coming ++ clock)
+  pub are : words ≡ cron_advice spec ++ coming
 
 abbrev pub IsAdvice : Manifest → List Zone → List ℕ → Type 0
 IsAdvice (Of.CronJob draft) zones words = IsCronAdvice draft.spec zones words

@@ -1,9 +1,6 @@
 pub mod Advice
 pub mod Audit
 pub mod Check
-pub mod CheckList
-pub mod CheckOutcome
-pub mod ClockWords
 pub mod Clusters
 pub mod Coming
 pub mod CronFiles
@@ -16,7 +13,7 @@ pub mod Nearest
 pub mod NextText
 pub mod Outcome
 pub mod Dropped
-pub mod FaultWords
+pub mod FieldCount
 pub mod Plan
 pub mod Several
 pub mod Strays
@@ -25,4 +22,3 @@ pub mod Times
 pub mod Why
 pub mod Windows
 pub mod Upcoming
-pub mod as_json

@@ -3,11 +3,10 @@ ghost use Rattle.std.specs.Prelude.{◌≡◌, ◌++◌, IfOk, string_bytes};
 ghost use Rattle.cj_zone.specs.Table.{zones_of};
 ghost use Rattle.cj_answers.specs.Advice.{IsAdvice, IsCronAdvice, cron_advice, deadline_advice, dropped_words, dropped_words_all, failed_advice, successful_advice, suspend_advice, unknown_words};
 
-use crate::clock_words::clock_advice;
 use crate::coming::schedule_advice;
 use crate::suggestion::suggested;
 use cj_manifest::{Manifest, Warning};
-use cj_types::{CronSpec, Deadline, Refusal};
+use cj_types::{CronSpec, Deadline};
 use cj_zone::ZoneTable;
 use std::alloc::{AllocError, Global};
 
@@ -101,27 +100,18 @@ pub(crate) fn all_dropped_words(alloc: Global, warnings: &[Warning]) -> Result<S
     Ok(text)
 }
 
-fn with_coming(
-    alloc: Global,
-    spec: &CronSpec,
-    coming: &str,
-    clock: &str,
-) -> Result<String, AllocError>
-    ensures { IfOk result (λ s. string_bytes s
-        ≡ cron_advice spec.now ++ (coming.now ++ clock.now)) }
+fn with_coming(alloc: Global, spec: &CronSpec, coming: &str) -> Result<String, AllocError>
+    ensures { IfOk result (λ s. string_bytes s ≡ cron_advice spec.now ++ coming.now) }
 {
     let mut text = cron_advice(alloc, spec)?;
     text.push_str(coming)?;
-    text.push_str(clock)?;
     Ok(text)
 }
 
-fn advice_on(alloc: Global, zones: &ZoneTable, spec: &CronSpec) -> Result<String, Refusal>
+fn advice_on(alloc: Global, zones: &ZoneTable, spec: &CronSpec) -> Result<String, AllocError>
     ensures { IfOk result (λ s. IsCronAdvice spec.now (zones_of zones.now) (string_bytes s)) }
 {
-    let clock = clock_advice(alloc, zones, spec)?;
-    let coming = schedule_advice(zones, spec);
-    Ok(with_coming(alloc, spec, coming, clock.as_str())?)
+    with_coming(alloc, spec, schedule_advice(zones, spec))
 }
 
 /// A line for each thing in a manifest without a fault that is worth a look.
@@ -129,7 +119,7 @@ pub(crate) fn advice(
     alloc: Global,
     zones: &ZoneTable,
     manifest: &Manifest,
-) -> Result<String, Refusal>
+) -> Result<String, AllocError>
     ensures { IfOk result (λ s. IsAdvice manifest.now (zones_of zones.now) (string_bytes s)) }
 {
     match manifest {

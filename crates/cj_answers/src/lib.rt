@@ -8,17 +8,14 @@
 
 mod advice;
 mod answer;
-mod as_json;
 mod audit;
 mod check;
-mod check_list;
-mod clock_words;
 mod clusters;
 mod coming;
 mod cron_files;
 mod describe;
 mod dropped;
-mod fault_words;
+mod fields;
 mod given;
 mod json;
 mod lines;

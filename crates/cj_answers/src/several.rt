@@ -107,8 +107,8 @@ fn all_lines(alloc: Global, stream: Stream, files: &[FileAnswer<'_>]) -> Result<
     Ok(text)
 }
 
-/// What isn't looked at, once for all files.
-pub(crate) fn several_pod(explain: bool) -> &'static str
+// What isn't looked at, once for all files.
+fn several_pod(explain: bool) -> &'static str
     ensures { result.now ≡ several_pod explain }
 {
     if explain {

@@ -13,8 +13,10 @@ use crate::clusters::{ending_by, is_read, note_lines, note_words, refused_list};
 use crate::cron_files::{BadFile, CronFile, FileCrons, read_files};
 use crate::given::{given_zones, refused_pair};
 use crate::marking::marked;
-use crate::why::naming::{chosen, has_none, is_noted_one, push_where};
-use crate::why::{MOST_LIST_BYTES, MOST_LIST_READS, asked_moment, is_nothing, refused_unknown};
+use crate::why::{
+    MOST_LIST_BYTES, MOST_LIST_READS, asked_moment, chosen, has_none, is_noted_one, is_nothing,
+    push_where, refused_unknown,
+};
 use crate::windows::counted_text;
 use cj_args::UpcomingRequest;
 use cj_cluster::ClusterCron;

@@ -68,26 +68,11 @@ with_folder a = with_rule (with_rule a folder_rule) explain_rule
 abbrev pub with_zones : App → App
 with_zones a = with_folder (with_rule a zones_rule)
 
--- the form of what is printed, by the letter that `kubectl` has for it, and which it is where nobody says it
--- rule: output
-abbrev pub output_rule : Text → Rule
-output_rule usual = record (new_rule (codes "output")) {
-  long = Some (codes "output");
-  short = Some 111;
-  value_names = 1;
-  defaults = usual ∷ [];
-}
-
--- lines where nobody says it
-abbrev pub lines_rule : Rule
-lines_rule = output_rule (codes "lines")
-
--- `cronsim next SCHEDULE --after TIME [--count N] [--zone RULE] [--time-zone NAME] [-o FORMAT] [--zoneinfo DIR] [--explain]`
+-- `cronsim next SCHEDULE --after TIME [--count N] [--zone RULE] [--time-zone NAME] [--zoneinfo DIR] [--explain]`
 abbrev pub next_app : App
 next_app =
     let from = with_rule (with_rule (new_app (codes "next")) schedule_rule) after_rule in
-    let zoned = with_rule (with_rule (with_rule from (count_rule (codes "1"))) zone_rule) time_zone_rule in
-    with_folder (with_rule zoned lines_rule)
+    with_folder (with_rule (with_rule (with_rule from (count_rule (codes "1"))) zone_rule) time_zone_rule)
 
 abbrev pub file_rule : Rule
 file_rule = record (new_rule (codes "file")) { required = true; value_names = 1 }
@@ -109,9 +94,9 @@ check_app = with_zones (with_rule (with_rule (new_app (codes "check")) files_rul
 abbrev pub now_rule : Rule
 now_rule = record (new_rule (codes "now")) { long = Some (codes "now"); required = true; value_names = 1 }
 
--- `cronsim plan FILE --now TIME [-o FORMAT] [--zone NAME=RULE].. [--zoneinfo DIR] [--explain]`
+-- `cronsim plan FILE --now TIME [--zone NAME=RULE].. [--zoneinfo DIR] [--explain]`
 abbrev pub plan_app : App
-plan_app = with_zones (with_rule (with_rule (with_rule (new_app (codes "plan")) file_rule) now_rule) lines_rule)
+plan_app = with_zones (with_rule (with_rule (new_app (codes "plan")) file_rule) now_rule)
 
 -- `cronsim replay FILE [--zone NAME=RULE].. [--zoneinfo DIR] [--explain]`
 abbrev pub replay_app : App
@@ -145,17 +130,26 @@ abbrev pub namespace_rule : Rule
 namespace_rule =
     record (new_rule (codes "namespace")) { long = Some (codes "namespace"); short = Some 110; value_names = 1 }
 
+-- the form of what is printed, by the letter that `kubectl` has for it
+abbrev pub output_rule : Rule
+output_rule = record (new_rule (codes "output")) {
+  long = Some (codes "output");
+  short = Some 111;
+  value_names = 1;
+  defaults = codes "table" ∷ [];
+}
+
 -- `cronsim why FILE [--now TIME] [--cron [NAMESPACE/]NAME].. [-n NAMESPACE] [-o FORMAT] [--problems] [--zone NAME=RULE]..
 -- [--zoneinfo DIR] [--explain]`
 abbrev pub why_app : App
 why_app =
     let of = with_rule (with_rule (new_app (codes "why")) file_rule) moment_rule in
     let named = with_rule (with_rule of crons_rule) namespace_rule in
-    with_zones (with_rule (with_rule named (output_rule (codes "table"))) (flag_rule (codes "problems")))
+    with_zones (with_rule (with_rule named output_rule) (flag_rule (codes "problems")))
 
--- `cronsim audit FILE [-o FORMAT] [--zone NAME=RULE].. [--zoneinfo DIR] [--explain]`
+-- `cronsim audit FILE [--zone NAME=RULE].. [--zoneinfo DIR] [--explain]`
 abbrev pub audit_app : App
-audit_app = with_zones (with_rule (with_rule (new_app (codes "audit")) file_rule) lines_rule)
+audit_app = with_zones (with_rule (new_app (codes "audit")) file_rule)
 
 -- the start of a window, which may be left out
 abbrev pub from_rule : Rule
@@ -249,7 +243,6 @@ pub record IsNext (rows : List Row) (r : NextRequest) : Type 0 where
   pub most : r.count ≤ 1_000
   pub zone : first_of (codes "zone") rows ≡ option_map (λ s. s.now) r.zone
   pub time_zone : first_of (codes "time-zone") rows ≡ option_map (λ s. s.now) r.time_zone
-  pub output : first_of (codes "output") rows ≡ Some r.output.now
   pub folder : first_of (codes "zoneinfo") rows ≡ option_map (λ s. s.now) r.folder
   pub explain : r.explain ≡ is_given (codes "explain") rows
 
@@ -264,7 +257,6 @@ pub record IsCheck (rows : List Row) (r : CheckRequest) : Type 0 where
 pub record IsPlan (rows : List Row) (r : PlanRequest) : Type 0 where
   pub file : first_of (codes "file") rows ≡ Some r.file.now
   pub moment : first_of (codes "now") rows ≡ Some r.moment.now
-  pub output : first_of (codes "output") rows ≡ Some r.output.now
   pub zones : AreZones rows r.zones
   pub explain : r.explain ≡ is_given (codes "explain") rows
 
@@ -300,7 +292,6 @@ pub record IsWhy (rows : List Row) (r : WhyRequest) : Type 0 where
 -- and for those of `audit`
 pub record IsAudit (rows : List Row) (r : AuditRequest) : Type 0 where
   pub file : first_of (codes "file") rows ≡ Some r.file.now
-  pub output : first_of (codes "output") rows ≡ Some r.output.now
   pub zones : AreZones rows r.zones
   pub explain : r.explain ≡ is_given (codes "explain") rows
 

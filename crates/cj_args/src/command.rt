@@ -5,8 +5,8 @@ ghost use Rattle.cj_args.specs.Building.{IsArg, IsCommand, bare_app};
 ghost use Rattle.cj_args.specs.Command.{acting_app, audit_app, check_app, clustered_app, cronsim_app, deciding_app, describe_app, file_rule, next_app, plan_app, reading_app, replay_app, run_app, upcoming_app, why_app, with_folder, with_zones};
 
 use crate::arguments::{
-    count_arg, crons_arg, explain_arg, files_arg, flag_arg, length_arg, lines_arg, namespace_arg,
-    option_arg, output_arg, peaks_arg, positional_arg, required_arg, workers_arg, zones_arg,
+    count_arg, crons_arg, explain_arg, files_arg, flag_arg, length_arg, namespace_arg, option_arg,
+    output_arg, peaks_arg, positional_arg, required_arg, workers_arg, zones_arg,
 };
 use crate::help;
 use clap::{Arg, Command};
@@ -98,7 +98,6 @@ fn next_command<'a>(alloc: Global) -> Result<Command<'a>, AllocError>
         command,
         option_arg(alloc, "time-zone", "NAME", help::TIME_ZONE),
     );
-    let command = with_arg(command, lines_arg(alloc));
     with_folder(alloc, command)
 }
 
@@ -127,7 +126,6 @@ fn plan_command<'a>(alloc: Global) -> Result<Command<'a>, AllocError>
         help::SCENARIO,
     );
     let command = with_arg(command, required_arg(alloc, "now", "TIME", help::MOMENT));
-    let command = with_arg(command, lines_arg(alloc));
     with_zones(alloc, command)
 }
 
@@ -174,7 +172,7 @@ fn why_command<'a>(alloc: Global) -> Result<Command<'a>, AllocError>
     let command = with_arg(command, option_arg(alloc, "now", "TIME", help::NOW));
     let command = with_arg(command, crons_arg(alloc));
     let command = with_arg(command, namespace_arg(alloc));
-    let command = with_arg(command, output_arg(alloc, "table", help::OUTPUT));
+    let command = with_arg(command, output_arg(alloc));
     let command = with_arg(command, flag_arg(alloc, "problems", help::PROBLEMS));
     with_zones(alloc, command)
 }
@@ -189,7 +187,6 @@ fn audit_command<'a>(alloc: Global) -> Result<Command<'a>, AllocError>
         help::AUDIT,
         help::CLUSTER,
     );
-    let command = with_arg(command, lines_arg(alloc));
     with_zones(alloc, command)
 }
 

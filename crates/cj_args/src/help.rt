@@ -92,11 +92,7 @@ pub(crate) const NAMESPACE: &str = "Only CronJobs of this namespace";
 
 /// How CronJobs are printed.
 pub(crate) const OUTPUT: &str =
-    "How the CronJobs are printed: table, for people, where --explain or a single --cron adds the reasons in full; lines, for programs; or json, one JSON value with all of it";
-
-/// How other answers are.
-pub(crate) const LINES: &str =
-    "How the answer is printed: lines, or json, one JSON value with the same in it";
+    "How the CronJobs are printed: table, for people, where --explain or a single --cron adds the reasons in full, or lines, for programs";
 
 /// Which of them.
 pub(crate) const PROBLEMS: &str =
@@ -108,7 +104,7 @@ pub(crate) const NEXT: &str = "Example:
 
 Exit status:
   0  the times were printed
-  1  the format, the schedule, the time or the zone is refused, as standard error says; --explain says why
+  1  the schedule, the time or the zone is refused, as standard error says; --explain says why
   2  the words are wrong
   3  writing failed, or memory was wanting";
 
@@ -135,7 +131,7 @@ pub(crate) const PLAN: &str = "Example:
 
 Exit status:
   0  the plan was printed
-  1  the format, the moment, a zone or the scenario is refused, as standard error says; --explain says why
+  1  the moment, a zone or the scenario is refused, as standard error says; --explain says why
   2  the words are wrong
   3  reading or writing failed, or memory was wanting";
 
@@ -206,7 +202,7 @@ What it prints:
 
 Exit status:
   0  nothing was found and every item could be read
-  1  something was found or an item was refused, as standard output says; or the format, a zone or the input is refused, as standard error says; --explain says why
+  1  something was found or an item was refused, as standard output says; or a zone or the input is refused, as standard error says; --explain says why
   2  the words are wrong
   3  reading or writing failed, or memory was wanting";
 
@@ -216,13 +212,14 @@ pub(crate) const UPCOMING: &str = "Examples:
   cronsim upcoming deploy/*.json --from 2024-01-01 --for 7d
 
 What it prints:
-  item N refused 2 FIELD CAUSE           the item is no CronJob, by this fault; --explain says why
-  start TIME NAMESPACE/NAME ..           these CronJobs are due in this minute
-  suspended NAMESPACE/NAME               it starts nothing, as spec.suspend is true
-  never NAMESPACE/NAME                   its schedule comes at no time within 3,000 days
-  skips ZONE LOCAL LOCAL TIME            at this time the zone's clock is put forward, from the one local time to the other
-  repeats ZONE LOCAL LOCAL TIME          at this time it is put back
-  peak TIME COUNT NAMESPACE/NAME ..      so many are due in this minute, one of the fullest
+  item N refused 2 FIELD CAUSE               the item is left out for this fault, which --explain explains; of several files behind FILE:
+  start TIME NAMESPACE/NAME ..               these CronJobs are due in this minute
+  suspended NAMESPACE/NAME                   it starts nothing, as spec.suspend is true
+  never NAMESPACE/NAME                       its schedule comes at no time within 3,000 days
+  skips ZONE LOCAL LOCAL TIME                at TIME, in UTC, this zone's clock goes forward from the one local time to the other
+  repeats ZONE LOCAL LOCAL TIME              at TIME it goes back, and shows the times between twice
+  peak TIME COUNT NAMESPACE/NAME ..          one of the fullest minutes, with how many are due in it
+  from TIME to TIME: N cron jobs, M starts   the window, without its end, and what it has
 
 Exit status:
   0  they were printed, and every item could be read
@@ -235,11 +232,11 @@ pub(crate) const DESCRIBE: &str = "Examples:
   cronsim describe '30 2 * * mon-fri' --time-zone Europe/Berlin
   cronsim describe @daily --after 2024-01-01 --count 3 --zone CET-1CEST,M3.5.0,M10.5.0/3
 
-What it prints, after the sentence:
-  WEEKDAY LOCAL OFFSET TIME in SPAN      a time: by the zone's clock, how far that is ahead of UTC, in UTC, and how far off
-  skips ZONE LOCAL LOCAL TIME            before it the zone's clock is put forward, from the one local time to the other
-  repeats ZONE LOCAL LOCAL TIME          or it is put back
-  none within 3,000 days                 nothing is due for so long
+What it prints behind the sentence:
+  WEEKDAY LOCAL OFFSET TIME in SPAN   a due time: by the zone's clock, how far that is ahead of UTC, in UTC, and how far off
+  skips ZONE LOCAL LOCAL TIME         before it, at TIME, the clock goes forward, from the one local time to the other
+  repeats ZONE LOCAL LOCAL TIME       before it, at TIME, the clock goes back, and shows the times between twice
+  none within 3,000 days              there is no further due time
 
 Exit status:
   0  they were printed

@@ -119,8 +119,6 @@ pub struct NextRequest<'a> {
     pub zone: Option<&'a str>,
     /// The name of the zone, which is looked up in the folder.
     pub time_zone: Option<&'a str>,
-    /// How the answer is printed: `lines` or `json`.
-    pub output: &'a str,
     /// The folder with compiled zone files.
     pub folder: Option<&'a str>,
     /// Whether a refusal is explained.
@@ -154,8 +152,6 @@ pub struct PlanRequest<'a> {
     pub file: &'a str,
     /// The moment that the plan is for: a printed time.
     pub moment: &'a str,
-    /// How the answer is printed: `lines` or `json`.
-    pub output: &'a str,
     /// The zones that the CronJob may name.
     pub zones: ZoneWords<'a>,
     /// Whether a refusal is explained.
@@ -203,7 +199,7 @@ pub struct WhyRequest<'a> {
     pub crons: Vec<&'a str>,
     /// The namespace of those that are asked about; all of them where none is given.
     pub namespace: Option<&'a str>,
-    /// How they are printed: `table`, `lines` or `json`.
+    /// How they are printed: `table` or `lines`.
     pub output: &'a str,
     /// Whether only those are printed that want a look.
     pub problems: bool,
@@ -218,8 +214,6 @@ pub struct WhyRequest<'a> {
 pub struct AuditRequest<'a> {
     /// The name of the file with the cluster's objects; `-` is standard input.
     pub file: &'a str,
-    /// How the answer is printed: `lines` or `json`.
-    pub output: &'a str,
     /// The zones that the CronJobs may name.
     pub zones: ZoneWords<'a>,
     /// Whether a refusal is explained.

@@ -122,14 +122,12 @@ fn next_request<'a>(found: &ArgMatches<'a>) -> Result<NextRequest<'a>, WordFault
     let schedule = text(found, "schedule")?;
     let after = text(found, "after")?;
     let count = count(text(found, "count")?)?;
-    let output = text(found, "output")?;
     Ok(NextRequest {
         schedule,
         after,
         count,
         zone: optional_text(found, "zone"),
         time_zone: optional_text(found, "time-zone"),
-        output,
         folder: optional_text(found, "zoneinfo"),
         explain: is_given(found, "explain"),
     })
@@ -159,12 +157,10 @@ fn plan_request<'a>(alloc: Global, found: &ArgMatches<'a>) -> Result<PlanRequest
 {
     let file = text(found, "file")?;
     let moment = text(found, "now")?;
-    let output = text(found, "output")?;
     let explain = is_given(found, "explain");
     Ok(PlanRequest {
         file,
         moment,
-        output,
         zones: zone_words(alloc, found)?,
         explain,
     })
@@ -239,11 +235,9 @@ fn audit_request<'a>(alloc: Global, found: &ArgMatches<'a>) -> Result<AuditReque
         ¬ (IsAudit (rows_of (found_of found.now)) r)) }
 {
     let file = text(found, "file")?;
-    let output = text(found, "output")?;
     let explain = is_given(found, "explain");
     Ok(AuditRequest {
         file,
-        output,
         zones: zone_words(alloc, found)?,
         explain,
     })

@@ -7,6 +7,5 @@ pub mod Times
 pub mod Notes
 pub mod Findings
 pub mod Places
-pub mod Json
 pub mod Lines
 pub mod Words

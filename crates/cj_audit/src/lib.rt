@@ -9,7 +9,6 @@ mod clock;
 mod cron;
 mod finding;
 mod findings;
-mod json;
 mod kind;
 mod lines;
 mod manual;
@@ -23,7 +22,6 @@ mod words;
 
 pub use finding::Finding;
 pub use findings::Findings;
-pub use json::{findings_value, manual_value};
 pub use kind::{Exclusive, FindingKind};
 pub use lines::audit_text;
 pub use manual::manual_text;

@@ -4,4 +4,3 @@ pub mod ActiveLemmas
 pub mod Depth
 pub mod ListLemmas
 pub mod ItemLemmas
-pub mod TextLemmas

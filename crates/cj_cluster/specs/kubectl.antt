@@ -6,4 +6,3 @@ pub mod Faults
 pub mod Named
 pub mod Objects
 pub mod Reading
-pub mod Texts

@@ -45,9 +45,7 @@ pub(crate) fn cause_words(field: u8, cause: ScheduleCause) -> &'static str
         ScheduleCause::Macro => {
             "no macro here; there are @hourly, @daily, @midnight, @weekly, @monthly, @yearly and @annually"
         }
-        ScheduleCause::Fields => {
-            "5 fields are wanted: minute, hour, day of month, month, day of week"
-        }
+        ScheduleCause::Fields => "not 5 fields",
         ScheduleCause::Syntax => "none of the forms *, N, A-B, */S, N/S and A-B/S",
         ScheduleCause::Range => numbers(field),
         ScheduleCause::Order => "a range that ends before it begins",
@@ -60,12 +58,9 @@ fn count_words(alloc: Global, text: &str) -> Result<String, AllocError>
     ensures { IfOk result (λ s. string_bytes s ≡ count_words text.now) }
 {
     let count = field_count(text);
-    let wanted = if count == 1 {
-        " field, 5 are wanted: minute, hour, day of month, month, day of week"
-    } else {
-        " fields, 5 are wanted: minute, hour, day of month, month, day of week"
-    };
-    format!(in alloc; "{count}{wanted}")
+    format!(in alloc;
+        "{count} fields, 5 are wanted: minute, hour, day of month, month, day of week"
+    )
 }
 
 // What is wrong with an element, which is shown.
@@ -79,8 +74,7 @@ fn element_words(alloc: Global, text: &str, fault: ScheduleFault) -> Result<Stri
     format!(in alloc; "field {field} ({title}), byte {byte}: '{shown}' is {words}")
 }
 
-/// What is wrong with the text of a schedule.
-pub(crate) fn words(alloc: Global, text: &str, fault: ScheduleFault) -> Result<String, AllocError>
+fn words(alloc: Global, text: &str, fault: ScheduleFault) -> Result<String, AllocError>
     ensures { IfOk result (λ s. IsWords text.now fault (string_bytes s)) }
 {
     match fault.cause {

@@ -12,6 +12,3 @@ pub mod Fullest
 pub mod Said
 pub mod Naming
 pub mod OfCron
-pub mod NamedLines
-pub mod TimesLemmas
-pub mod Idle

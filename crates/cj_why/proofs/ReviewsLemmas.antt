@@ -1,4 +1,3 @@
 pub mod Leads
 pub mod Moved
 pub mod Rows
-pub mod Values

@@ -1,8 +1,6 @@
 // What the next sync of each CronJob of a cluster does, and what it missed.
-mod cron_json;
 mod lacking;
 mod otherwise;
-mod plan_json;
 mod reviewing;
 mod rows;
 mod seen;
@@ -13,8 +11,6 @@ mod verdict;
 mod words;
 mod zone_for;
 
-pub use cron_json::cron_values;
-pub use plan_json::plan_value;
 pub use reviewing::{Reviewed, review};
 pub use rows::{CronRow, cron_rows, problems};
 pub use seen::{found, listed};

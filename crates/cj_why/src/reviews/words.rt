@@ -80,8 +80,7 @@ fn titled(alloc: Global, cron: &CronJob, why: &str, otherwise: &str) -> Result<S
     Ok(text)
 }
 
-/// Why the CronJob starts a Job at this moment, or why not, and what Kubernetes' own controller does otherwise.
-pub(crate) fn cron_words(
+fn cron_words(
     alloc: Global,
     zones: &ZoneTable,
     cluster: &Cluster,

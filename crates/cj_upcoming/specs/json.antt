@@ -1,4 +1,0 @@
-pub mod Changes
-pub mod Coming
-pub mod Minutes
-pub mod Standings
