@@ -1,24 +1,29 @@
 /*
- * libcronsim: due times of crontab schedules, as a Kubernetes CronJob has them, in any zone. What is found is proved:
- * the next due time is the least one, the previous one the greatest, and "none" is answered only where there is none.
+ * libcronsim: due times of crontab schedules, as a Kubernetes CronJob has them, in any zone; and of JSON what is wrong in
+ * a manifest, what the controller does with a CronJob at a moment, and what is wrong in a cluster. What is answered is
+ * proved: the next due time is the least one, the previous one the greatest, "none" is answered only where there is none,
+ * a manifest's faults are all of them, a plan is the one of its scenario, and an audit finds exactly what is wrong.
  *
  * Times are whole seconds since 1970-01-01T00:00:00Z, up to 253370764799, the last second of the year 9998.
  *
  * Texts are bytes with their length. They need no zero at the end, are read during the call alone, and may be of any
- * content: what is no schedule, no rule, no zone file or no UTF-8 is refused. The pointer isn't NULL, also where the
- * length is 0, and there are as many bytes as the length says, or the length is greater than the most that a call
- * takes, and at most PTRDIFF_MAX: then it is refused before a byte is read.
+ * content: what is no schedule, no rule, no zone file, no UTF-8 or no JSON of its form is refused. The pointer isn't NULL,
+ * also where the length is 0, and there are as many bytes as the length says; or, of a schedule, a rule and a zone file,
+ * the length is greater than the most that a call takes, and at most PTRDIFF_MAX: then it is refused before a byte is read.
  *
- * What a call writes to is initialised before it (a bool to false), and stays as it is unless the call is done; a fault
- * is written only where CRONSIM_REFUSED is answered. No two pointers of a call overlap, and none is NULL.
+ * What a call writes to is initialised before it (a bool to false, a buffer to any bytes), and stays as it is unless the
+ * call is done; where CRONSIM_REFUSED is answered the fault alone is written, or the answer in JSON as below. No two
+ * pointers of a call overlap, and none is NULL.
  *
- * Memory comes from malloc, realloc and free; the calls that open ask for it, and no other. A call that finds none
- * answers CRONSIM_MEMORY and leaves all as it was. But for what these three do, no call prints, waits, locks, starts a
- * thread, sets errno or ends the process, and none keeps a pointer that it is given.
+ * Memory comes from malloc, realloc and free; the calls that open, and those that answer with JSON, ask for it, and no
+ * other; the latter have given all of it back when they return. A call that finds none answers CRONSIM_MEMORY and leaves
+ * all as it was. But for what these three do, no call prints, waits, locks, starts a thread, sets errno or ends the
+ * process, and none keeps a pointer that it is given.
  *
- * Threads: calls on different handles may run at the same time. A handle is given to one call at a time, also to one
- * that only looks for times, and may go from one thread to another where the caller orders that, by a lock or a join.
- * No call is made from a signal handler, nor from the forked child of a process that has threads.
+ * Threads: calls on different handles may run at the same time, and so may calls that take none. A handle is given to
+ * one call at a time, also to one that only looks for times, and may go from one thread to another where the caller orders
+ * that, by a lock or a join. No call is made from a signal handler, nor from the forked child of a process that has
+ * threads. No call was seen to take more than 81 KiB of its thread's stack, also of JSON that nests as deep as it may.
  */
 #ifndef CRONSIM_H
 #define CRONSIM_H
@@ -35,10 +40,11 @@ extern "C" {
 enum {
     CRONSIM_DONE = 0,    /* done */
     CRONSIM_NONE = 1,    /* there is no such time */
-    CRONSIM_REFUSED = 2, /* the schedule or the zone is refused, as the fault says */
+    CRONSIM_REFUSED = 2, /* a text is refused, as the fault or the answer says */
     CRONSIM_MEMORY = 3,  /* memory was asked for and refused */
     CRONSIM_RANGE = 4,   /* a time is after the year 9998 */
-    CRONSIM_CLOSED = 5   /* nothing is kept behind the handle */
+    CRONSIM_CLOSED = 5,  /* nothing is kept behind the handle */
+    CRONSIM_ROOM = 6     /* the buffer has no room for the answer, whose length is told */
 };
 
 /* Why a text is refused: the member `cause` of a fault. */
@@ -112,6 +118,55 @@ uint32_t cronsim_missed(cronsim_cron *cron, uint64_t after, uint64_t until, cron
 
 /* Whether the zone's clock shows a minute that the schedule allows. CRONSIM_DONE; CRONSIM_RANGE; CRONSIM_CLOSED. */
 uint32_t cronsim_matches(cronsim_cron *cron, uint64_t at, bool *is_match);
+
+/*
+ * The three calls below answer with one JSON value (RFC 8259), in UTF-8, on one line, with no byte after it. It goes to the
+ * beginning of a buffer of the caller's, and its length in bytes to `length`; the rest of the buffer stays as it is. Where
+ * the buffer of `capacity` bytes is too small, CRONSIM_ROOM is answered, the buffer stays as it is, and `length` has the
+ * length that is wanted: the same call with so much room is answered in full. A capacity of 0 asks for that alone. Nothing
+ * is kept from one call to the next.
+ *
+ * Where a text is refused, CRONSIM_REFUSED is answered, and the JSON is a list of the faults, each with its `field` and its
+ * `cause`, as [{"cause":"Range","field":"spec.startingDeadlineSeconds"}]. The field is a path, or `$` for the whole text;
+ * the causes are Required, Type, NotSupported, Fraction, TooLong, Format, Range, Zone, NotAllowed, and `Schedule FIELD BYTE
+ * CAUSE` with the numbers of a fault above and the cause's name. Of a text as a whole there are two more: Syntax, it is no
+ * JSON in UTF-8, or nests more than 127 deep; and Form, it is JSON of another form.
+ *
+ * `zones` is a JSON object from the names of zones to POSIX rules, as {"Europe/Berlin":"CET-1CEST,M3.5.0,M10.5.0/3"}, or no
+ * byte, where only UTC and Etc/UTC are known. It is looked at first; its faults have the field `zones`, and the cause Syntax
+ * or Zone.
+ */
+
+/*
+ * Checks the manifest of a CronJob or a Job. CRONSIM_DONE, with an object: its `kind`, `namespace` and `name`, and in
+ * `warnings` the paths of the members that are dropped; CRONSIM_REFUSED, with all its faults; CRONSIM_ROOM; CRONSIM_MEMORY.
+ */
+uint32_t cronsim_check(const uint8_t *manifest, size_t manifest_length, const uint8_t *zones, size_t zones_length,
+                       uint8_t *answer, size_t capacity, size_t *length);
+
+/*
+ * What a sync of the controller does with a CronJob at the moment `now`. The scenario is a JSON object: in `manifest` the
+ * CronJob's, in `created` the time of its creation, in `last` its last schedule time, in `jobs` a list of objects with a
+ * `time` and an `outcome` (Running, Complete or Failed), in `zones` an object as above; the last three may be absent. Times
+ * in it are texts like 2024-01-01T00:00:00Z.
+ * CRONSIM_DONE, with the plan, as `cronsim plan -o json` prints it: an object with `claim`, the time that is claimed, or
+ * null; `drop`, the Jobs deleted before the new one; `make`, the name of that one, or null; `clean`, the finished Jobs
+ * deleted after it; `reasons`, why none is made; `status`, the status that is written at the end, or null; and `next`, when
+ * to look again, or null. CRONSIM_REFUSED, with one fault, the first one of a manifest; CRONSIM_RANGE; CRONSIM_ROOM;
+ * CRONSIM_MEMORY.
+ */
+uint32_t cronsim_plan(const uint8_t *scenario, size_t scenario_length, uint64_t now, uint8_t *answer, size_t capacity,
+                      size_t *length);
+
+/*
+ * What is wrong in a cluster, by what `kubectl get cronjobs,jobs -A -o json` prints of it. CRONSIM_DONE, also where much is
+ * wrong, with what `cronsim audit -o json` prints: an object with `cronJobs` and `jobs`, how many were looked at;
+ * `findings`, each with its `finding` (twice, beside, undue, early or stray), the `namespace` and `name` of the CronJob, the
+ * `time`, and the names of the `jobs`; `manual`, the Jobs made by hand; and in `refused` and `others` the items of the list
+ * that can't be used. CRONSIM_REFUSED, where it is no list; CRONSIM_ROOM; CRONSIM_MEMORY.
+ */
+uint32_t cronsim_audit(const uint8_t *list, size_t list_length, const uint8_t *zones, size_t zones_length,
+                       uint8_t *answer, size_t capacity, size_t *length);
 
 #ifdef __cplusplus
 }

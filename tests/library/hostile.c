@@ -96,6 +96,95 @@ static void ranges(void) {
     cronsim_close(&cron);
 }
 
+static const char manifest[] =
+    "{\"apiVersion\":\"batch/v1\",\"kind\":\"CronJob\",\"metadata\":{\"name\":\"hello\"},\"spec\":{\"schedule\":\"30 2 * * *\","
+    "\"timeZone\":\"Europe/Berlin\",\"jobTemplate\":{\"spec\":{\"template\":{\"spec\":{\"restartPolicy\":\"Never\"}}}}}}";
+static const char zones[] = "{\"Europe/Berlin\":\"CET-1CEST,M3.5.0,M10.5.0/3\"}";
+static const char sound[] = "{\"kind\":\"CronJob\",\"name\":\"hello\",\"namespace\":\"default\",\"warnings\":[]}";
+static const char no_zone[] = "[{\"cause\":\"Zone\",\"field\":\"spec.timeZone\"}]";
+static const char no_json[] = "[{\"cause\":\"Syntax\",\"field\":\"$\"}]";
+static const char no_form[] = "[{\"cause\":\"Form\",\"field\":\"$\"}]";
+static const char plan[] =
+    "{\"claim\":null,\"clean\":[],\"drop\":[],\"make\":null,\"next\":\"2024-01-01T01:30:00Z\",\"reasons\":[],\"status\":null}";
+static const char empty_audit[] =
+    "{\"cronJobs\":0,\"findings\":[],\"jobs\":0,\"manual\":[],\"others\":[{\"item\":1,\"kind\":\"Pod\"}],\"refused\":[]}";
+static char scenario[1024];
+
+enum call { CHECK, PLAN, AUDIT };
+
+// Makes one of the calls that answer with JSON; the zones, or none, and of a plan the moment 2024-01-01T00:00:00Z.
+static uint32_t told(enum call call, const char *bytes, size_t length, const char *by, uint8_t *answer, size_t room, size_t *size) {
+    if (call == PLAN) return cronsim_plan(text(bytes), length, 1704067200, answer, room, size);
+    return (call == CHECK ? cronsim_check : cronsim_audit)(text(bytes), length, text(by), strlen(by), answer, room, size);
+}
+
+// The answer is this one; nothing is written without room for it, nor behind it.
+static void want_told(const char *what, enum call call, const char *bytes, size_t length, const char *by, uint32_t status,
+                      const char *answer) {
+    uint8_t buffer[1024];
+    size_t wanted = strlen(answer);
+    for (size_t room = 0; room <= wanted + 1; room += room + 1 < wanted ? wanted - 1 : 1) {
+        size_t size = 0;
+        memset(buffer, 7, sizeof buffer);
+        want(what, told(call, bytes, length, by, buffer, room, &size), room < wanted ? CRONSIM_ROOM : status);
+        want(what, size, wanted);
+        size_t written = room < wanted ? 0 : wanted;
+        want(what, memcmp(buffer, answer, written), 0);
+        for (size_t at = written; at < sizeof buffer; at++) want(what, buffer[at], 7);
+    }
+}
+
+// Texts of no byte, of bytes that aren't UTF-8, of other forms and too deep.
+static void texts(void) {
+    static char deep[400];
+    memset(deep, '[', 200);
+    memset(deep + 200, ']', 200);
+    for (enum call call = CHECK; call <= AUDIT; call++) {
+        want_told("no bytes", call, "", 0, "", CRONSIM_REFUSED, no_json);
+        want_told("no UTF-8", call, "\"\xff\"", 3, "", CRONSIM_REFUSED, no_json);
+        want_told("a zero byte", call, "\0", 1, "", CRONSIM_REFUSED, no_json);
+        want_told("too deep", call, deep, sizeof deep, "", CRONSIM_REFUSED, no_json);
+        want_told("half of it", call, manifest, sizeof manifest / 2, "", CRONSIM_REFUSED, no_json);
+        if (call != CHECK) want_told("a number", call, "1", 1, "", CRONSIM_REFUSED, no_form);
+        if (call == PLAN) continue;
+        want_told("zones, no UTF-8", call, manifest, sizeof manifest - 1, "\xff", CRONSIM_REFUSED, "[{\"cause\":\"Syntax\",\"field\":\"zones\"}]");
+        want_told("zones, a list", call, manifest, sizeof manifest - 1, "[]", CRONSIM_REFUSED, "[{\"cause\":\"Zone\",\"field\":\"zones\"}]");
+        want_told("a second UTC", call, "", 0, "{\"UTC\":\"UTC0\"}", CRONSIM_REFUSED, "[{\"cause\":\"Zone\",\"field\":\"zones\"}]");
+    }
+    want_told("a number", CHECK, "1", 1, "", CRONSIM_REFUSED, "[{\"cause\":\"Type\",\"field\":\"$\"}]");
+    want_told("a manifest", CHECK, manifest, sizeof manifest - 1, zones, CRONSIM_DONE, sound);
+    want_told("a zone that isn't known", CHECK, manifest, sizeof manifest - 1, "", CRONSIM_REFUSED, no_zone);
+    want_told("a scenario", PLAN, scenario, strlen(scenario), "", CRONSIM_DONE, plan);
+    const char *pods = "{\"kind\":\"List\",\"items\":[{\"kind\":\"Pod\"}]}";
+    want_told("a Pod", AUDIT, pods, strlen(pods), zones, CRONSIM_DONE, empty_audit);
+    uint8_t answer[8] = {7};
+    size_t size = 9;
+    want("past the end", cronsim_plan(text(scenario), strlen(scenario), 253370764800u, answer, 8, &size), CRONSIM_RANGE);
+    want("UINT64_MAX", cronsim_plan(text(""), 0, UINT64_MAX, answer, 8, &size), CRONSIM_RANGE);
+    want("nothing written", size == 9 && answer[0] == 7, 1);
+}
+
+// One of those calls with the request for memory of this number refused; tells whether one was.
+static bool tells(int number_of_call) {
+    static const struct {
+        enum call call;
+        const char *bytes, *by;
+        uint32_t status;
+    } all[] = {{CHECK, manifest, zones, CRONSIM_DONE}, {CHECK, manifest, "", CRONSIM_REFUSED}, {CHECK, "{", zones, CRONSIM_REFUSED},
+               {CHECK, "{}", "[]", CRONSIM_REFUSED}, {PLAN, scenario, "", CRONSIM_DONE}, {PLAN, "{}", "", CRONSIM_REFUSED},
+               {AUDIT, manifest, zones, CRONSIM_DONE}, {AUDIT, "1", zones, CRONSIM_REFUSED}};
+    uint8_t answer[1024];
+    size_t size = 9;
+    memset(answer, 7, sizeof answer);
+    asked = 0;
+    const char *bytes = all[number_of_call].bytes;
+    uint32_t status = told(all[number_of_call].call, bytes, strlen(bytes), all[number_of_call].by, answer, sizeof answer, &size);
+    bool was_refused = asked >= refused_one;
+    want("told", status, was_refused ? CRONSIM_MEMORY : all[number_of_call].status);
+    if (was_refused) want("nothing written", size == 9 && answer[0] == 7 && memcmp(answer, answer + 1, sizeof answer - 1) == 0, 1);
+    return was_refused;
+}
+
 // Opens handles of its own, each for another hour, and looks through three days of each: what a thread does.
 static void *alone(void *first) {
     const uint64_t day = 86400;
@@ -111,6 +200,7 @@ static void *alone(void *first) {
             want("due in a thread", due, (days + (hour == 0)) * day + hour * 3600);
         }
         cronsim_close(&cron);
+        if (turn % 60 == 0) want_told("told in a thread", PLAN, scenario, strlen(scenario), "", CRONSIM_DONE, plan);
     }
     return NULL;
 }
@@ -158,15 +248,19 @@ int main(int count, char **words) {
         file_length = fread(file, 1, sizeof file, input);
         fclose(input);
     }
+    snprintf(scenario, sizeof scenario, "{\"manifest\":%s,\"created\":\"2024-01-01T00:00:00Z\",\"zones\":%s}", manifest, zones);
     closed();
     lengths();
     ranges();
+    texts();
     threads();
     long refusals = 0;
     for (int call = 0; call < 4; call++) {
         if (call == 2 && !file_length) continue;
         for (refused_one = 1; opens(call, file, file_length); refused_one++) refusals++;
     }
+    for (int call = 0; call < 8; call++)
+        for (refused_one = 1; tells(call); refused_one++) refusals++;
     printf("library: hostile: each answer as stated, with %ld requests for memory refused\n", refusals);
     return refusals ? 0 : 1;
 }

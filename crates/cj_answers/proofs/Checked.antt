@@ -1,5 +1,5 @@
 -- A manifest without a fault.
-use Rattle.std.proofs.Common.{◌≡◌, ◌∙◌, ap, inr, rules, ℕ, List, ◌++◌, length}
+use Rattle.std.proofs.Common.{◌≡◌, ◌∙◌, ap, inr, rules, ℕ, List, ◌++◌, Bool}
 use Rattle.std.specs.Prelude.{Result, Ok, Err, IfOk}
 use Rattle.cj_args.specs.declared.request.CheckRequest.{CheckRequest}
 use Rattle.cj_io.specs.declared.failure.Failure.{Failure}
@@ -13,17 +13,17 @@ use Rattle.cj_answers.specs.Check.{IsChecked, ended, fine_ending, ok_line, pod_w
 use Rattle.cj_answers.specs.Outcome.{Outcome, explained, outcome_of}
 
 -- what is answered then
-abbrev pub answered : CheckRequest → Manifest → List ℕ → List (List ℕ) → Outcome
-answered r m words ws = explained r.explain (dropped_words_all ws ++ (words ++ pod_words (length r.files.items)))
+abbrev pub answered : CheckRequest → Bool → Manifest → List ℕ → List (List ℕ) → Outcome
+answered r alone m words ws = explained r.explain (dropped_words_all ws ++ (words ++ pod_words alone))
     (ended (fine_ending r.strict ws) (ok_line (kind_of m) (key_of m) ++ warning_lines ws))
 
 -- closes what is answered of a manifest that reads without a fault
-pub fine_checked : (q : CheckRequest) (zones : List Zone) (bytes : List ℕ) (m : Manifest) (words text : List ℕ)
+pub fine_checked : (q : CheckRequest) (alone : Bool) (zones : List Zone) (bytes : List ℕ) (m : Manifest) (words text : List ℕ)
     (slice ws : List (List ℕ)) (r : Result Answer Failure) → slice ≡ ws → text ≡ words → IsAdvice m zones words
     → IsReading Manifest (manifest_faults zones) manifest_draft manifest_warnings bytes m ws
-    → IfOk r (λ a. outcome_of a ≡ answered q m text slice)
-    → IfOk r (λ a. IsChecked q zones bytes (outcome_of a))
-fine_checked q zones bytes m words text slice ws (Ok a) e l advice read is =
-    let answer = is ∙ (ap (answered q m text) e ∙ ap (λ x. answered q m x ws) l) in
+    → IfOk r (λ a. outcome_of a ≡ answered q alone m text slice)
+    → IfOk r (λ a. IsChecked q alone zones bytes (outcome_of a))
+fine_checked q alone zones bytes m words text slice ws (Ok a) e l advice read is =
+    let answer = is ∙ (ap (answered q alone m text) e ∙ ap (λ x. answered q alone m x ws) l) in
     inr (inr (record { manifest = m; warnings = ws; reading = read; words = words; advice = advice; answer = answer }))
-fine_checked q zones bytes m words text slice ws (Err f) e l advice read is = search rules
+fine_checked q alone zones bytes m words text slice ws (Err f) e l advice read is = search rules

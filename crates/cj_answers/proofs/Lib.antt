@@ -1,3 +1,4 @@
+pub mod AskedForms
 pub mod Checked
 pub mod Comes
 pub mod FilesLemmas
@@ -5,6 +6,10 @@ pub mod LineMarks
 pub mod Nearness
 pub mod NextLemmas
 pub mod Ruled
+pub mod NextTimes
 pub mod Scenes
 pub mod TimeLemmas
 pub mod Zones
+pub mod ItemAnswers
+pub mod ItemData
+pub mod SeenItems

@@ -14,9 +14,9 @@ use Rattle.cj_answers.specs.Plan.{IsPlannedFor, IsSceneRefusal}
 -- fault is why the bytes are refused under the zones that are given; explain says whether words for people are asked for.
 module _ (explain : Bool) (given : GivenZones) (bytes : List ℕ) (fault : SceneFault) where
   -- of `plan`: closes what a scenario is answered
-  pub scenario_refused : (now : ℕ) (r : Result Answer Failure) → IsRefusedScene given bytes fault
+  pub scenario_refused : (json : Bool) (now : ℕ) (r : Result Answer Failure) → IsRefusedScene given bytes fault
       → IfOk r (λ _. fault ≢ Why.Memory)
       → IfOk r (λ a. IsSceneRefusal explain A.Scenario bytes fault (outcome_of a))
-      → IfOk r (λ a. IsPlannedFor explain given bytes now (outcome_of a))
-  scenario_refused now (Ok a) why told is = inl (record { fault = fault; refused = why; told = told; says = is })
-  scenario_refused now (Err e) why told is = search rules
+      → IfOk r (λ a. IsPlannedFor explain json given bytes now (outcome_of a))
+  scenario_refused json now (Ok a) why told is = inl (record { fault = fault; refused = why; told = told; says = is })
+  scenario_refused json now (Err e) why told is = search rules

@@ -4,7 +4,6 @@ use Rattle.std.specs.FinMap as map
 use Rattle.cj_zone.specs.declared.zone.Zone.{Zone}
 use Rattle.cj_audit.specs.declared.finding.Finding.{Finding}
 use Rattle.cj_audit.specs.Findings.{IsAudit}
-use Rattle.cj_audit.specs.Lines.{audit_lines}
 use Rattle.cj_audit.specs.Manual.{manual_lines}
 use Rattle.cj_audit.specs.Words.{audit_words}
 use Rattle.cj_cluster.specs.kubectl.Reading.{IsClusterList}
@@ -12,9 +11,11 @@ use Rattle.cj_cluster.specs.declared.kubectl.list.ClusterList.{ClusterList}
 use Rattle.cj_args.specs.declared.request.AuditRequest.{AuditRequest}
 use Rattle.cj_io.specs.declared.zone_files.file.ZoneFile.{ZoneFile}
 use Rattle.cj_answers.specs.declared.answer.Ending.{Ending}
-use Rattle.cj_answers.specs.Clusters.{RefusesList, ending_by, is_read, note_lines, note_words}
+use Rattle.cj_answers.specs.Clusters.{RefusesList, ending_by, is_read, note_words}
 use Rattle.cj_answers.specs.Given.{AreGiven, IsNoneGiven, pair_words}
-use Rattle.cj_answers.specs.Outcome.{Outcome, explained, refusal}
+use Rattle.cj_answers.specs.Outcome.{IsInForm, Outcome, RefusesForm, explained, refusal}
+use Rattle.cj_answers.specs.as_json.Audit.{IsAuditShown}
+use Rattle.cj_answers.specs.as_json.Forms.{is_json}
 
 abbrev pub is_clean : List Finding → Bool
 is_clean [] = true
@@ -25,16 +26,9 @@ is_clean (f ∷ fs) = false
 abbrev pub ending_of : ClusterList → List Finding → Ending
 ending_of list findings = ending_by (is_clean findings && is_read list.notes)
 
--- the items that can't be used, the Jobs that somebody made by hand, then the findings and how many there are
--- rules: audit-lines, audit-manual
-abbrev pub audited : ClusterList → List Finding → Outcome
-audited list findings = record {
-  ending = ending_of list findings;
-  printed = note_lines list.notes
-      ++ (manual_lines list.cluster.times (map.values list.cluster.jobs)
-      ++ audit_lines (length (map.values list.cluster.crons)) (length (map.values list.cluster.jobs)) findings);
-  said = [];
-}
+-- what is printed of the findings
+abbrev pub audited : ClusterList → List Finding → List ℕ → Outcome
+audited list findings printed = record { ending = ending_of list findings; printed = printed; said = [] }
 
 -- what a line of a Job made by hand means, where there is one
 -- rule: audit-explained
@@ -49,17 +43,19 @@ words_of list findings =
     note_words list.notes
     ++ (manual_words (manual_lines list.cluster.times (map.values list.cluster.jobs)) ++ audit_words findings)
 
--- of a list that was read
-pub record AuditsList (explain : Bool) (zones : List Zone) (bytes : List ℕ) (o : Outcome) : Type 0 where
+-- of a list that was read, in a picture or else as JSON or in lines
+pub record AuditsList (explain svg json : Bool) (zones : List Zone) (bytes : List ℕ) (o : Outcome) : Type 0 where
   pub list : ClusterList
   pub read : IsClusterList zones bytes list
   pub findings : List Finding
   pub found : IsAudit zones list.cluster list.notes findings
-  pub answer : o ≡ explained explain (words_of list findings) (audited list findings)
+  pub printed : List ℕ
+  pub prints : IsAuditShown svg json list findings printed
+  pub answer : o ≡ explained explain (words_of list findings) (audited list findings printed)
 
 -- what the bytes of a list are answered
-abbrev pub IsAuditedOf : Bool → List Zone → List ℕ → Outcome → Type 0
-IsAuditedOf explain zones bytes o = RefusesList explain bytes o ⊎ AuditsList explain zones bytes o
+abbrev pub IsAuditedOf : Bool → Bool → Bool → List Zone → List ℕ → Outcome → Type 0
+IsAuditedOf explain svg json zones bytes o = RefusesList explain bytes o ⊎ AuditsList explain svg json zones bytes o
 
 -- a zone is refused first, and nothing is read then
 pub record RefusesAuditZone (r : AuditRequest) (files : List ZoneFile) (o : Outcome) : Type 0 where
@@ -73,9 +69,14 @@ pub record AuditsInput (r : AuditRequest) (files : List ZoneFile) (input : Optio
   pub bytes : List ℕ
   pub bytes_are : IfSome input (λ xs. bytes ≡ xs)
   pub fits : length bytes ≤ 268_435_456
-  pub audited_is : IsAuditedOf r.explain zones bytes o
+  pub audited_is : IsAuditedOf r.explain r.svg (is_json r.output.now) zones bytes o
 
--- what `audit` answers, where the input is known
--- rule: audit-lines
+-- what `audit` answers in a form that there is, where the input is known
+-- rules: audit-json, audit-lines
+abbrev pub IsAuditAnswer : AuditRequest → List ZoneFile → Option (List ℕ) → Outcome → Type 0
+IsAuditAnswer r files input o = RefusesAuditZone r files o ⊎ AuditsInput r files input o
+
+-- the form is looked at first
 abbrev pub IsAuditOutcome : AuditRequest → List ZoneFile → Option (List ℕ) → Outcome → Type 0
-IsAuditOutcome r files input o = RefusesAuditZone r files o ⊎ AuditsInput r files input o
+IsAuditOutcome r files input o =
+    RefusesForm r.explain r.output.now o ⊎ IsInForm r.output.now (IsAuditAnswer r files input o)

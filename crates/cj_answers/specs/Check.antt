@@ -1,5 +1,5 @@
 -- What `check` answers of a manifest.
-use Rattle.std.specs.Prelude.{◌≡◌, ◌⊎◌, ℕ, ◌≤◌, ◌==◌, nat_lt, ◌&&◌, if◌then◌else◌, List, [], ◌∷◌, ◌++◌, length, Option, IfSome, Bool, codes, decimal}
+use Rattle.std.specs.Prelude.{◌≡◌, ◌⊎◌, ℕ, ◌==◌, nat_lt, ◌&&◌, if◌then◌else◌, List, [], ◌∷◌, ◌++◌, length, Bool, true, false, codes, decimal}
 use Rattle.cj_base.specs.declared.cause.Cause.{Cause}
 use Rattle.cj_base.specs.declared.cause.Cause.TheVariants as Why
 use Rattle.cj_base.specs.declared.faults.FieldFault.{FieldFault}
@@ -17,12 +17,9 @@ use Rattle.cj_answers.specs.declared.answer.Ending.TheVariants.{Done, Refused}
 use Rattle.cj_args.specs.declared.request.CheckRequest.{CheckRequest}
 use Rattle.cj_scenario.specs.declared.detection.form.Form.TheVariants as A
 use Rattle.cj_scenario.specs.detection.Detections.{IsDetection}
-use Rattle.cj_explain.specs.Faults.{faults_words}
-use Rattle.cj_answers.specs.FieldCount.{IsCounted}
+use Rattle.cj_answers.specs.FaultWords.{AreFaultWords}
 use Rattle.cj_answers.specs.Json.{IsJsonWords, yaml_words}
 use Rattle.cj_answers.specs.Advice.{IsAdvice, dropped_words_all}
-use Rattle.cj_io.specs.declared.zone_files.file.ZoneFile.{ZoneFile}
-use Rattle.cj_answers.specs.Given.{AreGiven, IsNoneGiven, pair_words}
 use Rattle.cj_answers.specs.Outcome.{Outcome, explained, refusal}
 
 -- ---- lines
@@ -71,12 +68,15 @@ ok_line kind key = codes "ok " ++ (kind ++ (codes " " ++ (key.namespace ++ (code
 abbrev pub fine_ending : Bool → List (List ℕ) → Ending
 fine_ending strict warnings = if strict && nat_lt 0 (length warnings) then Refused else Done
 
--- what isn't looked at, where one file alone is checked
+-- one file alone is checked
+abbrev pub is_alone : CheckRequest → Bool
+is_alone r = length r.files.items == 1
+
+-- what isn't looked at, where one manifest alone is checked
 -- rule: explain-pod
-abbrev pub pod_words : ℕ → List ℕ
-pod_words files =
-    if files == 1 then codes "FILE: of the Pod only its restartPolicy was looked at; kubectl apply --dry-run=server -f FILE checks the rest\n"
-    else []
+abbrev pub pod_words : Bool → List ℕ
+pod_words true = codes "FILE: of the Pod only its restartPolicy was looked at; kubectl apply --dry-run=server -f FILE checks the rest\n"
+pod_words false = []
 
 -- printed, with an ending and nothing on standard error
 abbrev pub ended : Ending → List ℕ → Outcome
@@ -87,61 +87,37 @@ abbrev pub faulty : List ℕ → Outcome
 faulty lines = record { ending = Refused; printed = lines; said = [] }
 
 -- the line of bytes that are no JSON, and where they aren't
-pub record IsNoJson (explain : Bool) (o : Outcome) : Type 0 where
+pub record IsNoJson (explain : Bool) (bytes : List ℕ) (o : Outcome) : Type 0 where
   pub words : List ℕ
-  pub place : IsJsonWords words
-  pub answer : o ≡ explained explain (words ++ yaml_words) (faulty (codes "refused 1 Syntax\n"))
+  pub place : IsJsonWords bytes words
+  pub answer : o ≡ explained explain (words ++ yaml_words bytes) (faulty (codes "refused 1 Syntax\n"))
 
 -- the bytes are no JSON
 pub record IsNoManifest (explain : Bool) (zones : List Zone) (bytes : List ℕ) (o : Outcome) : Type 0 where
   pub refused : IsRefused (manifest_faults zones) bytes Syntax
-  pub says : IsNoJson explain o
+  pub says : IsNoJson explain bytes o
 
--- how many fields a schedule has, where it hasn't five, and what the text is, where it is no manifest
-pub record IsBesideFaults (bytes words : List ℕ) : Type 0 where
-  pub counted : List ℕ
-  pub counts : IsCounted bytes counted
-  pub seen : List ℕ
-  pub looked : IsDetection A.Manifest bytes seen
-  pub are : words ≡ counted ++ seen
-
--- every fault is named; people are told what the text is, where it is no manifest
+-- every fault is named; people are told of each, and what the text is, where it is no manifest
 pub record IsFaulty (explain : Bool) (zones : List Zone) (bytes : List ℕ) (o : Outcome) : Type 0 where
   pub faults : List FieldFault
   pub refused : IsRefused (manifest_faults zones) bytes (Invalid faults)
+  pub words : List ℕ
+  pub told : AreFaultWords bytes faults words
   pub beside : List ℕ
-  pub told : IsBesideFaults bytes beside
-  pub answer : o ≡ explained explain (faults_words faults ++ beside) (faulty (fault_lines faults))
+  pub seen : IsDetection A.Manifest bytes beside
+  pub answer : o ≡ explained explain (words ++ beside) (faulty (fault_lines faults))
 
 -- there is none, and every member that is dropped is named; people are told what is worth a look
-pub record IsFine (r : CheckRequest) (zones : List Zone) (bytes : List ℕ) (o : Outcome) : Type 0 where
+pub record IsFine (r : CheckRequest) (alone : Bool) (zones : List Zone) (bytes : List ℕ) (o : Outcome) : Type 0 where
   pub manifest : Manifest
   pub warnings : List (List ℕ)
   pub reading : IsReading Manifest (manifest_faults zones) manifest_draft manifest_warnings bytes manifest warnings
   pub words : List ℕ
   pub advice : IsAdvice manifest zones words
-  pub answer : o ≡ explained r.explain (dropped_words_all warnings ++ (words ++ pod_words (length r.files.items)))
+  pub answer : o ≡ explained r.explain (dropped_words_all warnings ++ (words ++ pod_words alone))
       (ended (fine_ending r.strict warnings) (ok_line (kind_of manifest) (key_of manifest) ++ warning_lines warnings))
 
 -- what the bytes of a manifest are answered under these zones
-abbrev pub IsChecked : CheckRequest → List Zone → List ℕ → Outcome → Type 0
-IsChecked r zones bytes o = IsNoManifest r.explain zones bytes o ⊎ IsFaulty r.explain zones bytes o ⊎ IsFine r zones bytes o
-
--- a zone is refused first, and nothing is read then
-pub record RefusesNamedZone (r : CheckRequest) (files : List ZoneFile) (o : Outcome) : Type 0 where
-  pub zones : IsNoneGiven r.zones files
-  pub answer : o ≡ explained r.explain pair_words (refusal (codes "cronsim: zone\n"))
-
--- else what is read, all of the input, is checked
-pub record ChecksInput (r : CheckRequest) (files : List ZoneFile) (input : Option (List ℕ)) (o : Outcome) : Type 0 where
-  pub zones : List Zone
-  pub zones_are : AreGiven r.zones files zones
-  pub bytes : List ℕ
-  pub bytes_are : IfSome input (λ xs. bytes ≡ xs)
-  pub fits : length bytes ≤ 16_777_216
-  pub checked : IsChecked r zones bytes o
-
--- what `check` answers of one file, where the input is known
--- rule: check-lines
-abbrev pub IsCheckOutcome : CheckRequest → List ZoneFile → Option (List ℕ) → Outcome → Type 0
-IsCheckOutcome r files input o = RefusesNamedZone r files o ⊎ ChecksInput r files input o
+abbrev pub IsChecked : CheckRequest → Bool → List Zone → List ℕ → Outcome → Type 0
+IsChecked r alone zones bytes o =
+    IsNoManifest r.explain zones bytes o ⊎ IsFaulty r.explain zones bytes o ⊎ IsFine r alone zones bytes o

@@ -4,6 +4,8 @@ use Rattle.std.specs.List.{list_all}
 use Rattle.cj_base.specs.declared.faults.FieldFault.{FieldFault}
 use Rattle.cj_explain.specs.Faults.{fault_words}
 use Rattle.cj_cluster.specs.declared.kubectl.notes.ItemNote.{ItemNote}
+use Rattle.cj_cluster.specs.declared.kubectl.notes.ListedKind.{ListedKind}
+use Rattle.cj_cluster.specs.declared.kubectl.notes.ListedKind.TheVariants as Of
 use Rattle.cj_cluster.specs.declared.kubectl.notes.Said.{Said}
 use Rattle.cj_cluster.specs.declared.kubectl.notes.Said.TheVariants as Was
 use Rattle.cj_cluster.specs.declared.kubectl.fault.ListFault.{ListFault}
@@ -26,10 +28,21 @@ abbrev pub item_fault_lines : ℕ → List FieldFault → List ℕ
 item_fault_lines n [] = []
 item_fault_lines n (f ∷ fs) = (item_prefix n ++ fault_line f) ++ item_fault_lines n fs
 
--- `item N kind KIND` of an object that is neither a CronJob nor a Job
+abbrev pub kind_name : ListedKind → List ℕ
+kind_name Of.Cron = codes "CronJob"
+kind_name Of.Run = codes "Job"
+
+-- `duplicate KIND NAMESPACE/NAME`
+abbrev pub taken_line : ListedKind → List ℕ → List ℕ
+taken_line kind key = codes "duplicate " ++ (kind_name kind ++ (codes " " ++ (key ++ codes "\n")))
+
+-- `item N kind KIND` of an object that is neither a CronJob nor a Job, `item N duplicate KIND NAMESPACE/NAME` of one
+-- whose name an earlier one has
+-- rule: cluster-faults
 abbrev pub said_lines : ℕ → Said → List ℕ
 said_lines n (Was.Kind kind) = item_prefix n ++ (codes "kind " ++ (kind ++ codes "\n"))
 said_lines n (Was.Refused faults) = item_fault_lines n faults
+said_lines n (Was.Taken kind key) = item_prefix n ++ taken_line kind key
 
 -- of all items that can't be used, in their order
 -- rule: cluster-faults
@@ -42,9 +55,15 @@ abbrev pub item_fault_words : ℕ → List FieldFault → List ℕ
 item_fault_words n [] = []
 item_fault_words n (f ∷ fs) = (item_prefix n ++ fault_words f) ++ item_fault_words n fs
 
+-- rule: cluster-explained
+abbrev pub taken_words : ListedKind → List ℕ → List ℕ
+taken_words kind key =
+    codes "duplicate: two " ++ (kind_name kind ++ (codes "s are named " ++ (key ++ codes "; the first one is read\n")))
+
 abbrev pub said_words : ℕ → Said → List ℕ
 said_words n (Was.Kind kind) = []
 said_words n (Was.Refused faults) = item_fault_words n faults
+said_words n (Was.Taken kind key) = item_prefix n ++ taken_words kind key
 
 -- rule: cluster-explained
 abbrev pub note_words : List ItemNote → List ℕ
@@ -54,6 +73,7 @@ note_words (note ∷ notes) = said_words note.place note.said ++ note_words note
 abbrev pub is_other : Said → Bool
 is_other (Was.Kind kind) = true
 is_other (Was.Refused faults) = false
+is_other (Was.Taken kind key) = false
 
 -- no item was refused
 -- rules: audit-status, why-status
@@ -75,18 +95,18 @@ list_line Why.Memory = codes "cronsim: out of memory\n"
 abbrev pub wanted_list : List ℕ
 wanted_list = codes "FILE: want what kubectl get cronjobs,jobs -o json prints, without -w: a List, or one CronJob or Job\n"
 
--- where it is no JSON, and what is wanted: `kubectl get -w` prints one object behind the other, which is none
+-- where it is no JSON, and what is wanted
 -- rule: cluster-explained
-pub record IsSyntaxWords (words : List ℕ) : Type 0 where
+pub record IsSyntaxWords (bytes words : List ℕ) : Type 0 where
   pub place : List ℕ
-  pub said : IsJsonWords place
+  pub said : IsJsonWords bytes place
   pub are : words ≡ place ++ wanted_list
 
 -- rule: cluster-explained
-abbrev pub IsListWords : ListFault → List ℕ → Type 0
-IsListWords Why.Syntax words = IsSyntaxWords words
-IsListWords Why.Form words = words ≡ wanted_list
-IsListWords Why.Memory words = words ≡ []
+abbrev pub IsListWords : List ℕ → ListFault → List ℕ → Type 0
+IsListWords bytes Why.Syntax words = IsSyntaxWords bytes words
+IsListWords bytes Why.Form words = words ≡ wanted_list
+IsListWords bytes Why.Memory words = words ≡ []
 
 -- the bytes are refused, for another cause than memory
 -- rule: cluster-list
@@ -95,5 +115,5 @@ pub record RefusesList (explain : Bool) (bytes : List ℕ) (o : Outcome) : Type 
   pub refused : IsRefusedList bytes fault
   pub told : fault ≢ Why.Memory
   pub words : List ℕ
-  pub are : IsListWords fault words
+  pub are : IsListWords bytes fault words
   pub answer : o ≡ explained explain words (refusal (list_line fault))

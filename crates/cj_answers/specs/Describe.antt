@@ -1,5 +1,5 @@
 -- What `describe` answers of a schedule.
-use Rattle.std.specs.Prelude.{◌≡◌, ◌⊎◌, ℕ, List, ◌++◌, Option, None, Some, IsNone, Bool, true, false, codes}
+use Rattle.std.specs.Prelude.{◌≡◌, ◌⊎◌, ℕ, List, Option, None, Some, IsNone, Bool, true, false, codes}
 use Rattle.std.specs.Borrow.{Bor}
 use Rattle.jiff_tz.specs.PosixReader.{read_whole}
 use Rattle.cj_base.specs.declared.schedule_fault.ScheduleFault.{ScheduleFault}
@@ -12,11 +12,11 @@ use Rattle.cj_zone.specs.Made.{IsMade}
 use Rattle.cj_zone.specs.Zones.{is_refused_name, utc_zone}
 use Rattle.cj_io.specs.declared.zone_files.file.ZoneFile.{ZoneFile}
 use Rattle.cj_io.specs.zone_files.Rules.{utc_zones}
-use Rattle.cj_upcoming.specs.Coming.{AreComing}
-use Rattle.cj_upcoming.specs.Sentence.{sentence}
 use Rattle.cj_args.specs.declared.request.DescribeRequest.{DescribeRequest}
-use Rattle.cj_answers.specs.Outcome.{IsLookedUp, IsScheduleRefusal, Outcome, done, explained, is_utc, next_zone_words, refusal}
+use Rattle.cj_answers.specs.Outcome.{IsInForm, IsLookedUp, IsScheduleRefusal, Outcome, RefusesForm, done, explained, is_utc, next_zone_words, refusal}
 use Rattle.cj_answers.specs.Why.{asked_moment}
+use Rattle.cj_answers.specs.as_json.Describe.{IsDescribePrinted}
+use Rattle.cj_answers.specs.as_json.Forms.{is_json}
 
 -- ---- the zone
 
@@ -68,13 +68,6 @@ IsNoZoneFor (Some name) (Some rule) files = Unit {0}
 abbrev pub since_words : List ℕ
 since_words = codes "--after: want a time like 2024-01-01T00:00:00Z or 2024-01-01T01:00:00+01:00, a date like 2024-01-01, now, or -1h or +2d from now\n"
 
--- the sentence, then the next times
--- rules: describe-sentence, describe-times
-pub record IsDescribed (sets : Sets) (zone : Zone) (start count : ℕ) (text : List ℕ) : Type 0 where
-  pub times : List ℕ
-  pub coming : AreComing sets zone start start count times
-  pub are : text ≡ sentence sets zone.name ++ times
-
 -- the schedule is refused first
 pub record RefusesText (r : DescribeRequest) (o : Outcome) : Type 0 where
   pub fault : ScheduleFault
@@ -106,11 +99,16 @@ pub record Describes (r : DescribeRequest) (files : List ZoneFile) (o : Outcome)
   pub zone : Zone
   pub is_zone : IsZoneFor r.time_zone r.zone files zone
   pub text : List ℕ
-  pub described : IsDescribed sets zone after r.count text
+  pub described : IsDescribePrinted (is_json r.output.now) r sets zone after text
   pub answer : o ≡ done text
 
--- what `describe` answers
--- rules: describe-sentence, describe-times
+-- what `describe` answers in a form that there is
+-- rules: describe-json, describe-sentence, describe-times
+abbrev pub IsDescribeAnswer : DescribeRequest → List ZoneFile → Outcome → Type 0
+IsDescribeAnswer r files o =
+    RefusesText r o ⊎ RefusesSince r o ⊎ RefusesItsZone r files o ⊎ Describes r files o
+
+-- the form is looked at first
 abbrev pub IsDescribeOutcome : DescribeRequest → List ZoneFile → Outcome → Type 0
 IsDescribeOutcome r files o =
-    RefusesText r o ⊎ RefusesSince r o ⊎ RefusesItsZone r files o ⊎ Describes r files o
+    RefusesForm r.explain r.output.now o ⊎ IsInForm r.output.now (IsDescribeAnswer r files o)

@@ -1,10 +1,14 @@
 pub mod Advice
 pub mod Audit
 pub mod Check
+pub mod CheckList
+pub mod CheckOutcome
+pub mod ClockWords
 pub mod Clusters
 pub mod Coming
 pub mod CronFiles
 pub mod Describe
+pub mod DescribeText
 pub mod Given
 pub mod Json
 pub mod Marks
@@ -13,8 +17,9 @@ pub mod Nearest
 pub mod NextText
 pub mod Outcome
 pub mod Dropped
-pub mod FieldCount
+pub mod FaultWords
 pub mod Plan
+pub mod Seen
 pub mod Several
 pub mod Strays
 pub mod Suggestion
@@ -22,3 +27,4 @@ pub mod Times
 pub mod Why
 pub mod Windows
 pub mod Upcoming
+pub mod as_json

@@ -16,7 +16,9 @@ use Rattle.cj_zone.specs.TimeText.{time_text_of}
 use Rattle.cj_io.specs.declared.zone_files.file.ZoneFile.{ZoneFile}
 use Rattle.cj_io.specs.zone_files.Files.{IsTableWith}
 use Rattle.cj_explain.specs.Schedules.{IsExplained}
-use Rattle.cj_answers.specs.NextText.{IsNextText}
+use Rattle.cj_answers.specs.ClockWords.{IsClockWords, clock_mark}
+use Rattle.cj_answers.specs.as_json.Forms.{form_words, is_form, is_json}
+use Rattle.cj_answers.specs.as_json.Next.{IsNextPrinted}
 use Rattle.cj_answers.specs.Times.{IsTimeWords}
 use Rattle.cj_answers.specs.declared.answer.Answer.{Answer}
 use Rattle.cj_answers.specs.declared.answer.Ending.{Ending}
@@ -50,6 +52,17 @@ explained false words o = o
 
 abbrev pub done : List ℕ → Outcome
 done text = record { ending = Done; printed = text; said = [] }
+
+-- the form of what is printed is refused
+-- rule: output
+pub record RefusesForm (explain : Bool) (output : List ℕ) (o : Outcome) : Type 0 where
+  pub unknown : is_form output ≡ false
+  pub answer : o ≡ explained explain form_words (refusal (codes "cronsim: output\n"))
+
+-- it is one that there is, and the answer is this
+pub record IsInForm (output : List ℕ) (Answer : Type 0) : Type 0 where
+  pub known : is_form output ≡ true
+  pub answer : Answer
 
 -- `cronsim: schedule FIELD BYTE CAUSE`
 abbrev pub schedule_line : ScheduleFault → List ℕ
@@ -159,6 +172,15 @@ pub record RefusesZone (r : NextRequest) (files : List ZoneFile) (o : Outcome) :
   pub none : IsNoNextZone r.time_zone r.zone files
   pub answer : o ≡ explained r.explain (next_zone_words r.time_zone) (refusal (codes "cronsim: zone\n"))
 
+-- the due times of a schedule in a zone are printed, in lines or as JSON; people are told of what the zone's clock skips or
+-- shows twice
+pub record TellsTimes (r : NextRequest) (sets : Sets) (zone : Zone) (after : ℕ) (o : Outcome) : Type 0 where
+  pub text : List ℕ
+  pub times : IsNextPrinted (is_json r.output.now) r sets zone after text
+  pub words : List ℕ
+  pub clock : IsClockWords (clock_mark r.time_zone) sets zone after words
+  pub answer : o ≡ explained r.explain words (done text)
+
 -- else the due times are printed
 pub record PrintsTimes (r : NextRequest) (files : List ZoneFile) (o : Outcome) : Type 0 where
   pub sets : Sets
@@ -167,11 +189,13 @@ pub record PrintsTimes (r : NextRequest) (files : List ZoneFile) (o : Outcome) :
   pub start : IsTime r.after.now after
   pub zone : Zone
   pub is_zone : IsNextZone r.time_zone r.zone files zone
-  pub text : List ℕ
-  pub times : IsNextText sets zone after r.count text
-  pub answer : o ≡ done text
+  pub tells : TellsTimes r sets zone after o
 
--- what `next` answers
--- rule: next-lines
+-- what `next` answers in a form that there is
+-- rules: next-json, next-lines
+abbrev pub IsNextAnswer : NextRequest → List ZoneFile → Outcome → Type 0
+IsNextAnswer r files o = RefusesSchedule r o ⊎ RefusesTime r o ⊎ RefusesZone r files o ⊎ PrintsTimes r files o
+
+-- the form is looked at first
 abbrev pub IsNextOutcome : NextRequest → List ZoneFile → Outcome → Type 0
-IsNextOutcome r files o = RefusesSchedule r o ⊎ RefusesTime r o ⊎ RefusesZone r files o ⊎ PrintsTimes r files o
+IsNextOutcome r files o = RefusesForm r.explain r.output.now o ⊎ IsInForm r.output.now (IsNextAnswer r files o)

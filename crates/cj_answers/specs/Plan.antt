@@ -16,6 +16,7 @@ use Rattle.cj_scenario.specs.declared.fault.SceneFault.TheVariants as Why
 use Rattle.cj_scenario.specs.declared.scene.Scene.{Scene}
 use Rattle.cj_scenario.specs.Made.{IsRefusedScene, IsScene}
 use Rattle.cj_why.specs.Why.{IsWhy}
+use Rattle.cj_why.specs.reviews.PlanJson.{plan_data}
 use Rattle.cj_why.specs.reviews.PlanLines.{plan_lines}
 use Rattle.cj_why.specs.reviews.ZoneFor.{zone_for}
 use Rattle.cj_args.specs.declared.request.PlanRequest.{PlanRequest}
@@ -27,7 +28,8 @@ use Rattle.cj_answers.specs.Given.{IsReadUnder, RefusesRule}
 use Rattle.cj_explain.specs.Faults.{fault_words}
 use Rattle.cj_answers.specs.Json.{IsJsonWords}
 use Rattle.cj_answers.specs.Strays.{IsStrays}
-use Rattle.cj_answers.specs.Outcome.{IsNoTime, IsTime, IsTimeRefusal, Outcome, done, explained, refusal}
+use Rattle.cj_answers.specs.Outcome.{IsInForm, IsNoTime, IsTime, IsTimeRefusal, Outcome, RefusesForm, done, explained, refusal}
+use Rattle.cj_answers.specs.as_json.Forms.{IsJsonLine, is_json}
 
 -- ---- lines
 
@@ -48,7 +50,7 @@ pub record IsFormWords (wanted : Form) (bytes : List ℕ) (words : List ℕ) : T
 -- what is wrong with the bytes of a scenario
 -- rule: explain
 abbrev pub IsSceneWords : Form → List ℕ → SceneFault → List ℕ → Type 0
-IsSceneWords wanted bytes Why.Syntax words = IsJsonWords words
+IsSceneWords wanted bytes Why.Syntax words = IsJsonWords bytes words
 IsSceneWords wanted bytes Why.Form words = IsFormWords wanted bytes words
 IsSceneWords wanted bytes (Why.Manifest fault) words = words ≡ fault_words fault
 IsSceneWords wanted bytes Why.Memory words = words ≡ []
@@ -107,8 +109,14 @@ pub record RefusesScene (explain : Bool) (given : GivenZones) (bytes : List ℕ)
   pub told : fault ≢ Why.Memory
   pub says : IsSceneRefusal explain A.Scenario bytes fault o
 
--- the lines of the one plan of the CronJob, its Jobs, those of them that run, the moment and its zone
-pub record PrintsPlan (explain : Bool) (given : GivenZones) (bytes : List ℕ) (now : ℕ) (o : Outcome) : Type 0 where
+-- a plan as JSON, or in lines
+-- rules: plan-json, plan-lines
+abbrev pub IsPlanPrinted : Bool → Steps → List ℕ → Type 0
+IsPlanPrinted true p text = IsJsonLine (plan_data p) text
+IsPlanPrinted false p text = text ≡ plan_lines p
+
+-- the one plan of the CronJob, its Jobs, those of them that run, the moment and its zone
+pub record PrintsPlan (explain json : Bool) (given : GivenZones) (bytes : List ℕ) (now : ℕ) (o : Outcome) : Type 0 where
   pub scene : Scene
   pub said : IsScene given bytes scene
   pub steps : Steps
@@ -117,11 +125,14 @@ pub record PrintsPlan (explain : Bool) (given : GivenZones) (bytes : List ℕ) (
   pub reason : IsAskedWhy explain scene.cron (zone_for scene.cron.spec.time_zone (zones_of scene.zones)) scene.active now why
   pub beside : List ℕ
   pub told : IsBeside explain bytes beside
-  pub answer : o ≡ explained explain (why ++ beside) (done (plan_lines steps))
+  pub printed : List ℕ
+  pub prints : IsPlanPrinted json steps printed
+  pub answer : o ≡ explained explain (why ++ beside) (done printed)
 
 -- what the bytes of a scenario are answered under these zones
-abbrev pub IsPlannedFor : Bool → GivenZones → List ℕ → ℕ → Outcome → Type 0
-IsPlannedFor explain given bytes now o = RefusesScene explain given bytes o ⊎ PrintsPlan explain given bytes now o
+abbrev pub IsPlannedFor : Bool → Bool → GivenZones → List ℕ → ℕ → Outcome → Type 0
+IsPlannedFor explain json given bytes now o =
+    RefusesScene explain given bytes o ⊎ PrintsPlan explain json given bytes now o
 
 -- the moment is refused first, and nothing is read then
 pub record RefusesMoment (r : PlanRequest) (o : Outcome) : Type 0 where
@@ -143,9 +154,14 @@ pub record PlansInput (r : PlanRequest) (files : List ZoneFile) (input : Option 
   pub bytes : List ℕ
   pub bytes_are : IfSome input (λ xs. bytes ≡ xs)
   pub fits : length bytes ≤ 16_777_216
-  pub planned : IsPlannedFor r.explain given bytes now o
+  pub planned : IsPlannedFor r.explain (is_json r.output.now) given bytes now o
 
--- what `plan` answers, where the input is known
--- rule: plan-lines
+-- what `plan` answers in a form that there is, where the input is known
+-- rules: plan-json, plan-lines
+abbrev pub IsPlanAnswer : PlanRequest → List ZoneFile → Option (List ℕ) → Outcome → Type 0
+IsPlanAnswer r files input o = RefusesMoment r o ⊎ RefusesPlanZone r o ⊎ PlansInput r files input o
+
+-- the form is looked at first
 abbrev pub IsPlanOutcome : PlanRequest → List ZoneFile → Option (List ℕ) → Outcome → Type 0
-IsPlanOutcome r files input o = RefusesMoment r o ⊎ RefusesPlanZone r o ⊎ PlansInput r files input o
+IsPlanOutcome r files input o =
+    RefusesForm r.explain r.output.now o ⊎ IsInForm r.output.now (IsPlanAnswer r files input o)

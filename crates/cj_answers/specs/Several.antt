@@ -11,7 +11,9 @@ use Rattle.cj_answers.specs.declared.several.FileState.TheVariants as Is
 use Rattle.cj_answers.specs.declared.several.Stream.{Stream}
 use Rattle.cj_answers.specs.declared.several.Stream.TheVariants as To
 use Rattle.cj_answers.specs.Marks.{marked}
-use Rattle.cj_answers.specs.Outcome.{Outcome}
+use Rattle.cj_answers.specs.Outcome.{Outcome, explained, refusal}
+use Rattle.cj_answers.specs.as_json.Check.{unread_line}
+use Rattle.cj_answers.specs.as_json.Forms.{form_words, is_form, is_json}
 
 -- how a file fared that was answered so
 abbrev pub state_by : Ending → FileState
@@ -71,11 +73,36 @@ last_words r files = several_pod r.explain ++ count_words r.strict files
 abbrev pub several_ending : List FileAnswer → Ending
 several_ending files = if count_by (has_state Is.Fine) files == length files then Done else Refused
 
+-- the value of a file, on a line
+-- rule: check-json
+abbrev pub value_of : List ℕ → Option Answer → List ℕ
+value_of name None = unread_line name
+value_of name (Some a) = string_bytes a.printed
+
+abbrev pub all_values : List FileAnswer → List ℕ
+all_values [] = []
+all_values (file ∷ files) = value_of file.name.now file.answer ++ all_values files
+
+-- in JSON a line for each file, or its lines
+-- rules: check-json, check-several
+abbrev pub printed_of : Bool → List FileAnswer → List ℕ
+printed_of true files = all_values files
+printed_of false files = all_lines To.Output files
+
+abbrev pub several_in : CheckRequest → List FileAnswer → Outcome
+several_in r files = record {
+  ending = several_ending files;
+  printed = printed_of (is_json r.output.now) files;
+  said = all_lines To.Error files ++ last_words r files;
+}
+
+-- the form is looked at first
+-- rule: output
+abbrev pub several_for : Bool → CheckRequest → List FileAnswer → Outcome
+several_for true r files = several_in r files
+several_for false r files = explained r.explain form_words (refusal (codes "cronsim: output\n"))
+
 -- what `check` answers of several files
 -- rule: check-several
 abbrev pub several : CheckRequest → List FileAnswer → Outcome
-several r files = record {
-  ending = several_ending files;
-  printed = all_lines To.Output files;
-  said = all_lines To.Error files ++ last_words r files;
-}
+several r files = several_for (is_form r.output.now) r files

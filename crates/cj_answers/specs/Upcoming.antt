@@ -21,9 +21,11 @@ use Rattle.cj_answers.specs.Clusters.{RefusesList, ending_by, is_read, note_line
 use Rattle.cj_answers.specs.CronFiles.{AreFiles, Stops}
 use Rattle.cj_answers.specs.Given.{AreGiven, IsNoneGiven, pair_words}
 use Rattle.cj_answers.specs.Marks.{marked}
-use Rattle.cj_answers.specs.Outcome.{Outcome, explained, outcome_of, refusal}
+use Rattle.cj_answers.specs.Outcome.{IsInForm, Outcome, RefusesForm, explained, outcome_of, refusal}
 use Rattle.cj_answers.specs.Why.{asked_moment, chosen, is_noted, is_nothing, line_where}
 use Rattle.cj_answers.specs.Windows.{IsCounted}
+use Rattle.cj_answers.specs.as_json.Forms.{is_json}
+use Rattle.cj_answers.specs.as_json.Upcoming.{IsWindowJson, files_data}
 
 -- ---- what the files have
 
@@ -114,18 +116,32 @@ pub record RefusesMany (r : UpcomingRequest) (zones : List Zone) (w : Span) (fs 
   pub more : HasMore zones w (meant_of r fs) most_starts
   pub answer : o ≡ explained r.explain many_words (refusal (codes "cronsim: starts\n"))
 
--- the items that can't be used, then what is told of the window; done where no item was refused
--- rules: upcoming-lines, upcoming-status
+-- done where no item was refused
+-- rule: upcoming-status
 abbrev pub told : List FileCrons → List ℕ → Outcome
-told fs text = record {
-  ending = ending_by (are_read fs);
-  printed = all_lines (is_several fs) fs ++ text;
-  said = [];
-}
+told fs text = record { ending = ending_by (are_read fs); printed = text; said = [] }
+
+-- the items that can't be used, then what is told of the window, in lines
+pub record IsWindowLines (zones : List Zone) (w : Span) (fs : List FileCrons) (crons : List ClusterCron) (most : ℕ) (text : List ℕ) : Type 0 where
+  pub lines : List ℕ
+  pub window : IsCounted zones w crons most lines
+  pub are : text ≡ all_lines (is_several fs) fs ++ lines
+
+-- in JSON, or in lines
+-- rules: upcoming-json, upcoming-lines
+abbrev pub IsWindowPrinted : Bool → List Zone → Span → List FileCrons → List ClusterCron → ℕ → List ℕ → Type 0
+IsWindowPrinted true zones w fs crons most text = IsWindowJson zones w crons most (files_data (is_several fs) fs) text
+IsWindowPrinted false zones w fs crons most text = IsWindowLines zones w fs crons most text
+
+-- a picture, of which nothing is said; or else that
+-- rule: upcoming-svg
+abbrev pub IsWindowShown : Bool → Bool → List Zone → Span → List FileCrons → List ClusterCron → ℕ → List ℕ → Type 0
+IsWindowShown true json zones w fs crons most text = Unit {0}
+IsWindowShown false json zones w fs crons most text = IsWindowPrinted json zones w fs crons most text
 
 pub record TellsWindow (r : UpcomingRequest) (zones : List Zone) (w : Span) (fs : List FileCrons) (o : Outcome) : Type 0 where
   pub text : List ℕ
-  pub window : IsCounted zones w (meant_of r fs) r.peaks text
+  pub window : IsWindowShown r.svg (is_json r.output.now) zones w fs (meant_of r fs) r.peaks text
   pub answer : o ≡ explained r.explain (all_words (is_several fs) fs) (told fs text)
 
 -- the CronJobs that are named are all there
@@ -170,7 +186,7 @@ IsToldOf r zones w files o = RefusesFile r zones files o ⊎ TellsFiles r zones 
 abbrev pub from_words : List ℕ
 from_words = codes "--from: want a time like 2024-01-01T00:00:00Z or 2024-01-01T01:00:00+01:00, a date like 2024-01-01, now, or -1h or +2d from now\n"
 
--- the start is refused first
+-- the start is refused then
 pub record RefusesStart (r : UpcomingRequest) (o : Outcome) : Type 0 where
   pub start : asked_moment r.from ≡ None
   pub answer : o ≡ explained r.explain from_words (refusal (codes "cronsim: time\n"))
@@ -209,28 +225,36 @@ pub record RefusesUpcomingZone (r : UpcomingRequest) (files : List ZoneFile) (o 
   pub zones : IsNoneGiven r.zones files
   pub answer : o ≡ explained r.explain pair_words (refusal (codes "cronsim: zone\n"))
 
--- nothing is read then
+abbrev pub RefusesWindow : UpcomingRequest → List ZoneFile → Outcome → Type 0
+RefusesWindow r files o = RefusesStart r o ⊎ RefusesLength r o ⊎ RefusesUpcomingZone r files o
+
+-- the form is looked at first; nothing is read then
 abbrev pub RefusesWords : UpcomingRequest → List ZoneFile → Outcome → Type 0
-RefusesWords r files o = RefusesStart r o ⊎ RefusesLength r o ⊎ RefusesUpcomingZone r files o
+RefusesWords r files o = RefusesForm r.explain r.output.now o ⊎ IsInForm r.output.now (RefusesWindow r files o)
 
 -- the window and the zones of the words
 pub record IsWanted (r : UpcomingRequest) (files : List ZoneFile) (w : Span) (zones : List Zone) : Type 0 where
   pub window : IsWindowOf r w
   pub zones_are : AreGiven r.zones files zones
 
+abbrev pub IsWindowAsked : UpcomingRequest → List ZoneFile → Asked → Type 0
+IsWindowAsked r files (Is.Known w zones) = IsWanted r files w (zones_of zones)
+IsWindowAsked r files (Is.Refused a) = RefusesWindow r files (outcome_of a)
+
+-- in a form that there is
 abbrev pub IsAsked : UpcomingRequest → List ZoneFile → Asked → Type 0
-IsAsked r files (Is.Known w zones) = IsWanted r files w (zones_of zones)
+IsAsked r files (Is.Known w zones) = IsInForm r.output.now (IsWanted r files w (zones_of zones))
 IsAsked r files (Is.Refused a) = RefusesWords r files (outcome_of a)
 
 -- what the files are answered
 pub record TellsGiven (r : UpcomingRequest) (files : List ZoneFile) (sources : List CronFile) (o : Outcome) : Type 0 where
   pub w : Span
   pub zones : List Zone
-  pub wanted : IsWanted r files w zones
+  pub wanted : IsInForm r.output.now (IsWanted r files w zones)
   pub tells : IsToldOf r zones w sources o
 
 -- what `upcoming` answers of several files that were read
--- rules: upcoming-files, upcoming-lines
+-- rules: upcoming-files, upcoming-json, upcoming-lines
 abbrev pub IsUpcomingFiles : UpcomingRequest → List ZoneFile → List CronFile → Outcome → Type 0
 IsUpcomingFiles r files sources o = RefusesWords r files o ⊎ TellsGiven r files sources o
 
@@ -242,6 +266,6 @@ pub record TellsInput (r : UpcomingRequest) (files : List ZoneFile) (input : Opt
   pub tells : TellsGiven r files (source ∷ []) o
 
 -- what `upcoming` answers, where the input is known
--- rules: upcoming-files, upcoming-lines
+-- rules: upcoming-files, upcoming-json, upcoming-lines
 abbrev pub IsUpcomingOutcome : UpcomingRequest → List ZoneFile → Option (List ℕ) → Outcome → Type 0
 IsUpcomingOutcome r files input o = RefusesWords r files o ⊎ TellsInput r files input o

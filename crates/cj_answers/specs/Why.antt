@@ -20,6 +20,10 @@ use Rattle.cj_answers.specs.Clusters.{RefusesList, ending_by, is_read, note_line
 use Rattle.cj_answers.specs.Given.{AreGiven, IsNoneGiven, pair_words}
 use Rattle.cj_answers.specs.Moments.{moment_of}
 use Rattle.cj_answers.specs.Outcome.{Outcome, explained, refusal}
+use Rattle.cj_answers.specs.as_json.Forms.{IsJsonLine, is_json}
+use Rattle.cj_answers.specs.as_json.Why.{why_data}
+use Rattle.cj_why.specs.reviews.CronJson.{AreCronJson}
+use Rattle.serde_json.specs.Data.{Data}
 
 -- ---- which CronJobs
 
@@ -99,12 +103,12 @@ is_lines text = bytes_eq text (codes "lines")
 
 -- rule: why-output
 abbrev pub is_output : List ℕ → Bool
-is_output text = bytes_eq text (codes "table") || is_lines text
+is_output text = (bytes_eq text (codes "table") || is_lines text) || is_json text
 
 -- what a form has to be
 -- rules: explain, why-output
 abbrev pub output_words : List ℕ
-output_words = codes "--output: want table or lines\n"
+output_words = codes "--output: want table, lines or json\n"
 
 -- why, in full: people ask for it, or name one CronJob
 -- rule: why-table
@@ -144,11 +148,37 @@ pub record PrintsTable (r : WhyRequest) (zones : List Zone) (now : ℕ) (list : 
   pub laid : IsTable (is_full r) now (length (map.values list.cluster.crons)) rows table
   pub answer : o ≡ explained r.explain (note_words list.notes) (reviewed list.notes table)
 
--- in lines, or in a table
+-- what is known of these CronJobs, as one JSON value
+-- rule: why-json
+pub record IsWhyJson (zones : List Zone) (now : ℕ) (list : ClusterList) (lined : List ClusterCron) (text : List ℕ) : Type 0 where
+  pub crons : List Data
+  pub are : AreCronJson zones list.cluster now lined crons
+  pub line : IsJsonLine (why_data now crons list.notes) text
+
+-- that alone is printed, and done where no item was refused
+-- rule: why-status
+abbrev pub valued : List ItemNote → List ℕ → Outcome
+valued notes printed = record { ending = ending_by (is_read notes); printed = printed; said = [] }
+
+-- of all CronJobs that are meant, or of those that want a look
+-- rules: why-json, why-problems
+pub record PrintsJson (r : WhyRequest) (zones : List Zone) (now : ℕ) (list : ClusterList) (o : Outcome) : Type 0 where
+  pub lined : List ClusterCron
+  pub are : AreLined r.problems zones list.cluster now (meant_of r list) lined
+  pub printed : List ℕ
+  pub value : IsWhyJson zones now list lined printed
+  pub answer : o ≡ explained r.explain (note_words list.notes) (valued list.notes printed)
+
+-- as JSON, or in a table
+abbrev pub IsWhole : Bool → WhyRequest → List Zone → ℕ → ClusterList → Outcome → Type 0
+IsWhole true r zones now list o = PrintsJson r zones now list o
+IsWhole false r zones now list o = PrintsTable r zones now list o
+
+-- in lines, or in one of these
 -- rule: why-output
 abbrev pub IsPrinted : Bool → WhyRequest → List Zone → ℕ → ClusterList → Outcome → Type 0
 IsPrinted true r zones now list o = PrintsReview r zones now list o
-IsPrinted false r zones now list o = PrintsTable r zones now list o
+IsPrinted false r zones now list o = IsWhole (is_json r.output.now) r zones now list o
 
 -- the CronJobs that are named are all there
 pub record PrintsKnown (r : WhyRequest) (zones : List Zone) (now : ℕ) (list : ClusterList) (unknown : List ℕ) (o : Outcome) : Type 0 where

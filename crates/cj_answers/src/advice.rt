@@ -111,7 +111,8 @@ fn with_coming(alloc: Global, spec: &CronSpec, coming: &str) -> Result<String, A
 fn advice_on(alloc: Global, zones: &ZoneTable, spec: &CronSpec) -> Result<String, AllocError>
     ensures { IfOk result (λ s. IsCronAdvice spec.now (zones_of zones.now) (string_bytes s)) }
 {
-    with_coming(alloc, spec, schedule_advice(zones, spec))
+    let coming = schedule_advice(zones, spec);
+    with_coming(alloc, spec, coming)
 }
 
 /// A line for each thing in a manifest without a fault that is worth a look.

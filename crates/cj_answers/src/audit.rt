@@ -1,5 +1,5 @@
 // What `audit` answers of a cluster.
-ghost use Rattle.std.specs.Prelude.{◌≡◌, ◌++◌, IfOk, IfErr, length, string_bytes};
+ghost use Rattle.std.specs.Prelude.{◌≡◌, ◌++◌, IfOk, IfErr, false, length, string_bytes};
 ghost use Rattle.std.specs.FinMap as map;
 ghost use Rattle.cj_base.specs.declared.refusal.Refusal.TheVariants.{OutOfMemory};
 ghost use Rattle.cj_zone.specs.Table.{zones_of};
@@ -7,11 +7,14 @@ ghost use Rattle.cj_audit.specs.Lines.{audit_lines};
 ghost use Rattle.cj_audit.specs.Manual.{manual_lines};
 ghost use Rattle.cj_audit.specs.Words.{audit_words};
 ghost use Rattle.cj_cluster.specs.kubectl.Reading.{IsClusterList};
-ghost use Rattle.cj_answers.specs.Audit.{AuditsList, IsAuditOutcome, IsAuditedOf, audited, is_clean, manual_words, words_of};
+ghost use Rattle.cj_answers.specs.Audit.{AuditsList, IsAuditAnswer, IsAuditOutcome, IsAuditedOf, audited, is_clean, manual_words, words_of};
 ghost use Rattle.cj_answers.specs.Clusters as told;
 ghost use Rattle.cj_answers.specs.Outcome.{explained, outcome_of};
+ghost use Rattle.cj_answers.specs.as_json.Audit.{IsAuditPrinted, IsAuditShown};
+ghost use Rattle.cj_answers.specs.as_json.Forms.{is_json};
 
 use crate::answer::Answer;
+use crate::as_json::{audit_json, is_form, is_json, refused_form};
 use crate::clusters::{ending_by, is_read, note_lines, note_words, refused_list};
 use crate::given::{given_zones, refused_pair};
 use crate::why::{MOST_LIST_BYTES, MOST_LIST_READS, joined};
@@ -20,6 +23,7 @@ use cj_audit::{Finding, Findings, audit, audit_text, audit_words, manual_text};
 use cj_base::{Refusal, both};
 use cj_cluster::{ClusterList, read_cluster};
 use cj_io::{Failure, ZoneFile, read_input};
+use cj_picture::cluster_picture;
 use cj_zone::ZoneTable;
 use std::alloc::Global;
 use std::io::Read;
@@ -57,20 +61,55 @@ fn found_text(alloc: Global, list: &ClusterList, findings: &Findings) -> Result<
 }
 
 // The items that can't be used, then those.
-fn printed(alloc: Global, list: &ClusterList, findings: &Findings) -> Result<Answer, Failure>
-    ensures { IfOk result (λ a. outcome_of a ≡ audited list.now findings.now) }
+fn lines(alloc: Global, list: &ClusterList, findings: &Findings) -> Result<String, Refusal>
+    ensures ok { IfOk result (λ s. IsAuditPrinted false list.now findings.now (string_bytes s)) }
+    ensures err { IfErr result (λ e. e ≡ OutOfMemory) }
 {
-    let notes = list.notes.as_slice();
-    let lines = note_lines(alloc, notes)?;
+    let lines = note_lines(alloc, list.notes.as_slice())?;
     let found = found_text(alloc, list, findings)?;
-    let printed = joined(alloc, lines.as_str(), found.as_str())?;
+    Ok(joined(alloc, lines.as_str(), found.as_str())?)
+}
+
+// A picture, with the items that can't be used below it.
+fn drawn(alloc: Global, list: &ClusterList, findings: &Findings) -> Result<String, Refusal>
+    ensures err { IfErr result (λ e. e ≡ OutOfMemory) }
+{
+    let lines = note_lines(alloc, list.notes.as_slice())?;
+    cluster_picture(alloc, &list.cluster, findings.as_slice(), lines.as_str())
+}
+
+// What is printed: a picture, or else JSON or lines.
+fn printed(
+    alloc: Global,
+    svg: bool,
+    output: &str,
+    list: &ClusterList,
+    findings: &Findings,
+) -> Result<String, Refusal>
+    ensures ok { IfOk result (λ s. IsAuditShown svg (is_json output.now) list.now findings.now
+        (string_bytes s)) }
+    ensures err { IfErr result (λ e. e ≡ OutOfMemory) }
+{
+    if svg {
+        drawn(alloc, list, findings)
+    } else if is_json(output) {
+        audit_json(alloc, list, findings)
+    } else {
+        lines(alloc, list, findings)
+    }
+}
+
+// With how it ends.
+fn ended(alloc: Global, list: &ClusterList, findings: &Findings, printed: String) -> Answer
+    ensures { outcome_of result ≡ audited list.now findings.now (string_bytes printed) }
+{
     let is_clean = is_clean(findings.as_slice());
-    let is_read = is_read(notes);
-    Ok(Answer {
+    let is_read = is_read(list.notes.as_slice());
+    Answer {
         ending: ending_by(is_clean && is_read),
         printed,
         said: String::new(alloc),
-    })
+    }
 }
 
 // What such a line means, where there is one.
@@ -109,47 +148,79 @@ fn told_of(
     explain: bool,
     list: &ClusterList,
     findings: &Findings,
+    printed: String,
     words: &str,
 ) -> Result<Answer, Failure>
-    ensures { IfOk result (λ a. outcome_of a
-        ≡ explained explain words.now (audited list.now findings.now)) }
+    ensures { IfOk result (λ a. outcome_of a ≡ explained explain words.now
+        (audited list.now findings.now (string_bytes printed))) }
 {
-    let answer = printed(alloc, list, findings)?;
+    let answer = ended(alloc, list, findings, printed);
     Ok(answer.explained(explain, words)?)
 }
 
 fn list_audited(
     alloc: Global,
     explain: bool,
+    svg: bool,
+    output: &str,
     zones: &ZoneTable,
     bytes: &[u8],
     list: &ClusterList,
 ) -> Result<Answer, Failure>
     requires { IsClusterList (zones_of zones.now) bytes.now list.now }
-    ensures { IfOk result (λ a. AuditsList explain (zones_of zones.now) bytes.now (outcome_of a)) }
+    ensures { IfOk result (λ a. AuditsList explain svg (is_json output.now) (zones_of zones.now)
+        bytes.now (outcome_of a)) }
 {
     let findings = audit(alloc, zones, &list.cluster, list.notes.as_slice())?;
     let words = words(alloc, list, &findings)?;
-    told_of(alloc, explain, list, &findings, words.as_str())
+    let printed = printed(alloc, svg, output, list, &findings)?;
+    told_of(alloc, explain, list, &findings, printed, words.as_str())
 }
 
 // What the bytes of a list are answered.
 fn bytes_audited(
     alloc: Global,
     explain: bool,
+    svg: bool,
+    output: &str,
     zones: &ZoneTable,
     bytes: &[u8],
 ) -> Result<Answer, Failure>
-    ensures { IfOk result (λ a. IsAuditedOf explain (zones_of zones.now) bytes.now
-        (outcome_of a)) }
+    ensures { IfOk result (λ a. IsAuditedOf explain svg (is_json output.now) (zones_of zones.now)
+        bytes.now (outcome_of a)) }
 {
     match read_cluster(alloc, bytes, zones) {
-        Ok(list) => list_audited(alloc, explain, zones, bytes, &list),
+        Ok(list) => list_audited(alloc, explain, svg, output, zones, bytes, &list),
         Err(fault) => refused_list(alloc, explain, bytes, fault),
     }
 }
 
-/// What the command `audit` answers: the zones are looked at first, then all of the input is read.
+// What is answered in a form that there is.
+fn form_answer<R: Read>(
+    alloc: Global,
+    audit: &AuditRequest<'_>,
+    files: &[ZoneFile],
+    input: &mut R,
+) -> Result<Answer, Failure>
+    ensures { IfOk result (λ a. IsAuditAnswer audit.now files.now (R.remaining input.old)
+        (outcome_of a)) }
+{
+    let Some(zones) = given_zones(alloc, &audit.zones, files)? else {
+        return refused_pair(alloc, audit.explain);
+    };
+    let bytes = read_input(alloc, input, MOST_LIST_BYTES, MOST_LIST_READS)?;
+    bytes_audited(
+        alloc,
+        audit.explain,
+        audit.svg,
+        audit.output,
+        &zones,
+        bytes.as_slice(),
+    )
+}
+
+/// What the command `audit` answers: the form of what is printed is looked at first, then the zones, then all of the
+/// input is read.
 pub fn audit_answer<R: Read>(
     alloc: Global,
     audit: &AuditRequest<'_>,
@@ -159,9 +230,9 @@ pub fn audit_answer<R: Read>(
     ensures { IfOk result (λ a. IsAuditOutcome audit.now files.now (R.remaining input.old)
         (outcome_of a)) }
 {
-    let Some(zones) = given_zones(alloc, &audit.zones, files)? else {
-        return refused_pair(alloc, audit.explain);
-    };
-    let bytes = read_input(alloc, input, MOST_LIST_BYTES, MOST_LIST_READS)?;
-    bytes_audited(alloc, audit.explain, &zones, bytes.as_slice())
+    if is_form(audit.output) {
+        form_answer(alloc, audit, files, input)
+    } else {
+        refused_form(alloc, audit.explain)
+    }
 }

@@ -9,13 +9,13 @@ use crate::answer::{Answer, Ending};
 use crate::json::json_words;
 use crate::lines::print_fault;
 use cj_base::FieldFault;
-use cj_cluster::{ItemNote, ListFault, Said};
+use cj_cluster::{ItemNote, ListFault, ListedKind, Said};
 use cj_explain::explain_fault;
 use cj_io::Failure;
 use std::alloc::{AllocError, Global};
 
-// The beginning of the lines of an item.
-fn item_prefix(alloc: Global, place: u64) -> Result<String, AllocError>
+/// The beginning of the lines of an item.
+pub(crate) fn item_prefix(alloc: Global, place: u64) -> Result<String, AllocError>
     ensures { IfOk result (λ s. string_bytes s ≡ told.item_prefix place) }
 {
     format!(in alloc; "item {place} ")
@@ -52,6 +52,22 @@ fn kind_line(alloc: Global, kind: &str) -> Result<String, AllocError>
     format!(in alloc; "kind {kind}\n")
 }
 
+fn kind_name(kind: ListedKind) -> &'static str
+    ensures { result.now ≡ told.kind_name kind }
+{
+    match kind {
+        ListedKind::Cron => "CronJob",
+        ListedKind::Run => "Job",
+    }
+}
+
+fn taken_line(alloc: Global, kind: ListedKind, key: &str) -> Result<String, AllocError>
+    ensures { IfOk result (λ s. string_bytes s ≡ told.taken_line kind key.now) }
+{
+    let kind = kind_name(kind);
+    format!(in alloc; "duplicate {kind} {key}\n")
+}
+
 fn push_said(alloc: Global, text: &mut String, place: u64, said: &Said) -> Result<(), AllocError>
     ensures { OnOk result (string_bytes text.new
         ≡ string_bytes text.old ++ told.said_lines place said.now) }
@@ -62,6 +78,10 @@ fn push_said(alloc: Global, text: &mut String, place: u64, said: &Said) -> Resul
             push_item(alloc, text, place, line.as_str())
         }
         Said::Refused(faults) => push_faults(alloc, text, place, faults.as_slice()),
+        Said::Taken(kind, key) => {
+            let line = taken_line(alloc, *kind, key.as_str())?;
+            push_item(alloc, text, place, line.as_str())
+        }
     }
 }
 
@@ -92,6 +112,13 @@ fn push_fault_words(
     Ok(())
 }
 
+fn taken_words(alloc: Global, kind: ListedKind, key: &str) -> Result<String, AllocError>
+    ensures { IfOk result (λ s. string_bytes s ≡ told.taken_words kind key.now) }
+{
+    let kind = kind_name(kind);
+    format!(in alloc; "duplicate: two {kind}s are named {key}; the first one is read\n")
+}
+
 fn push_said_words(
     alloc: Global,
     text: &mut String,
@@ -104,6 +131,10 @@ fn push_said_words(
     match said {
         Said::Kind(_) => Ok(()),
         Said::Refused(faults) => push_fault_words(alloc, text, place, faults.as_slice()),
+        Said::Taken(kind, key) => {
+            let words = taken_words(alloc, *kind, key.as_str())?;
+            push_item(alloc, text, place, words.as_str())
+        }
     }
 }
 
@@ -123,7 +154,7 @@ fn is_other(said: &Said) -> bool
 {
     match said {
         Said::Kind(_) => true,
-        Said::Refused(_) => false,
+        Said::Refused(_) | Said::Taken(_, _) => false,
     }
 }
 
@@ -151,7 +182,7 @@ const WANTED_LIST: &str =
 
 // Where bytes are no JSON, and what is wanted.
 fn syntax_words(alloc: Global, bytes: &[u8]) -> Result<String, Failure>
-    ensures { IfOk result (λ s. told.IsSyntaxWords (string_bytes s)) }
+    ensures { IfOk result (λ s. told.IsSyntaxWords bytes.now (string_bytes s)) }
 {
     let mut words = json_words(alloc, bytes)?;
     words.push_str(WANTED_LIST)?;

@@ -14,6 +14,16 @@ use cj_zone::{Zone, ZoneTable};
 // A schedule that comes at all comes within 3,000 days of any start: 29 February comes within eight years.
 const LOOK_FROM: u64 = 1_704_067_200;
 
+// The beginning of 2024.
+fn look_start() -> Seconds
+    ensures { result ≡ look_from }
+{
+    match Seconds::new(LOOK_FROM) {
+        Some(start) => start,
+        None => unreachable!(),
+    }
+}
+
 fn coming_after(schedule: &Schedule, zone: &Zone, start: Seconds) -> &'static str
     requires { start ≡ look_from }
     ensures { IsComing schedule.now zone.now result.now }
@@ -27,10 +37,7 @@ fn coming_after(schedule: &Schedule, zone: &Zone, start: Seconds) -> &'static st
 fn coming(schedule: &Schedule, zone: &Zone) -> &'static str
     ensures { IsComing schedule.now zone.now result.now }
 {
-    match Seconds::new(LOOK_FROM) {
-        Some(start) => coming_after(schedule, zone, start),
-        None => "",
-    }
+    coming_after(schedule, zone, look_start())
 }
 
 fn text_coming(text: &str, zone: &Zone) -> &'static str
@@ -42,6 +49,7 @@ fn text_coming(text: &str, zone: &Zone) -> &'static str
     }
 }
 
+// The zone of that name, or UTC where none is named.
 fn zone_of<'t>(zones: &'t ZoneTable, name: &Option<Text>) -> Option<&'t Zone>
     ensures { option_copied result ≡ spec_zone name.now (zones_of zones.now) }
 {

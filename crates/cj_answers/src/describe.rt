@@ -3,10 +3,14 @@ ghost use Rattle.std.specs.Prelude.{◌≡◌, ◌⊎◌, IfErr, IfOk, Some, cod
 ghost use Rattle.cj_base.specs.declared.refusal.Refusal.TheVariants.{OutOfMemory};
 ghost use Rattle.cj_zone.specs.declared.zone.Zone.{Zone};
 ghost use Rattle.cj_zone.specs.Table.{local_zone};
-ghost use Rattle.cj_answers.specs.Describe.{IsDescribeOutcome, IsDescribed, IsNoRuleZone, IsNoRuled, IsNoZoneFor, IsRuleZone, IsRuled, IsZoneFor, since_words};
+ghost use Rattle.cj_answers.specs.Describe.{IsDescribeAnswer, IsDescribeOutcome, IsNoRuleZone, IsNoRuled, IsNoZoneFor, IsRuleZone, IsRuled, IsZoneFor, since_words};
+ghost use Rattle.cj_answers.specs.DescribeText.{IsDescribed};
 ghost use Rattle.cj_answers.specs.Outcome.{explained, outcome_of, refusal};
+ghost use Rattle.cj_answers.specs.as_json.Describe.{IsDescribePrinted};
+ghost use Rattle.cj_answers.specs.as_json.Forms.{is_json};
 
 use crate::answer::{Answer, Ending};
+use crate::as_json::{describe_json, is_form, is_json, refused_form};
 use crate::next::{refused_schedule, refused_zone, utc, zone_words, zones_of_name};
 use crate::why::asked_moment;
 use cj_args::DescribeRequest;
@@ -80,7 +84,9 @@ fn described(
     start: Seconds,
     count: u16,
 ) -> Result<String, Refusal>
-    ensures { IfOk result (λ s. IsDescribed schedule.now zone.now start count (string_bytes s)) }
+    ensures ok { IfOk result (λ s. IsDescribed schedule.now zone.now start count
+        (string_bytes s)) }
+    ensures err { IfErr result (λ e. e ≡ OutOfMemory) }
 {
     let mut text = sentence(alloc, schedule, zone.name())?;
     let times = coming_text(alloc, schedule, zone, start, count)?;
@@ -88,13 +94,32 @@ fn described(
     Ok(text)
 }
 
-/// What the command `describe` answers: the schedule is looked at first, then the start, then the zone.
-pub fn describe_answer(
+// The same as JSON or in lines.
+fn printed(
+    alloc: Global,
+    describe: &DescribeRequest<'_>,
+    schedule: &Schedule,
+    zone: &Zone,
+    start: Seconds,
+) -> Result<String, Refusal>
+    ensures ok { IfOk result (λ s. IsDescribePrinted (is_json describe.now.output.now) describe.now
+        schedule.now zone.now start (string_bytes s)) }
+    ensures err { IfErr result (λ e. e ≡ OutOfMemory) }
+{
+    if is_json(describe.output) {
+        describe_json(alloc, describe, schedule, zone, start)
+    } else {
+        described(alloc, schedule, zone, start, describe.count)
+    }
+}
+
+// What is answered in a form that there is: the schedule is looked at first, then the start, then the zone.
+fn form_answer(
     alloc: Global,
     describe: &DescribeRequest<'_>,
     files: &[ZoneFile],
 ) -> Result<Answer, Failure>
-    ensures { IfOk result (λ a. IsDescribeOutcome describe.now files.now (outcome_of a)) }
+    ensures { IfOk result (λ a. IsDescribeAnswer describe.now files.now (outcome_of a)) }
 {
     let schedule = match Schedule::parse(describe.schedule) {
         Ok(schedule) => schedule,
@@ -116,7 +141,23 @@ pub fn describe_answer(
     let zone = table.default_zone();
     Ok(Answer {
         ending: Ending::Done,
-        printed: described(alloc, &schedule, zone, after, describe.count)?,
+        printed: printed(alloc, describe, &schedule, zone, after)?,
         said: String::new(alloc),
     })
+}
+
+/// What the command `describe` answers: the form of what is printed is looked at first, then the schedule, then the
+/// start, then the zone.
+pub fn describe_answer(
+    alloc: Global,
+    describe: &DescribeRequest<'_>,
+    files: &[ZoneFile],
+) -> Result<Answer, Failure>
+    ensures { IfOk result (λ a. IsDescribeOutcome describe.now files.now (outcome_of a)) }
+{
+    if is_form(describe.output) {
+        form_answer(alloc, describe, files)
+    } else {
+        refused_form(alloc, describe.explain)
+    }
 }

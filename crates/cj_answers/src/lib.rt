@@ -8,14 +8,17 @@
 
 mod advice;
 mod answer;
+mod as_json;
 mod audit;
 mod check;
+mod check_list;
+mod clock_words;
 mod clusters;
 mod coming;
 mod cron_files;
 mod describe;
 mod dropped;
-mod fields;
+mod fault_words;
 mod given;
 mod json;
 mod lines;
@@ -26,6 +29,7 @@ mod next;
 mod next_lines;
 mod plan;
 mod relative;
+mod seen;
 mod several;
 mod strays;
 mod suggestion;
@@ -35,8 +39,9 @@ mod why;
 mod windows;
 
 pub use answer::{Answer, Ending};
+pub use as_json::{is_form, is_json, refused_form, value_line};
 pub use audit::audit_answer;
-pub use check::check_answer;
+pub use check::{check_answer, check_file_answer};
 pub use cron_files::CronFile;
 pub use describe::describe_answer;
 pub use given::{given_for, refused_pair};

@@ -14,7 +14,8 @@ fn print_schedule_fault(alloc: Global, fault: ScheduleFault) -> Result<String, A
     format!(in alloc; "Schedule {field} {byte} {cause}")
 }
 
-fn print_cause(alloc: Global, cause: Cause) -> Result<String, AllocError>
+/// A cause as it is printed.
+pub(crate) fn print_cause(alloc: Global, cause: Cause) -> Result<String, AllocError>
     ensures { IfOk result (λ s. string_bytes s ≡ cause_text cause) }
 {
     let word = match cause {

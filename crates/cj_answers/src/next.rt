@@ -6,17 +6,21 @@ ghost use Rattle.cj_zone.specs.declared.zone.Zone.{Zone};
 ghost use Rattle.cj_zone.specs.Made.{IsMade};
 ghost use Rattle.cj_zone.specs.Table.{local_zone};
 ghost use Rattle.cj_zone.specs.Zones.{utc_zone};
-ghost use Rattle.cj_answers.specs.Outcome.{IsLookedUp, IsNextOutcome, IsNextZone, IsNoNextZone, IsNoRule, IsScheduleRefusal, IsZoneOf, explained, next_zone_words, outcome_of, refusal, schedule_line};
+ghost use Rattle.cj_answers.specs.Outcome.{IsLookedUp, IsNextAnswer, IsNextOutcome, IsNextZone, IsNoNextZone, IsNoRule, IsScheduleRefusal, IsZoneOf, TellsTimes, done, explained, next_zone_words, outcome_of, refusal, schedule_line};
+ghost use Rattle.cj_answers.specs.as_json.Forms.{is_json};
+ghost use Rattle.cj_answers.specs.as_json.Next.{IsNextPrinted};
 
 use crate::answer::{Answer, Ending};
+use crate::as_json::{is_form, is_json, next_json, refused_form};
+use crate::clock_words::{clock_mark, clock_words};
 use crate::next_lines::next_text;
 use crate::times::refused_time;
 use cj_args::NextRequest;
-use cj_base::{Refusal, ScheduleFault};
+use cj_base::{Refusal, ScheduleFault, Seconds};
 use cj_explain::explain_schedule;
 use cj_io::{Failure, ZoneFile, table_with};
 use cj_schedule::Schedule;
-use cj_zone::{ZoneTable, read_time};
+use cj_zone::{Zone, ZoneTable, read_time};
 use std::alloc::{AllocError, Global};
 
 fn fault_text(alloc: Global, fault: ScheduleFault) -> Result<String, AllocError>
@@ -137,13 +141,61 @@ fn next_zones(
     }
 }
 
-/// What the command `next` answers: the schedule is looked at first, then the start, then the zone.
-pub fn next_answer(
+fn printed(alloc: Global, text: String) -> Answer
+    ensures { outcome_of result ≡ done (string_bytes text) }
+{
+    Answer {
+        ending: Ending::Done,
+        printed: text,
+        said: String::new(alloc),
+    }
+}
+
+fn told(alloc: Global, explain: bool, text: String, words: &str) -> Result<Answer, AllocError>
+    ensures { IfOk result (λ a. outcome_of a
+        ≡ explained explain words.now (done (string_bytes text))) }
+{
+    printed(alloc, text).explained(explain, words)
+}
+
+// The due times, as JSON or in lines.
+fn next_printed(
     alloc: Global,
     next: &NextRequest<'_>,
-    files: &[ZoneFile],
+    schedule: &Schedule,
+    zone: &Zone,
+    after: Seconds,
+) -> Result<String, Refusal>
+    ensures ok { IfOk result (λ s. IsNextPrinted (is_json next.now.output.now) next.now schedule.now
+        zone.now after (string_bytes s)) }
+    ensures err { IfErr result (λ e. e ≡ OutOfMemory) }
+{
+    if is_json(next.output) {
+        next_json(alloc, next, schedule, zone, after)
+    } else {
+        next_text(alloc, schedule, zone, after, next.count)
+    }
+}
+
+// The due times, and what there is to say of the zone's clock.
+fn times_answer(
+    alloc: Global,
+    next: &NextRequest<'_>,
+    schedule: &Schedule,
+    zone: &Zone,
+    after: Seconds,
 ) -> Result<Answer, Failure>
-    ensures { IfOk result (λ a. IsNextOutcome next.now files.now (outcome_of a)) }
+    ensures { IfOk result (λ a. TellsTimes next.now schedule.now zone.now after (outcome_of a)) }
+{
+    let text = next_printed(alloc, next, schedule, zone, after)?;
+    let mark = clock_mark(next.time_zone);
+    let words = clock_words(alloc, mark, schedule, zone, after)?;
+    Ok(told(alloc, next.explain, text, words.as_str())?)
+}
+
+// What is answered in a form that there is.
+fn form_answer(alloc: Global, next: &NextRequest<'_>, files: &[ZoneFile]) -> Result<Answer, Failure>
+    ensures { IfOk result (λ a. IsNextAnswer next.now files.now (outcome_of a)) }
 {
     let schedule = match Schedule::parse(next.schedule) {
         Ok(schedule) => schedule,
@@ -162,9 +214,21 @@ pub fn next_answer(
             return Ok(refused_zone(alloc, next.explain, words)?);
         }
     };
-    Ok(Answer {
-        ending: Ending::Done,
-        printed: next_text(alloc, &schedule, table.default_zone(), after, next.count)?,
-        said: String::new(alloc),
-    })
+    times_answer(alloc, next, &schedule, table.default_zone(), after)
+}
+
+/// What the command `next` answers: the form of what is printed is looked at first, then the schedule, then the start,
+/// then the zone.
+pub fn next_answer(
+    alloc: Global,
+    next: &NextRequest<'_>,
+    files: &[ZoneFile],
+) -> Result<Answer, Failure>
+    ensures { IfOk result (λ a. IsNextOutcome next.now files.now (outcome_of a)) }
+{
+    if is_form(next.output) {
+        form_answer(alloc, next, files)
+    } else {
+        refused_form(alloc, next.explain)
+    }
 }

@@ -1,4 +1,4 @@
-ghost use Rattle.std.specs.Prelude.{◌≡◌, ◌≢◌, ◌++◌, ℕ, List, Some, codes, option_copied, string_bytes, IfOk};
+ghost use Rattle.std.specs.Prelude.{◌≡◌, ◌≢◌, ◌++◌, ℕ, List, Some, codes, option_copied, string_bytes, true, IfOk, IfErr};
 ghost use Rattle.cj_zone.specs.Table.{local_zone, zones_of};
 ghost use Rattle.cj_zone.specs.Zones.{utc_zone};
 ghost use Rattle.cj_decide.specs.Decision.{IsPlan};
@@ -7,12 +7,14 @@ ghost use Rattle.cj_scenario.specs.declared.fault.SceneFault.TheVariants.{Form a
 ghost use Rattle.cj_scenario.specs.declared.detection.form.Form.{Form as Wanted};
 ghost use Rattle.cj_explain.specs.Faults.{fault_words};
 ghost use Rattle.cj_answers.specs.Outcome.{done, explained, outcome_of, refusal};
-ghost use Rattle.cj_why.specs.reviews.PlanLines.{plan_lines};
+ghost use Rattle.cj_base.specs.declared.refusal.Refusal.TheVariants.{OutOfMemory};
 ghost use Rattle.cj_why.specs.reviews.ZoneFor.{zone_for};
 ghost use Rattle.cj_io.specs.declared.zone_files.given.GivenZones.{GivenZones};
-ghost use Rattle.cj_answers.specs.Plan.{IsAskedDetection, IsAskedWhy, IsBeside, IsFormWords, IsPlanOutcome, IsPlannedFor, IsSceneRefusal, IsSeen, IsUnused, now_words, scene_line};
+ghost use Rattle.cj_answers.specs.Plan.{IsAskedDetection, IsAskedWhy, IsBeside, IsFormWords, IsPlanAnswer, IsPlanOutcome, IsPlanPrinted, IsPlannedFor, IsSceneRefusal, IsSeen, IsUnused, now_words, scene_line};
+ghost use Rattle.cj_answers.specs.as_json.Forms.{is_json};
 
 use crate::answer::{Answer, Ending};
+use crate::as_json::{is_form, is_json, refused_form, value_line};
 use crate::dropped::asked_dropped;
 use crate::given::{given_for, refused_pair};
 use crate::json::json_words;
@@ -24,8 +26,8 @@ use cj_decide::{Plan, Steps, decide};
 use cj_explain::{explain_fault, look};
 use cj_io::{Failure, GivenZones, MOST_BYTES, MOST_READS, ZoneFile, read_input};
 use cj_scenario::{Form, Scene, SceneFault, detect, read_scene};
-use cj_types::{CronJob, FieldFault, Job, Seconds, Shared};
-use cj_why::{plan_text, why, zone_copy, zone_of};
+use cj_types::{CronJob, FieldFault, Job, Refusal, Seconds, Shared};
+use cj_why::{plan_text, plan_value, why, zone_copy, zone_of};
 use cj_zone::{Zone, read_time};
 use std::alloc::{AllocError, Global};
 use std::io::Read;
@@ -84,19 +86,40 @@ fn joined(alloc: Global, first: &str, second: &str) -> Result<String, AllocError
     Ok(text)
 }
 
+fn plan_json(alloc: Global, steps: &Steps) -> Result<String, Refusal>
+    ensures ok { IfOk result (λ s. IsPlanPrinted true steps.now (string_bytes s)) }
+    ensures err { IfErr result (λ e. e ≡ OutOfMemory) }
+{
+    let value = plan_value(alloc, steps)?;
+    Ok(value_line(alloc, &value)?)
+}
+
+// A plan as JSON, or in lines.
+fn plan_printed(alloc: Global, output: &str, steps: &Steps) -> Result<String, Refusal>
+    ensures ok { IfOk result (λ s. IsPlanPrinted (is_json output.now) steps.now
+        (string_bytes s)) }
+    ensures err { IfErr result (λ e. e ≡ OutOfMemory) }
+{
+    if is_json(output) {
+        plan_json(alloc, steps)
+    } else {
+        plan_text(alloc, steps)
+    }
+}
+
 fn printed(
     alloc: Global,
     explain: bool,
-    steps: &Steps,
+    printed: String,
     why: &str,
     beside: &str,
 ) -> Result<Answer, Failure>
     ensures { IfOk result (λ a. outcome_of a ≡ explained explain (why.now ++ beside.now)
-        (done (plan_lines steps.now))) }
+        (done (string_bytes printed))) }
 {
     let answer = Answer {
         ending: Ending::Done,
-        printed: plan_text(alloc, steps)?,
+        printed,
         said: String::new(alloc),
     };
     let words = joined(alloc, why, beside)?;
@@ -107,6 +130,7 @@ fn printed(
 fn planned(
     alloc: Global,
     explain: bool,
+    output: &str,
     scene: Scene,
     now: Seconds,
     beside: &str,
@@ -114,11 +138,13 @@ fn planned(
     requires { local_zone scene.zones ≡ Some (utc_zone (codes "UTC")) }
     ensures { (given : GivenZones) (bytes : List ℕ) → IsScene given bytes scene →
         IsBeside explain bytes beside.now →
-        IfOk result (λ a. IsPlannedFor explain given bytes now (outcome_of a)) }
+        IfOk result (λ a. IsPlannedFor explain (is_json output.now) given bytes now
+        (outcome_of a)) }
 {
     let why = scene_why(alloc, explain, &scene, now)?;
     let plan = plan_of(alloc, scene, now)?;
-    printed(alloc, explain, plan.steps(), why.as_str(), beside)
+    let text = plan_printed(alloc, output, plan.steps())?;
+    printed(alloc, explain, text, why.as_str(), beside)
 }
 
 fn fault_text(alloc: Global, fault: FieldFault) -> Result<String, AllocError>
@@ -252,31 +278,35 @@ fn beside(alloc: Global, explain: bool, bytes: &[u8]) -> Result<String, Failure>
 fn scene_planned(
     alloc: Global,
     explain: bool,
+    output: &str,
     bytes: &[u8],
     scene: Scene,
     now: Seconds,
 ) -> Result<Answer, Failure>
     requires local { local_zone scene.zones ≡ Some (utc_zone (codes "UTC")) }
     ensures { (given : GivenZones) → IsScene given bytes.now scene →
-        IfOk result (λ a. IsPlannedFor explain given bytes.now now (outcome_of a)) }
+        IfOk result (λ a. IsPlannedFor explain (is_json output.now) given bytes.now now
+        (outcome_of a)) }
 {
     let beside = beside(alloc, explain, bytes)?;
-    planned(alloc, explain, scene, now, beside.as_str())
+    planned(alloc, explain, output, scene, now, beside.as_str())
 }
 
 // What a scenario is answered at that moment under the zones that are given.
 fn scene_answer(
     alloc: Global,
     explain: bool,
+    output: &str,
     given: GivenZones<'_>,
     bytes: &[u8],
     now: Seconds,
 ) -> Result<Answer, Failure>
     requires { local_zone given.rules ≡ Some (utc_zone (codes "UTC")) }
-    ensures { IfOk result (λ a. IsPlannedFor explain given.entry bytes.now now (outcome_of a)) }
+    ensures { IfOk result (λ a. IsPlannedFor explain (is_json output.now) given.entry bytes.now now
+        (outcome_of a)) }
 {
     match read_scene(alloc, given, bytes) {
-        Ok(scene) => scene_planned(alloc, explain, bytes, scene, now),
+        Ok(scene) => scene_planned(alloc, explain, output, bytes, scene, now),
         Err(fault) => refused_scene(alloc, explain, Form::Scenario, bytes, fault),
     }
 }
@@ -289,14 +319,14 @@ pub(crate) fn refused_moment(alloc: Global, explain: bool) -> Result<Answer, All
     Answer::refused(alloc, "cronsim: time\n")?.explained(explain, NOW_WORDS)
 }
 
-/// What the command `plan` answers: the moment is looked at first, then the zones, then all of the input is read.
-pub fn plan_answer<R: Read>(
+// What is answered in a form that there is.
+fn form_answer<R: Read>(
     alloc: Global,
     plan: &PlanRequest<'_>,
     files: &[ZoneFile],
     input: &mut R,
 ) -> Result<Answer, Failure>
-    ensures { IfOk result (λ a. IsPlanOutcome plan.now files.now (R.remaining input.old)
+    ensures { IfOk result (λ a. IsPlanAnswer plan.now files.now (R.remaining input.old)
         (outcome_of a)) }
 {
     let Some(now) = read_time(plan.moment) else {
@@ -306,5 +336,24 @@ pub fn plan_answer<R: Read>(
         return refused_pair(alloc, plan.explain);
     };
     let bytes = read_input(alloc, input, MOST_BYTES, MOST_READS)?;
-    scene_answer(alloc, plan.explain, given, bytes.as_slice(), now)
+    let output = plan.output;
+    scene_answer(alloc, plan.explain, output, given, bytes.as_slice(), now)
+}
+
+/// What the command `plan` answers: the form of what is printed is looked at first, then the moment, then the zones, then
+/// all of the input is read.
+pub fn plan_answer<R: Read>(
+    alloc: Global,
+    plan: &PlanRequest<'_>,
+    files: &[ZoneFile],
+    input: &mut R,
+) -> Result<Answer, Failure>
+    ensures { IfOk result (λ a. IsPlanOutcome plan.now files.now (R.remaining input.old)
+        (outcome_of a)) }
+{
+    if is_form(plan.output) {
+        form_answer(alloc, plan, files, input)
+    } else {
+        refused_form(alloc, plan.explain)
+    }
 }

@@ -3,9 +3,11 @@ ghost use Rattle.std.specs.Prelude.{◌≡◌, ◌++◌, IfOk, OnOk, string_byte
 ghost use Rattle.std.specs.List.{count_by};
 ghost use Rattle.cj_answers.specs.Marks.{marked};
 ghost use Rattle.cj_answers.specs.Outcome.{outcome_of};
-ghost use Rattle.cj_answers.specs.Several.{all_lines, count_words, file_lines, has_state, last_words, mark_of, several, several_ending, several_pod, state_of, text_of};
+ghost use Rattle.cj_answers.specs.Several.{all_lines, all_values, count_words, file_lines, has_state, last_words, mark_of, printed_of, several, several_ending, several_in, several_pod, state_of, text_of, value_of};
+ghost use Rattle.cj_answers.specs.as_json.Forms.{is_json};
 
 use crate::answer::{Answer, Ending};
+use crate::as_json::{is_form, is_json, refused_form, unread_line};
 use crate::marking::marked;
 use cj_args::CheckRequest;
 use cj_io::Failure;
@@ -107,8 +109,8 @@ fn all_lines(alloc: Global, stream: Stream, files: &[FileAnswer<'_>]) -> Result<
     Ok(text)
 }
 
-// What isn't looked at, once for all files.
-fn several_pod(explain: bool) -> &'static str
+/// What isn't looked at, once for all files.
+pub(crate) fn several_pod(explain: bool) -> &'static str
     ensures { result.now ≡ several_pod explain }
 {
     if explain {
@@ -155,16 +157,49 @@ fn several_ending(files: &[FileAnswer<'_>]) -> Ending
     }
 }
 
-/// What the command `check` answers of several files: what it answers of each alone, one after another, with the
-/// file's name before each line.
-pub fn several_answer(
+fn push_value(alloc: Global, text: &mut String, file: &FileAnswer<'_>) -> Result<(), AllocError>
+    ensures { OnOk result (string_bytes text.new
+        ≡ string_bytes text.old ++ value_of file.now.name.now file.now.answer) }
+{
+    match &file.answer {
+        Some(answer) => text.push_str(answer.printed.as_str()),
+        None => {
+            let line = unread_line(alloc, file.name)?;
+            text.push_str(line.as_str())
+        }
+    }
+}
+
+// The value of each file, on a line.
+fn all_values(alloc: Global, files: &[FileAnswer<'_>]) -> Result<String, AllocError>
+    ensures { IfOk result (λ s. string_bytes s ≡ all_values files.now) }
+{
+    let mut text = String::new(alloc);
+    for file in files {
+        push_value(alloc, &mut text, file)?;
+    }
+    Ok(text)
+}
+
+fn printed_of(alloc: Global, output: &str, files: &[FileAnswer<'_>]) -> Result<String, AllocError>
+    ensures { IfOk result (λ s. string_bytes s ≡ printed_of (is_json output.now) files.now) }
+{
+    if is_json(output) {
+        all_values(alloc, files)
+    } else {
+        all_lines(alloc, Stream::Output, files)
+    }
+}
+
+// What is answered in a form that there is.
+fn form_answer(
     alloc: Global,
     check: &CheckRequest<'_>,
     files: &[FileAnswer<'_>],
-) -> Result<Answer, Failure>
-    ensures { IfOk result (λ a. outcome_of a ≡ several check.now files.now) }
+) -> Result<Answer, AllocError>
+    ensures { IfOk result (λ a. outcome_of a ≡ several_in check.now files.now) }
 {
-    let printed = all_lines(alloc, Stream::Output, files)?;
+    let printed = printed_of(alloc, check.output, files)?;
     let mut said = all_lines(alloc, Stream::Error, files)?;
     let last = last_words(alloc, check, files)?;
     said.push_str(last.as_str())?;
@@ -173,4 +208,20 @@ pub fn several_answer(
         printed,
         said,
     })
+}
+
+/// What the command `check` answers of several files: what it answers of each alone, one after another, with the
+/// file's name before each line, or as JSON a line for each.
+pub fn several_answer(
+    alloc: Global,
+    check: &CheckRequest<'_>,
+    files: &[FileAnswer<'_>],
+) -> Result<Answer, Failure>
+    ensures { IfOk result (λ a. outcome_of a ≡ several check.now files.now) }
+{
+    if is_form(check.output) {
+        Ok(form_answer(alloc, check, files)?)
+    } else {
+        refused_form(alloc, check.explain)
+    }
 }

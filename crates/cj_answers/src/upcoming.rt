@@ -1,23 +1,25 @@
 // What `upcoming` answers of CronJobs.
-ghost use Rattle.std.specs.Prelude.{◌≡◌, ◌⊎◌, ◌++◌, IfOk, IfSome, IsNone, OnOk, codes, option_map, string_bytes};
+ghost use Rattle.std.specs.Prelude.{◌≡◌, ◌⊎◌, ◌++◌, IfErr, IfOk, IfSome, IsNone, OnOk, codes, option_map, string_bytes};
 ghost use Rattle.std.specs.List.{list_any};
 ghost use Rattle.cj_cluster.specs.kubectl.Reading.{IsRefusedList};
 ghost use Rattle.cj_zone.specs.Table.{zones_of};
 ghost use Rattle.cj_upcoming.specs.Length.{length_of};
+ghost use Rattle.cj_upcoming.specs.Upcoming.{HasMore};
+ghost use Rattle.cj_upcoming.specs.declared.fault.StartsFault.TheVariants.{TooMany};
 ghost use Rattle.cj_answers.specs.Outcome.{explained, outcome_of, refusal};
 ghost use Rattle.cj_answers.specs.Why.{line_where};
-ghost use Rattle.cj_answers.specs.Upcoming.{IsAsked, IsNoWindow, IsTold, IsToldOf, IsUpcomingFiles, IsUpcomingOutcome, IsWindow, RefusesMany, RefusesMarked, TellsWindow, all_crons, all_lines, all_words, are_read, file_lines, file_words, from_words, is_noted_of, is_several, is_unknown, length_words, many_words, mark_for, meant_of, told, unknown_lines, unknown_of};
+ghost use Rattle.cj_answers.specs.as_json.Forms.{is_json};
+ghost use Rattle.cj_answers.specs.Upcoming.{IsAsked, IsNoWindow, IsTold, IsToldOf, IsUpcomingFiles, IsUpcomingOutcome, IsWindow, IsWindowAsked, IsWindowLines, IsWindowPrinted, IsWindowShown, RefusesMany, RefusesMarked, TellsWindow, all_crons, all_lines, all_words, are_read, file_lines, file_words, from_words, is_noted_of, is_several, is_unknown, length_words, many_words, mark_for, meant_of, most_starts, told, unknown_lines, unknown_of};
 
 use crate::answer::Answer;
+use crate::as_json::{files_value, is_form, is_json, refused_form, window_json};
 use crate::clusters::{ending_by, is_read, note_lines, note_words, refused_list};
 use crate::cron_files::{BadFile, CronFile, FileCrons, read_files};
 use crate::given::{given_zones, refused_pair};
 use crate::marking::marked;
-use crate::why::{
-    MOST_LIST_BYTES, MOST_LIST_READS, asked_moment, chosen, has_none, is_noted_one, is_nothing,
-    push_where, refused_unknown,
-};
-use crate::windows::counted_text;
+use crate::why::naming::{chosen, has_none, is_noted_one, push_where};
+use crate::why::{MOST_LIST_BYTES, MOST_LIST_READS, asked_moment, is_nothing, refused_unknown};
+use crate::windows::{counted_text, window_drawn};
 use cj_args::UpcomingRequest;
 use cj_cluster::ClusterCron;
 use cj_io::{Failure, ZoneFile, read_input};
@@ -224,32 +226,117 @@ fn refused_many(alloc: Global, explain: bool) -> Result<Answer, AllocError>
     Answer::refused(alloc, "cronsim: starts\n")?.explained(explain, MANY_WORDS)
 }
 
-// The items that can't be used, then what is told of the window.
-fn told(alloc: Global, files: &[FileCrons], text: &str) -> Result<Answer, AllocError>
-    ensures { IfOk result (λ a. outcome_of a ≡ told files.now text.now) }
+// How what is printed ends.
+fn told(alloc: Global, files: &[FileCrons], printed: String) -> Answer
+    ensures { outcome_of result ≡ told files.now (string_bytes printed) }
 {
-    let mut printed = all_lines(alloc, is_several(files), files)?;
-    printed.push_str(text)?;
-    Ok(Answer {
+    Answer {
         ending: ending_by(are_read(files)),
         printed,
         said: String::new(alloc),
-    })
+    }
 }
 
 fn told_text(
     alloc: Global,
     explain: bool,
     files: &[FileCrons],
-    text: &str,
+    printed: String,
 ) -> Result<Answer, AllocError>
     ensures { IfOk result (λ a. outcome_of a
         ≡ explained explain (all_words (is_several files.now) files.now)
-        (told files.now text.now)) }
+        (told files.now (string_bytes printed))) }
 {
     let words = all_words(alloc, is_several(files), files)?;
-    let answer = told(alloc, files, text)?;
-    answer.explained(explain, words.as_str())
+    told(alloc, files, printed).explained(explain, words.as_str())
+}
+
+// The items that can't be used, in lines, with what is told of the window behind them.
+fn with_items(alloc: Global, files: &[FileCrons], text: &str) -> Result<String, AllocError>
+    ensures { IfOk result (λ s. string_bytes s
+        ≡ all_lines (is_several files.now) files.now ++ text.now) }
+{
+    let mut printed = all_lines(alloc, is_several(files), files)?;
+    printed.push_str(text)?;
+    Ok(printed)
+}
+
+// What is told of these CronJobs, in lines.
+fn window_lines(
+    alloc: Global,
+    zones: &ZoneTable,
+    window: &Window,
+    files: &[FileCrons],
+    crons: &[Shared<ClusterCron>],
+    peaks: usize,
+) -> Result<String, StartsFault>
+    ensures ok { IfOk result (λ s. IsWindowLines (zones_of zones.now) window.now files.now crons.now
+        peaks (string_bytes s)) }
+    ensures many { IfErr result (λ e. e ≡ TooMany →
+        HasMore (zones_of zones.now) window.now crons.now most_starts) }
+{
+    let text = counted_text(alloc, zones, window, crons, MOST_STARTS, peaks)?;
+    let printed = with_items(alloc, files, text.as_str())?;
+    Ok(printed)
+}
+
+// The same as JSON or in lines.
+fn window_printed(
+    alloc: Global,
+    upcoming: &UpcomingRequest<'_>,
+    zones: &ZoneTable,
+    window: &Window,
+    files: &[FileCrons],
+    crons: &[Shared<ClusterCron>],
+) -> Result<String, StartsFault>
+    ensures ok { IfOk result (λ s. IsWindowPrinted (is_json upcoming.now.output.now)
+        (zones_of zones.now) window.now files.now crons.now upcoming.now.peaks (string_bytes s)) }
+    ensures many { IfErr result (λ e. e ≡ TooMany →
+        HasMore (zones_of zones.now) window.now crons.now most_starts) }
+{
+    let peaks = usize::from(upcoming.peaks);
+    if is_json(upcoming.output) {
+        let items = files_value(alloc, is_several(files), files)?;
+        window_json(alloc, zones, window, crons, MOST_STARTS, peaks, items)
+    } else {
+        window_lines(alloc, zones, window, files, crons, peaks)
+    }
+}
+
+// A picture of them, with the items that can't be used below it.
+fn drawn(
+    alloc: Global,
+    zones: &ZoneTable,
+    window: &Window,
+    files: &[FileCrons],
+    crons: &[Shared<ClusterCron>],
+) -> Result<String, StartsFault>
+    ensures many { IfErr result (λ e. e ≡ TooMany →
+        HasMore (zones_of zones.now) window.now crons.now most_starts) }
+{
+    let items = all_lines(alloc, is_several(files), files)?;
+    window_drawn(alloc, zones, window, crons, MOST_STARTS, items.as_str())
+}
+
+// A picture, or else JSON or lines.
+fn window_shown(
+    alloc: Global,
+    upcoming: &UpcomingRequest<'_>,
+    zones: &ZoneTable,
+    window: &Window,
+    files: &[FileCrons],
+    crons: &[Shared<ClusterCron>],
+) -> Result<String, StartsFault>
+    ensures ok { IfOk result (λ s. IsWindowShown upcoming.now.svg (is_json upcoming.now.output.now)
+        (zones_of zones.now) window.now files.now crons.now upcoming.now.peaks (string_bytes s)) }
+    ensures many { IfErr result (λ e. e ≡ TooMany →
+        HasMore (zones_of zones.now) window.now crons.now most_starts) }
+{
+    if upcoming.svg {
+        drawn(alloc, zones, window, files, crons)
+    } else {
+        window_printed(alloc, upcoming, zones, window, files, crons)
+    }
 }
 
 // What is told of these CronJobs.
@@ -266,9 +353,8 @@ fn told_of(
         (outcome_of a)
         ⊎ TellsWindow upcoming.now (zones_of zones.now) window.now files.now (outcome_of a)) }
 {
-    let peaks = usize::from(upcoming.peaks);
-    match counted_text(alloc, zones, window, crons, MOST_STARTS, peaks) {
-        Ok(text) => Ok(told_text(alloc, upcoming.explain, files, text.as_str())?),
+    match window_shown(alloc, upcoming, zones, window, files, crons) {
+        Ok(text) => Ok(told_text(alloc, upcoming.explain, files, text)?),
         Err(StartsFault::TooMany) => Ok(refused_many(alloc, upcoming.explain)?),
         Err(StartsFault::Memory) => Err(Failure::Memory),
     }
@@ -402,12 +488,12 @@ fn window_from(from: Seconds, length: &str) -> Option<Window>
 }
 
 // The window and the zones, or why they are refused.
-fn words_asked(
+fn window_asked(
     alloc: Global,
     upcoming: &UpcomingRequest<'_>,
     files: &[ZoneFile],
 ) -> Result<Asked, Failure>
-    ensures { IfOk result (IsAsked upcoming.now files.now) }
+    ensures { IfOk result (IsWindowAsked upcoming.now files.now) }
 {
     let Some(from) = asked_moment(alloc, upcoming.from)? else {
         return Ok(Asked::Refused(refused_start(alloc, upcoming.explain)?));
@@ -421,8 +507,23 @@ fn words_asked(
     Ok(Asked::Known(window, zones))
 }
 
-/// What the command `upcoming` answers of several files that were read: the start is looked at first, then the length,
-/// then the zones, then the files in their order.
+// The same, in a form that there is.
+fn words_asked(
+    alloc: Global,
+    upcoming: &UpcomingRequest<'_>,
+    files: &[ZoneFile],
+) -> Result<Asked, Failure>
+    ensures { IfOk result (IsAsked upcoming.now files.now) }
+{
+    if is_form(upcoming.output) {
+        window_asked(alloc, upcoming, files)
+    } else {
+        Ok(Asked::Refused(refused_form(alloc, upcoming.explain)?))
+    }
+}
+
+/// What the command `upcoming` answers of several files that were read: the form of what is printed is looked at first,
+/// then the start, then the length, then the zones, then the files in their order.
 pub fn upcoming_files_answer(
     alloc: Global,
     upcoming: &UpcomingRequest<'_>,
@@ -438,8 +539,8 @@ pub fn upcoming_files_answer(
     }
 }
 
-/// What the command `upcoming` answers of one file: start, length and zones are looked at first, then all of the input
-/// is read.
+/// What the command `upcoming` answers of one file: form, start, length and zones are looked at first, then all of the
+/// input is read.
 pub fn upcoming_answer<R: Read>(
     alloc: Global,
     upcoming: &UpcomingRequest<'_>,

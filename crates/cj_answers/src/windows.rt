@@ -8,6 +8,7 @@ ghost use Rattle.cj_upcoming.specs.declared.fault.StartsFault.TheVariants.{TooMa
 ghost use Rattle.cj_answers.specs.Windows.{IsCounted, total_line};
 
 use cj_cluster::ClusterCron;
+use cj_picture::heat_picture;
 use cj_types::{Refusal, Shared};
 use cj_upcoming::{
     Start, StartsFault, Window, peaks_text, standings_text, starts_text, upcoming,
@@ -113,5 +114,43 @@ pub(crate) fn counted_text(
     let starts = upcoming(alloc, zones, window, crons, most)?;
     let (mut text, last) = counted(alloc, zones, window, crons, starts.as_slice(), peaks)?;
     text.push_str(last.as_str())?;
+    Ok(text)
+}
+
+// What stands below a picture: these lines, a line for each CronJob that starts nothing, and for each instant at which a
+// clock is put.
+fn below(
+    alloc: Global,
+    zones: &ZoneTable,
+    window: &Window,
+    crons: &[Shared<ClusterCron>],
+    items: &str,
+) -> Result<String, Refusal>
+    ensures memory { IfErr result (λ e. e ≡ OutOfMemory) }
+{
+    let standings = standings_text(alloc, zones, window.from(), crons)?;
+    let standings = standings.as_str();
+    let changes = zone_changes_text(alloc, zones, window, crons)?;
+    let changes = changes.as_str();
+    Ok(format!(in alloc; "{items}{standings}{changes}")?)
+}
+
+/// A picture of what starts in a window, of CronJobs, with these lines below it.
+///
+/// `TooMany` where there are more than `most` starts, `Memory` where memory is wanting.
+pub(crate) fn window_drawn(
+    alloc: Global,
+    zones: &ZoneTable,
+    window: &Window,
+    crons: &[Shared<ClusterCron>],
+    most: usize,
+    items: &str,
+) -> Result<String, StartsFault>
+    ensures many { IfErr result (λ e. e ≡ TooMany →
+        HasMore (zones_of zones.now) window.now crons.now most) }
+{
+    let starts = upcoming(alloc, zones, window, crons, most)?;
+    let words = below(alloc, zones, window, crons, items)?;
+    let text = heat_picture(alloc, window, crons, starts.as_slice(), words.as_str())?;
     Ok(text)
 }

@@ -68,11 +68,26 @@ with_folder a = with_rule (with_rule a folder_rule) explain_rule
 abbrev pub with_zones : App → App
 with_zones a = with_folder (with_rule a zones_rule)
 
--- `cronsim next SCHEDULE --after TIME [--count N] [--zone RULE] [--time-zone NAME] [--zoneinfo DIR] [--explain]`
+-- the form of what is printed, by the letter that `kubectl` has for it, and which it is where nobody says it
+-- rule: output
+abbrev pub output_rule : Text → Rule
+output_rule usual = record (new_rule (codes "output")) {
+  long = Some (codes "output");
+  short = Some 111;
+  value_names = 1;
+  defaults = usual ∷ [];
+}
+
+-- lines where nobody says it
+abbrev pub lines_rule : Rule
+lines_rule = output_rule (codes "lines")
+
+-- `cronsim next SCHEDULE --after TIME [--count N] [--zone RULE] [--time-zone NAME] [-o FORMAT] [--zoneinfo DIR] [--explain]`
 abbrev pub next_app : App
 next_app =
     let from = with_rule (with_rule (new_app (codes "next")) schedule_rule) after_rule in
-    with_folder (with_rule (with_rule (with_rule from (count_rule (codes "1"))) zone_rule) time_zone_rule)
+    let zoned = with_rule (with_rule (with_rule from (count_rule (codes "1"))) zone_rule) time_zone_rule in
+    with_folder (with_rule zoned lines_rule)
 
 abbrev pub file_rule : Rule
 file_rule = record (new_rule (codes "file")) { required = true; value_names = 1 }
@@ -86,17 +101,19 @@ flag_rule id = record (new_rule id) { long = Some id; action = Some SetTrue }
 abbrev pub files_rule : Rule
 files_rule = record file_rule { range = Some (record { start_inclusive = 1; end_inclusive = usize_max }) }
 
--- `cronsim check FILE.. [--strict] [--zone NAME=RULE].. [--zoneinfo DIR] [--explain]`
+-- `cronsim check FILE.. [--strict] [-o FORMAT] [--zone NAME=RULE].. [--zoneinfo DIR] [--explain]`
 -- rule: check-strict
 abbrev pub check_app : App
-check_app = with_zones (with_rule (with_rule (new_app (codes "check")) files_rule) (flag_rule (codes "strict")))
+check_app =
+    let of = with_rule (with_rule (new_app (codes "check")) files_rule) (flag_rule (codes "strict")) in
+    with_zones (with_rule of lines_rule)
 
 abbrev pub now_rule : Rule
 now_rule = record (new_rule (codes "now")) { long = Some (codes "now"); required = true; value_names = 1 }
 
--- `cronsim plan FILE --now TIME [--zone NAME=RULE].. [--zoneinfo DIR] [--explain]`
+-- `cronsim plan FILE --now TIME [-o FORMAT] [--zone NAME=RULE].. [--zoneinfo DIR] [--explain]`
 abbrev pub plan_app : App
-plan_app = with_zones (with_rule (with_rule (new_app (codes "plan")) file_rule) now_rule)
+plan_app = with_zones (with_rule (with_rule (with_rule (new_app (codes "plan")) file_rule) now_rule) lines_rule)
 
 -- `cronsim replay FILE [--zone NAME=RULE].. [--zoneinfo DIR] [--explain]`
 abbrev pub replay_app : App
@@ -110,12 +127,13 @@ workers_rule = record (new_rule (codes "workers")) {
   parser = Some (Unsigned 1 32);
 }
 
--- `cronsim run FILE --workers N [--timeline] [--history] [--svg] [--zone NAME=RULE].. [--zoneinfo DIR] [--explain]`
+-- `cronsim run FILE --workers N [--timeline] [--history] [--svg] [-o FORMAT] [--zone NAME=RULE].. [--zoneinfo DIR]
+-- [--explain]`
 abbrev pub run_app : App
 run_app =
     let of = with_rule (with_rule (new_app (codes "run")) file_rule) workers_rule in
     let shown = with_rule (with_rule of (flag_rule (codes "timeline"))) (flag_rule (codes "history")) in
-    with_zones (with_rule shown (flag_rule (codes "svg")))
+    with_zones (with_rule (with_rule shown (flag_rule (codes "svg"))) lines_rule)
 
 -- a moment that may be left out
 abbrev pub moment_rule : Rule
@@ -130,26 +148,19 @@ abbrev pub namespace_rule : Rule
 namespace_rule =
     record (new_rule (codes "namespace")) { long = Some (codes "namespace"); short = Some 110; value_names = 1 }
 
--- the form of what is printed, by the letter that `kubectl` has for it
-abbrev pub output_rule : Rule
-output_rule = record (new_rule (codes "output")) {
-  long = Some (codes "output");
-  short = Some 111;
-  value_names = 1;
-  defaults = codes "table" ∷ [];
-}
-
 -- `cronsim why FILE [--now TIME] [--cron [NAMESPACE/]NAME].. [-n NAMESPACE] [-o FORMAT] [--problems] [--zone NAME=RULE]..
 -- [--zoneinfo DIR] [--explain]`
 abbrev pub why_app : App
 why_app =
     let of = with_rule (with_rule (new_app (codes "why")) file_rule) moment_rule in
     let named = with_rule (with_rule of crons_rule) namespace_rule in
-    with_zones (with_rule (with_rule named output_rule) (flag_rule (codes "problems")))
+    with_zones (with_rule (with_rule named (output_rule (codes "table"))) (flag_rule (codes "problems")))
 
--- `cronsim audit FILE [--zone NAME=RULE].. [--zoneinfo DIR] [--explain]`
+-- `cronsim audit FILE [-o FORMAT] [--svg] [--zone NAME=RULE].. [--zoneinfo DIR] [--explain]`
 abbrev pub audit_app : App
-audit_app = with_zones (with_rule (new_app (codes "audit")) file_rule)
+audit_app =
+    let of = with_rule (with_rule (new_app (codes "audit")) file_rule) lines_rule in
+    with_zones (with_rule of (flag_rule (codes "svg")))
 
 -- the start of a window, which may be left out
 abbrev pub from_rule : Rule
@@ -172,21 +183,24 @@ peaks_rule = record (new_rule (codes "peaks")) {
 }
 
 -- `cronsim upcoming FILE.. [--from TIME] [--for LENGTH] [--cron [NAMESPACE/]NAME].. [-n NAMESPACE] [--peaks N]
--- [--zone NAME=RULE].. [--zoneinfo DIR] [--explain]`
+-- [-o FORMAT] [--svg] [--zone NAME=RULE].. [--zoneinfo DIR] [--explain]`
 abbrev pub upcoming_app : App
 upcoming_app =
     let of = with_rule (with_rule (with_rule (new_app (codes "upcoming")) files_rule) from_rule) length_rule in
-    with_zones (with_rule (with_rule (with_rule of crons_rule) namespace_rule) peaks_rule)
+    let named = with_rule (with_rule (with_rule of crons_rule) namespace_rule) peaks_rule in
+    with_zones (with_rule (with_rule named lines_rule) (flag_rule (codes "svg")))
 
 -- a start that may be left out
 abbrev pub since_rule : Rule
 since_rule = record (new_rule (codes "after")) { long = Some (codes "after"); value_names = 1 }
 
--- `cronsim describe SCHEDULE [--after TIME] [--count N] [--zone RULE] [--time-zone NAME] [--zoneinfo DIR] [--explain]`
+-- `cronsim describe SCHEDULE [--after TIME] [--count N] [--zone RULE] [--time-zone NAME] [-o FORMAT] [--zoneinfo DIR]
+-- [--explain]`
 abbrev pub describe_app : App
 describe_app =
     let from = with_rule (with_rule (new_app (codes "describe")) schedule_rule) since_rule in
-    with_folder (with_rule (with_rule (with_rule from (count_rule (codes "5"))) zone_rule) time_zone_rule)
+    let zoned = with_rule (with_rule (with_rule from (count_rule (codes "5"))) zone_rule) time_zone_rule in
+    with_folder (with_rule zoned lines_rule)
 
 -- the commands on a schedule and on a manifest
 abbrev pub reading_app : App
@@ -243,6 +257,7 @@ pub record IsNext (rows : List Row) (r : NextRequest) : Type 0 where
   pub most : r.count ≤ 1_000
   pub zone : first_of (codes "zone") rows ≡ option_map (λ s. s.now) r.zone
   pub time_zone : first_of (codes "time-zone") rows ≡ option_map (λ s. s.now) r.time_zone
+  pub output : first_of (codes "output") rows ≡ Some r.output.now
   pub folder : first_of (codes "zoneinfo") rows ≡ option_map (λ s. s.now) r.folder
   pub explain : r.explain ≡ is_given (codes "explain") rows
 
@@ -250,6 +265,7 @@ pub record IsNext (rows : List Row) (r : NextRequest) : Type 0 where
 pub record IsCheck (rows : List Row) (r : CheckRequest) : Type 0 where
   pub files : texts_of (codes "file") rows ≡ map (λ s. s.now) r.files.items
   pub strict : r.strict ≡ is_given (codes "strict") rows
+  pub output : first_of (codes "output") rows ≡ Some r.output.now
   pub zones : AreZones rows r.zones
   pub explain : r.explain ≡ is_given (codes "explain") rows
 
@@ -257,6 +273,7 @@ pub record IsCheck (rows : List Row) (r : CheckRequest) : Type 0 where
 pub record IsPlan (rows : List Row) (r : PlanRequest) : Type 0 where
   pub file : first_of (codes "file") rows ≡ Some r.file.now
   pub moment : first_of (codes "now") rows ≡ Some r.moment.now
+  pub output : first_of (codes "output") rows ≡ Some r.output.now
   pub zones : AreZones rows r.zones
   pub explain : r.explain ≡ is_given (codes "explain") rows
 
@@ -275,6 +292,7 @@ pub record IsRunOf (rows : List Row) (r : RunRequest) : Type 0 where
   pub timeline : r.timeline ≡ is_given (codes "timeline") rows
   pub history : r.history ≡ is_given (codes "history") rows
   pub svg : r.svg ≡ is_given (codes "svg") rows
+  pub output : first_of (codes "output") rows ≡ Some r.output.now
   pub zones : AreZones rows r.zones
   pub explain : r.explain ≡ is_given (codes "explain") rows
 
@@ -292,6 +310,8 @@ pub record IsWhy (rows : List Row) (r : WhyRequest) : Type 0 where
 -- and for those of `audit`
 pub record IsAudit (rows : List Row) (r : AuditRequest) : Type 0 where
   pub file : first_of (codes "file") rows ≡ Some r.file.now
+  pub output : first_of (codes "output") rows ≡ Some r.output.now
+  pub svg : r.svg ≡ is_given (codes "svg") rows
   pub zones : AreZones rows r.zones
   pub explain : r.explain ≡ is_given (codes "explain") rows
 
@@ -304,6 +324,8 @@ pub record IsUpcoming (rows : List Row) (r : UpcomingRequest) : Type 0 where
   pub namespace : first_of (codes "namespace") rows ≡ option_map (λ s. s.now) r.namespace
   pub peaks : (text : Text) × (first_of (codes "peaks") rows ≡ Some text) × IsDecimal text r.peaks
   pub most : r.peaks ≤ 1_000
+  pub output : first_of (codes "output") rows ≡ Some r.output.now
+  pub svg : r.svg ≡ is_given (codes "svg") rows
   pub zones : AreZones rows r.zones
   pub explain : r.explain ≡ is_given (codes "explain") rows
 
@@ -316,6 +338,7 @@ pub record IsDescribe (rows : List Row) (r : DescribeRequest) : Type 0 where
   pub most : r.count ≤ 1_000
   pub zone : first_of (codes "zone") rows ≡ option_map (λ s. s.now) r.zone
   pub time_zone : first_of (codes "time-zone") rows ≡ option_map (λ s. s.now) r.time_zone
+  pub output : first_of (codes "output") rows ≡ Some r.output.now
   pub folder : first_of (codes "zoneinfo") rows ≡ option_map (λ s. s.now) r.folder
   pub explain : r.explain ≡ is_given (codes "explain") rows
 

@@ -1,6 +1,6 @@
 // The arguments of the commands.
 ghost use Rattle.cj_args.specs.Building.{IsArg, option_rule, positional_rule, required_rule};
-ghost use Rattle.cj_args.specs.Command.{count_rule, crons_rule, explain_rule, files_rule, flag_rule, length_rule, namespace_rule, output_rule, peaks_rule, workers_rule, zones_rule};
+ghost use Rattle.cj_args.specs.Command.{count_rule, crons_rule, explain_rule, files_rule, flag_rule, length_rule, lines_rule, namespace_rule, output_rule, peaks_rule, workers_rule, zones_rule};
 
 use crate::help;
 use clap::builder::ValueParser;
@@ -101,13 +101,20 @@ pub(crate) fn namespace_arg<'a>(alloc: Global) -> Arg<'a>
     option_arg(alloc, "namespace", "NAMESPACE", help::NAMESPACE).short('n')
 }
 
-/// How the CronJobs are printed.
-pub(crate) fn output_arg<'a>(alloc: Global) -> Arg<'a>
-    ensures { IsArg output_rule result }
+/// How the answer is printed, and how it is where nobody says so.
+pub(crate) fn output_arg<'a>(alloc: Global, usual: &'a str, forms: &'a str) -> Arg<'a>
+    ensures { IsArg (output_rule usual.entry.now) result }
 {
-    option_arg(alloc, "output", "FORMAT", help::OUTPUT)
+    option_arg(alloc, "output", "FORMAT", forms)
         .short('o')
-        .default_value("table")
+        .default_value(usual)
+}
+
+/// The same, where there are lines and JSON.
+pub(crate) fn lines_arg<'a>(alloc: Global) -> Arg<'a>
+    ensures { IsArg lines_rule result }
+{
+    output_arg(alloc, "lines", help::LINES)
 }
 
 /// The files of a command that takes several.

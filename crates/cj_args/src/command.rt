@@ -5,8 +5,8 @@ ghost use Rattle.cj_args.specs.Building.{IsArg, IsCommand, bare_app};
 ghost use Rattle.cj_args.specs.Command.{acting_app, audit_app, check_app, clustered_app, cronsim_app, deciding_app, describe_app, file_rule, next_app, plan_app, reading_app, replay_app, run_app, upcoming_app, why_app, with_folder, with_zones};
 
 use crate::arguments::{
-    count_arg, crons_arg, explain_arg, files_arg, flag_arg, length_arg, namespace_arg, option_arg,
-    output_arg, peaks_arg, positional_arg, required_arg, workers_arg, zones_arg,
+    count_arg, crons_arg, explain_arg, files_arg, flag_arg, length_arg, lines_arg, namespace_arg,
+    option_arg, output_arg, peaks_arg, positional_arg, required_arg, workers_arg, zones_arg,
 };
 use crate::help;
 use clap::{Arg, Command};
@@ -98,6 +98,7 @@ fn next_command<'a>(alloc: Global) -> Result<Command<'a>, AllocError>
         command,
         option_arg(alloc, "time-zone", "NAME", help::TIME_ZONE),
     );
+    let command = with_arg(command, lines_arg(alloc));
     with_folder(alloc, command)
 }
 
@@ -112,6 +113,7 @@ fn check_command<'a>(alloc: Global) -> Result<Command<'a>, AllocError>
     );
     let command = with_arg(Ok(command), files_arg(alloc, help::MANIFESTS));
     let command = with_arg(command, flag_arg(alloc, "strict", help::STRICT));
+    let command = with_arg(command, lines_arg(alloc));
     with_zones(alloc, command)
 }
 
@@ -126,6 +128,7 @@ fn plan_command<'a>(alloc: Global) -> Result<Command<'a>, AllocError>
         help::SCENARIO,
     );
     let command = with_arg(command, required_arg(alloc, "now", "TIME", help::MOMENT));
+    let command = with_arg(command, lines_arg(alloc));
     with_zones(alloc, command)
 }
 
@@ -156,6 +159,7 @@ fn run_command<'a>(alloc: Global) -> Result<Command<'a>, AllocError>
     let command = with_arg(command, flag_arg(alloc, "timeline", help::TIMELINE));
     let command = with_arg(command, flag_arg(alloc, "history", help::HISTORY));
     let command = with_arg(command, flag_arg(alloc, "svg", help::SVG));
+    let command = with_arg(command, output_arg(alloc, "lines", help::RAN));
     with_zones(alloc, command)
 }
 
@@ -172,7 +176,7 @@ fn why_command<'a>(alloc: Global) -> Result<Command<'a>, AllocError>
     let command = with_arg(command, option_arg(alloc, "now", "TIME", help::NOW));
     let command = with_arg(command, crons_arg(alloc));
     let command = with_arg(command, namespace_arg(alloc));
-    let command = with_arg(command, output_arg(alloc));
+    let command = with_arg(command, output_arg(alloc, "table", help::OUTPUT));
     let command = with_arg(command, flag_arg(alloc, "problems", help::PROBLEMS));
     with_zones(alloc, command)
 }
@@ -187,6 +191,8 @@ fn audit_command<'a>(alloc: Global) -> Result<Command<'a>, AllocError>
         help::AUDIT,
         help::CLUSTER,
     );
+    let command = with_arg(command, lines_arg(alloc));
+    let command = with_arg(command, flag_arg(alloc, "svg", help::DRAWN));
     with_zones(alloc, command)
 }
 
@@ -205,6 +211,8 @@ fn upcoming_command<'a>(alloc: Global) -> Result<Command<'a>, AllocError>
     let command = with_arg(command, crons_arg(alloc));
     let command = with_arg(command, namespace_arg(alloc));
     let command = with_arg(command, peaks_arg(alloc));
+    let command = with_arg(command, lines_arg(alloc));
+    let command = with_arg(command, flag_arg(alloc, "svg", help::DRAWN));
     with_zones(alloc, command)
 }
 
@@ -228,6 +236,7 @@ fn describe_command<'a>(alloc: Global) -> Result<Command<'a>, AllocError>
         command,
         option_arg(alloc, "time-zone", "NAME", help::TIME_ZONE),
     );
+    let command = with_arg(command, lines_arg(alloc));
     with_folder(alloc, command)
 }
 

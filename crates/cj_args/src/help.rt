@@ -83,6 +83,10 @@ pub(crate) const HISTORY: &str =
 pub(crate) const SVG: &str =
     "Print in place of the report a picture of the Jobs over time, as SVG; --timeline and --history go before it";
 
+/// The picture of other answers.
+pub(crate) const DRAWN: &str =
+    "Print a picture, as SVG, in place of lines; it goes before --output";
+
 /// CronJobs of a cluster.
 pub(crate) const CRON: &str =
     "Only this CronJob, as default/report, or as report in the namespace of -n, else in default; may be given several times";
@@ -92,7 +96,15 @@ pub(crate) const NAMESPACE: &str = "Only CronJobs of this namespace";
 
 /// How CronJobs are printed.
 pub(crate) const OUTPUT: &str =
-    "How the CronJobs are printed: table, for people, where --explain or a single --cron adds the reasons in full, or lines, for programs";
+    "How the CronJobs are printed: table, for people, where --explain or a single --cron adds the reasons in full; lines, for programs; or json, one JSON value with all of it";
+
+/// How other answers are.
+pub(crate) const LINES: &str =
+    "How the answer is printed: lines, or json, one JSON value with the same in it";
+
+/// How a run is.
+pub(crate) const RAN: &str =
+    "How the run is printed: lines, the report; or json, one JSON value with the Jobs that were made, the reasons that were told, and the due times that got no Job; --timeline, --history and --svg go before it";
 
 /// Which of them.
 pub(crate) const PROBLEMS: &str =
@@ -104,7 +116,7 @@ pub(crate) const NEXT: &str = "Example:
 
 Exit status:
   0  the times were printed
-  1  the schedule, the time or the zone is refused, as standard error says; --explain says why
+  1  the format, the schedule, the time or the zone is refused, as standard error says; --explain says why
   2  the words are wrong
   3  writing failed, or memory was wanting";
 
@@ -114,14 +126,16 @@ pub(crate) const CHECK: &str = "Examples:
   cronsim check --strict deploy/*.json
 
 What it prints:
-  ok KIND NAMESPACE/NAME   the manifest has no fault
-  warning FIELD            this member isn't known, so it is dropped; --explain names the one that is near
-  refused 2 FIELD CAUSE    a fault in this field
-  refused 1 Syntax         it is no JSON
+  ok KIND NAMESPACE/NAME                 the manifest has no fault
+  warning FIELD                          this member isn't known, so it is dropped; --explain names the one that is near
+  refused 2 FIELD CAUSE                  a fault in this field
+  refused 1 Syntax                       it is no JSON
+  item N ..                              of a list, one of these of its Nth item
+  item N duplicate KIND NAMESPACE/NAME   an earlier item has its name
 
 Exit status:
   0  no manifest has a fault, and with --strict none has a warning
-  1  one has, as standard output says; or a zone is refused, as standard error says; --explain says why
+  1  one has, as standard output says; or the format or a zone is refused, as standard error says; --explain says why
   2  the words are wrong
   3  reading or writing failed, or memory was wanting";
 
@@ -131,7 +145,7 @@ pub(crate) const PLAN: &str = "Example:
 
 Exit status:
   0  the plan was printed
-  1  the moment, a zone or the scenario is refused, as standard error says; --explain says why
+  1  the format, the moment, a zone or the scenario is refused, as standard error says; --explain says why
   2  the words are wrong
   3  reading or writing failed, or memory was wanting";
 
@@ -149,9 +163,16 @@ Exit status:
 pub(crate) const RUN: &str = "Example:
   cronsim run docs/examples/forbid.json --workers 2
 
+What --explain says of a run, on standard error:
+  which members and which keys of runs nobody reads
+  which creations and edits were refused, and why
+  why no Job was started, where none was
+  which due times got no Job, and why
+  which CronJobs are suspended in the end
+
 Exit status:
   0  the report was printed
-  1  a zone or the scenario is refused, as standard error says; --explain says why
+  1  the format, a zone or the scenario is refused, as standard error says; --explain says why
   2  the words are wrong
   3  a call found the history full, reading or writing failed, or memory or a thread was wanting";
 
@@ -198,11 +219,12 @@ What it prints:
   beside NAMESPACE/NAME JOB JOB         two Jobs ran at once, under Forbid or Replace
   undue NAMESPACE/NAME JOB TIME         the schedule isn't due at the Job's time
   early NAMESPACE/NAME JOB TIME         the Job was created before its time
+  missing NAMESPACE/NAME TIME           no Job stands for that due time, though later ones do
   stray NAMESPACE/JOB NAME              its CronJob isn't in the list
 
 Exit status:
   0  nothing was found and every item could be read
-  1  something was found or an item was refused, as standard output says; or a zone or the input is refused, as standard error says; --explain says why
+  1  something was found or an item was refused, as standard output says; or the format, a zone or the input is refused, as standard error says; --explain says why
   2  the words are wrong
   3  reading or writing failed, or memory was wanting";
 
@@ -213,6 +235,7 @@ pub(crate) const UPCOMING: &str = "Examples:
 
 What it prints:
   item N refused 2 FIELD CAUSE               the item is left out for this fault, which --explain explains; of several files behind FILE:
+  item N duplicate KIND NAMESPACE/NAME       an earlier item has its name
   start TIME NAMESPACE/NAME ..               these CronJobs are due in this minute
   suspended NAMESPACE/NAME                   it starts nothing, as spec.suspend is true
   never NAMESPACE/NAME                       its schedule comes at no time within 3,000 days
@@ -223,7 +246,7 @@ What it prints:
 
 Exit status:
   0  they were printed, and every item could be read
-  1  an item was refused, as standard output says; or the time, the length, a zone, a CronJob or the input is refused, as standard error says; --explain says why
+  1  an item was refused, as standard output says; or the format, the time, the length, a zone, a CronJob or the input is refused, as standard error says; --explain says why
   2  the words are wrong
   3  reading or writing failed, or memory was wanting";
 
@@ -240,6 +263,6 @@ What it prints behind the sentence:
 
 Exit status:
   0  they were printed
-  1  the schedule, the time or the zone is refused, as standard error says; --explain says why
+  1  the format, the schedule, the time or the zone is refused, as standard error says; --explain says why
   2  the words are wrong
   3  writing failed, or memory was wanting";

@@ -119,6 +119,8 @@ pub struct NextRequest<'a> {
     pub zone: Option<&'a str>,
     /// The name of the zone, which is looked up in the folder.
     pub time_zone: Option<&'a str>,
+    /// How the answer is printed: `lines` or `json`.
+    pub output: &'a str,
     /// The folder with compiled zone files.
     pub folder: Option<&'a str>,
     /// Whether a refusal is explained.
@@ -132,6 +134,8 @@ pub struct CheckRequest<'a> {
     pub files: Vec<&'a str>,
     /// Whether a manifest with a warning is refused.
     pub strict: bool,
+    /// How the answer is printed: `lines` or `json`.
+    pub output: &'a str,
     /// The zones that the manifests may name.
     pub zones: ZoneWords<'a>,
     /// Whether a refusal is explained.
@@ -152,6 +156,8 @@ pub struct PlanRequest<'a> {
     pub file: &'a str,
     /// The moment that the plan is for: a printed time.
     pub moment: &'a str,
+    /// How the answer is printed: `lines` or `json`.
+    pub output: &'a str,
     /// The zones that the CronJob may name.
     pub zones: ZoneWords<'a>,
     /// Whether a refusal is explained.
@@ -182,6 +188,8 @@ pub struct RunRequest<'a> {
     pub history: bool,
     /// Whether, without either, a picture is.
     pub svg: bool,
+    /// Without any of these, the form of what is printed: any text.
+    pub output: &'a str,
     /// The zones that the CronJobs may name.
     pub zones: ZoneWords<'a>,
     /// Whether a refusal is explained.
@@ -199,7 +207,7 @@ pub struct WhyRequest<'a> {
     pub crons: Vec<&'a str>,
     /// The namespace of those that are asked about; all of them where none is given.
     pub namespace: Option<&'a str>,
-    /// How they are printed: `table` or `lines`.
+    /// How they are printed: `table`, `lines` or `json`.
     pub output: &'a str,
     /// Whether only those are printed that want a look.
     pub problems: bool,
@@ -214,6 +222,10 @@ pub struct WhyRequest<'a> {
 pub struct AuditRequest<'a> {
     /// The name of the file with the cluster's objects; `-` is standard input.
     pub file: &'a str,
+    /// How the answer is printed: `lines` or `json`.
+    pub output: &'a str,
+    /// Whether a picture is printed in place of that.
+    pub svg: bool,
     /// The zones that the CronJobs may name.
     pub zones: ZoneWords<'a>,
     /// Whether a refusal is explained.
@@ -235,6 +247,10 @@ pub struct UpcomingRequest<'a> {
     pub namespace: Option<&'a str>,
     /// How many of the fullest minutes are asked for, 0 to 1,000.
     pub peaks: u16,
+    /// How the answer is printed: `lines` or `json`.
+    pub output: &'a str,
+    /// Whether a picture is printed in place of that.
+    pub svg: bool,
     /// The zones that the CronJobs may name.
     pub zones: ZoneWords<'a>,
     /// Whether a refusal is explained.
@@ -254,6 +270,8 @@ pub struct DescribeRequest<'a> {
     pub zone: Option<&'a str>,
     /// The name of the zone, which is looked up in the folder.
     pub time_zone: Option<&'a str>,
+    /// How the answer is printed: `lines` or `json`.
+    pub output: &'a str,
     /// The folder with compiled zone files.
     pub folder: Option<&'a str>,
     /// Whether a refusal is explained.

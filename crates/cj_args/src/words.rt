@@ -122,12 +122,14 @@ fn next_request<'a>(found: &ArgMatches<'a>) -> Result<NextRequest<'a>, WordFault
     let schedule = text(found, "schedule")?;
     let after = text(found, "after")?;
     let count = count(text(found, "count")?)?;
+    let output = text(found, "output")?;
     Ok(NextRequest {
         schedule,
         after,
         count,
         zone: optional_text(found, "zone"),
         time_zone: optional_text(found, "time-zone"),
+        output,
         folder: optional_text(found, "zoneinfo"),
         explain: is_given(found, "explain"),
     })
@@ -140,10 +142,12 @@ fn check_request<'a>(alloc: Global, found: &ArgMatches<'a>) -> Result<CheckReque
         ¬ (IsCheck (rows_of (found_of found.now)) r)) }
 {
     let strict = is_given(found, "strict");
+    let output = text(found, "output")?;
     let explain = is_given(found, "explain");
     Ok(CheckRequest {
         files: texts(alloc, found, "file")?,
         strict,
+        output,
         zones: zone_words(alloc, found)?,
         explain,
     })
@@ -157,10 +161,12 @@ fn plan_request<'a>(alloc: Global, found: &ArgMatches<'a>) -> Result<PlanRequest
 {
     let file = text(found, "file")?;
     let moment = text(found, "now")?;
+    let output = text(found, "output")?;
     let explain = is_given(found, "explain");
     Ok(PlanRequest {
         file,
         moment,
+        output,
         zones: zone_words(alloc, found)?,
         explain,
     })
@@ -192,6 +198,7 @@ fn run_request<'a>(alloc: Global, found: &ArgMatches<'a>) -> Result<RunRequest<'
     let timeline = is_given(found, "timeline");
     let history = is_given(found, "history");
     let svg = is_given(found, "svg");
+    let output = text(found, "output")?;
     let explain = is_given(found, "explain");
     Ok(RunRequest {
         file,
@@ -199,6 +206,7 @@ fn run_request<'a>(alloc: Global, found: &ArgMatches<'a>) -> Result<RunRequest<'
         timeline,
         history,
         svg,
+        output,
         zones: zone_words(alloc, found)?,
         explain,
     })
@@ -235,9 +243,13 @@ fn audit_request<'a>(alloc: Global, found: &ArgMatches<'a>) -> Result<AuditReque
         ¬ (IsAudit (rows_of (found_of found.now)) r)) }
 {
     let file = text(found, "file")?;
+    let output = text(found, "output")?;
+    let svg = is_given(found, "svg");
     let explain = is_given(found, "explain");
     Ok(AuditRequest {
         file,
+        output,
+        svg,
         zones: zone_words(alloc, found)?,
         explain,
     })
@@ -256,6 +268,8 @@ fn upcoming_request<'a>(
     let length = text(found, "for")?;
     let namespace = optional_text(found, "namespace");
     let peaks = peaks(text(found, "peaks")?)?;
+    let output = text(found, "output")?;
+    let svg = is_given(found, "svg");
     let explain = is_given(found, "explain");
     Ok(UpcomingRequest {
         files: texts(alloc, found, "file")?,
@@ -264,6 +278,8 @@ fn upcoming_request<'a>(
         crons: texts(alloc, found, "cron")?,
         namespace,
         peaks,
+        output,
+        svg,
         zones: zone_words(alloc, found)?,
         explain,
     })
@@ -277,12 +293,14 @@ fn describe_request<'a>(found: &ArgMatches<'a>) -> Result<DescribeRequest<'a>, W
 {
     let schedule = text(found, "schedule")?;
     let count = count(text(found, "count")?)?;
+    let output = text(found, "output")?;
     Ok(DescribeRequest {
         schedule,
         after: optional_text(found, "after"),
         count,
         zone: optional_text(found, "zone"),
         time_zone: optional_text(found, "time-zone"),
+        output,
         folder: optional_text(found, "zoneinfo"),
         explain: is_given(found, "explain"),
     })

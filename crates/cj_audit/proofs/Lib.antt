@@ -7,4 +7,6 @@ pub mod InMaps
 pub mod RunsIn
 pub mod Controls
 pub mod OfCron
+pub mod Marking
+pub mod Gaps
 pub mod Audited

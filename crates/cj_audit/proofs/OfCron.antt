@@ -16,7 +16,8 @@ use Rattle.cj_audit.specs.Kinds.{exclusive_of}
 use Rattle.cj_audit.specs.Runs.{AreRunsOf, IsRunOf}
 use Rattle.cj_audit.specs.Times.{is_undue, zone_for, IsUndueRun, IsUndueNote, IsEarlyRun}
 use Rattle.cj_audit.specs.Notes.{AnyOf, IsPairIn, Notes}
-use Rattle.cj_audit.specs.Findings.{IsPairOf, IsTwiceOf, IsBesideUnder, IsUndueOf, IsEarlyOf, IsFindingOf}
+use Rattle.cj_audit.specs.Findings.{IsPairOf, IsTwiceOf, IsBesideUnder, IsUndueOf, IsEarlyOf, IsAloneOf, IsFindingOf}
+use Rattle.cj_audit.specs.Missing.{IsMissingOf}
 use Rattle.cj_audit.proofs.Members.{IsIn, contains_in, in_all}
 use Rattle.cj_audit.proofs.Noting.{notes_as, notes_then}
 use Rattle.cj_audit.proofs.Walks.{any_in, in_any}
@@ -126,17 +127,38 @@ pairs_of p content c runs are a b n = notes_as (IsPairIn p c runs) (IsPairOf p c
       note = h.note;
     }) n
 
+-- For note_alone: what is noted of single Jobs, and of times that have none.
+pub noted_alone : (zones : List Zone) (content : Content) (c : ClusterCron) (s t u : BTreeSet Finding)
+    → Notes (λ f. IsUndueOf zones content c f ⊎ IsEarlyOf content c f) s t → Notes (IsMissingOf zones content c) t u
+    → Notes (IsAloneOf zones content c) s u
+noted_alone zones content c s t u n m =
+    notes_as (λ f. Single f ⊎ IsMissingOf zones content c f) (IsAloneOf zones content c) s u to from
+    (notes_then Single (IsMissingOf zones content c) s t u n m)
+  where
+    Single : Finding → Type 0
+    Single f = IsUndueOf zones content c f ⊎ IsEarlyOf content c f
+
+    to : (f : Finding) → Single f ⊎ IsMissingOf zones content c f → IsAloneOf zones content c f
+    to f (inl (inl h)) = inl h
+    to f (inl (inr h)) = inr (inl h)
+    to f (inr h) = inr (inr h)
+
+    from : (f : Finding) → IsAloneOf zones content c f → Single f ⊎ IsMissingOf zones content c f
+    from f (inl h) = inl (inl h)
+    from f (inr (inl h)) = inl (inr h)
+    from f (inr (inr h)) = inr h
+
 -- For note_cron: under a policy that allows no two Jobs, what is noted is all that is wrong with the CronJob's Jobs.
 pub noted_all : (zones : List Zone) (content : Content) (c : ClusterCron) (e : Exclusive)
     → exclusive_of c.cron.spec.policy ≡ Some e → (s t u v : BTreeSet Finding)
-    → Notes (λ f. IsUndueOf zones content c f ⊎ IsEarlyOf content c f) s t → Notes (IsPairOf SameTime content c) t u
+    → Notes (IsAloneOf zones content c) s t → Notes (IsPairOf SameTime content c) t u
     → Notes (IsPairOf (SideBySide e) content c) u v → Notes (IsFindingOf zones content c) s v
 noted_all zones content c e is s t u v n m o =
     notes_as (λ f. (Alone f ⊎ IsTwiceOf content c f) ⊎ Beside f) (IsFindingOf zones content c) s v to from
     (notes_then (λ f. Alone f ⊎ IsTwiceOf content c f) Beside s u v (notes_then Alone (IsTwiceOf content c) s t u n m) o)
   where
     Alone : Finding → Type 0
-    Alone f = IsUndueOf zones content c f ⊎ IsEarlyOf content c f
+    Alone f = IsAloneOf zones content c f
 
     Beside : Finding → Type 0
     Beside f = IsPairOf (SideBySide e) content c f
@@ -153,14 +175,14 @@ noted_all zones content c e is s t u v n m o =
 
 -- For note_cron: under the policy that allows two at once, nothing is noted of Jobs beside each other.
 pub noted_most : (zones : List Zone) (content : Content) (c : ClusterCron) → exclusive_of c.cron.spec.policy ≡ None
-    → (s t u : BTreeSet Finding) → Notes (λ f. IsUndueOf zones content c f ⊎ IsEarlyOf content c f) s t
+    → (s t u : BTreeSet Finding) → Notes (IsAloneOf zones content c) s t
     → Notes (IsPairOf SameTime content c) t u → Notes (IsFindingOf zones content c) s u
 noted_most zones content c is s t u n m =
     notes_as (λ f. Alone f ⊎ IsTwiceOf content c f) (IsFindingOf zones content c) s u to from
     (notes_then Alone (IsTwiceOf content c) s t u n m)
   where
     Alone : Finding → Type 0
-    Alone f = IsUndueOf zones content c f ⊎ IsEarlyOf content c f
+    Alone f = IsAloneOf zones content c f
 
     to : (f : Finding) → Alone f ⊎ IsTwiceOf content c f → IsFindingOf zones content c f
     to f (inl h) = inr (inr h)

@@ -10,7 +10,7 @@ use Rattle.std.specs.FinMap.{IsAntisymmetric, slice_cmp-IsAntisymmetric, nat_cmp
 use Rattle.std.proofs.lemmas.Cmp.{nat_cmp_total, nat_list_cmp_total, on_total, then_total, ranked}
 use Rattle.std.proofs.lemmas.List.Sorted.{ranks_by}
 use Rattle.cj_audit.specs.declared.kind.Exclusive.TheVariants.{UnderForbid, UnderReplace}
-use Rattle.cj_audit.specs.declared.kind.FindingKind.TheVariants.{Twice, Beside, Undue, Early, Stray}
+use Rattle.cj_audit.specs.declared.kind.FindingKind.TheVariants.{Twice, Beside, Undue, Early, Missing, Stray}
 use Rattle.cj_audit.specs.declared.pairing.Pairing.{Pairing}
 use Rattle.cj_audit.specs.declared.run.Run.{Run}
 use Rattle.cj_audit.specs.Order.{finding_cmp, kind_cmp}
@@ -29,6 +29,7 @@ kinds_exact (Beside UnderForbid) (Beside UnderForbid) e = refl
 kinds_exact (Beside UnderReplace) (Beside UnderReplace) e = refl
 kinds_exact Undue Undue e = refl
 kinds_exact Early Early e = refl
+kinds_exact Missing Missing e = refl
 kinds_exact Stray Stray e = refl
 kinds_exact a b e = absurd (cc e)
 

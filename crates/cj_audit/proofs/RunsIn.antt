@@ -77,8 +77,8 @@ in_runs times c (job ∷ jobs) run (inl is) owned timed made =
 in_runs times c (job ∷ jobs) run (inr rest) owned timed made =
     in_right run (run_at times c job) (runs_in times c jobs) (in_runs times c jobs run rest owned timed made)
 
--- For runs_are: a Job that the CronJob controls is one of its key.
-of_key : (c : ClusterCron) (job : Job) → is_of c job ≡ true → is_job_of c.cron.key job ≡ true
+-- A Job that the CronJob controls is one of its key.
+pub of_key : (c : ClusterCron) (job : Job) → is_of c job ≡ true → is_job_of c.cron.key job ≡ true
 of_key c job h = first_of (is_job_of c.cron.key job) (has_uid c.uid (controller_of job.owners)) h
 
 -- What is found among the Jobs of the CronJob's key are its Jobs.

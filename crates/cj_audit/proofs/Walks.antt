@@ -23,7 +23,7 @@ module _ {A : Type 0} where
       drop-cons xs i x inside ∙ ap (λ y. y ∷ drop (suc i) xs) (sym at) ∙ ap (λ n. x ∷ drop n xs) next
 
   -- Behind the end of a list there is nothing.
-  past_end : (xs : List A) (i : ℕ) → length xs ≤ i → drop i xs ≡ []
+  pub past_end : (xs : List A) (i : ℕ) → length xs ≤ i → drop i xs ≡ []
   past_end [] zero h = refl
   past_end [] (suc i) h = refl
   past_end (x ∷ xs) zero h = absurd (omega arith)

@@ -1,5 +1,5 @@
--- What is wrong in a cluster: Jobs that a correct controller would not have made (Kubernetes CronJob documentation,
--- "Concurrency policy" and "CronJob limitations").
+-- What is wrong in a cluster: Jobs that a correct controller would not have made, and due times for which it would have
+-- made one (Kubernetes CronJob documentation, "Concurrency policy" and "CronJob limitations").
 use Rattle.std.specs.Prelude.{◌≡◌, ◌⊎◌, ℕ, Bool, false, List, Option, Some, None, All, Contains}
 use Rattle.std.specs.List.{list_any}
 use Rattle.std.specs.List.Sorted.{IsStrictlySortedBy}
@@ -23,6 +23,7 @@ use Rattle.cj_audit.specs.Order.{finding_cmp}
 use Rattle.cj_audit.specs.Runs.{IsRunOf}
 use Rattle.cj_audit.specs.Pairs.{IsPairNote}
 use Rattle.cj_audit.specs.Times.{IsUndueRun, IsEarlyRun}
+use Rattle.cj_audit.specs.Missing.{IsMissingOf}
 
 -- two Jobs of the CronJob are such a pair
 pub record IsPairOf (p : Pairing) (content : Content) (c : ClusterCron) (f : Finding) : Type 0 where
@@ -60,9 +61,14 @@ pub record IsEarlyOf (content : Content) (c : ClusterCron) (f : Finding) : Type 
   pub run_of : IsRunOf content c run
   pub note : IsEarlyRun c run f
 
+-- what is wrong with one Job of the CronJob, or with a time that has none
+abbrev pub IsAloneOf : List Zone → Content → ClusterCron → Finding → Type 0
+IsAloneOf zones content c f =
+    IsUndueOf zones content c f ⊎ (IsEarlyOf content c f ⊎ IsMissingOf zones content c f)
+
 abbrev pub IsFindingOf : List Zone → Content → ClusterCron → Finding → Type 0
 IsFindingOf zones content c f =
-    IsTwiceOf content c f ⊎ (IsBesideOf content c f ⊎ (IsUndueOf zones content c f ⊎ IsEarlyOf content c f))
+    IsTwiceOf content c f ⊎ (IsBesideOf content c f ⊎ IsAloneOf zones content c f)
 
 -- a CronJob of the cluster controls this Job
 abbrev pub has_cron : Content → Job → Bool

@@ -4,8 +4,11 @@ pub mod Runs
 pub mod Manual
 pub mod Pairs
 pub mod Times
+pub mod Missing
 pub mod Notes
+pub mod Marks
 pub mod Findings
 pub mod Places
+pub mod Json
 pub mod Lines
 pub mod Words

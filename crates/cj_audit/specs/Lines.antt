@@ -2,7 +2,7 @@
 use Rattle.std.specs.Prelude.{ℕ, List, [], ◌∷◌, ◌++◌, codes, decimal, length, unwrap_or}
 use Rattle.cj_zone.specs.TimeText.{time_text_of}
 use Rattle.cj_audit.specs.declared.kind.FindingKind.{FindingKind}
-use Rattle.cj_audit.specs.declared.kind.FindingKind.TheVariants.{Twice, Beside, Undue, Early, Stray}
+use Rattle.cj_audit.specs.declared.kind.FindingKind.TheVariants.{Twice, Beside, Undue, Early, Missing, Stray}
 use Rattle.cj_audit.specs.declared.finding.Finding.{Finding}
 
 -- the name of the second Job, and nothing where there is one
@@ -37,6 +37,12 @@ early_line f time =
     codes "early " ++ (f.namespace ++ (codes "/" ++ (f.cron ++ (codes " " ++ (f.first ++ (codes " "
     ++ (time ++ codes "\n")))))))
 
+-- `missing NAMESPACE/NAME TIME`
+-- rule: audit-lines
+abbrev pub missing_line : Finding → List ℕ → List ℕ
+missing_line f time =
+    codes "missing " ++ (f.namespace ++ (codes "/" ++ (f.cron ++ (codes " " ++ (time ++ codes "\n")))))
+
 -- `stray NAMESPACE/JOB NAME`
 -- rule: audit-lines
 abbrev pub stray_line : Finding → List ℕ
@@ -48,6 +54,7 @@ line_by Twice f = twice_line f (time_text_of f.time)
 line_by (Beside e) f = beside_line f
 line_by Undue f = undue_line f (time_text_of f.time)
 line_by Early f = early_line f (time_text_of f.time)
+line_by Missing f = missing_line f (time_text_of f.time)
 line_by Stray f = stray_line f
 
 abbrev pub finding_line : Finding → List ℕ

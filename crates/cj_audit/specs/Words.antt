@@ -5,7 +5,7 @@ use Rattle.cj_zone.specs.TimeText.{time_text_of}
 use Rattle.cj_audit.specs.declared.kind.Exclusive.{Exclusive}
 use Rattle.cj_audit.specs.declared.kind.Exclusive.TheVariants.{UnderForbid, UnderReplace}
 use Rattle.cj_audit.specs.declared.kind.FindingKind.{FindingKind}
-use Rattle.cj_audit.specs.declared.kind.FindingKind.TheVariants.{Twice, Beside, Undue, Early, Stray}
+use Rattle.cj_audit.specs.declared.kind.FindingKind.TheVariants.{Twice, Beside, Undue, Early, Missing, Stray}
 use Rattle.cj_audit.specs.declared.finding.Finding.{Finding}
 use Rattle.cj_audit.specs.Lines.{second_name}
 
@@ -39,6 +39,17 @@ early_words f time =
     ++ (codes " was created before " ++ (time ++ codes ", by a clock that is ahead\n")))))))
 
 -- rule: audit-explained
+unfoldable pub missing_end : List ℕ
+missing_end =
+    codes "; the controller may have been down, or the Job was deleted, by somebody or by its TTL, or the CronJob was changed or suspended for a while\n"
+
+-- rule: audit-explained
+unfoldable pub missing_words : Finding → List ℕ → List ℕ
+missing_words f time =
+    codes "missing " ++ (f.namespace ++ (codes "/" ++ (f.cron ++ (codes ": no Job stands for "
+    ++ (time ++ (codes ", though later ones do" ++ missing_end))))))
+
+-- rule: audit-explained
 unfoldable pub stray_end : List ℕ
 stray_end = codes " that isn't in the list, or one of that name made anew\n"
 
@@ -53,6 +64,7 @@ words_by Twice f = twice_words f (time_text_of f.time)
 words_by (Beside e) f = beside_words e f (time_text_of f.time)
 words_by Undue f = undue_words f (time_text_of f.time)
 words_by Early f = early_words f (time_text_of f.time)
+words_by Missing f = missing_words f (time_text_of f.time)
 words_by Stray f = stray_words f
 
 abbrev pub finding_words : Finding → List ℕ

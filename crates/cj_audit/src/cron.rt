@@ -5,11 +5,13 @@ ghost use Rattle.cj_types.specs.Keys.{is_place};
 ghost use Rattle.cj_zone.specs.Table.{zones_of};
 ghost use Rattle.cj_audit.specs.Times.{run_finding, IsUndueNote, IsEarlyRun, IsSingleNote};
 ghost use Rattle.cj_audit.specs.Notes.{Notes, AnyOf};
-ghost use Rattle.cj_audit.specs.Findings.{IsFindingOf};
+ghost use Rattle.cj_audit.specs.Runs.{AreRunsOf};
+ghost use Rattle.cj_audit.specs.Findings.{IsAloneOf, IsFindingOf};
 
 use crate::clock::{is_undue, schedule_of, zone_for};
 use crate::finding::Finding;
 use crate::kind::{Exclusive, FindingKind};
+use crate::missing::note_missing;
 use crate::note::note;
 use crate::pair::note_pairs;
 use crate::pairing::Pairing;
@@ -111,6 +113,27 @@ fn note_singles(
     Ok(())
 }
 
+// Notes what is wrong with single Jobs of a CronJob, and its due times that have none.
+fn note_alone(
+    alloc: Global,
+    zones: &ZoneTable,
+    cluster: &Cluster,
+    cron: &ClusterCron,
+    runs: &[Run],
+    notes: &mut BTreeSet<Finding>,
+) -> Result<(), Refusal>
+    requires { AreRunsOf cluster.now cron.now runs.now }
+    ensures ok { OnOk result (Notes (IsAloneOf (zones_of zones.now) cluster.now cron.now)
+        notes.old notes.new) }
+    ensures memory { IfErr result (λ e. e ≡ OutOfMemory) }
+{
+    let spec = cron.cron.spec.get();
+    let (schedule, zone) = (schedule_of(spec), zone_for(zones, &spec.time_zone));
+    let schedule = schedule.as_ref();
+    note_singles(alloc, schedule, zone, cron, runs, notes)?;
+    note_missing(alloc, schedule, zone, cluster, cron, runs, notes)
+}
+
 /// Notes what is wrong with the Jobs of a CronJob.
 pub(crate) fn note_cron(
     alloc: Global,
@@ -125,11 +148,9 @@ pub(crate) fn note_cron(
     ensures short { IsTrue (is_place longest_cron cron.now.cron.key) }
 {
     let mut runs = runs_of(alloc, cluster, cron)?;
-    let spec = cron.cron.spec.get();
-    let (schedule, zone) = (schedule_of(spec), zone_for(zones, &spec.time_zone));
-    note_singles(alloc, schedule.as_ref(), zone, cron, runs.as_slice(), notes)?;
+    note_alone(alloc, zones, cluster, cron, runs.as_slice(), notes)?;
     note_pairs(alloc, Pairing::SameTime, cron, &mut runs, notes)?;
-    if let Some(exclusive) = Exclusive::of(spec.policy) {
+    if let Some(exclusive) = Exclusive::of(cron.cron.spec.get().policy) {
         note_pairs(
             alloc,
             Pairing::SideBySide(exclusive),

@@ -11,7 +11,7 @@ use crate::kind::FindingKind;
 use cj_types::{Seconds, Text};
 use std::cmp::Ordering;
 
-/// Something that a correct controller would not have done, with what it is told by.
+/// Something that a correct controller would not have done, or would have, with what it is told by.
 ///
 /// Findings are in the order of the CronJob's namespace, its name, the time, the first Job, the second, and the kind.
 #[derive(Debug, Drop)]
@@ -20,10 +20,10 @@ pub struct Finding {
     pub namespace: Text,
     /// The name of the CronJob; of a stray Job the name in its controller reference, which may be any text.
     pub cron: Text,
-    /// The scheduled time of the Jobs; of two Jobs beside each other the creation time of the second, of a stray Job
+    /// The scheduled time of the Jobs, or the due time that has none; of two Jobs beside each other the creation time of the second, of a stray Job
     /// its own.
     pub time: Seconds,
-    /// The name of the Job, or of the first of two.
+    /// The name of the Job, or of the first of two; empty where a time has none.
     pub first: Text,
     /// The name of the second, where there are two.
     pub second: Option<Text>,

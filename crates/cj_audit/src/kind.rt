@@ -25,7 +25,7 @@ impl Exclusive {
     }
 }
 
-/// What is wrong with a Job, or with two.
+/// What is wrong with a Job, with two, or with a time that has none.
 #[derive(Clone, Copy, Debug, PartialEq, Eq, PartialOrd, Ord)]
 pub enum FindingKind {
     /// Two Jobs of one CronJob were made for one scheduled time.
@@ -36,6 +36,8 @@ pub enum FindingKind {
     Undue,
     /// The Job was created before its scheduled time.
     Early,
+    /// A time at which the schedule of the CronJob is due has no Job, though later times have.
+    Missing,
     /// The Job is controlled by a CronJob that isn't there.
     Stray,
 }

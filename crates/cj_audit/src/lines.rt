@@ -1,7 +1,7 @@
 // The fixed lines of an audit.
 ghost use Rattle.std.specs.Prelude.{◌≡◌, IfOk, IfErr, string_bytes};
 ghost use Rattle.cj_base.specs.declared.refusal.Refusal.TheVariants.{OutOfMemory};
-ghost use Rattle.cj_audit.specs.Lines.{audit_lines, beside_line, counts_line, early_line, finding_line, lines_of, stray_line, twice_line, undue_line};
+ghost use Rattle.cj_audit.specs.Lines.{audit_lines, beside_line, counts_line, early_line, finding_line, lines_of, missing_line, stray_line, twice_line, undue_line};
 
 use crate::finding::Finding;
 use crate::findings::Findings;
@@ -42,6 +42,13 @@ fn early_line(alloc: Global, finding: &Finding, time: &str) -> Result<String, Al
     format!(in alloc; "early {namespace}/{cron} {job} {time}\n")
 }
 
+fn missing_line(alloc: Global, finding: &Finding, time: &str) -> Result<String, AllocError>
+    ensures { IfOk result (λ s. string_bytes s ≡ missing_line finding.now time.now) }
+{
+    let (namespace, cron) = (finding.namespace.as_str(), finding.cron.as_str());
+    format!(in alloc; "missing {namespace}/{cron} {time}\n")
+}
+
 fn stray_line(alloc: Global, finding: &Finding) -> Result<String, AllocError>
     ensures { IfOk result (λ s. string_bytes s ≡ stray_line finding.now) }
 {
@@ -61,6 +68,7 @@ fn finding_line(alloc: Global, finding: &Finding) -> Result<String, Refusal>
         FindingKind::Beside(_) => beside_line(alloc, finding)?,
         FindingKind::Undue => undue_line(alloc, finding, time)?,
         FindingKind::Early => early_line(alloc, finding, time)?,
+        FindingKind::Missing => missing_line(alloc, finding, time)?,
         FindingKind::Stray => stray_line(alloc, finding)?,
     };
     Ok(line)

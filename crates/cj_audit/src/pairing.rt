@@ -101,8 +101,8 @@ fn at_one_time(a: Option<Seconds>, b: Option<Seconds>) -> bool
     }
 }
 
-// Whether the time is before the end of a Job, which may not have ended.
-fn before_end(time: Seconds, ended: Option<Seconds>) -> bool
+/// Whether the time is before the end of a Job, which may not have ended.
+pub(crate) fn before_end(time: Seconds, ended: Option<Seconds>) -> bool
     ensures { result ≡ before_end time ended }
 {
     match ended {

@@ -9,9 +9,9 @@ use cj_cluster::{Cluster, ClusterCron, JobTimes};
 use cj_types::{Job, Refusal, Shared};
 use std::alloc::Global;
 
-// A Job of a CronJob with its times.
+/// A Job of a CronJob that its controller made, with its times.
 #[derive(Drop)]
-pub(crate) struct Run {
+pub struct Run {
     pub job: Shared<Job>,
     pub times: JobTimes,
 }
@@ -60,11 +60,7 @@ fn runs_in(
 }
 
 /// The Jobs of the CronJob that its controller made, with their times, in the order of their names.
-pub(crate) fn runs_of(
-    alloc: Global,
-    cluster: &Cluster,
-    cron: &ClusterCron,
-) -> Result<Vec<Run>, Refusal>
+pub fn runs_of(alloc: Global, cluster: &Cluster, cron: &ClusterCron) -> Result<Vec<Run>, Refusal>
     ensures ok { IfOk result (λ v. v.items ≡ runs_in cluster.now.times cron.now
         (owned_by cluster.now.jobs cron.now.cron.key)) }
     ensures memory { IfErr result (λ e. e ≡ OutOfMemory) }

@@ -1,7 +1,7 @@
 // What is said of findings for people.
 ghost use Rattle.std.specs.Prelude.{◌≡◌, IfOk, IfErr, string_bytes};
 ghost use Rattle.cj_base.specs.declared.refusal.Refusal.TheVariants.{OutOfMemory};
-ghost use Rattle.cj_audit.specs.Words.{audit_words, beside_words, early_words, finding_words, policy_words, stray_end, stray_words, twice_words, undue_words};
+ghost use Rattle.cj_audit.specs.Words.{audit_words, beside_words, early_words, finding_words, missing_end, missing_words, policy_words, stray_end, stray_words, twice_words, undue_words};
 
 use crate::finding::Finding;
 use crate::findings::Findings;
@@ -70,6 +70,24 @@ fn early_words(alloc: Global, finding: &Finding, time: &str) -> Result<String, A
     )
 }
 
+#[tactic(auto, unfolding(crate::specs::Words::missing_end))]
+fn missing_end() -> &'static str
+    ensures { result.now ≡ missing_end }
+{
+    "; the controller may have been down, or the Job was deleted, by somebody or by its TTL, or the CronJob was changed or suspended for a while\n"
+}
+
+#[tactic(auto, unfolding(crate::specs::Words::missing_words))]
+fn missing_words(alloc: Global, finding: &Finding, time: &str) -> Result<String, AllocError>
+    ensures { IfOk result (λ s. string_bytes s ≡ missing_words finding.now time.now) }
+{
+    let (namespace, cron) = (finding.namespace.as_str(), finding.cron.as_str());
+    let end = missing_end();
+    format!(in alloc;
+        "missing {namespace}/{cron}: no Job stands for {time}, though later ones do{end}"
+    )
+}
+
 #[tactic(auto, unfolding(crate::specs::Words::stray_end))]
 fn stray_end() -> &'static str
     ensures { result.now ≡ stray_end }
@@ -87,7 +105,8 @@ fn stray_words(alloc: Global, finding: &Finding) -> Result<String, AllocError>
     format!(in alloc; "stray {namespace}/{job}: its controller is a CronJob {cron}{end}")
 }
 
-fn finding_words(alloc: Global, finding: &Finding) -> Result<String, Refusal>
+/// What a finding means, a line.
+pub fn finding_words(alloc: Global, finding: &Finding) -> Result<String, Refusal>
     ensures ok { IfOk result (λ s. string_bytes s ≡ finding_words finding.now) }
     ensures memory { IfErr result (λ e. e ≡ OutOfMemory) }
 {
@@ -98,6 +117,7 @@ fn finding_words(alloc: Global, finding: &Finding) -> Result<String, Refusal>
         FindingKind::Beside(exclusive) => beside_words(alloc, exclusive, finding, time)?,
         FindingKind::Undue => undue_words(alloc, finding, time)?,
         FindingKind::Early => early_words(alloc, finding, time)?,
+        FindingKind::Missing => missing_words(alloc, finding, time)?,
         FindingKind::Stray => stray_words(alloc, finding)?,
     };
     Ok(line)

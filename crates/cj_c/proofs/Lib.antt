@@ -1,1 +1,4 @@
+mod Depths
+mod NoFloats
+mod ZonesTold
 pub mod HeldSteps

@@ -3,3 +3,4 @@ pub mod Faults
 pub mod Opening
 pub mod Shown
 pub mod Times
+pub mod answers

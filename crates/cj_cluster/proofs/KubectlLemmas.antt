@@ -4,3 +4,4 @@ pub mod ActiveLemmas
 pub mod Depth
 pub mod ListLemmas
 pub mod ItemLemmas
+pub mod TextLemmas

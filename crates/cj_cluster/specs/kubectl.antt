@@ -6,3 +6,4 @@ pub mod Faults
 pub mod Named
 pub mod Objects
 pub mod Reading
+pub mod Texts

@@ -14,11 +14,14 @@ mod notes;
 mod read;
 mod runs;
 mod status;
+mod texts;
 mod times;
+mod typed;
 
 pub use fault::ListFault;
 pub use instant::read_instant;
 pub use list::ClusterList;
 pub use named::CronName;
-pub use notes::{ItemNote, ItemNotes, Said, is_of_refused};
+pub use notes::{ItemNote, ItemNotes, ListedKind, Said, is_of_refused};
 pub use read::read_cluster;
+pub use texts::item_texts;

@@ -13,7 +13,7 @@ mod times;
 pub use cluster::Cluster;
 pub use cron::ClusterCron;
 pub use kubectl::{
-    ClusterList, CronName, ItemNote, ItemNotes, ListFault, Said, is_of_refused, read_cluster,
-    read_instant,
+    ClusterList, CronName, ItemNote, ItemNotes, ListFault, ListedKind, Said, is_of_refused,
+    item_texts, read_cluster, read_instant,
 };
 pub use times::JobTimes;

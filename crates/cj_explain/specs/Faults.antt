@@ -1,5 +1,5 @@
 -- What is said of a field of a manifest that is refused.
-use Rattle.std.specs.Prelude.{ℕ, ◌==◌, List, [], ◌∷◌, ◌++◌, codes, if◌then◌else◌}
+use Rattle.std.specs.Prelude.{◌≡◌, ℕ, ◌==◌, List, [], ◌∷◌, ◌++◌, Option, Some, codes, if◌then◌else◌}
 use Rattle.cj_base.specs.Field.{path_of}
 use Rattle.cj_base.specs.declared.cause.Cause.{Cause}
 use Rattle.cj_base.specs.declared.cause.Cause.TheVariants as Why
@@ -7,7 +7,7 @@ use Rattle.cj_base.specs.declared.field.Field.{Field}
 use Rattle.cj_base.specs.declared.faults.FieldFault.{FieldFault}
 use Rattle.cj_base.specs.declared.schedule_fault.ScheduleFault.{ScheduleFault}
 use Rattle.cj_explain.specs.Fields.{choices, form, most, need, numbers, text_form}
-use Rattle.cj_explain.specs.Schedules.{cause_words, placed}
+use Rattle.cj_explain.specs.Schedules.{IsWords, cause_words, placed}
 
 -- of a schedule, whose element isn't shown
 abbrev pub schedule_words : ScheduleFault → List ℕ
@@ -40,7 +40,27 @@ cause_of field (Why.Schedule f) = schedule_words f
 abbrev pub fault_words : FieldFault → List ℕ
 fault_words f = path_of f.field ++ (codes ": " ++ (cause_of f.field f.cause ++ codes "\n"))
 
+-- ---- with the text of the schedule at hand
+
+-- what is wrong with the text, and with which of its elements
+-- rule: explain-field
+pub record IsScheduleLine (text : List ℕ) (field : Field) (f : ScheduleFault) (line : List ℕ) : Type 0 where
+  pub words : List ℕ
+  pub are : IsWords text f words
+  pub is : line ≡ path_of field ++ (codes ": " ++ (words ++ codes "\n"))
+
+-- the line of a fault, where the text of the schedule may be at hand
+abbrev pub IsFaultLineBy : Option (List ℕ) → FieldFault → Cause → List ℕ → Type 0
+IsFaultLineBy (Some text) fault (Why.Schedule f) line = IsScheduleLine text fault.field f line
+IsFaultLineBy text fault cause line = line ≡ fault_words fault
+
+-- rule: explain-field
+abbrev pub IsFaultLine : Option (List ℕ) → FieldFault → List ℕ → Type 0
+IsFaultLine text fault line = IsFaultLineBy text fault fault.cause line
+
 -- a line for each
-abbrev pub faults_words : List FieldFault → List ℕ
-faults_words [] = []
-faults_words (f ∷ fs) = fault_words f ++ faults_words fs
+-- rule: explain-field
+abbrev pub AreFaultLines : Option (List ℕ) → List FieldFault → List ℕ → Type 0
+AreFaultLines text [] lines = lines ≡ []
+AreFaultLines text (f ∷ fs) lines =
+    (line : List ℕ) × (rest : List ℕ) × IsFaultLine text f line × AreFaultLines text fs rest × (lines ≡ line ++ rest)

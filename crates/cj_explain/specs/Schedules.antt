@@ -25,15 +25,20 @@ cause_words field Of.Length = codes "longer than 1,024 bytes"
 cause_words field Of.Empty = codes "nothing but blanks"
 cause_words field Of.Zone = codes "no time zone may stand in it; give it by --zone, or in a manifest as spec.timeZone"
 cause_words field Of.Macro = codes "no macro here; there are @hourly, @daily, @midnight, @weekly, @monthly, @yearly and @annually"
-cause_words field Of.Fields = codes "not 5 fields"
+cause_words field Of.Fields = codes "5 fields are wanted: minute, hour, day of month, month, day of week"
 cause_words field Of.Syntax = codes "none of the forms *, N, A-B, */S, N/S and A-B/S"
 cause_words field Of.Range = numbers field
 cause_words field Of.Order = codes "a range that ends before it begins"
 cause_words field Of.Step = codes "a step that is 0 or has more than nine digits"
 
 -- how many fields there are, and which are wanted
+abbrev pub count_words_for : ℕ → List ℕ
+count_words_for n =
+    decimal n ++ (if n == 1 then codes " field, 5 are wanted: minute, hour, day of month, month, day of week"
+    else codes " fields, 5 are wanted: minute, hour, day of month, month, day of week")
+
 abbrev pub count_words : List ℕ → List ℕ
-count_words text = decimal (field_count text) ++ codes " fields, 5 are wanted: minute, hour, day of month, month, day of week"
+count_words text = count_words_for (field_count text)
 
 -- which field, where, and what is wrong
 abbrev pub placed : ScheduleFault → List ℕ → List ℕ

@@ -1,9 +1,9 @@
 // What is wrong with a field of a manifest.
-ghost use Rattle.std.specs.Prelude.{◌≡◌, IfOk, string_bytes};
-ghost use Rattle.cj_explain.specs.Faults.{cause_of, fault_words, faults_words, missing, schedule_words, wanted};
+ghost use Rattle.std.specs.Prelude.{◌≡◌, IfOk, option_map, string_bytes};
+ghost use Rattle.cj_explain.specs.Faults.{AreFaultLines, IsFaultLine, IsScheduleLine, cause_of, fault_words, missing, schedule_words, wanted};
 
 use crate::field::{choices, form, most, need, numbers, text_form};
-use crate::schedule::{cause_words, title};
+use crate::schedule::{cause_words, title, words};
 use cj_base::{Cause, Field, FieldFault, ScheduleFault};
 use std::alloc::{AllocError, Global};
 
@@ -66,14 +66,44 @@ pub fn explain_fault(alloc: Global, fault: FieldFault) -> Result<String, AllocEr
     format!(in alloc; "{path}: {words}\n")
 }
 
-/// A line for each fault.
-pub fn explain_faults(alloc: Global, faults: &[FieldFault]) -> Result<String, AllocError>
-    ensures { IfOk result (λ s. string_bytes s ≡ faults_words faults.now) }
+// The line of a schedule whose text is at hand.
+fn schedule_line(
+    alloc: Global,
+    text: &str,
+    field: Field,
+    fault: ScheduleFault,
+) -> Result<String, AllocError>
+    ensures { IfOk result (λ s. IsScheduleLine text.now field fault (string_bytes s)) }
 {
-    let mut text = String::new(alloc);
-    for fault in faults {
-        let line = explain_fault(alloc, *fault)?;
-        text.push_str(line.as_str())?;
+    let path = field.path();
+    let words = words(alloc, text, fault)?;
+    let words = words.as_str();
+    format!(in alloc; "{path}: {words}\n")
+}
+
+fn fault_line(alloc: Global, text: Option<&str>, fault: &FieldFault) -> Result<String, AllocError>
+    ensures { IfOk result (λ s. IsFaultLine (option_map (λ s. s.now) text.entry) fault.now
+        (string_bytes s)) }
+{
+    match (text, fault.cause) {
+        (Some(text), Cause::Schedule(found)) => schedule_line(alloc, text, fault.field, found),
+        _ => explain_fault(alloc, *fault),
     }
-    Ok(text)
+}
+
+/// A line for each fault of a manifest, by the text of its schedule where that is at hand.
+pub fn explain_faults(
+    alloc: Global,
+    text: Option<&str>,
+    faults: &[FieldFault],
+) -> Result<String, AllocError>
+    ensures { IfOk result (λ s. AreFaultLines (option_map (λ s. s.now) text.entry) faults.now
+        (string_bytes s)) }
+{
+    let mut lines = String::new(alloc);
+    for fault in faults {
+        let line = fault_line(alloc, text, fault)?;
+        lines.push_str(line.as_str())?;
+    }
+    Ok(lines)
 }

@@ -45,7 +45,9 @@ pub(crate) fn cause_words(field: u8, cause: ScheduleCause) -> &'static str
         ScheduleCause::Macro => {
             "no macro here; there are @hourly, @daily, @midnight, @weekly, @monthly, @yearly and @annually"
         }
-        ScheduleCause::Fields => "not 5 fields",
+        ScheduleCause::Fields => {
+            "5 fields are wanted: minute, hour, day of month, month, day of week"
+        }
         ScheduleCause::Syntax => "none of the forms *, N, A-B, */S, N/S and A-B/S",
         ScheduleCause::Range => numbers(field),
         ScheduleCause::Order => "a range that ends before it begins",
@@ -58,9 +60,12 @@ fn count_words(alloc: Global, text: &str) -> Result<String, AllocError>
     ensures { IfOk result (λ s. string_bytes s ≡ count_words text.now) }
 {
     let count = field_count(text);
-    format!(in alloc;
-        "{count} fields, 5 are wanted: minute, hour, day of month, month, day of week"
-    )
+    let wanted = if count == 1 {
+        " field, 5 are wanted: minute, hour, day of month, month, day of week"
+    } else {
+        " fields, 5 are wanted: minute, hour, day of month, month, day of week"
+    };
+    format!(in alloc; "{count}{wanted}")
 }
 
 // What is wrong with an element, which is shown.
@@ -74,7 +79,8 @@ fn element_words(alloc: Global, text: &str, fault: ScheduleFault) -> Result<Stri
     format!(in alloc; "field {field} ({title}), byte {byte}: '{shown}' is {words}")
 }
 
-fn words(alloc: Global, text: &str, fault: ScheduleFault) -> Result<String, AllocError>
+/// What is wrong with the text of a schedule.
+pub(crate) fn words(alloc: Global, text: &str, fault: ScheduleFault) -> Result<String, AllocError>
     ensures { IfOk result (λ s. IsWords text.now fault (string_bytes s)) }
 {
     match fault.cause {

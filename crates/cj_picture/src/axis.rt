@@ -3,8 +3,6 @@ ghost use Rattle.std.specs.Prelude.{◌≡◌, IfErr};
 ghost use Rattle.cj_base.specs.declared.refusal.Refusal.TheVariants.{OutOfMemory};
 
 use crate::svg::tenths;
-use cj_calls::Entry;
-use cj_report::told_moment;
 use cj_types::{Refusal, Seconds};
 use cj_zone::time_text;
 use std::alloc::Global;
@@ -53,28 +51,30 @@ const STEPS: [u64; 18] = [
 const MOST: u64 = 8;
 
 impl Axis {
-    /// The moments that the calls of these entries tell.
-    pub(crate) fn new(entries: &[Entry]) -> Axis {
-        let mut axis = Axis {
+    /// No moment yet.
+    pub(crate) fn empty() -> Axis {
+        Axis {
             start: Seconds::LAST,
             end: 0,
-        };
-        for entry in entries {
-            axis = axis.with(told_moment(entry.call()));
-        }
-        Axis {
-            start: axis.start.min(axis.end),
-            end: axis.end,
         }
     }
 
-    fn with(self, at: Option<Seconds>) -> Axis {
+    /// With a moment more, if there is one.
+    pub(crate) fn with(self, at: Option<Seconds>) -> Axis {
         match at {
             Some(at) => Axis {
                 start: self.start.min(at.get()),
                 end: self.end.max(at.get()),
             },
             None => self,
+        }
+    }
+
+    /// With the start not after the end, also where there is no moment.
+    pub(crate) fn whole(self) -> Axis {
+        Axis {
+            start: self.start.min(self.end),
+            end: self.end,
         }
     }
 
@@ -139,6 +139,18 @@ fn label(alloc: Global, step: u64, at: u64) -> Result<String, Refusal>
     Ok(String::from_str(alloc, shown)?)
 }
 
+fn push_label(alloc: Global, text: &mut String, x: &str, y: u64, label: &str) -> Result<(), Refusal>
+    ensures err { IfErr result (λ e. e ≡ OutOfMemory) }
+{
+    let words = format!(in alloc;
+        "<text class=\"dim\" x=\"{x}\" y=\"{y}\" text-anchor=\"middle\">{label}</text>\n"
+    )?;
+    Ok(text.push_str(words.as_str())?)
+}
+
+// Pictures that end below this have the moments below the lanes too.
+const LONG: u64 = 700;
+
 fn push_tick(
     alloc: Global,
     text: &mut String,
@@ -154,12 +166,17 @@ fn push_tick(
     let label = label(alloc, step, at)?;
     let label = label.as_str();
     let line = format!(in alloc;
-        "<line class=\"grid\" x1=\"{x}\" y1=\"74\" x2=\"{x}\" y2=\"{bottom}\"/><text class=\"dim\" x=\"{x}\" y=\"68\" text-anchor=\"middle\">{label}</text>\n"
+        "<line class=\"grid\" x1=\"{x}\" y1=\"74\" x2=\"{x}\" y2=\"{bottom}\"/>"
     )?;
-    Ok(text.push_str(line.as_str())?)
+    text.push_str(line.as_str())?;
+    push_label(alloc, text, x, 68, label)?;
+    if bottom > LONG {
+        push_label(alloc, text, x, bottom.saturating_add(12), label)?;
+    }
+    Ok(())
 }
 
-/// A line through the lanes for each of these moments, with the moment above it.
+/// A line through the lanes for each of these moments, with the moment above it, and below it in a long picture.
 pub(crate) fn push_ticks(
     alloc: Global,
     text: &mut String,

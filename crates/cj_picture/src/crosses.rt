@@ -1,129 +1,51 @@
-// The crosses: where a time got no Job, or had to wait for one.
+// The crosses: where a time got no Job, or something is wrong.
 ghost use Rattle.std.specs.Prelude.{◌≡◌, IfErr};
 ghost use Rattle.cj_base.specs.declared.refusal.Refusal.TheVariants.{OutOfMemory};
 
 use crate::axis::Axis;
 use crate::lanes::{Lane, lane_at};
 use crate::svg::tenths;
-use cj_history::{Gap, Why};
-use cj_report::Mark;
-use cj_types::{Key, Reason, Refusal, Seconds};
-use cj_zone::time_text;
+use cj_types::{Refusal, Seconds};
 use std::alloc::Global;
 
-/// Why there is a cross.
-#[derive(Clone, Copy, Debug, PartialEq, Eq)]
-enum Cause {
-    /// A sync told it.
-    Told(Reason),
-    /// A due time got no Job.
-    Lost(Why),
-}
-
 /// A cross in a lane.
-#[derive(Clone, Copy, Debug)]
 pub(crate) struct Cross {
-    lane: usize,
-    at: Seconds,
-    cause: Cause,
+    pub(crate) lane: usize,
+    pub(crate) at: Seconds,
+    /// What is told under the pointer, as XML has it.
+    pub(crate) title: String,
 }
 
-// Whether a sync that told this started none; that many times were missed keeps none from it.
-fn keeps_from_starting(reason: Reason) -> bool {
-    match reason {
-        Reason::TooManyMissedTimes => false,
-        Reason::UnknownTimeZone => true,
-        Reason::JobAlreadyActive => true,
-        Reason::FailedCreate => true,
+// A function of its own, so that whoever gives one up makes one call and not one for each part.
+impl Drop for Cross {
+    fn drop(self) {
+        let Cross {
+            lane: _,
+            at: _,
+            title: _,
+        } = self;
     }
 }
 
-// Whether no sync told this of a due time as a reason.
-fn is_untold(why: Why) -> bool {
-    match why {
-        Why::Forbidden => false,
-        Why::NameTaken => false,
-        _ => true,
-    }
-}
-
-fn why_words(why: Why) -> &'static str {
-    match why {
-        Why::Suspended => "suspended",
-        Why::TooLate => "too late: spec.startingDeadlineSeconds was over",
-        Why::Earlier => "passed over for a later time",
-        Why::NotMade => "claimed, but not made",
-        Why::NeverSynced => "never looked at",
-        Why::Forbidden => "JobAlreadyActive",
-        Why::NameTaken => "FailedCreate",
-    }
-}
-
-fn cause_words(cause: Cause) -> &'static str {
-    match cause {
-        Cause::Told(reason) => reason.name(),
-        Cause::Lost(why) => why_words(why),
-    }
-}
-
-fn push_one(crosses: &mut Vec<Cross>, cross: Cross) -> Result<(), Refusal>
-    ensures err { IfErr result (λ e. e ≡ OutOfMemory) }
-{
-    match crosses.push(cross) {
-        Ok(()) => Ok(()),
-        Err(_) => Err(Refusal::OutOfMemory),
-    }
-}
-
-fn push(
+/// A cross more, in the lane of the CronJob with that key, if there is one.
+pub(crate) fn add_cross(
     lanes: &mut [Lane],
     crosses: &mut Vec<Cross>,
-    key: &Key,
+    namespace: &str,
+    name: &str,
     at: Seconds,
-    cause: Cause,
+    title: String,
 ) -> Result<(), Refusal>
     ensures err { IfErr result (λ e. e ≡ OutOfMemory) }
 {
-    let Some(lane) = lane_at(lanes, key.namespace(), key.name()) else {
+    let Some(lane) = lane_at(lanes, namespace, name) else {
         return Ok(());
     };
     lanes[lane].told = true;
-    push_one(crosses, Cross { lane, at, cause })
-}
-
-/// A cross for each mark.
-pub(crate) fn place_marks(
-    lanes: &mut [Lane],
-    crosses: &mut Vec<Cross>,
-    marks: &[Mark],
-) -> Result<(), Refusal>
-    ensures err { IfErr result (λ e. e ≡ OutOfMemory) }
-{
-    for mark in marks {
-        if let Some(at) = mark.at {
-            if keeps_from_starting(mark.reason) {
-                push(lanes, crosses, &mark.key, at, Cause::Told(mark.reason))?;
-            }
-        }
+    match crosses.push(Cross { lane, at, title }) {
+        Ok(()) => Ok(()),
+        Err(_) => Err(Refusal::OutOfMemory),
     }
-    Ok(())
-}
-
-/// A cross for each due time that got no Job for another cause.
-pub(crate) fn place_gaps(
-    lanes: &mut [Lane],
-    crosses: &mut Vec<Cross>,
-    gaps: &[Gap],
-) -> Result<(), Refusal>
-    ensures err { IfErr result (λ e. e ≡ OutOfMemory) }
-{
-    for gap in gaps {
-        if is_untold(gap.why) {
-            let key = gap.cron.get().key.key();
-            push(lanes, crosses, key, gap.time, Cause::Lost(gap.why))?;
-        }
-    }
-    Ok(())
 }
 
 fn push_cross(
@@ -138,11 +60,9 @@ fn push_cross(
     let x = tenths(alloc, axis.x(cross.at.get()).saturating_sub(30))?;
     let x = x.as_str();
     let y = lane.y.saturating_add(lane.height).saturating_sub(8);
-    let time = time_text(alloc, cross.at)?;
-    let time = time.as_str();
-    let why = cause_words(cross.cause);
+    let title = cross.title.as_str();
     let path = format!(in alloc;
-        "<path class=\"skip\" d=\"M{x} {y}l6 6m0 -6l-6 6\"><title>{time} {why}</title></path>\n"
+        "<path class=\"skip\" d=\"M{x} {y}l6 6m0 -6l-6 6\"><title>{title}</title></path>\n"
     )?;
     Ok(text.push_str(path.as_str())?)
 }

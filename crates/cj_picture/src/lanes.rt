@@ -3,9 +3,7 @@ ghost use Rattle.std.specs.Prelude.{◌<◌, IfSome, length, ◌≡◌, IfErr};
 ghost use Rattle.cj_base.specs.declared.refusal.Refusal.TheVariants.{OutOfMemory};
 
 use crate::svg::escaped;
-use cj_calls::{Call, Entry, Reply};
-use cj_table::Table;
-use cj_types::{CronJob, Key, Policy, Refusal, Shared, TryCopy};
+use cj_types::{CronJob, Key, Policy, Refusal, Shared};
 use std::alloc::Global;
 
 /// The lane of a CronJob.
@@ -53,51 +51,17 @@ const MANY: usize = 40;
 // No lane has more rows; more bars beside one another cover each other.
 const MOST_ROWS: usize = 12;
 
-fn written(entry: &Entry) -> Option<&Shared<CronJob>> {
-    match (entry.call(), entry.answer()) {
-        (Call::CreateCron(_, _), Ok(Reply::Cron(cron))) => Some(cron),
-        (Call::UpdateCron(_), Ok(Reply::Cron(cron))) => Some(cron),
-        _ => None,
-    }
-}
-
-fn note(alloc: Global, crons: &mut Table<Shared<CronJob>>, entry: &Entry) -> Result<(), Refusal>
-    ensures err { IfErr result (λ e. e ≡ OutOfMemory) }
-{
-    let Some(cron) = written(entry) else {
-        return Ok(());
-    };
-    let key = cron.get().key.key().try_copy(alloc)?;
-    crons.insert(key, cron.try_copy(alloc)?)
-}
-
-// The CronJobs that users wrote, by key, each as it was written last.
-fn crons_of(alloc: Global, entries: &[Entry]) -> Result<Vec<Shared<CronJob>>, Refusal>
-    ensures err { IfErr result (λ e. e ≡ OutOfMemory) }
-{
-    let mut crons = Table::new(alloc);
-    for entry in entries {
-        note(alloc, &mut crons, entry)?;
-    }
-    crons.list(alloc)
-}
-
-/// A lane for each CronJob that a user wrote, in the order of their keys.
-pub(crate) fn lanes_of(alloc: Global, entries: &[Entry]) -> Result<Vec<Lane>, Refusal>
-    ensures err { IfErr result (λ e. e ≡ OutOfMemory) }
-{
-    let mut lanes = Vec::new(alloc);
-    for cron in crons_of(alloc, entries)? {
-        let lane = Lane {
+impl Lane {
+    /// An empty lane of the CronJob.
+    pub(crate) fn new(alloc: Global, cron: Shared<CronJob>) -> Lane {
+        Lane {
             cron,
             rows: Vec::new(alloc),
             told: false,
             y: 0,
             height: 0,
-        };
-        lanes.push(lane).map_err(|_| Refusal::OutOfMemory)?;
+        }
     }
-    Ok(lanes)
 }
 
 fn is_of(lane: &Lane, namespace: &str, name: &str) -> bool {

@@ -1,7 +1,7 @@
 -- What each request is answered.
 use Rattle.std.specs.Prelude.{ℕ, List, Option}
 use Rattle.cj_answers.specs.Audit.{IsAuditOutcome}
-use Rattle.cj_answers.specs.Check.{IsCheckOutcome}
+use Rattle.cj_answers.specs.CheckOutcome.{IsCheckOutcome}
 use Rattle.cj_answers.specs.Describe.{IsDescribeOutcome}
 use Rattle.cj_answers.specs.Outcome.{IsNextOutcome, Outcome}
 use Rattle.cj_answers.specs.Plan.{IsPlanOutcome}

@@ -1,4 +1,5 @@
 pub mod remarks
+pub mod as_json
 pub mod Replay
 pub mod Run
 pub mod Shown

@@ -13,7 +13,7 @@ use Rattle.cj_args.specs.declared.request.RunRequest.{RunRequest}
 use Rattle.cj_io.specs.declared.zone_files.file.ZoneFile.{ZoneFile}
 use Rattle.cj_io.specs.declared.zone_files.given.GivenZones.{GivenZones}
 use Rattle.cj_answers.specs.Given.{IsReadUnder, RefusesRule}
-use Rattle.cj_answers.specs.Outcome.{Outcome, done, explained}
+use Rattle.cj_answers.specs.Outcome.{IsInForm, Outcome, RefusesForm, done, explained}
 use Rattle.cj_answers.specs.Plan.{IsAskedDetection, IsSceneRefusal}
 
 -- the bytes are no scenario of a run, for another cause than memory
@@ -53,7 +53,13 @@ pub record RunsInput (r : RunRequest) (files : List ZoneFile) (input : Option (L
   pub fits : length bytes ≤ 16_777_216
   pub ran : IsRanOf r given bytes o
 
--- what `run` answers, where the input is known: a rule of the words is refused first, and nothing is read then
+-- what `run` answers in a form that there is, where the input is known: a rule of the words is refused first, and nothing is
+-- read then
 -- rule: run
+abbrev pub IsRunAnswer : RunRequest → List ZoneFile → Option (List ℕ) → Outcome → Type 0
+IsRunAnswer r files input o = RefusesRule r.zones r.explain o ⊎ RunsInput r files input o
+
+-- the form is looked at first
 abbrev pub IsRunOutcome : RunRequest → List ZoneFile → Option (List ℕ) → Outcome → Type 0
-IsRunOutcome r files input o = RefusesRule r.zones r.explain o ⊎ RunsInput r files input o
+IsRunOutcome r files input o =
+    RefusesForm r.explain r.output.now o ⊎ IsInForm r.output.now (IsRunAnswer r files input o)

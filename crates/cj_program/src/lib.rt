@@ -6,6 +6,7 @@
 //! at each status.
 #![tactic(auto)]
 
+mod as_json;
 mod remarks;
 mod replay;
 mod run;
@@ -16,7 +17,7 @@ mod told;
 mod writing;
 
 pub use cj_answers::{
-    CronFile, FileAnswer, MOST_LIST_BYTES, MOST_LIST_READS, by_clock, check_answer, next_text,
+    CronFile, FileAnswer, MOST_LIST_BYTES, MOST_LIST_READS, by_clock, check_file_answer, next_text,
 };
 pub use cj_args::{
     AuditRequest, CheckRequest, DescribeRequest, NextRequest, PlanRequest, ReplayRequest, Request,

@@ -3,11 +3,13 @@ ghost use Rattle.std.specs.Prelude.{◌≡◌, ◌++◌, IfOk, string_bytes};
 ghost use Rattle.cj_script.specs.simulation.Simulations.{IsSimulation};
 ghost use Rattle.cj_io.specs.declared.zone_files.given.GivenZones.{GivenZones};
 ghost use Rattle.cj_answers.specs.Outcome.{done, explained, outcome_of};
-ghost use Rattle.cj_program.specs.Run.{IsRanOf, IsRunOutcome};
+ghost use Rattle.cj_program.specs.Run.{IsRanOf, IsRunAnswer, IsRunOutcome};
 
 use crate::remarks::asked_remark;
 use crate::shown::shown;
-use cj_answers::{Answer, Ending, asked_detection, given_for, refused_pair, refused_scene};
+use cj_answers::{
+    Answer, Ending, asked_detection, given_for, is_form, refused_form, refused_pair, refused_scene,
+};
 use cj_args::RunRequest;
 use cj_io::{Failure, GivenZones, MOST_BYTES, MOST_READS, ZoneFile, read_input};
 use cj_run::run_simulation;
@@ -81,8 +83,26 @@ fn bytes_answer<T: Threads + Wait + Sync>(
     }
 }
 
-/// What the command `run` answers: the zones are looked at first, then all of the input is read. A history that a call found
-/// full fails it, as want of memory does.
+// What is answered in a form that there is.
+fn form_answer<T: Threads + Wait + Sync, R: Read>(
+    rt: &T,
+    alloc: Global,
+    run: &RunRequest<'_>,
+    files: &[ZoneFile],
+    input: &mut R,
+) -> Result<Answer, Failure>
+    ensures { IfOk result (λ a. IsRunAnswer run.now files.now (R.remaining input.old)
+        (outcome_of a)) }
+{
+    let Some(given) = given_for(alloc, &run.zones, files)? else {
+        return refused_pair(alloc, run.explain);
+    };
+    let bytes = read_input(alloc, input, MOST_BYTES, MOST_READS)?;
+    bytes_answer(rt, alloc, run, given, bytes.as_slice())
+}
+
+/// What the command `run` answers: the form of what is printed is looked at first, then the zones, then all of the input
+/// is read. A history that a call found full fails it, as want of memory does.
 pub(crate) fn run_answer<T: Threads + Wait + Sync, R: Read>(
     rt: &T,
     alloc: Global,
@@ -93,9 +113,9 @@ pub(crate) fn run_answer<T: Threads + Wait + Sync, R: Read>(
     ensures { IfOk result (λ a. IsRunOutcome run.now files.now (R.remaining input.old)
         (outcome_of a)) }
 {
-    let Some(given) = given_for(alloc, &run.zones, files)? else {
-        return refused_pair(alloc, run.explain);
-    };
-    let bytes = read_input(alloc, input, MOST_BYTES, MOST_READS)?;
-    bytes_answer(rt, alloc, run, given, bytes.as_slice())
+    if is_form(run.output) {
+        form_answer(rt, alloc, run, files, input)
+    } else {
+        refused_form(alloc, run.explain)
+    }
 }

@@ -3,7 +3,9 @@ ghost use Rattle.std.specs.Prelude.{IfOk, string_bytes};
 ghost use mathlib.Core.List.{reverse};
 ghost use Rattle.cj_program.specs.Shown.{IsShown};
 
+use crate::as_json::run_json;
 use crate::remarks::entries_of;
+use cj_answers::is_json;
 use cj_args::RunRequest;
 use cj_calls::Entry;
 use cj_io::Failure;
@@ -12,7 +14,8 @@ use cj_report::{history_text, timeline_text};
 use cj_run::Ran;
 use std::alloc::Global;
 
-// The time line, the entries or a picture of a run's history, or its report: the first of these that the words ask for.
+// The time line, the entries, a picture or one JSON value of a run's history, or its report: the first of these that the
+// words ask for.
 fn shown_text(
     alloc: Global,
     run: &RunRequest<'_>,
@@ -28,6 +31,8 @@ fn shown_text(
         Ok(history_text(alloc, entries)?)
     } else if run.svg {
         Ok(picture_text(alloc, entries)?)
+    } else if is_json(run.output) {
+        Ok(run_json(alloc, entries)?)
     } else {
         Ok(report)
     }

@@ -1,73 +1,20 @@
--- A line of keys as two lists, the first of them turned round; and lines in which no key stands twice.
-use Rattle.std.proofs.Common.{◌≡◌, ◌<◌, ◌-◌, Bool, true, false, not, ◌&&◌, ◌||◌, List, [], ◌∷◌, ◌++◌, length, drop, reverse, slice_get, Option, Some, None, IsSome, refl, sym, ap, ◌∙◌, arith}
-use Rattle.std.specs.Prelude.{if◌then◌else◌}
-use Rattle.std.specs.Option.{option_to_list}
-use Rattle.std.proofs.lemmas.List.{append-nil, append_assoc, reverse-append, reverse-reverse}
+-- Lines in which no key stands twice, and the places of their keys.
+use Rattle.std.proofs.Common.{◌≡◌, Bool, true, false, cond, not, ◌&&◌, ◌||◌, List, [], ◌∷◌, ◌++◌, Option, Some, None, is_some, refl, sym, ap, ◌∙◌}
+use Rattle.std.specs.Prelude.{unwrap_or, if◌then◌else◌}
+use Rattle.std.specs.List.{list_any}
+use Rattle.std.specs.BTreeMap.{BTreeMap, is_at, get, keys}
 use Rattle.std.proofs.lemmas.List.Folds.{list_any-append}
-use Rattle.indexmap.specs.IndexSet.{insert_key}
-use Rattle.cj_types.specs.Keys.{Place}
+use Rattle.std.proofs.lemmas.Map.Made.{is_some-lookup}
+use Rattle.std.specs.Ordering.{nat_cmp, is_eq, ordering_then}
+use Rattle.std.specs.declared.cmp.Ordering.{Ordering}
+use Rattle.std.specs.declared.cmp.Ordering.TheVariants.{Less, Equal, Greater}
+use Rattle.std.specs.Cmp.{eq_by_cmp_equiv}
+use Rattle.cj_types.specs.Keys.{Place, place_cmp}
+use Rattle.cj_table.specs.Tags.{hash_of, hash_cmp, hash_total}
+use Rattle.cj_table.proofs.Order.{places_exact}
 use Rattle.cj_queue.specs.Queue.{first}
-use Rattle.cj_queue.specs.Parts.{key_eq, stands_in, are_distinct}
-use Rattle.cj_queue.proofs.Sets.{at_equal, eq_turned}
-
--- ---- the front, which is turned round
-
--- A line whose front ends in x has the rest of the front, and then x before the back.
-turned_behind : (x : Place) (f b : List Place) → reverse (x ∷ f) ++ b ≡ reverse f ++ x ∷ b
-turned_behind x f b = ap (λ l. l ++ b) (reverse-append (x ∷ []) f) ∙ append_assoc (reverse f) (x ∷ []) b
-
--- For first_in_front: the last key of a front that has one is the first of the line.
-last_first : (x : Place) (f b : List Place) (k : Place) → slice_get (x ∷ f) (length f) ≡ Some k
-    → first (reverse (x ∷ f) ++ b) ≡ Some k
-last_first x [] b k e = e
-last_first x (y ∷ f) b k e = ap first (turned_behind x (y ∷ f) b) ∙ last_first y f (x ∷ b) k e
-
--- For Line::first: the last key of the front is the first of the line.
-pub first_in_front : (f b : List Place) (k : Place) → slice_get f (length f - 1) ≡ Some k
-    → first (reverse f ++ b) ≡ Some k
-first_in_front [] b k e = absurd (cc e)
-first_in_front (x ∷ f) b k e =
-    let last : length f ≡ length (x ∷ f) - 1 = omega arith in
-    last_first x f b k (ap (slice_get (x ∷ f)) last ∙ e)
-
--- For first_behind: a front that has a key has a last one.
-last_there : (x : Place) (f : List Place) → slice_get (x ∷ f) (length f) ≡ None → ⊥
-last_there x [] e = absurd (cc e)
-last_there x (y ∷ f) e = last_there y f e
-
--- The first key of a list stands at place 0.
-first_is : (b : List Place) → first b ≡ slice_get b 0
-first_is [] = refl
-first_is (x ∷ b) = refl
-
--- For Line::first: where the front has no last key, the line's first is the back's.
-pub first_behind : (f b : List Place) → slice_get f (length f - 1) ≡ None → first (reverse f ++ b) ≡ slice_get b 0
-first_behind [] b e = first_is b
-first_behind (x ∷ f) b e =
-    let last : length f ≡ length (x ∷ f) - 1 = omega arith in
-    absurd (last_there x f (ap (slice_get (x ∷ f)) last ∙ e))
-
--- For turn: where the front is used up, the back turned round in its place makes the same line.
-pub turned : (f b : List Place) → length f ≡ 0 → reverse (reverse b) ++ f ≡ reverse f ++ b
-turned [] b e = append-nil (reverse (reverse b)) ∙ reverse-reverse b
-turned (x ∷ f) b e = absurd (search arith)
-
--- For Line::pop_first: what is popped off the front is the first key of the line, where no front means no back.
-pub popped_first : (f g b : List Place) (r : Option Place) → f ≡ g ++ option_to_list r → (0 < length f → IsSome r)
-    → (f ≡ [] → b ≡ []) → r ≡ first (reverse f ++ b)
-popped_first f g b (Some k) e there used =
-    sym (ap (λ l. first (reverse l ++ b)) e ∙ ap (λ l. first (l ++ b)) (reverse-append g (k ∷ [])))
-popped_first [] g b None e there used = sym (ap first (used refl))
-popped_first (x ∷ f) g b None e there used = absurd (cc (there (search arith)))
-
--- For Line::pop_first: after it, the line lacks its first key and is else the same.
-pub popped_rest : (f g b : List Place) (r : Option Place) → f ≡ g ++ option_to_list r → (0 < length f → IsSome r)
-    → (f ≡ [] → b ≡ []) → reverse g ++ b ≡ drop 1 (reverse f ++ b)
-popped_rest f g b (Some k) e there used =
-    sym (ap (λ l. drop 1 (reverse l ++ b)) e ∙ ap (λ l. drop 1 (l ++ b)) (reverse-append g (k ∷ [])))
-popped_rest [] [] b None e there used = used refl ∙ sym (ap (drop 1) (used refl))
-popped_rest [] (x ∷ g) b None e there used = absurd (cc e)
-popped_rest (x ∷ f) g b None e there used = absurd (cc (there (search arith)))
+use Rattle.cj_queue.specs.Parts.{key_eq, stands_in, are_distinct, is_lined, with_last, Marks, IsMarked, ArePlaced}
+use Rattle.cj_queue.proofs.Sets.{at_equal, eq_self, eq_true, eq_turned}
 
 -- Where neither of two tests holds, the second fails.
 or_right : (a b : Bool) → (a || b) ≡ false → b ≡ false
@@ -141,25 +88,143 @@ pub behind : (k q : Place) (ks : List Place) → stands_in ks k ≡ false → st
 behind k q ks out there = refuted (key_eq k q) (λ e. true_or_false (stands_in ks q) there
     (at_equal (stands_in ks) k q false out e))
 
--- ---- a look-up, and a key put last
+-- ---- places
 
--- For in_line: of three tests it is the same whichever of the first two is asked first.
-or_between : (a b c : Bool) → (a || (b || c)) ≡ ((b || a) || c)
-or_between true true c = refl
-or_between true false c = refl
-or_between false true c = refl
-or_between false false c = refl
+-- Where two orders, the second asked where the first ties, tie, the second does.
+second_ties : (o r : Ordering) → is_eq (ordering_then o r) ≡ true → r ≡ Equal
+second_ties Less r e = absurd (cc e)
+second_ties Equal Less e = absurd (cc e)
+second_ties Equal Equal e = refl
+second_ties Equal Greater e = absurd (cc e)
+second_ties Greater r e = absurd (cc e)
 
--- For Line::contains: a key stands in the line where it stands in the front or in the back.
-pub in_line : (f b : List Place) (k : Place) → stands_in (reverse f ++ b) k ≡ (stands_in f k || stands_in b k)
-in_line [] b k = refl
-in_line (x ∷ f) b k =
-    ap (λ l. stands_in l k) (turned_behind x f b) ∙ in_line f (x ∷ b) k
-    ∙ or_between (stands_in f k) (key_eq k x) (stands_in b k)
+-- Two tests of which each holds where the other does are the same.
+same_test : (b c : Bool) → (b ≡ true → c ≡ true) → (c ≡ true → b ≡ true) → b ≡ c
+same_test true c f g = sym (f refl)
+same_test false true f g = g refl
+same_test false false f g = refl
 
--- For Line::push: a key that doesn't stand in the line goes last in it when it is inserted into the back.
-pub pushed_behind : (f b : List Place) (k : Place) → stands_in (reverse f ++ b) k ≡ false
-    → reverse f ++ insert_key key_eq b k ≡ (reverse f ++ b) ++ k ∷ []
-pushed_behind f b k e =
-    let out : stands_in b k ≡ false = or_right (stands_in f k) (stands_in b k) (sym (in_line f b k) ∙ e) in
-    ap (λ t. reverse f ++ (if t then b else b ++ k ∷ [])) out ∙ sym (append_assoc (reverse f) b (k ∷ []))
+-- A key's == says that two keys are equal just where they tie in the order of places.
+ties : (j k : Place) → key_eq j k ≡ is_at (hash_cmp j) k
+ties j k = same_test (key_eq j k) (is_at (hash_cmp j) k)
+    (λ e. ap (is_at (hash_cmp j)) (sym (eq_true j k e)) ∙ (eq_by_cmp_equiv hash_total).refl j)
+    (λ e. ap (key_eq j) (sym (places_exact j k (second_ties (nat_cmp (hash_of j) (hash_of k)) (place_cmp j k) e)))
+    ∙ eq_self j)
+
+-- new has w at the key, and at every other key what old has
+abbrev pub SetsPlace : BTreeMap Place Bool → BTreeMap Place Bool → Place → Option Bool → Type 0
+SetsPlace old new k w = (q : Place) → get hash_cmp new q ≡ cond (is_at (hash_cmp k) q) w (get hash_cmp old q)
+
+-- A key has a place just where a look-up finds one.
+pub place_found : (ps : BTreeMap Place Bool) (q : Place) → stands_in (keys ps) q ≡ is_some (get hash_cmp ps q)
+place_found ps q = (λ i. list_any (λ k. ties q k i) (keys ps)) ∙ sym (is_some-lookup (is_at (hash_cmp q)) ps.entries)
+
+-- A key's new place says what is written there, and every other what it said.
+pub lined_at : (old new : BTreeMap Place Bool) (k : Place) (w : Option Bool) → SetsPlace old new k w → (q : Place)
+    → is_lined new q ≡ cond (key_eq k q) (unwrap_or w false) (is_lined old q)
+lined_at old new k w sets q =
+    ap (λ o. unwrap_or o false) (sets q)
+    ∙ (λ i. unwrap_or (cond (sym (ties k q) i) w (get hash_cmp old q)) false)
+    ∙ by (key_eq k q)
+  where
+    by : (b : Bool) → unwrap_or (cond b w (get hash_cmp old q)) false ≡ cond b (unwrap_or w false) (is_lined old q)
+    by true = refl
+    by false = refl
+
+-- Where there is no place, it says nothing.
+none_lined : (o : Option Bool) → is_some o ≡ false → unwrap_or o false ≡ false
+none_lined None e = refl
+none_lined (Some b) e = absurd (cc e)
+
+-- For put_new: a choice by a test between what is false and what is false where it holds.
+false_there : (t b : Bool) → (t ≡ true → b ≡ false) → cond t false b ≡ b
+false_there true b f = sym (f refl)
+false_there false b f = refl
+
+-- For put_place: a new place says that its key doesn't stand in the line, as none did.
+pub new_place : (old new : BTreeMap Place Bool) (k : Place) → is_some (get hash_cmp old k) ≡ false
+    → SetsPlace old new k (Some false) → (q : Place) → is_lined new q ≡ is_lined old q
+new_place old new k none sets q =
+    lined_at old new k (Some false) sets q
+    ∙ false_there (key_eq k q) (is_lined old q)
+    (at_equal (is_lined old) k q false (none_lined (get hash_cmp old k) none))
+
+-- For put_place: each key that had a place has one, and the new key has one.
+pub place_there : (old new : BTreeMap Place Bool) (k : Place) (b : Bool) → SetsPlace old new k (Some b)
+    → ArePlaced (keys old) (keys new)
+place_there old new k b sets q h =
+    place_found new q ∙ ap is_some (sets q)
+    ∙ by (is_at (hash_cmp k) q) (sym (place_found old q) ∙ h)
+  where
+    by : (t : Bool) → is_some (get hash_cmp old q) ≡ true → is_some (cond t (Some b) (get hash_cmp old q)) ≡ true
+    by true e = refl
+    by false e = e
+
+-- For put_place: the new key has a place.
+pub place_new : (old new : BTreeMap Place Bool) (k : Place) (b : Bool) → SetsPlace old new k (Some b)
+    → stands_in (keys new) k ≡ true
+place_new old new k b sets =
+    place_found new k ∙ ap is_some (sets k)
+    ∙ (λ i. is_some (cond ((sym (ties k k) ∙ eq_self k) i) (Some b) (get hash_cmp old k)))
+
+-- ---- the line and its places
+
+-- A key put last stands in the line, with those that stood there.
+in_last : (l : List Place) (k q : Place) → stands_in (l ++ k ∷ []) q ≡ cond (key_eq k q) true (stands_in l q)
+in_last l k q =
+    list_any-append (key_eq q) l (k ∷ []) ∙ ap (λ t. stands_in l q || (t || false)) (eq_turned q k)
+    ∙ by (stands_in l q) (key_eq k q)
+  where
+    by : (x t : Bool) → (x || (t || false)) ≡ cond t true x
+    by true true = refl
+    by true false = refl
+    by false true = refl
+    by false false = refl
+
+-- The line with a key last that doesn't stand in it ends in the key.
+pub last_absent : (l : List Place) (k : Place) → stands_in l k ≡ false → with_last l k ≡ l ++ k ∷ []
+last_absent l k e = ap (λ t. if t then l else l ++ k ∷ []) e
+
+-- A line in which the key stands is the line with the key last.
+pub last_there : (l : List Place) (k : Place) → stands_in l k ≡ true → with_last l k ≡ l
+last_there l k e = ap (λ t. if t then l else l ++ k ∷ []) e
+
+-- For Line::push and add: the places say what the line is, with a key put last whose place says so now.
+pub marked_push : (l m : List Place) (old new : BTreeMap Place Bool) (k : Place) → IsMarked l old → is_lined old k ≡ false
+    → m ≡ l ++ k ∷ [] → Marks old new k → IsMarked m new
+marked_push l m old new k marked out last marks = record {
+  same = λ q. marks q ∙ ap (cond (key_eq k q) true) (marked.same q) ∙ sym (in_last l k q)
+      ∙ ap (λ n. stands_in n q) (sym last);
+  once = ap are_distinct last ∙ push_once l k marked.once (sym (marked.same k) ∙ out);
+}
+
+-- For Line::pop_first: the places say what the line is, without the first key and its place.
+pub marked_pop : (l m : List Place) (old new : BTreeMap Place Bool) (k : Place) → IsMarked l old → l ≡ k ∷ m
+    → SetsPlace old new k None → IsMarked m new
+marked_pop l m old new k marked first sets =
+    let whole : are_distinct (k ∷ m) ≡ true = ap are_distinct (sym first) ∙ marked.once in record {
+      same = λ q. lined_at old new k None sets q
+          ∙ ap (cond (key_eq k q) false) (marked.same q ∙ ap (λ n. stands_in n q) first
+          ∙ ap (λ t. t || stands_in m q) (eq_turned q k))
+          ∙ by (key_eq k q) (stands_in m q) (at_equal (stands_in m) k q false (head_once k m whole));
+      once = tail_once k m whole;
+    }
+  where
+    by : (t y : Bool) → (t ≡ true → y ≡ false) → cond t false (t || y) ≡ y
+    by true y f = sym (f refl)
+    by false y f = refl
+
+-- For Line::pop_first: the first key has no place any more.
+pub place_gone : (old new : BTreeMap Place Bool) (k : Place) → SetsPlace old new k None → stands_in (keys new) k ≡ false
+place_gone old new k sets =
+    place_found new k ∙ ap is_some (sets k)
+    ∙ (λ i. is_some (cond ((sym (ties k k) ∙ eq_self k) i) None (get hash_cmp old k)))
+
+-- For Line::pop_first: a key that doesn't stand in the line keeps its place.
+pub place_kept : (l m : List Place) (old new : BTreeMap Place Bool) (k : Place) → l ≡ k ∷ m → SetsPlace old new k None
+    → (q : Place) → stands_in l q ≡ false → stands_in (keys old) q ≡ true → stands_in (keys new) q ≡ true
+place_kept l m old new k first sets q out there =
+    let other : key_eq k q ≡ false = eq_turned k q ∙ or_left (key_eq q k) (stands_in m q)
+    (ap (λ n. stands_in n q) (sym first) ∙ out) in
+    place_found new q ∙ ap is_some (sets q)
+    ∙ (λ i. is_some (cond ((sym (ties k q) ∙ other) i) None (get hash_cmp old q))) ∙ sym (place_found old q) ∙ there

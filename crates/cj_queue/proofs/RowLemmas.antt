@@ -5,9 +5,9 @@ use Rattle.std.specs.List.{find}
 use Rattle.std.proofs.lemmas.List.Folds.{list_any-append}
 use Rattle.cj_types.specs.Keys.{Place}
 use Rattle.cj_queue.specs.Queue.{Row, row_add, row_end, row_take, first, has}
-use Rattle.cj_queue.specs.Parts.{key_eq, keys_of, stands_in, IsLined}
+use Rattle.cj_queue.specs.Parts.{key_eq, keys_of, stands_in, with_last, IsLined, IsKept, ArePlaced}
 use Rattle.cj_queue.proofs.Sets.{has_keys, keys_put, keys_removal, same_keys, at_equal, eq_true, eq_self, eq_turned}
-use Rattle.cj_queue.proofs.LineLemmas.{head_once, tail_once, push_once, behind, refuted, true_or_false}
+use Rattle.cj_queue.proofs.LineLemmas.{head_once, tail_once, push_once, last_there, last_absent, behind, refuted, true_or_false}
 
 -- the row of a line, of the keys that were added again and of those that are being worked on
 abbrev pub row : List Place → List Place → List Place → Row
@@ -78,7 +78,7 @@ add_dirty : (l a p : List Place) (k : Place) → stands_in (l ++ a) k ≡ true �
 add_dirty l a p k e = on (has (keys_of (l ++ a)) k) _ _ (has_keys (l ++ a) k ∙ e)
 
 -- An add of a key that stands in the line leaves the row as it is.
-pub add_lined : (l a p : List Place) (k : Place) → stands_in l k ≡ true → row_add (row l a p) k ≡ row l a p
+add_lined : (l a p : List Place) (k : Place) → stands_in l k ≡ true → row_add (row l a p) k ≡ row l a p
 add_lined l a p k e = add_dirty l a p k (list_any-append (key_eq k) l a ∙ ap (λ t. t || stands_in a k) e)
 
 -- one that is being worked on
@@ -127,7 +127,7 @@ put_last l a k q =
     ∙ ap (cond (key_eq k q) true) (sym (list_any-append (key_eq q) l a))
 
 -- An add of a key that is neither dirty nor being worked on puts it last in the line.
-pub add_new : (l m a p : List Place) (k : Place) → IsLined l a p → stands_in p k ≡ false → stands_in l k ≡ false
+add_new : (l m a p : List Place) (k : Place) → IsLined l a p → stands_in p k ≡ false → stands_in l k ≡ false
     → m ≡ l ++ k ∷ [] → row_add (row l a p) k ≡ row m a p
 add_new l m a p k lined free absent last =
     off (has (keys_of (l ++ a)) k) _ _ (has_keys (l ++ a) k ∙ neither l a k absent (not_again l a p k lined free))
@@ -157,6 +157,27 @@ lined_push l m a p k lined free absent last = subst (λ x. IsLined x a p) (sym l
         → stands_in p q ≡ false
     by q true e t = ap (stands_in p) (eq_true q k e) ∙ free
     by q false e t = lined.free q (or_false (stands_in l q) (key_eq q k) t e)
+
+-- For Work::add and add_key: with a key that isn't being worked on last in the line, the row is what row_add says.
+pub add_last : (l m a p : List Place) (k : Place) → IsLined l a p → stands_in p k ≡ false → m ≡ with_last l k
+    → row_add (row l a p) k ≡ row m a p
+add_last l m a p k lined free last = by (stands_in l k) refl
+  where
+    by : (t : Bool) → stands_in l k ≡ t → row_add (row l a p) k ≡ row m a p
+    by true e = add_lined l a p k e ∙ ap (λ n. row n a p) (sym (last ∙ last_there l k e))
+    by false e = add_new l m a p k lined free e (last ∙ last_absent l k e)
+
+-- For Work::add and add_key: IsKept stays when a key that isn't being worked on goes last, and places stay.
+pub kept_last : (l m a p old new : List Place) (k : Place) → IsKept l a p old → stands_in p k ≡ false → m ≡ with_last l k
+    → ArePlaced old new → IsKept m a p new
+kept_last l m a p old new k kept free last more = record {
+  lined = by (stands_in l k) refl;
+  placed = λ q t. more q (kept.placed q t);
+}
+  where
+    by : (t : Bool) → stands_in l k ≡ t → IsLined m a p
+    by true e = subst (λ n. IsLined n a p) (sym (last ∙ last_there l k e)) kept.lined
+    by false e = lined_push l m a p k kept.lined free e (last ∙ last_absent l k e)
 
 -- ---- the end of the work on a key
 
@@ -281,10 +302,49 @@ pub same_dirty : (l a b : List Place) → ((q : Place) → stands_in b q ≡ sta
 same_dirty l a b h = same_keys (l ++ a) (l ++ b) (λ q. list_any-append (key_eq q) l b
     ∙ ap (λ t. stands_in l q || t) (h q) ∙ sym (list_any-append (key_eq q) l a))
 
--- IsLined stays when the same keys are those that were added again.
-pub lined_same : (l a b p : List Place) → IsLined l a p → ((q : Place) → stands_in b q ≡ stands_in a q) → IsLined l b p
-lined_same l a b p lined h = record {
-  free = lined.free;
-  held = λ q t. lined.held q (sym (h q) ∙ t);
-  once = lined.once;
+-- For Work::reserve: IsKept stays when the same keys are those that were added again.
+pub kept_same : (l a b p ps : List Place) → IsKept l a p ps → ((q : Place) → stands_in b q ≡ stands_in a q) → IsKept l b p ps
+kept_same l a b p ps kept h = record {
+  lined = record {
+    free = kept.lined.free;
+    held = λ q t. kept.lined.held q (sym (h q) ∙ t);
+    once = kept.lined.once;
+  };
+  placed = λ q t. kept.placed q (sym (h q) ∙ t);
 }
+
+-- ---- places
+
+-- For Work::prepare: IsKept stays where each place does.
+pub kept_more : (l a p old new : List Place) → IsKept l a p old → ArePlaced old new → IsKept l a p new
+kept_more l a p old new kept more = record {
+  lined = kept.lined;
+  placed = λ q t. more q (kept.placed q t);
+}
+
+-- For Work::add: where the places are the same, each has its place.
+pub same_places : (old new : List Place) → new ≡ old → ArePlaced old new
+same_places old new same q t = ap (λ ps. stands_in ps q) same ∙ t
+
+-- For Work::end: each of those that were added again has a place, without one of them.
+pub placed_off : (a b ps : List Place) (k : Place) → ArePlaced a ps → Sets a b k false → ArePlaced b ps
+placed_off a b ps k placed sets q h = by (key_eq k q) refl (sym (sets q) ∙ h)
+  where
+    by : (t : Bool) → key_eq k q ≡ t → cond (key_eq k q) false (stands_in a q) ≡ true → stands_in ps q ≡ true
+    by true e f = absurd (cc (sym (on (key_eq k q) false (stands_in a q) e) ∙ f))
+    by false e f = placed q (sym (off (key_eq k q) false (stands_in a q) e) ∙ f)
+
+-- For Work::take: each of those that were added again has a place still, since none of them stands in the line.
+pub placed_take : (l a p old new : List Place) → IsLined l a p → ArePlaced a old
+    → ((q : Place) → stands_in l q ≡ false → stands_in old q ≡ true → stands_in new q ≡ true) → ArePlaced a new
+placed_take l a p old new lined placed kept q h =
+    kept q (out_of_line l a p q lined (lined.held q h)) (placed q h)
+
+-- For Work::prepare_all: with one key more that has a place, and the others' places kept, all have one.
+pub placed_last : (ks old new : List Place) (k : Place) → ArePlaced ks old → ArePlaced old new → stands_in new k ≡ true
+    → ArePlaced (ks ++ k ∷ []) new
+placed_last ks old new k placed more there q h = by (key_eq q k) refl (sym (list_any-append (key_eq q) ks (k ∷ [])) ∙ h)
+  where
+    by : (t : Bool) → key_eq q k ≡ t → (stands_in ks q || (key_eq q k || false)) ≡ true → stands_in new q ≡ true
+    by true e f = ap (stands_in new) (eq_true q k e) ∙ there
+    by false e f = more q (placed q (or_false (stands_in ks q) (key_eq q k) f e))

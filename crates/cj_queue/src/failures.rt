@@ -1,15 +1,16 @@
-ghost use Rattle.std.specs.Prelude.{◌≡◌, ◌≤◌, ◌<◌, IfErr, OnOk, unwrap_or};
+ghost use Rattle.std.specs.Prelude.{◌≡◌, IfErr, OnOk, OnErr, unwrap_or};
 ghost use Rattle.std.specs.FinMap as map;
 ghost use Rattle.cj_base.specs.declared.refusal.Refusal.TheVariants.{OutOfMemory};
+ghost use Rattle.cj_queue.specs.Parts.{IsPutBack};
 
-use cj_types::{Key, Refusal};
+use cj_types::{Key, Refusal, TryCopy};
 use std::alloc::Global;
-use std::collections::HashMap;
+use std::collections::BTreeMap;
 use std::marker::Model;
 
-/// How often in a row the work on each key failed. Contracts see the counts, and for how many keys more there is room.
+/// How often in a row the work on each key failed. Contracts see the counts.
 pub struct Failures {
-    counts: HashMap<Key, u64>,
+    counts: BTreeMap<Key, u64>,
 }
 
 // A function of its own, so that whoever gives one up makes one call and not one for each part.
@@ -21,62 +22,73 @@ impl Drop for Failures {
 
 impl Model for Failures {
     ghost use Rattle.std.specs.FinMap as map;
-    ghost use Rattle.std.specs.HashMap.{spare};
-    ghost use Rattle.cj_types.specs.Keys.{place_cmp};
-    ghost use Rattle.cj_queue.specs.Parts.{Failures, failures_code};
+    ghost use Rattle.std.specs.Coded.{coded_ℕ};
+    ghost use Rattle.cj_types.specs.Keys.{coded_place};
+    ghost use Rattle.cj_queue.specs.Parts.{Counts};
 
-    ghost Value = { Failures };
+    ghost Value = { Counts };
 
-    ghost coded = { failures_code };
+    ghost coded = { map.code coded_place coded_ℕ };
 
-    ghost view = { λ f. record {
-      counts = map.from_entries {R = place_cmp} f.counts.entries;
-      room = spare f.counts;
-    } };
+    ghost view = { λ f. map.from_entries f.counts.entries };
 }
 
 impl Failures {
     /// No failure.
     pub fn new(alloc: Global) -> Failures
-        ensures { result.counts ≡ map.empty }
+        ensures { result ≡ map.empty }
     {
         Failures {
-            counts: HashMap::new(alloc),
+            counts: BTreeMap::new(alloc),
         }
     }
 
     /// The key's count, 0 where none is kept.
-    #[tactic(auto, using(cj_table::proofs::Rows::place_rows))]
     pub fn get(&self, key: &Key) -> u64
-        ensures { result ≡ unwrap_or (map.get self.now.counts key.now) 0 }
+        ensures { result ≡ unwrap_or (map.get self.now key.now) 0 }
     {
-        self.counts.get(key).copied().unwrap_or(0)
+        self.kept(key).unwrap_or(0)
     }
 
-    /// Makes room for so many keys more.
-    #[tactic(auto, using(crate::proofs::Counts::same_counts))]
-    pub fn reserve(&mut self, count: usize) -> Result<(), Refusal>
-        ensures counts { self.new.counts ≡ self.old.counts }
-        ensures ok { OnOk result (count ≤ self.new.room) }
+    /// The count that is kept of the key.
+    #[tactic(auto, using(cj_table::proofs::Rows::found_at))]
+    pub fn kept(&self, key: &Key) -> Option<u64>
+        ensures { result ≡ map.get self.now key.now }
+    {
+        self.counts.get(key).copied()
+    }
+
+    /// Gives the key this count, with the memory that it needs.
+    pub fn put(&mut self, alloc: Global, key: &Key, count: u64) -> Result<(), Refusal>
+        ensures ok { OnOk result (self.new ≡ map.insert self.old key.now count) }
+        ensures err { OnErr result (self.new ≡ self.old) }
         ensures memory { IfErr result (λ e. e ≡ OutOfMemory) }
     {
-        self.counts.reserve(count)?;
+        let copy = key.try_copy(alloc)?;
+        if self.counts.insert(copy, count).is_err() {
+            return Err(Refusal::OutOfMemory);
+        }
         Ok(())
     }
 
-    /// Gives the key this count.
-    #[tactic(auto, using(cj_table::proofs::Rows::inserted_row))]
-    pub fn put(&mut self, key: Key, count: u64)
-        requires { 0 < self.old.room }
-        ensures { self.new.counts ≡ map.insert self.old.counts key count }
+    /// Gives the key again the count that it had before a put, if it had one.
+    pub fn put_back(&mut self, key: &Key, before: Option<u64>)
+        ensures { IsPutBack self.old self.new key.now before }
     {
-        let _ = self.counts.insert(key, count);
+        let Some(count) = before else {
+            let _ = self.counts.remove(key);
+            return;
+        };
+        let Some(kept) = self.counts.get_mut(key) else {
+            return;
+        };
+        *kept = count;
     }
 
     /// Keeps no count of the key.
-    #[tactic(auto, using(cj_table::proofs::Rows::removed_row))]
+    #[tactic(auto, using(cj_table::proofs::Rows::removed_at))]
     pub fn remove(&mut self, key: &Key)
-        ensures { self.new.counts ≡ map.remove self.old.counts key.now }
+        ensures { self.new ≡ map.remove self.old key.now }
     {
         let _ = self.counts.remove(key);
     }

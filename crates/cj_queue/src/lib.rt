@@ -7,10 +7,12 @@
 #![tactic(auto)]
 
 mod backoff;
+mod copies;
 mod failures;
 mod laws;
 mod line;
 mod queue;
+mod tagged;
 mod waits;
 mod work;
 

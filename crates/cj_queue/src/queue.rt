@@ -1,8 +1,9 @@
-ghost use Rattle.std.specs.Prelude.{◌≡◌, ◌≤◌, ◌<◌, ◌+◌, IfOk, IfErr, OnOk, OnErr, IsTrue, length, option_copied, min};
+ghost use Rattle.std.specs.Prelude.{◌≡◌, ◌≤◌, ◌<◌, ◌+◌, IfOk, IfErr, OnOk, OnErr, IsTrue, length, option_copied, unwrap_or, min};
 ghost use Rattle.std.specs.FinMap as map;
 ghost use Rattle.cj_base.specs.declared.refusal.Refusal.TheVariants.{OutOfMemory};
 ghost use Rattle.cj_queue.specs.Queue.{new_queue, row_adds, row_end, added, taken, ended, added_after, ticked, closed, failures_of, delay, failed, forgotten, finished_ok, finished_retry, first, has};
-ghost use Rattle.cj_queue.specs.Times.{without};
+ghost use Rattle.cj_queue.specs.Times.{without, waits_for};
+ghost use Rattle.cj_queue.specs.Parts.{ArePlaced};
 
 use crate::backoff::{delay_after, one_more};
 use crate::failures::Failures;
@@ -54,7 +55,7 @@ impl Model for Queue {
     ghost view = { λ q. record {
       row = q.work.row;
       waiting = q.waits;
-      failures = q.failures.counts;
+      failures = q.failures;
       tick = q.tick;
       shut = q.shut;
     } };
@@ -153,6 +154,7 @@ impl Queue {
         }
         let ready = self.waits.ready(self.alloc, moment)?;
         self.work.reserve(ready.len())?;
+        self.work.prepare_all(self.alloc, &ready)?;
         add_all(&mut self.waits, &mut self.work, ready);
         self.tick = self.tick.max(moment);
         Ok(())
@@ -187,11 +189,8 @@ impl Queue {
         ensures err { OnErr result (self.new ≡ self.old) }
         ensures memory { IfErr result (λ e. e ≡ OutOfMemory) }
     {
-        let copy = key.try_copy(self.alloc)?;
-        self.failures.reserve(1)?;
         let count = self.failures.get(key);
-        self.failures.put(copy, one_more(count));
-        Ok(())
+        self.failures.put(self.alloc, key, one_more(count))
     }
 
     /// Counts the key's failures from 0 again.
@@ -222,6 +221,7 @@ impl Queue {
             end_well(&mut self.work, &mut self.failures, key);
             return Ok(());
         }
+        self.work.prepare(self.alloc, key)?;
         let again = key.try_copy(self.alloc)?;
         end_well(&mut self.work, &mut self.failures, key);
         self.work.add(again);
@@ -238,19 +238,20 @@ impl Queue {
         let count = self.failures.get(key);
         let at = now_ms.get() + delay_after(count);
         self.work.reserve(2)?;
-        self.failures.reserve(1)?;
-        let copy = key.try_copy(self.alloc)?;
         if self.shut {
-            end_badly(&mut self.work, &mut self.failures, copy, count);
+            self.failures.put(self.alloc, key, one_more(count))?;
+            self.work.end(key);
             return Ok(());
         }
         if at > self.tick {
-            self.waits.keep(self.alloc, key, at)?;
-            end_badly(&mut self.work, &mut self.failures, copy, count);
+            put_off(&mut self.waits, &mut self.failures, self.alloc, key, at)?;
+            self.work.end(key);
             return Ok(());
         }
+        self.work.prepare(self.alloc, key)?;
         let again = key.try_copy(self.alloc)?;
-        end_badly(&mut self.work, &mut self.failures, copy, count);
+        self.failures.put(self.alloc, key, one_more(count))?;
+        self.work.end(key);
         self.work.add(again);
         Ok(())
     }
@@ -259,6 +260,7 @@ impl Queue {
 // Adds the keys, one after the other, and lets them wait no more.
 fn add_all(waits: &mut Waits, work: &mut Work, keys: Vec<Key>)
     requires room { length keys.items ≤ work.old.room }
+    requires placed { ArePlaced keys.items work.old.places }
     ensures waits { waits.new ≡ without waits.old keys.items }
     ensures rows { work.new.row ≡ row_adds work.old.row keys.items }
 {
@@ -273,22 +275,34 @@ fn end_well(work: &mut Work, failures: &mut Failures, key: &Key)
     requires room { 0 < work.old.room }
     requires held { IsTrue (has work.old.row.processing key.now) }
     ensures row { work.new.row ≡ row_end work.old.row key.now }
+    ensures places { work.new.places ≡ work.old.places }
     ensures room { work.old.room ≤ work.new.room + 1 }
-    ensures counts { failures.new.counts ≡ map.remove failures.old.counts key.now }
+    ensures counts { failures.new ≡ map.remove failures.old key.now }
 {
     failures.remove(key);
     work.end(key);
 }
 
-// Ends the work on the key, which failed once more than `count` times.
-fn end_badly(work: &mut Work, failures: &mut Failures, key: Key, count: u64)
-    requires room { 0 < work.old.room }
-    requires held { IsTrue (has work.old.row.processing key) }
-    requires place { 0 < failures.old.room }
-    ensures row { work.new.row ≡ row_end work.old.row key }
-    ensures room { work.old.room ≤ work.new.room + 1 }
-    ensures counts { failures.new.counts ≡ map.insert failures.old.counts key (min (count + 1) 18) }
+// Lets the key wait for the time, or for an earlier one where it waits already, with one failure more.
+fn put_off(
+    waits: &mut Waits,
+    failures: &mut Failures,
+    alloc: Global,
+    key: &Key,
+    at: u64,
+) -> Result<(), Refusal>
+    ensures times { OnOk result (waits.new ≡ waits_for waits.old key.now at) }
+    ensures counts { OnOk result (failures.new ≡ map.insert failures.old key.now
+        (min (unwrap_or (map.get failures.old key.now) 0 + 1) 18)) }
+    ensures waits { OnErr result (waits.new ≡ waits.old) }
+    ensures failures { OnErr result (failures.new ≡ failures.old) }
+    ensures memory { IfErr result (λ e. e ≡ OutOfMemory) }
 {
-    work.end(&key);
-    failures.put(key, one_more(count));
+    let before = failures.kept(key);
+    failures.put(alloc, key, one_more(before.unwrap_or(0)))?;
+    let kept = waits.keep(alloc, key, at);
+    if kept.is_err() {
+        failures.put_back(key, before);
+    }
+    kept
 }

@@ -4,7 +4,7 @@ ghost use Rattle.cj_base.specs.declared.refusal.Refusal.TheVariants.{OutOfMemory
 ghost use Rattle.std.specs.BTreeMap.{keys, IsOrdered};
 ghost use Rattle.cj_queue.specs.Times.{ready, ready_in, waits_for, earlier, timed_cmp, Agrees, SetsTime, SameTimes, Leaves, time_of};
 
-use cj_base::both;
+use crate::copies::two_copies;
 use cj_types::{Key, Refusal, TryCopy};
 use std::alloc::Global;
 use std::collections::BTreeMap;
@@ -130,15 +130,6 @@ fn push_copy(found: &mut Vec<Key>, alloc: Global, key: &Key) -> Result<(), Refus
 {
     let copy = key.try_copy(alloc)?;
     found.push(copy).map_err(|_| Refusal::OutOfMemory)
-}
-
-// Two copies of the key.
-fn two_copies(alloc: Global, key: &Key) -> Result<(Key, Key), Refusal>
-    ensures one { IfOk result (λ copies. copies.0 ≡ key.now) }
-    ensures other { IfOk result (λ copies. copies.1 ≡ key.now) }
-    ensures memory { IfErr result (λ e. e ≡ OutOfMemory) }
-{
-    both(key.try_copy(alloc), key.try_copy(alloc))
 }
 
 // Lets a key wait that did not.

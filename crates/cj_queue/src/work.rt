@@ -3,7 +3,7 @@ ghost use Rattle.std.specs.HashSet.{spare, Updates};
 ghost use Rattle.cj_base.specs.declared.refusal.Refusal.TheVariants.{OutOfMemory};
 ghost use Rattle.cj_queue.specs.Queue.{new_row, row_add, row_take, row_end, first, has};
 ghost use Rattle.cj_types.specs.Keys.{Place};
-ghost use Rattle.cj_queue.specs.Parts.{key_eq, stands_in};
+ghost use Rattle.cj_queue.specs.Parts.{key_eq, stands_in, ArePlaced};
 
 use crate::line::Line;
 use cj_types::{Key, Refusal, TryCopy};
@@ -13,7 +13,9 @@ use std::marker::Model;
 
 /// The keys that want work, and those that are being worked on.
 ///
-/// Contracts see the line, the dirty keys and those that are being worked on, and for how many adds there is room.
+/// A key needs a place in the line before it is added. `prepare` makes one, with the memory that this takes, so that
+/// an add can't fail. Contracts see the line, the dirty keys and those that are being worked on, the keys that have a
+/// place, and for how many adds there is room.
 pub struct Work {
     // The keys that want work and that nobody works on.
     line: Line,
@@ -38,7 +40,7 @@ impl Drop for Work {
 impl Model for Work {
     ghost use Rattle.std.specs.HashSet.{spare};
     ghost use Rattle.std.specs.Prelude.{◌++◌, min};
-    ghost use Rattle.cj_queue.specs.Parts.{Work, work_code, keys_of, IsLined};
+    ghost use Rattle.cj_queue.specs.Parts.{Work, work_code, keys_of, IsKept};
 
     ghost Value = { Work };
 
@@ -50,10 +52,11 @@ impl Model for Work {
         dirty = keys_of (r.line.keys ++ r.again.keys);
         processing = keys_of r.processing.keys;
       };
+      places = r.line.places;
       room = min r.line.room (spare r.again);
     } };
 
-    ghost invariant = { λ r. IsLined r.line.keys r.again.keys r.processing.keys };
+    ghost invariant = { λ r. IsKept r.line.keys r.again.keys r.processing.keys r.line.places };
 }
 
 // Puts a key into a set that has room.
@@ -89,7 +92,7 @@ impl Work {
     }
 
     /// Makes room for so many adds.
-    #[tactic(auto, using(crate::proofs::RowLemmas::same_dirty, crate::proofs::RowLemmas::lined_same))]
+    #[tactic(auto, using(crate::proofs::RowLemmas::same_dirty, crate::proofs::RowLemmas::kept_same))]
     pub fn reserve(&mut self, count: usize) -> Result<(), Refusal>
         ensures row { self.new.row ≡ self.old.row }
         ensures ok { OnOk result (count ≤ self.new.room) }
@@ -99,15 +102,41 @@ impl Work {
         self.line.reserve(count)
     }
 
+    /// Makes a place in the line for the key, where it has none.
+    pub fn prepare(&mut self, alloc: Global, key: &Key) -> Result<(), Refusal>
+        ensures row { self.new.row ≡ self.old.row }
+        ensures room { self.new.room ≡ self.old.room }
+        ensures kept { ArePlaced self.old.places self.new.places }
+        ensures ok { OnOk result (stands_in self.new.places key.now ≡ true) }
+        ensures memory { IfErr result (λ e. e ≡ OutOfMemory) }
+    {
+        self.line.prepare(alloc, key)
+    }
+
+    /// Makes a place in the line for each of the keys.
+    pub fn prepare_all(&mut self, alloc: Global, keys: &[Key]) -> Result<(), Refusal>
+        ensures row { self.new.row ≡ self.old.row }
+        ensures room { self.new.room ≡ self.old.room }
+        ensures ok { OnOk result (ArePlaced keys.now self.new.places) }
+        ensures memory { IfErr result (λ e. e ≡ OutOfMemory) }
+    {
+        for key in keys {
+            self.prepare(alloc, key)?;
+        }
+        Ok(())
+    }
+
     /// The key is dirty, and goes last in the line unless it was dirty or is being worked on.
     pub fn add(&mut self, key: Key)
-        requires { 0 < self.old.room }
+        requires room { 0 < self.old.room }
+        requires placed { stands_in self.old.places key ≡ true }
         ensures row { self.new.row ≡ row_add self.old.row key }
+        ensures places { self.new.places ≡ self.old.places }
         ensures room { self.old.room ≤ self.new.room + 1 }
     {
         if self.processing.contains(&key) {
             put(&mut self.again, key);
-        } else if !self.line.contains(&key) {
+        } else {
             self.line.push(key);
         }
     }
@@ -118,7 +147,12 @@ impl Work {
         ensures err { OnErr result (self.new.row ≡ self.old.row) }
         ensures memory { IfErr result (λ e. e ≡ OutOfMemory) }
     {
+        if !self.processing.contains(key) {
+            self.line.add(alloc, key)?;
+            return Ok(());
+        }
         self.reserve(1)?;
+        self.prepare(alloc, key)?;
         let copy = key.try_copy(alloc)?;
         self.add(copy);
         Ok(())
@@ -159,6 +193,7 @@ impl Work {
         requires room { 0 < self.old.room }
         requires held { IsTrue (has self.old.row.processing key.now) }
         ensures row { self.new.row ≡ row_end self.old.row key.now }
+        ensures places { self.new.places ≡ self.old.places }
         ensures room { self.old.room ≤ self.new.room + 1 }
     {
         self.processing.remove(key);

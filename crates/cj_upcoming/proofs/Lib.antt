@@ -12,3 +12,6 @@ pub mod Fullest
 pub mod Said
 pub mod Naming
 pub mod OfCron
+pub mod NamedLines
+pub mod TimesLemmas
+pub mod Idle

@@ -9,6 +9,7 @@ pub mod Notes
 pub mod Upcoming
 pub mod Times
 pub mod Changes
+pub mod Named
 pub mod Minutes
 pub mod Standings
 pub mod Lines
@@ -16,3 +17,4 @@ pub mod Zones
 pub mod Coming
 pub mod Length
 pub mod Report
+pub mod json

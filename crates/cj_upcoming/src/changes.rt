@@ -10,7 +10,8 @@ use cj_base::{Refusal, Seconds};
 use cj_zone::{Zone, local, steady_from, stretch_at, time_text};
 use std::alloc::{AllocError, Global};
 
-fn instant(count: u64) -> Seconds
+/// The instant of so many seconds.
+pub(crate) fn instant(count: u64) -> Seconds
     requires { count ≤ last_second }
     ensures { result ≡ count }
 {
@@ -84,14 +85,15 @@ pub(crate) fn changes(
     Ok(changes)
 }
 
-fn change_word(before: i64, after: i64) -> &'static str
+/// Whether it skips local times or shows some twice.
+pub(crate) fn change_word(before: i64, after: i64) -> &'static str
     ensures { result.now ≡ (if int_lt before after then codes "skips" else codes "repeats") }
 {
     if before < after { "skips" } else { "repeats" }
 }
 
-// The second before.
-fn second_before(at: Seconds) -> Seconds
+/// The second before.
+pub(crate) fn second_before(at: Seconds) -> Seconds
     ensures { result ≡ at - 1 }
 {
     instant(at.get().saturating_sub(1))

@@ -15,10 +15,12 @@ mod day_words;
 mod describe;
 mod fault;
 mod join;
+mod json;
 mod length;
 mod lines;
 mod minute;
 mod minutes;
+mod named;
 mod note;
 mod part;
 mod peaks;
@@ -39,9 +41,15 @@ pub use changes::changes_text;
 pub use coming::coming_text;
 pub use describe::sentence;
 pub use fault::StartsFault;
+pub use json::{
+    coming_changes, coming_times, coming_value, peaks_value, standing_values, starts_value,
+    zone_changes_value,
+};
 pub use length::read_length;
 pub use lines::{peaks_text, starts_text};
 pub use minute::Minute;
+pub use minutes::minutes_of;
+pub use named::named_changes_text;
 pub use report::window_text;
 pub use standing::Standing;
 pub use standings::standings_text;

@@ -7,7 +7,7 @@ ghost use Rattle.cj_upcoming.specs.Standings.{key_text};
 ghost use Rattle.cj_upcoming.specs.Minutes.{minutes, IsPeaks, IsWithin};
 
 use crate::minute::Minute;
-use crate::minutes::minutes;
+use crate::minutes::minutes_of;
 use crate::peaks::peaks;
 use crate::start::Start;
 use cj_cluster::ClusterCron;
@@ -152,7 +152,7 @@ pub fn starts_text(
         ≡ start_lines crons.now starts.now (minutes starts.now)) }
     ensures memory { IfErr result (λ e. e ≡ OutOfMemory) }
 {
-    let minutes = minutes(alloc, starts)?;
+    let minutes = minutes_of(alloc, starts)?;
     start_lines(alloc, crons, starts, minutes.as_slice())
 }
 

@@ -65,7 +65,7 @@ fn grouped(alloc: Global, starts: &[Start]) -> Result<Vec<Minute>, AllocError>
 }
 
 /// A minute for each time, with the place of its first start and how many it has.
-pub(crate) fn minutes(alloc: Global, starts: &[Start]) -> Result<Vec<Minute>, AllocError>
+pub fn minutes_of(alloc: Global, starts: &[Start]) -> Result<Vec<Minute>, AllocError>
     ensures same { IfOk result (λ v. v.items ≡ minutes starts.now) }
     ensures within { IfOk result (λ v. All (IsWithin starts.now) v.items) }
 {

@@ -5,7 +5,7 @@ ghost use Rattle.cj_status.specs.Order.{IsRising};
 ghost use Rattle.cj_upcoming.specs.Minutes.{fuller_cmp, is_fuller, minutes, IsPeaks, IsWithin};
 
 use crate::minute::Minute;
-use crate::minutes::minutes;
+use crate::minutes::minutes_of;
 use crate::start::Start;
 use std::alloc::{AllocError, Global};
 use std::cmp::Ordering;
@@ -33,7 +33,7 @@ pub(crate) fn peaks(alloc: Global, starts: &[Start], most: usize) -> Result<Vec<
     ensures peaks { IfOk result (λ v. IsPeaks most (minutes starts.now) v.items) }
     ensures within { IfOk result (λ v. All (IsWithin starts.now) v.items) }
 {
-    let mut all = minutes(alloc, starts)?;
+    let mut all = minutes_of(alloc, starts)?;
     sort(&mut all)?;
     all.truncate(most);
     Ok(all)

@@ -45,8 +45,8 @@ fn push_named(alloc: Global, names: &mut Vec<Text>, name: &Option<Text>) -> Resu
     }
 }
 
-// The zones that the CronJobs name, each once.
-fn named(alloc: Global, crons: &[Shared<ClusterCron>]) -> Result<Vec<Text>, Refusal>
+/// The zones that the CronJobs name, each once.
+pub(crate) fn named(alloc: Global, crons: &[Shared<ClusterCron>]) -> Result<Vec<Text>, Refusal>
     ensures ok { IfOk result (λ v. v.items ≡ named [] crons.now) }
     ensures memory { IfErr result (λ e. e ≡ OutOfMemory) }
 {
@@ -57,8 +57,8 @@ fn named(alloc: Global, crons: &[Shared<ClusterCron>]) -> Result<Vec<Text>, Refu
     Ok(names)
 }
 
-// The second before.
-fn last_of(window: &Window) -> Seconds
+/// The second before its end.
+pub(crate) fn last_of(window: &Window) -> Seconds
     ensures { result ≡ window.now.end - 1 }
 {
     let end = window.end().get();

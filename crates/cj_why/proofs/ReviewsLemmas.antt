@@ -1,3 +1,4 @@
 pub mod Leads
 pub mod Moved
 pub mod Rows
+pub mod Values

@@ -1,5 +1,7 @@
+pub mod CronJson
 pub mod Lacking
 pub mod Otherwise
+pub mod PlanJson
 pub mod PlanLines
 pub mod Review
 pub mod Rows

@@ -1,6 +1,8 @@
 // What the next sync of each CronJob of a cluster does, and what it missed.
+mod cron_json;
 mod lacking;
 mod otherwise;
+mod plan_json;
 mod reviewing;
 mod rows;
 mod seen;
@@ -11,6 +13,8 @@ mod verdict;
 mod words;
 mod zone_for;
 
+pub use cron_json::cron_values;
+pub use plan_json::plan_value;
 pub use reviewing::{Reviewed, review};
 pub use rows::{CronRow, cron_rows, problems};
 pub use seen::{found, listed};

@@ -34,10 +34,18 @@ fn most_bytes(request: &Request<'_>) -> usize {
     }
 }
 
-// Says to people why the file of a request that failed could not be opened, or that it is too long, where they ask for
-// that.
+// Whether people are told of a file that can't be read: where they ask for that, and of the commands on a cluster and on
+// the times to come always.
+fn tells_files(request: &Request<'_>) -> bool {
+    match request {
+        Request::Why(_) | Request::Audit(_) | Request::Upcoming(_) => true,
+        _ => request.explains(),
+    }
+}
+
+// Says to people why the file of a request that failed could not be opened, or that it is too long.
 fn tell_unread<E: Write>(request: &Request<'_>, status: u8, input: &Input, err: &mut E) {
-    if status != FAILED || !request.explains() {
+    if status != FAILED || !tells_files(request) {
         return;
     }
     let Some(file) = request.file() else {

@@ -2,7 +2,7 @@ use crate::folder::{input_files, push_input_files};
 use crate::source::Input;
 use cj_program::{
     CheckRequest, CronFile, Failure, FileAnswer, MOST_BYTES, MOST_LIST_BYTES, MOST_LIST_READS,
-    MOST_READS, UpcomingRequest, check_answer, read_input, serve_several, serve_upcoming,
+    MOST_READS, UpcomingRequest, check_file_answer, read_input, serve_several, serve_upcoming,
     tell_failure,
 };
 use std::io::Write;
@@ -25,7 +25,7 @@ fn answer_of<'a>(
         Err(_) => return Ok(FileAnswer { name, answer: None }),
     };
     let files = input_files(rt, folder.unwrap_or(""), bytes.as_slice())?;
-    let answer = check_answer(alloc, check, files.as_slice(), &mut bytes.as_slice())?;
+    let answer = check_file_answer(alloc, check, name, files.as_slice(), &mut bytes.as_slice())?;
     Ok(FileAnswer {
         name,
         answer: Some(answer),
@@ -51,18 +51,16 @@ pub fn serve_files(
     ))
 }
 
-// All bytes of one of several files; none where it can't be read, which is told to people who ask.
-fn bytes_of(rt: &HostRuntime, explain: bool, name: &str) -> Result<Option<Vec<u8>>, Failure> {
+// All bytes of one of several files; none where it can't be read, which is told.
+fn bytes_of(rt: &HostRuntime, name: &str) -> Result<Option<Vec<u8>>, Failure> {
     let mut input = Input::open(rt, Some(name));
     match read_input(rt.alloc(), &mut input, MOST_LIST_BYTES, MOST_LIST_READS) {
         Ok(bytes) => Ok(Some(bytes)),
         Err(Failure::Memory) => Err(Failure::Memory),
         Err(failure) => {
             let _ = tell_failure(failure, &mut rt.stderr());
-            if explain {
-                let cause = input.cause().unwrap_or("it can't be read, or is too long");
-                let _ = writeln!(&mut rt.stderr(), "{name}: {cause}");
-            }
+            let cause = input.cause().unwrap_or("it can't be read, or is too long");
+            let _ = writeln!(&mut rt.stderr(), "{name}: {cause}");
             Ok(None)
         }
     }
@@ -75,7 +73,7 @@ fn all_bytes(
 ) -> Result<Option<Vec<Vec<u8>>>, Failure> {
     let mut all = Vec::new(rt.alloc());
     for name in upcoming.files.as_slice() {
-        match bytes_of(rt, upcoming.explain, name)? {
+        match bytes_of(rt, name)? {
             Some(bytes) => all.push(bytes)?,
             None => return Ok(None),
         }

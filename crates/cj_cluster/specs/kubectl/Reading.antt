@@ -3,10 +3,9 @@ use Rattle.std.specs.Prelude.{◌≡◌, ℕ, ◌+◌, List, [], ◌∷◌, ◌+
 use Rattle.std.specs.FinMap as map
 use Rattle.serde_json.specs.Data.{Data, Items, no_items, item}
 use Rattle.cj_base.specs.declared.cause.Cause.{Cause}
-use Rattle.cj_base.specs.declared.cause.Cause.TheVariants as Why
 use Rattle.cj_base.specs.declared.field.Field.TheVariants as At
 use Rattle.cj_base.specs.declared.faults.FieldFault.{FieldFault}
-use Rattle.cj_types.specs.Keys.{fault_of}
+use Rattle.cj_types.specs.Keys.{Place, fault_of}
 use Rattle.cj_types.specs.declared.cron.CronJobDraft.{CronJobDraft}
 use Rattle.cj_types.specs.declared.job.Job.{Job}
 use Rattle.cj_zone.specs.declared.zone.Zone.{Zone}
@@ -16,6 +15,7 @@ use Rattle.cj_cluster.specs.declared.times.JobTimes.{JobTimes}
 use Rattle.cj_manifest.specs.Drafts.{cron_draft, given, job_head, value_or}
 use Rattle.cj_manifest.specs.Faults.{cron_faults, head_faults}
 use Rattle.cj_manifest.specs.Members.{present}
+use Rattle.cj_manifest.specs.Owners.{text_at}
 use Rattle.cj_manifest.specs.Reading.{IsNoValue, Reads}
 use Rattle.cj_manifest.specs.Values.{an_object, required, text}
 use Rattle.cj_manifest.specs.declared.head.JobHead.{JobHead}
@@ -25,12 +25,14 @@ use Rattle.cj_cluster.specs.declared.kubectl.item.Item.{Item}
 use Rattle.cj_cluster.specs.declared.kubectl.item.Item.TheVariants as Read
 use Rattle.cj_cluster.specs.declared.kubectl.list.ClusterList.{ClusterList}
 use Rattle.cj_cluster.specs.declared.kubectl.notes.Said.{Said}
-use Rattle.cj_cluster.specs.declared.kubectl.notes.Said.TheVariants.{Kind, Refused}
+use Rattle.cj_cluster.specs.declared.kubectl.notes.Said.TheVariants.{Kind, Refused, Taken}
 use Rattle.cj_cluster.specs.declared.kubectl.times.CronTimes.{CronTimes}
 use Rattle.cj_cluster.specs.declared.kubectl.times.RunTimes.{RunTimes}
 use Rattle.cj_cluster.specs.kubectl.Faults.{cron_server_faults, job_server_faults}
-use Rattle.cj_cluster.specs.kubectl.Lists.{items_of}
-use Rattle.cj_cluster.specs.kubectl.Named.{cron_named}
+use Rattle.cj_cluster.specs.declared.kubectl.notes.ListedKind.{ListedKind}
+use Rattle.cj_cluster.specs.declared.kubectl.notes.ListedKind.TheVariants as Of
+use Rattle.cj_cluster.specs.kubectl.Lists.{item_kind, items_of, typed}
+use Rattle.cj_cluster.specs.kubectl.Named.{cron_named, key_text}
 use Rattle.cj_cluster.specs.kubectl.Objects.{cron_made, job_made, outcome_of}
 use Rattle.cj_cluster.specs.kubectl.Rows.{AreCronTimes, AreRunTimes, active_of, finish_row}
 
@@ -114,18 +116,19 @@ noted place d said s = record {
   notes = s.notes ++ record { place = place; cron = cron_named d; said = said } ∷ [];
 }
 
--- of a name that another object of the kind has
-abbrev pub taken : Said
-taken = Refused (fault_of At.Name (Some Why.NotAllowed))
+-- an earlier object of that kind has the name
+-- rule: cluster-faults
+abbrev pub taken : ListedKind → Place → Said
+taken kind key = Taken kind (key_text key.namespace key.name)
 
 -- with a CronJob, where none stands at its key
 abbrev pub adds_cron : ℕ → Data → ClusterCron → Option ClusterCron → ClusterList → ClusterList
 adds_cron place d cron None s = record { cluster = with_cron cron s.cluster; notes = s.notes }
-adds_cron place d cron (Some other) s = noted place d taken s
+adds_cron place d cron (Some other) s = noted place d (taken Of.Cron cron.cron.key) s
 
 abbrev pub adds_job : ℕ → Data → Job → JobTimes → Option Job → ClusterList → ClusterList
 adds_job place d job times None s = record { cluster = with_job job times s.cluster; notes = s.notes }
-adds_job place d job times (Some other) s = noted place d taken s
+adds_job place d job times (Some other) s = noted place d (taken Of.Run job.key) s
 
 -- with what is read at a place: the first object of a name stands
 -- rule: cluster-list
@@ -141,12 +144,21 @@ pub record AddsItem (zones : List Zone) (place : ℕ) (d : Data) (s more : Clust
   pub is_item : IsItem zones place d read
   pub more_is : more ≡ adds place d read s
 
+-- the items of a list, by the kind that they have and by its version
+pub record TypeMeta : Type 0 where
+  pub kind : Option (List ℕ)
+  pub version : Option (List ℕ)
+
+abbrev pub type_of : Data → TypeMeta
+type_of d = record { kind = item_kind d; version = text_at (codes "apiVersion") d }
+
 -- with the items from a place on, one after another: one that is refused ends nothing
 -- rules: cluster-list, cluster-faults
-abbrev pub AddsItems : List Zone → ℕ → Items → ClusterList → ClusterList → Type 0
-AddsItems zones place no_items s all = all ≡ s
-AddsItems zones place (item d ds) s all =
-    (more : ClusterList) × AddsItem zones place d s more × AddsItems zones (place + 1) ds more all
+abbrev pub AddsItems : List Zone → TypeMeta → ℕ → Items → ClusterList → ClusterList → Type 0
+AddsItems zones t place no_items s all = all ≡ s
+AddsItems zones t place (item d ds) s all =
+    (more : ClusterList) × AddsItem zones place (typed t.kind t.version d) s more
+    × AddsItems zones t (place + 1) ds more all
 
 -- what the bytes of a list say
 -- rule: cluster-list
@@ -155,7 +167,7 @@ pub record IsClusterList (zones : List Zone) (bytes : List ℕ) (r : ClusterList
   pub items : Items
   pub reads : Reads bytes value
   pub listed : items_of value ≡ Some items
-  pub added : AddsItems zones 1 items start r
+  pub added : AddsItems zones (type_of value) 1 items start r
 
 -- why bytes are none
 -- rule: cluster-list

@@ -8,10 +8,10 @@ ghost use Rattle.serde_json.specs.View.{view};
 use crate::cluster::Cluster;
 use crate::cron::ClusterCron;
 use crate::kubectl::item::Item;
-use crate::kubectl::named::cron_named;
-use crate::kubectl::notes::{ItemNote, ItemNotes, Said};
+use crate::kubectl::named::{cron_named, key_text};
+use crate::kubectl::notes::{ItemNote, ItemNotes, ListedKind, Said};
 use crate::times::JobTimes;
-use cj_types::{Cause, Field, FieldFault, FieldFaults, Job, Refusal, Shared};
+use cj_types::{Job, Key, Refusal, Shared};
 use serde_json::Value;
 use std::alloc::Global;
 
@@ -56,28 +56,29 @@ fn note(
 }
 
 // What is said of an object whose name an earlier one of its kind has.
-fn taken_name(alloc: Global) -> Result<Said, Refusal>
-    ensures ok { IfOk result (λ s. s ≡ taken) }
+fn taken(alloc: Global, kind: ListedKind, key: &Key) -> Result<Said, Refusal>
+    ensures ok { IfOk result (λ s. s ≡ taken kind key.now) }
     ensures err { IfErr result (λ e. e ≡ OutOfMemory) }
 {
-    let field = Field::Name;
-    let cause = Cause::NotAllowed;
-    let faults = FieldFaults::one(alloc, FieldFault { field, cause })?;
-    Ok(Said::Refused(faults))
+    let text = key_text(alloc, key.namespace(), key.name())?;
+    Ok(Said::Taken(kind, text))
 }
 
-// A note of an object whose name is taken.
+// A note of such an object.
 fn note_taken(
     alloc: Global,
     list: &mut ClusterList,
     place: u64,
     value: &Value,
+    kind: ListedKind,
+    key: &Key,
 ) -> Result<(), Refusal>
-    ensures ok { OnOk result (list.new ≡ noted place (view value.now) taken list.old) }
+    ensures ok { OnOk result (list.new
+        ≡ noted place (view value.now) (taken kind key.now) list.old) }
     ensures err { OnErr result (list.new ≡ list.old) }
     ensures memory { IfErr result (λ e. e ≡ OutOfMemory) }
 {
-    let said = taken_name(alloc)?;
+    let said = taken(alloc, kind, key)?;
     note(alloc, list, place, value, said)
 }
 
@@ -93,8 +94,9 @@ fn add_cron(
     ensures err { OnErr result (list.new ≡ list.old) }
     ensures memory { IfErr result (λ e. e ≡ OutOfMemory) }
 {
-    if list.cluster.cron(cron.cron.key.key()).is_some() {
-        note_taken(alloc, list, place, value)
+    let key = cron.cron.key.key();
+    if list.cluster.cron(key).is_some() {
+        note_taken(alloc, list, place, value, ListedKind::Cron, key)
     } else {
         list.cluster.add_cron(alloc, cron)
     }
@@ -114,7 +116,7 @@ fn add_job(
     ensures memory { IfErr result (λ e. e ≡ OutOfMemory) }
 {
     if list.cluster.job(&job.key).is_some() {
-        note_taken(alloc, list, place, value)
+        note_taken(alloc, list, place, value, ListedKind::Run, &job.key)
     } else {
         list.cluster.add_job(alloc, job, times)
     }

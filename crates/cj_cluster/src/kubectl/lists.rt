@@ -15,7 +15,8 @@ pub(crate) fn text_at<'v>(value: &'v Value, name: &str) -> Option<&'v str>
     present(value, name)?.as_str()
 }
 
-fn is_list(kind: &str) -> bool
+/// Whether it is the kind of a list.
+pub(crate) fn is_list(kind: &str) -> bool
     ensures { result ≡ is_list kind.now }
 {
     kind == "List" || kind == "CronJobList" || kind == "JobList"
@@ -27,8 +28,8 @@ fn is_single(kind: &str) -> bool
     kind == "CronJob" || kind == "Job"
 }
 
-// The array `items`.
-fn listed(value: &Value) -> Option<&[Value]>
+/// The array `items`.
+pub(crate) fn listed(value: &Value) -> Option<&[Value]>
     ensures { option_map (λ vs. items_view vs.now) result ≡ listed (view value.now) }
 {
     Some(present(value, "items")?.as_array()?.as_slice())

@@ -55,7 +55,8 @@ fn optional_text(alloc: Global, text: Option<&str>) -> Result<Option<Text>, Refu
     }
 }
 
-fn key_text(alloc: Global, namespace: &str, name: &str) -> Result<Text, Refusal>
+/// NAMESPACE/NAME.
+pub(crate) fn key_text(alloc: Global, namespace: &str, name: &str) -> Result<Text, Refusal>
     ensures ok { IfOk result (λ t. t ≡ told.key_text namespace.now name.now) }
     ensures err { IfErr result (λ e. e ≡ OutOfMemory) }
 {

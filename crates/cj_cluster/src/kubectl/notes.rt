@@ -7,14 +7,24 @@ use cj_types::{FieldFaults, Job, Refusal, Text};
 use std::alloc::Global;
 use std::marker::Model;
 
+/// The kinds of object that are read.
+#[derive(Clone, Copy, Debug, PartialEq, Eq)]
+pub enum ListedKind {
+    /// A CronJob.
+    Cron,
+    /// A Job.
+    Run,
+}
+
 /// Why an item of a list is not among the objects that are read.
 #[derive(Debug, Drop)]
 pub enum Said {
     /// It is of this kind, which is neither a CronJob's nor a Job's.
     Kind(Text),
-    /// It has these faults. Where an earlier object of its kind has its name, that is
-    /// `metadata.name NotAllowed`.
+    /// It has these faults.
     Refused(FieldFaults),
+    /// It is of this kind, and an earlier item of it has its name, which is this as NAMESPACE/NAME.
+    Taken(ListedKind, Text),
 }
 
 /// What is said of an item of a list.

@@ -35,8 +35,8 @@ pub struct CronRow {
     pub words: String,
 }
 
-// The verdict of the CronJob's plan.
-fn row_verdict(
+/// The verdict of the CronJob's plan.
+pub(crate) fn row_verdict(
     alloc: Global,
     zones: &ZoneTable,
     cluster: &Cluster,

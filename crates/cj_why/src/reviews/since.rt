@@ -51,8 +51,8 @@ pub(crate) fn missed_of(cron: &CronJob, zone: Option<&Zone>, now: Seconds) -> Mi
     }
 }
 
-// The lower end of the times that count as missed at this moment.
-fn since(cron: &CronJob, now: Seconds) -> Seconds
+/// The lower end of the times that count as missed at this moment.
+pub(crate) fn since(cron: &CronJob, now: Seconds) -> Seconds
     ensures { result ≡ window_of cron.now now }
 {
     let base = cron.status.last_schedule_time.unwrap_or(cron.meta.created);

@@ -80,7 +80,8 @@ fn titled(alloc: Global, cron: &CronJob, why: &str, otherwise: &str) -> Result<S
     Ok(text)
 }
 
-fn cron_words(
+/// Why the CronJob starts a Job at this moment, or why not, and what Kubernetes' own controller does otherwise.
+pub(crate) fn cron_words(
     alloc: Global,
     zones: &ZoneTable,
     cluster: &Cluster,

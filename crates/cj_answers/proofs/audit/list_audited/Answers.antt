@@ -1,5 +1,5 @@
 -- list_audited: its ensures, from the findings of the list that was read and what is told of them.
-use Rattle.std.proofs.Common.{◌∙◌, ap, subst, ℕ, List}
+use Rattle.std.proofs.Common.{◌∙◌, ap, subst, ℕ, List, string_bytes}
 use Rattle.std.proofs.lemmas.Result.{IfOk-weaker}
 use Rattle.cj_zone.specs.Table.{zones_of}
 use Rattle.cj_audit.specs.Findings.{IsAudit}
@@ -17,6 +17,9 @@ returns c =
       findings = findings;
       found = subst (λ (n : List ItemNote). IsAudit (zones_of c.args.zones.now) c.args.list.now.cluster n findings)
           c.as_slice.ensures c.in_ok-findings.ensures.ok;
-      answer = e ∙ ap (λ (w : List ℕ). explained c.args.explain w (audited c.args.list.now findings))
+      printed = string_bytes c.in_ok-printed.printed;
+      prints = c.in_ok-printed.ensures.ok;
+      answer = e
+          ∙ ap (λ (w : List ℕ). explained c.args.explain w (audited c.args.list.now findings (string_bytes c.in_ok-printed.printed)))
           (c.as_str.ensures.value ∙ c.in_ok-words.ensures);
     }) c.told_of.ensures

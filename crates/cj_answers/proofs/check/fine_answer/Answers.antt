@@ -6,7 +6,7 @@ use Rattle.cj_answers.proofs.check.fine_answer.Goals as goal
 
 pub returns : goal.returns
 returns c = λ bytes read.
-    fine_checked c.args.check.now (zones_of c.args.zones.now) bytes c.args.manifest.now
+    fine_checked c.args.check.now c.args.alone (zones_of c.args.zones.now) bytes c.args.manifest.now
     (string_bytes c.in_ok-words.words) c.as_str.result.now
     c.args.warnings.now c.args.warnings.now c.fine.result refl c.as_str.ensures.value c.in_ok-words.ensures
     read c.fine.ensures

@@ -1,16 +1,16 @@
--- next_answer: its ensures where schedule, start and zone are read and the due times are printed.
-use Rattle.std.proofs.Common.{refl, inr, string_bytes}
+-- next_answer: its ensures, by whether the form of what is printed is one that there is.
+use Rattle.std.proofs.Common.{◌∙◌, sym, inl, inr}
+use Rattle.std.proofs.lemmas.Result.{IfOk-weaker}
 use Rattle.cj_answers.proofs.next.next_answer.Goals as goal
 
-pub returns : goal.returns
-returns c = inr (inr (inr (record {
-  sets = c.in-Ok.schedule;
-  schedule = c.in-Ok.ensures.found;
-  after = c.in-Some.after;
-  start = record { in_range = c.in-Some.ensures.in_range; printed = c.in-Some.ensures.found };
-  zone = c.default_zone.result.now;
-  is_zone = c.in-Ok-next_zones.ensures.ok c.default_zone.result.now c.default_zone.ensures;
-  text = string_bytes c.in_ok-next_text.field-0;
-  times = c.in_ok-next_text.ensures.ok;
-  answer = rw c.new.ensures.bytes refl;
-})))
+pub returns-then-is_form : goal.returns-then-is_form
+returns-then-is_form c =
+    IfOk-weaker c.form_answer.result _ _
+    (λ a h. inr (record { known = sym c.is_form.ensures ∙ c.if-is_form.true; answer = h }))
+    c.form_answer.ensures
+
+pub returns-else-is_form : goal.returns-else-is_form
+returns-else-is_form c =
+    IfOk-weaker c.refused_form.result _ _
+    (λ a h. inl (record { unknown = sym c.is_form.ensures ∙ c.if-is_form.false; answer = h }))
+    c.refused_form.ensures

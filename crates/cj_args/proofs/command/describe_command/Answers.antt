@@ -1,4 +1,4 @@
--- describe_command: its ensures, from its own five arguments in their order and the options behind them.
+-- describe_command: its ensures, from its own six arguments in their order and the options behind them.
 use Rattle.cj_args.proofs.command.describe_command.Goals as goal
 
 pub returns : goal.returns
@@ -8,4 +8,5 @@ returns c =
     let three = c.with_arg-command-3.ensures _ _ two c.count_arg.ensures in
     let four = c.with_arg-command-4.ensures _ _ three c.option_arg-2.ensures in
     let five = c.with_arg-command-5.ensures _ _ four c.option_arg-3.ensures in
-    c.with_folder.ensures _ five
+    let six = c.with_arg-command-6.ensures _ _ five c.lines_arg.ensures in
+    c.with_folder.ensures _ six

@@ -1,4 +1,4 @@
--- next_command: its ensures, from its own five arguments in their order and the options behind them.
+-- next_command: its ensures, from its own six arguments in their order and the options behind them.
 use Rattle.cj_args.proofs.command.next_command.Goals as goal
 
 pub returns : goal.returns
@@ -8,4 +8,4 @@ returns c =
     let three = c.with_arg-command-3.ensures _ _ two c.count_arg.ensures in
     let four = c.with_arg-command-4.ensures _ _ three c.option_arg.ensures in
     let five = c.with_arg-command-5.ensures _ _ four c.option_arg-2.ensures in
-    c.with_folder.ensures _ five
+    c.with_folder.ensures _ (c.with_arg-command-6.ensures _ _ five c.lines_arg.ensures)

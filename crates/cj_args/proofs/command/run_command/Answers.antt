@@ -1,4 +1,4 @@
--- run_command: its ensures, from the file, its own four arguments and the options behind them.
+-- run_command: its ensures, from the file, its own five arguments and the options behind them.
 use Rattle.cj_args.proofs.command.run_command.Goals as goal
 
 pub returns : goal.returns
@@ -6,4 +6,5 @@ returns c =
     let one = c.with_arg-command.ensures _ _ c.file_command-command.ensures c.workers_arg.ensures in
     let two = c.with_arg-command-2.ensures _ _ one c.flag_arg.ensures in
     let three = c.with_arg-command-3.ensures _ _ two c.flag_arg-2.ensures in
-    c.with_zones.ensures _ (c.with_arg-command-4.ensures _ _ three c.flag_arg-3.ensures)
+    let four = c.with_arg-command-4.ensures _ _ three c.flag_arg-3.ensures in
+    c.with_zones.ensures _ (c.with_arg-command-5.ensures _ _ four c.output_arg.ensures)

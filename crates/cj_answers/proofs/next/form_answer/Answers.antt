@@ -1,0 +1,17 @@
+-- form_answer: its ensures where schedule, start and zone are read and the due times are printed.
+use Rattle.std.proofs.Common.{inr}
+use Rattle.std.proofs.lemmas.Result.{IfOk-weaker}
+use Rattle.cj_answers.proofs.next.form_answer.Goals as goal
+
+pub returns : goal.returns
+returns c =
+    IfOk-weaker c.times_answer.result _ _
+    (λ a h. inr (inr (inr (record {
+      sets = c.in-Ok.schedule;
+      schedule = c.in-Ok.ensures.found;
+      after = c.in-Some.after;
+      start = record { in_range = c.in-Some.ensures.in_range; printed = c.in-Some.ensures.found };
+      zone = c.default_zone.result.now;
+      is_zone = c.in-Ok-next_zones.ensures.ok c.default_zone.result.now c.default_zone.ensures;
+      tells = h;
+    })))) c.times_answer.ensures

@@ -1,0 +1,44 @@
+-- What an audit finds, as JSON. The members of an object are in the order of their names.
+use Rattle.std.specs.Prelude.{◌≡◌, ℕ, List, ◌++◌, Bool, true, false, length, codes}
+use Rattle.std.specs.FinMap as map
+use Rattle.serde_json.specs.Data.{Data, number, unsigned, object, member, no_members}
+use Rattle.cj_audit.specs.declared.finding.Finding.{Finding}
+use Rattle.cj_audit.specs.Json.{findings_data, manual_data}
+use Rattle.cj_audit.specs.Lines.{audit_lines}
+use Rattle.cj_audit.specs.Manual.{manual_lines}
+use Rattle.cj_cluster.specs.declared.kubectl.list.ClusterList.{ClusterList}
+use Rattle.cj_answers.specs.Clusters.{note_lines}
+use Rattle.cj_answers.specs.as_json.Forms.{IsJsonLine}
+use Rattle.cj_answers.specs.as_json.Notes.{others_data, refused_data}
+
+abbrev pub audit_object : ℕ → ℕ → Data → Data → Data → Data → Data
+audit_object crons jobs findings manual others refused = object (
+    member (codes "cronJobs") (number (unsigned crons)) (
+    member (codes "findings") findings (
+    member (codes "jobs") (number (unsigned jobs)) (
+    member (codes "manual") manual (
+    member (codes "others") others (
+    member (codes "refused") refused no_members))))))
+
+-- how many CronJobs and Jobs were looked at, the findings, the Jobs that somebody made by hand, and the items that can't be
+-- used
+-- rules: audit-json, json-faults
+abbrev pub audit_data : ClusterList → List Finding → Data
+audit_data list findings =
+    audit_object (length (map.values list.cluster.crons)) (length (map.values list.cluster.jobs)) (findings_data findings)
+    (manual_data list.cluster.times (map.values list.cluster.jobs)) (others_data list.notes) (refused_data list.notes)
+
+-- in JSON; or the items that can't be used, the Jobs that somebody made by hand, then the findings and how many there are
+-- rules: audit-json, audit-lines, audit-manual
+abbrev pub IsAuditPrinted : Bool → ClusterList → List Finding → List ℕ → Type 0
+IsAuditPrinted true list findings text = IsJsonLine (audit_data list findings) text
+IsAuditPrinted false list findings text =
+    text ≡ note_lines list.notes
+    ++ (manual_lines list.cluster.times (map.values list.cluster.jobs)
+    ++ audit_lines (length (map.values list.cluster.crons)) (length (map.values list.cluster.jobs)) findings)
+
+-- a picture, of which nothing is said; or else that
+-- rule: audit-svg
+abbrev pub IsAuditShown : Bool → Bool → ClusterList → List Finding → List ℕ → Type 0
+IsAuditShown true json list findings text = Unit {0}
+IsAuditShown false json list findings text = IsAuditPrinted json list findings text

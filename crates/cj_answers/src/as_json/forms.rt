@@ -1,0 +1,53 @@
+// The form of what is printed.
+ghost use Rattle.std.specs.Prelude.{◌≡◌, IfOk, codes, string_bytes};
+ghost use Rattle.serde_json.specs.View.{view};
+ghost use Rattle.cj_answers.specs.Outcome.{explained, outcome_of, refusal};
+ghost use Rattle.cj_answers.specs.as_json.Forms.{IsJsonLine, form_words, is_form, is_json};
+
+use crate::answer::Answer;
+use cj_io::Failure;
+use serde_json::Value;
+use std::alloc::{AllocError, Global};
+
+/// Whether one JSON value is wanted.
+pub fn is_json(text: &str) -> bool
+    ensures { result ≡ is_json text.now }
+{
+    text == "json"
+}
+
+/// Whether this is a form of an answer: lines or JSON.
+pub fn is_form(text: &str) -> bool
+    ensures { result ≡ is_form text.now }
+{
+    let is_lines = text == "lines";
+    let is_json = is_json(text);
+    is_lines || is_json
+}
+
+fn no_form(alloc: Global, explain: bool) -> Result<Answer, AllocError>
+    ensures { IfOk result (λ a. outcome_of a ≡ explained explain form_words
+        (refusal (codes "cronsim: output\n"))) }
+{
+    Answer::refused(alloc, "cronsim: output\n")?.explained(
+        explain,
+        "--output: want lines or json\n",
+    )
+}
+
+/// What is answered where the form is none.
+pub fn refused_form(alloc: Global, explain: bool) -> Result<Answer, Failure>
+    ensures { IfOk result (λ a. outcome_of a ≡ explained explain form_words
+        (refusal (codes "cronsim: output\n"))) }
+{
+    Ok(no_form(alloc, explain)?)
+}
+
+/// A value on a line of its own.
+pub fn value_line(alloc: Global, value: &Value) -> Result<String, AllocError>
+    ensures { IfOk result (λ s. IsJsonLine (view value.now) (string_bytes s)) }
+{
+    let mut text = value.to_string(alloc)?;
+    text.push_str("\n")?;
+    Ok(text)
+}

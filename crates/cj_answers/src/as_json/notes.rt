@@ -1,0 +1,147 @@
+// The items of a list that can't be used, as JSON.
+ghost use Rattle.std.specs.Prelude.{◌≡◌, ◌++◌, ◌∷◌, [], map, IfOk, IfErr, OnOk};
+ghost use Rattle.cj_base.specs.declared.refusal.Refusal.TheVariants.{OutOfMemory};
+ghost use Rattle.serde_json.specs.View.{view};
+ghost use Rattle.cj_answers.specs.as_json.Notes as json;
+
+use crate::as_json::next::push_value;
+use crate::lines::print_cause;
+use cj_base::{FieldFault, Refusal};
+use cj_cluster::{ItemNote, Said};
+use serde_json::{Value, json};
+use std::alloc::{AllocError, Global};
+
+fn fault_object(alloc: Global, cause: &str, field: &str) -> Result<Value, AllocError>
+    ensures { IfOk result (λ v. view v ≡ json.fault_object cause.now field.now) }
+{
+    json!(in alloc; {"cause": cause, "field": field})
+}
+
+fn fault_value(alloc: Global, fault: FieldFault) -> Result<Value, Refusal>
+    ensures ok { IfOk result (λ v. view v ≡ json.fault_data fault) }
+    ensures err { IfErr result (λ e. e ≡ OutOfMemory) }
+{
+    let FieldFault { field, cause } = fault;
+    let cause = print_cause(alloc, cause)?;
+    Ok(fault_object(alloc, cause.as_str(), field.path())?)
+}
+
+fn fault_values(alloc: Global, faults: &[FieldFault]) -> Result<Vec<Value>, Refusal>
+    ensures ok { IfOk result (λ v. map view v.items ≡ map json.fault_data faults.now) }
+    ensures err { IfErr result (λ e. e ≡ OutOfMemory) }
+{
+    let mut values = Vec::new(alloc);
+    for fault in faults {
+        let value = fault_value(alloc, *fault)?;
+        push_value(&mut values, value)?;
+    }
+    Ok(values)
+}
+
+/// Faults in their order, each by its field and its cause.
+pub(crate) fn faults_value(alloc: Global, faults: &[FieldFault]) -> Result<Value, Refusal>
+    ensures ok { IfOk result (λ v. view v ≡ json.faults_data faults.now) }
+    ensures err { IfErr result (λ e. e ≡ OutOfMemory) }
+{
+    Ok(Value::Array(fault_values(alloc, faults)?))
+}
+
+fn item_object(alloc: Global, place: u64, faults: Value) -> Result<Value, AllocError>
+    ensures { IfOk result (λ v. view v ≡ json.item_object place (view faults)) }
+{
+    json!(in alloc; {"faults": faults, "item": place})
+}
+
+fn item_value(alloc: Global, place: u64, faults: &[FieldFault]) -> Result<Value, Refusal>
+    ensures ok { IfOk result (λ v. view v ≡ json.item_data place faults.now) }
+    ensures err { IfErr result (λ e. e ≡ OutOfMemory) }
+{
+    let faults = faults_value(alloc, faults)?;
+    Ok(item_object(alloc, place, faults)?)
+}
+
+// An item whose name an earlier one of its kind has.
+fn taken_value(alloc: Global, place: u64) -> Result<Value, AllocError>
+    ensures { IfOk result (λ v. view v ≡ json.taken_data place) }
+{
+    json!(in alloc; {
+        "faults": [{"cause": "NotAllowed", "field": "metadata.name"}],
+        "item": place
+    })
+}
+
+fn kind_value(alloc: Global, place: u64, kind: &str) -> Result<Value, AllocError>
+    ensures { IfOk result (λ v. view v ≡ json.kind_data place kind.now) }
+{
+    json!(in alloc; {"item": place, "kind": kind})
+}
+
+fn push_refused(alloc: Global, values: &mut Vec<Value>, note: &ItemNote) -> Result<(), Refusal>
+    ensures ok { OnOk result (map view values.new.items ≡ map view values.old.items
+        ++ json.refused_by note.now.place note.now.said) }
+    ensures err { IfErr result (λ e. e ≡ OutOfMemory) }
+{
+    match &note.said {
+        Said::Kind(_) => Ok(()),
+        Said::Refused(faults) => {
+            let value = item_value(alloc, note.place, faults.as_slice())?;
+            push_value(values, value)
+        }
+        Said::Taken(_, _) => {
+            let value = taken_value(alloc, note.place)?;
+            push_value(values, value)
+        }
+    }
+}
+
+fn push_other(alloc: Global, values: &mut Vec<Value>, note: &ItemNote) -> Result<(), Refusal>
+    ensures ok { OnOk result (map view values.new.items ≡ map view values.old.items
+        ++ json.other_by note.now.place note.now.said) }
+    ensures err { IfErr result (λ e. e ≡ OutOfMemory) }
+{
+    match &note.said {
+        Said::Kind(kind) => {
+            let value = kind_value(alloc, note.place, kind.as_str())?;
+            push_value(values, value)
+        }
+        Said::Refused(_) | Said::Taken(_, _) => Ok(()),
+    }
+}
+
+fn refused_items(alloc: Global, notes: &[ItemNote]) -> Result<Vec<Value>, Refusal>
+    ensures ok { IfOk result (λ v. map view v.items ≡ json.refused_items notes.now) }
+    ensures err { IfErr result (λ e. e ≡ OutOfMemory) }
+{
+    let mut values = Vec::new(alloc);
+    for note in notes {
+        push_refused(alloc, &mut values, note)?;
+    }
+    Ok(values)
+}
+
+fn other_items(alloc: Global, notes: &[ItemNote]) -> Result<Vec<Value>, Refusal>
+    ensures ok { IfOk result (λ v. map view v.items ≡ json.other_items notes.now) }
+    ensures err { IfErr result (λ e. e ≡ OutOfMemory) }
+{
+    let mut values = Vec::new(alloc);
+    for note in notes {
+        push_other(alloc, &mut values, note)?;
+    }
+    Ok(values)
+}
+
+/// The items that are refused, each with its faults.
+pub(crate) fn refused_value(alloc: Global, notes: &[ItemNote]) -> Result<Value, Refusal>
+    ensures ok { IfOk result (λ v. view v ≡ json.refused_data notes.now) }
+    ensures err { IfErr result (λ e. e ≡ OutOfMemory) }
+{
+    Ok(Value::Array(refused_items(alloc, notes)?))
+}
+
+/// The items that are neither a CronJob nor a Job, each with its kind.
+pub(crate) fn others_value(alloc: Global, notes: &[ItemNote]) -> Result<Value, Refusal>
+    ensures ok { IfOk result (λ v. view v ≡ json.others_data notes.now) }
+    ensures err { IfErr result (λ e. e ≡ OutOfMemory) }
+{
+    Ok(Value::Array(other_items(alloc, notes)?))
+}

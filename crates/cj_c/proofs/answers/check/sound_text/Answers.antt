@@ -1,0 +1,10 @@
+-- sound_text: the value that it gives the text of has no float and isn't deep, by what is told.
+use Rattle.cj_c.proofs.Depths.{within_as, sound_within}
+use Rattle.cj_c.proofs.NoFloats.{free_as, sound_free}
+use Rattle.cj_c.proofs.answers.check.sound_text.Goals as goal
+
+pub json_text-requires : goal.json_text-requires
+json_text-requires c = record {
+  exact = free_as _ _ c.in_ok-value.ensures.ok (sound_free c.args.manifest.now c.args.warnings.now);
+  flat = within_as 127 _ _ c.in_ok-value.ensures.ok (sound_within c.args.manifest.now c.args.warnings.now);
+}

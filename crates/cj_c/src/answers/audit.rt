@@ -1,0 +1,148 @@
+// What is wrong in the list of a cluster's objects.
+ghost use Rattle.std.specs.Prelude.{◌≡◌, ◌≢◌, ℕ, List, IfOk, IfErr, length, string_bytes};
+ghost use Rattle.std.specs.FinMap as map;
+ghost use Rattle.cj_audit.specs.Findings.{IsAudit};
+ghost use Rattle.cj_audit.specs.declared.finding.Finding.{Finding};
+ghost use Rattle.cj_base.specs.declared.refusal.Refusal.TheVariants.{OutOfMemory};
+ghost use Rattle.cj_cluster.specs.declared.kubectl.fault.ListFault.TheVariants.{Memory};
+ghost use Rattle.cj_zone.specs.Table.{zones_of};
+ghost use Rattle.serde_json.specs.View.{view};
+ghost use Rattle.cj_c.specs.answers.Audit.{IsAuditRefusal, IsAudited, audit_data, audit_object, list_fault_data};
+ghost use Rattle.cj_c.specs.answers.Buffers.{IsAnswered, IsTold};
+ghost use Rattle.cj_c.specs.answers.Texts.{IsJsonText};
+ghost use Rattle.cj_c.specs.answers.Zones.{AreZonesOf};
+
+use crate::answers::buffer::leave;
+use crate::answers::faults::one_fault;
+use crate::answers::items::{others_value, refused_value};
+use crate::answers::text::json_text;
+use crate::answers::told::Told;
+use crate::answers::zones::{refused_zones, zones_of_text};
+use cj_audit::{Findings, audit, findings_value, manual_value};
+use cj_base::{Refusal, all_four, both};
+use cj_cluster::{ClusterList, ListFault, read_cluster};
+use cj_zone::ZoneTable;
+use serde_json::{Value, json};
+use std::alloc::{AllocError, Global};
+
+// How many CronJobs and Jobs there are.
+fn counts(alloc: Global, list: &ClusterList) -> Result<(usize, usize), Refusal>
+    ensures crons { IfOk result (λ n. n.0 ≡ length (map.values list.now.cluster.crons)) }
+    ensures jobs { IfOk result (λ n. n.1 ≡ length (map.values list.now.cluster.jobs)) }
+    ensures err { IfErr result (λ e. e ≡ OutOfMemory) }
+{
+    let (crons, jobs) = both(list.cluster.crons(alloc), list.cluster.jobs(alloc))?;
+    Ok((crons.as_slice().len(), jobs.as_slice().len()))
+}
+
+fn audit_object(
+    alloc: Global,
+    crons: usize,
+    jobs: usize,
+    findings: Value,
+    manual: Value,
+    items: (Value, Value),
+) -> Result<Value, AllocError>
+    ensures { IfOk result (λ v. view v ≡ audit_object crons jobs (view findings) (view manual)
+        (view items.0) (view items.1)) }
+{
+    let (others, refused) = items;
+    json!(in alloc; {
+        "cronJobs": crons,
+        "findings": findings,
+        "jobs": jobs,
+        "manual": manual,
+        "others": others,
+        "refused": refused
+    })
+}
+
+fn audit_value(alloc: Global, list: &ClusterList, findings: &Findings) -> Result<Value, Refusal>
+    ensures ok { IfOk result (λ v. view v ≡ audit_data list.now findings.now) }
+    ensures err { IfErr result (λ e. e ≡ OutOfMemory) }
+{
+    let (crons, jobs) = counts(alloc, list)?;
+    let notes = list.notes.as_slice();
+    let (findings, manual, others, refused) = all_four(
+        findings_value(alloc, findings),
+        manual_value(alloc, &list.cluster),
+        others_value(alloc, notes),
+        refused_value(alloc, notes),
+    )?;
+    let items = (others, refused);
+    Ok(audit_object(alloc, crons, jobs, findings, manual, items)?)
+}
+
+// What is told of a list under these zones.
+fn audit_text(alloc: Global, list: &ClusterList, zones: &ZoneTable) -> Result<String, Refusal>
+    ensures ok { IfOk result (λ s. (findings : List Finding)
+        × IsAudit (zones_of zones.now) list.now.cluster list.now.notes findings
+        × IsJsonText (audit_data list.now findings) (string_bytes s)) }
+    ensures err { IfErr result (λ e. e ≡ OutOfMemory) }
+{
+    let findings = audit(alloc, zones, &list.cluster, list.notes.as_slice())?;
+    let value = audit_value(alloc, list, &findings)?;
+    json_text(alloc, &value)
+}
+
+fn fault_value(alloc: Global, fault: ListFault) -> Result<Value, Refusal>
+    ensures ok { IfOk result (λ v. (fault ≢ Memory) × (view v ≡ list_fault_data fault)) }
+    ensures err { IfErr result (λ e. e ≡ OutOfMemory) }
+{
+    match fault {
+        ListFault::Syntax => one_fault(alloc, "Syntax", "$"),
+        ListFault::Form => one_fault(alloc, "Form", "$"),
+        ListFault::Memory => Err(Refusal::OutOfMemory),
+    }
+}
+
+// What is told of bytes that are no list.
+fn refused_list(alloc: Global, fault: ListFault) -> Result<String, Refusal>
+    ensures ok { IfOk result (λ s. (fault ≢ Memory)
+        × IsJsonText (list_fault_data fault) (string_bytes s)) }
+    ensures err { IfErr result (λ e. e ≡ OutOfMemory) }
+{
+    let value = fault_value(alloc, fault)?;
+    json_text(alloc, &value)
+}
+
+// What is told of the bytes of a list under these zones.
+fn audited_under(alloc: Global, bytes: &[u8], zones: &ZoneTable) -> Result<Told, Refusal>
+    ensures ok { (zones_text : List ℕ) → AreZonesOf zones_text (zones_of zones.now) →
+        IfOk result (IsTold (IsAudited bytes.now zones_text)
+        (IsAuditRefusal bytes.now zones_text)) }
+    ensures err { IfErr result (λ e. e ≡ OutOfMemory) }
+{
+    match read_cluster(alloc, bytes, zones) {
+        Ok(list) => Ok(Told::Done(audit_text(alloc, &list, zones)?)),
+        Err(fault) => Ok(Told::Refused(refused_list(alloc, fault)?)),
+    }
+}
+
+fn audited(alloc: Global, bytes: &[u8], zones: &[u8]) -> Result<Told, Refusal>
+    ensures ok { IfOk result (IsTold (IsAudited bytes.now zones.now)
+        (IsAuditRefusal bytes.now zones.now)) }
+    ensures err { IfErr result (λ e. e ≡ OutOfMemory) }
+{
+    match zones_of_text(alloc, zones) {
+        Ok(zones) => audited_under(alloc, bytes, &zones),
+        Err(fault) => Ok(Told::Refused(refused_zones(alloc, fault)?)),
+    }
+}
+
+/// What is wrong in what `kubectl get cronjobs,jobs -o json` prints, under UTC and the zones of an object from names to
+/// POSIX rules, or no text: each Job, and each two, that a correct controller would not have made, as JSON; or why there
+/// is no such list.
+#[unsafe(no_mangle)]
+pub extern "C" fn cronsim_audit(
+    alloc: Global,
+    list: &[u8],
+    zones: &[u8],
+    answer: &mut [u8],
+    length: &mut usize,
+) -> u32
+    ensures { IsAnswered (IsAudited list.now zones.now) (IsAuditRefusal list.now zones.now)
+        answer.old answer.new length.old length.new result }
+{
+    leave(audited(alloc, list, zones), answer, length)
+}

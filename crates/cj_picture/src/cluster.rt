@@ -1,0 +1,6 @@
+//! The picture of a cluster's Jobs.
+pub(crate) mod bars;
+pub(crate) mod findings;
+pub(crate) mod picture;
+
+pub use picture::cluster_picture;

@@ -1,0 +1,100 @@
+// The heat map of a window.
+ghost use Rattle.std.specs.Prelude.{◌≡◌, IfErr};
+ghost use Rattle.cj_base.specs.declared.refusal.Refusal.TheVariants.{OutOfMemory};
+
+use crate::axis::moment_text;
+use crate::heat::cells::{fullest, push_cells};
+use crate::heat::grid::Grid;
+use crate::heat::rows::{push_minutes, push_rows};
+use crate::page::{line_count, push_frame, push_notes};
+use cj_cluster::ClusterCron;
+use cj_types::{Refusal, Shared};
+use cj_upcoming::{Minute, Start, Window, minutes_of};
+use cj_zone::time_text;
+use std::alloc::Global;
+
+// From when to when, how much starts, and in how many minutes.
+fn push_caption(
+    alloc: Global,
+    text: &mut String,
+    window: &Window,
+    crons: usize,
+    starts: usize,
+    most: usize,
+) -> Result<(), Refusal>
+    ensures err { IfErr result (λ e. e ≡ OutOfMemory) }
+{
+    let from = time_text(alloc, window.from())?;
+    let from = from.as_str();
+    let end = time_text(alloc, window.end())?;
+    let end = end.as_str();
+    let caption = format!(in alloc;
+        "<text class=\"h\" x=\"16\" y=\"22\">What starts from {from} to {end}, by UTC</text><text class=\"dim\" x=\"16\" y=\"40\">CronJobs: {crons}, starts: {starts}, in the fullest minute: {most}</text>\n"
+    )?;
+    Ok(text.push_str(caption.as_str())?)
+}
+
+// That there are more hours than are drawn.
+fn cut_words(alloc: Global, window: &Window, grid: Grid) -> Result<String, Refusal>
+    ensures err { IfErr result (λ e. e ≡ OutOfMemory) }
+{
+    let drawn = grid.start(grid.rows);
+    if drawn >= window.end().get() {
+        return Ok(String::new(alloc));
+    }
+    let from = moment_text(alloc, drawn)?;
+    let from = from.as_str();
+    Ok(format!(in alloc; "What starts from {from} on isn't drawn\n")?)
+}
+
+fn push_all(
+    alloc: Global,
+    text: &mut String,
+    grid: Grid,
+    crons: &[Shared<ClusterCron>],
+    starts: &[Start],
+    minutes: &[Minute],
+) -> Result<(), Refusal>
+    ensures err { IfErr result (λ e. e ≡ OutOfMemory) }
+{
+    push_minutes(alloc, text, grid)?;
+    push_rows(alloc, text, grid, minutes)?;
+    push_cells(alloc, text, grid, crons, starts, minutes)
+}
+
+/// A picture of what starts in a window, as SVG: a row an hour, a column a minute, by UTC, and a cell for each minute in
+/// which something starts, the stronger the more, with its time, its count and the names of the CronJobs as its title. The
+/// sum of an hour stands at its right, and these words, line by line, stand below. The starts are in order, and name
+/// these CronJobs by their places.
+///
+/// No more than 400 hours are drawn; that there are more is said.
+///
+/// # Errors
+///
+/// `OutOfMemory`.
+pub fn heat_picture(
+    alloc: Global,
+    window: &Window,
+    crons: &[Shared<ClusterCron>],
+    starts: &[Start],
+    words: &str,
+) -> Result<String, Refusal>
+    ensures err { IfErr result (λ e. e ≡ OutOfMemory) }
+{
+    let minutes = minutes_of(alloc, starts)?;
+    let minutes = minutes.as_slice();
+    let most = fullest(minutes);
+    let grid = Grid::new(window, most as u64);
+    let mut notes = cut_words(alloc, window, grid)?;
+    notes.push_str(words)?;
+    let notes = notes.as_str();
+    let top = grid.bottom().saturating_add(20);
+    let height = top.saturating_add(line_count(notes).saturating_mul(16));
+    let mut text = String::new(alloc);
+    push_frame(alloc, &mut text, 1040, height, "Starts by minute")?;
+    push_caption(alloc, &mut text, window, crons.len(), starts.len(), most)?;
+    push_all(alloc, &mut text, grid, crons, starts, minutes)?;
+    push_notes(alloc, &mut text, top, notes)?;
+    text.push_str("</svg>\n")?;
+    Ok(text)
+}

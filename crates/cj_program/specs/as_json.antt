@@ -1,0 +1,5 @@
+pub mod Values
+pub mod Bars
+pub mod Marks
+pub mod Gaps
+pub mod Run

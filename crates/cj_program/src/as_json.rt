@@ -1,0 +1,8 @@
+// A run as JSON.
+mod bars;
+mod gaps;
+mod marks;
+mod values;
+mod whole;
+
+pub(crate) use whole::run_json;

@@ -1,0 +1,7 @@
+-- coming_times, its loop: the times, with those that are still to come after at, are all.
+use Rattle.std.proofs.Common.{◌-◌}
+use Rattle.cj_upcoming.proofs.TimesLemmas.{Follows}
+use Rattle.cj_upcoming.proofs.json.coming.coming_times.Given as goal
+
+abbrev pub invariant-loop : goal.invariant-loop
+invariant-loop l = Follows l.schedule l.zone l.fn.start l.fn.count l.at (l.fn.count - l.counter) l.times.items

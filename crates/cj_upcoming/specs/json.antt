@@ -1,0 +1,4 @@
+pub mod Changes
+pub mod Coming
+pub mod Minutes
+pub mod Standings

@@ -1,0 +1,8 @@
+-- name_values: its loop; at each turn the names gone through stand there.
+use Rattle.std.proofs.Common.{◌≡◌, map, take}
+use Rattle.serde_json.specs.Data.{string}
+use Rattle.serde_json.specs.View.{view}
+use Rattle.cj_why.proofs.reviews.plan_json.name_values.Given as goal
+
+abbrev pub invariant-loop-name : goal.invariant-loop-name
+invariant-loop-name l = map view l.values.items ≡ map string (take l.name-index l.names)

@@ -1,0 +1,118 @@
+"""Random lists of a cluster's CronJobs and Jobs, and what their pictures must show."""
+import random
+import re
+from datetime import date
+
+from scenarios import START, time
+from svg import SVG, bars_of
+
+SCHEDULES = ["* * * * *", "*/5 * * * *", "0 * * * *", "30 2 * * *", "*/7 8-18 * * 1-5", "15,45 */2 * * *", "0 0 * * 0"]
+
+
+def cron(choice, number):
+    return {
+        "apiVersion": "batch/v1",
+        "kind": "CronJob",
+        "metadata": {"namespace": f"team-{number % 7}", "name": f"cron-{number}", "uid": f"uid-{number}",
+                     "creationTimestamp": time(START - 86400)},
+        "spec": {"schedule": choice.choice(SCHEDULES), "concurrencyPolicy": choice.choice(["Allow", "Forbid", "Replace"]),
+                 "suspend": choice.random() < 0.1,
+                 "jobTemplate": {"spec": {"template": {"spec": {"containers": [{"name": "a", "image": "b"}],
+                                                                "restartPolicy": "Never"}}}}},
+    }
+
+
+def job(choice, owner, number, due, hand):
+    """A Job of a CronJob: run for a while, with success or without, or still running."""
+    meta = owner["metadata"]
+    made = due + choice.choice([0, 0, 1, 5, 40, -30])
+    end = made + choice.choice([1, 20, 50, 200, 4000])
+    annotations = {"batch.kubernetes.io/cronjob-scheduled-timestamp": time(due)}
+    if hand:
+        annotations = {"cronjob.kubernetes.io/instantiate": "manual"}
+    ended = choice.choice(["Complete", "Complete", "Failed", None])
+    status = {}
+    if ended:
+        status = {"conditions": [{"type": ended, "status": "True", "lastTransitionTime": time(end)}]}
+        if ended == "Complete":
+            status["completionTime"] = time(end)
+    return {
+        "apiVersion": "batch/v1",
+        "kind": "Job",
+        "metadata": {"namespace": meta["namespace"], "name": f"{meta['name']}-{due // 60}-{number}", "uid": f"job-{meta['name']}-{number}",
+                     "creationTimestamp": time(made), "annotations": annotations,
+                     "ownerReferences": [{"apiVersion": "batch/v1", "kind": "CronJob", "name": meta["name"], "uid": meta["uid"],
+                                          "controller": True, "blockOwnerDeletion": True}]},
+        "spec": {"template": {"spec": {"containers": [{"name": "a", "image": "b"}], "restartPolicy": "Never"}}},
+        "status": status,
+    }
+
+
+def cluster(number, crons, jobs, length):
+    choice = random.Random(number)
+    owners = [cron(choice, n) for n in range(crons)]
+    gone = cron(choice, crons + 1)
+    made, owned = [], []
+    for n in range(jobs):
+        stray, hand = choice.random() < 0.03, choice.random() < 0.05
+        owner = gone if stray else choice.choice(owners)
+        due = START + 60 * choice.randrange(0, 600)
+        made.append(job(choice, owner, n, due, hand))
+        if not stray and not hand:
+            owned.append(made[-1]["metadata"]["name"])
+    return {"list": {"apiVersion": "v1", "kind": "List", "items": owners + made}, "owned": owned, "length": length}
+
+
+def clusters():
+    yield cluster(1, 1, 3, "24h")
+    yield cluster(2, 3, 40, "90m")
+    yield cluster(3, 3, 0, "7d")
+    yield cluster(4, 30, 400, "24h")
+    yield cluster(5, 300, 1500, "24h")
+    yield cluster(6, 3, 25, "500h")
+    yield {"list": {"apiVersion": "v1", "kind": "List", "items": []}, "owned": [], "length": "24h"}
+
+
+def titles(parts):
+    return [part.findtext(f"{SVG}title") for part in parts]
+
+
+def troubles(top, said, lines, wrong):
+    """A bar for each Job of one of the CronJobs, a cross for each finding, and the Jobs that findings name are marked."""
+    bars = bars_of(top, wrong)
+    names = sorted(title.split(",")[0].split("/")[1] for title in titles(bars))
+    if names != sorted(said["owned"]):
+        wrong.append(f"{len(names)} bars of {len(said['owned'])} Jobs")
+    found = [line.split() for line in lines if line.split()[0] in ("twice", "beside", "undue", "early", "missing")]
+    crosses = [path for path in top.iter(f"{SVG}path") if path.get("class") == "skip" and path.find(f"{SVG}title") is not None]
+    if len(crosses) != len(found):
+        wrong.append(f"{len(crosses)} crosses of {len(found)} findings")
+    named = {word for line in found for word in line[2:] if word in set(said["owned"])}
+    marked = {title.split(",")[0].split("/")[1] for bar, title in zip(bars, titles(bars)) if "ill" in bar.get("class").split()}
+    if named != marked:
+        wrong.append(f"marked: {sorted(marked ^ named)[:5]}")
+
+
+def starts(top, lines, wrong):
+    """A cell for each minute's line, at its place, with as many starts."""
+    told = [line.split() for line in lines if line.startswith("start ")]
+    cells = top.findall(f".//{SVG}g[@id='cells']/{SVG}rect")
+    rows = [rect for rect in top.iter(f"{SVG}rect") if rect.get("class") == "lane"]
+    drawn = told[:]
+    if len(rows) == 400:
+        drawn = [line for line in told if hour(line[1]) < hour(time(START)) + 400]
+    if len(cells) != len(drawn):
+        wrong.append(f"{len(cells)} cells of {len(drawn)} minutes")
+    for cell, title, (_, at, *names) in zip(cells, titles(cells), drawn):
+        head, *under = title.split("\n")
+        if head != f"{at}, starts: {len(names)}" or under[:20] != names[:20]:
+            wrong.append(f"{title!r} of {at} {len(names)} starts")
+        place = (122 + 14 * int(at[14:16]), 74 + 16 * (hour(at) - hour(time(START))))
+        if (int(cell.get("x")), int(cell.get("y"))) != place:
+            wrong.append(f"{at} stands at {cell.attrib}")
+
+
+def hour(at):
+    """The number of an instant's hour."""
+    days, clock = re.match(r"(.*)T(..):", at).groups()
+    return date.fromisoformat(days).toordinal() * 24 + int(clock)
