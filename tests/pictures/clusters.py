@@ -107,7 +107,7 @@ def starts(top, lines, wrong):
         head, *under = title.split("\n")
         if head != f"{at}, starts: {len(names)}" or under[:20] != names[:20]:
             wrong.append(f"{title!r} of {at} {len(names)} starts")
-        place = (122 + 14 * int(at[14:16]), 74 + 16 * (hour(at) - hour(time(START))))
+        place = (132 + 14 * int(at[14:16]), 74 + 16 * (hour(at) - hour(time(START))))
         if (int(cell.get("x")), int(cell.get("y"))) != place:
             wrong.append(f"{at} stands at {cell.attrib}")
 

@@ -10,6 +10,7 @@ use Rattle.cj_manifest.specs.Reading.{IsReading}
 use Rattle.cj_answers.specs.declared.answer.Answer.{Answer}
 use Rattle.cj_answers.specs.Advice.{IsAdvice, dropped_words_all}
 use Rattle.cj_answers.specs.Check.{IsChecked, ended, fine_ending, ok_line, pod_words, warning_lines}
+use Rattle.cj_answers.specs.Moments.{asked_moment}
 use Rattle.cj_answers.specs.Outcome.{Outcome, explained, outcome_of}
 
 -- what is answered then
@@ -19,7 +20,7 @@ answered r alone m words ws = explained r.explain (dropped_words_all ws ++ (word
 
 -- closes what is answered of a manifest that reads without a fault
 pub fine_checked : (q : CheckRequest) (alone : Bool) (zones : List Zone) (bytes : List ℕ) (m : Manifest) (words text : List ℕ)
-    (slice ws : List (List ℕ)) (r : Result Answer Failure) → slice ≡ ws → text ≡ words → IsAdvice m zones words
+    (slice ws : List (List ℕ)) (r : Result Answer Failure) → slice ≡ ws → text ≡ words → IsAdvice m zones (asked_moment q.moment) words
     → IsReading Manifest (manifest_faults zones) manifest_draft manifest_warnings bytes m ws
     → IfOk r (λ a. outcome_of a ≡ answered q alone m text slice)
     → IfOk r (λ a. IsChecked q alone zones bytes (outcome_of a))

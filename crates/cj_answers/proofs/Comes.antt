@@ -30,6 +30,11 @@ abbrev pub fits : Bool → Type 0
 fits true = ⊥
 fits false = ℕ
 
+-- a text that is refused is no schedule
+pub text_refused : (text : List ℕ) (fault : ScheduleFault) → ((s : Sets) → IsSchedule text s → fails_by fault ≡ read_as s)
+    → (s : Sets) → IsSchedule text s → ⊥
+text_refused text fault only s said = subst fits (ap is_ok (only s said)) zero
+
 -- closes what is said of a text that is read
 pub text_comes : (text : List ℕ) (zone : Zone) (words : List ℕ) (read : Sets)
     → ((s : Sets) → IsSchedule text s → read_as read ≡ read_as s)
@@ -40,14 +45,4 @@ text_comes text zone words read only is s said = subst (λ x. IsComing x zone wo
 pub text_fails : (text : List ℕ) (zone : Zone) (words : List ℕ) (fault : ScheduleFault)
     → ((s : Sets) → IsSchedule text s → fails_by fault ≡ read_as s)
     → (s : Sets) → IsSchedule text s → IsComing s zone words
-text_fails text zone words fault only s said = absurd (subst fits (ap is_ok (only s said)) zero)
-
--- For text_words: what holds of the sets that a text is read as holds of those of the schedule that it is.
-pub text_says : (P : Sets → Type 0) (text : List ℕ) (read : Sets)
-    → ((s : Sets) → IsSchedule text s → read_as read ≡ read_as s) → P read → (s : Sets) → IsSchedule text s → P s
-text_says P text read only holds s said = subst P (ap (meaning read) (only s said)) holds
-
--- For text_words: of a text that isn't read there is nothing to show.
-pub text_none : (P : Sets → Type 0) (text : List ℕ) (fault : ScheduleFault)
-    → ((s : Sets) → IsSchedule text s → fails_by fault ≡ read_as s) → (s : Sets) → IsSchedule text s → P s
-text_none P text fault only s said = absurd (subst fits (ap is_ok (only s said)) zero)
+text_fails text zone words fault only s said = absurd (text_refused text fault only s said)

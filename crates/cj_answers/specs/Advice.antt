@@ -6,6 +6,7 @@ use Rattle.cj_types.specs.declared.cron.CronSpec.{CronSpec}
 use Rattle.cj_zone.specs.declared.zone.Zone.{Zone}
 use Rattle.cj_manifest.specs.declared.manifest.Manifest.{Manifest}
 use Rattle.cj_manifest.specs.declared.manifest.Manifest.TheVariants as Of
+use Rattle.cj_answers.specs.ClockWords.{IsClockAdvice}
 use Rattle.cj_answers.specs.Coming.{IsScheduleAdvice}
 use Rattle.cj_answers.specs.Suggestion.{suggestion}
 
@@ -34,15 +35,17 @@ cron_advice s =
     suspend_advice s.suspend ++ (deadline_advice s.starting_deadline_seconds
     ++ (successful_advice s.successful_limit ++ failed_advice s.failed_limit))
 
--- that, and whether the schedule comes at all
-pub record IsCronAdvice (spec : CronSpec) (zones : List Zone) (words : List ℕ) : Type 0 where
+-- that, whether the schedule comes at all, and which local times its zone's clock skips or shows twice behind a moment
+pub record IsCronAdvice (spec : CronSpec) (zones : List Zone) (moment : Option ℕ) (words : List ℕ) : Type 0 where
   pub coming : List ℕ
   pub comes : IsScheduleAdvice spec zones coming
-  pub are : words ≡ cron_advice spec ++ coming
+  pub clock : List ℕ
+  pub changes : IsClockAdvice spec zones moment clock
+  pub are : words ≡ cron_advice spec ++ (coming ++ clock)
 
-abbrev pub IsAdvice : Manifest → List Zone → List ℕ → Type 0
-IsAdvice (Of.CronJob draft) zones words = IsCronAdvice draft.spec zones words
-IsAdvice (Of.Job draft) zones words = words ≡ []
+abbrev pub IsAdvice : Manifest → List Zone → Option ℕ → List ℕ → Type 0
+IsAdvice (Of.CronJob draft) zones moment words = IsCronAdvice draft.spec zones moment words
+IsAdvice (Of.Job draft) zones moment words = words ≡ []
 
 -- a member that isn't known, by its path, with words on what it may be meant to be
 unfoldable pub unknown_words : List ℕ → List ℕ → List ℕ

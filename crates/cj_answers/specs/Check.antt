@@ -20,6 +20,7 @@ use Rattle.cj_scenario.specs.detection.Detections.{IsDetection}
 use Rattle.cj_answers.specs.FaultWords.{AreFaultWords}
 use Rattle.cj_answers.specs.Json.{IsJsonWords, yaml_words}
 use Rattle.cj_answers.specs.Advice.{IsAdvice, dropped_words_all}
+use Rattle.cj_answers.specs.Moments.{asked_moment}
 use Rattle.cj_answers.specs.Outcome.{Outcome, explained, refusal}
 
 -- ---- lines
@@ -113,7 +114,7 @@ pub record IsFine (r : CheckRequest) (alone : Bool) (zones : List Zone) (bytes :
   pub warnings : List (List ℕ)
   pub reading : IsReading Manifest (manifest_faults zones) manifest_draft manifest_warnings bytes manifest warnings
   pub words : List ℕ
-  pub advice : IsAdvice manifest zones words
+  pub advice : IsAdvice manifest zones (asked_moment r.moment) words
   pub answer : o ≡ explained r.explain (dropped_words_all warnings ++ (words ++ pod_words alone))
       (ended (fine_ending r.strict warnings) (ok_line (kind_of manifest) (key_of manifest) ++ warning_lines warnings))
 

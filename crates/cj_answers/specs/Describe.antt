@@ -13,8 +13,8 @@ use Rattle.cj_zone.specs.Zones.{is_refused_name, utc_zone}
 use Rattle.cj_io.specs.declared.zone_files.file.ZoneFile.{ZoneFile}
 use Rattle.cj_io.specs.zone_files.Rules.{utc_zones}
 use Rattle.cj_args.specs.declared.request.DescribeRequest.{DescribeRequest}
+use Rattle.cj_answers.specs.Moments.{asked_moment}
 use Rattle.cj_answers.specs.Outcome.{IsInForm, IsLookedUp, IsScheduleRefusal, Outcome, RefusesForm, done, explained, is_utc, next_zone_words, refusal}
-use Rattle.cj_answers.specs.Why.{asked_moment}
 use Rattle.cj_answers.specs.as_json.Describe.{IsDescribePrinted}
 use Rattle.cj_answers.specs.as_json.Forms.{is_json}
 

@@ -1,5 +1,6 @@
 -- Moments as people write them: RFC 3339, a date alone, `now`, or so much before or after it.
-use Rattle.std.specs.Prelude.{ℕ, ◌+◌, ◌-◌, ◌*◌, ◌==◌, ℤ, pos, negsuc, List, [], ◌∷◌, ◌++◌, ◌&&◌, Bool, bytes_eq, codes, nat_le, if◌then◌else◌, int_div, Option, None, Some, option_map, Result, Ok, Err}
+use Rattle.std.specs.Prelude.{ℕ, ◌+◌, ◌-◌, ◌*◌, ◌==◌, ℤ, pos, negsuc, List, [], ◌∷◌, ◌++◌, ◌&&◌, Bool, true, bytes_eq, codes, nat_le, if◌then◌else◌, int_div, is_some, Option, None, Some, option_map, Result, Ok, Err}
+use Rattle.std.specs.Borrow.{Bor}
 use Rattle.cj_base.specs.Instant.{last_second}
 use Rattle.jiff_core.specs.declared.error.Error.{Error}
 use Rattle.jiff_fmt.specs.Temporal.{parse_timestamp}
@@ -27,6 +28,25 @@ or_date None text = instant_of (text ++ codes "T00:00:00Z")
 -- rule: moment-text
 abbrev pub moment_of : List ℕ → Option ℕ
 moment_of text = or_date (instant_of text) text
+
+-- ---- where one is asked for
+
+-- the moment that is asked about, where there is a text and it says one
+-- rule: moment-text
+abbrev pub asked_moment : Option (Bor (List ℕ)) → Option ℕ
+asked_moment None = None
+asked_moment (Some text) = moment_of text.now
+
+-- no text is given, or it says one
+-- rule: moment-text
+abbrev pub is_moment : Option (Bor (List ℕ)) → Bool
+is_moment None = true
+is_moment (Some text) = is_some (moment_of text.now)
+
+-- what a moment has to be
+-- rules: explain, moment-text
+abbrev pub moment_words : List ℕ
+moment_words = codes "--now: want a time like 2024-01-01T00:00:00Z or 2024-01-01T01:00:00+01:00, a date like 2024-01-01, now, or -1h or +2d from now\n"
 
 -- ---- so much before or after the clock
 

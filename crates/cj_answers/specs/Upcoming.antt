@@ -21,8 +21,9 @@ use Rattle.cj_answers.specs.Clusters.{RefusesList, ending_by, is_read, note_line
 use Rattle.cj_answers.specs.CronFiles.{AreFiles, Stops}
 use Rattle.cj_answers.specs.Given.{AreGiven, IsNoneGiven, pair_words}
 use Rattle.cj_answers.specs.Marks.{marked}
+use Rattle.cj_answers.specs.Moments.{asked_moment}
 use Rattle.cj_answers.specs.Outcome.{IsInForm, Outcome, RefusesForm, explained, outcome_of, refusal}
-use Rattle.cj_answers.specs.Why.{asked_moment, chosen, is_noted, is_nothing, line_where}
+use Rattle.cj_answers.specs.Why.{chosen, is_noted, is_nothing, line_where}
 use Rattle.cj_answers.specs.Windows.{IsCounted}
 use Rattle.cj_answers.specs.as_json.Forms.{is_json}
 use Rattle.cj_answers.specs.as_json.Upcoming.{IsWindowJson, files_data}

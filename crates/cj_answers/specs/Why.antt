@@ -18,7 +18,7 @@ use Rattle.cj_args.specs.declared.request.WhyRequest.{WhyRequest}
 use Rattle.cj_io.specs.declared.zone_files.file.ZoneFile.{ZoneFile}
 use Rattle.cj_answers.specs.Clusters.{RefusesList, ending_by, is_read, note_lines, note_words}
 use Rattle.cj_answers.specs.Given.{AreGiven, IsNoneGiven, pair_words}
-use Rattle.cj_answers.specs.Moments.{moment_of}
+use Rattle.cj_answers.specs.Moments.{asked_moment, moment_words}
 use Rattle.cj_answers.specs.Outcome.{Outcome, explained, refusal}
 use Rattle.cj_answers.specs.as_json.Forms.{IsJsonLine, is_json}
 use Rattle.cj_answers.specs.as_json.Why.{why_data}
@@ -199,17 +199,6 @@ pub record ReviewsList (r : WhyRequest) (zones : List Zone) (now : ℕ) (bytes :
 -- what the bytes of a list are answered
 abbrev pub IsReviewed : WhyRequest → List Zone → ℕ → List ℕ → Outcome → Type 0
 IsReviewed r zones now bytes o = RefusesList r.explain bytes o ⊎ ReviewsList r zones now bytes o
-
--- the moment that is asked about, where there is a text and it says one
--- rule: moment-text
-abbrev pub asked_moment : Option (Bor (List ℕ)) → Option ℕ
-asked_moment None = None
-asked_moment (Some text) = moment_of text.now
-
--- what a moment has to be
--- rules: explain, moment-text
-abbrev pub moment_words : List ℕ
-moment_words = codes "--now: want a time like 2024-01-01T00:00:00Z or 2024-01-01T01:00:00+01:00, a date like 2024-01-01, now, or -1h or +2d from now\n"
 
 -- the moment is refused
 pub record RefusesWhyMoment (r : WhyRequest) (o : Outcome) : Type 0 where

@@ -1,12 +1,14 @@
 // What people are told of a manifest without a fault: the members that are dropped, and what is worth a look.
-ghost use Rattle.std.specs.Prelude.{◌≡◌, ◌++◌, IfOk, string_bytes};
+ghost use Rattle.std.specs.Prelude.{◌≡◌, ◌++◌, IfErr, IfOk, string_bytes};
+ghost use Rattle.cj_base.specs.declared.refusal.Refusal.TheVariants.{OutOfMemory};
 ghost use Rattle.cj_zone.specs.Table.{zones_of};
 ghost use Rattle.cj_answers.specs.Advice.{IsAdvice, IsCronAdvice, cron_advice, deadline_advice, dropped_words, dropped_words_all, failed_advice, successful_advice, suspend_advice, unknown_words};
 
+use crate::clock_words::clock_advice;
 use crate::coming::schedule_advice;
 use crate::suggestion::suggested;
 use cj_manifest::{Manifest, Warning};
-use cj_types::{CronSpec, Deadline};
+use cj_types::{CronSpec, Deadline, Refusal, Seconds};
 use cj_zone::ZoneTable;
 use std::alloc::{AllocError, Global};
 
@@ -100,31 +102,49 @@ pub(crate) fn all_dropped_words(alloc: Global, warnings: &[Warning]) -> Result<S
     Ok(text)
 }
 
-fn with_coming(alloc: Global, spec: &CronSpec, coming: &str) -> Result<String, AllocError>
-    ensures { IfOk result (λ s. string_bytes s ≡ cron_advice spec.now ++ coming.now) }
+fn joined_advice(
+    alloc: Global,
+    spec: &CronSpec,
+    coming: &str,
+    clock: &str,
+) -> Result<String, AllocError>
+    ensures { IfOk result (λ s. string_bytes s
+        ≡ cron_advice spec.now ++ (coming.now ++ clock.now)) }
 {
     let mut text = cron_advice(alloc, spec)?;
     text.push_str(coming)?;
+    text.push_str(clock)?;
     Ok(text)
 }
 
-fn advice_on(alloc: Global, zones: &ZoneTable, spec: &CronSpec) -> Result<String, AllocError>
-    ensures { IfOk result (λ s. IsCronAdvice spec.now (zones_of zones.now) (string_bytes s)) }
+fn advice_on(
+    alloc: Global,
+    zones: &ZoneTable,
+    spec: &CronSpec,
+    moment: Option<Seconds>,
+) -> Result<String, Refusal>
+    ensures ok { IfOk result (λ s. IsCronAdvice spec.now (zones_of zones.now) moment
+        (string_bytes s)) }
+    ensures err { IfErr result (λ e. e ≡ OutOfMemory) }
 {
     let coming = schedule_advice(zones, spec);
-    with_coming(alloc, spec, coming)
+    let clock = clock_advice(alloc, zones, spec, moment)?;
+    Ok(joined_advice(alloc, spec, coming, clock.as_str())?)
 }
 
-/// A line for each thing in a manifest without a fault that is worth a look.
+/// A line for each thing in a manifest without a fault that is worth a look, of its zone's clock behind a moment.
 pub(crate) fn advice(
     alloc: Global,
     zones: &ZoneTable,
     manifest: &Manifest,
-) -> Result<String, AllocError>
-    ensures { IfOk result (λ s. IsAdvice manifest.now (zones_of zones.now) (string_bytes s)) }
+    moment: Option<Seconds>,
+) -> Result<String, Refusal>
+    ensures ok { IfOk result (λ s. IsAdvice manifest.now (zones_of zones.now) moment
+        (string_bytes s)) }
+    ensures err { IfErr result (λ e. e ≡ OutOfMemory) }
 {
     match manifest {
-        Manifest::CronJob(draft) => advice_on(alloc, zones, draft.spec.get()),
+        Manifest::CronJob(draft) => advice_on(alloc, zones, draft.spec.get(), moment),
         Manifest::Job(_) => Ok(String::new(alloc)),
     }
 }

@@ -8,7 +8,7 @@ ghost use Rattle.cj_answers.specs.Advice.{dropped_words_all};
 ghost use Rattle.cj_answers.specs.Check.{IsChecked, IsNoJson, ended, fault_lines, faulty, fine_ending, is_alone, ok_line, pod_words, warning_lines};
 ghost use Rattle.cj_cluster.specs.kubectl.Texts.{IsNoList, IsSplit};
 ghost use Rattle.cj_answers.specs.CheckList.{IsTextChecked};
-ghost use Rattle.cj_answers.specs.CheckOutcome.{IsCheckAnswer, IsCheckOutcome, IsCheckPrinted, IsFileOutcome, IsJsonChecked, first_name};
+ghost use Rattle.cj_answers.specs.CheckOutcome.{IsCheckAnswer, IsCheckOutcome, IsCheckPrinted, IsFileOutcome, IsInputAnswer, IsJsonChecked, first_name};
 ghost use Rattle.cj_answers.specs.Outcome.{explained, outcome_of};
 ghost use Rattle.cj_answers.specs.as_json.Forms.{is_json};
 
@@ -20,6 +20,7 @@ use crate::fault_words::fault_words;
 use crate::given::{given_zones, refused_pair};
 use crate::json::{json_words, yaml_words};
 use crate::lines::{print_faults, print_ok, print_warnings};
+use crate::moments::{asked_moment, is_moment, refused_now};
 use cj_args::CheckRequest;
 use cj_base::{FieldFault, Refusal};
 use cj_cluster::item_texts;
@@ -195,7 +196,8 @@ pub(crate) fn fine_answer(
         manifest_draft manifest_warnings bytes manifest.now warnings.now →
         IfOk result (λ a. IsChecked check.now alone (zones_of zones.now) bytes (outcome_of a)) }
 {
-    let words = advice(alloc, zones, manifest)?;
+    let moment = asked_moment(alloc, check.moment)?;
+    let words = advice(alloc, zones, manifest, moment)?;
     fine(alloc, check, alone, manifest, warnings, words.as_str())
 }
 
@@ -320,7 +322,25 @@ fn printed_answer(
     }
 }
 
-// What is answered in a form that there is: the zones are looked at first, then all of the input is read.
+// What is answered at a moment, or at none: the zones are looked at first, then all of the input is read.
+fn input_answer<R: Read>(
+    alloc: Global,
+    check: &CheckRequest<'_>,
+    file: &str,
+    files: &[ZoneFile],
+    input: &mut R,
+) -> Result<Answer, Failure>
+    ensures { IfOk result (λ a. IsInputAnswer check.now file.now files.now (R.remaining input.old)
+        (outcome_of a)) }
+{
+    let Some(zones) = given_zones(alloc, &check.zones, files)? else {
+        return refused_pair(alloc, check.explain);
+    };
+    let bytes = read_input(alloc, input, MOST_BYTES, MOST_READS)?;
+    printed_answer(alloc, check, file, bytes.as_slice(), &zones)
+}
+
+// What is answered in a form that there is.
 fn form_answer<R: Read>(
     alloc: Global,
     check: &CheckRequest<'_>,
@@ -331,15 +351,15 @@ fn form_answer<R: Read>(
     ensures { IfOk result (λ a. IsCheckAnswer check.now file.now files.now (R.remaining input.old)
         (outcome_of a)) }
 {
-    let Some(zones) = given_zones(alloc, &check.zones, files)? else {
-        return refused_pair(alloc, check.explain);
-    };
-    let bytes = read_input(alloc, input, MOST_BYTES, MOST_READS)?;
-    printed_answer(alloc, check, file, bytes.as_slice(), &zones)
+    if is_moment(alloc, check.moment)? {
+        input_answer(alloc, check, file, files, input)
+    } else {
+        Ok(refused_now(alloc, check.explain)?)
+    }
 }
 
 /// What the command `check` answers of the file of that name: the form of what is printed is looked at first, then the
-/// zones, then all of the input is read.
+/// moment, then the zones, then all of the input is read.
 pub fn check_file_answer<R: Read>(
     alloc: Global,
     check: &CheckRequest<'_>,

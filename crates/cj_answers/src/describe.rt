@@ -11,8 +11,8 @@ ghost use Rattle.cj_answers.specs.as_json.Forms.{is_json};
 
 use crate::answer::{Answer, Ending};
 use crate::as_json::{describe_json, is_form, is_json, refused_form};
+use crate::moments::asked_moment;
 use crate::next::{refused_schedule, refused_zone, utc, zone_words, zones_of_name};
-use crate::why::asked_moment;
 use cj_args::DescribeRequest;
 use cj_base::Refusal;
 use cj_io::{Failure, ZoneFile};

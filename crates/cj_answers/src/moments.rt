@@ -1,7 +1,9 @@
 // Moments as people write them.
 ghost use Rattle.std.specs.Prelude.{◌≡◌, ◌++◌, IfOk, codes};
-ghost use Rattle.cj_answers.specs.Moments.{instant_of, moment_of, second_of};
+ghost use Rattle.cj_answers.specs.Moments.{asked_moment, instant_of, is_moment, moment_of, moment_words, second_of};
+ghost use Rattle.cj_answers.specs.Outcome.{explained, outcome_of, refusal};
 
+use crate::answer::Answer;
 use cj_types::Seconds;
 use jiff::Timestamp;
 use std::alloc::{AllocError, Global};
@@ -44,4 +46,36 @@ pub fn moment_of(alloc: Global, text: &str) -> Result<Option<Seconds>, AllocErro
         Some(time) => Ok(Some(time)),
         None => date_of(alloc, text),
     }
+}
+
+/// The moment that is asked about, where one is.
+pub(crate) fn asked_moment(alloc: Global, text: Option<&str>) -> Result<Option<Seconds>, AllocError>
+    ensures { IfOk result (λ m. m ≡ asked_moment text.entry) }
+{
+    match text {
+        Some(text) => moment_of(alloc, text),
+        None => Ok(None),
+    }
+}
+
+/// Whether a text is a moment; so is none at all.
+pub(crate) fn is_moment(alloc: Global, text: Option<&str>) -> Result<bool, AllocError>
+    ensures { IfOk result (λ b. b ≡ is_moment text.entry) }
+{
+    match text {
+        Some(text) => Ok(moment_of(alloc, text)?.is_some()),
+        None => Ok(true),
+    }
+}
+
+// What a moment has to be.
+const MOMENT_WORDS: &str =
+    "--now: want a time like 2024-01-01T00:00:00Z or 2024-01-01T01:00:00+01:00, a date like 2024-01-01, now, or -1h or +2d from now\n";
+
+/// What is answered where the value of `--now` is no moment.
+pub(crate) fn refused_now(alloc: Global, explain: bool) -> Result<Answer, AllocError>
+    ensures { IfOk result (λ a. outcome_of a ≡ explained explain moment_words
+        (refusal (codes "cronsim: time\n"))) }
+{
+    Answer::refused(alloc, "cronsim: time\n")?.explained(explain, MOMENT_WORDS)
 }

@@ -5,7 +5,7 @@ ghost use Rattle.cj_zone.specs.Table.{local_zone, zones_of};
 ghost use Rattle.cj_zone.specs.Zones.{utc_zone};
 ghost use Rattle.cj_answers.specs.Outcome.{explained, outcome_of, refusal};
 ghost use Rattle.cj_answers.specs.as_json.Forms.{is_json};
-ghost use Rattle.cj_answers.specs.Why.{IsListReviewed, IsReviewed, IsPrinted, IsWhole, IsWhyAnswer, IsWhyOutcome, PrintsKnown, RefusesCron, asked_moment, is_lines, is_nothing, is_output, meant_of, moment_words, output_words};
+ghost use Rattle.cj_answers.specs.Why.{IsListReviewed, IsReviewed, IsPrinted, IsWhole, IsWhyAnswer, IsWhyOutcome, PrintsKnown, RefusesCron, is_lines, is_nothing, is_output, meant_of, output_words};
 
 mod lines;
 pub(crate) mod naming;
@@ -15,7 +15,7 @@ use crate::answer::Answer;
 use crate::as_json::{is_json, json_reviewed};
 use crate::clusters::refused_list;
 use crate::given::{given_zones, refused_pair};
-use crate::moments::moment_of;
+use crate::moments::{asked_moment, refused_now};
 use crate::why::lines::lines_reviewed;
 use crate::why::naming::{meant_of, unknown_of};
 use crate::why::table::table_reviewed;
@@ -197,27 +197,6 @@ fn bytes_reviewed(
     }
 }
 
-// The moment that is asked about.
-pub(crate) fn asked_moment(alloc: Global, text: Option<&str>) -> Result<Option<Seconds>, AllocError>
-    ensures { IfOk result (λ m. m ≡ asked_moment text.entry) }
-{
-    match text {
-        Some(text) => moment_of(alloc, text),
-        None => Ok(None),
-    }
-}
-
-// What a moment has to be.
-const MOMENT_WORDS: &str =
-    "--now: want a time like 2024-01-01T00:00:00Z or 2024-01-01T01:00:00+01:00, a date like 2024-01-01, now, or -1h or +2d from now\n";
-
-fn refused_moment(alloc: Global, explain: bool) -> Result<Answer, AllocError>
-    ensures { IfOk result (λ a. outcome_of a ≡ explained explain moment_words
-        (refusal (codes "cronsim: time\n"))) }
-{
-    Answer::refused(alloc, "cronsim: time\n")?.explained(explain, MOMENT_WORDS)
-}
-
 // What is answered in a form that is known.
 fn known_answer<R: Read>(
     alloc: Global,
@@ -229,7 +208,7 @@ fn known_answer<R: Read>(
         (outcome_of a)) }
 {
     let Some(now) = asked_moment(alloc, why.moment)? else {
-        return Ok(refused_moment(alloc, why.explain)?);
+        return Ok(refused_now(alloc, why.explain)?);
     };
     let Some(zones) = given_zones(alloc, &why.zones, files)? else {
         return refused_pair(alloc, why.explain);

@@ -101,12 +101,16 @@ flag_rule id = record (new_rule id) { long = Some id; action = Some SetTrue }
 abbrev pub files_rule : Rule
 files_rule = record file_rule { range = Some (record { start_inclusive = 1; end_inclusive = usize_max }) }
 
--- `cronsim check FILE.. [--strict] [-o FORMAT] [--zone NAME=RULE].. [--zoneinfo DIR] [--explain]`
+-- a moment that may be left out
+abbrev pub moment_rule : Rule
+moment_rule = record (new_rule (codes "now")) { long = Some (codes "now"); value_names = 1 }
+
+-- `cronsim check FILE.. [--strict] [--now TIME] [-o FORMAT] [--zone NAME=RULE].. [--zoneinfo DIR] [--explain]`
 -- rule: check-strict
 abbrev pub check_app : App
 check_app =
     let of = with_rule (with_rule (new_app (codes "check")) files_rule) (flag_rule (codes "strict")) in
-    with_zones (with_rule of lines_rule)
+    with_zones (with_rule (with_rule of moment_rule) lines_rule)
 
 abbrev pub now_rule : Rule
 now_rule = record (new_rule (codes "now")) { long = Some (codes "now"); required = true; value_names = 1 }
@@ -134,10 +138,6 @@ run_app =
     let of = with_rule (with_rule (new_app (codes "run")) file_rule) workers_rule in
     let shown = with_rule (with_rule of (flag_rule (codes "timeline"))) (flag_rule (codes "history")) in
     with_zones (with_rule (with_rule shown (flag_rule (codes "svg"))) lines_rule)
-
--- a moment that may be left out
-abbrev pub moment_rule : Rule
-moment_rule = record (new_rule (codes "now")) { long = Some (codes "now"); value_names = 1 }
 
 -- an option that may be given several times
 abbrev pub crons_rule : Rule
@@ -265,6 +265,7 @@ pub record IsNext (rows : List Row) (r : NextRequest) : Type 0 where
 pub record IsCheck (rows : List Row) (r : CheckRequest) : Type 0 where
   pub files : texts_of (codes "file") rows ≡ map (λ s. s.now) r.files.items
   pub strict : r.strict ≡ is_given (codes "strict") rows
+  pub moment : first_of (codes "now") rows ≡ option_map (λ s. s.now) r.moment
   pub output : first_of (codes "output") rows ≡ Some r.output.now
   pub zones : AreZones rows r.zones
   pub explain : r.explain ≡ is_given (codes "explain") rows

@@ -113,6 +113,7 @@ fn check_command<'a>(alloc: Global) -> Result<Command<'a>, AllocError>
     );
     let command = with_arg(Ok(command), files_arg(alloc, help::MANIFESTS));
     let command = with_arg(command, flag_arg(alloc, "strict", help::STRICT));
+    let command = with_arg(command, option_arg(alloc, "now", "TIME", help::LOOK));
     let command = with_arg(command, lines_arg(alloc));
     with_zones(alloc, command)
 }
@@ -187,7 +188,7 @@ fn audit_command<'a>(alloc: Global) -> Result<Command<'a>, AllocError>
     let command = file_command(
         alloc,
         "audit",
-        "Look in a cluster for times with two Jobs, Jobs beside others, and Jobs that weren't due",
+        "Look in a cluster for times with two Jobs, Jobs beside others, Jobs that weren't due, and due times without a Job",
         help::AUDIT,
         help::CLUSTER,
     );

@@ -27,6 +27,10 @@ pub(crate) const MANIFESTS: &str =
 pub(crate) const STRICT: &str =
     "End with status 1 where there is a warning too; of several files, with a count of them on standard error";
 
+/// The time of `check`.
+pub(crate) const LOOK: &str =
+    "Start, itself excluded, of the 366 days for which --explain tells what the clock of a CronJob's zone skips or shows twice: a time, as 2024-01-01T00:00:00Z or 2024-01-01T01:00:00+01:00; a date, as 2024-01-01; or by the clock, as -1h or +2d (s, m, h, d or w); where none is given, now";
+
 /// The file of `plan`.
 pub(crate) const SCENARIO: &str =
     "File with a scenario in JSON: a CronJob, its Jobs and zones; - is standard input";
@@ -135,7 +139,7 @@ What it prints:
 
 Exit status:
   0  no manifest has a fault, and with --strict none has a warning
-  1  one has, as standard output says; or the format or a zone is refused, as standard error says; --explain says why
+  1  one has, as standard output says; or the format, the moment or a zone is refused, as standard error says; --explain says why
   2  the words are wrong
   3  reading or writing failed, or memory was wanting";
 

@@ -134,6 +134,9 @@ pub struct CheckRequest<'a> {
     pub files: Vec<&'a str>,
     /// Whether a manifest with a warning is refused.
     pub strict: bool,
+    /// The moment from which the clocks of zones are looked at. Where none is given and the answer is explained, a
+    /// program with a clock puts its own time here.
+    pub moment: Option<&'a str>,
     /// How the answer is printed: `lines` or `json`.
     pub output: &'a str,
     /// The zones that the manifests may name.

@@ -142,11 +142,13 @@ fn check_request<'a>(alloc: Global, found: &ArgMatches<'a>) -> Result<CheckReque
         ¬ (IsCheck (rows_of (found_of found.now)) r)) }
 {
     let strict = is_given(found, "strict");
+    let moment = optional_text(found, "now");
     let output = text(found, "output")?;
     let explain = is_given(found, "explain");
     Ok(CheckRequest {
         files: texts(alloc, found, "file")?,
         strict,
+        moment,
         output,
         zones: zone_words(alloc, found)?,
         explain,

@@ -11,18 +11,11 @@ use crate::findings::Findings;
 use crate::kind::FindingKind;
 use crate::manual::is_manual;
 use cj_cluster::Cluster;
+use cj_json::push_value;
 use cj_types::{Job, Refusal, Shared};
 use cj_zone::time_text;
 use serde_json::{Value, json};
 use std::alloc::{AllocError, Global};
-
-fn push_value(values: &mut Vec<Value>, value: Value) -> Result<(), Refusal>
-    ensures ok { OnOk result (values.new.items ≡ values.old.items ++ (value ∷ [])) }
-    ensures err { IfErr result (λ e. e ≡ OutOfMemory) }
-{
-    values.push(value).map_err(AllocError::from)?;
-    Ok(())
-}
 
 fn kind_word(kind: FindingKind) -> &'static str
     ensures { result.now ≡ kind_word kind }

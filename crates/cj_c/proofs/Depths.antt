@@ -28,7 +28,8 @@ use Rattle.cj_types.specs.declared.cron.CronStatus.{CronStatus}
 use Rattle.cj_types.specs.declared.job.Job.{Job}
 use Rattle.cj_types.specs.declared.job.JobDraft.{JobDraft}
 use Rattle.cj_types.specs.declared.policy.Reason.{Reason}
-use Rattle.cj_why.specs.reviews.PlanJson.{claim_data, jobs_data, make_data, plan_data, reasons_data, status_data, texts_data, time_or_null}
+use Rattle.cj_json.specs.Values.{time_or_null}
+use Rattle.cj_why.specs.reviews.PlanJson.{claim_data, jobs_data, make_data, plan_data, reasons_data, status_data, texts_data}
 use Rattle.cj_c.specs.answers.Audit.{audit_data}
 use Rattle.cj_c.specs.answers.Check.{sound_data}
 use Rattle.cj_c.specs.answers.FaultsJson.{fault_data, faults_data}

@@ -5,11 +5,12 @@ ghost use Rattle.serde_json.specs.View.{view, members_view};
 ghost use Rattle.cj_json.specs.Objects as object;
 
 use crate::members::{
-    push_value, put_labels, put_number, put_some_list, put_some_number, put_some_object,
-    put_some_text, put_some_time, put_text, put_truth, put_value,
+    put_labels, put_number, put_some_list, put_some_number, put_some_object, put_some_text,
+    put_some_time, put_text, put_truth, put_value,
 };
 use crate::meta::metadata;
 use crate::object::object_value;
+use crate::values::push_value;
 use cj_base::{all_four, all_three, both};
 use cj_types::{CronJob, CronSpec, CronStatus, JobTemplate, ObjectName, Refusal};
 use serde_json::{Map, Value};

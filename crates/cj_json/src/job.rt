@@ -4,9 +4,10 @@ ghost use Rattle.cj_base.specs.declared.refusal.Refusal.TheVariants.{OutOfMemory
 ghost use Rattle.serde_json.specs.View.{view, members_view};
 ghost use Rattle.cj_json.specs.Objects as object;
 
-use crate::members::{push_value, put_text, put_time, put_value};
+use crate::members::{put_text, put_time, put_value};
 use crate::meta::metadata;
 use crate::object::object_value;
+use crate::values::push_value;
 use cj_base::both;
 use cj_types::{Job, Outcome, Refusal, Seconds};
 use serde_json::{Map, Value};

@@ -10,7 +10,9 @@ mod job;
 mod members;
 mod meta;
 mod object;
+mod values;
 mod written;
 
 pub use floats::has_float;
+pub use values::{push_value, text_or_null, time_or_null, time_value};
 pub use written::Written;

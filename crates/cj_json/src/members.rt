@@ -8,16 +8,7 @@ ghost use Rattle.cj_json.specs.Parts as part;
 use cj_types::{Labels, Refusal, Seconds, Text};
 use cj_zone::time_text;
 use serde_json::{Map, Value, put};
-use std::alloc::{AllocError, Global};
-
-/// One more value of a list.
-pub(crate) fn push_value(values: &mut Vec<Value>, value: Value) -> Result<(), Refusal>
-    ensures ok { OnOk result (values.new.items ≡ values.old.items ++ (value ∷ [])) }
-    ensures err { IfErr result (λ e. e ≡ OutOfMemory) }
-{
-    values.push(value).map_err(AllocError::from)?;
-    Ok(())
-}
+use std::alloc::Global;
 
 pub(crate) fn put_value(
     members: &mut Map<String, Value>,

@@ -5,9 +5,8 @@ ghost use Rattle.serde_json.specs.View.{view, members_view};
 ghost use Rattle.cj_json.specs.Objects as object;
 ghost use Rattle.cj_json.specs.Parts as part;
 
-use crate::members::{
-    push_value, put_labels, put_number, put_some_list, put_text, put_time, put_truth,
-};
+use crate::members::{put_labels, put_number, put_some_list, put_text, put_time, put_truth};
+use crate::values::push_value;
 use cj_base::{all_three, both};
 use cj_types::{Key, Meta, OwnerRef, Refusal, version_text};
 use serde_json::{Map, Value};

@@ -1,4 +1,3 @@
-pub mod Values
 pub mod Bars
 pub mod Marks
 pub mod Gaps

@@ -2,7 +2,6 @@
 mod bars;
 mod gaps;
 mod marks;
-mod values;
 mod whole;
 
 pub(crate) use whole::run_json;

@@ -27,6 +27,7 @@ pub use cj_io::{
     Failure, FileBytes, MOST_BYTES, MOST_READS, ZoneFile, is_file_name, read_input, tell_failure,
     zones_named,
 };
+pub use cj_run::Meter;
 pub use cj_types::{Seconds, Text};
 pub use cj_zone::time_text;
 pub use serving::serve;

@@ -12,7 +12,7 @@ use cj_answers::{
 };
 use cj_args::RunRequest;
 use cj_io::{Failure, GivenZones, MOST_BYTES, MOST_READS, ZoneFile, read_input};
-use cj_run::run_simulation;
+use cj_run::{Meter, run_simulation};
 use cj_scenario::Form;
 use cj_script::{Simulation, read_simulation};
 use std::alloc::{AllocError, Global};
@@ -51,11 +51,12 @@ fn answered<T: Threads + Wait + Sync>(
     run: &RunRequest<'_>,
     bytes: &[u8],
     simulation: &Simulation,
+    meter: &Meter,
 ) -> Result<Answer, Failure>
     ensures { (given : GivenZones) → IsSimulation given bytes.now simulation.now →
         IfOk result (λ a. IsRanOf run.now given bytes.now (outcome_of a)) }
 {
-    let ran = run_simulation(rt, alloc, simulation, u64::from(run.workers))?;
+    let ran = run_simulation(rt, alloc, simulation, u64::from(run.workers), meter)?;
     let seen = asked_detection(alloc, run.explain, Form::Simulation, bytes)?;
     let remark = asked_remark(
         alloc,
@@ -74,11 +75,12 @@ fn bytes_answer<T: Threads + Wait + Sync>(
     run: &RunRequest<'_>,
     given: GivenZones<'_>,
     bytes: &[u8],
+    meter: &Meter,
 ) -> Result<Answer, Failure>
     ensures { IfOk result (λ a. IsRanOf run.now given.entry bytes.now (outcome_of a)) }
 {
     match read_simulation(alloc, given, bytes) {
-        Ok(simulation) => answered(rt, alloc, run, bytes, &simulation),
+        Ok(simulation) => answered(rt, alloc, run, bytes, &simulation, meter),
         Err(fault) => refused_scene(alloc, run.explain, Form::Simulation, bytes, fault),
     }
 }
@@ -90,6 +92,7 @@ fn form_answer<T: Threads + Wait + Sync, R: Read>(
     run: &RunRequest<'_>,
     files: &[ZoneFile],
     input: &mut R,
+    meter: &Meter,
 ) -> Result<Answer, Failure>
     ensures { IfOk result (λ a. IsRunAnswer run.now files.now (R.remaining input.old)
         (outcome_of a)) }
@@ -98,7 +101,7 @@ fn form_answer<T: Threads + Wait + Sync, R: Read>(
         return refused_pair(alloc, run.explain);
     };
     let bytes = read_input(alloc, input, MOST_BYTES, MOST_READS)?;
-    bytes_answer(rt, alloc, run, given, bytes.as_slice())
+    bytes_answer(rt, alloc, run, given, bytes.as_slice(), meter)
 }
 
 /// What the command `run` answers: the form of what is printed is looked at first, then the zones, then all of the input
@@ -109,12 +112,13 @@ pub(crate) fn run_answer<T: Threads + Wait + Sync, R: Read>(
     run: &RunRequest<'_>,
     files: &[ZoneFile],
     input: &mut R,
+    meter: &Meter,
 ) -> Result<Answer, Failure>
     ensures { IfOk result (λ a. IsRunOutcome run.now files.now (R.remaining input.old)
         (outcome_of a)) }
 {
     if is_form(run.output) {
-        form_answer(rt, alloc, run, files, input)
+        form_answer(rt, alloc, run, files, input, meter)
     } else {
         refused_form(alloc, run.explain)
     }

@@ -14,6 +14,7 @@ use cj_answers::{
 };
 use cj_args::Request;
 use cj_io::{Failure, ZoneFile, tell_failure};
+use cj_run::Meter;
 use std::alloc::Global;
 use std::io::{Read, Write};
 use std::sync::Wait;
@@ -56,9 +57,9 @@ pub(crate) fn give_answer<W: Write, E: Write>(
     }
 }
 
-/// Serves a request, for which these zone files were read, and answers the status: 0 where it is done, 1 where what it asks about is refused, 3
-/// where reading, writing or memory failed, or where a call found the history full; one line on standard
-/// error says which.
+/// Serves a request, for which these zone files were read, and answers the status: 0 where it is done, 1 where what it
+/// asks about is refused, 3 where reading, writing or memory failed, or where a call found the history full; one line on
+/// standard error says which. The meter shows meanwhile how far a run is.
 pub fn serve<T: Threads + Wait + Sync, R: Read, W: Write, E: Write>(
     rt: &T,
     alloc: Global,
@@ -67,6 +68,7 @@ pub fn serve<T: Threads + Wait + Sync, R: Read, W: Write, E: Write>(
     input: &mut R,
     out: &mut W,
     err: &mut E,
+    meter: &Meter,
 ) -> u8
     ensures served { result < 3 → (o : Outcome)
         × IsOutcome request.now files.now (R.remaining input.old) o
@@ -82,7 +84,7 @@ pub fn serve<T: Threads + Wait + Sync, R: Read, W: Write, E: Write>(
         Request::Check(check) => give_answer(check_answer(alloc, check, files, input), out, err),
         Request::Plan(plan) => give_answer(plan_answer(alloc, plan, files, input), out, err),
         Request::Replay(replay) => serve_replay(alloc, replay, files, input, out, err),
-        Request::Run(run) => give_answer(run_answer(rt, alloc, run, files, input), out, err),
+        Request::Run(run) => give_answer(run_answer(rt, alloc, run, files, input, meter), out, err),
         Request::Why(why) => give_answer(why_answer(alloc, why, files, input), out, err),
         Request::Audit(audit) => give_answer(audit_answer(alloc, audit, files, input), out, err),
         Request::Upcoming(upcoming) => {

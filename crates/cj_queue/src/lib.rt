@@ -12,7 +12,6 @@ mod failures;
 mod laws;
 mod line;
 mod queue;
-mod tagged;
 mod waits;
 mod work;
 

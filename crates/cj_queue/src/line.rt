@@ -6,7 +6,7 @@ ghost use Rattle.cj_queue.specs.Queue.{first};
 ghost use Rattle.cj_queue.specs.Parts.{stands_in, is_lined, with_last, Marks, ArePlaced};
 
 use crate::copies::two_copies;
-use crate::tagged::Tagged;
+use cj_table::Tagged;
 use cj_types::{Key, Refusal, TryCopy};
 use std::alloc::Global;
 use std::collections::{BTreeMap, VecDeque};

@@ -6,7 +6,7 @@ ghost use Rattle.cj_rows.specs.Run.{IsAnswered, IsRun, IsRunOf, IsToldOf, given_
 
 use crate::fault::Fault;
 use crate::row::Row;
-use cj_program::{Request, WordFault, parse_words, serve, tell_fault};
+use cj_program::{Meter, Request, WordFault, parse_words, serve, tell_fault};
 use std::alloc::Global;
 use std::sync::Wait;
 use std::thread::Threads;
@@ -49,7 +49,16 @@ fn served<T: Threads + Wait + Sync>(
     let mut input: &[u8] = input.as_bytes();
     let mut printed = Vec::new(alloc);
     let mut said = Vec::new(alloc);
-    let status = serve(rt, alloc, request, &[], &mut input, &mut printed, &mut said);
+    let status = serve(
+        rt,
+        alloc,
+        request,
+        &[],
+        &mut input,
+        &mut printed,
+        &mut said,
+        &Meter::new(),
+    );
     Ok(Seen {
         status,
         printed,

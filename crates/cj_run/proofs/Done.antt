@@ -56,8 +56,8 @@ same_role : (zones : ZoneTable) (operations : List Operation) (p q : PassView) (
 same_role zones operations p q news rs kept are =
     subst (λ (role : Role). AreOf role zones operations rs) (ap (λ (x : PassView). x.role) kept) are
 
--- For does_then: receipts put behind a pass's, and then more behind those, are put behind in order.
-kept_then : (p q r : PassView) (news news' : List Receipt) → q ≡ record p { receipts = p.receipts ++ news }
+-- Receipts put behind a pass's, and then more behind those, are put behind in order.
+pub kept_then : (p q r : PassView) (news news' : List Receipt) → q ≡ record p { receipts = p.receipts ++ news }
     → r ≡ record q { receipts = q.receipts ++ news' }
     → r ≡ record p { receipts = p.receipts ++ (news ++ news') }
 kept_then p q r news news' one two =

@@ -1,7 +1,6 @@
 -- What is seen of a history, and what is wanted, one after the other.
 use Rattle.std.proofs.Common.{◌≡◌, ◌+◌, ◌<◌, ◌∙◌, ◌&&◌, ℕ, Bool, List, [], ◌∷◌, ◌++◌, length, get_or, take, map, add-one, sym, ap, subst, append_assoc, append-nil}
 use Rattle.std.specs.Prelude.{◌↔◌, IsTrue}
-use Rattle.std.specs.List.{AllByRecursion}
 use Rattle.std.proofs.lemmas.List.{map-append, take_more}
 use Rattle.cj_calls.specs.Rows.{Told}
 use Rattle.cj_calls.specs.declared.caller.Caller.{Caller}
@@ -12,7 +11,7 @@ use Rattle.cj_script.specs.declared.simulation.scenario.Edit.{Edit}
 use Rattle.cj_run.specs.Crews.{IsOwn}
 use Rattle.cj_run.specs.Looks.{Agrees, IsKept, Sees}
 use Rattle.cj_run.specs.Simulations.{edits_at}
-use Rattle.cj_run.specs.Turns.{AllInstants, are_timely, is_timely, progress_after, progress_of, turn, turns_after, turns_below, turns_of}
+use Rattle.cj_run.specs.Turns.{AllInstants, are_timely, is_timely, progress_after, turn, turns_after, turns_below}
 use Rattle.cj_run.specs.declared.look.Seen.{Seen}
 use Rattle.cj_run.specs.declared.turns.Progress.{Progress}
 use Rattle.cj_run.proofs.Done.{edits_append}

@@ -55,7 +55,6 @@ has_lived c a b f driven shut = record {
     all = driven.all;
     did = driven.did;
     rounds = driven.rounds;
-    followed = driven.followed;
   };
   shut = shut;
 }
@@ -86,14 +85,14 @@ has_done c b l crew user runners informer =
       idle = l.before.runners.items;
       idle_still = l.fresh.runners;
       made = notes_of b;
-      rounds = subst (λ (ps : List PassView). GoesRounds c n (watch l.before.runners.items no_notes) (watch ps (notes_of b)))
-          (sym runners)
-          (subst (λ (m : Notes). GoesRounds c n (watch l.before.runners.items m) (watch_of b)) l.fresh.made
-          l.lived.driven.rounds);
       first = l.before.follower;
       fresh = l.fresh.follower;
       last = l.lived.last;
-      followed = l.lived.driven.followed;
+      rounds =
+          subst (λ (ps : List PassView). GoesRounds c n l.before.follower l.lived.last (watch l.before.runners.items no_notes)
+          (watch ps (notes_of b))) (sym runners)
+          (subst (λ (m : Notes). GoesRounds c n l.before.follower l.lived.last (watch l.before.runners.items m) (watch_of b))
+          l.fresh.made l.lived.driven.rounds);
       shut = subst (λ (p : PassView). Called Shut l.lived.last.pass p) (sym informer) l.lived.shut;
     }
 

@@ -1,7 +1,7 @@
--- The rounds of the runners, one instant after the other.
-use Rattle.std.proofs.Common.{◌≡◌, ◌+◌, ◌∙◌, ℕ, suc, Bool, true, false, List, [], ◌∷◌, map, add-one, ap, arith, refl}
+-- What is done at each instant beside the user's edits, one after the other.
+use Rattle.std.proofs.Common.{◌≡◌, ◌+◌, ◌*◌, ◌∙◌, ℕ, suc, Bool, true, false, List, [], ◌∷◌, drop, length, map, add-one, ap, arith, refl, subst}
+use Rattle.std.proofs.Math.Seq.{drop-append_seam}
 use Rattle.std.specs.Prelude.{filter}
-use Rattle.cj_types.specs.declared.job.Job.{Job}
 use Rattle.cj_hub.specs.Receipts.{PassView}
 use Rattle.cj_hub.specs.declared.receipt.Receipt.{Receipt}
 use Rattle.cj_runner.specs.Dues.{end_call, is_due}
@@ -10,8 +10,11 @@ use Rattle.cj_runner.specs.declared.running.Running.{Running}
 use Rattle.cj_script.specs.simulation.Runs.{RunTable}
 use Rattle.cj_script.specs.simulation.Spans.{instant}
 use Rattle.cj_script.specs.declared.simulation.scenario.Simulation.{Simulation}
-use Rattle.cj_run.specs.Made.{Notes, noted_all}
-use Rattle.cj_run.specs.Rounds.{EndsDue, GoesRound, GoesRounds, Lists, NotesMade, Watch, jobs_in, watch, without_due}
+use Rattle.cj_run.specs.Follows.{Follows}
+use Rattle.cj_run.specs.Made.{Notes, noted_news}
+use Rattle.cj_run.specs.Rounds.{EndsDue, GoesRound, GoesRounds, NotesMade, Watch, watch, without_due}
+use Rattle.cj_run.specs.declared.rest.Follower.{Follower}
+use Rattle.cj_run.proofs.Followed.{follows_longer}
 
 -- For filter_twice: with one member more.
 kept_once : {X : Type 0} (p : X → Bool) (x : X) (xs : List X) (b : Bool) → p x ≡ b → filter p (filter p xs) ≡ filter p xs
@@ -45,24 +48,38 @@ pub ends_due : (at : ℕ) (ps qs : List PassView) (n n' : Notes)
     → EndsDue at (watch ps n) (watch qs n')
 ends_due at ps qs n n' ended noted = record { receipts = ended.0; ends = ended.1; noted = noted }
 
--- For note: a listing, and the notes of the Jobs that it has.
-pub notes_made : (runs : RunTable) (at : ℕ) (ps qs : List PassView) (n n' : Notes) (r : Receipt) (jobs : List Job) → Lists ps r qs
-    → jobs ≡ jobs_in r.entry.answer → n' ≡ noted_all runs at n.last jobs n
-    → NotesMade runs at (watch ps n) (watch qs n')
-notes_made runs at ps qs n n' r jobs lists is noted = record {
-  receipt = r;
-  lists = lists;
-  noted = noted ∙ ap (λ (js : List Job). noted_all runs at n.last js n) is;
-}
+-- For note: what was noted, by nobody's call.
+pub notes_made : (runs : RunTable) (at : ℕ) (news : List Receipt) (ps : List PassView) (n n' : Notes) → n' ≡ noted_news runs at news n
+    → NotesMade runs at news (watch ps n) (watch ps n')
+notes_made runs at news ps n n' noted = record { passes = refl; noted = noted }
 
--- For live: both, one after the other.
-pub goes_round : (runs : RunTable) (at : ℕ) (a m b : Watch) → EndsDue at a m → NotesMade runs at m b → GoesRound runs at a b
-goes_round runs at a m b ends made = record { between = m; ends = ends; notes = made }
+-- For live: the ends, the informer's steps, and the notes of the receipts that it got in these.
+pub goes_round : (runs : RunTable) (at millis known : ℕ) (f f' g : Follower) (a m b : Watch) → f' ≡ f
+    → millis ≡ at * 1000
+    → known ≡ length f'.pass.receipts
+    → EndsDue at a m
+    → Follows millis f' g
+    → NotesMade runs at (drop known g.pass.receipts) m b
+    → GoesRound runs at f g a b
+goes_round runs at millis known f f' g a m b same moment count ends followed made =
+    let long = follows_longer millis f' g followed in
+    let news : drop known g.pass.receipts ≡ long.0 =
+    ap (λ (k : ℕ). drop k g.pass.receipts) count
+    ∙ ap (λ (p : PassView). drop (length f'.pass.receipts) p.receipts) long.1
+    ∙ drop-append_seam f'.pass.receipts long.0 in
+    subst (λ (x : Follower). GoesRound runs at x g a b) same (record {
+      between = m;
+      ends = ends;
+      followed = subst (λ (n : ℕ). Follows n f' g) moment followed;
+      news = long.0;
+      kept = long.1;
+      notes = subst (λ (rs : List Receipt). NotesMade runs at rs m b) news made;
+    })
 
--- For drive: after the rounds of the first n instants, that of the next makes those of n + 1.
-pub round_more : (c : Simulation) (n : ℕ) (a m b : Watch) → GoesRounds c n a m
-    → GoesRound c.runs (instant c.span n) m b
-    → GoesRounds c (n + 1) a b
-round_more c n a m b went goes =
-    let r : GoesRounds c (suc n) a b = (m, went, goes) in
+-- For drive: after the first n instants, the next makes those of n + 1.
+pub round_more : (c : Simulation) (n : ℕ) (f h g : Follower) (a m b : Watch) → GoesRounds c n f h a m
+    → GoesRound c.runs (instant c.span n) h g m b
+    → GoesRounds c (n + 1) f g a b
+round_more c n f h g a m b went goes =
+    let r : GoesRounds c (suc n) f g a b = (h, m, went, goes) in
     rw (add-one) r

@@ -11,7 +11,6 @@ use Rattle.cj_hub.specs.Receipts.{IsReceipt, PassView}
 use Rattle.cj_hub.specs.declared.receipt.Receipt.{Receipt}
 use Rattle.cj_script.specs.operations.Calls.{IsUnseenCall}
 use Rattle.cj_script.specs.declared.simulation.scenario.Simulation.{Simulation}
-use Rattle.cj_run.specs.Follows.{FollowsAll}
 use Rattle.cj_run.specs.Lineups.{notes_of, watch_of}
 use Rattle.cj_run.specs.Made.{Notes, no_notes}
 use Rattle.cj_run.specs.Rounds.{GoesRounds, watch}
@@ -41,14 +40,13 @@ pub record Does (zones : ZoneTable) (operations : List Operation) (p p' : PassVi
   pub kept : p' ≡ record p { receipts = p.receipts ++ news }
   pub are : AreOf p.role zones operations news
 
--- up to the clock's last instant the user did all that the scenario says, the runners went their rounds, and the
--- informer followed
+-- up to the clock's last instant the user did all that the scenario says, and at each one the runners went their round
+-- and the informer followed
 pub record HasDriven (c : Simulation) (a b : Participants) : Type 0 where
   pub instants : ℕ
   pub all : AllInstants c.span instants
   pub did : Does c.zones (operations_below c instants) a.user b.user
-  pub rounds : GoesRounds c instants (watch_of a) (watch_of b)
-  pub followed : FollowsAll c instants a.follower b.follower
+  pub rounds : GoesRounds c instants a.follower b.follower (watch_of a) (watch_of b)
 
 -- and then the informer shut the queue
 pub record HasLived (c : Simulation) (a b : Participants) : Type 0 where
@@ -85,9 +83,8 @@ pub record HasDone (c : Simulation) (instants : ℕ) (crew : Crew) : Type 0 wher
   pub idle : List PassView
   pub idle_still : All IsUnused idle
   pub made : Notes
-  pub rounds : GoesRounds c instants (watch idle no_notes) (watch crew.runners.items made)
   pub first : Follower
   pub fresh : IsFresh first
   pub last : Follower
-  pub followed : FollowsAll c instants first last
+  pub rounds : GoesRounds c instants first last (watch idle no_notes) (watch crew.runners.items made)
   pub shut : Called Shut last.pass crew.informer

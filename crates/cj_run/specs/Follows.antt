@@ -1,9 +1,6 @@
 -- How the informer of a run follows what is written.
-use Rattle.std.specs.Prelude.{◌≡◌, ◌*◌, ◌⊎◌, ℕ, zero, suc, None, Ok}
-use Rattle.cj_hub.specs.Receipts.{PassView}
+use Rattle.std.specs.Prelude.{◌≡◌, ◌⊎◌, ℕ, zero, suc, Ok}
 use Rattle.cj_informer.specs.Outcomes.{HasStepped}
-use Rattle.cj_script.specs.simulation.Spans.{instant}
-use Rattle.cj_script.specs.declared.simulation.scenario.Simulation.{Simulation}
 use Rattle.cj_worker.specs.Workers.{Gets}
 use Rattle.cj_run.specs.declared.rest.Follower.{Follower}
 
@@ -24,9 +21,3 @@ Steps (suc k) at f g = (m : Follower) × Steps k at f m × StepsOn at m g
 -- rule: run-clock
 abbrev pub Follows : ℕ → Follower → Follower → Type 0
 Follows at f g = (k : ℕ) × Steps (suc k) at f g
-
--- and so at the first so many instants, one after the other
--- rule: run-clock
-abbrev pub FollowsAll : Simulation → ℕ → Follower → Follower → Type 0
-FollowsAll c zero f g = g ≡ f
-FollowsAll c (suc n) f g = (m : Follower) × FollowsAll c n f m × Follows (instant c.span n * 1000) m g

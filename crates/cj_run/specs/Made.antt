@@ -1,10 +1,18 @@
--- Which run each Job takes that a CronJob makes.
-use Rattle.std.specs.Prelude.{ℕ, ◌+◌, ◌^◌, ◌-◌, nat_lt, max, min, List, [], ◌∷◌, ◌++◌, Option, Some, None, bytes_eq, if◌then◌else◌}
+-- Which run each Job takes that a CronJob makes, and what tells of it.
+use Rattle.std.specs.Prelude.{ℕ, ◌+◌, ◌^◌, ◌-◌, nat_lt, max, min, List, [], ◌∷◌, ◌++◌, Option, Some, None, Result, Ok, bytes_eq, if◌then◌else◌}
+use Rattle.std.specs.List.{filter_map}
 use Rattle.std.specs.FinMap as map
+use Rattle.cj_base.specs.declared.refusal.Refusal.{Refusal}
 use Rattle.cj_types.specs.Keys.{Place, place_cmp}
 use Rattle.cj_types.specs.Owners.{controller_of}
+use Rattle.cj_types.specs.declared.event.Event.{Event}
+use Rattle.cj_types.specs.declared.event.Event.TheVariants.{Added}
+use Rattle.cj_types.specs.declared.event.Object.TheVariants as Kind
 use Rattle.cj_types.specs.declared.job.Job.{Job}
 use Rattle.cj_types.specs.declared.owners.OwnerRef.{OwnerRef}
+use Rattle.cj_calls.specs.declared.reply.Reply.{Reply}
+use Rattle.cj_calls.specs.declared.reply.Reply.TheVariants.{Events, Jobs}
+use Rattle.cj_hub.specs.declared.receipt.Receipt.{Receipt}
 use Rattle.cj_script.specs.simulation.Runs.{RunTable, run_of}
 use Rattle.cj_script.specs.declared.simulation.run.Run.{Run}
 use Rattle.cj_script.specs.declared.simulation.run.RunEnd.{RunEnd}
@@ -73,15 +81,40 @@ noted_by runs now job (Some key) None n = n
 abbrev pub noted : RunTable → ℕ → Job → Notes → Notes
 noted runs now job n = noted_by runs now job (key_of_job job) (controller_of job.owners) n
 
--- a Job of a listing is noted where its uid is above the last that was noted before the listing
+-- a Job that an answer tells of is noted where its uid is above the last that was noted before that answer
 -- rule: run-jobs
 abbrev pub seen : RunTable → ℕ → ℕ → Job → Notes → Notes
 seen runs now before job n =
     let n' = notes (max n.last job.meta.uid) n.counts n.running in
     if nat_lt before job.meta.uid then noted runs now job n' else n'
 
--- so are all of a listing, one after the other
+-- so are all that it tells of, one after the other
 -- rule: run-jobs
 abbrev pub noted_all : RunTable → ℕ → ℕ → List Job → Notes → Notes
 noted_all runs now before [] n = n
 noted_all runs now before (job ∷ jobs) n = noted_all runs now before jobs (seen runs now before job n)
+
+-- ---- what tells of them
+
+-- the Job that an event tells the creation of
+abbrev pub job_added : Event → Option Job
+job_added (Added (Kind.Job job)) = Some job
+job_added event = None
+
+-- the Jobs that an answer to the informer tells of: those whose creation it tells, or all that it lists
+-- rule: run-jobs
+abbrev pub jobs_told : Result Reply Refusal → List Job
+jobs_told (Ok (Events events)) = filter_map job_added events
+jobs_told (Ok (Jobs jobs version)) = jobs
+jobs_told answer = []
+
+-- of the Jobs that an answer tells of those are noted that are later than what was noted before it
+-- rule: run-jobs
+abbrev pub noted_told : RunTable → ℕ → Result Reply Refusal → Notes → Notes
+noted_told runs at answer n = noted_all runs at n.last (jobs_told answer) n
+
+-- so after each of the receipts, one after the other
+-- rule: run-jobs
+abbrev pub noted_news : RunTable → ℕ → List Receipt → Notes → Notes
+noted_news runs at [] n = n
+noted_news runs at (r ∷ rs) n = noted_news runs at rs (noted_told runs at r.entry.answer n)

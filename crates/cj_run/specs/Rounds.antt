@@ -1,18 +1,16 @@
--- What the runners of a run do: they end the Jobs that are due, and note those that are made.
-use Rattle.std.specs.Prelude.{◌≡◌, ℕ, zero, suc, not, filter, List, [], ◌∷◌, Result, Ok, Err}
-use Rattle.cj_base.specs.declared.refusal.Refusal.{Refusal}
-use Rattle.cj_types.specs.declared.job.Job.{Job}
-use Rattle.cj_calls.specs.declared.call.Call.TheVariants.{ListJobs}
-use Rattle.cj_calls.specs.declared.reply.Reply.{Reply}
-use Rattle.cj_calls.specs.declared.reply.Reply.TheVariants.{Jobs}
-use Rattle.cj_hub.specs.Receipts.{IsReceipt, PassView}
+-- What is done at each instant of a run beside the user's edits: the runners end the Jobs that are due, the informer
+-- follows what is written, and the Jobs that it is told of are noted.
+use Rattle.std.specs.Prelude.{◌≡◌, ◌*◌, ℕ, zero, suc, not, filter, List, ◌++◌}
+use Rattle.cj_hub.specs.Receipts.{PassView}
 use Rattle.cj_hub.specs.declared.receipt.Receipt.{Receipt}
 use Rattle.cj_runner.specs.Dues.{is_due}
 use Rattle.cj_runner.specs.Ends.{AreEnded}
 use Rattle.cj_script.specs.simulation.Runs.{RunTable}
 use Rattle.cj_script.specs.simulation.Spans.{instant}
 use Rattle.cj_script.specs.declared.simulation.scenario.Simulation.{Simulation}
-use Rattle.cj_run.specs.Made.{Notes, noted_all, notes}
+use Rattle.cj_run.specs.Follows.{Follows}
+use Rattle.cj_run.specs.Made.{Notes, noted_news, notes}
+use Rattle.cj_run.specs.declared.rest.Follower.{Follower}
 
 -- the runners' passes, and what was noted of the Jobs that were made
 pub record Watch : Type 0 where
@@ -21,6 +19,8 @@ pub record Watch : Type 0 where
 
 abbrev pub watch : List PassView → Notes → Watch
 watch passes notes = record { passes = passes; notes = notes }
+
+-- ---- the ends
 
 -- the Jobs that run, without those that are due
 abbrev pub without_due : ℕ → Notes → Notes
@@ -33,32 +33,32 @@ pub record EndsDue (at : ℕ) (a b : Watch) : Type 0 where
   pub ends : AreEnded at a.notes.running a.passes b.passes receipts
   pub noted : b.notes ≡ without_due at a.notes
 
--- the Jobs that an answer lists
-abbrev pub jobs_in : Result Reply Refusal → List Job
-jobs_in (Ok (Jobs jobs version)) = jobs
-jobs_in _ = []
+-- ---- the Jobs that were made
 
--- the first of the passes got the receipt, of a listing of the Jobs
-abbrev pub Lists : List PassView → Receipt → List PassView → Type 0
-Lists [] r qs = ⊥
-Lists (p ∷ ps) r qs = (q : PassView) × IsReceipt p ListJobs r q × (qs ≡ q ∷ ps)
-
--- the Jobs are listed, and those that were made since the last listing are noted
+-- the Jobs are noted that the receipts tell of, and nobody calls. Each Job that was made is told of by an event, or by
+-- a listing where events have expired; a listing doesn't have one that is gone by then, but no Job is made and goes
+-- within one instant, since a sync drops what has ended, or was made at an earlier one
 -- rule: run-jobs
-pub record NotesMade (runs : RunTable) (at : ℕ) (a b : Watch) : Type 0 where
-  pub receipt : Receipt
-  pub lists : Lists a.passes receipt b.passes
-  pub noted : b.notes ≡ noted_all runs at a.notes.last (jobs_in receipt.entry.answer) a.notes
+pub record NotesMade (runs : RunTable) (at : ℕ) (news : List Receipt) (a b : Watch) : Type 0 where
+  pub passes : b.passes ≡ a.passes
+  pub noted : b.notes ≡ noted_news runs at news a.notes
 
--- so at an instant
--- rule: run-jobs
-pub record GoesRound (runs : RunTable) (at : ℕ) (a b : Watch) : Type 0 where
+-- ---- an instant
+
+-- the Jobs that are due are ended, then the informer follows, and what it was told at that is noted: its receipts are
+-- those that it had before, and the news
+-- rules: run-clock, run-jobs
+pub record GoesRound (runs : RunTable) (at : ℕ) (f g : Follower) (a b : Watch) : Type 0 where
   pub between : Watch
   pub ends : EndsDue at a between
-  pub notes : NotesMade runs at between b
+  pub followed : Follows (at * 1000) f g
+  pub news : List Receipt
+  pub kept : g.pass ≡ record f.pass { receipts = f.pass.receipts ++ news }
+  pub notes : NotesMade runs at news between b
 
 -- and so at the first so many instants, one after the other
--- rule: run-jobs
-abbrev pub GoesRounds : Simulation → ℕ → Watch → Watch → Type 0
-GoesRounds c zero a b = b ≡ a
-GoesRounds c (suc n) a b = (m : Watch) × GoesRounds c n a m × GoesRound c.runs (instant c.span n) m b
+-- rules: run-clock, run-jobs
+abbrev pub GoesRounds : Simulation → ℕ → Follower → Follower → Watch → Watch → Type 0
+GoesRounds c zero f g a b = (g ≡ f) × (b ≡ a)
+GoesRounds c (suc n) f g a b = (h : Follower) × (m : Watch) × GoesRounds c n f h a m
+    × GoesRound c.runs (instant c.span n) h g m b

@@ -1,6 +1,8 @@
--- When calls are made in a run, by its clock. An instant begins with the informer's first Tick at it, and is over with a
--- runner's listing of the Jobs. Within an instant informer and workers call; between two of them runners and user do.
-use Rattle.std.specs.Prelude.{◌≡◌, ◌<◌, ◌↔◌, ◌==◌, ◌+◌, ◌-◌, ◌*◌, ◌&&◌, nat_le, not, ℕ, zero, suc, Bool, true, false, if◌then◌else◌, List, [], ◌∷◌, ◌++◌, Result, Ok, Err, map}
+-- When calls are made in a run, by its clock. An instant begins with the informer's first Tick at it. It is over with
+-- the first call that belongs between it and the next one, which is one of a runner or of the user, or the informer's
+-- Shut; or else where the next one begins. Within an instant informer and workers call; between two of them runners and
+-- user do.
+use Rattle.std.specs.Prelude.{◌≡◌, ◌<◌, ◌↔◌, ◌==◌, ◌+◌, ◌-◌, ◌*◌, ◌&&◌, ◌||◌, nat_le, ℕ, zero, suc, Bool, true, false, if◌then◌else◌, List, [], ◌∷◌, ◌++◌, Result, Ok, Err, map}
 use Rattle.cj_base.specs.declared.refusal.Refusal.{Refusal}
 use Rattle.cj_calls.specs.Rows.{Told}
 use Rattle.cj_calls.specs.declared.call.Call.{Call}
@@ -23,23 +25,25 @@ is_moment s n millis = nat_le (instant s n) s.end && (instant s n * 1000 == mill
 abbrev pub progress : ℕ → Bool → Progress
 progress begun on = record { begun = begun; on = on }
 
--- where no instant goes on, the next one begins with a Tick at it
+-- the next instant begins with a Tick at it, whether or not one goes on
 -- rule: run-clock
 abbrev pub begins : SpanView → Progress → Role → Call → Bool
-begins s p Informer (Of.Tick at) = not p.on && is_moment s p.begun at
+begins s p Informer (Of.Tick at) = is_moment s p.begun at
 begins s p role call = false
 
--- one that goes on is over with a runner's listing of the Jobs
+-- one that goes on is over with a call of a runner or of the user, or with the end of the queue
 -- rule: run-clock
-abbrev pub ends : Progress → Role → Call → Bool
-ends p Runner Of.ListJobs = p.on
-ends p role call = false
+abbrev pub ends : Role → Call → Bool
+ends Runner call = true
+ends User call = true
+ends Informer Of.Shut = true
+ends role call = false
 
 -- how far a run is with the call
 abbrev pub progress_after : SpanView → Progress → Role → Call → Progress
 progress_after s p role call =
     if begins s p role call then progress (p.begun + 1) true
-    else (if ends p role call then progress p.begun false else p)
+    else (if ends role call then progress p.begun false else p)
 
 -- how far it is with a history
 abbrev pub progress_of : SpanView → List Told → Progress
@@ -56,7 +60,7 @@ abbrev pub is_refusal : Result Reply Refusal → Bool
 is_refusal (Ok reply) = false
 is_refusal (Err refusal) = true
 
--- within the instant of that number: informer and workers, by its moment, and the listing
+-- within the instant of that number: informer and workers, by its moment
 -- rule: run-clock
 abbrev pub is_within : SpanView → ℕ → Role → Call → Bool
 is_within s n Informer (Of.Tick at) = is_moment s n at
@@ -65,12 +69,11 @@ is_within s n Informer call = true
 is_within s n Worker (Of.Claim plan) = is_moment s n (plan.at * 1000)
 is_within s n Worker (Of.Finish (Again at) reasons) = is_moment s n at
 is_within s n Worker call = true
-is_within s n Runner Of.ListJobs = true
 is_within s n Runner call = false
 is_within s n User call = false
 
--- before it, where none goes on: the ends of Jobs, by its moment, and the user; its first Tick, or the end of the queue,
--- and then a worker's Take that is refused
+-- before it: the ends of Jobs, by its moment, and the user; its first Tick, or the end of the queue, and then a
+-- worker's Take that is refused
 -- rule: run-clock
 abbrev pub is_before : SpanView → ℕ → Role → Call → Result Reply Refusal → Bool
 is_before s n Informer (Of.Tick at) answer = is_moment s n at
@@ -82,10 +85,10 @@ is_before s n Runner (Of.EndJob key uid outcome at) answer = is_moment s n (at *
 is_before s n Runner call answer = false
 is_before s n User call answer = true
 
--- a call is at its time
+-- a call is at its time: within the instant that goes on, or before the next one
 -- rule: run-clock
 abbrev pub is_timely : SpanView → Progress → Role → Call → Result Reply Refusal → Bool
-is_timely s p role call answer = if p.on then is_within s (p.begun - 1) role call else is_before s p.begun role call answer
+is_timely s p role call answer = (p.on && is_within s (p.begun - 1) role call) || is_before s p.begun role call answer
 
 -- so is each entry of a history
 -- rule: run-clock

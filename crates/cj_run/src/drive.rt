@@ -1,21 +1,20 @@
 // The instants of a run, one after the other.
-ghost use Rattle.std.specs.Prelude.{◌≡◌, ◌*◌, IfOk, OnOk};
+ghost use Rattle.std.specs.Prelude.{◌≡◌, OnOk, drop};
 ghost use Rattle.cj_script.specs.simulation.Spans.{instant, IsInstant};
 ghost use Rattle.cj_run.specs.Simulations.{edits_at};
 ghost use Rattle.cj_run.specs.Deeds.{Does, HasDriven};
-ghost use Rattle.cj_run.specs.Follows.{Follows};
 ghost use Rattle.cj_run.specs.Lineups.{watch_of};
-ghost use Rattle.cj_run.specs.Rounds.{EndsDue, GoesRound, Lists, NotesMade, jobs_in};
+ghost use Rattle.cj_run.specs.Rounds.{EndsDue, GoesRound, NotesMade};
 
 use crate::clock::RunClock;
 use crate::ends::end_jobs;
 use crate::made::Made;
+use crate::meter::Meter;
 use crate::rest::{Follower, Halt};
 use crate::user::{create_all, edit_all};
-use cj_calls::{Call, Reply};
 use cj_hub::{Hub, Pass, Receipt};
 use cj_script::Simulation;
-use cj_types::{Job, Millis, Refusal, Seconds, Shared};
+use cj_types::{Millis, Refusal, Seconds};
 use std::alloc::Global;
 use std::mem;
 use std::sync::Wait;
@@ -30,45 +29,35 @@ pub(crate) struct Participants {
     pub made: Made,
 }
 
-// The Jobs of a listing.
-fn jobs_in(receipt: &Receipt) -> &[Shared<Job>]
-    ensures { result.now ≡ jobs_in receipt.now.entry.answer }
+// What a pass got behind its first so many receipts.
+fn news(pass: &Pass, known: usize) -> &[Receipt]
+    ensures { result.now ≡ drop known pass.now.receipts }
 {
-    match receipt.answer() {
-        Ok(Reply::Jobs(jobs, _)) => jobs.as_slice(),
-        _ => &[],
+    let receipts = pass.receipts();
+    if known > receipts.len() {
+        return &[];
     }
+    &receipts[known..]
 }
 
-// The first of the runners lists the Jobs.
-fn list<R: Wait>(rt: &R, hub: &Hub, runners: &mut Vec<Pass>) -> Result<Receipt, Refusal>
-    ensures { IfOk result (λ r. Lists runners.old.items r runners.new.items) }
-{
-    if runners.is_empty() {
-        return Err(Refusal::OutOfMemory);
-    }
-    hub.call(rt, &mut runners[0], Call::ListJobs)
-}
-
-// Notes the Jobs that were made at the moment.
-#[tactic(auto, using(crate::proofs::Went::notes_made))]
-fn note<R: Wait>(
-    rt: &R,
+// Notes the Jobs that were made at the moment, by what the informer was told behind its first so many receipts.
+fn note(
     alloc: Global,
-    hub: &Hub,
     simulation: &Simulation,
     participants: &mut Participants,
+    known: usize,
     now: Seconds,
 ) -> Result<(), Refusal>
     ensures user { participants.new.user ≡ participants.old.user }
     ensures follower { participants.new.follower ≡ participants.old.follower }
-    ensures made { OnOk result (NotesMade simulation.now.runs now (watch_of participants.old)
+    ensures made { OnOk result (NotesMade simulation.now.runs now
+        (drop known participants.old.follower.pass.receipts) (watch_of participants.old)
         (watch_of participants.new)) }
 {
-    let receipt = list(rt, hub, &mut participants.runners)?;
+    let told = news(&participants.follower.pass, known);
     participants
         .made
-        .note_all(alloc, &simulation.runs, now, jobs_in(&receipt))
+        .note_news(alloc, &simulation.runs, now, told)
 }
 
 // Ends the Jobs that are due at the moment.
@@ -91,8 +80,8 @@ fn end<R: Threads + Wait + Sync>(
     result
 }
 
-// All of an instant: the ends that are due, the edits, and then the work of informer and workers until the
-// hub is at rest.
+// All of an instant: the ends that are due, the edits, and then the work of informer and workers until the hub is at
+// rest. By then the informer was told of each Job that was made.
 #[tactic(auto, using(crate::proofs::Went::goes_round))]
 fn live<R: Threads + Wait + Sync>(
     rt: &R,
@@ -105,10 +94,8 @@ fn live<R: Threads + Wait + Sync>(
 ) -> Result<(), Halt>
     ensures edits { OnOk result (Does simulation.now.zones
         (edits_at simulation.now.edits.items now) participants.old.user participants.new.user) }
-    ensures round { OnOk result (GoesRound simulation.now.runs now (watch_of participants.old)
-        (watch_of participants.new)) }
-    ensures followed { OnOk result (Follows (now * 1000) participants.old.follower
-        participants.new.follower) }
+    ensures round { OnOk result (GoesRound simulation.now.runs now participants.old.follower
+        participants.new.follower (watch_of participants.old) (watch_of participants.new)) }
 {
     end(rt, alloc, hub, participants, now)?;
     edit_all(
@@ -120,8 +107,9 @@ fn live<R: Threads + Wait + Sync>(
         simulation.edits.as_slice(),
         now,
     )?;
+    let known = participants.follower.pass.receipts().len();
     let rest = participants.follower.settle(rt, hub, Millis::from(now))?;
-    note(rt, alloc, hub, simulation, participants, now)?;
+    note(alloc, simulation, participants, known, now)?;
     clock.advance(rest);
     Ok(())
 }
@@ -141,15 +129,15 @@ fn live_at<R: Threads + Wait + Sync>(
         (edits_at simulation.now.edits.items (instant simulation.now.span n)) participants.old.user
         participants.new.user) }
     ensures round { OnOk result (GoesRound simulation.now.runs (instant simulation.now.span n)
-        (watch_of participants.old) (watch_of participants.new)) }
-    ensures followed { OnOk result (Follows (instant simulation.now.span n * 1000)
-        participants.old.follower participants.new.follower) }
+        participants.old.follower participants.new.follower (watch_of participants.old)
+        (watch_of participants.new)) }
 {
     let now = simulation.span.instant(n).unwrap();
     live(rt, alloc, hub, clock, simulation, participants, now)
 }
 
 /// The CronJobs are created, and then each instant is lived through; only where the hub is at rest does the clock move.
+/// The meter shows how far that is.
 pub(crate) fn drive<R: Threads + Wait + Sync>(
     rt: &R,
     alloc: Global,
@@ -157,10 +145,12 @@ pub(crate) fn drive<R: Threads + Wait + Sync>(
     clock: &RunClock,
     simulation: &Simulation,
     participants: &mut Participants,
+    meter: &Meter,
 ) -> Result<(), Halt>
     ensures { OnOk result (HasDriven simulation.now participants.old participants.new) }
 {
     let start = simulation.span.start();
+    meter.begin(simulation.span.count());
     create_all(
         rt,
         alloc,
@@ -172,6 +162,7 @@ pub(crate) fn drive<R: Threads + Wait + Sync>(
     )?;
     for n in 0..simulation.span.count() {
         live_at(rt, alloc, hub, clock, simulation, participants, n)?;
+        meter.advance();
     }
     Ok(())
 }

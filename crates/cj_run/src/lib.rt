@@ -14,6 +14,7 @@ mod drive;
 mod ends;
 mod look;
 mod made;
+mod meter;
 mod rest;
 mod run;
 mod threads;
@@ -21,5 +22,6 @@ mod turns;
 mod user;
 mod work;
 
+pub use meter::Meter;
 pub use run::{Ran, run_simulation};
 pub use turns::Progress;

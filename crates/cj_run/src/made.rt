@@ -1,15 +1,18 @@
 // Which Jobs were made, and how long each of them runs.
-ghost use Rattle.std.specs.Prelude.{◌≡◌, OnOk, IfOk, IfErr, option_copied};
+ghost use Rattle.std.specs.Prelude.{◌≡◌, [], ◌∷◌, OnOk, IfOk, IfErr, option_copied};
 ghost use Rattle.std.specs.FinMap as map;
+ghost use Rattle.std.specs.List.{filter_map};
 ghost use Rattle.cj_base.specs.declared.refusal.Refusal.TheVariants.{OutOfMemory};
-ghost use Rattle.cj_run.specs.Made.{counted, ending_of, made_before, no_notes, noted, noted_all, notes, seen, with_run};
+ghost use Rattle.cj_run.specs.Made.{counted, ending_of, job_added, made_before, no_notes, noted, noted_all, noted_news, noted_told, notes, seen, with_run};
 
 use cj_base::{Refusal, Text, TryCopy};
+use cj_calls::{Answer, Reply};
+use cj_hub::Receipt;
 use cj_informer::owner_key;
 use cj_runner::{Ending, Running};
 use cj_script::{Run, RunEnd, Runs};
 use cj_table::Table;
-use cj_types::{Job, Key, Seconds, Shared};
+use cj_types::{Event, Job, Key, Object, Seconds, Shared};
 use std::alloc::Global;
 
 /// How many Jobs the CronJob with this uid made.
@@ -124,7 +127,7 @@ impl Made {
         self.start(alloc, now, job, runs.of(&place, before))
     }
 
-    // Notes a Job of a listing, unless it was noted before.
+    // Notes a Job that an answer tells of, unless it was noted before that answer.
     fn note_new(
         &mut self,
         alloc: Global,
@@ -147,8 +150,8 @@ impl Made {
         }
     }
 
-    /// Notes the Jobs of a listing that weren't noted before, which were made at the moment.
-    pub(crate) fn note_all(
+    // Notes those of a listing.
+    fn note_all(
         &mut self,
         alloc: Global,
         runs: &Runs,
@@ -163,6 +166,85 @@ impl Made {
         let noted_before = self.last;
         for job in jobs {
             self.note_new(alloc, runs, now, noted_before, job)?;
+        }
+        Ok(())
+    }
+
+    // Notes the Job whose creation an event tells, if it tells one.
+    fn note_event(
+        &mut self,
+        alloc: Global,
+        runs: &Runs,
+        now: Seconds,
+        noted_before: u64,
+        event: &Event,
+    ) -> Result<(), Refusal>
+        ensures ok { OnOk result (notes self.new.last self.new.counts self.new.running.items
+            ≡ noted_all runs.now now noted_before (filter_map job_added (event.now ∷ []))
+            (notes self.old.last self.old.counts self.old.running.items)) }
+        ensures err { IfErr result (λ e. e ≡ OutOfMemory) }
+    {
+        match event {
+            Event::Added(Object::Job(job)) => self.note_new(alloc, runs, now, noted_before, job),
+            _ => Ok(()),
+        }
+    }
+
+    // Notes those whose creations events tell.
+    fn note_events(
+        &mut self,
+        alloc: Global,
+        runs: &Runs,
+        now: Seconds,
+        events: &[Event],
+    ) -> Result<(), Refusal>
+        ensures ok { OnOk result (notes self.new.last self.new.counts self.new.running.items
+            ≡ noted_all runs.now now self.old.last (filter_map job_added events.now)
+            (notes self.old.last self.old.counts self.old.running.items)) }
+        ensures err { IfErr result (λ e. e ≡ OutOfMemory) }
+    {
+        let noted_before = self.last;
+        for event in events {
+            self.note_event(alloc, runs, now, noted_before, event)?;
+        }
+        Ok(())
+    }
+
+    // Notes those that an answer to the informer tells of.
+    fn note_told(
+        &mut self,
+        alloc: Global,
+        runs: &Runs,
+        now: Seconds,
+        answer: &Answer,
+    ) -> Result<(), Refusal>
+        ensures ok { OnOk result (notes self.new.last self.new.counts self.new.running.items
+            ≡ noted_told runs.now now answer.now
+            (notes self.old.last self.old.counts self.old.running.items)) }
+        ensures err { IfErr result (λ e. e ≡ OutOfMemory) }
+    {
+        match answer {
+            Ok(Reply::Events(events)) => self.note_events(alloc, runs, now, events.as_slice()),
+            Ok(Reply::Jobs(jobs, _)) => self.note_all(alloc, runs, now, jobs.as_slice()),
+            _ => Ok(()),
+        }
+    }
+
+    /// Notes the Jobs that the informer's receipts tell of, which were made at the moment; none of them twice.
+    pub(crate) fn note_news(
+        &mut self,
+        alloc: Global,
+        runs: &Runs,
+        now: Seconds,
+        receipts: &[Receipt],
+    ) -> Result<(), Refusal>
+        ensures ok { OnOk result (notes self.new.last self.new.counts self.new.running.items
+            ≡ noted_news runs.now now receipts.now
+            (notes self.old.last self.old.counts self.old.running.items)) }
+        ensures err { IfErr result (λ e. e ≡ OutOfMemory) }
+    {
+        for receipt in receipts {
+            self.note_told(alloc, runs, now, receipt.answer())?;
         }
         Ok(())
     }

@@ -1,5 +1,5 @@
 // Waiting until the work of an instant is done.
-ghost use Rattle.std.specs.Prelude.{OnOk};
+ghost use Rattle.std.specs.Prelude.{◌≡◌, OnOk};
 ghost use Rattle.cj_run.specs.Follows.{Follows, StepsOn, StepsOrStays};
 
 use cj_hub::{AtRest, Hub, HubDesk, HubState, Pass};
@@ -18,6 +18,10 @@ pub(crate) enum Halt {
 }
 
 impl From<Refusal> for Halt {
+    ghost use Rattle.cj_run.specs.declared.rest.Halt.TheVariants as Why;
+
+    ghost from_gives = { λ refusal halt. halt ≡ Why.Refused refusal };
+
     fn from(refusal: Refusal) -> Halt {
         Halt::Refused(refusal)
     }

@@ -3,17 +3,18 @@ ghost use Rattle.std.specs.Prelude.{◌≡◌, [], ◌∷◌, ◌++◌, All, Err
 ghost use Rattle.cj_hub.specs.Receipts.{IsExact, caller_of};
 ghost use Rattle.cj_world_laws.specs.Promise.{KeepsPromise};
 ghost use Rattle.cj_report.specs.Reports.{report_of};
-ghost use Rattle.cj_io.specs.declared.failure.Failure.TheVariants.{Memory};
+ghost use Rattle.cj_base.specs.declared.refusal.Refusal.TheVariants.{OutOfMemory};
 ghost use Rattle.cj_run.specs.Crews.{AreNumbered};
 ghost use Rattle.cj_run.specs.Deeds.{AreFresh, HaveLived, IsFresh, IsUnused};
 ghost use Rattle.cj_run.specs.Looks.{IsKept};
-ghost use Rattle.cj_run.specs.Runs.{HasRun, IsReport, IsRun, pass_at};
+ghost use Rattle.cj_run.specs.Runs.{HasRun, IsReport, IsRun, IsRunFailure, pass_at};
 
 use crate::clock::RunClock;
 use crate::crew::{Crew, RUNNERS, are_numbered, callers_of, is_crew, passes_of};
 use crate::drive::Participants;
 use crate::look::is_kept;
 use crate::made::Made;
+use crate::meter::Meter;
 use crate::rest::{Follower, Halt};
 use crate::threads::{ThreadResults, WorkerEnds, run_threads};
 use cj_calls::{Caller, Role};
@@ -24,7 +25,7 @@ use cj_report::report_text;
 use cj_script::Simulation;
 use cj_types::{Heap, Limits, Max, Refusal};
 use cj_worker::{SyncEnd, WorkerEnd};
-use std::alloc::Global;
+use std::alloc::{AllocError, Global};
 use std::sync::Wait;
 use std::thread::Threads;
 
@@ -93,38 +94,38 @@ fn found_full(end: &WorkerEnd) -> bool {
 }
 
 // Why workers gave up.
-fn failure_of(ends: &WorkerEnds) -> Failure
-    ensures lost { IfErr ends.now (λ _. result ≡ Memory) }
+fn refusal_of(ends: &WorkerEnds) -> Refusal
+    ensures lost { IfErr ends.now (λ _. result ≡ OutOfMemory) }
 {
     match ends {
         Ok(ends) => {
             if ends.as_slice().iter().any(found_full) {
-                Failure::HistoryFull
+                Refusal::HistoryFull
             } else {
-                Failure::Memory
+                Refusal::OutOfMemory
             }
         }
-        Err(_) => Failure::Memory,
+        Err(_) => Refusal::OutOfMemory,
     }
 }
 
 // Why the instants were not all lived through, or were in vain since a worker gave up.
-fn check_results<R: Wait>(rt: &R, hub: &Hub, results: &ThreadResults) -> Result<(), Failure>
+fn check_results<R: Wait>(rt: &R, hub: &Hub, results: &ThreadResults) -> Result<(), Refusal>
     ensures { OnOk result (IsOk results.now.instants) }
 {
     match &results.instants {
-        Err(Halt::Refused(Refusal::HistoryFull)) => Err(Failure::HistoryFull),
-        Err(Halt::Refused(_)) => Err(Failure::Memory),
-        Err(Halt::GivenUp) => Err(failure_of(&results.workers)),
+        Err(Halt::Refused(Refusal::HistoryFull)) => Err(Refusal::HistoryFull),
+        Err(Halt::Refused(_)) => Err(Refusal::OutOfMemory),
+        Err(Halt::GivenUp) => Err(refusal_of(&results.workers)),
         Ok(()) => match hub.state(rt, results.participants.follower.informer.seen()) {
-            HubState::Broken => Err(failure_of(&results.workers)),
+            HubState::Broken => Err(refusal_of(&results.workers)),
             _ => Ok(()),
         },
     }
 }
 
 // The passes that workers handed back.
-fn passes_at(alloc: Global, ends: Vec<WorkerEnd>) -> Result<Vec<Pass>, Failure>
+fn passes_at(alloc: Global, ends: Vec<WorkerEnd>) -> Result<Vec<Pass>, AllocError>
     ensures { IfOk result (λ ps. ps.items ≡ map pass_at ends.items) }
 {
     let mut passes = Vec::new(alloc);
@@ -135,15 +136,15 @@ fn passes_at(alloc: Global, ends: Vec<WorkerEnd>) -> Result<Vec<Pass>, Failure>
 }
 
 // Who called in a run. Where nothing came of the workers, memory was wanting.
-fn crew_of(alloc: Global, participants: Participants, ends: WorkerEnds) -> Result<Crew, Failure>
+fn crew_of(alloc: Global, participants: Participants, ends: WorkerEnds) -> Result<Crew, Refusal>
     ensures workers { IfOk ends (λ es. IfOk result (λ c. c.workers.items ≡ map pass_at es.items)) }
-    ensures lost { IfErr ends (λ _. result ≡ Err Memory) }
+    ensures lost { IfErr ends (λ _. result ≡ Err OutOfMemory) }
     ensures runners { IfOk result (λ c. c.runners.items ≡ participants.runners.items) }
     ensures informer { IfOk result (λ c. c.informer ≡ participants.follower.pass) }
     ensures user { IfOk result (λ c. c.user ≡ participants.user) }
 {
     let Ok(ends) = ends else {
-        return Err(Failure::Memory);
+        return Err(Refusal::OutOfMemory);
     };
     let Participants {
         user,
@@ -171,12 +172,12 @@ fn closed_report(alloc: Global, closed: &Closed) -> Result<String, Refusal>
 }
 
 // Closes the hub with these passes.
-fn close(alloc: Global, hub: Heap<Hub>, passes: Vec<Pass>) -> Result<Heap<Closed>, Failure>
+fn close(alloc: Global, hub: Heap<Hub>, passes: Vec<Pass>) -> Result<Heap<Closed>, Refusal>
     ensures { IfOk result (λ c. All (IsExact c.history) passes.items) }
 {
     match hub.into_inner().close(passes) {
         Ok(closed) => Ok(Heap::new(alloc, closed)?),
-        Err(_) => Err(Failure::Memory),
+        Err(_) => Err(Refusal::OutOfMemory),
     }
 }
 
@@ -195,18 +196,18 @@ fn look_over(
     callers: &[Caller],
     user: u64,
     closed: &Closed,
-) -> Result<(), Failure>
+) -> Result<(), Refusal>
     ensures { OnOk result (IsKept simulation.now callers.now user closed.now.history) }
 {
     if is_kept(alloc, simulation, callers, user, closed.history())? {
         Ok(())
     } else {
-        Err(Failure::Memory)
+        Err(Refusal::OutOfMemory)
     }
 }
 
 // The callers of these passes, which are numbered by their places.
-fn numbered(alloc: Global, passes: &[Pass]) -> Result<Vec<Caller>, Failure>
+fn numbered(alloc: Global, passes: &[Pass]) -> Result<Vec<Caller>, Refusal>
     ensures callers { IfOk result (λ cs. cs.items ≡ map caller_of passes.now) }
     ensures numbered { IfOk result (λ cs. AreNumbered 0 cs.items) }
 {
@@ -214,7 +215,7 @@ fn numbered(alloc: Global, passes: &[Pass]) -> Result<Vec<Caller>, Failure>
     if are_numbered(callers.as_slice()) {
         Ok(callers)
     } else {
-        Err(Failure::Memory)
+        Err(Refusal::OutOfMemory)
     }
 }
 
@@ -225,7 +226,7 @@ fn report(
     hub: Heap<Hub>,
     simulation: &Simulation,
     crew: Crew,
-) -> Result<Ran, Failure>
+) -> Result<Ran, Refusal>
     ensures { IfOk result (λ r. IsReport simulation.now crew r.closed (string_bytes r.report)) }
 {
     let user = crew.user.caller().number;
@@ -246,13 +247,23 @@ fn run_on_hub<R: Threads + Wait + Sync>(
     hub: &Hub,
     simulation: &Simulation,
     workers: u64,
+    meter: &Meter,
 ) -> Result<Heap<ThreadResults>, Refusal>
     ensures { IfOk result (λ r. OnOk r.instants (HaveLived simulation.now r.participants)) }
 {
     let passes = enroll(rt, alloc, hub, Role::Worker, workers)?;
     let participants = new_participants(rt, alloc, hub)?;
     let clock = RunClock::new(simulation.span);
-    let results = run_threads(rt, alloc, hub, &clock, simulation, participants, passes)?;
+    let results = run_threads(
+        rt,
+        alloc,
+        hub,
+        &clock,
+        simulation,
+        participants,
+        passes,
+        meter,
+    )?;
     Heap::new(alloc, results)
 }
 
@@ -263,10 +274,11 @@ fn live_through<R: Threads + Wait + Sync>(
     hub: &Hub,
     simulation: &Simulation,
     workers: u64,
-) -> Result<Heap<ThreadResults>, Failure>
+    meter: &Meter,
+) -> Result<Heap<ThreadResults>, Refusal>
     ensures { IfOk result (λ r. HaveLived simulation.now r.participants) }
 {
-    let results = run_on_hub(rt, alloc, hub, simulation, workers)?;
+    let results = run_on_hub(rt, alloc, hub, simulation, workers, meter)?;
     check_results(rt, hub, results.get())?;
     Ok(results)
 }
@@ -279,10 +291,11 @@ fn crew_left<R: Threads + Wait + Sync>(
     hub: &Hub,
     simulation: &Simulation,
     workers: u64,
-) -> Result<Crew, Failure>
+    meter: &Meter,
+) -> Result<Crew, Refusal>
     ensures { IfOk result (λ c. HasRun simulation.now workers c) }
 {
-    let results = live_through(rt, alloc, hub, simulation, workers)?;
+    let results = live_through(rt, alloc, hub, simulation, workers, meter)?;
     let ThreadResults {
         participants,
         workers: ends,
@@ -292,7 +305,34 @@ fn crew_left<R: Threads + Wait + Sync>(
     if is_crew(&crew, workers) {
         Ok(crew)
     } else {
-        Err(Failure::Memory)
+        Err(Refusal::OutOfMemory)
+    }
+}
+
+// The report of a run, with its history.
+#[tactic(auto, using(crate::proofs::Reported::run_of))]
+fn run_whole<R: Threads + Wait + Sync>(
+    rt: &R,
+    alloc: Global,
+    simulation: &Simulation,
+    workers: u64,
+    meter: &Meter,
+) -> Result<Ran, Refusal>
+    ensures { IfOk result (λ r. IsRun simulation.now workers r.closed (string_bytes r.report)) }
+{
+    let limits = Limits::new(16_777_216, 1_000).unwrap();
+    let hub = Heap::new(alloc, Hub::new(alloc, limits)?)?;
+    let crew = crew_left(rt, alloc, hub.get(), simulation, workers, meter)?;
+    report(alloc, hub, simulation, crew)
+}
+
+// What a run without a report is told as: where it isn't the full history that was met, memory was wanting.
+fn failure_by(refusal: Refusal) -> Failure
+    ensures { IsRunFailure result }
+{
+    match refusal {
+        Refusal::HistoryFull => Failure::HistoryFull,
+        _ => Failure::Memory,
     }
 }
 
@@ -301,19 +341,20 @@ fn crew_left<R: Threads + Wait + Sync>(
 ///
 /// At each instant the Jobs end whose time has come, then the user's edits are made, and then the informer
 /// and the workers go on until the hub is at rest; only then does the clock move. Each thread has ended when
-/// this returns. There is no report where a call found the history full, or where memory was wanting or a
-/// thread couldn't be started.
-#[tactic(auto, using(crate::proofs::Reported::run_of))]
+/// this returns. The meter shows meanwhile how far it is. There is no report where a call found the history full,
+/// or where memory was wanting or a thread couldn't be started.
 pub fn run_simulation<R: Threads + Wait + Sync>(
     rt: &R,
     alloc: Global,
     simulation: &Simulation,
     workers: u64,
+    meter: &Meter,
 ) -> Result<Ran, Failure>
-    ensures { IfOk result (λ r. IsRun simulation.now workers r.closed (string_bytes r.report)) }
+    ensures ok { IfOk result (λ r. IsRun simulation.now workers r.closed (string_bytes r.report)) }
+    ensures err { IfErr result IsRunFailure }
 {
-    let limits = Limits::new(16_777_216, 1_000).unwrap();
-    let hub = Heap::new(alloc, Hub::new(alloc, limits)?)?;
-    let crew = crew_left(rt, alloc, hub.get(), simulation, workers)?;
-    report(alloc, hub, simulation, crew)
+    match run_whole(rt, alloc, simulation, workers, meter) {
+        Ok(ran) => Ok(ran),
+        Err(refusal) => Err(failure_by(refusal)),
+    }
 }

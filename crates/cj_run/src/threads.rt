@@ -6,6 +6,7 @@ ghost use Rattle.cj_run.specs.Deeds.{Called, HasLived};
 
 use crate::clock::RunClock;
 use crate::drive::{Participants, drive};
+use crate::meter::Meter;
 use crate::rest::{Follower, Halt};
 use cj_calls::Call;
 use cj_hub::{Hub, Pass};
@@ -58,10 +59,11 @@ fn run_instants<R: Threads + Wait + Sync>(
     clock: &RunClock,
     simulation: &Simulation,
     mut participants: Participants,
+    meter: &Meter,
 ) -> (Participants, Result<(), Halt>)
     ensures { OnOk result.1 (HasLived simulation.now participants result.0) }
 {
-    let driven = drive(rt, alloc, hub, clock, simulation, &mut participants);
+    let driven = drive(rt, alloc, hub, clock, simulation, &mut participants, meter);
     let shut = shut(rt, hub, &mut participants.follower);
     match (driven, shut) {
         (Ok(()), Ok(())) => (participants, Ok(())),
@@ -110,6 +112,7 @@ pub(crate) fn run_threads<R: Threads + Wait + Sync>(
     simulation: &Simulation,
     participants: Participants,
     workers: Vec<Pass>,
+    meter: &Meter,
 ) -> Result<ThreadResults, Refusal>
     ensures { IfOk result (λ r. OnOk r.instants (HasLived simulation.now participants
         r.participants)) }
@@ -134,6 +137,7 @@ pub(crate) fn run_threads<R: Threads + Wait + Sync>(
                 clock,
                 simulation,
                 participants,
+                meter,
             );
             let workers = receive(rt, &from);
             child.join(rt);

@@ -57,13 +57,6 @@ fn worker_is_within(span: &Span, n: u64, call: &Call) -> bool
     }
 }
 
-// Whether a runner's is.
-fn runner_is_within(span: &Span, n: u64, call: &Call) -> bool
-    ensures { result ≡ is_within span.now n Runner call.now }
-{
-    matches!(call, Call::ListJobs)
-}
-
 // Whether a call is within the instant of that number.
 fn is_within(span: &Span, n: u64, role: Role, call: &Call) -> bool
     ensures { result ≡ is_within span.now n role call.now }
@@ -71,8 +64,7 @@ fn is_within(span: &Span, n: u64, role: Role, call: &Call) -> bool
     match role {
         Role::Informer => informer_is_within(span, n, call),
         Role::Worker => worker_is_within(span, n, call),
-        Role::Runner => runner_is_within(span, n, call),
-        Role::User => false,
+        Role::Runner | Role::User => false,
     }
 }
 
@@ -107,7 +99,7 @@ fn runner_is_before(span: &Span, n: u64, call: &Call, answer: &Answer) -> bool
     }
 }
 
-// Whether a call is before the instant of that number, where none goes on.
+// Whether a call is before the instant of that number.
 fn is_before(span: &Span, n: u64, role: Role, call: &Call, answer: &Answer) -> bool
     ensures { result ≡ is_before span.now n role call.now answer.now }
 {
@@ -119,12 +111,12 @@ fn is_before(span: &Span, n: u64, role: Role, call: &Call, answer: &Answer) -> b
     }
 }
 
-// Whether a Tick is at an instant that begins with it.
+// Whether a Tick is at the next instant, which begins with it.
 fn tick_begins(span: &Span, progress: Progress, call: &Call) -> bool
     ensures { result ≡ begins span.now progress Informer call.now }
 {
     match call {
-        Call::Tick(at) => !progress.on && is_moment(span, progress.begun, *at),
+        Call::Tick(at) => is_moment(span, progress.begun, *at),
         _ => false,
     }
 }
@@ -138,22 +130,14 @@ fn begins(span: &Span, progress: Progress, role: Role, call: &Call) -> bool
     }
 }
 
-// Whether a listing is made where an instant goes on, which is over with it.
-fn listing_ends(progress: Progress, call: &Call) -> bool
-    ensures { result ≡ ends progress Runner call.now }
-{
-    match call {
-        Call::ListJobs => progress.on,
-        _ => false,
-    }
-}
-
-fn ends(progress: Progress, role: Role, call: &Call) -> bool
-    ensures { result ≡ ends progress role call.now }
+// Whether an instant that goes on is over with the call.
+fn ends(role: Role, call: &Call) -> bool
+    ensures { result ≡ ends role call.now }
 {
     match role {
-        Role::Runner => listing_ends(progress, call),
-        _ => false,
+        Role::Runner | Role::User => true,
+        Role::Informer => matches!(call, Call::Shut),
+        Role::Worker => false,
     }
 }
 
@@ -172,11 +156,8 @@ impl Progress {
     pub(crate) fn is_timely(self, span: &Span, role: Role, call: &Call, answer: &Answer) -> bool
         ensures { result ≡ is_timely span.now self role call.now answer.now }
     {
-        if self.on {
-            is_within(span, self.begun.saturating_sub(1), role, call)
-        } else {
-            is_before(span, self.begun, role, call, answer)
-        }
+        let within = self.on && is_within(span, self.begun.saturating_sub(1), role, call);
+        within || is_before(span, self.begun, role, call, answer)
     }
 
     /// How far the run is with a call more.
@@ -191,7 +172,7 @@ impl Progress {
                 on: true,
             };
         }
-        if ends(self, role, call) {
+        if ends(role, call) {
             return Progress {
                 begun: self.begun,
                 on: false,

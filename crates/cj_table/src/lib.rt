@@ -14,3 +14,4 @@ mod tagged;
 pub use jobs::Jobs;
 pub use laws::{apart_laws, table_laws};
 pub use table::Table;
+pub use tagged::Tagged;

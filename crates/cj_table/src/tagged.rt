@@ -20,10 +20,10 @@ fn hash_of(key: &Key) -> u64
     hasher.finish()
 }
 
-// A key with its hash, by which it is compared first. So most comparisons read no text, and those of keys that were
-// chosen to have one hash still find their order. Contracts see the key.
+/// A key with its hash, by which it is compared first. So most comparisons read no text, and those of keys that were
+/// chosen to have one hash still find their order. Contracts see the key.
 #[derive(Drop)]
-pub(crate) struct Tagged {
+pub struct Tagged {
     hash: u64,
     key: Key,
 }
@@ -43,14 +43,22 @@ impl Model for Tagged {
 }
 
 impl Tagged {
-    // The key with its hash.
-    pub(crate) fn new(key: Key) -> Tagged
+    /// The key with its hash.
+    pub fn new(key: Key) -> Tagged
         ensures { result ≡ key }
     {
         Tagged {
             hash: hash_of(&key),
             key,
         }
+    }
+
+    /// The key without its hash.
+    pub fn into_key(self) -> Key
+        ensures { result ≡ self }
+    {
+        let Tagged { hash: _, key } = self;
+        key
     }
 
     // The key.

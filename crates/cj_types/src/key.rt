@@ -11,7 +11,7 @@ ghost use Rattle.cj_base.specs.declared.refusal.Refusal.TheVariants.{OutOfMemory
 
 use crate::text_pair::TextPair;
 use crate::{ObjectName, name_cause, namespace_cause};
-use cj_base::{Field, FieldFault, FieldFaults, Refusal, Same, TryCopy};
+use cj_base::{Field, FieldFault, FieldFaults, Refusal, Same, Shared, TryCopy};
 use std::alloc::Global;
 use std::cmp::Ordering;
 use std::hash::{Hash, Hasher};
@@ -19,11 +19,11 @@ use std::marker::Model;
 
 /// Namespace and name of an object, both well formed: a DNS label, and a DNS subdomain of at most 63 characters.
 ///
-/// Keys are ordered by the bytes of the namespace, then of the name. Contracts see the two texts.
+/// Keys are ordered by the bytes of the namespace, then of the name. Copies share the texts, which contracts see.
 #[derive(Debug)]
 pub struct Key {
     // The namespace, then the name.
-    texts: TextPair,
+    texts: Shared<TextPair>,
 }
 
 // A function of its own, so that whoever gives one up makes one call and not one for each part.
@@ -91,7 +91,7 @@ impl Key {
         ensures ok { IfOk result (λ k. k ≡ place namespace.now name.now) }
         ensures err { IfErr result (λ e. e ≡ OutOfMemory) }
     {
-        let texts = TextPair::new(alloc, namespace, name)?;
+        let texts = Shared::new(alloc, TextPair::new(alloc, namespace, name)?)?;
         Ok(Key { texts })
     }
 
@@ -121,8 +121,8 @@ impl Key {
 }
 
 impl TryCopy for Key {
-    fn try_copy(&self, alloc: Global) -> Result<Key, Refusal> {
-        let texts = self.texts.try_copy(alloc)?;
+    fn try_copy(&self, _alloc: Global) -> Result<Key, Refusal> {
+        let texts = self.texts.share()?;
         Ok(Key { texts })
     }
 }

@@ -3,7 +3,6 @@ mod changes;
 mod coming;
 mod minutes;
 mod standings;
-mod values;
 
 pub use changes::zone_changes_value;
 pub use coming::{coming_changes, coming_times, coming_value};

@@ -5,22 +5,25 @@
 
 mod clock;
 mod folder;
+mod progress;
 mod several;
 mod source;
 mod words;
 
 use cj_program::{
-    Failure, MOST_BYTES, MOST_LIST_BYTES, MOST_LIST_READS, Request, parse_words, read_input, serve,
-    tell_failure, tell_fault,
+    Failure, MOST_BYTES, MOST_LIST_BYTES, MOST_LIST_READS, Meter, Request, parse_words, read_input,
+    serve, tell_failure, tell_fault,
 };
 use clock::moment_by_clock;
 use folder::{folder_set, input_files, named_file};
+use progress::{is_shown, serve_shown};
 use several::{serve_files, serve_upcoming_files};
 use source::Input;
 use std::io::Write;
 use std::process::ExitCode;
 use std::sync::Wait;
 use std::thread::Threads;
+use std::time::Clock;
 use words::{asked, joined};
 
 // The exit status of a failed input or output.
@@ -69,6 +72,7 @@ fn serve_with_folder<T: Threads + Wait + Sync>(
     request: &Request<'_>,
     folder: &str,
     input: &mut Input,
+    meter: &Meter,
 ) -> Result<u8, Failure> {
     let alloc = rt.alloc();
     let (out, err) = (&mut rt.stdout(), &mut rt.stderr());
@@ -84,12 +88,13 @@ fn serve_with_folder<T: Threads + Wait + Sync>(
                 &mut rest,
                 out,
                 err,
+                meter,
             ))
         }
         Err(Failure::Memory) => Err(Failure::Memory),
         Err(_) => {
             let mut rest = Input::unreadable();
-            Ok(serve(threads, alloc, request, &[], &mut rest, out, err))
+            Ok(serve(threads, alloc, request, &[], &mut rest, out, err, meter))
         }
     }
 }
@@ -120,6 +125,7 @@ fn serve_request<T: Threads + Wait + Sync>(
     rt: &HostRuntime,
     request: &Request<'_>,
     input: &mut Input,
+    meter: &Meter,
 ) -> Result<u8, Failure> {
     let alloc = rt.alloc();
     let set = folder_set(rt)?;
@@ -133,19 +139,32 @@ fn serve_request<T: Threads + Wait + Sync>(
         (Request::Next(_) | Request::Describe(_), Some(folder)) => {
             let files = named_file(rt, folder, time_zone(request).unwrap_or(""))?;
             let (out, err) = (&mut rt.stdout(), &mut rt.stderr());
-            Ok(serve(threads, alloc, request, files.as_slice(), input, out, err))
+            Ok(serve(
+                threads,
+                alloc,
+                request,
+                files.as_slice(),
+                input,
+                out,
+                err,
+                meter,
+            ))
         }
-        (_, Some(folder)) => serve_with_folder(threads, rt, request, folder, input),
+        (_, Some(folder)) => serve_with_folder(threads, rt, request, folder, input, meter),
         (_, None) => {
             let (out, err) = (&mut rt.stdout(), &mut rt.stderr());
-            Ok(serve(threads, alloc, request, &[], input, out, err))
+            Ok(serve(threads, alloc, request, &[], input, out, err, meter))
         }
     }
 }
 
-// The moment that a request means by the clock: now, where the words leave it out, or so much before or after it.
+// The moment that a request means by the clock: now, where the words leave it out, or so much before or after it. Where
+// `check` explains nothing and the words leave it out, there is none to be told of.
 fn clock_moment(rt: &HostRuntime, request: &Request<'_>) -> Result<Option<String>, Failure> {
     match request {
+        Request::Check(check) if check.explain || check.moment.is_some() => {
+            moment_by_clock(rt, check.moment)
+        }
         Request::Why(why) => moment_by_clock(rt, why.moment),
         Request::Upcoming(upcoming) => moment_by_clock(rt, upcoming.from),
         Request::Describe(describe) => moment_by_clock(rt, describe.after),
@@ -166,6 +185,7 @@ fn only_file<'a>(request: &Request<'a>) -> Option<&'a str> {
 fn at_moment<'a>(mut request: Request<'a>, moment: Option<&'a str>) -> Request<'a> {
     if moment.is_some() {
         match &mut request {
+            Request::Check(check) => check.moment = moment,
             Request::Why(why) => why.moment = moment,
             Request::Upcoming(upcoming) => upcoming.from = moment,
             Request::Describe(describe) => describe.after = moment,
@@ -176,7 +196,7 @@ fn at_moment<'a>(mut request: Request<'a>, moment: Option<&'a str>) -> Request<'
 }
 
 // Opens the file of a request and serves it.
-fn serve_parsed<T: Threads + Wait + Sync>(
+fn serve_parsed<T: Threads + Wait + Clock + Sync>(
     threads: &T,
     rt: &HostRuntime,
     request: Request<'_>,
@@ -184,13 +204,17 @@ fn serve_parsed<T: Threads + Wait + Sync>(
     let moment = clock_moment(rt, &request)?;
     let request = at_moment(request, moment.as_ref().map(|text| text.as_str()));
     let mut input = Input::open(rt, only_file(&request));
-    let status = serve_request(threads, rt, &request, &mut input)?;
+    let status = if is_shown(rt, &request) {
+        serve_shown(threads, rt, &request, &mut input)?
+    } else {
+        serve_request(threads, rt, &request, &mut input, &Meter::new())?
+    };
     tell_unread(&request, status, &input, &mut rt.stderr());
     Ok(status)
 }
 
 // Reads the words of the command line and serves what they ask for.
-fn run<T: Threads + Wait + Sync>(threads: &T, rt: &HostRuntime) -> Result<u8, Failure> {
+fn run<T: Threads + Wait + Clock + Sync>(threads: &T, rt: &HostRuntime) -> Result<u8, Failure> {
     let alloc = rt.alloc();
     let given: Vec<String> = std::env::args(rt)?.collect(alloc)?;
     let args = joined(alloc, given.as_slice())?;

@@ -19,7 +19,7 @@ fn is_before(word: &str) -> bool {
 // The option of a command whose value may be a moment by the clock.
 fn moment_option(command: &str) -> &'static str {
     match command {
-        "why" => "--now",
+        "check" | "why" => "--now",
         "upcoming" => "--from",
         "describe" => "--after",
         _ => "",

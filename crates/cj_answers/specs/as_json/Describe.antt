@@ -8,7 +8,7 @@ use Rattle.cj_zone.specs.declared.zone.Zone.{Zone}
 use Rattle.cj_upcoming.specs.Coming.{AreComing}
 use Rattle.cj_upcoming.specs.Sentence.{sentence}
 use Rattle.cj_upcoming.specs.json.Coming.{AreTimes, changes_along, times_data}
-use Rattle.cj_why.specs.reviews.PlanJson.{time_data}
+use Rattle.cj_json.specs.Values.{time_data}
 use Rattle.cj_args.specs.declared.request.DescribeRequest.{DescribeRequest}
 use Rattle.cj_answers.specs.DescribeText.{IsDescribed}
 use Rattle.cj_answers.specs.as_json.Forms.{IsJsonLine}

@@ -6,7 +6,7 @@ use Rattle.serde_json.specs.View.{items_of}
 use Rattle.cj_schedule.specs.Matches.{Sets}
 use Rattle.cj_zone.specs.declared.zone.Zone.{Zone}
 use Rattle.cj_due.specs.Due.{reach, IsQuiet, IsLeastDue}
-use Rattle.cj_why.specs.reviews.PlanJson.{time_data}
+use Rattle.cj_json.specs.Values.{time_data}
 use Rattle.cj_args.specs.declared.request.NextRequest.{NextRequest}
 use Rattle.cj_answers.specs.NextText.{IsNextText}
 use Rattle.cj_answers.specs.as_json.Forms.{IsJsonLine}

@@ -13,7 +13,7 @@ use Rattle.cj_upcoming.specs.Zones.{named}
 use Rattle.cj_upcoming.specs.json.Changes.{zone_changes_data}
 use Rattle.cj_upcoming.specs.json.Minutes.{minutes_data}
 use Rattle.cj_upcoming.specs.json.Standings.{AreStandingData}
-use Rattle.cj_why.specs.reviews.PlanJson.{time_data}
+use Rattle.cj_json.specs.Values.{time_data}
 use Rattle.cj_answers.specs.declared.as_json.upcoming.Parts.{Parts}
 use Rattle.cj_answers.specs.declared.cron_files.FileCrons.{FileCrons}
 use Rattle.cj_answers.specs.as_json.Forms.{IsJsonLine}

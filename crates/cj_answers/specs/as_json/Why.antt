@@ -3,7 +3,7 @@ use Rattle.std.specs.Prelude.{ℕ, List, codes}
 use Rattle.serde_json.specs.Data.{Data, array, object, member, no_members}
 use Rattle.serde_json.specs.View.{items_of}
 use Rattle.cj_cluster.specs.declared.kubectl.notes.ItemNote.{ItemNote}
-use Rattle.cj_why.specs.reviews.PlanJson.{time_data}
+use Rattle.cj_json.specs.Values.{time_data}
 use Rattle.cj_answers.specs.as_json.Notes.{others_data, refused_data}
 
 abbrev pub why_object : Data → Data → Data → Data → Data

@@ -14,12 +14,12 @@ ghost use Rattle.cj_answers.specs.Seen.{IsItem, IsNoneSeen};
 ghost use Rattle.cj_answers.specs.declared.seen.SeenKeys.{SeenKeys};
 
 use crate::as_json::forms::value_line;
-use crate::as_json::next::push_value;
 use crate::as_json::notes::faults_value;
 use crate::seen::SeenKeys;
 use cj_base::FieldFault;
 use cj_cluster::item_texts;
 use cj_io::Failure;
+use cj_json::push_value;
 use cj_manifest::{Manifest, Warning, read_manifest};
 use cj_types::{Key, Refusal, Text};
 use cj_zone::ZoneTable;

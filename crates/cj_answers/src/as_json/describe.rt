@@ -8,9 +8,10 @@ ghost use Rattle.cj_upcoming.specs.json.Coming.{changes_along};
 ghost use Rattle.cj_answers.specs.as_json.Describe.{IsDescribeJson, describe_data, describe_object, first_line};
 
 use crate::as_json::forms::value_line;
-use crate::as_json::next::{time_value, zone_value};
+use crate::as_json::next::zone_value;
 use cj_args::DescribeRequest;
 use cj_base::{Refusal, Seconds};
+use cj_json::time_value;
 use cj_schedule::Schedule;
 use cj_upcoming::{coming_changes, coming_times, coming_value, sentence};
 use cj_zone::Zone;

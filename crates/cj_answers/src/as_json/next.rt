@@ -2,15 +2,16 @@
 ghost use Rattle.std.specs.Prelude.{◌≡◌, ◌++◌, ◌∷◌, [], map, IfOk, IfErr, OnOk, string_bytes};
 ghost use Rattle.cj_base.specs.declared.refusal.Refusal.TheVariants.{OutOfMemory};
 ghost use Rattle.serde_json.specs.View.{view};
-ghost use Rattle.cj_why.specs.reviews.PlanJson.{time_data};
+ghost use Rattle.cj_json.specs.Values.{time_data};
 ghost use Rattle.cj_answers.specs.as_json.Next.{AreNext, IsNextJson, next_data, next_object, zone_data};
 
 use crate::as_json::forms::value_line;
 use cj_args::NextRequest;
 use cj_base::{Refusal, Seconds};
 use cj_due::next_after;
+use cj_json::{push_value, time_value};
 use cj_schedule::Schedule;
-use cj_zone::{Zone, time_text};
+use cj_zone::Zone;
 use serde_json::{Value, json};
 use std::alloc::{AllocError, Global};
 
@@ -45,24 +46,6 @@ fn next_times(
         }
     }
     Ok(times)
-}
-
-/// One value more.
-pub(crate) fn push_value(values: &mut Vec<Value>, value: Value) -> Result<(), Refusal>
-    ensures ok { OnOk result (values.new.items ≡ values.old.items ++ (value ∷ [])) }
-    ensures err { IfErr result (λ e. e ≡ OutOfMemory) }
-{
-    values.push(value).map_err(AllocError::from)?;
-    Ok(())
-}
-
-/// A time as it is printed.
-pub(crate) fn time_value(alloc: Global, time: Seconds) -> Result<Value, Refusal>
-    ensures ok { IfOk result (λ v. view v ≡ time_data time) }
-    ensures err { IfErr result (λ e. e ≡ OutOfMemory) }
-{
-    let text = time_text(alloc, time)?;
-    Ok(Value::String(text))
 }
 
 fn time_values(alloc: Global, times: &[Seconds]) -> Result<Vec<Value>, Refusal>

@@ -4,10 +4,10 @@ ghost use Rattle.cj_base.specs.declared.refusal.Refusal.TheVariants.{OutOfMemory
 ghost use Rattle.serde_json.specs.View.{view};
 ghost use Rattle.cj_answers.specs.as_json.Notes as json;
 
-use crate::as_json::next::push_value;
 use crate::lines::print_cause;
 use cj_base::{FieldFault, Refusal};
 use cj_cluster::{ItemNote, Said};
+use cj_json::push_value;
 use serde_json::{Value, json};
 use std::alloc::{AllocError, Global};
 

@@ -8,11 +8,11 @@ ghost use Rattle.cj_upcoming.specs.declared.fault.StartsFault.TheVariants.{TooMa
 ghost use Rattle.cj_answers.specs.as_json.Upcoming.{AreParts, IsIdleData, IsWindowJson, TellsStarts, file_data, file_object, files_data, name_data, told_in, upcoming_data, upcoming_object};
 
 use crate::as_json::forms::value_line;
-use crate::as_json::next::{push_value, time_value};
 use crate::as_json::notes::{others_value, refused_value};
 use crate::cron_files::FileCrons;
 use cj_base::{all_four, both};
 use cj_cluster::ClusterCron;
+use cj_json::{push_value, time_value};
 use cj_types::{Refusal, Seconds, Shared};
 use cj_upcoming::{
     Start, StartsFault, Window, peaks_value, standing_values, starts_value, upcoming,

@@ -14,11 +14,12 @@ ghost use Rattle.cj_c.specs.answers.Texts.{IsJsonText};
 ghost use Rattle.cj_c.specs.answers.Zones.{AreZonesOf};
 
 use crate::answers::buffer::leave;
-use crate::answers::faults::{faults_value, one_fault, push_value};
+use crate::answers::faults::{faults_value, one_fault};
 use crate::answers::text::json_text;
 use crate::answers::told::Told;
 use crate::answers::zones::{refused_zones, zones_of_text};
 use cj_base::{FieldFault, Refusal};
+use cj_json::push_value;
 use cj_manifest::{Manifest, Warning, read_manifest};
 use cj_types::Key;
 use cj_zone::ZoneTable;

@@ -5,17 +5,9 @@ ghost use Rattle.serde_json.specs.View.{view};
 ghost use Rattle.cj_c.specs.answers.FaultsJson as json;
 
 use cj_base::{Cause, FieldFault, Refusal, ScheduleFault};
+use cj_json::push_value;
 use serde_json::{Value, json};
 use std::alloc::{AllocError, Global};
-
-/// One more value of a list.
-pub(crate) fn push_value(values: &mut Vec<Value>, value: Value) -> Result<(), Refusal>
-    ensures ok { OnOk result (values.new.items ≡ values.old.items ++ (value ∷ [])) }
-    ensures err { IfErr result (λ e. e ≡ OutOfMemory) }
-{
-    values.push(value).map_err(AllocError::from)?;
-    Ok(())
-}
 
 fn schedule_cause(alloc: Global, fault: ScheduleFault) -> Result<String, AllocError>
     ensures { IfOk result (λ s. string_bytes s ≡ json.schedule_cause fault) }

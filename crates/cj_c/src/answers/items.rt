@@ -4,9 +4,10 @@ ghost use Rattle.cj_base.specs.declared.refusal.Refusal.TheVariants.{OutOfMemory
 ghost use Rattle.serde_json.specs.View.{view};
 ghost use Rattle.cj_c.specs.answers.Items as json;
 
-use crate::answers::faults::{faults_value, one_fault, push_value};
+use crate::answers::faults::{faults_value, one_fault};
 use cj_base::{FieldFault, Refusal};
 use cj_cluster::{ItemNote, Said};
+use cj_json::push_value;
 use serde_json::{Value, json};
 use std::alloc::{AllocError, Global};
 

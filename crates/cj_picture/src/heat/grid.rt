@@ -7,7 +7,7 @@ const HOUR: u64 = 3_600;
 const MOST_ROWS: u64 = 400;
 
 // Where the first minute begins, from the left and from above.
-const LEFT: u64 = 122;
+const LEFT: u64 = 132;
 
 const TOP: u64 = 74;
 

@@ -8,7 +8,7 @@ use Rattle.cj_report.specs.declared.timeline.bar.Bar.{Bar}
 use Rattle.cj_report.specs.declared.timeline.bar.BarEnd.{BarEnd}
 use Rattle.cj_report.specs.declared.timeline.bar.How.{How}
 use Rattle.cj_report.specs.history.Fields.{due_word}
-use Rattle.cj_program.specs.as_json.Values.{time_data, time_or_null, text_or_null}
+use Rattle.cj_json.specs.Values.{time_data, time_or_null, text_or_null}
 
 abbrev pub how_name : How → List ℕ
 how_name How.Complete = codes "Complete"

@@ -4,7 +4,7 @@ use Rattle.serde_json.specs.Data.{Data, string, array, object, member, no_member
 use Rattle.serde_json.specs.View.{items_of}
 use Rattle.cj_history.specs.declared.gaps.gap.Gap.{Gap}
 use Rattle.cj_history.specs.declared.gaps.gap.Why.{Why}
-use Rattle.cj_program.specs.as_json.Values.{time_data}
+use Rattle.cj_json.specs.Values.{time_data}
 
 -- the names of the causes
 -- rule: run-json

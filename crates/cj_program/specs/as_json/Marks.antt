@@ -4,7 +4,7 @@ use Rattle.serde_json.specs.Data.{Data, string, array, object, member, no_member
 use Rattle.serde_json.specs.View.{items_of}
 use Rattle.cj_types.specs.Printed.{reason_name}
 use Rattle.cj_report.specs.declared.timeline.mark.Mark.{Mark}
-use Rattle.cj_program.specs.as_json.Values.{time_or_null}
+use Rattle.cj_json.specs.Values.{time_or_null}
 
 abbrev pub reason_object : List ℕ → List ℕ → List ℕ → Data → Data
 reason_object cron namespace reason at = object (

@@ -4,10 +4,10 @@ ghost use Rattle.cj_base.specs.declared.refusal.Refusal.TheVariants.{OutOfMemory
 ghost use Rattle.cj_types.specs.Objects.{cron_of};
 ghost use Rattle.serde_json.specs.View.{view};
 ghost use Rattle.cj_program.specs.as_json.Bars as json;
-ghost use Rattle.cj_program.specs.as_json.Values.{text_or_null, time_or_null};
+ghost use Rattle.cj_json.specs.Values.{text_or_null, time_or_null};
 
-use crate::as_json::values::{push_value, text_or_null, time_or_null, time_value};
 use cj_base::all_three;
+use cj_json::{push_value, text_or_null, time_or_null, time_value};
 use cj_report::{Bar, BarEnd, How, due_word};
 use cj_types::{Job, Refusal};
 use serde_json::{Value, json};

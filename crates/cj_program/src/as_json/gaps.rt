@@ -4,8 +4,8 @@ ghost use Rattle.cj_base.specs.declared.refusal.Refusal.TheVariants.{OutOfMemory
 ghost use Rattle.serde_json.specs.View.{view};
 ghost use Rattle.cj_program.specs.as_json.Gaps as json;
 
-use crate::as_json::values::{push_value, time_value};
 use cj_history::{Gap, Why};
+use cj_json::{push_value, time_value};
 use cj_types::{Key, Refusal};
 use serde_json::{Value, json};
 use std::alloc::{AllocError, Global};

@@ -4,7 +4,7 @@ ghost use Rattle.cj_base.specs.declared.refusal.Refusal.TheVariants.{OutOfMemory
 ghost use Rattle.serde_json.specs.View.{view};
 ghost use Rattle.cj_program.specs.as_json.Marks as json;
 
-use crate::as_json::values::{push_value, time_or_null};
+use cj_json::{push_value, time_or_null};
 use cj_report::Mark;
 use cj_types::{Key, Refusal};
 use serde_json::{Value, json};

@@ -38,7 +38,7 @@ form_of d = form_by (kind_in d) d
 -- what such a text is for
 -- rule: explain-input
 abbrev pub form_words : Form → List ℕ
-form_words A.List = codes "FILE: a list, which cronsim why and audit take; check takes one object, as kubectl get cronjob NAME -o json prints it\n"
+form_words A.List = codes "FILE: a list, whose items cronsim check, why, upcoming and audit take\n"
 form_words A.Manifest = codes "FILE: a manifest, which cronsim check takes\n"
 form_words A.Scenario = codes "FILE: a scenario, which cronsim plan takes\n"
 form_words A.Script = codes "FILE: a script, which cronsim replay takes\n"

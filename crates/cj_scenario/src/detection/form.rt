@@ -89,7 +89,7 @@ impl Form {
     {
         match self {
             Form::List => {
-                "FILE: a list, which cronsim why and audit take; check takes one object, as kubectl get cronjob NAME -o json prints it\n"
+                "FILE: a list, whose items cronsim check, why, upcoming and audit take\n"
             }
             Form::Manifest => "FILE: a manifest, which cronsim check takes\n",
             Form::Scenario => "FILE: a scenario, which cronsim plan takes\n",

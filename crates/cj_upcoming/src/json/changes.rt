@@ -9,11 +9,11 @@ ghost use Rattle.cj_upcoming.specs.json.Changes.{change_data, change_object, cha
 
 use crate::changes::{change_word, changes, offset, second_before};
 use crate::clocks::civil_text;
-use crate::json::values::{push_value, time_value};
 use crate::window::Window;
 use crate::zone_changes::{last_of, named};
 use cj_base::Seconds;
 use cj_cluster::ClusterCron;
+use cj_json::{push_value, time_value};
 use cj_types::{Refusal, Shared, Text};
 use cj_zone::{Zone, ZoneTable, local};
 use serde_json::{Value, json};

@@ -7,10 +7,10 @@ ghost use Rattle.cj_upcoming.specs.json.Coming.{AreTimes, changes_along, coming_
 use crate::changes::offset;
 use crate::clocks::{civil_text, offset_text};
 use crate::json::changes::push_changes;
-use crate::json::values::{push_value, time_value};
 use crate::part::day_name;
 use cj_base::{Refusal, Seconds};
 use cj_due::next_after;
+use cj_json::{push_value, time_value};
 use cj_schedule::Schedule;
 use cj_zone::{Zone, local};
 use serde_json::{Value, json};

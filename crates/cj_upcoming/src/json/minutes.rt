@@ -6,12 +6,12 @@ ghost use Rattle.cj_upcoming.specs.declared.minute.Minute.{Minute};
 ghost use Rattle.cj_upcoming.specs.Minutes.{minutes, IsPeaks, IsWithin};
 ghost use Rattle.cj_upcoming.specs.json.Minutes.{cron_at, crons_in, key_data, minute_data, minute_object, minutes_data};
 
-use crate::json::values::{push_value, time_value};
 use crate::minute::Minute;
 use crate::minutes::minutes_of;
 use crate::peaks::peaks;
 use crate::start::Start;
 use cj_cluster::ClusterCron;
+use cj_json::{push_value, time_value};
 use cj_types::{Key, Refusal, Shared};
 use serde_json::{Value, json};
 use std::alloc::{AllocError, Global};

@@ -6,10 +6,10 @@ ghost use Rattle.cj_zone.specs.Table.{zones_of};
 ghost use Rattle.cj_upcoming.specs.json.Standings.{AreStandingData, idle_data, standing_data};
 
 use crate::clock::spec_of;
-use crate::json::values::push_value;
 use crate::standing::{Standing, standing_of};
 use cj_base::Seconds;
 use cj_cluster::ClusterCron;
+use cj_json::push_value;
 use cj_types::{Key, Refusal, Shared};
 use cj_zone::ZoneTable;
 use serde_json::{Value, json};

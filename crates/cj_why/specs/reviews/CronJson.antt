@@ -14,7 +14,8 @@ use Rattle.cj_cluster.specs.declared.cron.ClusterCron.{ClusterCron}
 use Rattle.cj_why.specs.Running.{lacks_any}
 use Rattle.cj_why.specs.declared.reviews.verdict.Verdict.{Verdict}
 use Rattle.cj_why.specs.reviews.Lacking.{is_sure}
-use Rattle.cj_why.specs.reviews.PlanJson.{jobs_data, plan_data, texts_data, time_data, time_or_null}
+use Rattle.cj_json.specs.Values.{time_data, time_or_null}
+use Rattle.cj_why.specs.reviews.PlanJson.{jobs_data, plan_data, texts_data}
 use Rattle.cj_why.specs.reviews.Review.{IsMissedOf}
 use Rattle.cj_why.specs.reviews.Seen.{found, lacking, listed}
 use Rattle.cj_why.specs.reviews.Verdict.{verdict_of, verdict_text}

@@ -6,21 +6,10 @@ use Rattle.cj_types.specs.declared.cron.CronStatus.{CronStatus}
 use Rattle.cj_types.specs.declared.job.JobDraft.{JobDraft}
 use Rattle.cj_types.specs.declared.policy.Reason.{Reason}
 use Rattle.cj_types.specs.Printed.{reason_name}
-use Rattle.cj_zone.specs.TimeText.{time_text_of}
+use Rattle.cj_json.specs.Values.{time_data, time_or_null}
 use Rattle.cj_status.specs.declared.refs.JobRef.{JobRef}
 use Rattle.cj_decide.specs.declared.start.Claim.{Claim}
 use Rattle.cj_decide.specs.declared.steps.Steps.{Steps}
-
--- a time as it is printed (RFC 3339, UTC)
--- rule: json
-abbrev pub time_data : ℕ → Data
-time_data t = string (time_text_of t)
-
--- null where there is none
--- rule: json
-abbrev pub time_or_null : Option ℕ → Data
-time_or_null None = null
-time_or_null (Some t) = time_data t
 
 -- texts in their order
 abbrev pub texts_data : List (List ℕ) → Data

@@ -8,16 +8,15 @@ ghost use Rattle.cj_zone.specs.Table.{local_zone, zones_of};
 ghost use Rattle.cj_zone.specs.Zones.{utc_zone};
 ghost use Rattle.cj_why.specs.reviews.CronJson.{AreCronJson, IsCronJson};
 ghost use Rattle.cj_why.specs.reviews.CronJson as json;
-ghost use Rattle.cj_why.specs.reviews.PlanJson.{jobs_data, texts_data, time_data, time_or_null};
+ghost use Rattle.cj_json.specs.Values.{time_data, time_or_null};
+ghost use Rattle.cj_why.specs.reviews.PlanJson.{jobs_data, texts_data};
 ghost use Rattle.cj_due.specs.declared.answer.Missed.{Missed};
 ghost use Rattle.cj_why.specs.reviews.Review.{IsMissedOf};
 ghost use Rattle.cj_why.specs.reviews.Seen as seen;
 ghost use Rattle.cj_why.specs.reviews.ZoneFor.{zone_for};
 
 use crate::reviews::lacking::is_sure;
-use crate::reviews::plan_json::{
-    jobs_value, names_value, plan_value, push_value, time_or_null, time_value,
-};
+use crate::reviews::plan_json::{jobs_value, names_value, plan_value};
 use crate::reviews::reviewing::plan_of;
 use crate::reviews::rows::row_verdict;
 use crate::reviews::seen::{found, lacking};
@@ -30,6 +29,7 @@ use cj_base::{all_three, both};
 use cj_cluster::{Cluster, ClusterCron};
 use cj_decide::Steps;
 use cj_due::Missed;
+use cj_json::{push_value, time_or_null, time_value};
 use cj_status::running_found;
 use cj_types::{Key, ObjectName, Policy, Refusal, Seconds, Shared};
 use cj_zone::ZoneTable;

@@ -8,45 +8,16 @@ ghost use Rattle.cj_why.specs.reviews.PlanJson as json;
 
 use cj_base::{all_four, all_three, both};
 use cj_decide::{Claim, JobRef, Steps};
+use cj_json::{push_value, time_or_null, time_value};
 use cj_types::{CronStatus, JobDraft, ObjectName, Reason, Refusal, Seconds};
-use cj_zone::time_text;
 use serde_json::{Value, json};
 use std::alloc::{AllocError, Global};
-
-/// One more value of a list.
-pub(crate) fn push_value(values: &mut Vec<Value>, value: Value) -> Result<(), Refusal>
-    ensures ok { OnOk result (values.new.items ≡ values.old.items ++ (value ∷ [])) }
-    ensures err { IfErr result (λ e. e ≡ OutOfMemory) }
-{
-    values.push(value).map_err(AllocError::from)?;
-    Ok(())
-}
 
 fn text_value(alloc: Global, text: &str) -> Result<Value, Refusal>
     ensures ok { IfOk result (λ v. view v ≡ string text.now) }
     ensures err { IfErr result (λ e. e ≡ OutOfMemory) }
 {
     Ok(Value::try_from_str(alloc, text)?)
-}
-
-/// A time as it is printed.
-pub(crate) fn time_value(alloc: Global, time: Seconds) -> Result<Value, Refusal>
-    ensures ok { IfOk result (λ v. view v ≡ json.time_data time) }
-    ensures err { IfErr result (λ e. e ≡ OutOfMemory) }
-{
-    let text = time_text(alloc, time)?;
-    Ok(Value::String(text))
-}
-
-/// A time, or null where there is none.
-pub(crate) fn time_or_null(alloc: Global, time: Option<Seconds>) -> Result<Value, Refusal>
-    ensures ok { IfOk result (λ v. view v ≡ json.time_or_null time) }
-    ensures err { IfErr result (λ e. e ≡ OutOfMemory) }
-{
-    match time {
-        Some(time) => time_value(alloc, time),
-        None => Ok(Value::Null),
-    }
 }
 
 fn name_values(alloc: Global, names: &[ObjectName]) -> Result<Vec<Value>, Refusal>

@@ -1,8 +1,9 @@
--- check_command: its ensures, from the files, its own two arguments and the options behind them.
+-- check_command: its ensures, from the files, its own three arguments and the options behind them.
 use Rattle.cj_args.proofs.command.check_command.Goals as goal
 
 pub returns : goal.returns
 returns c =
     let one = c.with_arg-command.ensures _ _ c.new_command-command.ensures c.files_arg.ensures in
     let two = c.with_arg-command-2.ensures _ _ one c.flag_arg.ensures in
-    c.with_zones.ensures _ (c.with_arg-command-3.ensures _ _ two c.lines_arg.ensures)
+    let three = c.with_arg-command-3.ensures _ _ two c.option_arg.ensures in
+    c.with_zones.ensures _ (c.with_arg-command-4.ensures _ _ three c.lines_arg.ensures)

@@ -20,7 +20,7 @@ returns g c = λ given said.
       log = ran.closed;
       text = string_bytes ran.report;
       run = subst (λ (workers : ℕ). IsRun simulation workers ran.closed (string_bytes ran.report)) c.from.ensures
-          c.in_ok-ran.ensures;
+          c.in_ok-ran.ensures.ok;
       printed = printed;
       shown = c.in_ok-printed.ensures;
       seen = seen;

@@ -2,7 +2,6 @@
 -- runners went their rounds and the informer followed.
 use Rattle.cj_run.specs.Simulations.{operations_below}
 use Rattle.cj_run.specs.Deeds.{Does}
-use Rattle.cj_run.specs.Follows.{FollowsAll}
 use Rattle.cj_run.specs.Lineups.{watch_of}
 use Rattle.cj_run.specs.Rounds.{GoesRounds}
 use Rattle.cj_run.proofs.drive.drive.Given as goal
@@ -10,6 +9,6 @@ use Rattle.cj_run.proofs.drive.drive.Given as goal
 abbrev pub invariant-loop-n : goal.invariant-loop-n
 invariant-loop-n g l = record {
   did : Does l.simulation.zones (operations_below l.simulation l.n) l.fn.participants.user l.participants.user;
-  rounds : GoesRounds l.simulation l.n (watch_of l.fn.participants) (watch_of l.participants);
-  followed : FollowsAll l.simulation l.n l.fn.participants.follower l.participants.follower;
+  rounds : GoesRounds l.simulation l.n l.fn.participants.follower l.participants.follower
+      (watch_of l.fn.participants) (watch_of l.participants);
 }

@@ -1,7 +1,7 @@
 -- time_values, its loop: the values are those of the times gone through.
 use Rattle.std.proofs.Common.{◌≡◌, map, take}
 use Rattle.serde_json.specs.View.{view}
-use Rattle.cj_why.specs.reviews.PlanJson.{time_data}
+use Rattle.cj_json.specs.Values.{time_data}
 use Rattle.cj_answers.proofs.as_json.next.time_values.Given as goal
 
 abbrev pub invariant-loop-time : goal.invariant-loop-time

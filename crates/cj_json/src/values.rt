@@ -1,8 +1,8 @@
-// Values in JSON.
+// Values of which the JSON that commands print is made.
 ghost use Rattle.std.specs.Prelude.{◌≡◌, ◌++◌, ◌∷◌, [], IfOk, IfErr, OnOk, option_map};
 ghost use Rattle.cj_base.specs.declared.refusal.Refusal.TheVariants.{OutOfMemory};
 ghost use Rattle.serde_json.specs.View.{view};
-ghost use Rattle.cj_program.specs.as_json.Values.{text_or_null, time_data, time_or_null};
+ghost use Rattle.cj_json.specs.Values.{text_or_null, time_data, time_or_null};
 
 use cj_types::{Refusal, Seconds};
 use cj_zone::time_text;
@@ -10,7 +10,7 @@ use serde_json::Value;
 use std::alloc::{AllocError, Global};
 
 /// One more value of a list.
-pub(crate) fn push_value(values: &mut Vec<Value>, value: Value) -> Result<(), Refusal>
+pub fn push_value(values: &mut Vec<Value>, value: Value) -> Result<(), Refusal>
     ensures ok { OnOk result (values.new.items ≡ values.old.items ++ (value ∷ [])) }
     ensures err { IfErr result (λ e. e ≡ OutOfMemory) }
 {
@@ -18,8 +18,8 @@ pub(crate) fn push_value(values: &mut Vec<Value>, value: Value) -> Result<(), Re
     Ok(())
 }
 
-/// A time as it is printed.
-pub(crate) fn time_value(alloc: Global, time: Seconds) -> Result<Value, Refusal>
+/// A time as it is printed (RFC 3339, UTC).
+pub fn time_value(alloc: Global, time: Seconds) -> Result<Value, Refusal>
     ensures ok { IfOk result (λ v. view v ≡ time_data time) }
     ensures err { IfErr result (λ e. e ≡ OutOfMemory) }
 {
@@ -28,7 +28,7 @@ pub(crate) fn time_value(alloc: Global, time: Seconds) -> Result<Value, Refusal>
 }
 
 /// A time, or null where there is none.
-pub(crate) fn time_or_null(alloc: Global, time: Option<Seconds>) -> Result<Value, Refusal>
+pub fn time_or_null(alloc: Global, time: Option<Seconds>) -> Result<Value, Refusal>
     ensures ok { IfOk result (λ v. view v ≡ time_or_null time) }
     ensures err { IfErr result (λ e. e ≡ OutOfMemory) }
 {
@@ -39,7 +39,7 @@ pub(crate) fn time_or_null(alloc: Global, time: Option<Seconds>) -> Result<Value
 }
 
 /// A text, or null where there is none.
-pub(crate) fn text_or_null(alloc: Global, text: Option<&str>) -> Result<Value, Refusal>
+pub fn text_or_null(alloc: Global, text: Option<&str>) -> Result<Value, Refusal>
     ensures ok { IfOk result (λ v. view v ≡ text_or_null (option_map (λ s. s.now) text.entry)) }
     ensures err { IfErr result (λ e. e ≡ OutOfMemory) }
 {

@@ -1,4 +1,4 @@
--- Values in the JSON of a run (RFC 8259).
+-- Values of which the JSON that commands print is made (RFC 8259).
 use Rattle.std.specs.Prelude.{ℕ, List, Option, None, Some}
 use Rattle.serde_json.specs.Data.{Data, null, string}
 use Rattle.cj_zone.specs.TimeText.{time_text_of}

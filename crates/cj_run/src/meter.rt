@@ -1,0 +1,38 @@
+use std::sync::atomic::{AtomicU64, Ordering};
+
+/// How far a run is, for whoever looks at it from another thread meanwhile. No clause speaks of it.
+#[derive(Drop)]
+pub struct Meter {
+    over: AtomicU64,
+    all: AtomicU64,
+}
+
+impl Meter {
+    /// Of no run yet.
+    pub fn new() -> Meter {
+        Meter {
+            over: AtomicU64::new(0),
+            all: AtomicU64::new(0),
+        }
+    }
+
+    /// A run of so many instants begins.
+    pub(crate) fn begin(&self, all: u64) {
+        self.all.store(all, Ordering::SeqCst);
+    }
+
+    /// One more instant is over.
+    pub(crate) fn advance(&self) {
+        self.over.fetch_add(1, Ordering::SeqCst);
+    }
+
+    /// How many instants are over.
+    pub fn over(&self) -> u64 {
+        self.over.load(Ordering::SeqCst)
+    }
+
+    /// How many instants the run has, 0 before it begins.
+    pub fn all(&self) -> u64 {
+        self.all.load(Ordering::SeqCst)
+    }
+}
