@@ -24,7 +24,7 @@ pub fn copy_all<T: TryCopy + Drop>(alloc: Global, values: &[T]) -> Result<Vec<T>
     ensures ok { IfOk result (λ copies. copies.items ≡ values.now) }
     ensures err { IfErr result (λ e. e ≡ OutOfMemory) }
 {
-    let mut copies = Vec::new(alloc);
+    let mut copies = Vec::with_capacity(alloc, values.len())?;
     for value in values {
         copies
             .push(value.try_copy(alloc)?)

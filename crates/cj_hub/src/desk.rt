@@ -87,7 +87,7 @@ impl<'a, R: Wait> HubDesk<'a, R> {
     }
 }
 
-fn is_full(answer: &Result<Receipt, Refusal>) -> bool
+pub(crate) fn is_full(answer: &Result<Receipt, Refusal>) -> bool
     ensures { TellsFull answer.now (result ≡ true) }
 {
     matches!(answer, Err(Refusal::HistoryFull))

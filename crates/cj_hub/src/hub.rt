@@ -12,6 +12,7 @@ ghost use Rattle.cj_hub.specs.States.{IsState};
 
 use crate::book::Book;
 use crate::closed::{Closed, NotClosed};
+use crate::held::HeldDesk;
 use crate::pass::Pass;
 use crate::receipt::Receipt;
 use crate::rest::AtRest;
@@ -20,9 +21,10 @@ use crate::state::HubState;
 use cj_calls::{Call, Role};
 use cj_types::{Limits, Refusal, Version};
 use std::alloc::Global;
-use std::sync::{Condvar, Mutex, Wait};
+use std::sync::{Condvar, Mutex, MutexGuard, Wait};
+use std::thread;
 
-/// A book that threads share. Each of its calls takes the lock once and may wait for it.
+/// A book that threads share. Each of its calls takes the lock and may wait for it.
 ///
 /// A contract knows of the book under the lock what its type keeps; what one call does to it is said at `laws`.
 pub struct Hub {
@@ -82,7 +84,7 @@ impl Hub {
     }
 
     // Wakes whom a change concerned.
-    fn wake(&self, wake: Wake) {
+    pub(crate) fn wake(&self, wake: Wake) {
         self.wake_takers(wake.takers);
         self.wake_rest(wake.rest);
     }
@@ -107,6 +109,25 @@ impl Hub {
         result
     }
 
+    /// The hub with its lock held, for calls in a row. Until the desk is dropped each call of the hub itself waits, one of
+    /// the same thread for ever.
+    pub fn hold(&self, rt: &impl Wait) -> HeldDesk<'_> {
+        let mut room = self.room.lock(rt);
+        room.come();
+        HeldDesk::new(self, room)
+    }
+
+    // The room for one who takes. Where another has to look at the writes the lock is left to it once.
+    fn give_way(&self, rt: &impl Wait) -> MutexGuard<'_, Room> {
+        let room = self.room.lock(rt);
+        if !room.is_owed() {
+            return room;
+        }
+        drop(room);
+        thread::yield_now();
+        self.room.lock(rt)
+    }
+
     /// Makes a Take of the pass, and makes it again when it is woken while there is nothing to take.
     pub fn take_wait(&self, rt: &impl Wait, pass: &mut Pass) -> Result<Receipt, Refusal>
         ensures ok { IfOk result (λ r. IsReceipt pass.old Of.Take r pass.new) }
@@ -114,7 +135,7 @@ impl Hub {
         ensures which { IfErr result IsWaitRefusal }
         ensures err { OnErr result (pass.new ≡ pass.old) }
     {
-        let mut room = self.room.lock(rt);
+        let mut room = self.give_way(rt);
         for _ in rt.forever() {
             let result = room.step(pass, Call::Take);
             if let Err(Refusal::Empty) = &result {

@@ -47,6 +47,8 @@ pub(crate) struct Room {
     takers: usize,
     // The earliest version that those have seen who wait for rest and whom nobody has woken.
     seen: Option<Version>,
+    // Whether one who waits for rest has to look at the writes next, so that those who take give way.
+    owed: bool,
 }
 
 // A function of its own, so that whoever gives up a room makes one call and not one for each part.
@@ -56,6 +58,7 @@ impl Drop for Room {
             book: _,
             takers: _,
             seen: _,
+            owed: _,
         } = self;
     }
 }
@@ -84,6 +87,7 @@ impl Room {
             book,
             takers: 0,
             seen: None,
+            owed: false,
         }
     }
 
@@ -93,6 +97,7 @@ impl Room {
             book,
             takers: _,
             seen: _,
+            owed: _,
         } = self;
         book
     }
@@ -128,6 +133,16 @@ impl Room {
         laws::at_rest(&self.book, seen)
     }
 
+    /// Whether one who takes is to give way.
+    pub(crate) fn is_owed(&self) -> bool {
+        self.owed
+    }
+
+    /// Nobody has to give way any more.
+    pub(crate) fn come(&mut self) {
+        self.owed = false;
+    }
+
     /// Somebody is about to wait for something to take.
     pub(crate) fn wait_for_key(&mut self) {
         self.takers = self.takers.saturating_add(1);
@@ -142,6 +157,7 @@ impl Room {
     /// Whether one who has seen the writes up to the version is now to wait for rest.
     pub(crate) fn wait_for_rest(&mut self, seen: Version) -> bool {
         let waits = self.keeps_going(seen);
+        self.owed = !waits;
         if waits {
             self.seen = Some(earlier(self.seen, seen));
         }
@@ -183,6 +199,7 @@ impl Room {
             return false;
         }
         self.seen = None;
+        self.owed = true;
         true
     }
 
@@ -195,6 +212,18 @@ impl Room {
     /// Whom a call wakes that was entered.
     pub(crate) fn after(&mut self, receipt: &Receipt) -> Wake {
         let takers = self.wake_takers(receipt.call());
+        let rest = self.wake_rest();
+        Wake { takers, rest }
+    }
+
+    /// Whom calls in a row wake, of which one may have shut the queue.
+    pub(crate) fn after_some(&mut self, shut: bool) -> Wake {
+        let takers = if self.book.is_full() || shut {
+            self.takers = 0;
+            Takers::All
+        } else {
+            self.wake_next()
+        };
         let rest = self.wake_rest();
         Wake { takers, rest }
     }

@@ -13,6 +13,7 @@ use cj_picture::picture_text;
 use cj_report::{history_text, timeline_text};
 use cj_run::Ran;
 use std::alloc::Global;
+use std::mem;
 
 // The time line, the entries, a picture or one JSON value of a run's history, or its report: the first of these that the
 // words ask for.
@@ -44,5 +45,8 @@ pub(crate) fn shown(alloc: Global, run: &RunRequest<'_>, ran: Ran) -> Result<Str
         (string_bytes ran.report) (string_bytes s)) }
 {
     let Ran { report, closed } = ran;
-    shown_text(alloc, run, entries_of(closed.get()), report)
+    let text = shown_text(alloc, run, entries_of(closed.get()), report);
+    // The program ends with its answer, so a long history isn't given back piece by piece before.
+    mem::forget(closed);
+    text
 }

@@ -2,7 +2,7 @@
 ghost use Rattle.std.specs.Prelude.{◌≡◌, OnOk};
 ghost use Rattle.cj_run.specs.Follows.{Follows, StepsOn, StepsOrStays};
 
-use cj_hub::{AtRest, Hub, HubDesk, HubState, Pass};
+use cj_hub::{AtRest, Hub, HubState, Pass};
 use cj_informer::Informer;
 use cj_types::{Millis, Refusal};
 use std::sync::Wait;
@@ -40,7 +40,7 @@ impl Follower {
     fn step<R: Wait>(&mut self, rt: &R, hub: &Hub, now: Millis) -> Result<(), Refusal>
         ensures { OnOk result (StepsOn now self.old self.new) }
     {
-        let mut desk = HubDesk::new(hub, rt);
+        let mut desk = hub.hold(rt);
         self.informer.step(&mut desk, &mut self.pass, now)
     }
 

@@ -119,6 +119,10 @@ impl OwnerRefs {
         ensures err { OnErr result (self.new ≡ self.old) }
         ensures memory { IfErr result (λ e. e ≡ OutOfMemory) }
     {
+        // Most objects have one owner, and a history keeps many of them.
+        if self.items.is_empty() {
+            self.items.reserve_exact(1)?;
+        }
         self.items.push(owner).map_err(|_| Refusal::OutOfMemory)
     }
 

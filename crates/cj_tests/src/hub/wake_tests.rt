@@ -1,9 +1,9 @@
 use crate::calls::add;
-use crate::hub::answers::{called, waited};
+use crate::hub::answers::{called, waited, word};
 use crate::hub::woken_tests::come;
 use crate::hubs::{hub_of, pass_of};
 use cj_calls::{Call, End, Role};
-use cj_hub::{Hub, Pass};
+use cj_hub::{Desk, Hub, HubDesk, Pass};
 use cj_types::{Millis, Reasons, Version};
 use std::alloc::Global;
 use std::mem;
@@ -44,14 +44,37 @@ fn work(rt: &(impl Wait + Abort), alloc: Global, hub: &Hub, worker: &mut Pass, d
     }
 }
 
-// Adds so many of the keys, one after the other.
-fn add_some(rt: &(impl Wait + Abort), alloc: Global, hub: &Hub, informer: &mut Pass, count: usize) {
+// Adds so many of the keys, one after the other, at a desk.
+fn add_some<D: Desk>(
+    rt: &impl Abort,
+    alloc: Global,
+    desk: &mut D,
+    informer: &mut Pass,
+    count: usize,
+) {
     for key in KEYS.iter().take(count) {
-        called(rt, hub, informer, add(rt, alloc, key));
+        word(desk.call(informer, add(rt, alloc, key)));
     }
 }
 
-// Adds one to three keys in each round, and waits for rest, when they were taken and given back; then shuts the queue.
+// Adds so many of the keys, each in a hold of the lock of its own, or all in one.
+fn add_held(
+    rt: &(impl Wait + Abort),
+    alloc: Global,
+    hub: &Hub,
+    informer: &mut Pass,
+    count: usize,
+    in_one: bool,
+) {
+    if in_one {
+        add_some(rt, alloc, &mut hub.hold(rt), informer, count);
+    } else {
+        add_some(rt, alloc, &mut HubDesk::new(hub, rt), informer, count);
+    }
+}
+
+// Adds one to three keys in each round, in one hold of the lock or in several, and waits for rest, when they were taken and
+// given back; then shuts the queue.
 // Tells in how many rounds they were.
 fn add_in_rounds(
     rt: &(impl Wait + Abort),
@@ -67,7 +90,8 @@ fn add_in_rounds(
         seed = next(seed);
         pause(seed);
         let count = (seed >> 33) % 3 + 1;
-        add_some(rt, alloc, hub, informer, count as usize);
+        let in_one = (seed >> 40) % 2 == 0;
+        add_held(rt, alloc, hub, informer, count as usize, in_one);
         wanted = count.wrapping_add(wanted);
         let is_quiet = hub.rest_wait(rt, Version::new(0)).is_ok();
         if !is_quiet || !come(done, wanted) {
