@@ -1,0 +1,97 @@
+-- Undisturbed syncs, entry by entry.
+use Rattle.std.proofs.Common.{◌≡◌, ℕ, Bool, true, false, List, [], ◌∷◌, ◌++◌, refl, sym, ap, subst}
+use Rattle.std.specs.Prelude.{if◌then◌else◌}
+use Rattle.cj_fence.specs.declared.call.Call.{Call}
+use Rattle.cj_fence.specs.declared.answer.Answer.{Answer}
+use Rattle.cj_fence.specs.declared.answer.Stamp.{Stamp}
+use Rattle.cj_fence.specs.Server.{served}
+use Rattle.cj_fence.specs.Protocol.{seen_of, advanced, May}
+use Rattle.cj_fence.specs.History.{Deed, Asked, Wrote, Told, state_of, IsFresh, Answered, IsLegal, AllFollow, own}
+use Rattle.cj_fence.specs.Others.{OthersKeepTo}
+use Rattle.cj_fence.specs.Help.{IsPlain, Undisturbed}
+use Rattle.cj_fence.proofs.FenceLemmas.Facts.{Inv}
+use Rattle.cj_fence.proofs.FenceLemmas.Grows.{Grows}
+use Rattle.cj_fence.proofs.FenceLemmas.Kept.{inv_kept}
+use Rattle.cj_fence.proofs.FenceLemmas.Moves.{next}
+use Rattle.cj_fence.proofs.FenceLemmas.Entries.{call_kept}
+use Rattle.cj_fence.proofs.FenceLemmas.Whole.{followed, MayDo, may_do, self_number, entry_kept, always}
+
+-- a call of an undisturbed sync
+pub record Plain (g : List Told) (t : Stamp) (y : ℕ) (call : Call) (a : Answer) : Type 0 where
+  pub inv : Inv g
+  pub may : May (seen_of (own y g)) call
+  pub is : a ≡ (served (state_of g) t call).answer
+  pub grows : Grows g (next g t (Asked y call true a)) t
+  pub inv_next : Inv (next g t (Asked y call true a))
+
+-- What the sync knows after its call.
+pub seen_next : (g : List Told) (t : Stamp) (y : ℕ) (call : Call) (reached : Bool) (a : Answer)
+    → seen_of (own y (next g t (Asked y call reached a))) ≡ advanced (seen_of (own y g)) call a
+seen_next g t y call reached a =
+    ap (λ (b : Bool). seen_of (if b then record { call = call; answer = a } ∷ own y g else own y g)) (self_number y)
+
+-- A call of an undisturbed sync keeps all facts.
+plain_call : (g : List Told) (t : Stamp) (y : ℕ) (call : Call) (a : Answer) → Inv g → IsFresh g t
+    → May (seen_of (own y g)) call → a ≡ (served (state_of g) t call).answer → Plain g t y call a
+plain_call g t y call a f fresh m e =
+    let k = call_kept g t y call true a f fresh m (Answered refl e) in
+    record {
+      inv = f;
+      may = m;
+      is = e;
+      grows = k.change.grows;
+      inv_next = inv_kept g (next g t (Asked y call true a)) t f k.change;
+    }
+
+-- An entry of an undisturbed sync is such a call.
+by_deed : (y : ℕ) (P : List Told → Type 0)
+    → ((g : List Told) (t : Stamp) (call : Call) (a : Answer) → Plain g t y call a → P g
+    → P (next g t (Asked y call true a)))
+    → (g : List Told) (t : Stamp) (d : Deed) → IsPlain y g t d → Inv g → IsFresh g t → MayDo g d → P g → P (next g t d)
+by_deed y P step g t (Wrote w) p f fresh m before = absurd p
+by_deed y P step g t (Asked x call false a) p f fresh m before = absurd (cc p.1)
+by_deed y P step g t (Asked x call true a) p f fresh m before =
+    let may = subst (λ (z : ℕ). May (seen_of (own z g)) call) p.0 m in
+    subst (λ (z : ℕ). P (next g t (Asked z call true a))) (sym p.0)
+    (step g t call a (plain_call g t y call a f fresh may p.2) before)
+
+-- What each call of an undisturbed sync keeps holds at its end.
+pub run : (y : ℕ) (h : List Told) (P : List Told → Type 0) → P h
+    → ((g : List Told) (t : Stamp) (call : Call) (a : Answer) → Plain g t y call a → P g
+    → P (next g t (Asked y call true a)))
+    → (es : List Told) → IsLegal (es ++ h) → AllFollow (es ++ h) → OthersKeepTo (es ++ h) → Undisturbed y es h
+    → P (es ++ h)
+run y h P base step [] l a o u = base
+run y h P base step (e ∷ es) l a o u =
+    let before = λ (z : ℕ). followed z e.deed (own z (es ++ h)) (a z) in
+    by_deed y P step (es ++ h) e.stamp e.deed u.0 (always (es ++ h) l.2 before o.1) l.0 (may_do (es ++ h) e.deed a)
+    (run y h P base step es l.2 before o.1 u.1)
+
+-- What each entry keeps holds after any number of them.
+pub onward : (h : List Told) (P : List Told → Type 0) → (Inv h → P h)
+    → ((g : List Told) (t : Stamp) (d : Deed) → Inv g → Grows g (next g t d) t → Inv (next g t d) → P g
+    → P (next g t d))
+    → (es : List Told) → IsLegal (es ++ h) → AllFollow (es ++ h) → OthersKeepTo (es ++ h) → P (es ++ h)
+onward h P base step [] l a o = base (always h l a o)
+onward h P base step (e ∷ es) l a o =
+    let before = λ (z : ℕ). followed z e.deed (own z (es ++ h)) (a z) in
+    let f = always (es ++ h) l.2 before o.1 in
+    let k = entry_kept (es ++ h) e.stamp e.deed f l.0 l.1 (may_do (es ++ h) e.deed a) o.0 in
+    step (es ++ h) e.stamp e.deed f k.change.grows
+    (inv_kept (es ++ h) (next (es ++ h) e.stamp e.deed) e.stamp f k.change)
+    (onward h P base step es l.2 before o.1)
+
+-- The histories behind an undisturbed sync keep what is asked of the whole.
+pub legal_before : (h es : List Told) → IsLegal (es ++ h) → IsLegal h
+legal_before h [] l = l
+legal_before h (e ∷ es) l = legal_before h es l.2
+
+-- Each sync followed the protocol in what came before.
+pub followed_before : (h es : List Told) → AllFollow (es ++ h) → AllFollow h
+followed_before h [] a = a
+followed_before h (e ∷ es) a = followed_before h es (λ z. followed z e.deed (own z (es ++ h)) (a z))
+
+-- Others kept to the premises in what came before.
+pub kept_before : (h es : List Told) → OthersKeepTo (es ++ h) → OthersKeepTo h
+kept_before h [] o = o
+kept_before h (e ∷ es) o = kept_before h es o.1

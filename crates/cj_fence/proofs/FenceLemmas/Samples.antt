@@ -1,0 +1,389 @@
+-- Lists of calls that compute: two replicas, a stall between claim and start, help, adoption, Replace with a deletion,
+-- a name that is taken; and lists that break a promise, each refused at the call where it goes wrong.
+use Rattle.std.proofs.Common.{◌≡◌, inl, inr, ℕ, ◌<◌, ◌==◌, Bool, true, false, List, [], ◌∷◌, ◌++◌, length, None, refl, sym, ap, subst, ◌∙◌, arith}
+use Rattle.std.specs.Prelude.{if◌then◌else◌}
+use Rattle.cj_fence.specs.declared.policy.Policy.{Policy}
+use Rattle.cj_fence.specs.declared.policy.Policy.TheVariants.{Allow, Forbid, Replace}
+use Rattle.cj_fence.specs.declared.refs.Ref.{Ref}
+use Rattle.cj_fence.specs.declared.objects.Cron.{Cron}
+use Rattle.cj_fence.specs.declared.objects.Job.{Job}
+use Rattle.cj_fence.specs.declared.call.Call.{Call}
+use Rattle.cj_fence.specs.declared.call.Call.TheVariants as Of
+use Rattle.cj_fence.specs.declared.call.Write.{Write}
+use Rattle.cj_fence.specs.declared.call.Write.TheVariants as By
+use Rattle.cj_fence.specs.declared.answer.Answer.{Answer}
+use Rattle.cj_fence.specs.declared.answer.Answer.TheVariants as Is
+use Rattle.cj_fence.specs.declared.answer.Stamp.{Stamp}
+use Rattle.cj_fence.specs.declared.sync.Sync.TheVariants.{Over}
+use Rattle.cj_fence.specs.Texts.{is_same}
+use Rattle.cj_fence.specs.Tables.{put}
+use Rattle.cj_fence.specs.Objects.{ref}
+use Rattle.cj_fence.specs.Server.{served}
+use Rattle.cj_fence.specs.Protocol.{seen_of, May, Follows}
+use Rattle.cj_fence.specs.History.{Deed, Asked, Wrote, Told, state_of, GaveUid, GaveVersion, IsFresh, Answered, IsLegal, AllFollow, own_after, own, started}
+use Rattle.cj_fence.specs.Others.{OthersKeepTo}
+use Rattle.cj_fence.proofs.FenceLemmas.Entries.{same_number}
+use Rattle.cj_fence.proofs.FenceLemmas.Whole.{followed}
+
+-- ---- how lists are written
+
+abbrev id : ℕ → List ℕ
+id n = n ∷ []
+
+-- the stamp of the entry that comes next
+abbrev stamp : List Told → Stamp
+stamp h = record { uid = id (length h); version = id (length h) }
+
+-- a sync calls, and hears the server's answer
+abbrev asks : ℕ → Call → List Told → List Told
+asks y call h = record { stamp = stamp h; deed = Asked y call true (served (state_of h) (stamp h) call).answer } ∷ h
+
+-- a sync calls, and hears what a cache says
+abbrev hears : ℕ → Call → Answer → List Told → List Told
+hears y call a h = record { stamp = stamp h; deed = Asked y call false a } ∷ h
+
+-- somebody else writes
+abbrev writes : Write → List Told → List Told
+writes w h = record { stamp = stamp h; deed = Wrote w } ∷ h
+
+-- a CronJob under the name 7; the first entry creates it, so that its uid is 0
+abbrev cron_of : Policy → Cron
+cron_of p = record { uid = []; version = []; last = 0; active = []; policy = p; deadline = None }
+
+abbrev born : Policy → List Told
+born p = writes (By.PutCron (id 7) (cron_of p)) []
+
+-- a held Job of it for a time
+abbrev job_for : ℕ → Policy → Job
+job_for t p = record {
+  uid = [];
+  version = [];
+  owner = id 0;
+  time = t;
+  policy = p;
+  held = true;
+  finished = false;
+  deleting = false;
+  pinned = false;
+}
+
+abbrev get : Call
+get = Of.GetCron (id 7)
+
+-- the POST of the Job for a time, under the name of the time
+abbrev hold : ℕ → Policy → Call
+hold t p = Of.Create (id t) (job_for t p)
+
+-- the claim on a version, of a time, for the Job that the entry of this number made, beside others
+abbrev claims_for : ℕ → ℕ → ℕ → List Ref → Call
+claims_for v t n others = Of.Claim (record {
+  name = id 7;
+  uid = id 0;
+  version = id v;
+  time = t;
+  job = ref (id t) (id n);
+  active = others ++ ref (id t) (id n) ∷ [];
+})
+
+abbrev start_of : ℕ → ℕ → Call
+start_of t n = Of.Start (ref (id t) (id n))
+
+-- ---- one sync, and another that helps it
+
+-- the CronJob is read, its Job is held and claimed: the Job of the time 5 has the uid 2
+abbrev claimed_by_one : Policy → List Told
+claimed_by_one p = asks 1 (claims_for 0 5 2 []) (asks 1 (hold 5 p) (asks 1 get (born p)))
+
+-- it may start it, and does
+pub one_may_start : May (seen_of (own 1 (claimed_by_one Forbid))) (start_of 5 2)
+unfolding is_same put
+one_may_start = refl
+
+-- It was started.
+pub one_starts : started (asks 1 (start_of 5 2) (claimed_by_one Forbid)) (ref (id 5) (id 2)) ≡ true
+unfolding is_same put
+one_starts = refl
+
+-- ---- and such a list is one that the laws are about
+
+-- each stamp is the number of its entry
+abbrev Numbered : List Told → Type 0
+Numbered [] = Unit {0}
+Numbered (e ∷ h) = (e.stamp ≡ stamp h) × Numbered h
+
+-- Uids that were given have smaller numbers.
+uids_below : (h : List Told) → Numbered h → (n : ℕ) → GaveUid h (id n) → n < length h
+uids_below [] k n g = absurd g
+uids_below (e ∷ h) k n (inl x) =
+    let same : id (length h) ≡ id n = sym (ap (λ (t : Stamp). t.uid) k.0) ∙ x in
+    let one : length h ≡ n = cc in
+    omega arith
+uids_below (e ∷ h) k n (inr g) = let l = uids_below h k.1 n g in omega arith
+
+-- So have versions.
+versions_below : (h : List Told) → Numbered h → (n : ℕ) → GaveVersion h (id n) → n < length h
+versions_below [] k n g = absurd g
+versions_below (e ∷ h) k n (inl x) =
+    let same : id (length h) ≡ id n = sym (ap (λ (t : Stamp). t.version) k.0) ∙ x in
+    let one : length h ≡ n = cc in
+    omega arith
+versions_below (e ∷ h) k n (inr g) = let l = versions_below h k.1 n g in omega arith
+
+-- The next stamp is fresh.
+next_is_fresh : (h : List Told) → Numbered h → IsFresh h (stamp h)
+next_is_fresh h k = record {
+  uid = λ g. let l = uids_below h k (length h) g in absurd (omega arith);
+  version = λ g. let l = versions_below h k (length h) g in absurd (omega arith);
+}
+
+-- the calls of one sync, and writes of others
+abbrev IsOfOne : Deed → Type 0
+IsOfOne (Asked y call reached a) = y ≡ 1
+IsOfOne (Wrote w) = Unit {0}
+
+abbrev OnlyOne : List Told → Type 0
+OnlyOne [] = Unit {0}
+OnlyOne (e ∷ h) = IsOfOne e.deed × OnlyOne h
+
+-- For all_follow: after one entry more.
+one_more : (d : Deed) (h : List Told) → IsOfOne d → Follows (own_after 1 d (own 1 h)) → ((y : ℕ) → Follows (own y h))
+    → (y : ℕ) → Follows (own_after y d (own y h))
+one_more (Wrote w) h i f k y = k y
+one_more (Asked x call reached a) h i f k y = by_test (x == y) refl
+  where
+    by_test : (b : Bool) → (x == y) ≡ b → Follows (if b then record { call = call; answer = a } ∷ own y h else own y h)
+    by_test true e =
+        let one : 1 ≡ y = sym i ∙ same_number x y e in
+        let both = subst (λ (z : ℕ). Follows (own_after z (Asked x call reached a) (own z h))) one f in
+        subst (λ (b : Bool). Follows (if b then record { call = call; answer = a } ∷ own y h else own y h)) e both
+    by_test false e = k y
+
+-- Where one sync alone calls, all follow the protocol where it does.
+all_follow : (h : List Told) → OnlyOne h → Follows (own 1 h) → AllFollow h
+all_follow [] i f = λ y. tt
+all_follow (e ∷ h) i f = one_more e.deed h i.0 f (all_follow h i.1 (followed 1 e.deed (own 1 h) f))
+
+abbrev whole : List Told
+whole = asks 1 (start_of 5 2) (claimed_by_one Forbid)
+
+-- Each answer in it is the server's.
+pub whole_is_legal : IsLegal whole
+unfolding is_same put
+whole_is_legal = (
+  next_is_fresh (claimed_by_one Forbid) (refl, (refl, (refl, (refl, tt)))),
+  Answered refl refl,
+  (
+    next_is_fresh (asks 1 (hold 5 Forbid) (asks 1 get (born Forbid))) (refl, (refl, (refl, tt))),
+    Answered refl refl,
+    (
+      next_is_fresh (asks 1 get (born Forbid)) (refl, (refl, tt)),
+      Answered refl refl,
+      (next_is_fresh (born Forbid) (refl, tt), Answered refl refl, (next_is_fresh [] tt, tt, tt)),
+    ),
+  ),
+)
+
+-- Its sync follows the protocol.
+pub whole_follows : AllFollow whole
+unfolding is_same put
+whole_follows = all_follow whole (refl, (refl, (refl, (refl, (tt, tt))))) (
+  refl,
+  (
+    record { name = refl; uid = refl; version = refl; time = refl; job = refl; active = refl },
+    (record { owner = refl; held = refl; policy = refl; time = omega arith; alone = refl }, (tt, tt)),
+  ),
+)
+
+-- The user who created the CronJob keeps to the premises.
+pub whole_keeps_to : OthersKeepTo whole
+whole_keeps_to = (tt, (tt, (tt, (tt, (tt, tt)))))
+
+-- ---- help
+
+-- the first replica stalls between claim and start; another one finds the Job held and starts it
+abbrev helped_by_two : List Told
+helped_by_two = asks 2 (start_of 5 2) (asks 2 (Of.GetJob (id 5)) (asks 2 get (claimed_by_one Forbid)))
+
+-- The other replica's start is of the Job that the first one claimed.
+pub two_helps : started helped_by_two (ref (id 5) (id 2)) ≡ true
+unfolding is_same put
+two_helps = refl
+
+-- the first one's start, late, is refused, and its sync is over
+pub late_start : seen_of (own 1 (asks 1 (start_of 5 2) helped_by_two)) ≡ Over
+unfolding is_same put
+late_start = refl
+
+-- The server refuses that late start, since the hold is gone.
+pub late_is_refused : (served (state_of helped_by_two) (stamp helped_by_two) (start_of 5 2)).answer ≡ Is.Refused
+unfolding is_same put
+late_is_refused = refl
+
+-- ---- under Replace: a deletion first
+
+-- the Job of the time 5 runs, and another sync claims the time 6: its Job has the uid 7
+abbrev replaced : List Told
+replaced = asks 2 (claims_for 3 6 7 (ref (id 5) (id 2) ∷ []))
+    (asks 2 (hold 6 Replace) (asks 2 (Of.GetJob (id 5)) (asks 2 get (asks 1 (start_of 5 2) (claimed_by_one Replace)))))
+
+-- A start before the deletion may not be made.
+pub not_beside : May (seen_of (own 2 replaced)) (start_of 6 7) → ⊥
+unfolding is_same put
+not_beside m = m
+
+-- What it may do is delete the Job that runs.
+pub first_deletes : May (seen_of (own 2 replaced)) (Of.Delete (ref (id 5) (id 2)))
+unfolding is_same put
+first_deletes = refl
+
+-- After the deletion it starts its Job.
+pub then_starts : started (asks 2 (start_of 6 7) (asks 2 (Of.Delete (ref (id 5) (id 2))) replaced)) (ref (id 6) (id 7))
+    ≡ true
+unfolding is_same put
+then_starts = refl
+
+-- a third sync that helps deletes first as well
+abbrev helper : List Told
+helper = asks 3 (Of.GetJob (id 6)) (asks 3 (Of.GetJob (id 5)) (asks 3 get replaced))
+
+-- A helper may not start the claimed Job beside the one that runs.
+pub helper_waits : May (seen_of (own 3 helper)) (start_of 6 7) → ⊥
+unfolding is_same put
+helper_waits m = m
+
+-- It deletes the one that runs first.
+pub helper_deletes : May (seen_of (own 3 helper)) (Of.Delete (ref (id 5) (id 2)))
+unfolding is_same put
+helper_deletes = refl
+
+-- ---- adoption, and a name that is taken
+
+-- the first replica stops after it held the Job; the second finds the name taken, looks, and adopts it
+abbrev adopted_by_two : List Told
+adopted_by_two = asks 2 (claims_for 0 5 2 []) (asks 2 (Of.GetJob (id 5)) (asks 2 (hold 5 Forbid)
+    (asks 2 get (asks 1 (hold 5 Forbid) (asks 1 get (born Forbid))))))
+
+-- The Job that the first one held is started by the second.
+pub adopts : started (asks 2 (start_of 5 2) adopted_by_two) (ref (id 5) (id 2)) ≡ true
+unfolding is_same put
+adopts = refl
+
+-- a stranger's Job has the name: it isn't adopted, and another name is taken
+abbrev stranger : Job
+stranger = record (job_for 5 Forbid) { owner = id 9; held = false }
+
+abbrev name_is_taken : List Told
+name_is_taken = asks 1 (Of.GetJob (id 5)) (asks 1 (hold 5 Forbid)
+    (asks 1 get (writes (By.PutJob (id 5) stranger) (born Forbid))))
+
+-- A stranger's Job isn't claimed.
+pub not_adopted : May (seen_of (own 1 name_is_taken)) (claims_for 0 5 1 []) → ⊥
+unfolding is_same put
+not_adopted m = m
+
+-- Under another name the Job is held, claimed and started.
+pub another_name : started (asks 1 (Of.Start (ref (id 50) (id 5))) (asks 1 (Of.Claim (record {
+  name = id 7;
+  uid = id 0;
+  version = id 0;
+  time = 5;
+  job = ref (id 50) (id 5);
+  active = ref (id 50) (id 5) ∷ [];
+})) (asks 1 (Of.Create (id 50) (job_for 5 Forbid)) name_is_taken))) (ref (id 50) (id 5)) ≡ true
+unfolding is_same put
+another_name = refl
+
+-- a Job that was held under Allow, found once the policy is Replace
+abbrev held_under_allow : List Told
+held_under_allow = asks 2 (Of.GetJob (id 5)) (asks 2 get (writes (By.PutCron (id 7) (cron_of Replace))
+    (asks 1 (hold 5 Allow) (asks 1 get (born Allow)))))
+
+-- A Job that was held under another policy isn't claimed.
+pub other_policy : May (seen_of (own 2 held_under_allow)) (claims_for 3 5 2 []) → ⊥
+unfolding is_same put
+other_policy m = m
+
+-- ---- what else goes wrong, and is refused
+
+-- a sync that finds a claimed Job held
+abbrev finds_held : List Told
+finds_held = asks 2 (Of.GetJob (id 5)) (asks 2 get (claimed_by_one Forbid))
+
+-- It may not hold a Job for a later time.
+pub no_other : May (seen_of (own 2 finds_held)) (hold 6 Forbid) → ⊥
+unfolding is_same put
+no_other m = m
+
+-- a claim that leaves its Job out of status.active
+abbrev leaves_out : Call
+leaves_out = Of.Claim (record { name = id 7; uid = id 0; version = id 0; time = 5; job = ref (id 5) (id 2); active = [] })
+
+abbrev before_claim : List Told
+before_claim = asks 1 (hold 5 Forbid) (asks 1 get (born Forbid))
+
+-- Such a claim may not be made.
+pub not_left_out : May (seen_of (own 1 before_claim)) leaves_out → ⊥
+unfolding is_same put
+not_left_out m = absurd (cc m.active)
+
+-- a claim on the version read, after another sync claimed and started a Job
+abbrev stale_claim : List Told
+stale_claim = asks 2 (hold 6 Forbid) (asks 1 (start_of 5 2) (asks 1 (claims_for 0 5 2 []) (asks 2 get before_claim)))
+
+-- The server refuses it: another version stands.
+pub is_conflict : (served (state_of stale_claim) (stamp stale_claim) (claims_for 0 6 6 [])).answer ≡ Is.Refused
+unfolding is_same put
+is_conflict = refl
+
+-- After a claim nothing is created.
+pub nothing_made : May (seen_of (own 1 (claimed_by_one Forbid)))
+    (Of.Create (id 5) (record (job_for 5 Forbid) { held = false })) → ⊥
+unfolding is_same put
+nothing_made m = m
+
+-- a sync that lists the Jobs while another one holds one for a time to come
+abbrev lists_it : List Told
+lists_it = asks 2 Of.ListJobs (asks 2 get before_claim)
+
+-- It may not be deleted.
+pub not_garbage : May (seen_of (own 2 lists_it)) (Of.Delete (ref (id 5) (id 2))) → ⊥
+unfolding is_same put
+not_garbage m = absurd (cc m)
+
+-- a cache that still calls the Job held isn't believed
+abbrev old_cache : List Told
+old_cache = hears 2 (Of.CacheJob (id 5)) (served (state_of (claimed_by_one Forbid)) (stamp [])
+    (Of.GetJob (id 5))).answer
+    (asks 2 get (asks 1 (start_of 5 2) (claimed_by_one Forbid)))
+
+-- The sync may not start it.
+pub not_by_cache : May (seen_of (own 2 old_cache)) (start_of 5 2) → ⊥
+unfolding is_same put
+not_by_cache m = m
+
+-- under Forbid, while the Job of the time 5 runs
+abbrev finds_running : List Told
+finds_running = asks 2 (Of.GetJob (id 5)) (asks 2 get (asks 1 (start_of 5 2) (claimed_by_one Forbid)))
+
+-- Nothing is held beside it.
+pub not_under_forbid : May (seen_of (own 2 finds_running)) (hold 6 Forbid) → ⊥
+unfolding is_same put
+not_under_forbid m = absurd (cc m.alone)
+
+-- A time that was claimed isn't held again.
+pub not_again : May (seen_of (own 1 (asks 1 (start_of 5 2) (claimed_by_one Allow)))) (hold 5 Allow) → ⊥
+unfolding is_same put
+not_again m = let l = m.time in absurd (omega arith)
+
+-- A start by name alone, of whatever uid, may not be made.
+pub not_by_name : May (seen_of (own 1 (claimed_by_one Forbid))) (start_of 5 9) → ⊥
+unfolding is_same put
+not_by_name m =
+    let uid : id 9 ≡ id 2 = ap (λ (r : Ref). r.uid) m in
+    absurd (cc uid)
+
+-- No Job is created started.
+pub not_at_once : May (seen_of (own 1 (asks 1 get (born Forbid))))
+    (Of.Create (id 5) (record (job_for 5 Forbid) { held = false })) → ⊥
+unfolding is_same put
+not_at_once m = absurd (cc m.held)

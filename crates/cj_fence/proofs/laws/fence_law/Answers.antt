@@ -1,0 +1,35 @@
+-- fence_law: its ensures, that whoever calls what, once, alone, claimed and rising hold; and the samples.
+use Rattle.cj_fence.proofs.laws.fence_law.Goals as goal
+use Rattle.cj_fence.proofs.FenceLemmas.Whole.{fenced}
+use Rattle.cj_fence.proofs.FenceLemmas.Samples.{not_under_forbid, not_again, not_by_name, not_at_once, whole_is_legal, whole_follows, whole_keeps_to, another_name, one_may_start, one_starts, two_helps, late_start, late_is_refused, not_beside, first_deletes, then_starts, helper_waits, helper_deletes, adopts, not_adopted, other_policy, no_other, not_left_out, is_conflict, nothing_made, not_garbage, not_by_cache}
+
+pub returns : goal.returns
+returns c =
+    let n0 = not_under_forbid in
+    let n1 = not_again in
+    let n2 = not_by_name in
+    let n3 = not_at_once in
+    let l = whole_is_legal in
+    let f = whole_follows in
+    let k = whole_keeps_to in
+    let s = another_name in
+    let s0 = one_may_start in
+    let s1 = one_starts in
+    let s2 = two_helps in
+    let s3 = late_start in
+    let s4 = late_is_refused in
+    let s5 = not_beside in
+    let s6 = first_deletes in
+    let s7 = then_starts in
+    let s8 = helper_waits in
+    let s9 = helper_deletes in
+    let s10 = adopts in
+    let s11 = not_adopted in
+    let s12 = other_policy in
+    let s13 = no_other in
+    let s14 = not_left_out in
+    let s15 = is_conflict in
+    let s16 = nothing_made in
+    let s17 = not_garbage in
+    let s18 = not_by_cache in
+    fenced

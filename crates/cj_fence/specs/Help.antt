@@ -1,0 +1,76 @@
+-- Help: whoever claimed a Job and then stopped, the next sync that nobody disturbs starts it.
+use Rattle.std.specs.Prelude.{◌⊎◌, ◌≡◌, ℕ, true, List, [], ◌∷◌, ◌++◌, Some}
+use Rattle.cj_fence.specs.declared.refs.Ref.{Ref}
+use Rattle.cj_fence.specs.declared.answer.Stamp.{Stamp}
+use Rattle.cj_fence.specs.declared.sync.Sync.{Sync}
+use Rattle.cj_fence.specs.declared.call.Call.{Call}
+use Rattle.cj_fence.specs.declared.call.Call.TheVariants as Of
+use Rattle.cj_fence.specs.declared.sync.Sync.TheVariants.{Gone, Ready, Holding, Tidying}
+use Rattle.cj_fence.specs.Server.{served}
+use Rattle.cj_fence.specs.Protocol.{Own, seen_of, May}
+use Rattle.cj_fence.specs.History.{Deed, Asked, Wrote, Told, state_of, own, Claimed, claim_of, started, IsLegal, AllFollow}
+use Rattle.cj_fence.specs.Others.{OthersKeepTo}
+use Rattle.cj_fence.specs.Lost.{IsWaiting}
+
+-- a call of this sync that reaches the server, whose answer is the server's and is heard
+abbrev pub IsPlain : ℕ → List Told → Stamp → Deed → Type 0
+IsPlain y h t (Asked x call reached a) = (x ≡ y) × (reached ≡ true)
+    × (a ≡ (served (state_of h) t call).answer)
+IsPlain y h t (Wrote w) = ⊥
+
+-- entries behind a history that are all such calls of this sync: nobody else calls or writes
+-- meanwhile
+-- rule: helped
+abbrev pub Undisturbed : ℕ → List Told → List Told → Type 0
+Undisturbed y [] h = Unit {0}
+Undisturbed y (e ∷ es) h = IsPlain y (es ++ h) e.stamp e.deed × Undisturbed y es h
+
+-- a sync that has come past all that was claimed before: it may claim, has claimed, or clears
+-- rule: helped
+abbrev pub HasLooked : List ℕ → Sync → Type 0
+HasLooked u (Ready at) = at.cron.uid ≡ u
+HasLooked u (Holding at x) = at.cron.uid ≡ u
+HasLooked u (Tidying at gs fs) = at.cron.uid ≡ u
+HasLooked u s = ⊥
+
+-- A claimed Job that waits when a sync of its CronJob begins is started when that sync has come
+-- past it undisturbed.
+-- rule: helped
+abbrev pub HelpLaw : Type 0
+HelpLaw =
+    (h es : List Told) (y : ℕ) (r : Ref) (k : Claimed)
+    → IsLegal (es ++ h) → AllFollow (es ++ h) → OthersKeepTo (es ++ h)
+    → own y h ≡ [] → Undisturbed y es h
+    → claim_of h r ≡ Some k → IsWaiting h r
+    → HasLooked k.owner (seen_of (own y (es ++ h))) → started (es ++ h) r ≡ true
+
+-- a further call that the sync may make
+abbrev pub HasNext : Sync → Type 0
+HasNext s = (call : Call) × May s call
+
+-- a sync that is done: the GET found no CronJob (404), or it has listed the Jobs and removed all
+-- garbage
+abbrev pub IsDone : Sync → Type 0
+IsDone Gone = Unit {0}
+IsDone (Tidying at [] fs) = Unit {0}
+IsDone s = ⊥
+
+-- the DELETE of a Job whose spec.startingDeadlineSeconds have passed
+abbrev pub IsExpire : Call → Type 0
+IsExpire (Of.Expire r v now) = Unit {0}
+IsExpire call = ⊥
+
+-- the sync made one
+abbrev pub HasExpired : List Own → Type 0
+HasExpired [] = ⊥
+HasExpired (o ∷ os) = IsExpire o.call ⊎ HasExpired os
+
+-- A sync that nobody disturbs isn't stuck: it may make a further call, unless it is done, or it
+-- deleted a Job for its deadline.
+-- rule: helped
+abbrev pub NeverStuck : Type 0
+NeverStuck =
+    (h es : List Told) (y : ℕ) → IsLegal (es ++ h) → AllFollow (es ++ h) → OthersKeepTo (es ++ h)
+    → own y h ≡ [] → Undisturbed y es h
+    → HasNext (seen_of (own y (es ++ h)))
+    ⊎ (IsDone (seen_of (own y (es ++ h))) ⊎ HasExpired (own y (es ++ h)))

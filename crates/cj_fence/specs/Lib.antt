@@ -1,0 +1,11 @@
+pub mod Texts
+pub mod Tables
+pub mod Objects
+pub mod Server
+pub mod Protocol
+pub mod History
+pub mod Others
+pub mod Fence
+pub mod Lost
+pub mod Help
+pub mod Garbage

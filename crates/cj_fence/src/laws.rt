@@ -1,0 +1,31 @@
+ghost use Rattle.cj_fence.specs.Fence.{FenceLaw};
+ghost use Rattle.cj_fence.specs.Garbage.{NeverStarted, IsCleared};
+ghost use Rattle.cj_fence.specs.Help.{HelpLaw, NeverStuck};
+ghost use Rattle.cj_fence.specs.Lost.{NothingIsLost, RunningStays};
+
+/// For every list of calls, whoever makes them in whatever order, where each answer is the
+/// server's, each sync follows the protocol, and others keep to the premises: no two Jobs of one
+/// CronJob and one time are started; a Job that was claimed under Forbid or Replace is started
+/// alone; what is started was claimed, once; claimed times rise.
+pub fn fence_law()
+    ensures { FenceLaw }
+{}
+
+/// No call of a sync takes a claimed Job away before it is started, but one that is deleted since
+/// its starting deadline has passed; and whoever claimed it and then stopped, the next sync that
+/// nobody disturbs starts it. Such a sync isn't stuck before it is done. And no call takes a Job
+/// away that runs, but under Replace for one that was claimed later.
+pub fn help_law()
+    ensures lost { NothingIsLost }
+    ensures help { HelpLaw }
+    ensures goes_on { NeverStuck }
+    ensures running { RunningStays }
+{}
+
+/// A held Job that isn't in `status.active` and whose time isn't after `status.lastScheduleTime` is
+/// never started, whatever is called afterwards; and an undisturbed sync that has come to its end
+/// has removed it.
+pub fn no_garbage_law()
+    ensures never { NeverStarted }
+    ensures cleared { IsCleared }
+{}
