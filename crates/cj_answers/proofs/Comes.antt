@@ -31,7 +31,8 @@ fits true = ⊥
 fits false = ℕ
 
 -- a text that is refused is no schedule
-pub text_refused : (text : List ℕ) (fault : ScheduleFault) → ((s : Sets) → IsSchedule text s → fails_by fault ≡ read_as s)
+pub text_refused : (text : List ℕ) (fault : ScheduleFault)
+    → ((s : Sets) → IsSchedule text s → fails_by fault ≡ read_as s)
     → (s : Sets) → IsSchedule text s → ⊥
 text_refused text fault only s said = subst fits (ap is_ok (only s said)) zero
 

@@ -1,15 +1,7 @@
-pub mod AskedForms
-pub mod Checked
 pub mod Comes
-pub mod FilesLemmas
 pub mod LineMarks
 pub mod Nearness
 pub mod NextLemmas
 pub mod Ruled
-pub mod NextTimes
-pub mod Scenes
 pub mod TimeLemmas
 pub mod Zones
-pub mod ItemAnswers
-pub mod ItemData
-pub mod SeenItems

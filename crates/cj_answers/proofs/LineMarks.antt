@@ -56,7 +56,8 @@ begun mark [] h = absurd (omega (arith, h))
 begun mark (b ∷ bs) h = refl
 
 -- what is left behind the last end of a line
-pub rest_marked : (mark text : List ℕ) → position_or_len ends text ≡ length text → marked_without mark text ≡ marked mark text
+pub rest_marked : (mark text : List ℕ) → position_or_len ends text ≡ length text
+    → marked_without mark text ≡ marked mark text
 rest_marked mark [] h = refl
 rest_marked mark (b ∷ bs) h = ap (λ xs. mark ++ xs) (sym (within_rest mark (b ∷ bs) h))
 
@@ -65,4 +66,5 @@ pub line_marked : (mark text : List ℕ) → position_or_len ends text < length 
     → marked mark text ≡ (mark ++ (before_first ends text ++ codes "\n")) ++ marked mark (after_first ends text)
 line_marked mark text h =
     begun mark text (omega (arith, h)) ∙ ap (λ xs. mark ++ xs) (within mark text h)
-    ∙ sym (append_assoc mark (before_first ends text ++ codes "\n") _ ∙ ap (λ xs. mark ++ xs) (append_assoc (before_first ends text) (codes "\n") _))
+    ∙ sym (append_assoc mark (before_first ends text ++ codes "\n") _
+    ∙ ap (λ xs. mark ++ xs) (append_assoc (before_first ends text) (codes "\n") _))

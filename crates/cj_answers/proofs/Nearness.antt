@@ -23,7 +23,8 @@ lt_back : (a b c : ℕ) → nat_lt a b ≡ false → c ≤ b → nat_lt a c ≡ 
 lt_back a b c h l = grind (arith, nat_tests)
 
 -- For below_first, by whether the other name is nearer.
-first_by : (text : List ℕ) (most : ℕ) (other : Option (List ℕ)) (name b : List ℕ) (e : ℕ) → e ≡ edits text name → e < most
+first_by : (text : List ℕ) (most : ℕ) (other : Option (List ℕ)) (name b : List ℕ) (e : ℕ) → e ≡ edits text name
+    → e < most
     → (t : Bool) → nat_lt (edits text b) e ≡ t
     → below text most other (if t then Some b else Some name) ≡ (if t then Some b else Some name)
 first_by text most other name b e is less true at =
@@ -32,14 +33,17 @@ first_by text most other name b e is less false at =
     let h : nat_lt (edits text name) most ≡ true = rw (← is) (lt_yes e most less) in rw h refl
 
 -- a name that is below all that were found so far takes their place
-below_first : (text : List ℕ) (most : ℕ) (other rest : Option (List ℕ)) (name : List ℕ) (e : ℕ) → e ≡ edits text name → e < most
+below_first : (text : List ℕ) (most : ℕ) (other rest : Option (List ℕ)) (name : List ℕ) (e : ℕ) → e ≡ edits text name
+    → e < most
     → below text most other (below text (edits text name) (Some name) rest) ≡ below text e (Some name) rest
 below_first text most other None name e is less =
     let h : nat_lt (edits text name) most ≡ true = rw (← is) (lt_yes e most less) in rw h refl
-below_first text most other (Some b) name e is less = rw (← is) (first_by text most other name b e is less (nat_lt (edits text b) e) refl)
+below_first text most other (Some b) name e is less =
+    rw (← is) (first_by text most other name b e is less (nat_lt (edits text b) e) refl)
 
 -- For below_rest, by whether the other name is nearer.
-rest_by : (text : List ℕ) (most : ℕ) (other : Option (List ℕ)) (name b : List ℕ) (e : ℕ) → e ≡ edits text name → most ≤ e
+rest_by : (text : List ℕ) (most : ℕ) (other : Option (List ℕ)) (name b : List ℕ) (e : ℕ) → e ≡ edits text name
+    → most ≤ e
     → (t : Bool) → nat_lt (edits text b) e ≡ t
     → below text most other (if t then Some b else Some name) ≡ below text most other (Some b)
 rest_by text most other name b e is less true at = refl
@@ -48,21 +52,26 @@ rest_by text most other name b e is less false at =
     let k : nat_lt (edits text b) most ≡ false = lt_back (edits text b) e most at less in rw (h, k) refl
 
 -- one that isn't leaves them
-below_rest : (text : List ℕ) (most : ℕ) (other rest : Option (List ℕ)) (name : List ℕ) (e : ℕ) → e ≡ edits text name → most ≤ e
+below_rest : (text : List ℕ) (most : ℕ) (other rest : Option (List ℕ)) (name : List ℕ) (e : ℕ) → e ≡ edits text name
+    → most ≤ e
     → below text most other (below text (edits text name) (Some name) rest) ≡ below text most other rest
 below_rest text most other None name e is less =
     let h : nat_lt (edits text name) most ≡ false = rw (← is) (lt_no e most less) in rw h refl
-below_rest text most other (Some b) name e is less = rw (← is) (rest_by text most other name b e is less (nat_lt (edits text b) e) refl)
+below_rest text most other (Some b) name e is less =
+    rw (← is) (rest_by text most other name b e is less (nat_lt (edits text b) e) refl)
 
 -- the names that are left, one by one
 left_one : (names : List (Bor (List ℕ))) (i : ℕ) (d : Bor (List ℕ)) → i < length names
-    → map (λ (n : Bor (List ℕ)). n.now) (drop i names) ≡ (get_or names i d).now ∷ map (λ (n : Bor (List ℕ)). n.now) (drop (i + 1) names)
+    → map (λ (n : Bor (List ℕ)). n.now) (drop i names) ≡ (get_or names i d).now
+    ∷ map (λ (n : Bor (List ℕ)). n.now) (drop (i + 1) names)
 left_one names i d h =
     let e : suc i ≡ i + 1 = omega arith in
-    subst (λ k. map (λ (n : Bor (List ℕ)). n.now) (drop i names) ≡ (get_or names i d).now ∷ map (λ (n : Bor (List ℕ)). n.now) (drop k names))
+    subst (λ k. map (λ (n : Bor (List ℕ)). n.now) (drop i names) ≡ (get_or names i d).now
+    ∷ map (λ (n : Bor (List ℕ)). n.now) (drop k names))
     e (ap (map (λ (n : Bor (List ℕ)). n.now)) (drop-cons names i d h))
 
-module _ (text : List ℕ) (names : List (Bor (List ℕ))) (i : ℕ) (d : Bor (List ℕ)) (most e : ℕ) (found all : Option (List ℕ))
+module _ (text : List ℕ) (names : List (Bor (List ℕ))) (i : ℕ) (d : Bor (List ℕ)) (most e : ℕ)
+    (found all : Option (List ℕ))
     (inside : i < length names) (is : e ≡ edits text (get_or names i d).now)
     (upto : below text most found (nearest text (map (λ n. n.now) (drop i names))) ≡ all) where
   -- For meant: its loop, where the name is below those found so far.

@@ -30,8 +30,10 @@ found_behind : (o : Option Zone) (b : Bool) (zone : Zone) → o ≡ None → b �
 found_behind o b zone none is = rw (none, is) refl
 
 -- For zones_of_rule: the zone that was added is found by its name.
-pub added_found : (zones : List Zone) (zone : Zone) (name : List ℕ) → is_refused_name zones name ≡ false → zone.name ≡ name
+pub added_found : (zones : List Zone) (zone : Zone) (name : List ℕ) → is_refused_name zones name ≡ false
+    → zone.name ≡ name
     → zone_named name (zones ++ zone ∷ []) ≡ Some zone
 added_found zones zone name free is =
     find-append (is_named name) zones (zone ∷ [])
-    ∙ found_behind (zone_named name zones) (is_named name zone) zone (none_there zones name free) (named_so zone name is)
+    ∙ found_behind (zone_named name zones) (is_named name zone) zone (none_there zones name free)
+    (named_so zone name is)

@@ -17,7 +17,8 @@ read_as text None found only = λ t is. absurd (cc (only t is))
 
 -- For meant: the first reading that is an instant.
 pub first_read : (text : List ℕ) (a b c d : Option ℕ) → IsRead (text ++ []) a → IsRead (text ++ codes "Z") b
-    → IsRead (text ++ codes ":00Z") c → IsRead (text ++ codes "T00:00:00Z") d → IsMeant text (option_or (option_or (option_or a b) c) d)
+    → IsRead (text ++ codes ":00Z") c → IsRead (text ++ codes "T00:00:00Z") d
+    → IsMeant text (option_or (option_or (option_or a b) c) d)
 first_read text (Some t) b c d ha hb hc hd = inl ha
 first_read text None (Some t) c d ha hb hc hd = inr (inl hb)
 first_read text None None (Some t) d ha hb hc hd = inr (inr (inl hc))

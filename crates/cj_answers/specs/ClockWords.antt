@@ -1,4 +1,5 @@
--- What people are told of local times that a zone's clock skips, or shows twice, and that a schedule names.
+-- What `--explain` says of local times that a zone's clock skips, or shows twice, and that a
+-- schedule names.
 use Rattle.std.specs.Prelude.{◌≡◌, ℕ, ◌+◌, min, List, [], Option, None, Some, codes}
 use Rattle.std.specs.Borrow.{Bor}
 use Rattle.cj_base.specs.Instant.{last_second}
@@ -17,7 +18,8 @@ year_after t = min (t + 31_622_400) last_second
 
 -- the lines of the year after an instant, each with a mark before it
 -- rule: explain-clock
-pub record IsClockWords (mark : List ℕ) (s : Sets) (z : Zone) (after : ℕ) (words : List ℕ) : Type 0 where
+pub record IsClockWords (mark : List ℕ) (s : Sets) (z : Zone) (after : ℕ) (words : List ℕ)
+    : Type 0 where
   pub lines : List ℕ
   pub named : AreNamedLines s z (utc_zone (codes "UTC")) (changes z after (year_after after)) lines
   pub are : words ≡ marked mark lines
@@ -33,10 +35,12 @@ zone_mark = codes "spec.timeZone: "
 
 -- of a text that is a schedule, on the clock of the zone of that name, which is known
 -- rule: explain-clock
-pub record IsNamedClock (name schedule : List ℕ) (zones : List Zone) (after : ℕ) (words : List ℕ) : Type 0 where
-  pub says : (sets : Sets) (zone : Zone) → IsSchedule schedule sets → zone_named name zones ≡ Some zone → IsClockWords zone_mark sets zone after words
+pub record IsNamedClock (name schedule : List ℕ) (zones : List Zone) (after : ℕ) (words : List ℕ)
+    : Type 0 where
+  pub says : (sets : Sets) (zone : Zone) → IsSchedule schedule sets
+      → zone_named name zones ≡ Some zone → IsClockWords zone_mark sets zone after words
 
--- of a CronJob that names no zone nothing is told, as UTC never changes
+-- of a CronJob that names no zone nothing is said, as UTC never changes
 -- rule: explain-clock
 abbrev pub IsZoneClock : Option (List ℕ) → List ℕ → List Zone → ℕ → List ℕ → Type 0
 IsZoneClock None schedule zones after words = words ≡ []
@@ -46,4 +50,5 @@ IsZoneClock (Some name) schedule zones after words = IsNamedClock name schedule 
 -- rule: explain-clock
 abbrev pub IsClockAdvice : CronSpec → List Zone → Option ℕ → List ℕ → Type 0
 IsClockAdvice spec zones None words = words ≡ []
-IsClockAdvice spec zones (Some after) words = IsZoneClock spec.time_zone spec.schedule zones after words
+IsClockAdvice spec zones (Some after) words =
+    IsZoneClock spec.time_zone spec.schedule zones after words

@@ -1,4 +1,4 @@
--- What is told of a list of a cluster's objects: the items that can't be used, and why bytes are no list.
+-- A list of a cluster's objects, in lines: the items that can't be used, and why bytes are no list.
 use Rattle.std.specs.Prelude.{◌≡◌, ◌≢◌, ℕ, List, [], ◌∷◌, ◌++◌, Bool, true, false, codes, decimal}
 use Rattle.std.specs.List.{list_all}
 use Rattle.cj_base.specs.declared.faults.FieldFault.{FieldFault}
@@ -13,7 +13,7 @@ use Rattle.cj_cluster.specs.declared.kubectl.fault.ListFault.TheVariants as Why
 use Rattle.cj_cluster.specs.kubectl.Reading.{IsRefusedList}
 use Rattle.cj_answers.specs.declared.answer.Ending.{Ending}
 use Rattle.cj_answers.specs.declared.answer.Ending.TheVariants.{Done, Refused}
-use Rattle.cj_answers.specs.Check.{fault_line}
+use Rattle.cj_answers.specs.Lines.{fault_line}
 use Rattle.cj_answers.specs.Json.{IsJsonWords}
 use Rattle.cj_answers.specs.Outcome.{Outcome, explained, refusal}
 
@@ -36,8 +36,8 @@ kind_name Of.Run = codes "Job"
 abbrev pub taken_line : ListedKind → List ℕ → List ℕ
 taken_line kind key = codes "duplicate " ++ (kind_name kind ++ (codes " " ++ (key ++ codes "\n")))
 
--- `item N kind KIND` of an object that is neither a CronJob nor a Job, `item N duplicate KIND NAMESPACE/NAME` of one
--- whose name an earlier one has
+-- `item N kind KIND` of an object that is neither a CronJob nor a Job, `item N duplicate KIND
+-- NAMESPACE/NAME` of one whose name an earlier one has
 -- rule: cluster-faults
 abbrev pub said_lines : ℕ → Said → List ℕ
 said_lines n (Was.Kind kind) = item_prefix n ++ (codes "kind " ++ (kind ++ codes "\n"))
@@ -58,7 +58,8 @@ item_fault_words n (f ∷ fs) = (item_prefix n ++ fault_words f) ++ item_fault_w
 -- rule: cluster-explained
 abbrev pub taken_words : ListedKind → List ℕ → List ℕ
 taken_words kind key =
-    codes "duplicate: two " ++ (kind_name kind ++ (codes "s are named " ++ (key ++ codes "; the first one is read\n")))
+    codes "duplicate: two "
+    ++ (kind_name kind ++ (codes "s are named " ++ (key ++ codes "; the first one is read\n")))
 
 abbrev pub said_words : ℕ → Said → List ℕ
 said_words n (Was.Kind kind) = []

@@ -29,4 +29,5 @@ spec_zone (Some name) zones = zone_named name zones
 -- of a CronJob whose schedule is one, and whose zone is known
 -- rule: explain-advice
 pub record IsScheduleAdvice (spec : CronSpec) (zones : List Zone) (words : List ℕ) : Type 0 where
-  pub says : (sets : Sets) (zone : Zone) → IsSchedule spec.schedule sets → spec_zone spec.time_zone zones ≡ Some zone → IsComing sets zone words
+  pub says : (sets : Sets) (zone : Zone) → IsSchedule spec.schedule sets
+      → spec_zone spec.time_zone zones ≡ Some zone → IsComing sets zone words

@@ -88,7 +88,8 @@ pub record RefusesItsZone (r : DescribeRequest) (files : List ZoneFile) (o : Out
   pub after : ℕ
   pub start : asked_moment r.after ≡ Some after
   pub none : IsNoZoneFor r.time_zone r.zone files
-  pub answer : o ≡ explained r.explain (next_zone_words r.time_zone) (refusal (codes "cronsim: zone\n"))
+  pub answer : o ≡ explained r.explain (next_zone_words r.time_zone)
+      (refusal (codes "cronsim: zone\n"))
 
 -- else it is described
 pub record Describes (r : DescribeRequest) (files : List ZoneFile) (o : Outcome) : Type 0 where

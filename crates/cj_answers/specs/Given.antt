@@ -18,10 +18,11 @@ AreGiven words files zones = IsTableWith (map (λ r. r.now) words.rules.items) f
 abbrev pub IsNoneGiven : ZoneWords → List ZoneFile → Type 0
 IsNoneGiven words files = (zones : List Zone) → AreGiven words files zones → ⊥
 
--- the zones that an input with zones of its own is read under: those of the rules, with UTC as the local one, and
--- the files
+-- the zones that an input with zones of its own is read under: those of the rules, with UTC as the
+-- local one, and the files
 -- rules: zone-option, zoneinfo
-pub record IsReadUnder (words : ZoneWords) (files : List ZoneFile) (given : GivenZones) : Type 0 where
+pub record IsReadUnder (words : ZoneWords) (files : List ZoneFile) (given : GivenZones)
+    : Type 0 where
   pub rules : AreGiven words [] (zones_of given.rules)
   pub local : local_zone given.rules ≡ Some (utc_zone (codes "UTC"))
   pub files_are : given.files.now ≡ files

@@ -1,4 +1,4 @@
--- What people are told of bytes that are no JSON (RFC 8259).
+-- What `--explain` says of bytes that are no JSON (RFC 8259).
 use Rattle.std.specs.Prelude.{◌≡◌, ◌⊎◌, ℕ, ◌<◌, ◌==◌, ◌||◌, Bool, not, List, [], ◌++◌, length, take, Option, None, Some, codes, decimal, if◌then◌else◌}
 use Rattle.std.specs.List.{find}
 use Rattle.serde_json.specs.Data.{Data}
@@ -32,7 +32,8 @@ shape_of bytes = shape_by (first_byte bytes)
 
 -- rule: explain-json
 abbrev pub json_line : ℕ → ℕ → List ℕ
-json_line line column = codes "FILE: no JSON at line " ++ (decimal line ++ (codes ", column " ++ (decimal column ++ codes "\n")))
+json_line line column = codes "FILE: no JSON at line "
+    ++ (decimal line ++ (codes ", column " ++ (decimal column ++ codes "\n")))
 
 -- rule: explain-json
 abbrev pub empty_words : List ℕ
@@ -57,11 +58,12 @@ pub record IsFollowed (bytes : List ℕ) : Type 0 where
   pub first : Reads (take count bytes) value
   pub more : count < length bytes
 
--- where more stands behind a value, that this is so
+-- where more is behind a value, that this is so
 abbrev pub IsMore : List ℕ → List ℕ → Type 0
 IsMore bytes words = (words ≡ []) ⊎ ((words ≡ several_words) × IsFollowed bytes)
 
--- the line with the place that `serde_json` tells, and what stands behind it; which place it is isn't stated
+-- the line with the place that `serde_json` gives, and what is behind it; which place it is isn't
+-- stated
 pub record IsPlaced (More : List ℕ → Type 0) (words : List ℕ) : Type 0 where
   pub line : ℕ
   pub column : ℕ
@@ -82,7 +84,8 @@ IsJsonWords bytes words = IsWordsFor (shape_of bytes) bytes words
 
 -- how a manifest in YAML turns into one
 abbrev pub yaml_words_for : TextShape → List ℕ
-yaml_words_for Plain = codes "FILE: of YAML, kubectl create --dry-run=client -o json -f FILE makes JSON\n"
+yaml_words_for Plain =
+    codes "FILE: of YAML, kubectl create --dry-run=client -o json -f FILE makes JSON\n"
 yaml_words_for Empty = []
 yaml_words_for Braced = []
 

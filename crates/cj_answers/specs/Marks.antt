@@ -1,7 +1,7 @@
 -- Lines with a mark before each.
 use Rattle.std.specs.Prelude.{ℕ, ◌==◌, Bool, true, false, List, [], ◌∷◌, ◌++◌}
 
--- the mark stands before a byte that begins the text or follows the end of a line
+-- the mark goes before a byte that begins the text or follows the end of a line
 abbrev pub marked_from : Bool → List ℕ → List ℕ → List ℕ
 marked_from begins mark [] = []
 marked_from true mark (b ∷ bs) = mark ++ (b ∷ marked_from (b == 10) mark bs)

@@ -5,7 +5,7 @@ use Rattle.cj_base.specs.Instant.{last_second}
 use Rattle.jiff_core.specs.declared.error.Error.{Error}
 use Rattle.jiff_fmt.specs.Temporal.{parse_timestamp}
 
--- so many seconds, where they are an instant
+-- a number of seconds, where it is an instant
 abbrev pub second_of : ℤ → Option ℕ
 second_of (pos n) = if nat_le n last_second then Some n else None
 second_of (negsuc n) = None
@@ -14,7 +14,8 @@ abbrev pub instant_by : Result ℤ Error → Option ℕ
 instant_by (Ok nanos) = second_of (int_div nanos (pos 1_000_000_000))
 instant_by (Err e) = None
 
--- an instant of RFC 3339, with `Z` or an offset, as jiff reads it; a fraction of a second is left out
+-- an instant of RFC 3339, with `Z` or an offset, as jiff reads it; a fraction of a second is left
+-- out
 -- rule: moment-text
 abbrev pub instant_of : List ℕ → Option ℕ
 instant_of text = instant_by (parse_timestamp text)
@@ -72,7 +73,8 @@ span_end count unit (b ∷ bs) = None
 abbrev pub span_from : ℕ → List ℕ → Option ℕ
 span_from count [] = None
 span_from count (b ∷ bs) =
-    if is_digit b then (if nat_le count 1_000_000_000 then span_from (count * 10 + (b - 48)) bs else None)
+    if is_digit b
+    then (if nat_le count 1_000_000_000 then span_from (count * 10 + (b - 48)) bs else None)
     else span_end count b bs
 
 abbrev pub before : ℕ → Option ℕ → Option ℕ

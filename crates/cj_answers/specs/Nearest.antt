@@ -1,4 +1,5 @@
--- Which of some names a text is near to: the one from which it differs least, by Levenshtein's distance.
+-- Which of some names a text is near to: the one from which it differs least, by Levenshtein's
+-- distance.
 use Rattle.std.specs.Prelude.{ℕ, ◌+◌, ◌/◌, List, [], ◌∷◌, length, Option, None, Some, nat_eq, nat_lt, if◌then◌else◌}
 use Rattle.strsim.specs.Edits.{levenshtein_row}
 
@@ -6,7 +7,7 @@ use Rattle.strsim.specs.Edits.{levenshtein_row}
 unfoldable pub edits : List ℕ → List ℕ → ℕ
 edits text name = levenshtein_row nat_eq text name (length name)
 
--- a name where fewer bytes differ than so many, else another or none
+-- a name where fewer bytes differ than that number, else another or none
 abbrev pub below : List ℕ → ℕ → Option (List ℕ) → Option (List ℕ) → Option (List ℕ)
 below text most other None = other
 below text most other (Some name) = if nat_lt (edits text name) most then Some name else other

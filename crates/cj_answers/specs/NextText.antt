@@ -9,8 +9,10 @@ use Rattle.cj_due.specs.Due.{reach, IsQuiet, IsLeastDue}
 abbrev pub line_of : ℕ → List ℕ
 line_of t = time_text_of t ++ codes "\n"
 
--- `t` is the least due instant after `after`, on the first line; the rest of the text goes on from it
-pub record GoesOn (s : Sets) (z : Zone) (after : ℕ) (text : List ℕ) (Rest : ℕ → List ℕ → Type 0) : Type 0 where
+-- `t` is the least due instant after `after`, on the first line; the rest of the text goes on from
+-- it
+pub record GoesOn (s : Sets) (z : Zone) (after : ℕ) (text : List ℕ) (Rest : ℕ → List ℕ → Type 0)
+    : Type 0 where
   pub t : ℕ
   pub rest : List ℕ
   pub least : IsLeastDue s z after (after + reach) t
@@ -22,8 +24,8 @@ pub record Ends (s : Sets) (z : Zone) (after : ℕ) (text : List ℕ) : Type 0 w
   pub quiet : IsQuiet s z after (after + reach)
   pub says : text ≡ codes "none\n"
 
--- the lines of so many due instants, each the least one after the one before, or `none` and an end where
--- there is none
+-- the lines of that number of due instants, each the least one after the one before, or `none` and
+-- an end where there is none
 -- rule: next-lines
 abbrev pub IsNextText : Sets → Zone → ℕ → ℕ → List ℕ → Type 0
 IsNextText s z after zero text = text ≡ []

@@ -13,6 +13,8 @@ use Rattle.cj_zone.specs.declared.zone.Zone.{Zone}
 use Rattle.cj_zone.specs.Made.{IsMade}
 use Rattle.cj_zone.specs.Zones.{utc_zone, zone_named}
 use Rattle.cj_zone.specs.TimeText.{time_text_of}
+use Rattle.cj_io.specs.declared.exit_status.ExitStatus.{ExitStatus}
+use Rattle.cj_io.specs.declared.exit_status.ExitStatus.TheVariants as Status
 use Rattle.cj_io.specs.declared.zone_files.file.ZoneFile.{ZoneFile}
 use Rattle.cj_io.specs.zone_files.Files.{IsTableWith}
 use Rattle.cj_explain.specs.Schedules.{IsExplained}
@@ -33,18 +35,20 @@ pub record Outcome : Type 0 where
 
 -- the exit status of the program
 -- rule: statuses
-abbrev pub status_of : Ending → ℕ
-status_of Done = 0
-status_of Refused = 1
+abbrev pub status_of : Ending → ExitStatus
+status_of Done = Status.Success
+status_of Refused = Status.Refused
 
 abbrev pub outcome_of : Answer → Outcome
-outcome_of a = record { ending = a.ending; printed = string_bytes a.printed; said = string_bytes a.said }
+outcome_of a =
+    record { ending = a.ending; printed = string_bytes a.printed; said = string_bytes a.said }
 
 -- the input was refused, with one line on standard error
 abbrev pub refusal : List ℕ → Outcome
 refusal line = record { ending = Refused; printed = []; said = line }
 
--- an outcome with what is said of it to people, behind the fixed lines and only where they asked for it
+-- an outcome with what is said of it to people, behind the fixed lines and only where they asked
+-- for it
 -- rule: explain
 abbrev pub explained : Bool → List ℕ → Outcome → Outcome
 explained true words o = record o { said = o.said ++ words }
@@ -68,7 +72,8 @@ pub record IsInForm (output : List ℕ) (Answer : Type 0) : Type 0 where
 abbrev pub schedule_line : ScheduleFault → List ℕ
 schedule_line f =
     codes "cronsim: schedule "
-    ++ (decimal f.field ++ (codes " " ++ (decimal f.byte ++ (codes " " ++ (cause_name f.cause ++ codes "\n")))))
+    ++ (decimal f.field
+    ++ (codes " " ++ (decimal f.byte ++ (codes " " ++ (cause_name f.cause ++ codes "\n")))))
 
 -- no instant up to the end of 9998 is printed so
 abbrev pub IsNoTime : List ℕ → Type 0
@@ -106,7 +111,8 @@ pub record IsLookedUp (name : List ℕ) (files : List ZoneFile) (zone : Option Z
 
 -- by the name of the zone, or by its rule, not by both
 -- rule: zoneinfo
-abbrev pub IsNextZone : Option (Bor (List ℕ)) → Option (Bor (List ℕ)) → List ZoneFile → Zone → Type 0
+abbrev pub IsNextZone : Option (Bor (List ℕ)) → Option (Bor (List ℕ)) → List ZoneFile → Zone
+    → Type 0
 IsNextZone None rule files zone = IsZoneOf rule zone
 IsNextZone (Some name) None files zone = IsLookedUp name.now files (Some zone)
 IsNextZone (Some name) (Some rule) files zone = ⊥
@@ -118,7 +124,8 @@ IsNoNextZone (Some name) None files = IsLookedUp name.now files None
 IsNoNextZone (Some name) (Some rule) files = Unit {0}
 
 -- the line of a schedule's fault, and what is wrong with the text
-pub record IsScheduleRefusal (explain : Bool) (text : List ℕ) (fault : ScheduleFault) (o : Outcome) : Type 0 where
+pub record IsScheduleRefusal (explain : Bool) (text : List ℕ) (fault : ScheduleFault) (o : Outcome)
+    : Type 0 where
   pub words : List ℕ
   pub are : IsExplained text fault words
   pub answer : o ≡ explained explain words (refusal (schedule_line fault))
@@ -170,11 +177,13 @@ pub record RefusesZone (r : NextRequest) (files : List ZoneFile) (o : Outcome) :
   pub after : ℕ
   pub start : IsTime r.after.now after
   pub none : IsNoNextZone r.time_zone r.zone files
-  pub answer : o ≡ explained r.explain (next_zone_words r.time_zone) (refusal (codes "cronsim: zone\n"))
+  pub answer : o ≡ explained r.explain (next_zone_words r.time_zone)
+      (refusal (codes "cronsim: zone\n"))
 
--- the due times of a schedule in a zone are printed, in lines or as JSON; people are told of what the zone's clock skips or
--- shows twice
-pub record TellsTimes (r : NextRequest) (sets : Sets) (zone : Zone) (after : ℕ) (o : Outcome) : Type 0 where
+-- the due times of a schedule in a zone are printed, in lines or as JSON; `--explain` adds what the
+-- zone's clock skips or shows twice
+pub record TellsTimes (r : NextRequest) (sets : Sets) (zone : Zone) (after : ℕ) (o : Outcome)
+    : Type 0 where
   pub text : List ℕ
   pub times : IsNextPrinted (is_json r.output.now) r sets zone after text
   pub words : List ℕ
@@ -194,8 +203,10 @@ pub record PrintsTimes (r : NextRequest) (files : List ZoneFile) (o : Outcome) :
 -- what `next` answers in a form that there is
 -- rules: next-json, next-lines
 abbrev pub IsNextAnswer : NextRequest → List ZoneFile → Outcome → Type 0
-IsNextAnswer r files o = RefusesSchedule r o ⊎ RefusesTime r o ⊎ RefusesZone r files o ⊎ PrintsTimes r files o
+IsNextAnswer r files o =
+    RefusesSchedule r o ⊎ RefusesTime r o ⊎ RefusesZone r files o ⊎ PrintsTimes r files o
 
 -- the form is looked at first
 abbrev pub IsNextOutcome : NextRequest → List ZoneFile → Outcome → Type 0
-IsNextOutcome r files o = RefusesForm r.explain r.output.now o ⊎ IsInForm r.output.now (IsNextAnswer r files o)
+IsNextOutcome r files o =
+    RefusesForm r.explain r.output.now o ⊎ IsInForm r.output.now (IsNextAnswer r files o)

@@ -9,10 +9,12 @@ use Rattle.cj_answers.specs.Nearest.{meant}
 abbrev pub names_at : Place → List (List ℕ)
 names_at In.Top = codes "apiVersion" ∷ codes "kind" ∷ codes "metadata" ∷ codes "spec" ∷ []
 names_at In.Metadata =
-    codes "name" ∷ codes "namespace" ∷ codes "labels" ∷ codes "annotations" ∷ codes "uid" ∷ codes "resourceVersion" ∷ []
+    codes "name" ∷ codes "namespace" ∷ codes "labels" ∷ codes "annotations" ∷ codes "uid"
+    ∷ codes "resourceVersion" ∷ []
 names_at In.Spec =
     codes "schedule" ∷ codes "timeZone" ∷ codes "concurrencyPolicy" ∷ codes "suspend"
-    ∷ codes "startingDeadlineSeconds" ∷ codes "successfulJobsHistoryLimit" ∷ codes "failedJobsHistoryLimit"
+    ∷ codes "startingDeadlineSeconds" ∷ codes "successfulJobsHistoryLimit"
+    ∷ codes "failedJobsHistoryLimit"
     ∷ codes "jobTemplate" ∷ []
 names_at In.Template = codes "metadata" ∷ codes "spec" ∷ []
 names_at In.TemplateMetadata = codes "labels" ∷ codes "annotations" ∷ []
@@ -28,8 +30,10 @@ behind front path = drop (length front) path
 -- the object that a path leads into, and the member in it
 abbrev pub member_of : List ℕ → Place × List ℕ
 member_of path =
-    if begins (codes "spec.jobTemplate.metadata.") path then (In.TemplateMetadata, behind (codes "spec.jobTemplate.metadata.") path)
-    else if begins (codes "spec.jobTemplate.") path then (In.Template, behind (codes "spec.jobTemplate.") path)
+    if begins (codes "spec.jobTemplate.metadata.") path then
+    (In.TemplateMetadata, behind (codes "spec.jobTemplate.metadata.") path)
+    else if begins (codes "spec.jobTemplate.") path then
+    (In.Template, behind (codes "spec.jobTemplate.") path)
     else if begins (codes "spec.") path then (In.Spec, behind (codes "spec.") path)
     else if begins (codes "metadata.") path then (In.Metadata, behind (codes "metadata.") path)
     else (In.Top, path)

@@ -11,7 +11,8 @@ joined text =
     then before_first (λ b. b == 32) text ++ (codes "T" ++ after_first (λ b. b == 32) text)
     else text
 
--- the text is an instant as it stands, or with one of the ends that may be left out: its Z, its seconds, its clock
+-- the text is an instant as it stands, or with one of the ends that may be left out: its Z, its
+-- seconds, its clock
 -- rule: explain-time
 abbrev pub IsMeantAt : List ℕ → ℕ → Type 0
 IsMeantAt text t =
@@ -36,7 +37,7 @@ abbrev pub words_on : List ℕ → Option ℕ → List ℕ
 words_on option None = []
 words_on option (Some t) = said_time option t
 
--- the time that is meant is told, if there is one
+-- the time that is meant, if there is one
 -- rule: explain-time
 pub record IsTimeWords (option text words : List ℕ) : Type 0 where
   pub meant : Option ℕ

@@ -1,4 +1,5 @@
-// What people are told of a manifest without a fault: the members that are dropped, and what is worth a look.
+// What `--explain` says of a manifest without a fault: the members that are dropped, and what is
+// worth a look.
 ghost use Rattle.std.specs.Prelude.{◌≡◌, ◌++◌, IfErr, IfOk, string_bytes};
 ghost use Rattle.cj_base.specs.declared.refusal.Refusal.TheVariants.{OutOfMemory};
 ghost use Rattle.cj_zone.specs.Table.{zones_of};
@@ -91,7 +92,7 @@ fn dropped_words(alloc: Global, warning: &Warning) -> Result<String, AllocError>
 }
 
 /// A line for each member that is dropped.
-pub(crate) fn all_dropped_words(alloc: Global, warnings: &[Warning]) -> Result<String, AllocError>
+pub fn all_dropped_words(alloc: Global, warnings: &[Warning]) -> Result<String, AllocError>
     ensures { IfOk result (λ s. string_bytes s ≡ dropped_words_all warnings.now) }
 {
     let mut text = String::new(alloc);
@@ -132,8 +133,9 @@ fn advice_on(
     Ok(joined_advice(alloc, spec, coming, clock.as_str())?)
 }
 
-/// A line for each thing in a manifest without a fault that is worth a look, of its zone's clock behind a moment.
-pub(crate) fn advice(
+/// A line for each thing in a manifest without a fault that is worth a look, of its zone's clock
+/// behind a moment.
+pub fn manifest_advice(
     alloc: Global,
     zones: &ZoneTable,
     manifest: &Manifest,

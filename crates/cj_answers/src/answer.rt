@@ -30,7 +30,7 @@ impl Answer {
         })
     }
 
-    /// The same answer with what is said to people after it, where they ask for that.
+    /// The answer with these words behind it on standard error, where `--explain` asks for them.
     pub fn explained(self, explain: bool, words: &str) -> Result<Answer, AllocError>
         ensures { IfOk result (λ a. outcome_of a ≡ explained explain words.now (outcome_of self)) }
     {

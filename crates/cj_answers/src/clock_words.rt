@@ -1,4 +1,5 @@
-// What people are told of local times that a zone's clock skips, or shows twice, and that a schedule names.
+// What `--explain` says of local times that a zone's clock skips, or shows twice, and that a
+// schedule names.
 ghost use Rattle.std.specs.Prelude.{◌≡◌, IfOk, IfErr, codes, string_bytes};
 ghost use Rattle.cj_base.specs.declared.refusal.Refusal.TheVariants.{OutOfMemory};
 ghost use Rattle.cj_schedule.specs.Grammar.{IsSchedule};
@@ -52,8 +53,8 @@ fn named_lines(
     )
 }
 
-/// A line for each change of a zone's clock in the year after an instant by which local times are skipped, or come
-/// twice, that the schedule names; each with the mark before it.
+/// A line for each change of a zone's clock in the year after an instant by which local times are
+/// skipped, or come twice, that the schedule names; each with the mark before it.
 pub(crate) fn clock_words(
     alloc: Global,
     mark: &str,
@@ -128,8 +129,8 @@ fn zone_clock(
     }
 }
 
-/// Such lines of a CronJob's schedule, on the clock of the zone that it names, behind a moment; none where it names none,
-/// or there is no moment.
+/// Such lines of a CronJob's schedule, on the clock of the zone that it names, behind a moment;
+/// none where it names none, or there is no moment.
 pub(crate) fn clock_advice(
     alloc: Global,
     zones: &ZoneTable,

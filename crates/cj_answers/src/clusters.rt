@@ -1,4 +1,4 @@
-// What is told of a list of a cluster's objects.
+// The items of a list of a cluster's objects that can't be used, in lines.
 ghost use Rattle.std.specs.Prelude.{◌≡◌, ◌++◌, IfOk, OnOk, codes, string_bytes};
 ghost use Rattle.cj_cluster.specs.kubectl.Reading.{IsRefusedList};
 ghost use Rattle.cj_cluster.specs.declared.kubectl.fault.ListFault.TheVariants as Fault;
@@ -15,7 +15,7 @@ use cj_io::Failure;
 use std::alloc::{AllocError, Global};
 
 /// The beginning of the lines of an item.
-pub(crate) fn item_prefix(alloc: Global, place: u64) -> Result<String, AllocError>
+pub fn item_prefix(alloc: Global, place: u64) -> Result<String, AllocError>
     ensures { IfOk result (λ s. string_bytes s ≡ told.item_prefix place) }
 {
     format!(in alloc; "item {place} ")
@@ -86,7 +86,7 @@ fn push_said(alloc: Global, text: &mut String, place: u64, said: &Said) -> Resul
 }
 
 /// The lines of the items that can't be used.
-pub(crate) fn note_lines(alloc: Global, notes: &[ItemNote]) -> Result<String, AllocError>
+pub fn note_lines(alloc: Global, notes: &[ItemNote]) -> Result<String, AllocError>
     ensures { IfOk result (λ s. string_bytes s ≡ told.note_lines notes.now) }
 {
     let mut text = String::new(alloc);
@@ -139,7 +139,7 @@ fn push_said_words(
 }
 
 /// What is wrong with those that are refused, and what is wanted.
-pub(crate) fn note_words(alloc: Global, notes: &[ItemNote]) -> Result<String, AllocError>
+pub fn note_words(alloc: Global, notes: &[ItemNote]) -> Result<String, AllocError>
     ensures { IfOk result (λ s. string_bytes s ≡ told.note_words notes.now) }
 {
     let mut text = String::new(alloc);
@@ -159,14 +159,14 @@ fn is_other(said: &Said) -> bool
 }
 
 /// Whether no item was refused.
-pub(crate) fn is_read(notes: &[ItemNote]) -> bool
+pub fn is_read(notes: &[ItemNote]) -> bool
     ensures { result ≡ told.is_read notes.now }
 {
     notes.iter().all(|note| is_other(&note.said))
 }
 
 /// Done where all is well.
-pub(crate) fn ending_by(is_well: bool) -> Ending
+pub fn ending_by(is_well: bool) -> Ending
     ensures { result ≡ told.ending_by is_well }
 {
     if is_well {
@@ -204,7 +204,7 @@ fn no_list(alloc: Global, explain: bool) -> Result<Answer, AllocError>
 }
 
 /// What bytes are answered that are no list.
-pub(crate) fn refused_list(
+pub fn refused_list(
     alloc: Global,
     explain: bool,
     bytes: &[u8],

@@ -11,7 +11,8 @@ use cj_schedule::Schedule;
 use cj_types::{CronSpec, Seconds, Text};
 use cj_zone::{Zone, ZoneTable};
 
-// A schedule that comes at all comes within 3,000 days of any start: 29 February comes within eight years.
+// A schedule that comes at all comes within 3,000 days of any start: 29 February comes within eight
+// years.
 const LOOK_FROM: u64 = 1_704_067_200;
 
 // The beginning of 2024.

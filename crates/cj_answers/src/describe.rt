@@ -94,7 +94,7 @@ fn described(
     Ok(text)
 }
 
-// The same as JSON or in lines.
+// The answer as JSON or in lines.
 fn printed(
     alloc: Global,
     describe: &DescribeRequest<'_>,
@@ -113,7 +113,8 @@ fn printed(
     }
 }
 
-// What is answered in a form that there is: the schedule is looked at first, then the start, then the zone.
+// What is answered in a form that there is: the schedule is looked at first, then the start, then
+// the zone.
 fn form_answer(
     alloc: Global,
     describe: &DescribeRequest<'_>,
@@ -146,8 +147,8 @@ fn form_answer(
     })
 }
 
-/// What the command `describe` answers: the form of what is printed is looked at first, then the schedule, then the
-/// start, then the zone.
+/// What the command `describe` answers: the form of what is printed is looked at first, then the
+/// schedule, then the start, then the zone.
 pub fn describe_answer(
     alloc: Global,
     describe: &DescribeRequest<'_>,

@@ -14,9 +14,9 @@ use std::alloc::Global;
 // What a zone has to be.
 const PAIR_WORDS: &str = "--zone: want NAME=RULE like Europe/Berlin=CET-1CEST,M3.5.0,M10.5.0/3\n";
 
-/// UTC, the zones of the rules, then those of the files, with UTC as the local zone; none where a rule is
-/// refused.
-pub(crate) fn given_zones(
+/// UTC, the zones of the rules, then those of the files, with UTC as the local zone; none where a
+/// rule is refused.
+pub fn given_zones(
     alloc: Global,
     words: &ZoneWords<'_>,
     files: &[ZoneFile],
@@ -33,8 +33,8 @@ pub(crate) fn given_zones(
     }
 }
 
-/// The zones that an input with zones of its own is read under: those of the rules, with UTC as the local zone, and the
-/// files; none where a rule is refused.
+/// The zones that an input with zones of its own is read under: those of the rules, with UTC as the
+/// local zone, and the files; none where a rule is refused.
 pub fn given_for<'a>(
     alloc: Global,
     words: &ZoneWords<'_>,

@@ -1,4 +1,4 @@
-// What people are told of bytes that are no JSON.
+// What `--explain` says of bytes that are no JSON.
 ghost use Rattle.std.specs.Prelude.{◌≡◌, ◌++◌, IfOk, string_bytes, true};
 ghost use Rattle.serde_json.specs.Data.{Data};
 ghost use Rattle.cj_manifest.specs.Reading.{Reads};
@@ -68,7 +68,7 @@ struct TextPlace {
     column: usize,
 }
 
-// The place that `serde_json` tells.
+// The place that `serde_json` gives.
 fn place_of(alloc: Global, bytes: &[u8]) -> Result<TextPlace, Failure> {
     match Value::from_slice(alloc, bytes) {
         Ok(_) => Ok(TextPlace { line: 0, column: 0 }),
@@ -80,7 +80,7 @@ fn place_of(alloc: Global, bytes: &[u8]) -> Result<TextPlace, Failure> {
     }
 }
 
-// How many bytes stand before that place.
+// How many bytes are before that place.
 fn bytes_before(bytes: &[u8], place: TextPlace) -> usize {
     let mut line = 1usize;
     let mut start = 0;
@@ -114,7 +114,7 @@ fn is_value(alloc: Global, bytes: &[u8]) -> Result<bool, Failure>
     }
 }
 
-// What is said where a value stands before that place, and more behind it.
+// What is said where a value ends before that place, and more is behind it.
 fn more_words(alloc: Global, bytes: &[u8], place: TextPlace) -> Result<&'static str, Failure>
     ensures { IfOk result (λ s. IsMore bytes.now s.now) }
 {
@@ -130,7 +130,7 @@ fn more_words(alloc: Global, bytes: &[u8], place: TextPlace) -> Result<&'static 
     }
 }
 
-// The line with a place, and what stands behind it.
+// The line with a place, and what is behind it.
 fn placed(alloc: Global, place: TextPlace, more: &str) -> Result<String, AllocError>
     ensures { IfOk result (λ s. string_bytes s ≡ json_line place.line place.column ++ more.now) }
 {
@@ -155,9 +155,10 @@ fn plain_words(alloc: Global, bytes: &[u8]) -> Result<String, Failure>
     Ok(placed(alloc, place, NO_YAML_WORDS)?)
 }
 
-/// What is said of bytes that are no JSON, by what they look like: that they are empty; or the place at which
-/// `serde_json` finds that they are none, with a line where one value stands behind another, or on YAML.
-pub(crate) fn json_words(alloc: Global, bytes: &[u8]) -> Result<String, Failure>
+/// What is said of bytes that are no JSON, by what they look like: that they are empty; or the
+/// place at which `serde_json` finds that they are none, with a line where one value is behind
+/// another, or on YAML.
+pub fn json_words(alloc: Global, bytes: &[u8]) -> Result<String, Failure>
     ensures { IfOk result (λ s. IsJsonWords bytes.now (string_bytes s)) }
 {
     match shape_of(bytes) {
@@ -179,7 +180,7 @@ fn yaml_words_for(shape: TextShape) -> &'static str
 }
 
 /// How a manifest turns into JSON that may be YAML.
-pub(crate) fn yaml_words(bytes: &[u8]) -> &'static str
+pub fn yaml_words(bytes: &[u8]) -> &'static str
     ensures { result.now ≡ yaml_words bytes.now }
 {
     yaml_words_for(shape_of(bytes))

@@ -1,37 +1,12 @@
+// Lines of faults, of members that are dropped, and of a manifest without a fault.
 ghost use Rattle.std.specs.Prelude.{◌≡◌, IfOk, string_bytes};
-ghost use Rattle.cj_answers.specs.Check.{cause_text, fault_line, fault_lines, ok_line, schedule_cause, warning_line, warning_lines};
+ghost use Rattle.cj_answers.specs.Lines.{fault_line, fault_lines, ok_line, warning_line, warning_lines};
 
-use cj_base::{Cause, FieldFault, ScheduleFault};
+use cj_base::FieldFault;
 use cj_manifest::Warning;
 use cj_types::Key;
+use cj_views::cause_text;
 use std::alloc::{AllocError, Global};
-
-fn print_schedule_fault(alloc: Global, fault: ScheduleFault) -> Result<String, AllocError>
-    ensures { IfOk result (λ s. string_bytes s ≡ schedule_cause fault) }
-{
-    let ScheduleFault { field, byte, cause } = fault;
-    let cause = cause.name();
-    format!(in alloc; "Schedule {field} {byte} {cause}")
-}
-
-/// A cause as it is printed.
-pub(crate) fn print_cause(alloc: Global, cause: Cause) -> Result<String, AllocError>
-    ensures { IfOk result (λ s. string_bytes s ≡ cause_text cause) }
-{
-    let word = match cause {
-        Cause::Required => "Required",
-        Cause::WrongType => "Type",
-        Cause::NotSupported => "NotSupported",
-        Cause::Fraction => "Fraction",
-        Cause::TooLong => "TooLong",
-        Cause::Format => "Format",
-        Cause::Range => "Range",
-        Cause::Zone => "Zone",
-        Cause::NotAllowed => "NotAllowed",
-        Cause::Schedule(fault) => return print_schedule_fault(alloc, fault),
-    };
-    String::from_str(alloc, word)
-}
 
 /// A fault, on a line of its own.
 pub fn print_fault(alloc: Global, fault: FieldFault) -> Result<String, AllocError>
@@ -39,7 +14,7 @@ pub fn print_fault(alloc: Global, fault: FieldFault) -> Result<String, AllocErro
 {
     let FieldFault { field, cause } = fault;
     let path = field.path();
-    let cause = print_cause(alloc, cause)?;
+    let cause = cause_text(alloc, cause)?;
     let cause = cause.as_str();
     format!(in alloc; "refused 2 {path} {cause}\n")
 }

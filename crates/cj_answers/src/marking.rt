@@ -27,7 +27,7 @@ fn push_rest(text: &mut String, mark: &str, rest: &str) -> Result<(), AllocError
 }
 
 /// The text with the mark before each of its lines.
-pub(crate) fn marked(alloc: Global, mark: &str, text: &str) -> Result<String, AllocError>
+pub fn marked(alloc: Global, mark: &str, text: &str) -> Result<String, AllocError>
     ensures { IfOk result (λ s. string_bytes s ≡ marked mark.now text.now) }
 {
     let mut marked = String::new(alloc);

@@ -37,9 +37,9 @@ fn date_of(alloc: Global, date: &str) -> Result<Option<Seconds>, AllocError>
     Ok(instant_of(text.as_str()))
 }
 
-/// The moment that a text says: a time of RFC 3339 with `Z` or an offset, or a date alone, whose first moment in UTC it
-/// is; none where it says none, or one before 1970 or after 9998.
-pub fn moment_of(alloc: Global, text: &str) -> Result<Option<Seconds>, AllocError>
+/// The moment that a text says: a time of RFC 3339 with `Z` or an offset, or a date alone, whose
+/// first moment in UTC it is; none where it says none, or one before 1970 or after 9998.
+pub(crate) fn moment_of(alloc: Global, text: &str) -> Result<Option<Seconds>, AllocError>
     ensures { IfOk result (λ m. m ≡ moment_of text.now) }
 {
     match instant_of(text) {
@@ -49,7 +49,7 @@ pub fn moment_of(alloc: Global, text: &str) -> Result<Option<Seconds>, AllocErro
 }
 
 /// The moment that is asked about, where one is.
-pub(crate) fn asked_moment(alloc: Global, text: Option<&str>) -> Result<Option<Seconds>, AllocError>
+pub fn asked_moment(alloc: Global, text: Option<&str>) -> Result<Option<Seconds>, AllocError>
     ensures { IfOk result (λ m. m ≡ asked_moment text.entry) }
 {
     match text {
@@ -59,7 +59,7 @@ pub(crate) fn asked_moment(alloc: Global, text: Option<&str>) -> Result<Option<S
 }
 
 /// Whether a text is a moment; so is none at all.
-pub(crate) fn is_moment(alloc: Global, text: Option<&str>) -> Result<bool, AllocError>
+pub fn is_moment(alloc: Global, text: Option<&str>) -> Result<bool, AllocError>
     ensures { IfOk result (λ b. b ≡ is_moment text.entry) }
 {
     match text {
@@ -73,7 +73,7 @@ const MOMENT_WORDS: &str =
     "--now: want a time like 2024-01-01T00:00:00Z or 2024-01-01T01:00:00+01:00, a date like 2024-01-01, now, or -1h or +2d from now\n";
 
 /// What is answered where the value of `--now` is no moment.
-pub(crate) fn refused_now(alloc: Global, explain: bool) -> Result<Answer, AllocError>
+pub fn refused_now(alloc: Global, explain: bool) -> Result<Answer, AllocError>
     ensures { IfOk result (λ a. outcome_of a ≡ explained explain moment_words
         (refusal (codes "cronsim: time\n"))) }
 {

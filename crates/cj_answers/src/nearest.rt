@@ -12,8 +12,8 @@ fn edits(alloc: Global, text: &[u8], name: &str) -> Result<usize, AllocError>
     generic_levenshtein(alloc, text, name.as_bytes())
 }
 
-/// The name that may be meant by the text: the nearest, the first one of several that are as near; none where
-/// none is near.
+/// The name that may be meant by the text: the nearest, the first one of several that are as near;
+/// none where none is near.
 pub(crate) fn meant<'n>(
     alloc: Global,
     text: &[u8],

@@ -217,8 +217,8 @@ fn form_answer(alloc: Global, next: &NextRequest<'_>, files: &[ZoneFile]) -> Res
     times_answer(alloc, next, &schedule, table.default_zone(), after)
 }
 
-/// What the command `next` answers: the form of what is printed is looked at first, then the schedule, then the start,
-/// then the zone.
+/// What the command `next` answers: the form of what is printed is looked at first, then the
+/// schedule, then the start, then the zone.
 pub fn next_answer(
     alloc: Global,
     next: &NextRequest<'_>,

@@ -19,8 +19,8 @@ fn push_line(alloc: Global, text: &mut String, at: Seconds) -> Result<(), Refusa
     Ok(())
 }
 
-/// The lines that `next` prints: so many due times, each the least one after the one before, the first one
-/// after `after`; or `none` and an end where none is within 3,000 days.
+/// The lines that `next` prints: `count` due times, each the least one after the one before, the
+/// first one after `after`; or `none` and an end where none is within 3,000 days.
 pub fn next_text(
     alloc: Global,
     schedule: &Schedule,

@@ -109,8 +109,8 @@ fn shifted(clock: Seconds, bytes: &[u8]) -> Option<Seconds>
     }
 }
 
-/// The moment that a text says by a clock: `now`, or so much before or after it, as `-90m` or `+2d`; none where it says
-/// none, or one before 1970 or after 9998.
+/// The moment that a text says by a clock: `now`, or so much before or after it, as `-90m` or
+/// `+2d`; none where it says none, or one before 1970 or after 9998.
 pub fn by_clock(clock: Seconds, text: &str) -> Option<Seconds>
     ensures { result ≡ by_clock clock text.now }
 {

@@ -74,7 +74,8 @@ fn words_of(alloc: Global, meant: Option<&str>) -> Result<String, AllocError>
     }
 }
 
-/// What the member at a path may have been meant to be: words on the known member that is nearest, where one is near.
+/// What the member at a path may have been meant to be: words on the known member that is nearest,
+/// where one is near.
 #[tactic(auto, unfolding(crate::specs::Suggestion::suggestion))]
 pub(crate) fn suggested(alloc: Global, path: &str) -> Result<String, AllocError>
     ensures { IfOk result (λ s. string_bytes s ≡ suggestion path.now) }

@@ -51,7 +51,8 @@ fn said_time(alloc: Global, option: &str, meant: Seconds) -> Result<String, Refu
     Ok(format!(in alloc; "{option}: did you mean {time}?\n")?)
 }
 
-/// Words on the time that the value of an option may have been meant to be; none where it is like no time.
+/// Words on the time that the value of an option may have been meant to be; none where it is like
+/// no time.
 pub(crate) fn time_words(alloc: Global, option: &str, text: &str) -> Result<String, Failure>
     ensures { IfOk result (λ s. IsTimeWords option.now text.now (string_bytes s)) }
 {
@@ -62,8 +63,9 @@ pub(crate) fn time_words(alloc: Global, option: &str, text: &str) -> Result<Stri
     }
 }
 
-/// What is answered where the value of an option is no time: what is wanted of it, and what may be meant.
-pub(crate) fn refused_time(
+/// What is answered where the value of an option is no time: what is wanted of it, and what may be
+/// meant.
+pub fn refused_time(
     alloc: Global,
     explain: bool,
     want: &str,

@@ -19,7 +19,8 @@ pub new_is : (a : Arg) (id : Text) → rule_of a ≡ new_rule id → a.global �
 new_is a id rule local = record { rule = rule; local = local }
 
 -- what help says of an argument is no rule of it
-pub help_is : (r : Rule) (old new : Arg) (text : Bor Text) → new ≡ record old { help = Some text } → IsArg r old → IsArg r new
+pub help_is : (r : Rule) (old new : Arg) (text : Bor Text) → new ≡ record old { help = Some text } → IsArg r old
+    → IsArg r new
 help_is r old new text is at = record {
   rule = ap rule_of is ∙ at.rule;
   local = ap (λ (a : Arg). a.global) is ∙ at.local;
@@ -42,7 +43,8 @@ short_is r old new letter is at = record {
 }
 
 -- so is the name of its value
-pub value_name_is : (r : Rule) (old new : Arg) (name : Bor Text) → new ≡ record old { val_names = One name } → IsArg r old
+pub value_name_is : (r : Rule) (old new : Arg) (name : Bor Text) → new ≡ record old { val_names = One name }
+    → IsArg r old
     → IsArg (record r { value_names = 1 }) new
 value_name_is r old new name is at = record {
   rule = ap rule_of is ∙ ap (λ (x : Rule). record x { value_names = 1 }) at.rule;
@@ -58,7 +60,8 @@ required_is r old new needed is at = record {
 }
 
 -- so is what is done where it is given
-pub action_is : (r : Rule) (old new : Arg) (action : ArgAction) → new ≡ record old { action = Some action } → IsArg r old
+pub action_is : (r : Rule) (old new : Arg) (action : ArgAction) → new ≡ record old { action = Some action }
+    → IsArg r old
     → IsArg (record r { action = Some action }) new
 action_is r old new action is at = record {
   rule = ap rule_of is ∙ ap (λ (x : Rule). record x { action = Some action }) at.rule;
@@ -66,7 +69,8 @@ action_is r old new action is at = record {
 }
 
 -- so is the value that it has where it is not given
-pub default_is : (r : Rule) (old new : Arg) (value : Bor Text) → new ≡ record old { default_vals = One value } → IsArg r old
+pub default_is : (r : Rule) (old new : Arg) (value : Bor Text) → new ≡ record old { default_vals = One value }
+    → IsArg r old
     → IsArg (record r { defaults = value.now ∷ [] }) new
 default_is r old new value is at = record {
   rule = ap rule_of is ∙ ap (λ (x : Rule). record x { defaults = value.now ∷ [] }) at.rule;
@@ -104,7 +108,8 @@ pub new_command_is : (c : Command) (name : Text) → app_of c ≡ new_app name �
 new_command_is c name app local = record { app = app; local = local }
 
 -- what help says of a command is nothing that a parse reads
-pub about_is : (a : App) (old new : Command) (text : Bor Text) → out-Command new ≡ record (out-Command old) { about = Some text }
+pub about_is : (a : App) (old new : Command) (text : Bor Text)
+    → out-Command new ≡ record (out-Command old) { about = Some text }
     → IsCommand a old → IsCommand a new
 about_is a old new text is at = record {
   app = ap app_of_fields is ∙ at.app;
@@ -138,11 +143,13 @@ subcommand_required_is a old new needed is at = record {
 }
 
 -- where a command could be made, it is the one that is meant
-at_ok : {E : Type 0} (made : Result Command E) (a : App) (c : Command) → made ≡ Ok c → IfOk made (IsCommand a) → IsCommand a c
+at_ok : {E : Type 0} (made : Result Command E) (a : App) (c : Command) → made ≡ Ok c → IfOk made (IsCommand a)
+    → IsCommand a c
 at_ok made a c is at = rw is at at
 
 -- an argument that is added to a command is one more rule of it
-pub arg_is : {E F : Type 0} (made : Result Command E) (result : Result Command F) (a : App) (r : Rule) (old : Command) (arg : Arg)
+pub arg_is : {E F : Type 0} (made : Result Command E) (result : Result Command F) (a : App) (r : Rule) (old : Command)
+    (arg : Arg)
     → made ≡ Ok old → IfOk result (λ new. AddsArg old arg new) → IfOk made (IsCommand a) → IsArg r arg
     → IfOk result (IsCommand (with_rule a r))
 arg_is made result a r old arg ok adds meant is =
@@ -153,7 +160,8 @@ arg_is made result a r old arg ok adds meant is =
     }) adds
 
 -- a command that is added below another is one more of its subcommands
-pub subcommand_is : {E F G : Type 0} (made : Result Command E) (made_below : Result Command F) (result : Result Command G)
+pub subcommand_is : {E F G : Type 0} (made : Result Command E) (made_below : Result Command F)
+    (result : Result Command G)
     (a b : App) (old below : Command) → made ≡ Ok old → made_below ≡ Ok below
     → IfOk result (λ new. AddsSubcommand old below new) → IfOk made (IsCommand a) → IfOk made_below (IsCommand b)
     → IfOk result (IsCommand (with_subcommand a b.top))

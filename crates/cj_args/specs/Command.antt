@@ -1,6 +1,6 @@
 -- The command line, as `clap` reads it.
 use Rattle.std.specs.Prelude.{◌≡◌, ℕ, ◌≤◌, List, [], ◌∷◌, codes, Option, None, Some, option_map, Bool, true, false, bytes_eq}
-use Rattle.std.specs.Prelude.{⊤, ◌≢◌, map, unwrap_or, slice_get}
+use Rattle.std.specs.Prelude.{⊤, ◌≢◌, ◌⊎◌, Result, IfOk, IfErr, map, unwrap_or, slice_get}
 use Rattle.std.specs.Borrow.{Bor}
 use Rattle.std.specs.Str.Parse.{IsNumeral, digits_value, without_leading_plus}
 use Rattle.clap.specs.Lexer.{usize_max}
@@ -26,7 +26,8 @@ abbrev pub schedule_rule : Rule
 schedule_rule = record (new_rule (codes "schedule")) { required = true; value_names = 1 }
 
 abbrev pub after_rule : Rule
-after_rule = record (new_rule (codes "after")) { long = Some (codes "after"); required = true; value_names = 1 }
+after_rule = record (new_rule (codes "after"))
+    { long = Some (codes "after"); required = true; value_names = 1 }
 
 -- how many due times, and how many where nobody says it
 abbrev pub count_rule : Text → Rule
@@ -43,22 +44,29 @@ zone_rule = record (new_rule (codes "zone")) { long = Some (codes "zone"); value
 -- the name of a zone that is looked up in a folder
 -- rule: zoneinfo
 abbrev pub time_zone_rule : Rule
-time_zone_rule = record (new_rule (codes "time-zone")) { long = Some (codes "time-zone"); value_names = 1 }
+time_zone_rule =
+    record (new_rule (codes "time-zone")) { long = Some (codes "time-zone"); value_names = 1 }
 
 -- the zones that an input may name: an option that may be given several times
 -- rule: zoneinfo
 abbrev pub zones_rule : Rule
-zones_rule = record (new_rule (codes "zone")) { long = Some (codes "zone"); action = Some Append; value_names = 1 }
+zones_rule = record (new_rule (codes "zone")) {
+  long = Some (codes "zone");
+  action = Some Append;
+  value_names = 1;
+}
 
 -- the folder of zone files
 -- rule: zoneinfo
 abbrev pub folder_rule : Rule
-folder_rule = record (new_rule (codes "zoneinfo")) { long = Some (codes "zoneinfo"); value_names = 1 }
+folder_rule =
+    record (new_rule (codes "zoneinfo")) { long = Some (codes "zoneinfo"); value_names = 1 }
 
 -- a flag of every command
 -- rule: explain
 abbrev pub explain_rule : Rule
-explain_rule = record (new_rule (codes "explain")) { long = Some (codes "explain"); action = Some SetTrue }
+explain_rule =
+    record (new_rule (codes "explain")) { long = Some (codes "explain"); action = Some SetTrue }
 
 -- `.. [--zoneinfo DIR] [--explain]`
 abbrev pub with_folder : App → App
@@ -68,7 +76,8 @@ with_folder a = with_rule (with_rule a folder_rule) explain_rule
 abbrev pub with_zones : App → App
 with_zones a = with_folder (with_rule a zones_rule)
 
--- the form of what is printed, by the letter that `kubectl` has for it, and which it is where nobody says it
+-- the form of what is printed, by the letter that `kubectl` has for it, and which it is where
+-- nobody says it
 -- rule: output
 abbrev pub output_rule : Text → Rule
 output_rule usual = record (new_rule (codes "output")) {
@@ -82,11 +91,13 @@ output_rule usual = record (new_rule (codes "output")) {
 abbrev pub lines_rule : Rule
 lines_rule = output_rule (codes "lines")
 
--- `cronsim next SCHEDULE --after TIME [--count N] [--zone RULE] [--time-zone NAME] [-o FORMAT] [--zoneinfo DIR] [--explain]`
+-- `cronsim next SCHEDULE --after TIME [--count N] [--zone RULE] [--time-zone NAME] [-o FORMAT]
+-- [--zoneinfo DIR] [--explain]`
 abbrev pub next_app : App
 next_app =
     let from = with_rule (with_rule (new_app (codes "next")) schedule_rule) after_rule in
-    let zoned = with_rule (with_rule (with_rule from (count_rule (codes "1"))) zone_rule) time_zone_rule in
+    let zoned = with_rule (with_rule (with_rule from (count_rule (codes "1"))) zone_rule)
+    time_zone_rule in
     with_folder (with_rule zoned lines_rule)
 
 abbrev pub file_rule : Rule
@@ -99,25 +110,30 @@ flag_rule id = record (new_rule id) { long = Some id; action = Some SetTrue }
 -- one file or more
 -- rule: check-several
 abbrev pub files_rule : Rule
-files_rule = record file_rule { range = Some (record { start_inclusive = 1; end_inclusive = usize_max }) }
+files_rule =
+    record file_rule { range = Some (record { start_inclusive = 1; end_inclusive = usize_max }) }
 
 -- a moment that may be left out
 abbrev pub moment_rule : Rule
 moment_rule = record (new_rule (codes "now")) { long = Some (codes "now"); value_names = 1 }
 
--- `cronsim check FILE.. [--strict] [--now TIME] [-o FORMAT] [--zone NAME=RULE].. [--zoneinfo DIR] [--explain]`
+-- `cronsim check FILE.. [--strict] [--now TIME] [-o FORMAT] [--zone NAME=RULE].. [--zoneinfo DIR]
+-- [--explain]`
 -- rule: check-strict
 abbrev pub check_app : App
 check_app =
-    let of = with_rule (with_rule (new_app (codes "check")) files_rule) (flag_rule (codes "strict")) in
+    let of =
+    with_rule (with_rule (new_app (codes "check")) files_rule) (flag_rule (codes "strict")) in
     with_zones (with_rule (with_rule of moment_rule) lines_rule)
 
 abbrev pub now_rule : Rule
-now_rule = record (new_rule (codes "now")) { long = Some (codes "now"); required = true; value_names = 1 }
+now_rule =
+    record (new_rule (codes "now")) { long = Some (codes "now"); required = true; value_names = 1 }
 
 -- `cronsim plan FILE --now TIME [-o FORMAT] [--zone NAME=RULE].. [--zoneinfo DIR] [--explain]`
 abbrev pub plan_app : App
-plan_app = with_zones (with_rule (with_rule (with_rule (new_app (codes "plan")) file_rule) now_rule) lines_rule)
+plan_app = with_zones (with_rule (with_rule (with_rule (new_app (codes "plan")) file_rule) now_rule)
+    lines_rule)
 
 -- `cronsim replay FILE [--zone NAME=RULE].. [--zoneinfo DIR] [--explain]`
 abbrev pub replay_app : App
@@ -131,30 +147,37 @@ workers_rule = record (new_rule (codes "workers")) {
   parser = Some (Unsigned 1 32);
 }
 
--- `cronsim run FILE --workers N [--timeline] [--history] [--svg] [-o FORMAT] [--zone NAME=RULE].. [--zoneinfo DIR]
--- [--explain]`
+-- `cronsim run FILE --workers N [--timeline] [--history] [--svg] [-o FORMAT] [--zone NAME=RULE]..
+-- [--zoneinfo DIR] [--explain]`
 abbrev pub run_app : App
 run_app =
     let of = with_rule (with_rule (new_app (codes "run")) file_rule) workers_rule in
-    let shown = with_rule (with_rule of (flag_rule (codes "timeline"))) (flag_rule (codes "history")) in
+    let shown = with_rule (with_rule of (flag_rule (codes "timeline")))
+    (flag_rule (codes "history")) in
     with_zones (with_rule (with_rule shown (flag_rule (codes "svg"))) lines_rule)
 
 -- an option that may be given several times
 abbrev pub crons_rule : Rule
-crons_rule = record (new_rule (codes "cron")) { long = Some (codes "cron"); action = Some Append; value_names = 1 }
+crons_rule = record (new_rule (codes "cron")) {
+  long = Some (codes "cron");
+  action = Some Append;
+  value_names = 1;
+}
 
 -- the namespace, by the letter that `kubectl` has for it
 abbrev pub namespace_rule : Rule
 namespace_rule =
-    record (new_rule (codes "namespace")) { long = Some (codes "namespace"); short = Some 110; value_names = 1 }
+    record (new_rule (codes "namespace"))
+    { long = Some (codes "namespace"); short = Some 110; value_names = 1 }
 
--- `cronsim why FILE [--now TIME] [--cron [NAMESPACE/]NAME].. [-n NAMESPACE] [-o FORMAT] [--problems] [--zone NAME=RULE]..
--- [--zoneinfo DIR] [--explain]`
+-- `cronsim why FILE [--now TIME] [--cron [NAMESPACE/]NAME].. [-n NAMESPACE] [-o FORMAT]
+-- [--problems] [--zone NAME=RULE].. [--zoneinfo DIR] [--explain]`
 abbrev pub why_app : App
 why_app =
     let of = with_rule (with_rule (new_app (codes "why")) file_rule) moment_rule in
     let named = with_rule (with_rule of crons_rule) namespace_rule in
-    with_zones (with_rule (with_rule named (output_rule (codes "table"))) (flag_rule (codes "problems")))
+    with_zones (with_rule (with_rule named (output_rule (codes "table")))
+    (flag_rule (codes "problems")))
 
 -- `cronsim audit FILE [-o FORMAT] [--svg] [--zone NAME=RULE].. [--zoneinfo DIR] [--explain]`
 abbrev pub audit_app : App
@@ -170,7 +193,8 @@ from_rule = record (new_rule (codes "from")) { long = Some (codes "from"); value
 -- rule: upcoming-length
 abbrev pub length_rule : Rule
 length_rule =
-    record (new_rule (codes "for")) { long = Some (codes "for"); value_names = 1; defaults = codes "24h" ∷ [] }
+    record (new_rule (codes "for"))
+    { long = Some (codes "for"); value_names = 1; defaults = codes "24h" ∷ [] }
 
 -- how many of the fullest minutes, none where nobody says it
 -- rule: upcoming-peaks
@@ -182,11 +206,12 @@ peaks_rule = record (new_rule (codes "peaks")) {
   defaults = codes "0" ∷ [];
 }
 
--- `cronsim upcoming FILE.. [--from TIME] [--for LENGTH] [--cron [NAMESPACE/]NAME].. [-n NAMESPACE] [--peaks N]
--- [-o FORMAT] [--svg] [--zone NAME=RULE].. [--zoneinfo DIR] [--explain]`
+-- `cronsim upcoming FILE.. [--from TIME] [--for LENGTH] [--cron [NAMESPACE/]NAME].. [-n NAMESPACE]
+-- [--peaks N] [-o FORMAT] [--svg] [--zone NAME=RULE].. [--zoneinfo DIR] [--explain]`
 abbrev pub upcoming_app : App
 upcoming_app =
-    let of = with_rule (with_rule (with_rule (new_app (codes "upcoming")) files_rule) from_rule) length_rule in
+    let of = with_rule (with_rule (with_rule (new_app (codes "upcoming")) files_rule) from_rule)
+    length_rule in
     let named = with_rule (with_rule (with_rule of crons_rule) namespace_rule) peaks_rule in
     with_zones (with_rule (with_rule named lines_rule) (flag_rule (codes "svg")))
 
@@ -194,19 +219,21 @@ upcoming_app =
 abbrev pub since_rule : Rule
 since_rule = record (new_rule (codes "after")) { long = Some (codes "after"); value_names = 1 }
 
--- `cronsim describe SCHEDULE [--after TIME] [--count N] [--zone RULE] [--time-zone NAME] [-o FORMAT] [--zoneinfo DIR]
--- [--explain]`
+-- `cronsim describe SCHEDULE [--after TIME] [--count N] [--zone RULE] [--time-zone NAME] [-o
+-- FORMAT] [--zoneinfo DIR] [--explain]`
 abbrev pub describe_app : App
 describe_app =
     let from = with_rule (with_rule (new_app (codes "describe")) schedule_rule) since_rule in
-    let zoned = with_rule (with_rule (with_rule from (count_rule (codes "5"))) zone_rule) time_zone_rule in
+    let zoned = with_rule (with_rule (with_rule from (count_rule (codes "5"))) zone_rule)
+    time_zone_rule in
     with_folder (with_rule zoned lines_rule)
 
 -- the commands on a schedule and on a manifest
 abbrev pub reading_app : App
 reading_app =
     let bare = new_app (codes "cronsim") in
-    let top = record bare { top = record bare.top { has_version = true; subcommand_required = true } } in
+    let top =
+    record bare { top = record bare.top { has_version = true; subcommand_required = true } } in
     with_subcommand (with_subcommand top next_app.top) check_app.top
 
 -- those and the command on a decision
@@ -228,9 +255,10 @@ cronsim_app = with_subcommand (with_subcommand clustered_app upcoming_app.top) d
 
 -- the text is decimal digits, after a plus or none, that spell the number
 abbrev pub IsDecimal : Text → ℕ → Type 0
-IsDecimal text n = IsNumeral 10 (without_leading_plus text) × (digits_value 10 (without_leading_plus text) ≡ n)
+IsDecimal text n =
+    IsNumeral 10 (without_leading_plus text) × (digits_value 10 (without_leading_plus text) ≡ n)
 
--- `clap` states `true` as the value of a flag that stands among the words
+-- `clap` states `true` as the value of a flag that is given
 abbrev pub is_true : Option Text → Bool
 is_true None = false
 is_true (Some text) = bytes_eq text (codes "true")
@@ -247,6 +275,14 @@ texts_of id rows = unwrap_or (all_of id rows) []
 pub record AreZones (rows : List Row) (z : ZoneWords) : Type 0 where
   pub rules : texts_of (codes "zone") rows ≡ map (λ s. s.now) z.rules.items
   pub folder : first_of (codes "zoneinfo") rows ≡ option_map (λ s. s.now) z.folder
+
+-- what the rows of a command are read as: a request that has the values which `clap` states for its
+-- arguments; no request, where none has these values; or no memory
+abbrev pub Reads : {R : Type 0} → (R → Type 0) → Result R WordFault → Type 0
+Reads {R} Is result =
+    IfOk result Is
+    × IfErr result (λ e. (e ≡ Incomplete) ⊎ (e ≡ OutOfMemory))
+    × IfErr result (λ e. e ≡ Incomplete → (r : R) → ¬ (Is r))
 
 -- the request has the values that `clap` states for the arguments of `next`
 pub record IsNext (rows : List Row) (r : NextRequest) : Type 0 where
@@ -287,7 +323,8 @@ pub record IsReplay (rows : List Row) (r : ReplayRequest) : Type 0 where
 -- and for those of `run`
 pub record IsRunOf (rows : List Row) (r : RunRequest) : Type 0 where
   pub file : first_of (codes "file") rows ≡ Some r.file.now
-  pub workers : (text : Text) × (first_of (codes "workers") rows ≡ Some text) × IsDecimal text r.workers
+  pub workers : (text : Text) × (first_of (codes "workers") rows ≡ Some text)
+      × IsDecimal text r.workers
   pub least : 1 ≤ r.workers
   pub most : r.workers ≤ 32
   pub timeline : r.timeline ≡ is_given (codes "timeline") rows
@@ -348,12 +385,15 @@ abbrev pub IsOfRows : Option (Text × List Row) → Request → Type 0
 IsOfRows found (Next r) = (rows : List Row) × (found ≡ Some (codes "next", rows)) × IsNext rows r
 IsOfRows found (Check r) = (rows : List Row) × (found ≡ Some (codes "check", rows)) × IsCheck rows r
 IsOfRows found (Plan r) = (rows : List Row) × (found ≡ Some (codes "plan", rows)) × IsPlan rows r
-IsOfRows found (Replay r) = (rows : List Row) × (found ≡ Some (codes "replay", rows)) × IsReplay rows r
+IsOfRows found (Replay r) =
+    (rows : List Row) × (found ≡ Some (codes "replay", rows)) × IsReplay rows r
 IsOfRows found (Run r) = (rows : List Row) × (found ≡ Some (codes "run", rows)) × IsRunOf rows r
 IsOfRows found (Why r) = (rows : List Row) × (found ≡ Some (codes "why", rows)) × IsWhy rows r
 IsOfRows found (Audit r) = (rows : List Row) × (found ≡ Some (codes "audit", rows)) × IsAudit rows r
-IsOfRows found (Upcoming r) = (rows : List Row) × (found ≡ Some (codes "upcoming", rows)) × IsUpcoming rows r
-IsOfRows found (Describe r) = (rows : List Row) × (found ≡ Some (codes "describe", rows)) × IsDescribe rows r
+IsOfRows found (Upcoming r) =
+    (rows : List Row) × (found ≡ Some (codes "upcoming", rows)) × IsUpcoming rows r
+IsOfRows found (Describe r) =
+    (rows : List Row) × (found ≡ Some (codes "describe", rows)) × IsDescribe rows r
 
 -- the request is of the subcommand that `clap` states for the words, with the values that it states
 -- rule: words
@@ -415,7 +455,8 @@ explains (Audit r) = r.explain
 explains (Upcoming r) = r.explain
 explains (Describe r) = r.explain
 
--- when words are refused: `clap` doesn't take them, or no request has the values that it states for them
+-- when words are refused: `clap` doesn't take them, or no request has the values that it states for
+-- them
 -- rule: words
 abbrev pub RefusesWords : List Text → WordFault → Type 0
 RefusesWords words (Refused e) = takes cronsim_app words ≢ true

@@ -110,7 +110,7 @@ pub(crate) fn output_arg<'a>(alloc: Global, usual: &'a str, forms: &'a str) -> A
         .default_value(usual)
 }
 
-/// The same, where there are lines and JSON.
+/// The option for the form of an answer that has lines and JSON.
 pub(crate) fn lines_arg<'a>(alloc: Global) -> Arg<'a>
     ensures { IsArg lines_rule result }
 {

@@ -247,7 +247,7 @@ fn bare_command<'a>(alloc: Global) -> Command<'a>
 {
     Command::new(alloc, "cronsim")
         .about("A CronJob controller that is proved: schedules, plans and runs")
-        .version("0.1.0")
+        .version("0.2.0")
         .subcommand_required(true)
 }
 

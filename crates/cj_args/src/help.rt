@@ -1,4 +1,5 @@
-// What `--help` says of the arguments, and after a command's options: an example, and the exit statuses.
+// What `--help` says of the arguments, and after a command's options: an example, and the exit
+// statuses.
 
 /// The schedule of `next`.
 pub(crate) const SCHEDULE: &str =

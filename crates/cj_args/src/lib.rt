@@ -1,7 +1,8 @@
 //! The words of a command line: what they may be, and what they ask for.
 //!
-//! Here belongs each command with its options and its help, as clap is told them. What a request is answered belongs to
-//! the crates above. They rest on `parse_words`: a request has the values that clap states.
+//! Here belongs each command with its options and its help, as clap takes them. The answer to a
+//! request belongs to the crates above. They rest on `parse_words`: a request has the values that
+//! clap states.
 #![tactic(auto)]
 
 mod arguments;

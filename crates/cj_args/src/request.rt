@@ -134,8 +134,8 @@ pub struct CheckRequest<'a> {
     pub files: Vec<&'a str>,
     /// Whether a manifest with a warning is refused.
     pub strict: bool,
-    /// The moment from which the clocks of zones are looked at. Where none is given and the answer is explained, a
-    /// program with a clock puts its own time here.
+    /// The moment from which the clocks of zones are looked at. Where none is given and the answer
+    /// is explained, a program with a clock puts its own time here.
     pub moment: Option<&'a str>,
     /// How the answer is printed: `lines` or `json`.
     pub output: &'a str,
@@ -204,9 +204,11 @@ pub struct RunRequest<'a> {
 pub struct WhyRequest<'a> {
     /// The name of the file with the cluster's objects; `-` is standard input.
     pub file: &'a str,
-    /// The moment that is asked about: a printed time. Where none is given, a program with a clock puts its own here.
+    /// The moment that is asked about: a printed time. Where none is given, a program with a clock
+    /// puts its own here.
     pub moment: Option<&'a str>,
-    /// The CronJobs that are asked about, each as NAMESPACE/NAME or as NAME; all of them where none is given.
+    /// The CronJobs that are asked about, each as NAMESPACE/NAME or as NAME; all of them where none
+    /// is given.
     pub crons: Vec<&'a str>,
     /// The namespace of those that are asked about; all of them where none is given.
     pub namespace: Option<&'a str>,
@@ -240,11 +242,13 @@ pub struct AuditRequest<'a> {
 pub struct UpcomingRequest<'a> {
     /// The names of the files with CronJobs; `-` is standard input. There is at least one.
     pub files: Vec<&'a str>,
-    /// The start of the window, which is included. Where none is given, a program with a clock puts its own time here.
+    /// The start of the window, which is included. Where none is given, a program with a clock puts
+    /// its own time here.
     pub from: Option<&'a str>,
     /// How long the window is, as `24h`.
     pub length: &'a str,
-    /// The CronJobs that are asked about, each as NAMESPACE/NAME or as NAME; all of them where none is given.
+    /// The CronJobs that are asked about, each as NAMESPACE/NAME or as NAME; all of them where none
+    /// is given.
     pub crons: Vec<&'a str>,
     /// The namespace of those that are asked about; all of them where none is given.
     pub namespace: Option<&'a str>,
@@ -265,7 +269,8 @@ pub struct UpcomingRequest<'a> {
 pub struct DescribeRequest<'a> {
     /// The crontab schedule.
     pub schedule: &'a str,
-    /// The start, which is excluded. Where none is given, a program with a clock puts its own time here.
+    /// The start, which is excluded. Where none is given, a program with a clock puts its own time
+    /// here.
     pub after: Option<&'a str>,
     /// How many times are asked for, 1 to 1,000.
     pub count: u16,

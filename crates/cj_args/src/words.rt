@@ -1,18 +1,8 @@
 // The words of a command line, read as what they ask for.
-ghost use Rattle.std.specs.Prelude.{◌≡◌, ◌⊎◌, ℕ, ◌≤◌, map, option_map, IfOk, IfErr, None, Some};
+ghost use Rattle.std.specs.Prelude.{◌≡◌, ℕ, ◌≤◌, map, option_map, IfOk, IfErr, None, Some};
 ghost use Rattle.clap.specs.Words.{first_of, found_of, rows_of, subcommand_rows_of};
-ghost use Rattle.cj_args.specs.Command.{AreZones, IsAudit, IsCheck, IsDecimal, IsDescribe, IsNext, IsOf, IsOfRows, IsPlan, IsReplay, IsRunOf, IsUpcoming, IsWhy, RefusesWords, is_given, texts_of};
-ghost use Rattle.cj_args.specs.declared.request.AuditRequest.{AuditRequest};
-ghost use Rattle.cj_args.specs.declared.request.CheckRequest.{CheckRequest};
-ghost use Rattle.cj_args.specs.declared.request.DescribeRequest.{DescribeRequest};
-ghost use Rattle.cj_args.specs.declared.request.NextRequest.{NextRequest};
-ghost use Rattle.cj_args.specs.declared.request.PlanRequest.{PlanRequest};
-ghost use Rattle.cj_args.specs.declared.request.ReplayRequest.{ReplayRequest};
-ghost use Rattle.cj_args.specs.declared.request.RunRequest.{RunRequest};
-ghost use Rattle.cj_args.specs.declared.request.UpcomingRequest.{UpcomingRequest};
-ghost use Rattle.cj_args.specs.declared.request.WhyRequest.{WhyRequest};
-ghost use Rattle.cj_args.specs.declared.request.Request.{Request};
-ghost use Rattle.cj_args.specs.declared.word_fault.WordFault.TheVariants.{Incomplete, OutOfMemory};
+ghost use Rattle.cj_args.specs.Command.{AreZones, IsAudit, IsCheck, IsDecimal, IsDescribe, IsNext, IsOf, IsOfRows, IsPlan, IsReplay, IsRunOf, IsUpcoming, IsWhy, Reads, RefusesWords, is_given, texts_of};
+ghost use Rattle.cj_args.specs.declared.word_fault.WordFault.TheVariants.{Incomplete};
 
 use crate::command::cronsim_command;
 use crate::request::{
@@ -42,7 +32,7 @@ fn text<'a>(found: &ArgMatches<'a>, id: &str) -> Result<&'a str, WordFault>
     }
 }
 
-// Whether a flag stands among the words.
+// Whether a flag is given.
 fn is_given(found: &ArgMatches<'_>, id: &str) -> bool
     ensures { result ≡ is_given id.now (rows_of (found_of found.now)) }
 {
@@ -114,10 +104,8 @@ fn zone_words<'a>(alloc: Global, found: &ArgMatches<'a>) -> Result<ZoneWords<'a>
 }
 
 fn next_request<'a>(found: &ArgMatches<'a>) -> Result<NextRequest<'a>, WordFault>
-    ensures stated { IfOk result (IsNext (rows_of (found_of found.now))) }
+    ensures reads { Reads (IsNext (rows_of (found_of found.now))) result }
     ensures refused { IfErr result (λ e. e ≡ Incomplete) }
-    ensures only { IfErr result (λ _. (r : NextRequest) →
-        ¬ (IsNext (rows_of (found_of found.now)) r)) }
 {
     let schedule = text(found, "schedule")?;
     let after = text(found, "after")?;
@@ -136,10 +124,7 @@ fn next_request<'a>(found: &ArgMatches<'a>) -> Result<NextRequest<'a>, WordFault
 }
 
 fn check_request<'a>(alloc: Global, found: &ArgMatches<'a>) -> Result<CheckRequest<'a>, WordFault>
-    ensures stated { IfOk result (IsCheck (rows_of (found_of found.now))) }
-    ensures refused { IfErr result (λ e. (e ≡ Incomplete) ⊎ (e ≡ OutOfMemory)) }
-    ensures only { IfErr result (λ e. e ≡ Incomplete → (r : CheckRequest) →
-        ¬ (IsCheck (rows_of (found_of found.now)) r)) }
+    ensures { Reads (IsCheck (rows_of (found_of found.now))) result }
 {
     let strict = is_given(found, "strict");
     let moment = optional_text(found, "now");
@@ -156,10 +141,7 @@ fn check_request<'a>(alloc: Global, found: &ArgMatches<'a>) -> Result<CheckReque
 }
 
 fn plan_request<'a>(alloc: Global, found: &ArgMatches<'a>) -> Result<PlanRequest<'a>, WordFault>
-    ensures stated { IfOk result (IsPlan (rows_of (found_of found.now))) }
-    ensures refused { IfErr result (λ e. (e ≡ Incomplete) ⊎ (e ≡ OutOfMemory)) }
-    ensures only { IfErr result (λ e. e ≡ Incomplete → (r : PlanRequest) →
-        ¬ (IsPlan (rows_of (found_of found.now)) r)) }
+    ensures { Reads (IsPlan (rows_of (found_of found.now))) result }
 {
     let file = text(found, "file")?;
     let moment = text(found, "now")?;
@@ -175,10 +157,7 @@ fn plan_request<'a>(alloc: Global, found: &ArgMatches<'a>) -> Result<PlanRequest
 }
 
 fn replay_request<'a>(alloc: Global, found: &ArgMatches<'a>) -> Result<ReplayRequest<'a>, WordFault>
-    ensures stated { IfOk result (IsReplay (rows_of (found_of found.now))) }
-    ensures refused { IfErr result (λ e. (e ≡ Incomplete) ⊎ (e ≡ OutOfMemory)) }
-    ensures only { IfErr result (λ e. e ≡ Incomplete → (r : ReplayRequest) →
-        ¬ (IsReplay (rows_of (found_of found.now)) r)) }
+    ensures { Reads (IsReplay (rows_of (found_of found.now))) result }
 {
     let file = text(found, "file")?;
     let explain = is_given(found, "explain");
@@ -190,10 +169,7 @@ fn replay_request<'a>(alloc: Global, found: &ArgMatches<'a>) -> Result<ReplayReq
 }
 
 fn run_request<'a>(alloc: Global, found: &ArgMatches<'a>) -> Result<RunRequest<'a>, WordFault>
-    ensures stated { IfOk result (IsRunOf (rows_of (found_of found.now))) }
-    ensures refused { IfErr result (λ e. (e ≡ Incomplete) ⊎ (e ≡ OutOfMemory)) }
-    ensures only { IfErr result (λ e. e ≡ Incomplete → (r : RunRequest) →
-        ¬ (IsRunOf (rows_of (found_of found.now)) r)) }
+    ensures { Reads (IsRunOf (rows_of (found_of found.now))) result }
 {
     let file = text(found, "file")?;
     let workers = workers(text(found, "workers")?)?;
@@ -215,10 +191,7 @@ fn run_request<'a>(alloc: Global, found: &ArgMatches<'a>) -> Result<RunRequest<'
 }
 
 fn why_request<'a>(alloc: Global, found: &ArgMatches<'a>) -> Result<WhyRequest<'a>, WordFault>
-    ensures stated { IfOk result (IsWhy (rows_of (found_of found.now))) }
-    ensures refused { IfErr result (λ e. (e ≡ Incomplete) ⊎ (e ≡ OutOfMemory)) }
-    ensures only { IfErr result (λ e. e ≡ Incomplete → (r : WhyRequest) →
-        ¬ (IsWhy (rows_of (found_of found.now)) r)) }
+    ensures { Reads (IsWhy (rows_of (found_of found.now))) result }
 {
     let file = text(found, "file")?;
     let moment = optional_text(found, "now");
@@ -239,10 +212,7 @@ fn why_request<'a>(alloc: Global, found: &ArgMatches<'a>) -> Result<WhyRequest<'
 }
 
 fn audit_request<'a>(alloc: Global, found: &ArgMatches<'a>) -> Result<AuditRequest<'a>, WordFault>
-    ensures stated { IfOk result (IsAudit (rows_of (found_of found.now))) }
-    ensures refused { IfErr result (λ e. (e ≡ Incomplete) ⊎ (e ≡ OutOfMemory)) }
-    ensures only { IfErr result (λ e. e ≡ Incomplete → (r : AuditRequest) →
-        ¬ (IsAudit (rows_of (found_of found.now)) r)) }
+    ensures { Reads (IsAudit (rows_of (found_of found.now))) result }
 {
     let file = text(found, "file")?;
     let output = text(found, "output")?;
@@ -261,10 +231,7 @@ fn upcoming_request<'a>(
     alloc: Global,
     found: &ArgMatches<'a>,
 ) -> Result<UpcomingRequest<'a>, WordFault>
-    ensures stated { IfOk result (IsUpcoming (rows_of (found_of found.now))) }
-    ensures refused { IfErr result (λ e. (e ≡ Incomplete) ⊎ (e ≡ OutOfMemory)) }
-    ensures only { IfErr result (λ e. e ≡ Incomplete → (r : UpcomingRequest) →
-        ¬ (IsUpcoming (rows_of (found_of found.now)) r)) }
+    ensures { Reads (IsUpcoming (rows_of (found_of found.now))) result }
 {
     let from = optional_text(found, "from");
     let length = text(found, "for")?;
@@ -288,10 +255,8 @@ fn upcoming_request<'a>(
 }
 
 fn describe_request<'a>(found: &ArgMatches<'a>) -> Result<DescribeRequest<'a>, WordFault>
-    ensures stated { IfOk result (IsDescribe (rows_of (found_of found.now))) }
+    ensures reads { Reads (IsDescribe (rows_of (found_of found.now))) result }
     ensures refused { IfErr result (λ e. e ≡ Incomplete) }
-    ensures only { IfErr result (λ _. (r : DescribeRequest) →
-        ¬ (IsDescribe (rows_of (found_of found.now)) r)) }
 {
     let schedule = text(found, "schedule")?;
     let count = count(text(found, "count")?)?;
@@ -314,10 +279,7 @@ fn request_named<'a>(
     name: &str,
     found: &ArgMatches<'a>,
 ) -> Result<Request<'a>, WordFault>
-    ensures stated { IfOk result (IsOfRows (Some (name.now, rows_of (found_of found.now)))) }
-    ensures refused { IfErr result (λ e. (e ≡ Incomplete) ⊎ (e ≡ OutOfMemory)) }
-    ensures only { IfErr result (λ e. e ≡ Incomplete → (r : Request) →
-        ¬ (IsOfRows (Some (name.now, rows_of (found_of found.now))) r)) }
+    ensures { Reads (IsOfRows (Some (name.now, rows_of (found_of found.now)))) result }
 {
     match name {
         "next" => next_request(found).map(Request::Next),
@@ -334,10 +296,7 @@ fn request_named<'a>(
 }
 
 fn request_of<'a>(alloc: Global, matches: &ArgMatches<'a>) -> Result<Request<'a>, WordFault>
-    ensures stated { IfOk result (IsOfRows (subcommand_rows_of matches.now)) }
-    ensures refused { IfErr result (λ e. (e ≡ Incomplete) ⊎ (e ≡ OutOfMemory)) }
-    ensures only { IfErr result (λ e. e ≡ Incomplete → (r : Request) →
-        ¬ (IsOfRows (subcommand_rows_of matches.now) r)) }
+    ensures { Reads (IsOfRows (subcommand_rows_of matches.now)) result }
 {
     match matches.subcommand() {
         Some((name, found)) => request_named(alloc, name, found),
@@ -347,8 +306,8 @@ fn request_of<'a>(alloc: Global, matches: &ArgMatches<'a>) -> Result<Request<'a>
 
 /// Reads the words of a command line, the program's name first.
 ///
-/// Wrong words, `--help` and `--version` are refused with what `clap` has to say; words that `clap` takes are refused
-/// only where no request has the values that it states for them.
+/// Wrong words, `--help` and `--version` are refused with what `clap` has to say; words that `clap`
+/// takes are refused only where no request has the values that it states for them.
 pub fn parse_words<'a>(alloc: Global, words: &'a [&'a str]) -> Result<Request<'a>, WordFault>
     ensures stated { IfOk result (IsOf (map (λ w. w.now) words.entry.now)) }
     ensures refused { IfErr result (RefusesWords (map (λ w. w.now) words.entry.now)) }

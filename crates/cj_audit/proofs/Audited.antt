@@ -40,7 +40,8 @@ have_keys f s h = any_true (is_at (finding_cmp f)) f s.keys h (ap is_eq (tied_it
 module _ (zones : List Zone) (content : Content) (refused : List ItemNote) where
   -- what is noted of CronJobs, then of Jobs
   abbrev Noted : Finding → Type 0
-  Noted f = AnyOf (IsFindingOf zones content) (map.values content.crons) f ⊎ AnyOf (IsStrayJob content refused) (map.values content.jobs) f
+  Noted f = AnyOf (IsFindingOf zones content) (map.values content.crons) f
+      ⊎ AnyOf (IsStrayJob content refused) (map.values content.jobs) f
 
   -- For finding_of: of a CronJob that stands in the cluster.
   in_cron : (f : Finding) → (c : ClusterCron) × (IsIn c (map.values content.crons) × IsFindingOf zones content c f)

@@ -74,7 +74,8 @@ one_there content c job name sound named there = by (is_of c job) refl
         cc (owned, e))
 
 -- For short_name: a longer limit lets pass what a shorter one does.
-shorter : (a b good : Bool) → (b ≡ true → a ≡ true) → is_none (cond a (Some TooLong) (cond good None (Some Format))) ≡ true
+shorter : (a b good : Bool) → (b ≡ true → a ≡ true)
+    → is_none (cond a (Some TooLong) (cond good None (Some Format))) ≡ true
     → is_none (cond b (Some TooLong) (cond good None (Some Format))) ≡ true
 shorter true b good f h = absurd (cc h)
 shorter false true good f h = absurd (cc (f refl))

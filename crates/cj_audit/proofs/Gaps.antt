@@ -178,7 +178,8 @@ module _ (zones : List Zone) (content : Content) (c : ClusterCron) (s : Option S
         none = none_of content c runs are (is_at h.time) (first_of Free (Done && Bad) rest);
         later = has_of content c runs are (is_behind h.time) (first_of Behind (Free && (Done && Bad)) h.lacks);
         starts = h.starts;
-        kept = λ e. kept_of content c runs are e h.time (of_ending e (first_of Done Bad kept) (second_of Done Bad kept));
+        kept =
+            λ e. kept_of content c runs are e h.time (of_ending e (first_of Done Bad kept) (second_of Done Bad kept));
         awake = h.awake;
         is = h.is;
       }
@@ -223,7 +224,8 @@ module _ (zones : List Zone) (content : Content) (c : ClusterCron) (s : Option S
 module _ (s : Sets) (z : Zone) (c : ClusterCron) (runs : List Run) (jobs : List Job) (m : Marks)
     (are : AreMarks c runs jobs m) (awake : c.cron.spec.suspend ≡ false) where
   -- What is noted by what the Jobs tell together is what is noted of them.
-  gap_of : (f : Finding) → (run : Run) × (IsIn run runs × IsGapNote s z c m run f) → IsMissingIn (Some s) (Some z) c runs jobs f
+  gap_of : (f : Finding) → (run : Run) × (IsIn run runs × IsGapNote s z c m run f)
+      → IsMissingIn (Some s) (Some z) c runs jobs f
   gap_of f (run, (i, h)) = record {
     schedule = s;
     zone = z;

@@ -67,7 +67,8 @@ marks_lack c runs jobs m are t =
     let b : contains nat_cmp m.times t ≡ list_any (is_at t) runs = are.times.has t in
     let x : keeps m.completed c.cron.spec.successful_limit t ≡ kept_in Success c runs jobs t =
     ap (λ e. keeps e c.cron.spec.successful_limit t) are.completed
-    ∙ ap (λ z. z || nat_lt (ended_count Success c jobs) c.cron.spec.successful_limit) (oldest_any Success t None runs) in
+    ∙ ap (λ z. z
+    || nat_lt (ended_count Success c jobs) c.cron.spec.successful_limit) (oldest_any Success t None runs) in
     let y : keeps m.failed c.cron.spec.failed_limit t ≡ kept_in Failure c runs jobs t =
     ap (λ e. keeps e c.cron.spec.failed_limit t) are.failed
     ∙ ap (λ z. z || nat_lt (ended_count Failure c jobs) c.cron.spec.failed_limit) (oldest_any Failure t None runs) in

@@ -44,7 +44,8 @@ module _ (zones : List Zone) (c : ClusterCron) (s : Option Sets) (read : IsRead 
       → IsUndueRun zones c run f
   undue_is run f h = by (both_there s (zone_for c.cron.spec.time_zone zones) h.time h.undue)
     where
-      by : (x : Sets) × ((y : Zone) × ((s ≡ Some x) × (zone_for c.cron.spec.time_zone zones ≡ Some y) × (due x y h.time ≡ false)))
+      by : (x : Sets)
+          × ((y : Zone) × ((s ≡ Some x) × (zone_for c.cron.spec.time_zone zones ≡ Some y) × (due x y h.time ≡ false)))
           → IsUndueRun zones c run f
       by (x, (y, (a, b, d))) = record {
         time = h.time;
@@ -83,7 +84,8 @@ module _ (zones : List Zone) (c : ClusterCron) (s : Option Sets) (read : IsRead 
     -- For singles: what is wrong with a Job of the CronJob is noted of one of the list.
     of_single : (f : Finding) → IsUndueOf zones content c f ⊎ IsEarlyOf content c f → AnyOf Single runs f
     of_single f (inl h) =
-        in_any Single runs f h.run (contains_in h.run runs (are.all h.run h.run_of)) (inl (is_undue_note h.run f h.note))
+        in_any Single runs f h.run (contains_in h.run runs (are.all h.run h.run_of))
+        (inl (is_undue_note h.run f h.note))
     of_single f (inr h) =
         in_any Single runs f h.run (contains_in h.run runs (are.all h.run h.run_of)) (inr h.note)
 
@@ -155,7 +157,8 @@ pub noted_all : (zones : List Zone) (content : Content) (c : ClusterCron) (e : E
     → Notes (IsPairOf (SideBySide e) content c) u v → Notes (IsFindingOf zones content c) s v
 noted_all zones content c e is s t u v n m o =
     notes_as (λ f. (Alone f ⊎ IsTwiceOf content c f) ⊎ Beside f) (IsFindingOf zones content c) s v to from
-    (notes_then (λ f. Alone f ⊎ IsTwiceOf content c f) Beside s u v (notes_then Alone (IsTwiceOf content c) s t u n m) o)
+    (notes_then (λ f. Alone f
+    ⊎ IsTwiceOf content c f) Beside s u v (notes_then Alone (IsTwiceOf content c) s t u n m) o)
   where
     Alone : Finding → Type 0
     Alone f = IsAloneOf zones content c f

@@ -136,7 +136,8 @@ pairs_to p c xs f h = by (pair_in p c xs f h)
 pub pairs_back : (p : Pairing) (c : ClusterCron) (xs : List Run) (f : Finding) → IsRising (comes_before p) xs
     → IsPairIn p c xs f → PairsFrom p c xs f
 pairs_back p c xs f rising h =
-    pairs_from p c xs f h.first h.second rising (contains_in h.first xs h.first_in) (contains_in h.second xs h.second_in)
+    pairs_from p c xs f h.first h.second rising (contains_in h.first xs h.first_in)
+    (contains_in h.second xs h.second_in)
     h.note
 
 -- For note_pairs: the pairs of a list are those of the list in another order.

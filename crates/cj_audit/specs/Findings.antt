@@ -1,5 +1,6 @@
--- What is wrong in a cluster: Jobs that a correct controller would not have made, and due times for which it would have
--- made one (Kubernetes CronJob documentation, "Concurrency policy" and "CronJob limitations").
+-- What is wrong in a cluster: Jobs that a correct controller would not have made, and due times for
+-- which it would have made one (Kubernetes CronJob documentation, "Concurrency policy" and "CronJob
+-- limitations").
 use Rattle.std.specs.Prelude.{◌≡◌, ◌⊎◌, ℕ, Bool, false, List, Option, Some, None, All, Contains}
 use Rattle.std.specs.List.{list_any}
 use Rattle.std.specs.List.Sorted.{IsStrictlySortedBy}
@@ -49,7 +50,8 @@ IsBesideOf content c f = IsBesideUnder (exclusive_of c.cron.spec.policy) content
 
 -- a Job of the CronJob has a scheduled time at which its schedule isn't due
 -- rule: audit-undue
-pub record IsUndueOf (zones : List Zone) (content : Content) (c : ClusterCron) (f : Finding) : Type 0 where
+pub record IsUndueOf (zones : List Zone) (content : Content) (c : ClusterCron) (f : Finding)
+    : Type 0 where
   pub run : Run
   pub run_of : IsRunOf content c run
   pub note : IsUndueRun zones c run f
@@ -74,7 +76,7 @@ IsFindingOf zones content c f =
 abbrev pub has_cron : Content → Job → Bool
 has_cron content job = list_any (λ c. is_of c job) (map.values content.crons)
 
--- what is told of a Job whose controller reference names a CronJob
+-- the finding on a Job whose controller reference names a CronJob
 abbrev pub stray_finding : Job → List ℕ → Finding
 stray_finding job name = record {
   namespace = job.key.namespace;
@@ -85,10 +87,12 @@ stray_finding job name = record {
   kind = Stray;
 }
 
--- the controller reference of the Job names a CronJob of batch/v1, and no CronJob of the cluster controls the Job: none
--- is at that key, or one with another uid; nor is it that of an item that can't be used, and nobody made it by hand
+-- the controller reference of the Job names a CronJob of batch/v1, and no CronJob of the cluster
+-- controls the Job: none is at that key, or one with another uid; nor is it that of an item that
+-- can't be used, and nobody made it by hand
 -- rule: audit-stray
-pub record IsStrayJob (content : Content) (notes : List ItemNote) (job : Job) (f : Finding) : Type 0 where
+pub record IsStrayJob (content : Content) (notes : List ItemNote) (job : Job) (f : Finding)
+    : Type 0 where
   pub name : List ℕ
   pub named : cron_of job ≡ Some name
   pub made : is_manual content.times job ≡ false
@@ -112,10 +116,11 @@ pub record IsStray (content : Content) (notes : List ItemNote) (f : Finding) : T
 abbrev pub IsFinding : List Zone → Content → List ItemNote → Finding → Type 0
 IsFinding zones content notes f = IsFindingIn zones content f ⊎ IsStray content notes f
 
--- what the list has are all findings and nothing else, each once, in their order; the notes are those of the items that
--- can't be used
+-- what the list has are all findings and nothing else, each once, in their order; the notes are
+-- those of the items that can't be used
 -- rule: audit-order
-pub record IsAudit (zones : List Zone) (content : Content) (notes : List ItemNote) (findings : List Finding) : Type 0 where
+pub record IsAudit (zones : List Zone) (content : Content) (notes : List ItemNote)
+    (findings : List Finding) : Type 0 where
   pub each : All (IsFinding zones content notes) findings
   pub all : (f : Finding) → IsFinding zones content notes f → Contains findings f
   pub rises : IsStrictlySortedBy finding_cmp findings

@@ -1,4 +1,5 @@
--- The policies under which no two Jobs of a CronJob run at once: Kubernetes CronJob documentation, "Concurrency policy".
+-- The policies under which no two Jobs of a CronJob run at once: Kubernetes CronJob documentation,
+-- "Concurrency policy".
 use Rattle.std.specs.Prelude.{Option, Some, None}
 use Rattle.cj_types.specs.declared.policy.Policy.{Policy}
 use Rattle.cj_types.specs.declared.policy.Policy.TheVariants.{Allow, Forbid, Replace}

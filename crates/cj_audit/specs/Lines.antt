@@ -41,13 +41,15 @@ early_line f time =
 -- rule: audit-lines
 abbrev pub missing_line : Finding → List ℕ → List ℕ
 missing_line f time =
-    codes "missing " ++ (f.namespace ++ (codes "/" ++ (f.cron ++ (codes " " ++ (time ++ codes "\n")))))
+    codes "missing "
+    ++ (f.namespace ++ (codes "/" ++ (f.cron ++ (codes " " ++ (time ++ codes "\n")))))
 
 -- `stray NAMESPACE/JOB NAME`
 -- rule: audit-lines
 abbrev pub stray_line : Finding → List ℕ
 stray_line f =
-    codes "stray " ++ (f.namespace ++ (codes "/" ++ (f.first ++ (codes " " ++ (f.cron ++ codes "\n")))))
+    codes "stray "
+    ++ (f.namespace ++ (codes "/" ++ (f.first ++ (codes " " ++ (f.cron ++ codes "\n")))))
 
 abbrev pub line_by : FindingKind → Finding → List ℕ
 line_by Twice f = twice_line f (time_text_of f.time)
@@ -70,7 +72,9 @@ lines_of (f ∷ fs) = finding_line f ++ lines_of fs
 -- rule: audit-lines
 abbrev pub counts_line : ℕ → ℕ → ℕ → List ℕ
 counts_line crons jobs findings =
-    decimal crons ++ (codes " cron jobs, " ++ (decimal jobs ++ (codes " jobs, " ++ (decimal findings ++ codes " findings\n"))))
+    decimal crons
+    ++ (codes " cron jobs, "
+    ++ (decimal jobs ++ (codes " jobs, " ++ (decimal findings ++ codes " findings\n"))))
 
 -- rule: audit-lines
 abbrev pub audit_lines : ℕ → ℕ → List Finding → List ℕ

@@ -1,4 +1,5 @@
--- Jobs that somebody made by hand from a CronJob's template: the kubectl reference, `kubectl create job --from`.
+-- Jobs that somebody made by hand from a CronJob's template: the kubectl reference, `kubectl create
+-- job --from`.
 use Rattle.std.specs.Prelude.{ℕ, List, [], ◌∷◌, ◌++◌, codes, Bool, true, false, Option, None, Some}
 use Rattle.std.specs.FinMap as map
 use Rattle.cj_types.specs.Keys.{place_cmp}
@@ -9,7 +10,7 @@ abbrev pub manual_by : Option JobTimes → Bool
 manual_by None = false
 manual_by (Some times) = times.is_manual
 
--- what stands at the Job's key tells so
+-- the times at the Job's key say so
 -- rule: audit-manual
 abbrev pub is_manual : map.FinMap place_cmp JobTimes → Job → Bool
 is_manual times job = manual_by (map.get times job.key)
@@ -17,7 +18,8 @@ is_manual times job = manual_by (map.get times job.key)
 -- `manual NAMESPACE/JOB`
 -- rule: audit-manual
 abbrev pub manual_line : Job → List ℕ
-manual_line job = codes "manual " ++ (job.key.namespace ++ (codes "/" ++ (job.key.name ++ codes "\n")))
+manual_line job =
+    codes "manual " ++ (job.key.namespace ++ (codes "/" ++ (job.key.name ++ codes "\n")))
 
 abbrev pub line_where : Bool → Job → List ℕ
 line_where false job = []

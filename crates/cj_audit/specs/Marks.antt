@@ -70,34 +70,39 @@ keeps ended limit time = is_earlier time ended.oldest || nat_lt ended.count limi
 -- later times have a Job, and this one has none, where clean-up would have left it
 abbrev pub lacks : Marks → CronSpec → ℕ → Bool
 lacks m spec time =
-    is_later time m.latest && (not (contains nat_cmp m.times time) && (keeps m.completed spec.successful_limit time
+    is_later time m.latest
+    && (not (contains nat_cmp m.times time) && (keeps m.completed spec.successful_limit time
     && keeps m.failed spec.failed_limit time))
 
--- the same of the Jobs
+-- the marks of the Jobs
 abbrev pub kept_in : Ending → ClusterCron → List Run → List Job → ℕ → Bool
 kept_in e c runs jobs time =
     list_any (is_older e time) runs || nat_lt (ended_count e c jobs) (limit_of e c.cron.spec)
 
 abbrev pub lacks_in : ClusterCron → List Run → List Job → ℕ → Bool
 lacks_in c runs jobs time =
-    list_any (is_behind time) runs && (not (list_any (is_at time) runs) && (kept_in Success c runs jobs time
+    list_any (is_behind time) runs
+    && (not (list_any (is_at time) runs) && (kept_in Success c runs jobs time
     && kept_in Failure c runs jobs time))
 
 -- the next due time after the Job's own lacks a Job
-pub record IsGap (s : Sets) (z : Zone) (spec : CronSpec) (m : Marks) (run : Run) (time : ℕ) : Type 0 where
+pub record IsGap (s : Sets) (z : Zone) (spec : CronSpec) (m : Marks) (run : Run) (time : ℕ)
+    : Type 0 where
   pub last : ℕ
   pub scheduled : run.times.scheduled ≡ Some last
   pub least : IsLeastDue s z last (last + reach) time
   pub starts : may_start spec.policy run.times.ended time ≡ true
   pub lacks : lacks m spec time ≡ true
 
-pub record IsGapNote (s : Sets) (z : Zone) (c : ClusterCron) (m : Marks) (run : Run) (f : Finding) : Type 0 where
+pub record IsGapNote (s : Sets) (z : Zone) (c : ClusterCron) (m : Marks) (run : Run) (f : Finding)
+    : Type 0 where
   pub time : ℕ
   pub gap : IsGap s z c.cron.spec m run time
   pub is : f ≡ missing_finding c time
 
 -- what is noted of these Jobs, which the CronJob's controller made, among all that name it
-pub record IsMissingIn (s : Option Sets) (z : Option Zone) (c : ClusterCron) (runs : List Run) (jobs : List Job)
+pub record IsMissingIn (s : Option Sets) (z : Option Zone) (c : ClusterCron) (runs : List Run)
+    (jobs : List Job)
     (f : Finding) : Type 0 where
   pub schedule : Sets
   pub zone : Zone

@@ -1,5 +1,6 @@
--- A due time between two Jobs of a CronJob for which there is none: Kubernetes CronJob documentation, "CronJob
--- limitations" (missed schedules), "Concurrency policy" and "Jobs history limits".
+-- A due time between two Jobs of a CronJob for which there is none: Kubernetes CronJob
+-- documentation, "CronJob limitations" (missed schedules), "Concurrency policy" and "Jobs history
+-- limits".
 use Rattle.std.specs.Prelude.{◌≡◌, ◌⊎◌, ℕ, ◌+◌, ◌<◌, Bool, true, false, not, ◌&&◌, ◌==◌, nat_lt, List, [], Option, Some, None, filter, length}
 use Rattle.std.specs.FinMap as map
 use Rattle.cj_types.specs.declared.cron.CronSpec.{CronSpec}
@@ -57,7 +58,8 @@ abbrev pub limit_of : Ending → CronSpec → ℕ
 limit_of Success spec = spec.successful_limit
 limit_of Failure spec = spec.failed_limit
 
--- a Job that ended so and that clean-up may remove: one that the CronJob controls, though it be made by hand
+-- a Job that ended so and that clean-up may remove: one that the CronJob controls, though it be
+-- made by hand
 abbrev pub is_ended : Ending → ClusterCron → Job → Bool
 is_ended e c job = is_of c job && ends e job
 
@@ -74,12 +76,13 @@ pub record HasRun (content : Content) (c : ClusterCron) (p : Run → Bool) : Typ
   pub run_of : IsRunOf content c run
   pub passes : p run ≡ true
 
--- clean-up, which removes the oldest first, would have left a Job of this time that ended so: an older one of its kind
--- is still there, or there are fewer than are kept
+-- clean-up, which removes the oldest first, would have left a Job of this time that ended so: an
+-- older one of its kind is still there, or there are fewer than are kept
 -- rule: audit-missing
 abbrev pub IsKept : Content → ClusterCron → ℕ → Ending → Type 0
 IsKept content c time e =
-    HasRun content c (is_older e time) ⊎ (ended_count e c (map.values content.jobs) < limit_of e c.cron.spec)
+    HasRun content c (is_older e time)
+    ⊎ (ended_count e c (map.values content.jobs) < limit_of e c.cron.spec)
 
 -- the policy lets a Job start at the time, by when the one before it ended
 -- rule: audit-missing
@@ -97,7 +100,7 @@ pub record IsNextOf (zones : List Zone) (c : ClusterCron) (last time : ℕ) : Ty
   pub in_zone : zone_for c.cron.spec.time_zone zones ≡ Some zone
   pub least : IsLeastDue schedule zone last (last + reach) time
 
--- what is told of the time, which names no Job
+-- the finding on the time, which names no Job
 abbrev pub missing_finding : ClusterCron → ℕ → Finding
 missing_finding c time = record {
   namespace = c.cron.key.namespace;
@@ -108,10 +111,11 @@ missing_finding c time = record {
   kind = Missing;
 }
 
--- the next due time after a Job's own, for which there is no Job of the CronJob, though there are Jobs for later times;
--- neither the policy nor clean-up nor that the CronJob is suspended tells why
+-- the next due time after a Job's own, for which there is no Job of the CronJob, though there are
+-- Jobs for later times; neither the policy nor clean-up nor suspension explains it
 -- rule: audit-missing
-pub record IsMissingOf (zones : List Zone) (content : Content) (c : ClusterCron) (f : Finding) : Type 0 where
+pub record IsMissingOf (zones : List Zone) (content : Content) (c : ClusterCron) (f : Finding)
+    : Type 0 where
   pub run : Run
   pub run_of : IsRunOf content c run
   pub last : ℕ

@@ -10,7 +10,8 @@ use Rattle.cj_audit.specs.Pairs.{IsPairNote}
 
 -- the new set has what the old has and each finding that P holds of, and no other
 pub record Notes (P : Finding → Type 0) (old new : BTreeSet Finding) : Type 0 where
-  pub found : (f : Finding) → contains finding_cmp new f ≡ true → (contains finding_cmp old f ≡ true) ⊎ P f
+  pub found : (f : Finding) → contains finding_cmp new f ≡ true
+      → (contains finding_cmp old f ≡ true) ⊎ P f
   pub kept : (f : Finding) → contains finding_cmp old f ≡ true → contains finding_cmp new f ≡ true
   pub noted : (f : Finding) → P f → contains finding_cmp new f ≡ true
 

@@ -1,5 +1,6 @@
--- Two Jobs of a CronJob of which one should not be: Kubernetes CronJob documentation, "CronJob limitations" ("there are
--- certain circumstances where two Jobs might be created") and "Concurrency policy".
+-- Two Jobs of a CronJob of which one should not be: Kubernetes CronJob documentation, "CronJob
+-- limitations" ("there are certain circumstances where two Jobs might be created") and "Concurrency
+-- policy".
 use Rattle.std.specs.Prelude.{◌≡◌, ℕ, Bool, true, false, ◌&&◌, ◌||◌, ◌==◌, nat_lt, List, Option, Some, None, is_some, unwrap_or}
 use Rattle.std.specs.declared.cmp.Ordering.{Ordering}
 use Rattle.std.specs.Ordering.{nat_cmp, is_lt, on, then_cmp}
@@ -48,7 +49,8 @@ abbrev pub before_end : ℕ → Option ℕ → Bool
 before_end time (Some ended) = nat_lt time ended
 before_end time None = true
 
--- the second was created while the first ran, or the first while the second ran that was created at the same time
+-- the second was created while the first ran, or the first while the second ran that was created at
+-- the same time
 -- rule: audit-beside
 abbrev pub beside : Run → Run → Bool
 beside first second =
@@ -59,7 +61,7 @@ abbrev pub meets : Pairing → Run → Run → Bool
 meets SameTime first second = at_one_time first.times.scheduled second.times.scheduled
 meets (SideBySide e) first second = beside first second
 
--- the first stands before the second, and they meet
+-- the first is before the second, and they meet
 -- rules: audit-twice, audit-beside
 abbrev pub is_pair : Pairing → Run → Run → Bool
 is_pair p first second = comes_before p first second && meets p first second
@@ -71,7 +73,7 @@ reaches SameTime first second =
 reaches (SideBySide e) first second =
     before_end (created second) first.times.ended || (created first == created second)
 
--- what is told of the two
+-- the finding on two Jobs
 abbrev pub pair_finding : Pairing → ClusterCron → Run → Run → Finding
 pair_finding p c first second = record {
   namespace = c.cron.key.namespace;
@@ -83,6 +85,7 @@ pair_finding p c first second = record {
 }
 
 -- the finding is that of these two
-pub record IsPairNote (p : Pairing) (c : ClusterCron) (first second : Run) (f : Finding) : Type 0 where
+pub record IsPairNote (p : Pairing) (c : ClusterCron) (first second : Run) (f : Finding)
+    : Type 0 where
   pub pair : is_pair p first second ≡ true
   pub is : f ≡ pair_finding p c first second

@@ -7,7 +7,8 @@ use Rattle.cj_cluster.specs.declared.cron.ClusterCron.{ClusterCron}
 
 -- the place of two texts that are well formed
 abbrev pub place_if : List ℕ → List ℕ → Option Place
-place_if namespace name = if is_place longest (place namespace name) then Some (place namespace name) else None
+place_if namespace name =
+    if is_place longest (place namespace name) then Some (place namespace name) else None
 
 -- the keys of the CronJobs are well formed
 abbrev pub AreShort : map.FinMap place_cmp ClusterCron → Type 0

@@ -8,7 +8,8 @@ use Rattle.cj_cluster.specs.declared.times.JobTimes.{JobTimes}
 use Rattle.cj_cluster.specs.Content.{Content, is_of}
 use Rattle.cj_audit.specs.declared.run.Run.{Run}
 
--- a Job of the cluster, with the times that stand at its key, that the CronJob controls and that nobody made by hand
+-- a Job of the cluster, with the times at its key, that the CronJob controls and that nobody made
+-- by hand
 pub record IsRunOf (content : Content) (c : ClusterCron) (run : Run) : Type 0 where
   pub there : Contains (map.values content.jobs) run.job
   pub timed : map.get content.times run.job.key ≡ Some run.times
@@ -25,12 +26,12 @@ abbrev pub run_unless : Bool → Job → JobTimes → List Run
 run_unless true job times = []
 run_unless false job times = record { job = job; times = times } ∷ []
 
--- the same if it has them
+-- the run, if the Job has these times
 abbrev pub run_with : Job → Option JobTimes → List Run
 run_with job None = []
 run_with job (Some times) = run_unless times.is_manual job times
 
--- the same if it is the CronJob's
+-- the run, if the Job is the CronJob's
 abbrev pub run_at : map.FinMap place_cmp JobTimes → ClusterCron → Job → List Run
 run_at times c job = if is_of c job then run_with job (map.get times job.key) else []
 

@@ -25,7 +25,7 @@ is_undue (Some s) (Some z) time = not (due s z time)
 is_undue (Some s) None time = false
 is_undue None _ time = false
 
--- what is told of a Job at its scheduled time
+-- the finding on a Job at its scheduled time
 abbrev pub run_finding : FindingKind → ClusterCron → Run → ℕ → Finding
 run_finding kind c run time = record {
   namespace = c.cron.key.namespace;
@@ -36,8 +36,8 @@ run_finding kind c run time = record {
   kind = kind;
 }
 
--- the Job has a scheduled time, at which the CronJob's schedule isn't due in its zone; nothing is said where the zone is
--- not among those given or the text is no schedule
+-- the Job has a scheduled time, at which the CronJob's schedule isn't due in its zone; nothing is
+-- said where the zone is not among those given or the text is no schedule
 -- rule: audit-undue
 pub record IsUndueRun (zones : List Zone) (c : ClusterCron) (run : Run) (f : Finding) : Type 0 where
   pub time : ℕ
@@ -49,8 +49,9 @@ pub record IsUndueRun (zones : List Zone) (c : ClusterCron) (run : Run) (f : Fin
   pub undue : due schedule zone time ≡ false
   pub is : f ≡ run_finding Undue c run time
 
--- the same by a schedule in a zone
-pub record IsUndueNote (schedule : Option Sets) (zone : Option Zone) (c : ClusterCron) (run : Run) (f : Finding) : Type 0 where
+-- the finding, by a schedule in a zone
+pub record IsUndueNote (schedule : Option Sets) (zone : Option Zone) (c : ClusterCron) (run : Run)
+    (f : Finding) : Type 0 where
   pub time : ℕ
   pub scheduled : run.times.scheduled ≡ Some time
   pub undue : is_undue schedule zone time ≡ true

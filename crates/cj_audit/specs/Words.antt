@@ -1,5 +1,5 @@
--- What is said of findings for people. That a policy or a schedule may have been changed since is said with it, as the
--- object doesn't tell what it was.
+-- What is said of findings for people. That a policy or a schedule may have been changed since is
+-- said with it, as the object doesn't tell what it was.
 use Rattle.std.specs.Prelude.{ℕ, List, [], ◌∷◌, ◌++◌, codes}
 use Rattle.cj_zone.specs.TimeText.{time_text_of}
 use Rattle.cj_audit.specs.declared.kind.Exclusive.{Exclusive}
@@ -17,14 +17,17 @@ twice_words f time =
 
 -- rule: audit-explained
 unfoldable pub policy_words : Exclusive → List ℕ
-policy_words UnderForbid = codes "; spec.concurrencyPolicy is Forbid now, and may have been another then\n"
-policy_words UnderReplace = codes "; spec.concurrencyPolicy is Replace now, and may have been another then\n"
+policy_words UnderForbid =
+    codes "; spec.concurrencyPolicy is Forbid now, and may have been another then\n"
+policy_words UnderReplace =
+    codes "; spec.concurrencyPolicy is Replace now, and may have been another then\n"
 
 -- rule: audit-explained
 unfoldable pub beside_words : Exclusive → Finding → List ℕ → List ℕ
 beside_words e f time =
     codes "beside " ++ (f.namespace ++ (codes "/" ++ (f.cron ++ (codes ": " ++ (second_name f
-    ++ (codes " was created at " ++ (time ++ (codes ", while " ++ (f.first ++ (codes " ran" ++ policy_words e))))))))))
+    ++ (codes " was created at "
+    ++ (time ++ (codes ", while " ++ (f.first ++ (codes " ran" ++ policy_words e))))))))))
 
 -- rule: audit-explained
 unfoldable pub undue_words : Finding → List ℕ → List ℕ
@@ -56,7 +59,8 @@ stray_end = codes " that isn't in the list, or one of that name made anew\n"
 -- rule: audit-explained
 unfoldable pub stray_words : Finding → List ℕ
 stray_words f =
-    codes "stray " ++ (f.namespace ++ (codes "/" ++ (f.first ++ (codes ": its controller is a CronJob "
+    codes "stray "
+    ++ (f.namespace ++ (codes "/" ++ (f.first ++ (codes ": its controller is a CronJob "
     ++ (f.cron ++ stray_end)))))
 
 abbrev pub words_by : FindingKind → Finding → List ℕ

@@ -23,7 +23,7 @@ use cj_zone::{Zone, ZoneTable};
 use std::alloc::Global;
 use std::collections::BTreeSet;
 
-// What is told of a Job at its scheduled time.
+// The finding on a Job at its scheduled time.
 fn run_finding(
     alloc: Global,
     kind: FindingKind,

@@ -4,7 +4,7 @@ ghost use Rattle.cj_audit.specs.Missing.{ended_count, ends, is_ended};
 use cj_cluster::ClusterCron;
 use cj_types::{Job, Outcome, Shared};
 
-/// How a Job ended; of each kind a CronJob keeps so many (batch/v1, `successfulJobsHistoryLimit` and
+/// How a Job ended; a CronJob has a limit for each kind (batch/v1, `successfulJobsHistoryLimit` and
 /// `failedJobsHistoryLimit`).
 #[derive(Clone, Copy, Debug, PartialEq, Eq)]
 pub(crate) enum Ending {

@@ -11,17 +11,19 @@ use crate::kind::FindingKind;
 use cj_types::{Seconds, Text};
 use std::cmp::Ordering;
 
-/// Something that a correct controller would not have done, or would have, with what it is told by.
+/// Something that a correct controller would not have done, or would have, with what shows it.
 ///
-/// Findings are in the order of the CronJob's namespace, its name, the time, the first Job, the second, and the kind.
+/// Findings are in the order of the CronJob's namespace, its name, the time, the first Job, the
+/// second, and the kind.
 #[derive(Debug, Drop)]
 pub struct Finding {
     /// The namespace of the CronJob, and so of its Jobs.
     pub namespace: Text,
-    /// The name of the CronJob; of a stray Job the name in its controller reference, which may be any text.
+    /// The name of the CronJob; of a stray Job the name in its controller reference, which may be
+    /// any text.
     pub cron: Text,
-    /// The scheduled time of the Jobs, or the due time that has none; of two Jobs beside each other the creation time of the second, of a stray Job
-    /// its own.
+    /// The scheduled time of the Jobs, or the due time that has none; of two Jobs beside each other
+    /// the creation time of the second, of a stray Job its own.
     pub time: Seconds,
     /// The name of the Job, or of the first of two; empty where a time has none.
     pub first: Text,

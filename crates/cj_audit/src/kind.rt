@@ -26,6 +26,10 @@ impl Exclusive {
 }
 
 /// What is wrong with a Job, with two, or with a time that has none.
+///
+/// The printed words are `twice` for duplicate Jobs, `beside` for overlapping Jobs, `undue` for a
+/// Job that is not due, `early` for one made before its time, `missing` for a missed run, and
+/// `stray` for an orphan, a Job without its CronJob.
 #[derive(Clone, Copy, Debug, PartialEq, Eq, PartialOrd, Ord)]
 pub enum FindingKind {
     /// Two Jobs of one CronJob were made for one scheduled time.

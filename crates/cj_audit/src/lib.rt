@@ -1,9 +1,9 @@
-//! What is wrong in a cluster: Jobs that a correct controller of CronJobs would not have made, and due times for which it
-//! would have made one.
+//! What is wrong in a cluster: Jobs that a correct controller of CronJobs would not have made, and
+//! due times for which it would have made one.
 //!
-//! Here belongs what a finding is, in which order findings come, and their lines and words. How a cluster is read
-//! belongs to `cj_cluster`. The commands rest on `audit`: exactly these findings, each once; and on `audit_text` and
-//! `audit_words`.
+//! Here belongs what a finding is, in which order findings come, and their lines and words. How a
+//! cluster is read belongs to `cj_cluster`. The commands rest on `audit`: exactly these findings,
+//! each once; and on `audit_text` and `audit_words`.
 #![tactic(auto)]
 
 mod clock;

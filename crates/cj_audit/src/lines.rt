@@ -97,7 +97,8 @@ fn counts_line(
     format!(in alloc; "{crons} cron jobs, {jobs} jobs, {findings} findings\n")
 }
 
-/// A line for each finding, in their order, and one that counts the CronJobs and Jobs looked at and the findings.
+/// A line for each finding, in their order, and one that counts the CronJobs and Jobs looked at and
+/// the findings.
 pub fn audit_text(
     alloc: Global,
     crons: usize,

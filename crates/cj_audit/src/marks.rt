@@ -136,7 +136,7 @@ fn is_later(time: Seconds, known: Option<Seconds>) -> bool
 }
 
 impl Ended {
-    // Whether clean-up would have left a Job of this time, where so many are kept.
+    // Whether clean-up would have left a Job of this time, under that limit.
     fn keeps(&self, limit: HistoryLimit, time: Seconds) -> bool
         ensures { result ≡ keeps self.now limit time }
     {

@@ -14,7 +14,7 @@ use cj_types::{Refusal, Text};
 use std::alloc::Global;
 use std::collections::BTreeSet;
 
-// What is told of the two.
+// The finding on two Jobs.
 fn pair_finding(
     alloc: Global,
     pairing: Pairing,
@@ -55,7 +55,7 @@ fn note_pair(
     note(notes, pair_finding(alloc, pairing, cron, first, second)?)
 }
 
-// Notes the pairs of a Job with those that stand behind it.
+// Notes the pairs of a Job with the Jobs behind it.
 fn note_behind(
     alloc: Global,
     pairing: Pairing,

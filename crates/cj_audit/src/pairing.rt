@@ -29,7 +29,8 @@ impl Pairing {
         }
     }
 
-    /// By what Jobs are put in order first: the scheduled time, and without one the creation time; or that alone.
+    /// By what Jobs are put in order first: the scheduled time, and without one the creation time;
+    /// or that alone.
     pub fn key(self, run: &Run) -> Seconds
         ensures { result ≡ key_of self run.now }
     {
@@ -67,7 +68,7 @@ impl Pairing {
         before && meets
     }
 
-    /// Whether a later one may still be such a second: once this fails it fails for all that stand behind.
+    /// Whether a later one may still be such a second: once this fails it fails for all behind it.
     pub fn reaches(self, first: &Run, second: &Run) -> bool
         ensures { result ≡ reaches self first.now second.now }
     {
@@ -111,7 +112,8 @@ pub(crate) fn before_end(time: Seconds, ended: Option<Seconds>) -> bool
     }
 }
 
-// Whether the second was created while the first ran, or the first while the second that was created with it ran.
+// Whether the second was created while the first ran, or the first while the second that was
+// created with it ran.
 fn beside(first: &Run, second: &Run) -> bool
     ensures { result ≡ beside first.now second.now }
 {

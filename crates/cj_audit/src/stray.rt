@@ -57,7 +57,8 @@ fn stray_finding(alloc: Global, job: &Job, name: &Text) -> Result<Finding, Refus
     })
 }
 
-// Notes the Job, if nobody made it by hand, and it names a CronJob that doesn't control it or isn't there.
+// Notes the Job, if nobody made it by hand, and it names a CronJob that doesn't control it or isn't
+// there.
 fn note_stray(
     alloc: Global,
     cluster: &Cluster,
@@ -85,7 +86,8 @@ fn note_stray(
     note(notes, stray_finding(alloc, job, name)?)
 }
 
-/// Notes the Jobs whose CronJob isn't there, neither among those of the cluster nor among the items that can't be used.
+/// Notes the Jobs whose CronJob isn't there, neither among those of the cluster nor among the items
+/// that can't be used.
 pub(crate) fn note_strays(
     alloc: Global,
     cluster: &Cluster,

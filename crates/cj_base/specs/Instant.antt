@@ -6,7 +6,7 @@ use Rattle.std.specs.Prelude.{ℕ}
 abbrev pub last_second : ℕ
 last_second = 253_370_764_799
 
--- and its last millisecond
+-- the last millisecond of that second, 9998-12-31T23:59:59.999Z
 -- rule: moment-range
 abbrev pub last_milli : ℕ
 last_milli = 253_370_764_799_999

@@ -4,7 +4,7 @@ use thiserror::Error;
 /// Why a field of a manifest, or the name of a zone, is refused.
 #[derive(Clone, Copy, Debug, PartialEq, Eq, Error)]
 pub enum Cause {
-    /// A member that must be there isn't.
+    /// A required member is missing.
     #[error("Required")]
     Required,
     /// A value of another JSON type than the field's.
@@ -25,10 +25,10 @@ pub enum Cause {
     /// A number out of the field's range.
     #[error("Range")]
     Range,
-    /// A zone that isn't known, or a rule, file or name that makes none.
+    /// A zone that isn't known, or a rule, file or name that defines none.
     #[error("Zone")]
     Zone,
-    /// A member that a call of this kind may not have.
+    /// A member that isn't allowed in a call of this kind.
     #[error("NotAllowed")]
     NotAllowed,
     /// A schedule that isn't in the grammar.

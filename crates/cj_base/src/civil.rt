@@ -1,6 +1,6 @@
-/// What a clock on the wall of a zone shows, truncated to the minute, on the Gregorian calendar.
+/// The wall-clock time in a zone, truncated to the minute, on the Gregorian calendar.
 ///
-/// Plain data: a reader of it asks nothing of its numbers.
+/// Plain data: its type keeps no range of its numbers.
 #[derive(Clone, Copy, Debug, PartialEq, Eq)]
 pub struct Civil {
     /// The year of ISO 8601, from -9999 to 9999.

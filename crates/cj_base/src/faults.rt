@@ -13,13 +13,13 @@ pub struct FieldFault {
     pub cause: Cause,
 }
 
-/// The faults of a manifest or a call, in the order of the manifest's table. Contracts see the list.
+/// The faults of a manifest or a call, in the order of the manifest's table. Contracts see the
+/// list.
 #[derive(Debug)]
 pub struct FieldFaults {
     items: Vec<FieldFault>,
 }
 
-// A function of its own, so that whoever gives one up makes one call and not one for each part.
 impl Drop for FieldFaults {
     fn drop(self) {
         let FieldFaults { items: _ } = self;
@@ -36,7 +36,7 @@ impl Model for FieldFaults {
 }
 
 impl FieldFaults {
-    /// No fault.
+    /// An empty list.
     pub fn new(alloc: Global) -> FieldFaults
         ensures { result ≡ [] }
     {
@@ -45,7 +45,7 @@ impl FieldFaults {
         }
     }
 
-    /// One fault.
+    /// A list of one fault.
     pub fn one(alloc: Global, fault: FieldFault) -> Result<FieldFaults, AllocError>
         ensures { IfOk result (λ f. f ≡ fault ∷ []) }
     {
@@ -61,7 +61,7 @@ impl FieldFaults {
         self.items.as_slice()
     }
 
-    /// One fault more, at the end; unchanged where there is no memory.
+    /// Appends a fault; unchanged where there is no memory.
     pub fn push(&mut self, fault: FieldFault) -> Result<(), AllocError>
         ensures ok { OnOk result (self.new ≡ self.old ++ fault ∷ []) }
         ensures err { OnErr result (self.new ≡ self.old) }

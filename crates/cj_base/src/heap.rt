@@ -5,12 +5,11 @@ use crate::Refusal;
 use std::alloc::{AllocError, Global};
 use std::marker::Model;
 
-/// A value on the heap, so that whoever holds it holds one pointer, and gives up one. Contracts see the value.
+/// A value on the heap: its owner holds, moves and drops one pointer. Contracts see the value.
 pub struct Heap<T> {
     value: Box<T, Global>,
 }
 
-// A function of its own, so that whoever gives one up makes one call and not one for each part.
 impl<T: Drop> Drop for Heap<T> {
     fn drop(self) {
         let Heap { value: _ } = self;
@@ -24,7 +23,7 @@ impl<T> Model for Heap<T> {
 }
 
 impl<T: Drop> Heap<T> {
-    /// A place for the value.
+    /// Moves the value to the heap.
     pub fn new(alloc: Global, value: T) -> Result<Heap<T>, Refusal>
         ensures ok { IfOk result (λ h. h ≡ value) }
         ensures err { IfErr result (λ e. e ≡ OutOfMemory) }
@@ -35,14 +34,14 @@ impl<T: Drop> Heap<T> {
 }
 
 impl<T> Heap<T> {
-    /// The value.
+    /// The value on the heap.
     pub fn get(&self) -> &T
         ensures { result.now ≡ self.now }
     {
         self.value.as_ref()
     }
 
-    /// The value, out of its place.
+    /// Moves the value out of the heap.
     pub fn into_inner(self) -> T
         ensures { result ≡ self }
     {

@@ -1,8 +1,10 @@
-//! What every layer speaks of: instants, civil times, texts, faults of fields, refusals, shared values.
+//! Values that every layer uses: instants, civil times, texts, faults of fields, refusals, shared
+//! values.
 //!
-//! Here belongs a value that crates know which know nothing else of each other, and how values are copied, compared and
-//! shared. Objects and their names belong to `cj_types`. All crates rest on the ranges that `Seconds` and `Millis` keep
-//! by their types, on `TryCopy` and `Same`, and on `Shared`, which contracts see through.
+//! Here belong values common to crates that share nothing else, and how values are copied, compared
+//! and shared. Objects and their names belong to `cj_types`. All crates rest on the ranges that
+//! `Seconds` and `Millis` keep by their types, on `TryCopy` and `Same`, and on `Shared`, which
+//! contracts see through.
 #![tactic(auto)]
 
 mod cause;

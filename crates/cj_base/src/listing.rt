@@ -6,12 +6,12 @@ use std::alloc::Global;
 use std::fmt;
 use std::marker::Model;
 
-/// A list that never changes and that its copies share: a copy takes no memory. Contracts see the list.
+/// A list that never changes and that its copies share: a copy takes no memory. Contracts see the
+/// list.
 pub struct Listing<T> {
     items: Shared<Vec<T>>,
 }
 
-// A function of its own, so that whoever gives one up makes one call and not one for each part.
 impl<T: Drop> Drop for Listing<T> {
     fn drop(self) {
         let Listing { items } = self;
@@ -28,7 +28,7 @@ impl<T> Model for Listing<T> {
 }
 
 impl<T: Drop> Listing<T> {
-    /// The list of these values.
+    /// The list with these values.
     pub fn new(alloc: Global, items: Vec<T>) -> Result<Listing<T>, Refusal>
         ensures ok { IfOk result (λ l. l ≡ items.items) }
         ensures err { IfErr result (λ e. e ≡ OutOfMemory) }

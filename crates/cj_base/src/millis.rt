@@ -4,7 +4,8 @@ ghost use Rattle.cj_base.specs.Instant.{last_milli};
 use crate::Seconds;
 use std::marker::Model;
 
-/// An instant of the work queue: whole milliseconds since 1970-01-01T00:00:00Z, up to the last one of the year 9998.
+/// An instant of the work queue: whole milliseconds since 1970-01-01T00:00:00Z, up to the last one
+/// of the year 9998.
 ///
 /// Contracts see the number of milliseconds.
 #[derive(Clone, Copy, Debug, PartialEq, Eq, PartialOrd, Ord, Hash)]
@@ -26,7 +27,7 @@ impl Millis {
     /// The milliseconds of 9998-12-31T23:59:59.999Z.
     pub const LAST: u64 = 253_370_764_799_999;
 
-    /// The instant of so many milliseconds, where it isn't after the year 9998.
+    /// The instant `count` milliseconds after 1970 began, unless it is after the year 9998.
     pub fn new(count: u64) -> Option<Millis>
         ensures in_range { IsSome result ↔ (count ≤ last_milli) }
         ensures value { IfSome result (λ m. m ≡ count) }

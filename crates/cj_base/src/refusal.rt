@@ -4,7 +4,7 @@ use crate::{FieldFaults, TryCopy, Version};
 use std::alloc::{AllocError, Global};
 use thiserror::Error;
 
-/// Why a call is refused. Each leaves what it was asked of as it was.
+/// Why a call is refused. A refused call leaves all as it was.
 #[derive(Debug, Drop, Error)]
 pub enum Refusal {
     /// The bytes aren't JSON (HTTP status 400).
@@ -19,28 +19,28 @@ pub enum Refusal {
     /// There is no such object (404).
     #[error("NotFound")]
     NotFound,
-    /// The name is there (409).
+    /// The name is taken (409).
     #[error("AlreadyExists")]
     AlreadyExists,
-    /// The version or uid isn't the current one; the current version (409).
+    /// The version or uid isn't the current one; carries the current version (409).
     #[error("Conflict")]
     Conflict(Version),
-    /// The events after that version aren't kept any more; the oldest version served (410).
+    /// The events after that version aren't kept any more; carries the oldest version served (410).
     #[error("Expired")]
     Expired(Version),
-    /// A worker's call that the phase of its sync doesn't allow.
+    /// A worker's call that its sync can't make at this point.
     #[error("OutOfPhase")]
     OutOfPhase,
     /// A plan that wasn't made from the answers that the worker got.
     #[error("Stale")]
     Stale,
-    /// The line is empty.
+    /// The queue is empty.
     #[error("Empty")]
     Empty,
-    /// The line is empty and the queue is shut.
+    /// The queue is empty and shut down.
     #[error("ShutDown")]
     ShutDown,
-    /// The history has as many entries as its limit.
+    /// The history has reached its limit of entries.
     #[error("HistoryFull")]
     HistoryFull,
     /// A caller that this history doesn't know.

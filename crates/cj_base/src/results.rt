@@ -2,8 +2,8 @@ ghost use Rattle.std.specs.Prelude.{◌≡◌, ◌⊎◌, Ok, Err, IfOk, IfErr};
 
 use crate::Refusal;
 
-/// Both values, or the refusal of one of them. What is made of several parts takes them so: nothing is given up
-/// where it leaves.
+/// Both values, or the refusal of one of them. A value of several parts takes its parts so: with
+/// one `?` for all, a proof has one early exit and not one for each part.
 pub fn both<A: Drop, B: Drop>(
     first: Result<A, Refusal>,
     second: Result<B, Refusal>,

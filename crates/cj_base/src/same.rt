@@ -2,9 +2,9 @@ ghost use Rattle.std.specs.Prelude.{◌≡◌, ◌≢◌, MatchBool};
 
 use crate::{Cause, Field, FieldFault, FieldFaults, Refusal, Text};
 
-/// Whether two values are one to contracts, to the last byte.
+/// Equality as contracts have it, down to the last byte.
 pub trait Same {
-    /// True where contracts can't tell the values apart, false where they can.
+    /// Whether the two values are equal in contracts.
     fn same(&self, other: &Self) -> bool
         ensures { MatchBool result (self.now ≡ other.now) (self.now ≢ other.now) };
 }
@@ -33,7 +33,7 @@ impl<A: Same, B: Same> Same for (A, B) {
     }
 }
 
-/// Whether two lists are of the same values in the same order.
+/// Whether two lists have the same values in the same order.
 pub fn same_all<T: Same>(a: &[T], b: &[T]) -> bool
     ensures { MatchBool result (a.now ≡ b.now) (a.now ≢ b.now) }
 {

@@ -17,9 +17,9 @@ pub enum ScheduleCause {
     Macro,
     /// There aren't five fields.
     Fields,
-    /// An element has none of the forms.
+    /// An element has none of the forms that the grammar allows.
     Syntax,
-    /// A number isn't one of its field.
+    /// A number is out of its field's range.
     Range,
     /// A range ends before it begins.
     Order,
@@ -62,7 +62,8 @@ impl fmt::Display for ScheduleCause {
 pub struct ScheduleFault {
     /// 1 for the minute to 5 for the day of the week, or 0 for the whole text.
     pub field: u8,
-    /// The place in the text, in bytes from 0, at which the faulty element begins; 0 for the whole text.
+    /// The place in the text, in bytes from 0, at which the faulty element begins; 0 for the whole
+    /// text.
     pub byte: usize,
     pub cause: ScheduleCause,
 }

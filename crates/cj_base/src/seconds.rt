@@ -25,7 +25,7 @@ impl Seconds {
     /// The seconds of 9998-12-31T23:59:59Z.
     pub const LAST: u64 = 253_370_764_799;
 
-    /// The instant of so many seconds, where it isn't after the year 9998.
+    /// The instant `count` seconds after 1970 began, unless it is after the year 9998.
     pub fn new(count: u64) -> Option<Seconds>
         ensures in_range { IsSome result ↔ (count ≤ last_second) }
         ensures value { IfSome result (λ s. s ≡ count) }

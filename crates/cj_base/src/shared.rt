@@ -8,12 +8,12 @@ use std::marker::Model;
 use std::ops::Deref;
 use std::sync::Arc;
 
-/// A value that never changes and that its copies share: a copy takes no memory. Contracts see the value.
+/// A value that never changes and that its copies share: a copy takes no memory. Contracts see the
+/// value.
 pub struct Shared<T> {
     value: Arc<T, Global>,
 }
 
-// A function of its own, so that whoever gives one up makes one call and not one for each part.
 impl<T: Drop> Drop for Shared<T> {
     fn drop(self) {
         let Shared { value: _ } = self;
@@ -29,7 +29,7 @@ impl<T> Model for Shared<T> {
 }
 
 impl<T: Drop> Shared<T> {
-    /// A place for the value, which copies share.
+    /// Moves the value to the heap, where its copies share it.
     pub fn new(alloc: Global, value: T) -> Result<Shared<T>, Refusal>
         ensures ok { IfOk result (λ s. s ≡ value) }
         ensures err { IfErr result (λ e. e ≡ OutOfMemory) }
@@ -40,14 +40,15 @@ impl<T: Drop> Shared<T> {
 }
 
 impl<T> Shared<T> {
-    /// The value.
+    /// The shared value.
     pub fn get(&self) -> &T
         ensures { result.now ≡ self.now }
     {
         &self.value
     }
 
-    /// The same value once more. This takes no memory, and is refused only where there are 2^63 copies.
+    /// Another holder of the value. This takes no memory, and is refused only where there are 2^63
+    /// copies.
     pub fn share(&self) -> Result<Shared<T>, Refusal>
         ensures ok { IfOk result (λ s. s ≡ self.now) }
         ensures err { IfErr result (λ e. e ≡ OutOfMemory) }

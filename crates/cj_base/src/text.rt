@@ -14,7 +14,6 @@ pub struct Text {
     inner: String,
 }
 
-// A function of its own, so that whoever gives one up makes one call and not one for each part.
 impl Drop for Text {
     fn drop(self) {
         let Text { inner: _ } = self;
@@ -46,7 +45,7 @@ impl Text {
         Text { inner }
     }
 
-    /// Its bytes.
+    /// The bytes of the text.
     pub fn as_str(&self) -> &str
         ensures { result.now ≡ self.now }
     {

@@ -2,7 +2,8 @@ ghost use Rattle.std.specs.Prelude.{◌≡◌, ℕ};
 
 use std::marker::Model;
 
-/// A resource version: the count of accepted writes up to the one that it names, 0 before the first.
+/// A resource version: the count of accepted writes up to the one that it names, 0 before the
+/// first.
 ///
 /// Contracts see the number.
 #[derive(Clone, Copy, Debug, PartialEq, Eq, PartialOrd, Ord, Hash)]
@@ -19,7 +20,7 @@ impl Model for Version {
 }
 
 impl Version {
-    /// The version after so many writes.
+    /// The version after `count` writes.
     pub fn new(count: u64) -> Version
         ensures { result ≡ count }
     {

@@ -30,10 +30,10 @@ use Rattle.cj_types.specs.declared.job.JobDraft.{JobDraft}
 use Rattle.cj_types.specs.declared.policy.Reason.{Reason}
 use Rattle.cj_json.specs.Values.{time_or_null}
 use Rattle.cj_why.specs.reviews.PlanJson.{claim_data, jobs_data, make_data, plan_data, reasons_data, status_data, texts_data}
-use Rattle.cj_c.specs.answers.Audit.{audit_data}
 use Rattle.cj_c.specs.answers.Check.{sound_data}
-use Rattle.cj_c.specs.answers.FaultsJson.{fault_data, faults_data}
-use Rattle.cj_c.specs.answers.Items.{other_by, other_items, refused_by, refused_items}
+use Rattle.cj_views.specs.Audit.{audit_data}
+use Rattle.cj_views.specs.Faults.{fault_data, faults_data}
+use Rattle.cj_views.specs.Items.{other_by, other_items, refused_by, refused_items}
 
 -- of a value by what it is
 pub within_as : (k : ℕ) (v d : Data) → v ≡ d → depth d ≤ k → depth v ≤ k
@@ -68,7 +68,8 @@ joined k (d ∷ ds) es first second =
 
 -- of faults
 pub faults_within : (k : ℕ) (fs : List FieldFault) → depth (faults_data fs) ≤ suc (suc k)
-faults_within k fs = up (suc k) _ (mapped (suc k) fault_data (λ f. up k _ (max-le (least k) (max-le (least k) (least k)))) fs)
+faults_within k fs =
+    up (suc k) _ (mapped (suc k) fault_data (λ f. up k _ (max-le (least k) (max-le (least k) (least k)))) fs)
 
 -- of texts in their order
 pub texts_within : (k : ℕ) (ts : List (List ℕ)) → depth (texts_data ts) ≤ suc k
@@ -109,12 +110,14 @@ pub status_within : (k : ℕ) (s : Option CronStatus) → depth (status_data s) 
 status_within k None = least (suc (suc k))
 status_within k (Some s) =
     up (suc k) _ (max-le (texts_within k s.active)
-    (max-le (time_within (suc k) s.last_schedule_time) (max-le (time_within (suc k) s.last_successful_time) (least (suc k)))))
+    (max-le (time_within (suc k) s.last_schedule_time)
+    (max-le (time_within (suc k) s.last_successful_time) (least (suc k)))))
 
 -- of a plan
 pub plan_within : (p : Steps) → depth (plan_data p) ≤ 127
 plan_within p =
-    up 126 _ (max-le (claim_within 126 p.claim) (max-le (jobs_within 125 p.cleanup) (max-le (jobs_within 125 p.drop_first)
+    up 126 _ (max-le (claim_within 126 p.claim) (max-le (jobs_within 125 p.cleanup)
+    (max-le (jobs_within 125 p.drop_first)
     (max-le (make_within 126 p.make) (max-le (time_within 126 p.next) (max-le (reasons_within 125 p.reasons)
     (max-le (status_within 124 p.status) (least 126))))))))
 
@@ -126,7 +129,8 @@ names_within k first None = up k _ (max-le (least k) (least k))
 names_within k first (Some second) = up k _ (max-le (least k) (max-le (least k) (least k)))
 
 -- of those that a finding names
-pub found_within : (k : ℕ) (kind : FindingKind) (first : List ℕ) (second : Option (List ℕ)) → depth (found_jobs kind first second) ≤ suc k
+pub found_within : (k : ℕ) (kind : FindingKind) (first : List ℕ) (second : Option (List ℕ))
+    → depth (found_jobs kind first second) ≤ suc k
 found_within k Twice first second = names_within k first second
 found_within k (Beside e) first second = names_within k first second
 found_within k Undue first second = names_within k first second
@@ -150,10 +154,12 @@ where_within k false job = least (suc k)
 where_within k true job = max-le (up k _ (max-le (least k) (max-le (least k) (least k)))) (least (suc k))
 
 -- of the Jobs that somebody made by hand
-pub manual_within : (k : ℕ) (times : map_of.FinMap place_cmp JobTimes) (jobs : List Job) → AreWithin (suc k) (manual_jobs times jobs)
+pub manual_within : (k : ℕ) (times : map_of.FinMap place_cmp JobTimes) (jobs : List Job)
+    → AreWithin (suc k) (manual_jobs times jobs)
 manual_within k times [] = least (suc k)
 manual_within k times (job ∷ jobs) =
-    joined (suc k) (job_where (is_manual times job) job) _ (where_within k (is_manual times job) job) (manual_within k times jobs)
+    joined (suc k) (job_where (is_manual times job) job) _ (where_within k (is_manual times job) job)
+    (manual_within k times jobs)
 
 -- of what an item is refused for
 pub refused_by_within : (k n : ℕ) (said : Said) → AreWithin (suc (suc (suc k))) (refused_by n said)
@@ -162,14 +168,16 @@ refused_by_within k n (Was.Refused faults) =
     max-le (up (suc (suc k)) _ (max-le (faults_within k faults) (max-le (least (suc (suc k))) (least (suc (suc k))))))
     (least (suc (suc (suc k))))
 refused_by_within k n (Was.Taken kind key) =
-    max-le (up (suc (suc k)) _ (max-le (up (suc k) _ (max-le (up k _ (max-le (least k) (max-le (least k) (least k)))) (least (suc k))))
+    max-le (up (suc (suc k)) _ (max-le (up (suc k) _ (max-le (up k _ (max-le (least k) (max-le (least k) (least k))))
+    (least (suc k))))
     (max-le (least (suc (suc k))) (least (suc (suc k)))))) (least (suc (suc (suc k))))
 
 -- of the items that are refused
 pub refused_within : (k : ℕ) (notes : List ItemNote) → AreWithin (suc (suc (suc k))) (refused_items notes)
 refused_within k [] = least (suc (suc (suc k)))
 refused_within k (note ∷ notes) =
-    joined (suc (suc (suc k))) (refused_by note.place note.said) _ (refused_by_within k note.place note.said) (refused_within k notes)
+    joined (suc (suc (suc k))) (refused_by note.place note.said) _ (refused_by_within k note.place note.said)
+    (refused_within k notes)
 
 -- of an item of another kind
 pub other_by_within : (k n : ℕ) (said : Said) → AreWithin (suc k) (other_by n said)
@@ -188,4 +196,5 @@ pub audit_within : (list : ClusterList) (fs : List Finding) → depth (audit_dat
 audit_within list fs =
     up 126 _ (max-le (least 126) (max-le (findings_within 123 fs) (max-le (least 126)
     (max-le (up 125 _ (manual_within 124 list.cluster.times (map_of.values list.cluster.jobs)))
-    (max-le (up 125 _ (others_within 124 list.notes)) (max-le (up 125 _ (refused_within 122 list.notes)) (least 126)))))))
+    (max-le (up 125 _ (others_within 124 list.notes))
+    (max-le (up 125 _ (refused_within 122 list.notes)) (least 126)))))))

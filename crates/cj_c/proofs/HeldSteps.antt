@@ -34,7 +34,12 @@ use Rattle.cj_c.specs.contracts.parts.Parts as Parts
 use Rattle.cj_c.specs.contracts.held.Held as Held
 
 abbrev pub E : Bx
-E = record { row = Timetable.the_row; laws = timetable.the_row_laws; al = record { row = Heap.the_row; laws = heap.the_row_laws; g = ghosts; d = dict; drops = impl [] tnil dnil } }
+E = record {
+  row = Timetable.the_row;
+  laws = timetable.the_row_laws;
+  al = record
+      { row = Heap.the_row; laws = heap.the_row_laws; g = ghosts; d = dict; drops = impl [] tnil dnil };
+}
 
 abbrev pub FromParts : Slot 0
 FromParts = plain (λ _. Parts.the_row Timetable.the_row Heap.the_row ghosts)
@@ -58,7 +63,8 @@ abbrev pub held_ty : Ty
 held_ty = ty_struct (Held.the_type).name (tcons ty_ptr (tcons (α E.al) (tcons ty_bool tnil)))
 
 -- For the walks of Held: the word is of the struct's type.
-pub held_typed : (p : Ptr) (hv : Val) (f : Bool) → Fits E.al hv → T (has_ty held_ty (held_word p hv f)) × WT (held_word p hv f)
+pub held_typed : (p : Ptr) (hv : Val) (f : Bool) → Fits E.al hv → T (has_ty held_ty (held_word p hv f))
+    × WT (held_word p hv f)
 held_typed (block_ptr b o) hv f fa = (and_tt (has_ty (α E.al) hv) fa.0, (tt, (fa.1, (tt, tt))))
 held_typed null_ptr hv f fa = (and_tt (has_ty (α E.al) hv) fa.0, (record { fits = lit< tt }, (fa.1, (tt, tt))))
 
@@ -69,10 +75,12 @@ beside v = held_owns v.full v.alloc v.at v.timetable
 module _ {M : Type 1} {𝓤 : Ura M} {𝓛 : Logic 𝓤} {K : Type 0} {Γ : List (Item 𝓤)} {G : Goal 𝓤 𝓛.H} where
   -- what keeps a timetable is the handle of the allocator and what is owned beside it
   pub held_open : K → (v : Held.the_row.Denot) (vs : List Val)
-      → ((hv : Val) → vs ≡ held_word v.at hv v.full ∷ [] → Fits E.al hv → Seq K 𝓛 (‵ (handle E v.alloc hv) ∷ ‵ (beside v) ∷ Γ) G)
+      → ((hv : Val) → vs ≡ held_word v.at hv v.full ∷ [] → Fits E.al hv
+      → Seq K 𝓛 (‵ (handle E v.alloc hv) ∷ ‵ (beside v) ∷ Γ) G)
       → Seq K 𝓛 (‵ (Held.the_row.own_val v vs) ∷ Γ) G
   held_open t v vs k =
-      fsplit t $ fpick t (λ vss. fsplit t $ feq_l t (λ ev. fsplit t $ feq_l t (λ ep. fsplit t $ handle_tells E.al t v.alloc vss.1.0 (λ hv ea fa.
+      fsplit t $ fpick t (λ vss. fsplit t $ feq_l t (λ ev. fsplit t $ feq_l t
+      (λ ep. fsplit t $ handle_tells E.al t v.alloc vss.1.0 (λ hv ea fa.
       move t (1 ∷ []) $ fsplit t $ feq_l t (λ eb. drop t $
       k hv
       (subst (λ (bs : List Val). vs ≡ vstruct (of_list (ptr_val v.at ∷ hv ∷ (bs ++ []))) ∷ []) eb
@@ -81,9 +89,16 @@ module _ {M : Type 1} {𝓤 : Ura M} {𝓛 : Logic 𝓤} {K : Type 0} {Γ : List
 
   -- and is made of these two
   pub held_close : K → (v : Held.the_row.Denot) {hv : Val}
-      → Step K 𝓛 (‵ (Held.the_row.own_val v (held_word v.at hv v.full ∷ [])) ∷ Γ) G (‵ (handle E v.alloc hv) ∷ ‵ (beside v) ∷ Γ) G
+      → Step K 𝓛 (‵ (Held.the_row.own_val v (held_word v.at hv v.full ∷ [])) ∷ Γ) G (‵ (handle E v.alloc hv)
+      ∷ ‵ (beside v) ∷ Γ) G
   held_close t v {hv} = step (λ s.
-      nothing t $ owned t bool (Is bool) (bool_Makes 𝓛) v.full (vbool v.full ∷ []) refl $ fjoin t $ move t (1 ∷ []) $ fjoin t $
+      nothing t $ owned t bool (Is bool) (bool_Makes 𝓛) v.full (vbool v.full ∷ []) refl $ fjoin t $ move t (1
+      ∷ []) $ fjoin t $
       feq_i t (List Val) (ptr_val v.at ∷ []) (ptr_val v.at ∷ []) refl $ fjoin t $
       feq_i t (List Val) (held_word v.at hv v.full ∷ []) (held_word v.at hv v.full ∷ []) refl $ fjoin t $
-      fpack t (Valss (RawPtr ∷ P E ∷ bool ∷ [])) (within (shape Held.the_type) (to Held.the_type v) (held_word v.at hv v.full ∷ [])) (ptr_val v.at ∷ [], (hv ∷ [], (vbool v.full ∷ [], tt))) $ fjoin t $ s)
+      fpack t (Valss (RawPtr ∷ P E ∷ bool
+      ∷ [])) (within (shape Held.the_type) (to Held.the_type v) (held_word v.at hv v.full ∷ [])) (
+        ptr_val v.at
+            ∷ [],
+        (hv ∷ [], (vbool v.full ∷ [], tt)),
+      ) $ fjoin t $ s)

@@ -2,3 +2,4 @@ mod Depths
 mod NoFloats
 mod ZonesTold
 pub mod HeldSteps
+mod Openings

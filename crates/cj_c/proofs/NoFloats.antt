@@ -31,10 +31,10 @@ use Rattle.cj_types.specs.declared.job.JobDraft.{JobDraft}
 use Rattle.cj_types.specs.declared.policy.Reason.{Reason}
 use Rattle.cj_json.specs.Values.{time_or_null}
 use Rattle.cj_why.specs.reviews.PlanJson.{claim_data, jobs_data, make_data, plan_data, reasons_data, status_data, texts_data}
-use Rattle.cj_c.specs.answers.Audit.{audit_data}
 use Rattle.cj_c.specs.answers.Check.{sound_data}
-use Rattle.cj_c.specs.answers.FaultsJson.{fault_data, faults_data}
-use Rattle.cj_c.specs.answers.Items.{item_data, other_by, other_items, others_data, refused_by, refused_data, refused_items}
+use Rattle.cj_views.specs.Audit.{audit_data}
+use Rattle.cj_views.specs.Faults.{fault_data, faults_data}
+use Rattle.cj_views.specs.Items.{item_data, other_by, other_items, others_data, refused_by, refused_data, refused_items}
 
 -- of a value by what it is
 pub free_as : (v d : Data) → v ≡ d → has_float d ≡ false → has_float v ≡ false
@@ -137,7 +137,8 @@ names_free first None = refl
 names_free first (Some second) = refl
 
 -- of those that a finding names
-pub found_free : (kind : FindingKind) (first : List ℕ) (second : Option (List ℕ)) → has_float (found_jobs kind first second) ≡ false
+pub found_free : (kind : FindingKind) (first : List ℕ) (second : Option (List ℕ))
+    → has_float (found_jobs kind first second) ≡ false
 found_free Twice first second = names_free first second
 found_free (Beside e) first second = names_free first second
 found_free Undue first second = names_free first second
@@ -169,13 +170,15 @@ manual_free times (job ∷ jobs) =
 pub refused_by_free : (n : ℕ) (said : Said) → AreFree (refused_by n said)
 refused_by_free n (Was.Kind kind) = refl
 refused_by_free n (Was.Refused faults) =
-    neither (has_float (item_data n faults)) false (neither (has_float (faults_data faults)) false (faults_free faults) refl) refl
+    neither (has_float (item_data n faults)) false
+    (neither (has_float (faults_data faults)) false (faults_free faults) refl) refl
 refused_by_free n (Was.Taken kind key) = refl
 
 -- of the items that are refused
 pub refused_free : (notes : List ItemNote) → AreFree (refused_items notes)
 refused_free [] = refl
-refused_free (note ∷ notes) = joined (refused_by note.place note.said) _ (refused_by_free note.place note.said) (refused_free notes)
+refused_free (note ∷ notes) =
+    joined (refused_by note.place note.said) _ (refused_by_free note.place note.said) (refused_free notes)
 
 -- of an item of another kind
 pub other_by_free : (n : ℕ) (said : Said) → AreFree (other_by n said)
@@ -186,7 +189,8 @@ other_by_free n (Was.Taken kind key) = refl
 -- of the items of other kinds
 pub others_free : (notes : List ItemNote) → AreFree (other_items notes)
 others_free [] = refl
-others_free (note ∷ notes) = joined (other_by note.place note.said) _ (other_by_free note.place note.said) (others_free notes)
+others_free (note ∷ notes) =
+    joined (other_by note.place note.said) _ (other_by_free note.place note.said) (others_free notes)
 
 -- of an audit
 pub audit_free : (list : ClusterList) (fs : List Finding) → has_float (audit_data list fs) ≡ false

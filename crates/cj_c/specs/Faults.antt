@@ -1,4 +1,4 @@
--- What the caller of an exported function is told of a text that is refused.
+-- The fault that an exported function gives for a text that is refused.
 use Rattle.std.specs.Prelude.{◌≡◌, ◌⊎◌, ℕ, ◌<◌, List, length}
 use Rattle.std.specs.Str.{IsUtf8}
 use Rattle.cj_base.specs.declared.schedule_fault.ScheduleCause.{ScheduleCause}
@@ -27,7 +27,7 @@ whole cause = record { field = 0; cause = cause; byte = 0 }
 abbrev pub fault_told : ScheduleFault → CronFault
 fault_told f = record { field = f.field; cause = cause_code f.cause; byte = f.byte }
 
--- the text has a fault, which is the one told
+-- the text has a fault, which is the one given
 -- rule: library-faults
 abbrev pub IsFaultTold : List ℕ → CronFault → Type 0
 IsFaultTold text told = (fault : ScheduleFault) × IsFault text fault × (told ≡ fault_told fault)

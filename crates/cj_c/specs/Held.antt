@@ -19,9 +19,17 @@ held_owns true alloc p t = box_owns (ghosts.dealloc_token alloc) the_row p t
 abbrev pub timetable_coded : Coded the_row.Denot
 timetable_coded = the_row.coded
 
--- stands for the timetable where none is kept
+-- in the place of the timetable where none is kept
 abbrev pub no_timetable : Timetable
 no_timetable = record {
-  schedule = record { minutes = 0; hours = 0; days = 0; months = 0; weekdays = 0; day_open = false; weekday_open = false };
+  schedule = record {
+    minutes = 0;
+    hours = 0;
+    days = 0;
+    months = 0;
+    weekdays = 0;
+    day_open = false;
+    weekday_open = false;
+  };
   zone = utc_zone [];
 }

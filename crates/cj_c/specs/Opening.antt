@@ -1,5 +1,6 @@
--- What an exported function that opens a timetable leaves: the timetable, or what was there before and why.
-use Rattle.std.specs.Prelude.{◌≡◌, ◌⊎◌, ℕ, ◌<◌, List, length, true, IsNone, codes}
+-- What an exported function that opens a timetable leaves: the timetable, or what was there before
+-- and why.
+use Rattle.std.specs.Prelude.{◌≡◌, ◌⊎◌, ℕ, ◌<◌, List, length, true, Result, Ok, Err, IsNone, codes}
 use Rattle.std.specs.Str.{IsUtf8}
 use Rattle.jiff_tz.specs.PosixReader.{read_whole}
 use Rattle.cj_schedule.specs.Grammar.{IsSchedule}
@@ -33,7 +34,7 @@ HasNoFileZone bytes = (1_048_576 < length bytes) ⊎ IsNotFile bytes
 abbrev pub IsUtcZone : Zone → Type 0
 IsUtcZone z = z ≡ utc_zone (codes "UTC")
 
--- what is told of a zone that is refused
+-- the fault of a zone that is refused
 abbrev pub zone_fault : CronFault
 zone_fault = record { field = 6; cause = 10; byte = 0 }
 
@@ -47,10 +48,27 @@ abbrev pub IsUnzoned : Type 0 → Unzoned → Type 0
 IsUnzoned NoZone Reason.Refused = NoZone
 IsUnzoned NoZone Reason.Memory = Unit {0}
 
--- why there is no timetable: a fault, or want of memory
-abbrev pub IsUnopened : List ℕ → Type 0 → Unopened → Type 0
-IsUnopened schedule NoZone (Why.Fault told) = IsOpenFault schedule NoZone told
-IsUnopened schedule NoZone Why.Memory = Unit {0}
+-- a fault of the schedule, or of what was read as its zone
+abbrev pub IsFaultIn : List ℕ → Result Zone Unzoned → CronFault → Type 0
+IsFaultIn schedule zone told =
+    IsTextRefused schedule told ⊎ ((zone ≡ Err Reason.Refused) × (told ≡ zone_fault))
+
+-- why there is no timetable: such a fault, or want of memory
+abbrev pub IsUnopened : List ℕ → Result Zone Unzoned → Unopened → Type 0
+IsUnopened schedule zone (Why.Fault told) = IsFaultIn schedule zone told
+IsUnopened schedule zone Why.Memory = Unit {0}
+
+-- the timetable has this schedule, and what was read as its zone
+abbrev pub HasZone : List ℕ → Result Zone Unzoned → Timetable → Type 0
+HasZone schedule zone t = IsSchedule schedule t.schedule × (zone ≡ Ok t.zone)
+
+-- what is left behind the handle and in the fault, by the status: of a schedule, and what was read
+-- as its zone
+abbrev pub Opens : List ℕ → Result Zone Unzoned → Held → Held → CronFault → CronFault → ℕ → Type 0
+Opens schedule zone old new told tells status =
+    ((status ≡ 0) × (new.full ≡ true) × HasZone schedule zone new.timetable × (tells ≡ told))
+    ⊎ (((status ≡ 2) × (new ≡ old) × IsFaultIn schedule zone tells)
+    ⊎ ((status ≡ 3) × (new ≡ old) × (tells ≡ told)))
 
 -- the timetable has this schedule and a zone of this kind
 -- rule: library-open
@@ -59,7 +77,8 @@ IsTimetable schedule IsZone t = IsSchedule schedule t.schedule × IsZone t.zone
 
 -- what a call leaves behind the handle and in the fault, by its status
 -- rule: library-open
-abbrev pub IsOpened : List ℕ → (Zone → Type 0) → Type 0 → Held → Held → CronFault → CronFault → ℕ → Type 0
+abbrev pub IsOpened : List ℕ → (Zone → Type 0) → Type 0 → Held → Held → CronFault → CronFault → ℕ
+    → Type 0
 IsOpened schedule IsZone NoZone old new told tells status =
     ((status ≡ 0) × (new.full ≡ true) × IsTimetable schedule IsZone new.timetable × (tells ≡ told))
     ⊎ (((status ≡ 2) × (new ≡ old) × IsOpenFault schedule NoZone tells)

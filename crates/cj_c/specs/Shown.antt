@@ -1,4 +1,5 @@
--- What the exported function answers that looks at a moment, by the definitions of `cj_schedule` and `cj_zone`.
+-- What the exported function answers that looks at a moment, by the definitions of `cj_schedule`
+-- and `cj_zone`.
 use Rattle.std.specs.Prelude.{◌≡◌, ◌⊎◌, ℕ, ◌<◌, Bool}
 use Rattle.cj_base.specs.Instant.{last_second}
 use Rattle.cj_schedule.specs.Matches.{matches_civil}

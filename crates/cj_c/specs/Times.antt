@@ -5,7 +5,8 @@ use Rattle.cj_due.specs.Due.{reach, missed_count, IsQuiet, IsLeastDue, IsLatestD
 use Rattle.cj_c.specs.declared.times.CronMissed.{CronMissed}
 use Rattle.cj_c.specs.declared.timetable.Timetable.{Timetable}
 
--- the least due time after an instant and within 3,000 days; or there is none; or the instant is out of range
+-- the least due time after an instant and within 3,000 days; or there is none; or the instant is
+-- out of range
 -- rule: library-next
 abbrev pub IsNextDue : Timetable → ℕ → ℕ → ℕ → ℕ → Type 0
 IsNextDue t after old new status =
@@ -17,7 +18,8 @@ IsNextDue t after old new status =
 abbrev pub IsPastEnd : ℕ → ℕ → Type 0
 IsPastEnd lo hi = (last_second < lo) ⊎ (last_second < hi)
 
--- the greatest due time after an instant and up to another; or there is none; or one of them is out of range
+-- the greatest due time after an instant and up to another; or there is none; or one of them is out
+-- of range
 -- rule: library-previous
 abbrev pub IsPreviousDue : Timetable → ℕ → ℕ → ℕ → ℕ → ℕ → Type 0
 IsPreviousDue t lo hi old new status =
@@ -25,8 +27,8 @@ IsPreviousDue t lo hi old new status =
     ⊎ (((status ≡ 1) × IsQuiet t.schedule t.zone lo hi × (new ≡ old))
     ⊎ ((status ≡ 4) × IsPastEnd lo hi × (new ≡ old)))
 
--- none, which is told as 0; or their number, from 1 to 100, and the greatest; or more than 100, told as 101, and the
--- greatest
+-- none, given as 0; or their number, from 1 to 100, and the greatest; or more than 100, given as
+-- 101, and the greatest
 -- rule: library-missed
 abbrev pub IsMissedTold : Timetable → ℕ → ℕ → CronMissed → Type 0
 IsMissedTold t lo hi m =

@@ -1,13 +1,13 @@
-//! What is told as JSON: of a manifest, of a scenario at a moment, of the list of a cluster's objects.
+//! Answers as JSON: for a manifest, for a scenario at a moment, for the list of a cluster's
+//! objects.
 //!
-//! Here belongs how such a text comes into its caller's buffer and what a refusal is there. What a manifest, a scenario
-//! or a list says belongs to `cj_manifest`, `cj_scenario` and `cj_cluster`, a plan to `cj_decide`, findings to `cj_audit`.
+//! Here belongs how such a text comes into its caller's buffer and what a refusal is there. What a
+//! manifest, a scenario or a list says belongs to `cj_manifest`, `cj_scenario` and `cj_cluster`, a
+//! plan to `cj_decide`, findings to `cj_audit`.
 
 mod audit;
 mod buffer;
 mod check;
-mod faults;
-mod items;
 mod plan;
 mod text;
 mod told;

@@ -12,7 +12,8 @@ use cj_schedule::Schedule;
 pub struct CronFault {
     /// 1 for the minute to 5 for the day of the week, 0 for the whole schedule, 6 for the zone.
     pub field: u32,
-    /// 1 to 9 for the causes of schedules, 10 for a zone that is refused, 11 for a text that isn't UTF-8.
+    /// 1 to 9 for the causes of schedules, 10 for a zone that is refused, 11 for a text that isn't
+    /// UTF-8.
     pub cause: u32,
     /// The place in the schedule, in bytes from 0, at which the faulty element begins; else 0.
     pub byte: u64,
@@ -71,7 +72,8 @@ fn parsed(text: &str) -> Result<Schedule, CronFault>
     }
 }
 
-/// The schedule of these bytes, or why they are refused. More than 1,024 bytes are refused before they are looked at.
+/// The schedule of these bytes, or why they are refused. More than 1,024 bytes are refused before
+/// they are looked at.
 pub(crate) fn read_schedule(bytes: &[u8]) -> Result<Schedule, CronFault>
     ensures ok { IfOk result (λ s. IsSchedule bytes.now s) }
     ensures err { IfErr result (λ f. IsTextRefused bytes.now f) }

@@ -1,9 +1,11 @@
-//! `libcronsim`: due times, and manifests, plans and audits as JSON, for callers that aren't Rattle, by the names of C.
+//! `libcronsim`: due times, and manifests, plans and audits as JSON, for callers that aren't
+//! Rattle, by the names of C.
 //!
-//! Here belongs what an exported function takes and gives, what such a caller keeps, a schedule in its zone, behind a
-//! handle, and (`answers`) the JSON in its buffer. Which times are due belongs to `cj_due`, which texts are schedules to
-//! `cj_schedule`, and what a zone is to `cj_zone`, whose clauses the exports state again. `include/cronsim.h` declares
-//! them for C, and says what a caller owes. Nothing here prints, waits, locks or keeps a pointer of its caller.
+//! Here belongs what an exported function takes and gives, what such a caller keeps, a schedule in
+//! its zone, behind a handle, and (`answers`) the JSON in its buffer. Which times are due belongs
+//! to `cj_due`, which texts are schedules to `cj_schedule`, and what a zone is to `cj_zone`, whose
+//! clauses the exports state again. `include/cronsim.h` declares them for C, and says what a caller
+//! owes. Nothing here prints, waits, locks or keeps a pointer of its caller.
 #![tactic(auto)]
 
 mod answers;

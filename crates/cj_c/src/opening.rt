@@ -1,12 +1,14 @@
+// Opening a handle: a schedule and its zone are read, and kept as a timetable.
 ghost use Rattle.std.specs.Prelude.{◌≡◌, false, IfOk, IfErr};
 ghost use Rattle.cj_c.specs.declared.opening.Unopened.TheVariants.{Fault, Memory};
-ghost use Rattle.cj_c.specs.Opening.{IsRuleZone, HasNoRuleZone, IsFileZone, HasNoFileZone, IsUtcZone, IsUnopened, zone_fault, IsTimetable, IsOpened};
+ghost use Rattle.cj_c.specs.Opening.{HasNoFileZone, HasNoRuleZone, HasZone, IsFileZone, IsOpened, IsRuleZone, IsUnopened, IsUtcZone, Opens, zone_fault};
 
 use crate::fault::{CronFault, read_schedule};
 use crate::held::Held;
 use crate::status::{DONE, MEMORY, REFUSED};
 use crate::timetable::Timetable;
 use crate::zones::{Unzoned, of_file, of_rule, utc};
+use cj_zone::Zone;
 use std::alloc::Global;
 
 // Why there is no timetable.
@@ -38,66 +40,38 @@ fn zone_refused() -> Unopened
     })
 }
 
-// The timetable of a schedule in UTC.
-fn in_utc(alloc: Global, schedule: &[u8]) -> Result<Box<Timetable, Global>, Unopened>
-    ensures ok { IfOk result (λ b. IsTimetable schedule.now IsUtcZone b.value) }
-    ensures err { IfErr result (λ e. IsUnopened schedule.now ⊥ e) }
+// The timetable of a schedule in a zone. A fault of the schedule comes before one of the zone.
+fn timetable_in(
+    alloc: Global,
+    schedule: &[u8],
+    zone: Result<Zone, Unzoned>,
+) -> Result<Box<Timetable, Global>, Unopened>
+    ensures ok { IfOk result (λ b. HasZone schedule.now zone b.value) }
+    ensures err { IfErr result (IsUnopened schedule.now zone) }
 {
     let schedule = match read_schedule(schedule) {
         Ok(schedule) => schedule,
         Err(fault) => return Err(Unopened::Fault(fault)),
     };
-    match utc(alloc) {
+    match zone {
         Ok(zone) => boxed(alloc, Timetable { schedule, zone }),
         Err(Unzoned::Refused) => Err(zone_refused()),
         Err(Unzoned::Memory) => Err(Unopened::Memory),
     }
 }
 
-// The timetable of a schedule in the zone of a rule.
-fn by_rule(alloc: Global, schedule: &[u8], rule: &[u8]) -> Result<Box<Timetable, Global>, Unopened>
-    ensures ok { IfOk result (λ b. IsTimetable schedule.now (IsRuleZone rule.now) b.value) }
-    ensures err { IfErr result (λ e. IsUnopened schedule.now (HasNoRuleZone rule.now) e) }
-{
-    let schedule = match read_schedule(schedule) {
-        Ok(schedule) => schedule,
-        Err(fault) => return Err(Unopened::Fault(fault)),
-    };
-    match of_rule(alloc, rule) {
-        Ok(zone) => boxed(alloc, Timetable { schedule, zone }),
-        Err(Unzoned::Refused) => Err(zone_refused()),
-        Err(Unzoned::Memory) => Err(Unopened::Memory),
-    }
-}
-
-// The timetable of a schedule in the zone of a file.
-fn by_file(alloc: Global, schedule: &[u8], bytes: &[u8]) -> Result<Box<Timetable, Global>, Unopened>
-    ensures ok { IfOk result (λ b. IsTimetable schedule.now (IsFileZone bytes.now) b.value) }
-    ensures err { IfErr result (λ e. IsUnopened schedule.now (HasNoFileZone bytes.now) e) }
-{
-    let schedule = match read_schedule(schedule) {
-        Ok(schedule) => schedule,
-        Err(fault) => return Err(Unopened::Fault(fault)),
-    };
-    match of_file(alloc, bytes) {
-        Ok(zone) => boxed(alloc, Timetable { schedule, zone }),
-        Err(Unzoned::Refused) => Err(zone_refused()),
-        Err(Unzoned::Memory) => Err(Unopened::Memory),
-    }
-}
-
-/// Keeps a schedule in UTC behind the handle, in the place of what was kept there. Where it is refused or there is no
-/// memory, that stays.
-#[unsafe(no_mangle)]
-pub extern "C" fn cronsim_open(
+// Keeps a schedule in a zone behind the handle, in the place of what was kept there; or writes why
+// it isn't kept.
+fn open(
     alloc: Global,
     cron: &mut Held,
     schedule: &[u8],
+    zone: Result<Zone, Unzoned>,
     fault: &mut CronFault,
 ) -> u32
-    ensures { IsOpened schedule.now IsUtcZone ⊥ cron.old cron.new fault.old fault.new result }
+    ensures { Opens schedule.now zone cron.old cron.new fault.old fault.new result }
 {
-    match in_utc(alloc, schedule) {
+    match timetable_in(alloc, schedule, zone) {
         Ok(timetable) => {
             cron.put(timetable);
             DONE
@@ -110,7 +84,21 @@ pub extern "C" fn cronsim_open(
     }
 }
 
-/// The same of a schedule in the zone of a POSIX rule, as `CET-1CEST,M3.5.0,M10.5.0/3`.
+/// Keeps a schedule in UTC behind the handle, in the place of what was kept there. Where it is
+/// refused or there is no memory, that stays.
+#[unsafe(no_mangle)]
+pub extern "C" fn cronsim_open(
+    alloc: Global,
+    cron: &mut Held,
+    schedule: &[u8],
+    fault: &mut CronFault,
+) -> u32
+    ensures { IsOpened schedule.now IsUtcZone ⊥ cron.old cron.new fault.old fault.new result }
+{
+    open(alloc, cron, schedule, utc(alloc), fault)
+}
+
+/// Does the same for a schedule in the zone of a POSIX rule, as `CET-1CEST,M3.5.0,M10.5.0/3`.
 #[unsafe(no_mangle)]
 pub extern "C" fn cronsim_open_rule(
     alloc: Global,
@@ -122,20 +110,11 @@ pub extern "C" fn cronsim_open_rule(
     ensures { IsOpened schedule.now (IsRuleZone rule.now) (HasNoRuleZone rule.now) cron.old cron.new
         fault.old fault.new result }
 {
-    match by_rule(alloc, schedule, rule) {
-        Ok(timetable) => {
-            cron.put(timetable);
-            DONE
-        }
-        Err(Unopened::Fault(told)) => {
-            *fault = told;
-            REFUSED
-        }
-        Err(Unopened::Memory) => MEMORY,
-    }
+    open(alloc, cron, schedule, of_rule(alloc, rule), fault)
 }
 
-/// The same of a schedule in the zone of a compiled zone file's bytes (RFC 8536), of 1,048,576 at most.
+/// Does the same for a schedule in the zone of a compiled zone file's bytes (RFC 8536), of
+/// 1,048,576 at most.
 #[unsafe(no_mangle)]
 pub extern "C" fn cronsim_open_file(
     alloc: Global,
@@ -147,17 +126,7 @@ pub extern "C" fn cronsim_open_file(
     ensures { IsOpened schedule.now (IsFileZone bytes.now) (HasNoFileZone bytes.now) cron.old
         cron.new fault.old fault.new result }
 {
-    match by_file(alloc, schedule, bytes) {
-        Ok(timetable) => {
-            cron.put(timetable);
-            DONE
-        }
-        Err(Unopened::Fault(told)) => {
-            *fault = told;
-            REFUSED
-        }
-        Err(Unopened::Memory) => MEMORY,
-    }
+    open(alloc, cron, schedule, of_file(alloc, bytes), fault)
 }
 
 /// Gives up what is kept behind the handle, if anything is.

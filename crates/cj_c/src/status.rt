@@ -12,5 +12,5 @@ pub(crate) const MEMORY: u32 = 3;
 pub(crate) const RANGE: u32 = 4;
 /// Nothing is kept behind the handle.
 pub(crate) const CLOSED: u32 = 5;
-/// The buffer is too small for the text, whose length is told.
+/// The buffer is too small for the text, whose length is given.
 pub(crate) const ROOM: u32 = 6;

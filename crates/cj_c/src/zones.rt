@@ -86,8 +86,8 @@ fn of_bytes(alloc: Global, bytes: &[u8]) -> Result<Zone, Refusal>
     table.default_zone().try_copy(alloc)
 }
 
-/// The zone of the bytes of a POSIX rule, refused where `jiff` refuses the rule, it isn't UTF-8 or has more than 1,024
-/// bytes.
+/// The zone of the bytes of a POSIX rule, refused where `jiff` refuses the rule, it isn't UTF-8 or
+/// has more than 1,024 bytes.
 pub(crate) fn of_rule(alloc: Global, rule: &[u8]) -> Result<Zone, Unzoned>
     ensures ok { IfOk result (λ z. IsRuleZone rule.now z) }
     ensures err { IfErr result (λ e. IsUnzoned (HasNoRuleZone rule.now) e) }
@@ -105,8 +105,8 @@ pub(crate) fn of_rule(alloc: Global, rule: &[u8]) -> Result<Zone, Unzoned>
     }
 }
 
-/// The zone of the bytes of a compiled zone file (RFC 8536), refused where `jiff` refuses them or they are more than
-/// 1,048,576.
+/// The zone of the bytes of a compiled zone file (RFC 8536), refused where `jiff` refuses them or
+/// they are more than 1,048,576.
 pub(crate) fn of_file(alloc: Global, bytes: &[u8]) -> Result<Zone, Unzoned>
     ensures ok { IfOk result (λ z. IsFileZone bytes.now z) }
     ensures err { IfErr result (λ e. IsUnzoned (HasNoFileZone bytes.now) e) }

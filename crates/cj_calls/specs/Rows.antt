@@ -1,5 +1,5 @@
--- Entries of the history, and the answers that a call can have: the statuses of Kubernetes API conventions,
--- "HTTP Status codes", and the replies of client-go's work queue.
+-- Entries of the history, and the answers that a call can have: the statuses of Kubernetes API
+-- conventions, "HTTP Status codes", and the replies of client-go's work queue.
 use Rattle.std.specs.Prelude.{Bool, true, false, Result, Ok, Err}
 use Rattle.cj_base.specs.declared.refusal.Refusal.{Refusal}
 use Rattle.cj_base.specs.declared.refusal.Refusal.TheVariants as No
@@ -80,7 +80,7 @@ is_refused Of.SetStatus (No.Conflict v) = true
 is_refused (Of.Finish e r) No.OutOfPhase = true
 is_refused _ _ = false
 
--- the answer is one that the call can have
+-- the answer is one that this caller's call can have
 -- rule: roles
 abbrev pub is_in_row : Call → Result Reply Refusal → Bool
 is_in_row call (Ok reply) = is_reply call reply

@@ -8,7 +8,7 @@ use cj_types::{Heap, Refusal, Shared, TryCopy};
 use std::alloc::Global;
 use std::marker::Model;
 
-/// An answer as often as it is needed: for the caller, for the history, and for two receipts.
+/// The copies of an answer: for the caller, for the history, and for two receipts.
 #[derive(Drop)]
 pub struct Parts {
     pub answer: Answer,
@@ -17,10 +17,10 @@ pub struct Parts {
     pub second: Shared<Answer>,
 }
 
-/// An answer with its copies, made before the change that it tells of, so that nothing after the change takes memory.
-/// Contracts see the answer.
+/// An answer with its copies, which are made before the change of the state, so that nothing after
+/// the change takes memory. Contracts see the answer.
 ///
-/// It stands on the heap, so that whoever gives it up drops one box and not the parts of each reply.
+/// It is on the heap: callers drop one box, and not the parts of each reply.
 pub struct Answered {
     parts: Heap<Parts>,
 }
@@ -38,14 +38,13 @@ impl Model for Answered {
         × (a.parts.second ≡ a.parts.answer) };
 }
 
-// A function of its own, so that whoever gives up an answer makes one call and not one for each part.
 impl Drop for Answered {
     fn drop(self) {
         let Answered { parts: _ } = self;
     }
 }
 
-// What shares one copy of an answer: for the history, and for two receipts.
+// Three holders of one copy of an answer: for the history, and for two receipts.
 type Copies = (Shared<Answer>, Shared<Answer>, Shared<Answer>);
 
 fn copies(alloc: Global, answer: &Answer) -> Result<Copies, Refusal>
@@ -76,7 +75,7 @@ impl Answered {
         Ok(Answered { parts })
     }
 
-    /// The answer for each.
+    /// The copies of the answer.
     pub fn parts(self) -> Parts
         ensures answer { result.answer ≡ self }
         ensures entered { result.entered ≡ self }

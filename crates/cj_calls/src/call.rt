@@ -13,49 +13,52 @@ pub enum Call {
     CreateCron(Shared<CronJobDraft>, Seconds),
     /// A user replaces labels, annotations and spec of a CronJob. Answers it.
     UpdateCron(Shared<CronJobDraft>),
-    /// A user deletes a CronJob. Answers the deletion's version.
+    /// A user deletes a CronJob. Answers the version of the deletion.
     DeleteCron(Key),
-    /// A reading of a CronJob by a user, an informer or a runner, like the next three.
+    /// A user, an informer or a runner reads a CronJob.
     GetCron(Key),
+    /// A user, an informer or a runner reads a Job.
     GetJob(Key),
-    /// All objects of the kind by key, and the store's version.
+    /// A user, an informer or a runner lists the CronJobs by key, with the store's version.
     ListCrons,
+    /// A user, an informer or a runner lists the Jobs by key, with the store's version.
     ListJobs,
     /// A user creates a Job, which can have no controller. Answers it.
     CreateJob(Shared<JobDraft>, Seconds),
     /// A user replaces labels, annotations and spec of a Job. Answers it.
     UpdateJob(Shared<JobDraft>),
-    /// A user deletes a Job. Answers the deletion's version.
+    /// A user deletes a Job. Answers the version of the deletion.
     DeleteJob(Key),
-    /// A runner ends the Job with this uid at the moment. Answers it.
+    /// A runner finishes the Job with this uid at the given moment. Answers it.
     EndJob(Key, Uid, Outcome, Seconds),
-    /// The first so many events after the version, to a user, an informer or a runner.
+    /// A user, an informer or a runner reads up to `max` events after the version.
     Watch(Version, Max),
     /// An informer adds a key to the queue.
     Add(Key),
-    /// An informer tells the queue the moment.
+    /// An informer gives the queue the present moment.
     Tick(Millis),
     /// An informer shuts the queue.
     Shut,
-    /// An informer feeds the listings with the events of so many writes more. Answers how many writes they know then.
+    /// An informer feeds the listings with the events of up to `max` further writes. Answers how
+    /// many writes they know then.
     Feed(Max),
-    /// A worker takes the first key of the line.
+    /// A worker takes the first key of the queue.
     Take,
-    /// The CronJob of the key that the worker holds.
+    /// A worker reads the CronJob of the key that it holds.
     SeeCron,
-    /// The Jobs of that key, by a listing that may lag behind the store.
+    /// A worker reads the Jobs of its key from a listing that may lag behind the store.
     SeeJobs,
-    /// What the Jobs that the seen CronJob's status names as active are by now.
+    /// A worker reads, live, the Jobs that the status of the CronJob it saw names as active.
     SeeActive,
-    /// The claim of a plan that rests on these three answers.
+    /// A worker makes the claim of a plan of these three answers.
     Claim(Shared<Plan>),
-    /// The next step of the claimed plan, which is that a Job goes.
+    /// A worker makes the next step of the claimed plan, the deletion of a Job.
     DropNext,
-    /// The next step, which is that a Job is made.
+    /// A worker makes the next step of the claimed plan, the creation of a Job.
     MakeNext,
-    /// The next step, which is the CronJob's status at the end.
+    /// A worker makes the next step of the claimed plan, the CronJob's status at the end.
     SetStatus,
-    /// The end of the sync, and why no Job was started.
+    /// A worker ends its sync, and reports why no Job was started.
     Finish(End, Reasons),
 }
 

@@ -1,6 +1,6 @@
 use cj_types::Same;
 
-/// What a caller is, which says what calls it may make.
+/// The role of a caller, which determines the calls that it may make.
 #[derive(Clone, Copy, Debug, PartialEq, Eq)]
 pub enum Role {
     /// Writes CronJobs and Jobs, and reads them.

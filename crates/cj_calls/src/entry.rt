@@ -9,8 +9,8 @@ use std::marker::Model;
 
 /// A call that was made, with its answer. Copies share both.
 ///
-/// Its type keeps that the answer is one that this call can have: a reply of its kind or one of its refusals, or that
-/// the caller isn't permitted to make it. An entry of a call that found nothing to take, or no memory, is none.
+/// Its type keeps that the answer is one that this call can have: a reply of its kind, one of its
+/// refusals, or `NotPermitted`. A call that found the queue empty, or no memory, has no entry.
 pub struct Entry {
     caller: Caller,
     call: Shared<Call>,
@@ -28,7 +28,6 @@ impl Model for Entry {
     ghost invariant = { λ e. IsTrue (is_in_row e.call e.answer) };
 }
 
-// A function of its own, so that whoever gives up an entry makes one call and not one for each part.
 impl Drop for Entry {
     fn drop(self) {
         let Entry {
@@ -67,7 +66,7 @@ impl Entry {
         self.call.get()
     }
 
-    /// What it was answered.
+    /// The answer of the call.
     pub fn answer(&self) -> &Answer
         ensures { result.now ≡ self.now.answer }
     {

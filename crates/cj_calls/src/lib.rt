@@ -1,7 +1,8 @@
 //! Calls on the world, who makes them, their replies, and the entries of its history.
 //!
-//! Here belongs what can be asked and answered, and by whom. What is answered, and what it leaves, belongs to
-//! `cj_state`. Whoever calls rests on the types alone, and on `Entry`, whose answer stands in its call's row.
+//! Here belongs which calls there are, who may make them, and which answers each can have. The
+//! answer of a call in a state, and the state after it, belong to `cj_state`. Callers rest on the
+//! types alone, and on `Entry`, whose type keeps that its answer is one that the call can have.
 #![tactic(auto)]
 
 mod answered;
@@ -12,7 +13,7 @@ mod entry;
 mod reply;
 mod same;
 
-pub use answered::{Answered, Parts};
+pub use answered::Answered;
 pub use call::Call;
 pub use caller::{Caller, Role};
 pub use end::End;

@@ -1,12 +1,12 @@
 use cj_types::{CronJob, Event, Job, Key, Listing, Refusal, Seconds, Shared, TryCopy, Version};
 use std::alloc::Global;
 
-/// What an accepted call answers. Copies share objects and lists.
+/// The answer of an accepted call. Copies share objects and lists.
 #[derive(Drop)]
 pub enum Reply {
-    /// A CronJob as it stands.
+    /// A CronJob, as it is stored.
     Cron(Shared<CronJob>),
-    /// A Job as it stands.
+    /// A Job, as it is stored.
     Job(Shared<Job>),
     /// CronJobs by key, and the store's version.
     Crons(Listing<Shared<CronJob>>, Version),
@@ -15,23 +15,24 @@ pub enum Reply {
     /// The version of a write, or of the last write that the listings know.
     Version(Version),
     Events(Listing<Event>),
-    /// Nothing to say.
+    /// An answer without a value.
     Done,
     /// The key that was taken.
     Key(Key),
-    /// The CronJob of the key, if it stands.
+    /// The CronJob of the key, if there is one.
     SeenCron(Option<Shared<CronJob>>),
     /// The Jobs of the key, in order of name.
     SeenJobs(Listing<Shared<Job>>),
     /// For each active name the Job that has it, if it is the CronJob's.
     SeenActive(Listing<Option<Shared<Job>>>),
-    /// The claimed time with the version of the status that says so, or none where the plan claims nothing.
+    /// The claimed time with the version of the status that says so, or none where the plan claims
+    /// nothing.
     Claimed(Option<(Seconds, Version)>),
     /// The Job that was dropped with the version of its deletion, or none where it was gone.
     Dropped(Option<(Key, Version)>),
 }
 
-/// What a call answers.
+/// The answer of a call: a reply, or a refusal.
 pub type Answer = Result<Reply, Refusal>;
 
 impl TryCopy for Reply {

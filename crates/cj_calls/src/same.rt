@@ -37,7 +37,7 @@ impl Same for Reply {
     }
 }
 
-/// Whether two answers are one to contracts.
+/// Whether two answers are equal in contracts.
 pub fn same_answer(a: &Answer, b: &Answer) -> bool
     ensures { MatchBool result (a.now ≡ b.now) (a.now ≢ b.now) }
 {

@@ -1,5 +1,5 @@
--- What a cluster holds: Kubernetes, "Objects In Kubernetes" (one object of a kind and a name in a namespace) and
--- "Owners and Dependents".
+-- What a cluster holds: Kubernetes, "Objects In Kubernetes" (one object of a kind and a name in a
+-- namespace) and "Owners and Dependents".
 use Rattle.std.specs.Prelude.{◌≡◌, ℕ, Bool, false, ◌&&◌, List, Option, Some, None, is_some, refl}
 use Rattle.std.specs.Coded.{Coded, code_by, coded×}
 use Rattle.std.specs.FinMap as map
@@ -23,8 +23,10 @@ pub record Content : Type 0 where
 
 abbrev pub coded_content : Coded Content
 coded_content =
-    code_by (map.FinMap place_cmp ClusterCron × (map.FinMap place_cmp Job × map.FinMap place_cmp JobTimes))
-    (coded× (map.code coded_place cluster_cron.coded) (coded× (map.code coded_place job.coded) (map.code coded_place job_times.coded)))
+    code_by (map.FinMap place_cmp ClusterCron
+    × (map.FinMap place_cmp Job × map.FinMap place_cmp JobTimes))
+    (coded× (map.code coded_place cluster_cron.coded)
+    (coded× (map.code coded_place job.coded) (map.code coded_place job_times.coded)))
     (λ c. (c.crons, (c.jobs, c.times)))
     (λ p. record { crons = p.0; jobs = (p.1).0; times = (p.1).1 })
     (λ _. refl)
@@ -32,14 +34,16 @@ coded_content =
 abbrev pub nothing : Content
 nothing = record { crons = map.empty; jobs = map.empty; times = map.empty }
 
--- each CronJob stands at its own key, each Job too, and each Job has its times
+-- each CronJob is at its own key, each Job too, and each Job has its times
 pub record IsSound (c : Content) : Type 0 where
-  pub crons_keyed : (k : Place) (cron : ClusterCron) → map.get c.crons k ≡ Some cron → cron.cron.key ≡ k
+  pub crons_keyed : (k : Place) (cron : ClusterCron) → map.get c.crons k ≡ Some cron
+      → cron.cron.key ≡ k
   pub timed : (k : Place) → is_some (map.get c.times k) ≡ is_some (map.get c.jobs k)
 
 -- with one CronJob more
 abbrev pub with_cron : ClusterCron → Content → Content
-with_cron cron c = record { crons = map.insert c.crons cron.cron.key cron; jobs = c.jobs; times = c.times }
+with_cron cron c =
+    record { crons = map.insert c.crons cron.cron.key cron; jobs = c.jobs; times = c.times }
 
 -- with one Job more
 abbrev pub with_job : Job → JobTimes → Content → Content

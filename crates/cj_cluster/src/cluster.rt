@@ -19,7 +19,6 @@ pub struct Cluster {
     times: Table<Shared<JobTimes>>,
 }
 
-// A function of its own, so that whoever gives one up makes one call and not one for each part.
 impl Drop for Cluster {
     fn drop(self) {
         let Cluster { crons, jobs, times } = self;
@@ -96,7 +95,8 @@ impl Cluster {
         self.jobs.list(alloc)
     }
 
-    /// The Jobs whose controller names a CronJob at the key, whatever its uid, in the order of their names.
+    /// The Jobs whose controller names a CronJob at the key, whatever its uid, in the order of
+    /// their names.
     pub fn jobs_naming(&self, alloc: Global, key: &Key) -> Result<Listing<Shared<Job>>, Refusal>
         ensures ok { IfOk result (λ l. l ≡ owned_by self.now.jobs key.now) }
         ensures memory { IfErr result (λ e. e ≡ OutOfMemory) }

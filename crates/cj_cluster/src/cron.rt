@@ -16,7 +16,6 @@ pub struct ClusterCron {
     pub cron: Shared<CronJob>,
 }
 
-// A function of its own, so that whoever gives one up makes one call and not one for each part.
 impl Drop for ClusterCron {
     fn drop(self) {
         let ClusterCron { uid, cron } = self;
@@ -55,7 +54,8 @@ fn is_named(cron: &CronJob, job: &Job) -> bool
 }
 
 impl ClusterCron {
-    /// Whether the Job's controller is this CronJob, by its name in the Job's namespace and by its uid.
+    /// Whether the Job's controller is this CronJob, by its name in the Job's namespace and by its
+    /// uid.
     pub fn controls(&self, job: &Job) -> bool
         ensures { result ≡ is_of self.now job.now }
     {

@@ -90,7 +90,8 @@ a_plan c jobs found now z v h =
     )
 
 -- For plan_exists: by the start decision where a Job runs, and the one where none does, there is a plan.
-pub some_plan : (c : CronJob) (jobs : List Job) (found : List (Option Job)) (now : ℕ) (z : Option Zone) (v w : StartDecision)
+pub some_plan : (c : CronJob) (jobs : List Job) (found : List (Option Job)) (now : ℕ) (z : Option Zone)
+    (v w : StartDecision)
     → IsStartDecision c z true now v → IsStartDecision c z false now w → (p : Steps) × IsDecision c jobs found now z p
 some_plan c jobs found now z v w h k = by (has_any (running_of c found)) refl
   where

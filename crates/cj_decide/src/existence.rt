@@ -22,8 +22,9 @@ fn start_decisions(
     (busy, idle)
 }
 
-/// Every CronJob has a plan, whatever is listed and found, at every moment, and whether its zone is known or
-/// not: there are steps that are the plan. (Without a CronJob the plan is named by its definition.)
+/// Every CronJob has a plan: whatever is listed and found, at every moment, and whether its zone is
+/// known or not, there are steps that are the plan. Without a CronJob the definition itself gives
+/// the plan.
 pub fn plan_exists(
     cron: &CronJob,
     jobs: &[Shared<Job>],

@@ -1,4 +1,4 @@
-// What is done after the start: the Jobs that are cleaned up, and the status at the end.
+// The steps after the start: the Jobs that are cleaned up, and the status at the end.
 ghost use Rattle.std.specs.Prelude.{◌≡◌, IfOk, IfErr};
 ghost use Rattle.cj_base.specs.declared.refusal.Refusal.TheVariants.{OutOfMemory};
 ghost use Rattle.cj_decide.specs.Finally.{with_made, active_after, standing, final, IsStatusStep, cleanup_of};
@@ -11,7 +11,7 @@ use cj_status::{
 use cj_types::{CronJob, CronStatus, Job, Names, Refusal, Same, Seconds, Shared};
 use std::alloc::Global;
 
-// The names with that of the Job that is made, if one is.
+// The names with that of the Job that is created, if there is one.
 fn with_made(
     alloc: Global,
     cron: &CronJob,
@@ -47,7 +47,7 @@ fn active_after(
     with_made(alloc, cron, start.time, others)
 }
 
-// The status that stands before the end.
+// The status before the end: the claim's, or else the CronJob's.
 fn standing<'a>(cron: &'a CronJob, claim: &'a Option<Claim>) -> &'a CronStatus
     ensures { result.now ≡ standing cron.now claim.now }
 {
@@ -57,14 +57,14 @@ fn standing<'a>(cron: &'a CronJob, claim: &'a Option<Claim>) -> &'a CronStatus
     }
 }
 
-// A step only where it changes something.
+// The status as a step, unless it changes nothing.
 fn changed(old: &CronStatus, new: CronStatus) -> Option<CronStatus>
     ensures { IsStatusStep old.now new result }
 {
     if new.same(old) { None } else { Some(new) }
 }
 
-/// The status at the end, where it differs from what stands.
+/// The status at the end, if it differs from the status before it.
 pub(crate) fn final_step(
     alloc: Global,
     cron: &CronJob,
@@ -87,7 +87,8 @@ pub(crate) fn final_step(
     Ok(changed(old, new))
 }
 
-/// The listed Jobs that aren't the CronJob's, by name, then the finished ones that it no longer keeps.
+/// The listed Jobs that aren't the CronJob's, by name, then the finished ones that it no longer
+/// keeps.
 pub(crate) fn cleanup(
     alloc: Global,
     cron: &CronJob,

@@ -1,19 +1,19 @@
-ghost use Rattle.std.specs.Prelude.{◌≡◌, MatchBool, IfOk, IfErr, option_copied};
+ghost use Rattle.std.specs.Prelude.{◌≡◌, IfOk, IfErr, option_copied};
 ghost use Rattle.cj_base.specs.declared.refusal.Refusal.TheVariants.{OutOfMemory};
-ghost use Rattle.cj_decide.specs.Decision.{IsDecided, IsPlan, RestsOn};
+ghost use Rattle.cj_decide.specs.Decision.{IsDecided, IsPlan};
 
 use crate::steps::{Steps, plan_steps};
 use cj_base::{all_three, both};
-use cj_types::{CronJob, Job, Listing, Refusal, Same, Seconds, Shared, TryCopy, same_all};
+use cj_types::{CronJob, Job, Listing, Refusal, Same, Seconds, Shared, TryCopy};
 use cj_zone::Zone;
 use std::alloc::Global;
 use std::marker::Model;
 
-/// What a sync of a CronJob does, with what that rests on: the CronJob, the listed Jobs, what a live read
-/// found for each name of its `status.active`, the moment and the zone.
+/// The steps of a sync of a CronJob, with their inputs: the CronJob, the listed Jobs, the answer of
+/// a live read for each name of its `status.active`, the moment and the zone.
 ///
-/// Its type keeps that its steps are the decision of what it rests on. Contracts see both. Copies share all
-/// of it.
+/// Its type keeps that the steps are the decision of the inputs. Contracts see both. Copies share
+/// all of it.
 pub struct Plan {
     cron: Option<Shared<CronJob>>,
     jobs: Listing<Shared<Job>>,
@@ -47,7 +47,6 @@ impl Model for Plan {
     }) };
 }
 
-// A function of its own, so that whoever gives up a plan makes one call and not one for each part.
 impl Drop for Plan {
     fn drop(self) {
         let Plan {
@@ -72,7 +71,7 @@ fn seen<T>(value: &Option<Shared<T>>) -> Option<&T>
     }
 }
 
-// The steps of the sync that read these, to be shared.
+// The steps of the sync with these inputs, as a shared value.
 fn shared_steps(
     alloc: Global,
     cron: Option<&CronJob>,
@@ -89,8 +88,9 @@ fn shared_steps(
     Shared::new(alloc, steps)
 }
 
-/// The one plan of a CronJob, or none, the Jobs listed for it, what a live read found for each name of its
-/// `status.active` in their order, the moment, and its zone, if that is known.
+/// The one plan of these inputs: a CronJob or none, the Jobs listed for it, the answers of a live
+/// read for the names of its `status.active` in their order, the moment, and its zone, if that is
+/// known.
 pub fn decide(
     alloc: Global,
     cron: Option<Shared<CronJob>>,
@@ -126,7 +126,7 @@ pub fn decide(
 }
 
 impl Plan {
-    /// What is to be done.
+    /// The steps of the plan.
     pub fn steps(&self) -> &Steps
         ensures steps { result.now ≡ self.now.steps }
         ensures decided { IsDecided self.now }
@@ -134,55 +134,39 @@ impl Plan {
         self.steps.get()
     }
 
-    /// The CronJob that it rests on, or none.
+    /// The CronJob of the plan's inputs, if there is one.
     pub fn cron(&self) -> &Option<Shared<CronJob>>
         ensures { result.now ≡ self.now.cron }
     {
         &self.cron
     }
 
-    /// The listed Jobs that it rests on.
+    /// The listed Jobs of the plan's inputs.
     pub fn jobs(&self) -> &[Shared<Job>]
         ensures { result.now ≡ self.now.jobs }
     {
         self.jobs.as_slice()
     }
 
-    /// What the live read found for each of the CronJob's active names.
+    /// The answers of the live read for the CronJob's active names.
     pub fn active(&self) -> &[Option<Shared<Job>>]
         ensures { result.now ≡ self.now.active }
     {
         self.active.as_slice()
     }
 
-    /// The moment that it is for.
+    /// The moment of the plan.
     pub fn moment(&self) -> Seconds
         ensures { result ≡ self.now.at }
     {
         self.at
     }
 
-    /// The zone that it rests on.
+    /// The zone of the plan's inputs, if it is known.
     pub fn zone(&self) -> &Option<Shared<Zone>>
         ensures { result.now ≡ self.now.zone }
     {
         &self.zone
-    }
-
-    /// Whether it rests on just this CronJob, or none, these Jobs, and this live read.
-    pub fn rests_on(
-        &self,
-        cron: &Option<Shared<CronJob>>,
-        jobs: &[Shared<Job>],
-        active: &[Option<Shared<Job>>],
-    ) -> bool
-        ensures { MatchBool result (RestsOn self.now cron.now jobs.now active.now)
-            (RestsOn self.now cron.now jobs.now active.now → ⊥) }
-    {
-        let same_cron = self.cron.same(cron);
-        let same_jobs = same_all(self.jobs.as_slice(), jobs);
-        let same_active = same_all(self.active.as_slice(), active);
-        same_cron && same_jobs && same_active
     }
 }
 

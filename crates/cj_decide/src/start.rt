@@ -1,4 +1,4 @@
-// What is done for the time that is claimed.
+// The steps for the time that is claimed.
 ghost use Rattle.std.specs.Prelude.{◌≡◌, IfOk, IfErr, option_map};
 ghost use Rattle.cj_base.specs.declared.refusal.Refusal.TheVariants.{OutOfMemory};
 ghost use Rattle.cj_decide.specs.Start.{claimed, claim_of, draft_of};
@@ -8,14 +8,13 @@ use cj_types::{CronJob, CronStatus, JobDraft, Refusal, Same, Seconds, TryCopy};
 use cj_zone::time_text;
 use std::alloc::Global;
 
-/// The scheduled time that is claimed, and the status that says so.
+/// The scheduled time that is claimed, and the status that claims it.
 #[derive(Debug)]
 pub struct Claim {
     pub time: Seconds,
     pub status: CronStatus,
 }
 
-// A function of its own, so that whoever gives one up makes one call and not one for each part.
 impl Drop for Claim {
     fn drop(self) {
         let Claim { time: _, status } = self;

@@ -7,16 +7,16 @@ use cj_schedule::Schedule;
 use cj_types::{CronJob, Policy, Reason, Seconds};
 use cj_zone::Zone;
 
-/// What is decided about starting a Job.
+/// The decision whether to start a Job.
 #[derive(Clone, Copy, Debug)]
 pub struct StartDecision {
-    /// The time for which one is started, if one is.
+    /// The time for which a Job is started, if one is.
     pub time: Option<Seconds>,
-    /// Whether it takes the place of those that run.
+    /// Whether the Job replaces those that run.
     pub replaces: bool,
     /// Whether more than 100 times were missed.
     pub is_late: bool,
-    /// Why none is started, where there is something to tell.
+    /// Why no Job is started, where that has a reason to report.
     pub reason: Option<Reason>,
     /// When to look again.
     pub next: Option<Seconds>,
@@ -56,7 +56,7 @@ fn by_policy(policy: Policy, busy: bool, time: Seconds, next: Option<Seconds>) -
     }
 }
 
-// The same start decision where more than 100 times were missed.
+// A start decision, marked that more than 100 times were missed.
 fn late(start: StartDecision) -> StartDecision
     ensures { result ≡ late start }
 {
@@ -108,8 +108,8 @@ fn by_zone(cron: &CronJob, zone: Option<&Zone>, busy: bool, now: Seconds) -> Sta
     }
 }
 
-/// The start decision on a CronJob of which a Job runs or not: the first of suspended, no zone, nothing missed, not
-/// allowed beside what runs, started in its place, started.
+/// The start decision on a CronJob, by whether a Job of it runs. The first case that holds decides:
+/// suspended, no zone, nothing missed, forbidden while a Job runs, started in its place, started.
 pub fn decide_start(cron: &CronJob, zone: Option<&Zone>, busy: bool, now: Seconds) -> StartDecision
     ensures { IsStartDecision cron.now (option_copied zone.entry) busy now result }
 {

@@ -15,25 +15,24 @@ use cj_types::{
 use cj_zone::Zone;
 use std::alloc::Global;
 
-/// What a sync does, in the order of the fields; each step may be missing.
+/// The steps of a sync, in the order of the fields; each may be missing.
 #[derive(Debug)]
 pub struct Steps {
     /// The conditional update of the CronJob's status.
     pub claim: Option<Claim>,
-    /// The Jobs that go before the new one is made.
+    /// The Jobs that are deleted before the new one is created.
     pub drop_first: JobRefs,
     pub make: Option<JobDraft>,
-    /// The Jobs that go after it.
+    /// The Jobs that are deleted after it.
     pub cleanup: JobRefs,
-    /// The CronJob's status at the end, where it differs from what stands.
+    /// The CronJob's status at the end, if it differs from the status before it.
     pub status: Option<CronStatus>,
     /// Why no Job was started, or that many times were missed.
     pub reasons: Reasons,
-    /// When to look again.
+    /// When to sync again.
     pub next: Option<Seconds>,
 }
 
-// A function of its own, so that whoever gives one up makes one call and not one for each part.
 impl Drop for Steps {
     fn drop(self) {
         let Steps {
@@ -133,7 +132,7 @@ fn claim_and_status(
     Ok((claim, status))
 }
 
-// The Job that is made, those that go after it, and the reasons.
+// The Job that is created, the Jobs that are deleted after it, and the reasons.
 fn make_and_cleanup(
     alloc: Global,
     cron: &CronJob,
@@ -152,7 +151,7 @@ fn make_and_cleanup(
     )
 }
 
-// The steps of a start decision on a CronJob of which these Jobs run.
+// The steps of a start decision on a CronJob, of which the given Jobs run.
 fn steps_of(
     alloc: Global,
     cron: &CronJob,
@@ -195,7 +194,7 @@ fn decision(
     steps_of(alloc, cron, jobs, found, running, start)
 }
 
-// There is no CronJob: all that is listed goes.
+// The steps without a CronJob: all listed Jobs are deleted.
 fn clearing(alloc: Global, jobs: &[Shared<Job>]) -> Result<Steps, Refusal>
     ensures ok { IfOk result (λ s. s ≡ clearing jobs.now) }
     ensures err { IfErr result (λ e. e ≡ OutOfMemory) }
@@ -212,7 +211,7 @@ fn clearing(alloc: Global, jobs: &[Shared<Job>]) -> Result<Steps, Refusal>
     })
 }
 
-/// The steps of the sync that read these.
+/// The steps of the sync with these inputs.
 pub(crate) fn plan_steps(
     alloc: Global,
     cron: Option<&CronJob>,

@@ -1,4 +1,4 @@
-// The next civil minute that a schedule allows, and the one before, on a clock with no zone.
+// The next and the previous civil minute that a schedule allows, on a clock with no zone.
 mod day;
 mod minute;
 mod month;

@@ -41,7 +41,8 @@ leads_at text faults i x lines line longer inside at leads is longer_is =
     (subst (λ xs. Leads text faults xs lines) (rest_at faults i x inside at) leads) is)
 
 -- For explain_faults: so it is with the fault that stands at a place, whatever stood there if none did.
-pub leads_get : (text : Option (List ℕ)) (faults : List FieldFault) (i : ℕ) (d : FieldFault) (lines line longer : List ℕ)
+pub leads_get : (text : Option (List ℕ)) (faults : List FieldFault) (i : ℕ) (d : FieldFault)
+    (lines line longer : List ℕ)
     → i < length faults → Leads text faults (drop i faults) lines → IsFaultLine text (get_or faults i d) line
     → longer ≡ lines ++ line → Leads text faults (drop (i + 1) faults) longer
 leads_get text faults i d lines line longer inside leads is longer_is =

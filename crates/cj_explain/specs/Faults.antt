@@ -27,7 +27,8 @@ abbrev pub cause_of : Field → Cause → List ℕ
 cause_of field Why.Required = missing (need field)
 cause_of field Why.WrongType = wanted (form field)
 cause_of field Why.NotSupported = wanted (choices field)
-cause_of field Why.Fraction = wanted (codes "numbers without a fraction, of 64 bits; any other as a text, like \"0.5\"")
+cause_of field Why.Fraction = wanted (codes
+    "numbers without a fraction, of 64 bits; any other as a text, like \"0.5\"")
 cause_of field Why.TooLong = wanted (most field)
 cause_of field Why.Format = wanted (text_form field)
 cause_of field Why.Range = wanted (numbers field)
@@ -44,7 +45,8 @@ fault_words f = path_of f.field ++ (codes ": " ++ (cause_of f.field f.cause ++ c
 
 -- what is wrong with the text, and with which of its elements
 -- rule: explain-field
-pub record IsScheduleLine (text : List ℕ) (field : Field) (f : ScheduleFault) (line : List ℕ) : Type 0 where
+pub record IsScheduleLine (text : List ℕ) (field : Field) (f : ScheduleFault) (line : List ℕ)
+    : Type 0 where
   pub words : List ℕ
   pub are : IsWords text f words
   pub is : line ≡ path_of field ++ (codes ": " ++ (words ++ codes "\n"))
@@ -63,4 +65,5 @@ IsFaultLine text fault line = IsFaultLineBy text fault fault.cause line
 abbrev pub AreFaultLines : Option (List ℕ) → List FieldFault → List ℕ → Type 0
 AreFaultLines text [] lines = lines ≡ []
 AreFaultLines text (f ∷ fs) lines =
-    (line : List ℕ) × (rest : List ℕ) × IsFaultLine text f line × AreFaultLines text fs rest × (lines ≡ line ++ rest)
+    (line : List ℕ) × (rest : List ℕ) × IsFaultLine text f line × AreFaultLines text fs rest
+    × (lines ≡ line ++ rest)

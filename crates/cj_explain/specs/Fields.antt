@@ -1,4 +1,5 @@
--- What each field of a manifest wants, in words: batch/v1, `CronJob` and `Job`; Kubernetes, "Object Names and IDs".
+-- What each field of a manifest wants, in words: batch/v1, `CronJob` and `Job`; Kubernetes, "Object
+-- Names and IDs".
 use Rattle.std.specs.Prelude.{ℕ, List, codes}
 use Rattle.cj_base.specs.declared.field.Field.{Field}
 use Rattle.cj_base.specs.declared.field.Field.TheVariants as Of

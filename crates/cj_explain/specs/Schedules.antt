@@ -1,5 +1,5 @@
--- What is said of a schedule that is refused: its fields, their numbers and the forms of their elements are
--- POSIX crontab's and those of Kubernetes CronJob, "Schedule syntax".
+-- What is said of a schedule that is refused: its fields, their numbers and the forms of their
+-- elements are POSIX crontab's and those of Kubernetes CronJob, "Schedule syntax".
 use Rattle.std.specs.Prelude.{◌≡◌, ℕ, ◌==◌, List, ◌++◌, codes, decimal, if◌then◌else◌}
 use Rattle.cj_base.specs.declared.schedule_fault.ScheduleCause.{ScheduleCause}
 use Rattle.cj_base.specs.declared.schedule_fault.ScheduleCause.TheVariants as Of
@@ -9,13 +9,15 @@ use Rattle.cj_explain.specs.Elements.{IsShown, field_count}
 -- the name of a field, by its number
 abbrev pub title : ℕ → List ℕ
 title n =
-    if n == 1 then codes "minute" else if n == 2 then codes "hour" else if n == 3 then codes "day of month"
+    if n == 1 then codes "minute" else if n == 2 then codes "hour" else if n == 3 then codes
+    "day of month"
     else if n == 4 then codes "month" else codes "day of week"
 
 -- what a number is that isn't one of the field's
 abbrev pub numbers : ℕ → List ℕ
 numbers n =
-    if n == 1 then codes "outside 0 to 59" else if n == 2 then codes "outside 0 to 23" else if n == 3 then codes "outside 1 to 31"
+    if n == 1 then codes "outside 0 to 59" else if n == 2 then codes "outside 0 to 23" else if n ==
+    3 then codes "outside 1 to 31"
     else if n == 4 then codes "outside 1 to 12" else codes "outside 0 to 6; Sunday is 0"
 
 -- what is wrong with an element, or with the whole text
@@ -43,13 +45,16 @@ count_words text = count_words_for (field_count text)
 -- which field, where, and what is wrong
 abbrev pub placed : ScheduleFault → List ℕ → List ℕ
 placed f wrong =
-    codes "field " ++ (decimal f.field ++ (codes " (" ++ (title f.field ++ (codes "), byte " ++ (decimal f.byte ++ (codes ": " ++ wrong))))))
+    codes "field " ++ (decimal f.field ++
+    (codes " (" ++ (title f.field ++ (codes "), byte "
+    ++ (decimal f.byte ++ (codes ": " ++ wrong))))))
 
--- the same with the element that stands there
+-- what is wrong with an element, with the element itself
 pub record IsElementWords (text : List ℕ) (f : ScheduleFault) (words : List ℕ) : Type 0 where
   pub shown : List ℕ
   pub stands : IsShown text f.byte shown
-  pub are : words ≡ placed f (codes "'" ++ (shown ++ (codes "' is " ++ cause_words f.field f.cause)))
+  pub are : words ≡ placed f (codes "'" ++
+      (shown ++ (codes "' is " ++ cause_words f.field f.cause)))
 
 -- by the cause
 -- rule: explain-schedule

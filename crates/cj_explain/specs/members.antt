@@ -1,6 +1,6 @@
 pub mod Wants
 pub mod Members
-pub mod Deeds
+pub mod Actions
 pub mod Items
 pub mod Wholes
 pub mod Looks

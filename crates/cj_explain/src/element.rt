@@ -1,4 +1,4 @@
-// What stands in a schedule's text.
+// The elements and fields of a schedule's text.
 ghost use Rattle.std.specs.Prelude.{◌≡◌, ◌≤◌, ◌<◌, length, get_or};
 ghost use Rattle.std.specs.List.{position_or_len};
 ghost use Rattle.cj_explain.specs.Elements.{IsShown, element_of, field_count, is_blank, is_end};
@@ -15,7 +15,7 @@ fn is_end(byte: u8) -> bool
     byte == b',' || is_blank(byte)
 }
 
-// Where the first comma or blank stands, or the end of the bytes.
+// The place of the first comma or blank, or the end of the bytes.
 fn end_of(bytes: &[u8]) -> usize
     ensures first { result ≡ position_or_len is_end bytes.now }
     ensures within { result ≤ length bytes.now }
@@ -29,14 +29,15 @@ fn end_of(bytes: &[u8]) -> usize
     bytes.len()
 }
 
-// What stands before the first comma or blank.
+// The text before the first comma or blank.
 fn element(text: &str) -> &str
     ensures { result.now ≡ element_of text.now }
 {
     &text[..end_of(text.as_bytes())]
 }
 
-/// The element that begins at this byte; nothing where the byte is none at which a character begins.
+/// The element that begins at this byte; nothing where the byte is none at which a character
+/// begins.
 pub(crate) fn shown_at(text: &str, byte: usize) -> &str
     ensures { IsShown text.now byte result.now }
 {

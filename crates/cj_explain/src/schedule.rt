@@ -91,8 +91,8 @@ pub(crate) fn words(alloc: Global, text: &str, fault: ScheduleFault) -> Result<S
     }
 }
 
-/// A line that says what is wrong with the text of a schedule: of the whole text, or of the element at the
-/// fault's byte.
+/// A line that says what is wrong with the text of a schedule: of the whole text, or of the element
+/// at the fault's byte.
 pub fn explain_schedule(
     alloc: Global,
     text: &str,

@@ -6,7 +6,7 @@ use Rattle.cj_store.specs.Content.{Content}
 use Rattle.cj_decide.specs.Decision.{Planned}
 use Rattle.cj_calls.specs.Rows.{Told}
 use Rattle.cj_state.specs.Legal.{IsLegal}
-use Rattle.cj_world_laws.proofs.LegalLemmas.Seated.{seats_agree}
+use Rattle.cj_world_laws.proofs.LegalLemmas.HeldSyncs.{syncs_agree}
 use Rattle.cj_world_laws.specs.once.Times as state
 use Rattle.cj_world_laws.proofs.OnceLemmas.Claims.{timely as always_timely}
 use Rattle.cj_history.specs.store.Store.{IsStore}
@@ -31,7 +31,7 @@ latest_same ws s k p time is m = record {
 timely_same : (window : ℕ) (h : List Told) → IsLegal window h → state.Timely window h → Timely h
 timely_same window [] l t = tt
 timely_same window (e ∷ h) l t = (
-  (λ p time c. let m = t.0 p time c in (m.0, sym (seats_agree window h l.2 e.caller.number) ∙ m.1, latest_same (writes h) _ m.0.key p time (store_agrees window h l.2) m.2)),
+  (λ p time c. let m = t.0 p time c in (m.0, sym (syncs_agree window h l.2 e.caller.number) ∙ m.1, latest_same (writes h) _ m.0.key p time (store_agrees window h l.2) m.2)),
   timely_same window h l.2 t.1,
 )
 

@@ -6,7 +6,7 @@ use Rattle.cj_types.specs.Keys.{Place}
 use Rattle.cj_queue.specs.Parts.{key_eq}
 use Rattle.cj_queue.proofs.Sets.{eq_true, eq_turned}
 use Rattle.cj_calls.specs.declared.reply.Reply.TheVariants as Say
-use Rattle.cj_state.specs.declared.phases.seat.Seat.{Seat}
+use Rattle.cj_state.specs.declared.phases.sync.InFlight.{InFlight}
 use Rattle.cj_history.specs.queue.Deeds.{Operation}
 use Rattle.cj_history.specs.queue.Answers.{Answer, IsFirst, OnTake, TakeSays}
 use Rattle.cj_history.proofs.QueueLemmas.Firsts.{both_ways}
@@ -48,6 +48,6 @@ one_take h (Err No.Empty) b p q = when_empty h b p q
 one_take h a b p q = absurd p
 
 -- A Take by any worker, whether or not it holds a key, has just one answer.
-pub one_taken : (h : List Operation) (o : Option Seat) (a b : Answer) → TakeSays h o a → TakeSays h o b → a ≡ b
+pub one_taken : (h : List Operation) (o : Option InFlight) (a b : Answer) → TakeSays h o a → TakeSays h o b → a ≡ b
 one_taken h None a b p q = one_take h a b p q
 one_taken h (Some s) a b p q = p ∙ sym q

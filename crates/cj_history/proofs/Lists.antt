@@ -78,7 +78,8 @@ module _ {X : Type 0} (key : X → Place) where
       → Above (key x) ys
       → (if b then Some x else found key xs k) ≡ (if b then Some x else found key ys k)
       → found key xs k ≡ found key ys k
-  tail_case x xs ys k true t a b e = (let same = eq_true (key x) k t in ap (found key xs) (sym same) ∙ none_above (key x) xs a ∙ sym (ap (found key ys) (sym same) ∙ none_above (key x) ys b))
+  tail_case x xs ys k true t a b e = (let same = eq_true (key x) k t in ap (found key xs) (sym same)
+      ∙ none_above (key x) xs a ∙ sym (ap (found key ys) (sym same) ∙ none_above (key x) ys b))
   tail_case x xs ys k false t a b e = e
 
   -- Two lists in the order of keys that find the same at each key are one list.

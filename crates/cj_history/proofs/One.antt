@@ -15,11 +15,11 @@ use Rattle.cj_calls.specs.declared.call.Call.TheVariants as Of
 use Rattle.cj_calls.specs.declared.reply.Reply.{Reply}
 use Rattle.cj_calls.specs.declared.reply.Reply.TheVariants as Say
 use Rattle.cj_calls.specs.Rows.{Told}
-use Rattle.cj_state.specs.declared.phases.seat.Phase.{Phase}
-use Rattle.cj_state.specs.declared.phases.seat.Phase.TheVariants.{Held, Seen, Listed, Checked, Works}
-use Rattle.cj_state.specs.declared.phases.seat.Seat.{Seat}
+use Rattle.cj_state.specs.declared.phases.sync.Phase.{Phase}
+use Rattle.cj_state.specs.declared.phases.sync.Phase.TheVariants.{Held, Seen, Listed, Checked, Works}
+use Rattle.cj_state.specs.declared.phases.sync.InFlight.{InFlight}
 use Rattle.cj_state.specs.Legal.{IsLegal, answer_of}
-use Rattle.cj_world_laws.specs.legal.Seats.{seat}
+use Rattle.cj_world_laws.specs.legal.InFlightSyncs.{sync}
 use Rattle.cj_world_laws.proofs.LegalLemmas.Hands.{always_exclusive}
 use Rattle.cj_history.specs.store.Written.{version, current_cron, current_job}
 use Rattle.cj_history.specs.store.Lists.{IsListing, passing}
@@ -46,8 +46,9 @@ one_listed : {X : Type 0} (key : X → Place) (now : Place → Option X) (say : 
     → Lists key now say a → Lists key now say b → a ≡ b
 one_listed key now say a b p q = p.1 ∙ ap say (one_listing key now p.0 q.0 p.2 q.2) ∙ sym q.1
 
--- a and b are answers by the writes ws, of which the listing knows n, the operations h and the seat o.
-module _ (window n : ℕ) (ws : List Event) (h : List Operation) (o : Option Seat) (a b : Answer) where
+-- a and b are answers by the writes ws, of which the listing knows n, the operations h and the sync
+-- o.
+module _ (window n : ℕ) (ws : List Event) (h : List Operation) (o : Option InFlight) (a b : Answer) where
   -- if looking back gives both answers to the call, they are the same
   abbrev Two : Role → Call → Type 0
   Two role call = store.Says window n ws o role call a → store.Says window n ws o role call b
@@ -89,8 +90,8 @@ module _ (window n : ℕ) (ws : List Event) (h : List Operation) (o : Option Sea
   one_phase k (Checked c js ks) p q = p ∙ sym q
   one_phase k (Works work) p q = p ∙ sym q
 
-  -- Looking back gives a SeeJobs one answer, has the caller a seat or none.
-  one_seen : (x : Option Seat) → store.OnSeeJobs n ws x a → store.OnSeeJobs n ws x b → a ≡ b
+  -- Looking back gives a SeeJobs one answer, has the caller a sync or none.
+  one_seen : (x : Option InFlight) → store.OnSeeJobs n ws x a → store.OnSeeJobs n ws x b → a ≡ b
   one_seen None p q = p ∙ sym q
   one_seen (Some y) p q = one_phase y.key y.phase p q
 
@@ -112,7 +113,7 @@ module _ (window n : ℕ) (ws : List Event) (h : List Operation) (o : Option Sea
 same_answer : (window : ℕ) (h : List Told) (caller : Caller) (call : Call) (a b : Answer)
     → IsAnswered window h caller call a → IsAnswered window h caller call b → a ≡ b
 same_answer window h caller call a b p q =
-    one_answer window (fed window h) (writes h) (operations h) (seat h caller.number) a b caller.role call p.of_store
+    one_answer window (fed window h) (writes h) (operations h) (sync h caller.number) a b caller.role call p.of_store
     q.of_store p.of_queue q.of_queue
 
 -- The answer of the state after a legal history is one that looking back gives.

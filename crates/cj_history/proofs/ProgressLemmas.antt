@@ -15,7 +15,7 @@ pub mod Closed
 pub mod Spare
 pub mod Whole
 pub mod SyncSample
-pub mod Stretches
+pub mod Intervals
 pub mod Makers
 pub mod Restated
 pub mod Others

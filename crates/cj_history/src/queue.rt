@@ -1,5 +1,5 @@
-// What a history says of the work queue, by looking back over its accepted calls; and that the queue of the
-// state agrees.
+// What a history says of the work queue, by looking back over its accepted calls; and that the
+// queue of the state agrees.
 mod laws;
 mod rest;
 

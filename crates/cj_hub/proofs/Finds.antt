@@ -33,12 +33,12 @@ use Rattle.cj_types.specs.declared.policy.Reason.{Reason}
 use Rattle.cj_types.specs.Events.{version_of}
 use Rattle.cj_state.specs.phases.Inputs.{rests_on}
 use Rattle.cj_state.specs.phases.Steps.{step_at, as_drop, as_make, as_status, is_over}
-use Rattle.cj_state.specs.declared.phases.seat.Work.{Work}
-use Rattle.cj_state.specs.declared.phases.seat.Phase.{Phase}
-use Rattle.cj_state.specs.declared.phases.seat.Phase.TheVariants.{Held, Seen, Listed, Checked, Works}
-use Rattle.cj_state.specs.declared.phases.seat.Seat.{Seat}
+use Rattle.cj_state.specs.declared.phases.sync.Work.{Work}
+use Rattle.cj_state.specs.declared.phases.sync.Phase.{Phase}
+use Rattle.cj_state.specs.declared.phases.sync.Phase.TheVariants.{Held, Seen, Listed, Checked, Works}
+use Rattle.cj_state.specs.declared.phases.sync.InFlight.{InFlight}
 use Rattle.cj_state.specs.declared.state.State.{State}
-use Rattle.cj_state.specs.WorkerCalls.{Handled, refused, by_seat, seat_of, take, take_by, take_first, see_cron, see_cron_in, see_jobs, see_jobs_in, see_active, see_active_in, claim, claim_in, claim_where, claims, wrote, works, drop_next, drop_in, drop_where, drops_it, make_next, make_in, make_where, steps_on, event_reply, version_reply, set_status, status_in, status_where, sets_it, finish, finish_in, finish_work}
+use Rattle.cj_state.specs.WorkerCalls.{Handled, refused, by_sync, sync_of, take, take_by, take_first, see_cron, see_cron_in, see_jobs, see_jobs_in, see_active, see_active_in, claim, claim_in, claim_where, claims, wrote, works, drop_next, drop_in, drop_where, drops_it, make_next, make_in, make_where, steps_on, event_reply, version_reply, set_status, status_in, status_where, sets_it, finish, finish_in, finish_work}
 use Rattle.cj_state.specs.Step.{writes, found_cron, found_job, told_events, step_of, by_role, by_reader, by_user, by_runner, by_worker, by_informer}
 use Rattle.cj_world_laws.specs.legal.Answers.{is_empty}
 use Rattle.cj_hub.specs.Books.{FindsNothing}
@@ -47,11 +47,11 @@ use Rattle.cj_hub.specs.Books.{FindsNothing}
 abbrev Full : Handled → Type 0
 Full m = is_empty m.answer ≡ false
 
--- in every phase and without a seat
-seat_full : (s : State) (call : Call) (f : Place → Phase → Handled) (o : Option Seat) → Full (by_seat s f None)
-    → ((k : Place) (p : Phase) → Full (f k p)) → Full (by_seat s f o)
-seat_full s call f None n h = n
-seat_full s call f (Some seat) n h = h seat.key seat.phase
+-- in every phase and without a sync
+sync_full : (s : State) (call : Call) (f : Place → Phase → Handled) (o : Option InFlight) → Full (by_sync s f None)
+    → ((k : Place) (p : Phase) → Full (f k p)) → Full (by_sync s f o)
+sync_full s call f None n h = n
+sync_full s call f (Some sync) n h = h sync.key sync.phase
 
 -- To see the CronJob isn't answered with Empty, in whatever phase the worker is.
 cron_full : (s : State) (w : ℕ) (k : Place) (p : Phase) → Full (see_cron_in s w k p)
@@ -139,10 +139,10 @@ claim_full s w p k (Checked c js ks) = rests_full s w p k (rests_on p c js ks)
 claim_full s w p k (Works work) = refl
 
 -- For drop_where_full: to drop a Job isn't answered with Empty, whether it was there or not.
-drops_full : (s : State) (w : ℕ) (seat : Seat) (name : Place) (r : Result Event Refusal)
-    → Full (drops_it s w seat name r)
-drops_full s w seat name (Ok e) = refl
-drops_full s w seat name (Err e) = refl
+drops_full : (s : State) (w : ℕ) (sync : InFlight) (name : Place) (r : Result Event Refusal)
+    → Full (drops_it s w sync name r)
+drops_full s w sync name (Ok e) = refl
+drops_full s w sync name (Err e) = refl
 
 -- For drop_full: to drop isn't answered with Empty, whether the plan's step is a drop or not.
 drop_where_full : (s : State) (w : ℕ) (k : Place) (work : Work) (o : Option JobRef) → Full (drop_where s w k work o)
@@ -158,11 +158,11 @@ drop_full s w k (Checked c js ks) = refl
 drop_full s w k (Works work) = drop_where_full s w k work (as_drop (step_at work.plan.steps work.place))
 
 -- For make_where_full: to make a Job isn't answered with Empty, whether its key is free or not.
-made_full : (s : State) (w : ℕ) (seat : Seat) (draft : JobDraft) (now : ℕ) (b : Bool)
-    → Full (steps_on s w seat event_reply (map_ok job_added (if b then Err AlreadyExists
+made_full : (s : State) (w : ℕ) (sync : InFlight) (draft : JobDraft) (now : ℕ) (b : Bool)
+    → Full (steps_on s w sync event_reply (map_ok job_added (if b then Err AlreadyExists
     else Ok (new_job s.store draft now))))
-made_full s w seat draft now true = refl
-made_full s w seat draft now false = refl
+made_full s w sync draft now true = refl
+made_full s w sync draft now false = refl
 
 -- For make_full: to make isn't answered with Empty, whether the plan's step is a making or not.
 make_where_full : (s : State) (w : ℕ) (k : Place) (work : Work) (o : Option JobDraft) → Full (make_where s w k work o)
@@ -178,11 +178,11 @@ make_full s w k (Checked c js ks) = refl
 make_full s w k (Works work) = make_where_full s w k work (as_make (step_at work.plan.steps work.place))
 
 -- For sets_full: a step whose write has one of the three answers isn't answered with Empty.
-set_given : (s : State) (w : ℕ) (seat : Seat) (r : Result Event Refusal) → Given r
-    → Full (steps_on s w seat version_reply r)
-set_given s w seat r (makes e i) = subst (λ x. Full (steps_on s w seat version_reply x)) (sym i) (refl)
-set_given s w seat r (lacks i) = subst (λ x. Full (steps_on s w seat version_reply x)) (sym i) (refl)
-set_given s w seat r (differs v i) = subst (λ x. Full (steps_on s w seat version_reply x)) (sym i) (refl)
+set_given : (s : State) (w : ℕ) (sync : InFlight) (r : Result Event Refusal) → Given r
+    → Full (steps_on s w sync version_reply r)
+set_given s w sync r (makes e i) = subst (λ x. Full (steps_on s w sync version_reply x)) (sym i) (refl)
+set_given s w sync r (lacks i) = subst (λ x. Full (steps_on s w sync version_reply x)) (sym i) (refl)
+set_given s w sync r (differs v i) = subst (λ x. Full (steps_on s w sync version_reply x)) (sym i) (refl)
 
 -- To set a status isn't answered with Empty, whether the plan rests on a CronJob or on none.
 sets_full : (s : State) (w : ℕ) (k : Place) (work : Work) (status : CronStatus) (o : Option CronJob)
@@ -364,30 +364,30 @@ first_finds s w [] l true e f = absurd (cc (ap (λ x. is_empty (Err (if x then S
 first_finds s w [] l false e f = record { call_is = refl; line = l; open_still = e }
 
 -- A Take is answered with Empty only where it found nothing, whether the worker holds a key or not.
-take_finds : (s : State) (w : ℕ) (o : Option Seat) → Finds s Of.Take (take_by s w o)
+take_finds : (s : State) (w : ℕ) (o : Option InFlight) → Finds s Of.Take (take_by s w o)
 take_finds s w None f = first_finds s w s.queue.row.line refl s.queue.shut refl f
-take_finds s w (Some seat) f = absurd (cc f)
+take_finds s w (Some sync) f = absurd (cc f)
 
 -- A call of a worker that is answered with Empty is a Take that found nothing.
 worker_finds : (s : State) (w : ℕ) (call : Call) → Finds s call (by_worker s w call)
 unfolding take see_cron see_jobs see_active claim drop_next make_next set_status finish
-worker_finds s w Of.Take f = take_finds s w (seat_of s w) f
+worker_finds s w Of.Take f = take_finds s w (sync_of s w) f
 worker_finds s w Of.SeeCron f = full_finds s Of.SeeCron (see_cron s w)
-    (seat_full s Of.SeeCron (see_cron_in s w) (seat_of s w) refl (cron_full s w)) f
+    (sync_full s Of.SeeCron (see_cron_in s w) (sync_of s w) refl (cron_full s w)) f
 worker_finds s w Of.SeeJobs f = full_finds s Of.SeeJobs (see_jobs s w)
-    (seat_full s Of.SeeJobs (see_jobs_in s w) (seat_of s w) refl (jobs_full s w)) f
+    (sync_full s Of.SeeJobs (see_jobs_in s w) (sync_of s w) refl (jobs_full s w)) f
 worker_finds s w Of.SeeActive f = full_finds s Of.SeeActive (see_active s w)
-    (seat_full s Of.SeeActive (see_active_in s w) (seat_of s w) refl (active_full s w)) f
+    (sync_full s Of.SeeActive (see_active_in s w) (sync_of s w) refl (active_full s w)) f
 worker_finds s w (Of.Claim p) f = full_finds s (Of.Claim p) (claim s w p)
-    (seat_full s (Of.Claim p) (claim_in s w p) (seat_of s w) refl (claim_full s w p)) f
+    (sync_full s (Of.Claim p) (claim_in s w p) (sync_of s w) refl (claim_full s w p)) f
 worker_finds s w Of.DropNext f = full_finds s Of.DropNext (drop_next s w)
-    (seat_full s Of.DropNext (drop_in s w) (seat_of s w) refl (drop_full s w)) f
+    (sync_full s Of.DropNext (drop_in s w) (sync_of s w) refl (drop_full s w)) f
 worker_finds s w Of.MakeNext f = full_finds s Of.MakeNext (make_next s w)
-    (seat_full s Of.MakeNext (make_in s w) (seat_of s w) refl (make_full s w)) f
+    (sync_full s Of.MakeNext (make_in s w) (sync_of s w) refl (make_full s w)) f
 worker_finds s w Of.SetStatus f = full_finds s Of.SetStatus (set_status s w)
-    (seat_full s Of.SetStatus (status_in s w) (seat_of s w) refl (status_full s w)) f
+    (sync_full s Of.SetStatus (status_in s w) (sync_of s w) refl (status_full s w)) f
 worker_finds s w (Of.Finish end rs) f = full_finds s (Of.Finish end rs) (finish s w end)
-    (seat_full s (Of.Finish end rs) (finish_in s w end) (seat_of s w) refl (finish_full s w end rs)) f
+    (sync_full s (Of.Finish end rs) (finish_in s w end) (sync_of s w) refl (finish_full s w end rs)) f
 worker_finds s w call f = absurd (cc f)
 
 -- A call of any role that is answered with Empty is a Take that found nothing.

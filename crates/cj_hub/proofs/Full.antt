@@ -6,8 +6,8 @@ use Rattle.cj_base.specs.declared.refusal.Refusal.TheVariants.{HistoryFull, Estr
 use Rattle.cj_hub.specs.Books.{BookView, IsFull}
 use Rattle.cj_hub.specs.Runs.{FoundFull, IsTurnedAway, TellsFull}
 
--- For PlainDesk::call: where a call is refused Estranged exactly where the pass isn't known, and HistoryFull
--- exactly where it is and the history is full, a full history answers one of the two.
+-- For PlainDesk::call: where a call is refused Estranged exactly where the pass isn't known, and
+-- HistoryFull exactly where it is and the history is full, a full history answers one of the two.
 pub no_room : {X : Type 0} (r : Result X Refusal) (K F : Type 0) → ((r ≡ Err Estranged) ↔ (K → ⊥))
     → ((r ≡ Err HistoryFull) ↔ (K × F)) → F → IsTurnedAway r
 no_room (Ok x) K F strange full is = cc (strange.1 (λ k. cc (full.1 (k, is))))

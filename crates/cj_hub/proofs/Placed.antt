@@ -8,10 +8,10 @@ use mathlib.Core.List.{reverse}
 use Rattle.cj_calls.specs.Rows.{Told}
 use Rattle.cj_calls.specs.declared.caller.Role.{Role}
 use Rattle.cj_hub.specs.declared.receipt.Receipt.{Receipt}
-use Rattle.cj_hub.specs.declared.seat.Seat.{Seat}
+use Rattle.cj_hub.specs.declared.enrolled.Enrolled.{Enrolled}
 use Rattle.cj_hub.specs.Receipts.{PassView, placed, receipt_of, IsExact, Stands}
 use Rattle.cj_hub.specs.Walks.{placed_from}
-use Rattle.cj_hub.specs.Books.{IsCounted, no_seat}
+use Rattle.cj_hub.specs.Books.{IsCounted, not_enrolled}
 
 -- ---- counts
 
@@ -35,38 +35,41 @@ placed_more n h e = by_case (e.caller.number == n) (placed n h) (receipt_of (len
     by_case true rs r = length-append rs (r ∷ [])
     by_case false rs r = omega arith
 
--- For Book::enter: with an entry more, and its caller's count one up, the seats count the entries.
-pub counted_more : (seats seats' : List Seat) (h : List Told) (e : Told) (n : ℕ) → IsCounted seats h
+-- For Book::enter: with an entry more, and its caller's count one up, the book counts the entries
+-- of each pass.
+pub counted_more : (enrolled enrolled' : List Enrolled) (h : List Told) (e : Told) (n : ℕ) → IsCounted enrolled h
     → e.caller.number ≡ n
-    → ((k : ℕ) → (slice_index_or seats' k no_seat).count
-    ≡ (slice_index_or seats k no_seat).count + (if n == k then 1 else 0))
-    → IsCounted seats' (e ∷ h)
-counted_more seats seats' h e n counted is more k =
+    → ((k : ℕ) → (slice_index_or enrolled' k not_enrolled).count
+    ≡ (slice_index_or enrolled k not_enrolled).count + (if n == k then 1 else 0))
+    → IsCounted enrolled' (e ∷ h)
+counted_more enrolled enrolled' h e n counted is more k =
     let before = counted k in
     let after = more k in
     rw (placed_more k h e, is, after, before) refl
 
--- For Book::enter: the count of a seat plus one fits 64 bits, as the history is short.
-pub counts_fit : (seats : List Seat) (h all : List Told) (n : ℕ) → IsCounted seats h → h ≡ all → length all < 2 ^ 25
-    → (slice_index_or seats n no_seat).count + 1 < 2 ^ 64
-counts_fit seats h all n counted same short =
+-- For Book::enter: the count of a pass plus one fits 64 bits, as the history is short.
+pub counts_fit : (enrolled : List Enrolled) (h all : List Told) (n : ℕ) → IsCounted enrolled h → h ≡ all
+    → length all < 2 ^ 25
+    → (slice_index_or enrolled n not_enrolled).count + 1 < 2 ^ 64
+counts_fit enrolled h all n counted same short =
     let count = counted n in
     let le = placed_le n h in
     let long = ap (λ (x : List Told). length x) same in
     omega arith
 
--- There are as many roles as seats.
-roles_long : (seats : List Seat) → length (map (λ (s : Seat). s.role) seats) ≡ length seats
+-- There are as many roles as passes enrolled.
+roles_long : (enrolled : List Enrolled) → length (map (λ (s : Enrolled). s.role) enrolled) ≡ length enrolled
 roles_long [] = refl
-roles_long (s ∷ seats) = ap suc (roles_long seats)
+roles_long (s ∷ enrolled) = ap suc (roles_long enrolled)
 
--- For Book::enter: a number that has a role is that of a seat.
-pub seat_within : (seats : List Seat) (roles : List Role) (n : ℕ) (role : Role) → map (λ s. s.role) seats ≡ roles
-    → slice_get roles n ≡ Some role → n < length seats
-seat_within seats roles n role same found =
+-- For Book::enter: a number that has a role is that of an enrolled pass.
+pub enrolled_within : (enrolled : List Enrolled) (roles : List Role) (n : ℕ) (role : Role)
+    → map (λ s. s.role) enrolled ≡ roles
+    → slice_get roles n ≡ Some role → n < length enrolled
+enrolled_within enrolled roles n role same found =
     let within = slice_get_within roles n role found in
     let long = ap (λ (x : List Role). length x) same in
-    omega (arith, roles_long seats)
+    omega (arith, roles_long enrolled)
 
 -- ---- from the oldest entry on
 

@@ -100,15 +100,24 @@ is_err_of (Err r) e = refl
 pub accepted : (call : Call) (r : Receipt) (answer : Result Reply Refusal) → answer ≡ r.entry.answer
     → is_ok answer ≡ true → r.entry.call ≡ call → IsTrue (is_in_row call r.entry.answer)
     → IsOne call (λ a. IsOk a × (a ≡ r.entry.answer)) (r.entry ∷ [])
-accepted call r answer same ok of row = record { entry = r.entry; only = refl; of = of; says = (is_ok_of r.entry.answer (ap is_ok (sym same) ∙ ok), refl); row = row }
+accepted call r answer same ok of row = record {
+  entry = r.entry;
+  only = refl;
+  of = of;
+  says =
+      (is_ok_of r.entry.answer (ap is_ok (sym same) ∙ ok), refl);
+  row = row;
+}
 
 -- For ask: the entry of a call that wasn't accepted is one entry of this call, with a refusal.
 pub not_accepted : (call : Call) (r : Receipt) (answer : Result Reply Refusal) → answer ≡ r.entry.answer
     → is_ok answer ≡ false → r.entry.call ≡ call → IsTrue (is_in_row call r.entry.answer)
     → IsOne call (λ a. IsErr a × (a ≡ r.entry.answer)) (r.entry ∷ [])
-not_accepted call r answer same ok of row = record { entry = r.entry; only = refl; of = of; says = (is_err_of r.entry.answer (ap is_ok (sym same) ∙ ok), refl); row = row }
-
--- nothing is kept of the reply
-pub one_weaker : (call : Call) (a : Result Reply Refusal) (es : List Told) → IsOne call (λ x. IsOk x × (x ≡ a)) es
-    → IsOne call IsOk es
-one_weaker call a es one = record { entry = one.entry; only = one.only; of = one.of; says = one.says.0; row = one.row }
+not_accepted call r answer same ok of row = record {
+  entry = r.entry;
+  only = refl;
+  of = of;
+  says =
+      (is_err_of r.entry.answer (ap is_ok (sym same) ∙ ok), refl);
+  row = row;
+}

@@ -14,30 +14,31 @@ use Rattle.cj_state.specs.declared.state.State.{State}
 use Rattle.cj_state.specs.Legal.{state_of, answer_of, is_entered}
 use Rattle.cj_world.specs.Worlds.{told}
 use Rattle.cj_hub.specs.declared.receipt.Receipt.{Receipt}
-use Rattle.cj_hub.specs.declared.seat.Seat.{Seat}
+use Rattle.cj_hub.specs.declared.enrolled.Enrolled.{Enrolled}
 use Rattle.cj_hub.specs.Receipts.{PassView, caller_of, with_receipt, placed, Stands, last_of, IsExact}
 
--- a book: how much is kept, its history with the newest entry first, the role of each pass that it enrolled,
--- and whether work on it was given up
+-- a book: how much is kept, its history with the newest entry first, the role of each pass that it
+-- enrolled, and whether work on it was given up
 pub record BookView : Type 0 where
   pub limits : Kept
   pub history : List Told
   pub roles : List Role
   pub given_up : Bool
 
-abbrev pub no_seat : Seat
-no_seat = record { role = User; count = 0 }
+abbrev pub not_enrolled : Enrolled
+not_enrolled = record { role = User; count = 0 }
 
--- each pass has as many entries as its seat counts, and nobody else has any
+-- each pass has as many entries as the book counts of it, and nobody else has any
 -- rule: hub-call
-abbrev pub IsCounted : List Seat → List Told → Type 0
-IsCounted seats h = (n : ℕ) → (slice_index_or seats n no_seat).count ≡ length (placed n h)
+abbrev pub IsCounted : List Enrolled → List Told → Type 0
+IsCounted enrolled h = (n : ℕ) →
+    (slice_index_or enrolled n not_enrolled).count ≡ length (placed n h)
 
 abbrev pub IsEnrolled : BookView → PassView → Type 0
 IsEnrolled b p = slice_get b.roles p.number ≡ Some p.role
 
--- the book enrolled the pass with this role, has as many entries of it as the pass has receipts, and has the
--- last of them at its place
+-- the book enrolled the pass with this role, has as many entries of it as the pass has receipts,
+-- and has the last of them at its place
 -- rule: hub-call
 pub record Knows (b : BookView) (p : PassView) : Type 0 where
   pub enrolled : IsEnrolled b p
@@ -60,10 +61,11 @@ state_in b = state_of b.limits.window b.history
 abbrev pub answer_in : BookView → Caller → Call → Result Reply Refusal
 answer_in b caller call = answer_of b.limits.window b.history caller call
 
--- one call was entered: the receipt is of it, with the answer that the history gives, at the place after the
--- last, and the entry was added
+-- one call was entered: the receipt is of it, with the answer that the history gives, at the place
+-- after the last, and the entry was added
 -- rule: hub-call
-pub record IsEntered (b : BookView) (caller : Caller) (call : Call) (r : Receipt) (b' : BookView) : Type 0 where
+pub record IsEntered (b : BookView) (caller : Caller) (call : Call) (r : Receipt)
+    (b' : BookView) : Type 0 where
   pub room : length b.history < b.limits.history
   pub entry : r.entry ≡ told caller call (answer_in b caller call)
   pub entered : is_entered (answer_in b caller call) ≡ true
@@ -72,7 +74,8 @@ pub record IsEntered (b : BookView) (caller : Caller) (call : Call) (r : Receipt
 
 -- one call of the pass was entered, and the pass has its receipt
 -- rule: hub-call
-pub record IsStep (b : BookView) (p : PassView) (call : Call) (r : Receipt) (b' : BookView) (p' : PassView) : Type 0 where
+pub record IsStep (b : BookView) (p : PassView) (call : Call) (r : Receipt) (b' : BookView)
+    (p' : PassView) : Type 0 where
   pub entered : IsEntered b (caller_of p) call r b'
   pub pass : p' ≡ with_receipt p r
 
@@ -89,7 +92,8 @@ IsUnentered s call Empty = FindsNothing s call
 IsUnentered s call OutOfMemory = Unit {0}
 IsUnentered s call _ = ⊥
 
--- a refusal of the hub itself: Empty to a Take alone, where the line is empty and the queue isn't shut
+-- a refusal of the hub itself: Empty to a Take alone, where the line is empty and the queue isn't
+-- shut
 -- rule: hub-call
 abbrev pub IsHubRefusal : State → Call → Refusal → Type 0
 IsHubRefusal s call Empty = FindsNothing s call

@@ -1,4 +1,4 @@
--- Receipts and passes, and how they stand to a history, which has its newest entry first.
+-- Receipts and passes, and when they fit a history, which has its newest entry first.
 use Rattle.std.specs.Prelude.{◌≡◌, ℕ, ◌+◌, ◌-◌, ◌<◌, ◌≤◌, ◌==◌, if◌then◌else◌, List, [], ◌∷◌, ◌++◌, Option, Some, IfSome, slice_get, length}
 use mathlib.Core.List.{reverse}
 use Rattle.cj_calls.specs.Rows.{Told}
@@ -28,17 +28,19 @@ with_receipt p r = record p { receipts = p.receipts ++ r ∷ [] }
 abbrev pub fresh : ℕ → Role → PassView
 fresh n role = record { number = n; role = role; receipts = [] }
 
--- the entries with the number, the oldest first, each with its place: the first entry of a history has place 1
+-- the entries with the number, the oldest first, each with its place: the first entry of a history
+-- has place 1
 -- rule: closing
 abbrev pub placed : ℕ → List Told → List Receipt
 placed n [] = []
-placed n (e ∷ h) = if e.caller.number == n then placed n h ++ receipt_of (length h + 1) e ∷ [] else placed n h
+placed n (e ∷ h) = if e.caller.number == n then placed n h ++ receipt_of (length h + 1) e ∷ []
+    else placed n h
 
--- the receipt's entry stands at its place among these, the oldest first
+-- the receipt's entry is at its place among these, the oldest first
 abbrev pub StandsAmong : List Told → Receipt → Type 0
 StandsAmong es r = (1 ≤ r.place) × (slice_get es (r.place - 1) ≡ Some r.entry)
 
--- the receipt's entry stands at its place in the history
+-- the receipt's entry is at its place in the history
 -- rule: receipts
 abbrev pub Stands : List Told → Receipt → Type 0
 Stands h r = StandsAmong (reverse h) r
@@ -56,10 +58,11 @@ Follows rs place = IfSome (last_of rs) (λ r. r.place < place)
 abbrev pub IsExact : List Told → PassView → Type 0
 IsExact h p = p.receipts ≡ placed p.number h
 
--- what a call through a pass tells: the receipt names the pass's caller and the call, is later than the last
--- one, and is added
+-- the receipt of a call through a pass, and the pass after it: the receipt names the pass's caller
+-- and the call, is later than the last one, and is added
 -- rule: receipts
-pub record IsReceipt (before : PassView) (call : Call) (r : Receipt) (after : PassView) : Type 0 where
+pub record IsReceipt (before : PassView) (call : Call) (r : Receipt)
+    (after : PassView) : Type 0 where
   pub caller : r.entry.caller ≡ caller_of before
   pub call_given : r.entry.call ≡ call
   pub later : Follows before.receipts r.place

@@ -8,8 +8,8 @@ use Rattle.cj_calls.specs.declared.call.Call.{Call}
 use Rattle.cj_calls.specs.declared.call.Call.TheVariants as Of
 use Rattle.cj_calls.specs.declared.reply.Reply.{Reply}
 use Rattle.cj_world.specs.Worlds.{WorldLog}
-use Rattle.cj_hub.specs.declared.asking.Halt.{Halt}
-use Rattle.cj_hub.specs.declared.asking.Halt.TheVariants.{Refused, Unentered}
+use Rattle.cj_hub.specs.declared.asking.CallError.{CallError}
+use Rattle.cj_hub.specs.declared.asking.CallError.TheVariants.{Refused, Unentered}
 use Rattle.cj_hub.specs.declared.receipt.Receipt.{Receipt}
 use Rattle.cj_hub.specs.Receipts.{PassView, caller_of}
 
@@ -22,7 +22,7 @@ IsDeskRefusal call Estranged = Unit {0}
 IsDeskRefusal call OutOfMemory = Unit {0}
 IsDeskRefusal call _ = ⊥
 
--- a refusal to one who waits where nothing is there to take
+-- what a Take can be refused with that waits while there is nothing to take
 -- rule: waiting-take
 abbrev pub IsWaitRefusal : Refusal → Type 0
 IsWaitRefusal HistoryFull = Unit {0}
@@ -35,18 +35,18 @@ IsWaitRefusal _ = ⊥
 abbrev pub IsFullHistory : WorldLog → Type 0
 IsFullHistory w = w.limits.history ≤ length w.history
 
--- a history that is told is full, and the desk shows that it answered so
+-- a history that is known is full, and the desk shows that it answered HistoryFull
 -- rule: desks
 abbrev pub FoundFull : Bool → WorldLog → Type 0 → Type 0
 FoundFull tells w shown = (IsTrue tells → IsFullHistory w) × shown
 
--- where the refusal is HistoryFull, this is so
+-- where the refusal is HistoryFull, P holds
 -- rule: desks
 abbrev pub IfFull : Refusal → Type 0 → Type 0
 IfFull HistoryFull P = P
 IfFull _ P = Unit {0}
 
--- where the answer is HistoryFull, this is so
+-- where the answer is HistoryFull, P holds
 -- rule: desks
 abbrev pub TellsFull : {X : Type 0} → Result X Refusal → Type 0 → Type 0
 TellsFull (Ok x) P = Unit {0}
@@ -59,28 +59,19 @@ IsFullRefusal HistoryFull = Unit {0}
 IsFullRefusal Estranged = Unit {0}
 IsFullRefusal _ = ⊥
 
--- the answer is such a refusal
+-- the answer is a refusal of a full history
 -- rule: desks
 abbrev pub IsTurnedAway : {X : Type 0} → Result X Refusal → Type 0
 IsTurnedAway (Ok x) = ⊥
 IsTurnedAway (Err e) = IsFullRefusal e
 
--- the same of what a call came to that wasn't accepted
-abbrev pub HaltFull : Halt → Type 0 → Type 0
-HaltFull (Refused r) P = Unit {0}
-HaltFull (Unentered e) P = IfFull e P
-
-abbrev pub HaltsFull : {X : Type 0} → Result X Halt → Type 0 → Type 0
-HaltsFull (Ok x) P = Unit {0}
-HaltsFull (Err h) P = HaltFull h P
-
-abbrev pub IsFullHalt : Halt → Type 0
-IsFullHalt (Refused r) = ⊥
-IsFullHalt (Unentered e) = IsFullRefusal e
-
-abbrev pub IsHaltedFull : {X : Type 0} → Result X Halt → Type 0
-IsHaltedFull (Ok x) = ⊥
-IsHaltedFull (Err h) = IsFullHalt h
+-- what the desk answered, by what came of the call: one that was entered as refused has a receipt
+-- too
+-- rule: desks
+abbrev pub at_desk : {X : Type 0} → Result X CallError → Result (Unit {0}) Refusal
+at_desk (Ok x) = Ok tt
+at_desk (Err (Refused r)) = Ok tt
+at_desk (Err (Unentered e)) = Err e
 
 -- a history with these entries more, one after the other
 abbrev pub more : List Told → List Told → List Told
@@ -90,7 +81,8 @@ more h (e ∷ es) = more (e ∷ h) es
 abbrev pub extended : WorldLog → List Told → WorldLog
 extended w es = record w { history = more w.history es }
 
--- the pass got receipts of these entries, all its own, and a history that is told gained just these
+-- the pass got receipts of these entries, all its own, and a history that is known gained just
+-- these
 -- rule: desks
 pub record Gains (tells : Bool) (w w' : WorldLog) (p p' : PassView) (es : List Told) : Type 0 where
   pub told : IsTrue tells → w' ≡ extended w es
@@ -101,7 +93,8 @@ pub record Gains (tells : Bool) (w w' : WorldLog) (p p' : PassView) (es : List T
 
 -- the entries gained meet F
 -- rule: desks
-pub record Adds (tells : Bool) (w w' : WorldLog) (p p' : PassView) (F : List Told → Type 0) : Type 0 where
+pub record Adds (tells : Bool) (w w' : WorldLog) (p p' : PassView)
+    (F : List Told → Type 0) : Type 0 where
   pub entries : List Told
   pub gains : Gains tells w w' p p' entries
   pub meets : F entries
@@ -114,17 +107,10 @@ pub record IsOne (call : Call) (P : Result Reply Refusal → Type 0) (es : List 
   pub says : P entry.answer
   pub row : IsTrue (is_in_row call entry.answer)
 
--- what one call adds, by what came of it: an entry with a reply, which the receipt has; an entry with a
--- refusal; or nothing
+-- what one call adds, by what came of it: an entry with a reply, which the receipt has; an entry
+-- with a refusal; or nothing
 -- rule: desks
-abbrev pub IsAsked : Call → Result Receipt Halt → List Told → Type 0
+abbrev pub IsAsked : Call → Result Receipt CallError → List Told → Type 0
 IsAsked call (Ok r) es = IsOne call (λ a. IsOk a × (a ≡ r.entry.answer)) es
 IsAsked call (Err (Refused r)) es = IsOne call (λ a. IsErr a × (a ≡ r.entry.answer)) es
 IsAsked call (Err (Unentered e)) es = (es ≡ []) × IsDeskRefusal call e
-
--- the same of a call of whose reply nothing is kept
--- rule: desks
-abbrev pub IsDone : Call → Result (Unit {0}) Halt → List Told → Type 0
-IsDone call (Ok u) es = IsOne call IsOk es
-IsDone call (Err (Refused r)) es = IsOne call (λ a. IsErr a × (a ≡ r.entry.answer)) es
-IsDone call (Err (Unentered e)) es = (es ≡ []) × IsDeskRefusal call e

@@ -7,4 +7,5 @@ use Rattle.cj_hub.specs.Receipts.{receipt_of}
 -- the entries with the number among these, the oldest first, where the first of all has this place
 abbrev pub placed_from : ℕ → ℕ → List Told → List Receipt
 placed_from n at [] = []
-placed_from n at (e ∷ es) = if e.caller.number == n then receipt_of at e ∷ placed_from n (at + 1) es else placed_from n (at + 1) es
+placed_from n at (e ∷ es) = if e.caller.number == n then receipt_of at e ∷ placed_from n (at + 1) es
+    else placed_from n (at + 1) es

@@ -7,14 +7,14 @@ ghost use Rattle.cj_world_laws.specs.legal.Exclusive.{Exclusive};
 ghost use Rattle.cj_world_laws.specs.legal.Rest.{IsAtRest};
 ghost use Rattle.cj_world_laws.specs.once.Once.{Once, Alone};
 ghost use Rattle.cj_hub.specs.Receipts.{fresh, IsExact};
-ghost use Rattle.cj_hub.specs.Books.{no_seat, state_in, Fits, IsEnrolled, IsEntered, IsFull, IsUnentered, Knows};
+ghost use Rattle.cj_hub.specs.Books.{not_enrolled, state_in, Fits, IsEnrolled, IsEntered, IsFull, IsUnentered, Knows};
 ghost use Rattle.cj_hub.specs.States.{IsState};
 
 use crate::closed::{Closed, NotClosed};
+use crate::enrolled::Enrolled;
 use crate::exact::{is_exact, stands};
 use crate::pass::Pass;
 use crate::receipt::Receipt;
-use crate::seat::Seat;
 use crate::state::HubState;
 use cj_calls::{Call, Caller, Entry, Role};
 use cj_types::{Limits, Refusal, Shared, Version};
@@ -24,13 +24,13 @@ use std::marker::Model;
 
 /// A world, and who is enrolled to make calls on it.
 ///
-/// Contracts see its limits, its history with the newest entry first, the role of each pass by its number, and whether
-/// work on it was given up. Its type keeps that it counts each pass's entries.
+/// Contracts see its limits, its history with the newest entry first, the role of each pass by its
+/// number, and whether work on it was given up. Its type keeps that it counts each pass's entries.
 pub struct Book {
     alloc: Global,
     limits: Limits,
     world: World,
-    seats: Vec<Seat>,
+    enrolled: Vec<Enrolled>,
     given_up: bool,
 }
 
@@ -43,33 +43,43 @@ impl Model for Book {
     ghost view = { λ b. record {
       limits = b.world.limits;
       history = b.world.history;
-      roles = map (λ s. s.role) b.seats.items;
+      roles = map (λ s. s.role) b.enrolled.items;
       given_up = b.given_up;
     } };
 
     ghost invariant = { λ b. (b.limits ≡ b.world.limits)
-        × IsCounted b.seats.items b.world.history };
+        × IsCounted b.enrolled.items b.world.history };
 }
 
-// The pass with the number has one entry more.
-fn count_one(seats: &mut Vec<Seat>, number: usize)
-    requires seated { number < vec_len seats.old }
-    requires fits { (slice_index_or seats.old.items number no_seat).count + 1 < 2 ^ 64 }
-    ensures roles { map (λ s. s.role) seats.new.items ≡ map (λ s. s.role) seats.old.items }
-    ensures counts { (k : ℕ) → (slice_index_or seats.new.items k no_seat).count
-        ≡ (slice_index_or seats.old.items k no_seat).count + (if number == k then 1 else 0) }
+// Counts one entry more of the pass with the number.
+fn count_one(enrolled: &mut Vec<Enrolled>, number: usize)
+    requires enrolled { number < vec_len enrolled.old }
+    requires fits { (slice_index_or enrolled.old.items number not_enrolled).count + 1 < 2 ^ 64 }
+    ensures roles { map (λ s. s.role) enrolled.new.items ≡ map (λ s. s.role) enrolled.old.items }
+    ensures counts { (k : ℕ) → (slice_index_or enrolled.new.items k not_enrolled).count
+        ≡ (slice_index_or enrolled.old.items k not_enrolled).count
+        + (if number == k then 1 else 0) }
 {
-    seats[number].count += 1;
+    enrolled[number].count += 1;
 }
 
-// A function of its own, so that whoever gives up a book makes one call and not one for each part.
+// Does nothing but show the checker what the world's type keeps of its history.
+fn shows_promise(world: &World)
+    ensures legal { IsLegal world.now.limits.window world.now.history }
+    ensures exclusive { Exclusive world.now.history }
+    ensures once { Once world.now.limits.window world.now.history }
+    ensures alone { Alone world.now.limits.window world.now.history }
+{
+    world.history();
+}
+
 impl Drop for Book {
     fn drop(self) {
         let Book {
             alloc: _,
             limits: _,
             world: _,
-            seats: _,
+            enrolled: _,
             given_up: _,
         } = self;
     }
@@ -91,7 +101,7 @@ impl Book {
             alloc,
             limits,
             world,
-            seats: Vec::new(alloc),
+            enrolled: Vec::new(alloc),
             given_up: false,
         })
     }
@@ -105,9 +115,9 @@ impl Book {
         ensures which { IfErr result (λ e. e ≡ OutOfMemory) }
         ensures err { OnErr result (self.new ≡ self.old) }
     {
-        let number = self.seats.len() as u64;
-        self.seats
-            .push(Seat { role, count: 0 })
+        let number = self.enrolled.len() as u64;
+        self.enrolled
+            .push(Enrolled { role, count: 0 })
             .map_err(AllocError::from)?;
         Ok(Pass {
             number,
@@ -127,20 +137,21 @@ impl Book {
     fn is_enrolled(&self, pass: &Pass) -> bool
         ensures { IsTrue result ↔ IsEnrolled self.now pass.now }
     {
-        match self.seats.get(pass.number as usize) {
-            Some(seat) => seat.role == pass.role,
+        match self.enrolled.get(pass.number as usize) {
+            Some(enrolled) => enrolled.role == pass.role,
             None => false,
         }
     }
 
-    /// Whether the book enrolled the pass with this role, counts its receipts, and has the last of them at its place.
+    /// Whether the book enrolled the pass with this role, counts its receipts, and has the last of
+    /// them at its place.
     pub(crate) fn knows(&self, pass: &Pass) -> bool
         ensures { IsTrue result ↔ Knows self.now pass.now }
     {
         if !self.is_enrolled(pass) {
             return false;
         }
-        if self.seats[pass.number as usize].count != pass.receipts.as_slice().len() as u64 {
+        if self.enrolled[pass.number as usize].count != pass.receipts.as_slice().len() as u64 {
             return false;
         }
         match pass.receipts.as_slice().last() {
@@ -157,14 +168,14 @@ impl Book {
     }
 
     #[tactic(auto, using(crate::proofs::Entered::added, crate::proofs::Entered::unentered))]
-    /// Makes one call of an enrolled caller, and gives the receipt of it twice where it was entered. The entry and both
-    /// receipts share the call.
+    /// Makes one call of an enrolled caller, and gives the receipt of it twice where it was
+    /// entered. The entry and both receipts share the call.
     pub(crate) fn enter(
         &mut self,
         caller: &Caller,
         call: Call,
     ) -> Result<(Receipt, Receipt), Refusal>
-        requires seated { slice_get self.old.roles caller.now.number ≡ Some caller.now.role }
+        requires enrolled { slice_get self.old.roles caller.now.number ≡ Some caller.now.role }
         requires room { length self.old.history < self.old.limits.history }
         ensures twice { IfOk result (λ r. r.0 ≡ r.1) }
         ensures entered { IfOk result (λ r. IsEntered self.old caller.now call r.0 self.new) }
@@ -174,7 +185,7 @@ impl Book {
         let place = self.entries().len() as u64 + 1;
         let shared = Shared::new(self.alloc, call)?;
         let (kept, given) = self.world.enter_shared(caller, shared)?;
-        count_one(&mut self.seats, caller.number as usize);
+        count_one(&mut self.enrolled, caller.number as usize);
         Ok((
             Receipt { place, entry: kept },
             Receipt {
@@ -197,9 +208,9 @@ impl Book {
         passes.iter().all(|pass| self.fits(pass))
     }
 
-    /// Closes the book. It is refused exactly where a pass isn't one that the book enrolled with this role,
-    /// or its receipts aren't exactly its entries, in order, each at its place; then book and passes come
-    /// back.
+    /// Closes the book. It is refused exactly where a pass isn't one that the book enrolled with
+    /// this role, or its receipts aren't exactly its entries, in order, each at its place; then
+    /// book and passes come back.
     pub fn close(self, passes: Vec<Pass>) -> Result<Closed, NotClosed>
         ensures ok { IsOk result ↔ All (Fits self) passes.items }
         ensures history { IfOk result (λ c. (c.limits ≡ self.limits) × (c.history ≡ self.history)) }
@@ -212,12 +223,12 @@ impl Book {
         ensures refusal { IfErr result (λ e. e.refusal ≡ Estranged) }
     {
         if self.all_fit(passes.as_slice()) {
-            self.world.history();
+            shows_promise(&self.world);
             let Book {
                 alloc: _,
                 limits: _,
                 world,
-                seats: _,
+                enrolled: _,
                 given_up: _,
             } = self;
             Ok(Closed::new(world))

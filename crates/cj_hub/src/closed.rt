@@ -33,7 +33,6 @@ impl Model for Closed {
     ghost view = { λ c. c.world };
 }
 
-// A function of its own, so that whoever gives up a closed history makes one call and not one for each part.
 impl Drop for Closed {
     fn drop(self) {
         let Closed { world: _ } = self;
@@ -47,10 +46,11 @@ impl Closed {
         Closed { world }
     }
 
-    /// All entries, the oldest first, with what holds of every history: each answer is the one that the
-    /// entries before it give, and each plan that came in is a decision; no key is in two workers' hands; no
-    /// scheduled time of a CronJob got two Jobs; a Job that was claimed under Forbid or Replace was made
-    /// alone; and the time of each accepted claim is the greatest one missed by the CronJob that stood then.
+    /// All entries, the oldest first, with what holds of every history. Each answer is the one that
+    /// the entries before it give, and each plan that came in is a decision. No key is in two
+    /// workers' hands. No scheduled time of a CronJob got two Jobs. A Job that was claimed under
+    /// Forbid or Replace was made alone. The time of each accepted claim is the greatest one missed
+    /// by the CronJob of that moment.
     pub fn history(&self) -> &[Entry]
         ensures entries { reverse result.now ≡ self.now.history }
         ensures legal { IsLegal self.now.limits.window self.now.history }
@@ -70,14 +70,15 @@ impl Closed {
         self.world.history()
     }
 
-    /// Whether the receipt's entry stands at its place.
+    /// Whether the history has the receipt's entry at its place.
     pub fn has(&self, receipt: &Receipt) -> bool
         ensures { IsTrue result ↔ Stands self.now.history receipt.now }
     {
         stands(self.entries(), receipt)
     }
 
-    /// The CronJobs and Jobs that the history left, each in the order of their keys. None is copied.
+    /// The CronJobs and Jobs that the history left, each in the order of their keys. No object is
+    /// copied.
     pub fn objects(&self) -> Result<(Listing<Shared<CronJob>>, Listing<Shared<Job>>), Refusal>
         ensures crons { IfOk result (λ p. p.0 ≡ map.values (state_in self.now).store.crons) }
         ensures jobs { IfOk result (λ p. p.1 ≡ map.values (state_in self.now).store.jobs) }

@@ -10,7 +10,7 @@ ghost use Rattle.cj_hub.specs.Runs.{FoundFull, IsDeskRefusal, IsFullHistory, IsT
 
 use crate::book::Book;
 use crate::hub::Hub;
-use crate::laws;
+use crate::operations;
 use crate::pass::Pass;
 use crate::receipt::Receipt;
 use cj_calls::{Call, Role};
@@ -21,20 +21,22 @@ use std::sync::Wait;
 
 /// What calls go through.
 pub trait Desk {
-    /// Whether the desk tells its history.
+    /// Whether contracts know the desk's history.
     ghost tells: { Bool };
 
-    /// The history with its limits, where the desk tells it.
+    /// The history with its limits, where contracts know it.
     ghost history: { Self → WorldLog };
 
     /// What the desk shows where its last call was answered HistoryFull.
     ghost refused_full: { Self → Type 0 };
 
-    /// Makes one call of the pass. Its receipt names the caller and the call, stands after the pass's last
-    /// one, and is the pass's too; its answer is one that the call can have. A refusal leaves the pass as it
-    /// was. A history that is told gains just the receipt's entry, and nothing at a refusal; Empty is
-    /// answered only where the line is empty and the queue isn't shut, and HistoryFull only where the
-    /// history is full, as every call is answered there of a pass that isn't Estranged.
+    /// Makes one call of the pass. Its receipt names the caller and the call, has a later place
+    /// than the pass's last one, and is added to the pass; its answer is one that the call can
+    /// have. A refusal leaves the pass as it was.
+    ///
+    /// A history that is known gains just the receipt's entry, and nothing at a refusal. Empty is
+    /// answered only where the line is empty and the queue isn't shut. HistoryFull is answered only
+    /// at a full history, and there to every call of a pass that isn't Estranged.
     fn call(&mut self, pass: &mut Pass, call: Call) -> Result<Receipt, Refusal>
         ensures ok { IfOk result (λ r. IsReceipt pass.old call r pass.new) }
         ensures row { IfOk result (λ r. IsTrue (is_in_row call r.entry.answer)) }
@@ -118,7 +120,6 @@ impl Model for PlainDesk {
     ghost view = { λ d. d.book };
 }
 
-// A function of its own, so that whoever gives up a desk makes one call and not one for each part.
 impl Drop for PlainDesk {
     fn drop(self) {
         let PlainDesk { book: _ } = self;
@@ -171,6 +172,6 @@ impl Desk for PlainDesk {
 
     #[tactic(auto, using(crate::proofs::Full::no_room, crate::proofs::Full::found_full))]
     fn call(&mut self, pass: &mut Pass, call: Call) -> Result<Receipt, Refusal> {
-        laws::step(&mut self.book, pass, call)
+        operations::step(&mut self.book, pass, call)
     }
 }

@@ -7,7 +7,7 @@ use crate::receipt::Receipt;
 use cj_calls::Entry;
 use cj_types::Same;
 
-/// Whether the receipt's entry stands at its place among these, the oldest first.
+/// Whether the receipt's entry is at its place among these, the oldest first.
 pub(crate) fn stands(entries: &[Entry], receipt: &Receipt) -> bool
     ensures { IsTrue result ↔ StandsAmong entries.now receipt.now }
 {
@@ -27,7 +27,8 @@ fn is_of(receipt: &Receipt, place: u64, entry: &Entry) -> bool
     same && receipt.place == place
 }
 
-/// Whether the receipts are exactly the entries with the number among these, the oldest first, each at its place.
+/// Whether the receipts are exactly the entries with the number among these, the oldest first, each
+/// at its place.
 pub(crate) fn is_exact(entries: &[Entry], number: u64, receipts: &[Receipt]) -> bool
     ensures { IsTrue result ↔ (receipts.now ≡ placed_from number 1 entries.now) }
 {

@@ -3,20 +3,20 @@ ghost use Rattle.std.specs.Prelude.{◌≡◌, [], true, false};
 ghost use Rattle.cj_types.specs.WorldLimits.{kept};
 
 use crate::desk::{Desk, is_full};
+use crate::guarded::Guarded;
 use crate::hub::Hub;
 use crate::pass::Pass;
 use crate::receipt::Receipt;
-use crate::room::Room;
 use cj_calls::Call;
 use cj_types::Refusal;
 use std::sync::MutexGuard;
 
 /// A hub whose lock is held: between its calls nobody else makes any. A Take waits for nothing.
 ///
-/// When it is dropped the lock is free again, and whom the calls concerned is woken.
+/// When it is dropped the lock is free again, and those are woken whom the calls concern.
 pub struct HeldDesk<'a> {
     hub: &'a Hub,
-    room: MutexGuard<'a, Room>,
+    guarded: MutexGuard<'a, Guarded>,
     // Whether the queue was shut.
     shut: bool,
     // Whether the last call was answered HistoryFull.
@@ -27,22 +27,22 @@ impl Drop for HeldDesk<'_> {
     fn drop(self) {
         let HeldDesk {
             hub,
-            mut room,
+            mut guarded,
             shut,
             full: _,
         } = self;
-        let wake = room.after_some(shut);
-        drop(room);
+        let wake = guarded.after_calls(shut);
+        drop(guarded);
         hub.wake(wake);
     }
 }
 
 impl<'a> HeldDesk<'a> {
-    /// Calls go to the room.
-    pub(crate) fn new(hub: &'a Hub, room: MutexGuard<'a, Room>) -> HeldDesk<'a> {
+    /// Calls go to the book that the lock guards.
+    pub(crate) fn new(hub: &'a Hub, guarded: MutexGuard<'a, Guarded>) -> HeldDesk<'a> {
         HeldDesk {
             hub,
-            room,
+            guarded,
             shut: false,
             full: false,
         }
@@ -58,7 +58,7 @@ impl Desk for HeldDesk<'_> {
 
     fn call(&mut self, pass: &mut Pass, call: Call) -> Result<Receipt, Refusal> {
         let shuts = matches!(call, Call::Shut);
-        let result = self.room.step(pass, call);
+        let result = self.guarded.step(pass, call);
         self.shut = self.shut || shuts;
         self.full = is_full(&result);
         result

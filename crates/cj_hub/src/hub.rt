@@ -12,11 +12,11 @@ ghost use Rattle.cj_hub.specs.States.{IsState};
 
 use crate::book::Book;
 use crate::closed::{Closed, NotClosed};
+use crate::guarded::{Guarded, NOBODY, Wake, Workers};
 use crate::held::HeldDesk;
 use crate::pass::Pass;
 use crate::receipt::Receipt;
 use crate::rest::AtRest;
-use crate::room::{NOBODY, Room, Takers, Wake};
 use crate::state::HubState;
 use cj_calls::{Call, Role};
 use cj_types::{Limits, Refusal, Version};
@@ -26,20 +26,20 @@ use std::thread;
 
 /// A book that threads share. Each of its calls takes the lock and may wait for it.
 ///
-/// A contract knows of the book under the lock what its type keeps; what one call does to it is said at `laws`.
+/// A contract knows of the book under the lock only what its type keeps; `operations` says what one
+/// call does to it.
 pub struct Hub {
-    room: Mutex<Room>,
-    // A key is in the line for one who waits for it, or there will be none.
+    guarded: Mutex<Guarded>,
+    // Signalled when a key is in the line for a waiting worker, or there will be none any more.
     keys: Condvar,
-    // Those who wait for rest are to look again.
+    // Signalled when those who wait for rest are to look again.
     rest: Condvar,
 }
 
-// A function of its own, so that whoever gives up a hub makes one call and not one for each part.
 impl Drop for Hub {
     fn drop(self) {
         let Hub {
-            room: _,
+            guarded: _,
             keys: _,
             rest: _,
         } = self;
@@ -53,7 +53,7 @@ impl Hub {
     {
         let book = Book::new(alloc, limits)?;
         Ok(Hub {
-            room: Mutex::new(Room::new(book)),
+            guarded: Mutex::new(Guarded::new(book)),
             keys: Condvar::new(),
             rest: Condvar::new(),
         })
@@ -64,15 +64,15 @@ impl Hub {
         ensures ok { IfOk result (λ p. p ≡ fresh p.number role) }
         ensures err { IfErr result (λ e. e ≡ OutOfMemory) }
     {
-        self.room.lock(rt).enroll(role)
+        self.guarded.lock(rt).enroll(role)
     }
 
-    // Wakes those who wait for something to take.
-    fn wake_takers(&self, takers: Takers) {
-        match takers {
-            Takers::Nobody => {}
-            Takers::One => self.keys.notify_one(),
-            Takers::All => self.keys.notify_all(),
+    // Wakes workers that wait for a key.
+    fn wake_workers(&self, workers: Workers) {
+        match workers {
+            Workers::Nobody => {}
+            Workers::One => self.keys.notify_one(),
+            Workers::All => self.keys.notify_all(),
         }
     }
 
@@ -83,67 +83,69 @@ impl Hub {
         }
     }
 
-    // Wakes whom a change concerned.
+    // Wakes those whom a change concerns.
     pub(crate) fn wake(&self, wake: Wake) {
-        self.wake_takers(wake.takers);
+        self.wake_workers(wake.workers);
         self.wake_rest(wake.rest);
     }
 
-    /// Makes one call of the pass. Its receipt names the caller and the call, stands after the pass's last
-    /// one, and is the pass's too; a refusal leaves the pass as it was: Empty, to a Take alone, HistoryFull,
-    /// Estranged or OutOfMemory.
+    /// Makes one call of the pass. Its receipt names the caller and the call, has a later place
+    /// than the pass's last one, and is added to the pass. A refusal leaves the pass as it was:
+    /// Empty, to a Take alone, HistoryFull, Estranged or OutOfMemory.
     pub fn call(&self, rt: &impl Wait, pass: &mut Pass, call: Call) -> Result<Receipt, Refusal>
         ensures ok { IfOk result (λ r. IsReceipt pass.old call r pass.new) }
         ensures row { IfOk result (λ r. IsTrue (is_in_row call r.entry.answer)) }
         ensures which { IfErr result (IsDeskRefusal call) }
         ensures err { OnErr result (pass.new ≡ pass.old) }
     {
-        let mut room = self.room.lock(rt);
-        let result = room.step(pass, call);
+        let mut guarded = self.guarded.lock(rt);
+        let result = guarded.step(pass, call);
         let wake = match &result {
-            Ok(receipt) => room.after(receipt),
+            Ok(receipt) => guarded.after(receipt),
             Err(_) => NOBODY,
         };
-        drop(room);
+        drop(guarded);
         self.wake(wake);
         result
     }
 
-    /// The hub with its lock held, for calls in a row. Until the desk is dropped each call of the hub itself waits, one of
-    /// the same thread for ever.
+    /// The hub with its lock held, for calls in a row. Until the desk is dropped each call of the
+    /// hub itself waits; one of the same thread waits for ever.
     pub fn hold(&self, rt: &impl Wait) -> HeldDesk<'_> {
-        let mut room = self.room.lock(rt);
-        room.come();
-        HeldDesk::new(self, room)
+        let mut guarded = self.guarded.lock(rt);
+        guarded.informer_came();
+        HeldDesk::new(self, guarded)
     }
 
-    // The room for one who takes. Where another has to look at the writes the lock is left to it once.
-    fn give_way(&self, rt: &impl Wait) -> MutexGuard<'_, Room> {
-        let room = self.room.lock(rt);
-        if !room.is_owed() {
-            return room;
+    // The lock for a worker that takes a key. Where the informer has to look at the writes first,
+    // the lock is left to it once.
+    fn give_way(&self, rt: &impl Wait) -> MutexGuard<'_, Guarded> {
+        let guarded = self.guarded.lock(rt);
+        if !guarded.is_informer_first() {
+            return guarded;
         }
-        drop(room);
+        drop(guarded);
         thread::yield_now();
-        self.room.lock(rt)
+        self.guarded.lock(rt)
     }
 
-    /// Makes a Take of the pass, and makes it again when it is woken while there is nothing to take.
+    /// Makes a Take of the pass, and makes it again when it is woken while there is nothing to
+    /// take.
     pub fn take_wait(&self, rt: &impl Wait, pass: &mut Pass) -> Result<Receipt, Refusal>
         ensures ok { IfOk result (λ r. IsReceipt pass.old Of.Take r pass.new) }
         ensures row { IfOk result (λ r. IsTrue (is_in_row Of.Take r.entry.answer)) }
         ensures which { IfErr result IsWaitRefusal }
         ensures err { OnErr result (pass.new ≡ pass.old) }
     {
-        let mut room = self.give_way(rt);
+        let mut guarded = self.give_way(rt);
         for _ in rt.forever() {
-            let result = room.step(pass, Call::Take);
+            let result = guarded.step(pass, Call::Take);
             if let Err(Refusal::Empty) = &result {
-                room.wait_for_key();
-                room = self.keys.wait(rt, room);
+                guarded.wait_for_key();
+                guarded = self.keys.wait(rt, guarded);
             } else {
-                let wake = room.after_take(&result);
-                drop(room);
+                let wake = guarded.after_take(&result);
+                drop(guarded);
                 self.wake(wake);
                 return result;
             }
@@ -153,43 +155,44 @@ impl Hub {
 
     /// Marks that work was given up.
     pub fn give_up(&self, rt: &impl Wait) {
-        let woken = self.room.lock(rt).give_up();
+        let woken = self.guarded.lock(rt).give_up();
         self.wake_rest(woken);
     }
 
     /// How far the work is, for one who has seen the writes up to the version.
     pub fn state(&self, rt: &impl Wait, seen: Version) -> HubState {
-        self.room.lock(rt).state(seen)
+        self.guarded.lock(rt).state(seen)
     }
 
-    /// What shows that the hub is quiet, for one who has seen the writes up to the version, exactly where the state
-    /// of the book under the lock is Quiet; else that state.
+    /// What shows that the hub is quiet, for one who has seen the writes up to the version, exactly
+    /// where the state of the book under the lock is Quiet; else that state.
     pub fn at_rest(&self, rt: &impl Wait, seen: Version) -> Result<AtRest, HubState>
         ensures quiet { IfOk result (λ r. IsState r.book seen HubState.Quiet) }
         ensures err { IfErr result (λ s. s ≢ HubState.Quiet) }
     {
-        self.room.lock(rt).at_rest(seen)
+        self.guarded.lock(rt).at_rest(seen)
     }
 
-    /// As `at_rest`, but while work goes on it waits: as long as a key is in the line or held, nobody gave up, the
-    /// history has room, and there are fewer than 256 writes after the version.
+    /// As `at_rest`, but while work goes on it waits: as long as a key is in the line or held,
+    /// nobody gave up, the history has room, and there are fewer than 256 writes after the version.
     pub fn rest_wait(&self, rt: &impl Wait, seen: Version) -> Result<AtRest, HubState>
         ensures quiet { IfOk result (λ r. IsState r.book seen HubState.Quiet) }
         ensures err { IfErr result (λ s. s ≢ HubState.Quiet) }
     {
-        let mut room = self.room.lock(rt);
+        let mut guarded = self.guarded.lock(rt);
         for _ in rt.forever() {
-            if !room.wait_for_rest(seen) {
-                return room.at_rest(seen);
+            if !guarded.wait_for_rest(seen) {
+                return guarded.at_rest(seen);
             }
-            room = self.rest.wait(rt, room);
+            guarded = self.rest.wait(rt, guarded);
         }
         unreachable!()
     }
 
-    /// Closes the book, where the passes fit it: then its history is legal, no key was in two workers' hands,
-    /// no scheduled time got two Jobs, what was claimed under Forbid or Replace was made alone, and the entries
-    /// of each pass are exactly its receipts, in order, each at its place.
+    /// Closes the book, where the passes fit it: then its history is legal, no key was in two
+    /// workers' hands, no scheduled time got two Jobs, what was claimed under Forbid or Replace was
+    /// made alone, and the entries of each pass are exactly its receipts, in order, each at its
+    /// place.
     pub fn close(self, passes: Vec<Pass>) -> Result<Closed, NotClosed>
         ensures exact { IfOk result (λ c. All (IsExact c.history) passes.items) }
         ensures legal { IfOk result (λ c. IsLegal c.limits.window c.history) }
@@ -201,10 +204,10 @@ impl Hub {
             × (e.refusal ≡ Estranged)) }
     {
         let Hub {
-            room,
+            guarded,
             keys: _,
             rest: _,
         } = self;
-        room.into_inner().into_book().close(passes)
+        guarded.into_inner().into_book().close(passes)
     }
 }

@@ -22,7 +22,6 @@ impl Model for Pass {
     ghost view = { λ p. record { number = p.number; role = p.role; receipts = p.receipts.items } };
 }
 
-// A function of its own, so that whoever gives up a pass makes one call and not one for each part.
 impl Drop for Pass {
     fn drop(self) {
         let Pass {

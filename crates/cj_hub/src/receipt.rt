@@ -5,13 +5,13 @@ use cj_calls::{Answer, Call, Caller, Entry};
 use cj_types::{Refusal, Same, TryCopy};
 use std::alloc::Global;
 
-/// An entry of a history with its place; the first entry has place 1. It shares the entry with the history.
+/// An entry of a history with its place; the first entry has place 1. It shares the entry with the
+/// history.
 pub struct Receipt {
     pub(crate) place: u64,
     pub(crate) entry: Entry,
 }
 
-// A function of its own, so that whoever gives up a receipt makes one call and not one for each part.
 impl Drop for Receipt {
     fn drop(self) {
         let Receipt { place: _, entry: _ } = self;
@@ -39,6 +39,14 @@ impl Receipt {
         ensures row { IsTrue (is_in_row self.now.entry.call self.now.entry.answer) }
     {
         self.entry.call()
+    }
+
+    /// Does nothing but show the checker that the answer is one that the call can have, which the
+    /// entry's type keeps.
+    pub(crate) fn shows_row(&self)
+        ensures { IsTrue (is_in_row self.now.entry.call self.now.entry.answer) }
+    {
+        self.call();
     }
 
     /// What the call was answered.

@@ -8,8 +8,8 @@ use cj_types::Version;
 use std::marker::Model;
 use std::snapshot::Snapshot;
 
-/// Shows that a book was quiet when it was asked: nobody had given up, the version seen was that of the last
-/// write, the listings knew of every write, no key was in the line, and none was held.
+/// Shows that a book was quiet when it was asked: nobody had given up, the version seen was that of
+/// the last write, the listings knew of every write, no key was in the line, and none was held.
 ///
 /// Contracts see the book as it was, and the version. The hub alone makes it.
 #[derive(Drop)]
@@ -29,7 +29,8 @@ impl Model for AtRest {
     ghost invariant = { λ r. IsState r.book.value r.seen Quiet };
 }
 
-/// How far the work is, for one who has seen the writes up to the version; where it is Quiet, what shows that.
+/// How far the work is, for one who has seen the writes up to the version; where it is Quiet, what
+/// shows that.
 pub(crate) fn rest_of(book: &Book, seen: Version) -> Result<AtRest, HubState>
     ensures ok { IfOk result (λ r. r ≡ record { book = book.now; seen = seen }) }
     ensures err { IfErr result (λ s. (s ≢ HubState.Quiet) × IsState book.now seen s) }

@@ -8,16 +8,16 @@ use cj_world::World;
 use cj_zone::ZoneTable;
 use std::alloc::Global;
 
-/// Which call is made at the place of a step, by the step's caller: `step`, its own; `seenBy`, its own for what
-/// the worker of the number has seen; or `getCron`, `getJob`, `listCrons` or `listJobs` in place of it. The
-/// detail is the number, or the key.
+/// Which call is made at the place of a step, by the step's caller: `step`, its own; `seenBy`, its
+/// own for what the worker of the number has seen; or `getCron`, `getJob`, `listCrons` or
+/// `listJobs` in place of it. The detail is the number, or the key.
 #[derive(Clone, Copy)]
 pub struct Ask<'a> {
     pub call: &'a str,
     pub detail: &'a str,
 }
 
-// The Job that an operation ends, if one stands at its key.
+// The Job that an operation ends, if there is one at its key.
 fn job_of<'w>(world: &'w World, operation: &Operation) -> Option<&'w Shared<Job>> {
     match operation {
         Operation::Ends(key, _, _) => world.job(key),
@@ -57,7 +57,7 @@ fn key_in(alloc: Global, text: &str) -> Result<Key, Refusal> {
     key_of(alloc, text)?.ok_or(Refusal::Syntax)
 }
 
-// A reading.
+// The reading that is asked for.
 fn reading(alloc: Global, ask: &Ask<'_>) -> Result<Box<Call, Global>, Refusal> {
     let call = match ask.call {
         "getCron" => Call::GetCron(key_in(alloc, ask.detail)?),

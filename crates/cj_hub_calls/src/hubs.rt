@@ -25,7 +25,7 @@ fn entered<R: Wait>(rt: &R, hub: &Hub, pass: &mut Pass) -> u8 {
     count
 }
 
-// The status where so many calls were entered. The process ends then, so nothing is given back.
+// The exit status after that many calls were entered. The process ends then, so nothing is freed.
 fn closed(hub: Hub, passes: Vec<Pass>, count: u8) -> u8 {
     let counted = passes.as_slice().first().map(|pass| pass.receipts().len());
     let result = hub.close(passes);
@@ -40,8 +40,9 @@ fn closed(hub: Hub, passes: Vec<Pass>, count: u8) -> u8 {
     }
 }
 
-/// Makes eleven calls through one pass of a hub, and closes it. Answers the number of calls that were entered; 30
-/// where the pass counts another number than was entered, and 31 where the hub isn't closed.
+/// Makes eleven calls through one pass of a hub, and closes it. Answers the number of calls that
+/// were entered; 30 where the pass counts another number than was entered, and 31 where the hub
+/// isn't closed.
 pub fn called<R: Wait>(rt: &R, alloc: Global) -> Result<u8, Refusal> {
     let mut passes = Vec::new(alloc);
     let limits = Limits::new(1_000, 100).unwrap();

@@ -1,15 +1,17 @@
-//! Makes calls while somebody outside refuses a request for memory, for the tests that refuse each in turn.
+//! Makes calls while somebody outside refuses a request for memory, for the tests that refuse each
+//! in turn.
 //!
-//! Without arguments it makes eleven calls through one pass of a hub, and closes it. The exit status is the
-//! number of calls that were entered, 20 where there was no memory for a hub and a pass, 30 where the pass
-//! counts another number than was entered, and 31 where the hub isn't closed. So the tests can see that a
-//! refused call leaves pass and hub as they were.
+//! Without arguments it makes eleven calls through one pass of a hub, and closes it. The exit
+//! status is the number of calls that were entered, 20 where there was no memory for a hub and a
+//! pass, 30 where the pass counts another number than was entered, and 31 where the hub isn't
+//! closed. So the tests can see that a refused call leaves pass and hub as they were.
 //!
-//! With the arguments FILE PLACE CALL DETAIL it makes one call on a world, at the place of a step of the script
-//! in the file: `trials` says what is compared. It writes what the call is usually answered, then makes the
-//! call, and then writes what came of it: memory that is refused between the two writes is refused to the call
-//! alone. The exit status is 0 where all was as it should be, 1 where it wasn't, and 20 where the arguments
-//! say no call, or there was no memory beside the call.
+//! With the arguments FILE PLACE CALL DETAIL it makes one call on a world, at the place of a step
+//! of the script in the file: `trials` says what is compared. It writes what the call is usually
+//! answered, then makes the call, and then writes what came of it: memory that is refused between
+//! the two writes is refused to the call alone. The exit status is 0 where all was as it should be,
+//! 1 where it wasn't, and 20 where the arguments say no call, or there was no memory beside the
+//! call.
 #![tactic(auto)]
 
 mod asks;
@@ -26,7 +28,7 @@ use std::process::ExitCode;
 use std::sync::Wait;
 use trials::try_call;
 
-// The status of a program that came to nothing.
+// The exit status where there was nothing to try.
 const NOTHING: u8 = 20;
 
 fn arguments(rt: &HostRuntime) -> Option<Vec<String>> {

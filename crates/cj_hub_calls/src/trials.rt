@@ -1,11 +1,11 @@
 // One call on a world, where a request for memory may be refused.
 //
-// The steps before it are made on two worlds, then the call on the first, which tells its usual answer, and on
-// the second. There it is answered so at once; or OutOfMemory, and then the second world is as it was before
-// the call (its objects, its versions, its history, and whether it is at rest), and the call made again is
-// answered as usual. Then the steps behind it are made on both worlds, which must answer alike: what a world
-// doesn't show, as its queue, its seats and its window, shows in them. In the end both have the same objects
-// and the same history.
+// The steps before it are made on two worlds, then the call on the first, which gives its usual
+// answer, and on the second. There it is answered so at once; or OutOfMemory, and then the second
+// world is as it was before the call (its objects, its versions, its history, and whether it is at
+// rest), and the call made again is answered as usual. Then the steps after it are made on both
+// worlds, which must answer alike: what a world doesn't show, as its queue, its in-flight syncs and
+// its window, shows in them. In the end both have the same objects and the same history.
 use crate::asks::{Ask, asked_call};
 use crate::twins::{Sight, Twins, are_same};
 use crate::words::word_of;
@@ -54,7 +54,8 @@ fn make_call(world: &mut World, caller: &Caller, call: &Call, usual: &Answer) ->
     outcome
 }
 
-// The same between two writes.
+// Makes the call, and compares its answer with the usual one, between two writes to standard
+// output.
 fn told_outcome(
     rt: &HostRuntime,
     world: &mut World,
@@ -68,8 +69,8 @@ fn told_outcome(
     Ok(outcome)
 }
 
-// Whether the call was answered as usual, or was refused for want of memory, which left all as it was, and is answered as
-// usual when it is made again.
+// Whether the call was answered as usual, or was refused for want of memory, which left all as it
+// was, and is answered as usual when it is made again.
 fn is_answered(
     rt: &HostRuntime,
     world: &mut World,
@@ -95,7 +96,8 @@ fn is_answered(
     }
 }
 
-// Makes the call on the first world and then on the second, and tells whether it was answered as it should be.
+// Makes the call on the first world and then on the second, and answers whether it was answered as
+// it should be.
 fn is_tried(
     rt: &HostRuntime,
     alloc: Global,
@@ -118,7 +120,7 @@ fn is_tried(
     )
 }
 
-// Makes the steps on both worlds, and tells whether these answer alike.
+// Makes the steps on both worlds, and answers whether these answer alike.
 fn are_made(
     alloc: Global,
     twins: &mut Twins,
@@ -134,7 +136,7 @@ fn are_made(
     Ok(are_alike)
 }
 
-// The steps before the place, the step there, and those behind it. The first place is 1.
+// The steps before the place, the step there, and those after it. The first place is 1.
 fn around(steps: &[Step], place: usize) -> Option<(&[Step], &Step, &[Step])> {
     let (before, rest) = steps.split_at_checked(place.checked_sub(1)?)?;
     let (step, after) = rest.split_first()?;
@@ -175,8 +177,8 @@ fn script_in(alloc: Global, text: &[u8]) -> Result<Script, Refusal> {
     read_script(alloc, given, text).map_err(|_| Refusal::Syntax)
 }
 
-/// Makes the call that is asked for at the place of a step of the script. The status is 0 where all was as it
-/// should be, else 1.
+/// Makes the call that is asked for at the place of a step of the script. The status is 0 where all
+/// was as it should be, else 1.
 pub fn try_call(
     rt: &HostRuntime,
     alloc: Global,

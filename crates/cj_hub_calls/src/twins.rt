@@ -41,7 +41,7 @@ impl Twins {
         })
     }
 
-    /// Makes the call on the first alone.
+    /// Makes the call on the first world alone.
     pub fn ask_one(
         &mut self,
         alloc: Global,
@@ -53,7 +53,7 @@ impl Twins {
         Ok(answer)
     }
 
-    /// Makes the call of the step on both, and tells whether the answers are one.
+    /// Makes the call of the step on both worlds, and answers whether their answers are the same.
     pub fn make(&mut self, alloc: Global, zones: &ZoneTable, step: &Step) -> Result<bool, Refusal> {
         let call = step_call(alloc, zones, &self.one, &self.snapshots, step)?;
         let answer = self.ask_one(alloc, step.caller, &call)?;
@@ -61,7 +61,8 @@ impl Twins {
         Ok(same_answer(&answer, &other))
     }
 
-    /// Whether the two tell the same: their objects, versions and histories, and whether they are at rest.
+    /// Whether both worlds show the same: their objects, versions and histories, and whether they
+    /// are at rest.
     pub fn are_alike(&self) -> Result<bool, Refusal> {
         let sight = Sight::of(&self.one)?;
         let is_seen = sight.is_of(&self.other)?;
@@ -69,7 +70,7 @@ impl Twins {
     }
 }
 
-/// The objects of a world, and what else it tells in numbers.
+/// The objects of a world, and what else it shows in numbers.
 #[derive(Drop)]
 pub struct Sight {
     crons: Listing<Shared<CronJob>>,
@@ -92,7 +93,7 @@ impl Sight {
         })
     }
 
-    /// Whether the world is so by now.
+    /// Whether the world shows that by now.
     pub fn is_of(&self, world: &World) -> Result<bool, Refusal> {
         let (crons, jobs) = world.objects()?;
         let are_crons = self.crons.same(&crons);

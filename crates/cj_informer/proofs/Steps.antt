@@ -116,7 +116,8 @@ listed max crons version r es fs one k = record {
     enough = k.enough;
   };
   goes = said-then (accepted Of.ListCrons (Is.Crons crons version))
-      (accepted Of.ListJobs (Is.Jobs k.jobs k.version_of_jobs) ∷ (map (feed max) k.feds ++ add_both crons k.jobs)) r es fs
+      (accepted Of.ListJobs (Is.Jobs k.jobs k.version_of_jobs)
+      ∷ (map (feed max) k.feds ++ add_both crons k.jobs)) r es fs
       one k.goes;
   after = k.after;
 }
@@ -245,7 +246,8 @@ not_ticked max now (Some from) e es h = record {
   after = tt;
 }
 
--- For Informer::step: after a whole step the informer has seen the version that its list_or_watch tells.
+-- For Informer::step: after a whole step the informer has seen the version that its list_or_watch
+-- tells.
 pub stepped : (i i' : Follower) (now seen : ℕ) (es : List Told) → i' ≡ record i { seen = Some seen }
     → HasLooked i now (Ok seen) es → HasStepped i now i' (Ok tt) es
 stepped i i' now seen es is h = record {

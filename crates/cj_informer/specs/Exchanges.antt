@@ -18,16 +18,18 @@ accepted call reply = record { call = call; answer = Ok reply }
 abbrev pub refused : Call → Refusal → Exchange
 refused call refusal = record { call = call; answer = Err refusal }
 
--- what entries tell, whoever made them
+-- the calls and answers of entries, whoever made them
 abbrev pub exchanges : List Told → List Exchange
 exchanges es = map (λ e. record { call = e.call; answer = e.answer }) es
 
 -- a call is entered as refused, or not at all
 -- rule: informer-step
 abbrev pub IsRefused : Call → Refusal → List Exchange → Type 0
-IsRefused call refusal xs = (xs ≡ refused call refusal ∷ []) ⊎ ((xs ≡ []) × IsDeskRefusal call refusal)
+IsRefused call refusal xs = (xs ≡ refused call refusal ∷ []) ⊎
+    ((xs ≡ []) × IsDeskRefusal call refusal)
 
--- the entries are of the first of these exchanges, and of a call that is refused in place of its answer
+-- the entries are of the first of these exchanges, and of a call that is refused in place of its
+-- answer
 -- rule: informer-step
 pub record BreaksOff (whole : List Exchange) (refusal : Refusal) (es : List Told) : Type 0 where
   pub made : List Exchange
@@ -56,7 +58,7 @@ abbrev pub HasSaid : Call → Result Receipt Refusal → List Told → Type 0
 HasSaid call (Ok receipt) es = IsAccepted call receipt.entry.answer es
 HasSaid call (Err refusal) es = IsRefused call refusal (exchanges es)
 
--- the same by what is kept of the reply
+-- what a call that is accepted with a reply, or refused, adds: by what is kept of the reply
 abbrev pub Says : {X : Type 0} → Call → (X → Reply) → Result X Refusal → List Told → Type 0
 Says call reply (Ok x) es = exchanges es ≡ accepted call (reply x) ∷ []
 Says call reply (Err refusal) es = IsRefused call refusal (exchanges es)

@@ -1,5 +1,5 @@
--- One step of the informer, in the words of client-go: a Reflector lists and watches, and a handler adds keys
--- to the work queue.
+-- One step of the informer, in the words of client-go: a Reflector lists and watches, and a handler
+-- adds keys to the work queue.
 use Rattle.std.specs.Prelude.{◌≡◌, ℕ, ◌-◌, Bool, ◌&&◌, nat_lt, List, [], ◌∷◌, ◌++◌, Option, Some, None, MatchBool, map, slice_get, length, if◌then◌else◌}
 use Rattle.std.specs.List.{filter_map}
 use Rattle.std.specs.Option.{option_map_or}
@@ -18,7 +18,8 @@ use Rattle.cj_calls.specs.declared.call.Call.TheVariants as Of
 use Rattle.cj_calls.specs.declared.reply.Reply.TheVariants as Is
 use Rattle.cj_informer.specs.Exchanges.{Exchange, accepted, refused}
 
--- an informer: how many events it asks for at once, and the version that it has seen, none before its first listing
+-- an informer: how many events it asks for at once, and the version that it has seen, none before
+-- its first listing
 pub record Follower : Type 0 where
   pub max : ℕ
   pub seen : Option ℕ
@@ -72,8 +73,8 @@ follow max events fed = feed max fed ∷ adds (filter_map key_of_event events)
 
 -- ---- listings
 
--- after this answer there is another Feed: it is below the version wanted, and above the answer before it, if
--- there is one
+-- after this answer there is another Feed: it is below the version wanted, and above the answer
+-- before it, if there is one
 -- rule: informer-feeds
 abbrev pub wants_more : ℕ → Option ℕ → ℕ → Bool
 wants_more wanted None fed = nat_lt fed wanted
@@ -83,9 +84,11 @@ wants_more wanted (Some before) fed = nat_lt fed wanted && nat_lt before fed
 -- rule: informer-feeds
 abbrev pub AreFeeds : ℕ → Option ℕ → List ℕ → Type 0
 AreFeeds wanted before [] = ⊥
-AreFeeds wanted before (fed ∷ feds) = MatchBool (wants_more wanted before fed) (AreFeeds wanted (Some fed) feds) (feds ≡ [])
+AreFeeds wanted before (fed ∷ feds) = MatchBool (wants_more wanted before fed)
+    (AreFeeds wanted (Some fed) feds) (feds ≡ [])
 
--- what a listing is told: CronJobs and Jobs, each with the store's version, and how far the Feeds come
+-- the answers of a listing: CronJobs and Jobs, each with the store's version, and how far the Feeds
+-- come
 pub record Lists : Type 0 where
   pub crons : List CronJob
   pub version : ℕ
@@ -102,13 +105,14 @@ add_both crons jobs = adds (filter_map key_of_cron crons) ++ adds (filter_map ke
 -- both kinds are listed, the listings are fed, and the keys are added
 -- rule: informer-step
 abbrev pub relist : ℕ → Lists → List Exchange
-relist max l = accepted Of.ListCrons (Is.Crons l.crons l.version) ∷ accepted Of.ListJobs (Is.Jobs l.jobs l.version_of_jobs)
+relist max l = accepted Of.ListCrons (Is.Crons l.crons l.version)
+    ∷ accepted Of.ListJobs (Is.Jobs l.jobs l.version_of_jobs)
     ∷ (map (feed max) l.feds ++ add_both l.crons l.jobs)
 
 -- ---- a step
 
--- how a step goes on after its Tick: from a version by events; by a listing at the start; or by a listing
--- where events after the version have expired (410 Gone)
+-- how a step goes on after its Tick: from a version by events; by a listing at the start; or by a
+-- listing where events after the version have expired (410 Gone)
 pub data ListOrWatch : Type 0 where
   Follows : ℕ → List Event → ℕ → ListOrWatch
   Starts : Lists → ListOrWatch
@@ -123,7 +127,8 @@ IsListOrWatch seen (Resumes from oldest l) = seen ≡ Some from
 
 -- rule: informer-step
 abbrev pub go_on : ℕ → ListOrWatch → List Exchange
-go_on max (Follows from events fed) = accepted (Of.Watch from max) (Is.Events events) ∷ follow max events fed
+go_on max (Follows from events fed) = accepted (Of.Watch from max) (Is.Events events)
+    ∷ follow max events fed
 go_on max (Starts l) = relist max l
 go_on max (Resumes from oldest l) = refused (Of.Watch from max) (Expired oldest) ∷ relist max l
 
@@ -134,7 +139,7 @@ seen_after (Follows from events fed) = last_version from events
 seen_after (Starts l) = l.version
 seen_after (Resumes from oldest l) = l.version
 
--- a whole step: the queue is told the moment first
+-- a whole step: first a Tick gives the queue the moment
 -- rule: informer-step
 abbrev pub whole_step : ℕ → ℕ → ListOrWatch → List Exchange
 whole_step max now list_or_watch = accepted (Of.Tick now) Is.Done ∷ go_on max list_or_watch

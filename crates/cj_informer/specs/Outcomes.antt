@@ -30,14 +30,10 @@ IsStepRefusal Estranged = Unit {0}
 IsStepRefusal OutOfMemory = Unit {0}
 IsStepRefusal _ = ⊥
 
--- a Watch may also be told that events have expired
+-- what a Watch can be refused with: also that events have expired
 abbrev pub IsWatchRefusal : Refusal → Type 0
-IsWatchRefusal NotPermitted = Unit {0}
 IsWatchRefusal (Expired oldest) = Unit {0}
-IsWatchRefusal HistoryFull = Unit {0}
-IsWatchRefusal Estranged = Unit {0}
-IsWatchRefusal OutOfMemory = Unit {0}
-IsWatchRefusal _ = ⊥
+IsWatchRefusal refusal = IsStepRefusal refusal
 
 -- Feeds up to a version
 pub record HasFed (max wanted : ℕ) (r : Result (Unit {0}) Refusal) (es : List Told) : Type 0 where
@@ -46,19 +42,22 @@ pub record HasFed (max wanted : ℕ) (r : Result (Unit {0}) Refusal) (es : List 
   pub goes : Goes (map (feed max) feds) r es
 
 -- Feeds, and the Adds after a listing
-pub record HasCaughtUp (max wanted : ℕ) (crons : List CronJob) (jobs : List Job) (r : Result ℕ Refusal) (es : List Told) : Type 0 where
+pub record HasCaughtUp (max wanted : ℕ) (crons : List CronJob) (jobs : List Job)
+    (r : Result ℕ Refusal) (es : List Told) : Type 0 where
   pub feds : List ℕ
   pub enough : AreFeeds wanted None feds
   pub goes : Goes (map (feed max) feds ++ add_both crons jobs) r es
   pub after : IfOk r (λ seen. seen ≡ wanted)
 
--- the same from ListJobs on
-pub record HasListedJobs (max wanted : ℕ) (crons : List CronJob) (r : Result ℕ Refusal) (es : List Told) : Type 0 where
+-- ListJobs, Feeds, and the Adds after a listing
+pub record HasListedJobs (max wanted : ℕ) (crons : List CronJob) (r : Result ℕ Refusal)
+    (es : List Told) : Type 0 where
   pub jobs : List Job
   pub version_of_jobs : ℕ
   pub feds : List ℕ
   pub enough : AreFeeds wanted None feds
-  pub goes : Goes (accepted Of.ListJobs (Is.Jobs jobs version_of_jobs) ∷ (map (feed max) feds ++ add_both crons jobs)) r es
+  pub goes : Goes (accepted Of.ListJobs (Is.Jobs jobs version_of_jobs)
+      ∷ (map (feed max) feds ++ add_both crons jobs)) r es
   pub after : IfOk r (λ seen. seen ≡ wanted)
 
 -- a listing, with the version seen then
@@ -68,7 +67,8 @@ pub record HasListed (max : ℕ) (r : Result ℕ Refusal) (es : List Told) : Typ
   pub after : IfOk r (λ seen. seen ≡ lists.version)
 
 -- a Feed and the Adds after a Watch
-pub record HasFollowed (max from : ℕ) (events : List Event) (r : Result ℕ Refusal) (es : List Told) : Type 0 where
+pub record HasFollowed (max from : ℕ) (events : List Event) (r : Result ℕ Refusal)
+    (es : List Told) : Type 0 where
   pub fed : ℕ
   pub goes : Goes (follow max events fed) r es
   pub after : IfOk r (λ seen. seen ≡ last_version from events)
@@ -87,7 +87,8 @@ pub record HasLooked (i : Follower) (now : ℕ) (r : Result ℕ Refusal) (es : L
   pub goes : Goes (whole_step i.max now list_or_watch) r es
   pub after : IfOk r (λ seen. seen ≡ seen_after list_or_watch)
 
--- the informer after a step: it has seen what this list_or_watch tells, or is as it was where the step failed
+-- the informer after a step: it has seen the version of this list_or_watch, or is as it was where
+-- the step failed
 -- rule: informer-seen
 abbrev pub becomes : Follower → ListOrWatch → Result (Unit {0}) Refusal → Follower
 becomes i list_or_watch (Ok u) = record i { seen = Some (seen_after list_or_watch) }
@@ -95,7 +96,8 @@ becomes i list_or_watch (Err refusal) = i
 
 -- the entries are those of a whole step, or its first up to a refusal
 -- rule: informer-step
-pub record HasStepped (i : Follower) (now : ℕ) (i' : Follower) (r : Result (Unit {0}) Refusal) (es : List Told) : Type 0 where
+pub record HasStepped (i : Follower) (now : ℕ) (i' : Follower) (r : Result (Unit {0}) Refusal)
+    (es : List Told) : Type 0 where
   pub list_or_watch : ListOrWatch
   pub fits : IsListOrWatch i.seen list_or_watch
   pub goes : Goes (whole_step i.max now list_or_watch) r es

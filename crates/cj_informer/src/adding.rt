@@ -12,7 +12,7 @@ use cj_hub::{Desk, Pass};
 use cj_types::{CronJob, Job, Refusal, Shared};
 use std::alloc::Global;
 
-// An Add, where the item concerns a CronJob.
+// Adds the key of the CronJob that the item concerns, if there is one.
 fn add_one<D: Desk, T: Concerns>(
     desk: &mut D,
     alloc: Global,
@@ -32,7 +32,7 @@ fn add_one<D: Desk, T: Concerns>(
     }
 }
 
-// An Add for each item that concerns a CronJob.
+// Adds the key of each item that concerns a CronJob.
 pub(crate) fn add_all<D: Desk, T: Concerns>(
     desk: &mut D,
     alloc: Global,
@@ -51,7 +51,7 @@ pub(crate) fn add_all<D: Desk, T: Concerns>(
     Ok(())
 }
 
-// An Add for each CronJob, and one for each Job that has an owner.
+// Adds the key of each CronJob, and of the owner of each Job that has one.
 pub(crate) fn add_listed<D: Desk>(
     desk: &mut D,
     alloc: Global,

@@ -8,10 +8,10 @@ ghost use Rattle.cj_informer.specs.Exchanges.{HasSaid, Says};
 ghost use Rattle.cj_informer.specs.Outcomes.{is_plain, IsStepRefusal, IsWatchRefusal};
 
 use cj_calls::{Call, Reply};
-use cj_hub::{Desk, Halt, Pass, Receipt, ask};
+use cj_hub::{CallError, Desk, Pass, Receipt, ask};
 use cj_types::{Key, Max, Millis, Refusal, Version};
 
-// A call that is refused for the caller's role alone.
+// Makes a call that is refused for the caller's role alone.
 pub(crate) fn say<D: Desk>(desk: &mut D, pass: &mut Pass, call: Call) -> Result<Receipt, Refusal>
     requires { is_plain call ≡ true }
     ensures adds { Adds D.tells (D.history desk.old) (D.history desk.new) pass.old pass.new
@@ -24,8 +24,8 @@ pub(crate) fn say<D: Desk>(desk: &mut D, pass: &mut Pass, call: Call) -> Result<
 {
     match ask(desk, pass, call) {
         Ok(receipt) => Ok(receipt),
-        Err(Halt::Refused(_)) => Err(Refusal::NotPermitted),
-        Err(Halt::Unentered(refusal)) => Err(refusal),
+        Err(CallError::Refused(_)) => Err(Refusal::NotPermitted),
+        Err(CallError::Unentered(refusal)) => Err(refusal),
     }
 }
 
@@ -59,7 +59,7 @@ pub(crate) fn add<D: Desk>(desk: &mut D, pass: &mut Pass, key: Key) -> Result<()
     }
 }
 
-// How many writes the listings know then.
+// Feeds the listings. It answers with how many writes they know then.
 pub(crate) fn feed<D: Desk>(desk: &mut D, pass: &mut Pass, max: Max) -> Result<Version, Refusal>
     ensures adds { Adds D.tells (D.history desk.old) (D.history desk.new) pass.old pass.new
         (Says (Of.Feed max) (λ v. Is.Version v) result) }
@@ -74,7 +74,7 @@ pub(crate) fn feed<D: Desk>(desk: &mut D, pass: &mut Pass, max: Max) -> Result<V
     }
 }
 
-// A Watch, which may also answer that the events after the version have expired.
+// Watches; this call may also be refused since the events after the version have expired.
 pub(crate) fn ask_events<D: Desk>(
     desk: &mut D,
     pass: &mut Pass,
@@ -89,10 +89,10 @@ pub(crate) fn ask_events<D: Desk>(
 {
     match ask(desk, pass, Call::Watch(from, max)) {
         Ok(receipt) => Ok(receipt),
-        Err(Halt::Refused(receipt)) => match receipt.answer() {
+        Err(CallError::Refused(receipt)) => match receipt.answer() {
             Err(Refusal::Expired(oldest)) => Err(Refusal::Expired(*oldest)),
             _ => Err(Refusal::NotPermitted),
         },
-        Err(Halt::Unentered(refusal)) => Err(refusal),
+        Err(CallError::Unentered(refusal)) => Err(refusal),
     }
 }

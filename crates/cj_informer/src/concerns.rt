@@ -1,4 +1,4 @@
-//! The key of the CronJob that something told of concerns.
+//! The key of the CronJob that an object or an event concerns.
 ghost use Rattle.std.specs.Prelude.{◌≡◌, Option, IfOk, IfErr, IsSome};
 ghost use Rattle.cj_base.specs.declared.refusal.Refusal.TheVariants.{OutOfMemory};
 ghost use Rattle.cj_types.specs.Keys.{Place};
@@ -9,7 +9,7 @@ use cj_types::{
 };
 use std::alloc::Global;
 
-/// What may concern a CronJob.
+/// An object or an event that may concern a CronJob.
 pub(crate) trait Concerns {
     ghost concerned: { Self → Option Place };
 
@@ -35,7 +35,8 @@ impl Concerns for Shared<Job> {
     }
 }
 
-/// The key of the CronJob that the Job's controller reference names. A name that no object can have is none.
+/// The key of the CronJob that the Job's controller reference names. A name that no object can have
+/// is none.
 pub fn owner_key(alloc: Global, job: &Job) -> Result<Option<Key>, Refusal>
     ensures ok { IfOk result (λ k. k ≡ key_of_job job.now) }
     ensures err { IfErr result (λ e. (e ≡ OutOfMemory) × IsSome (key_of_job job.now)) }

@@ -10,15 +10,15 @@ use cj_types::{Max, Millis, Refusal, Version};
 use std::alloc::Global;
 use std::marker::Model;
 
-/// Follows what is written to the store, as client-go's reflectors do, and adds the keys that are concerned
-/// to the work queue.
+/// Follows what is written to the store, as client-go's reflectors do, and adds the keys that are
+/// concerned to the work queue.
 ///
 /// Contracts see how many events it asks for at once, and the version that it has seen.
 #[derive(Drop)]
 pub struct Informer {
     alloc: Global,
     max: Max,
-    // The version seen, none before the first listing.
+    // The version seen; none before the first listing.
     seen: Option<Version>,
 }
 
@@ -31,7 +31,7 @@ impl Model for Informer {
 }
 
 impl Informer {
-    /// An informer that has seen nothing, and asks for at most so many events at once.
+    /// An informer that has seen nothing, and asks for at most `max` events at once.
     pub fn new(alloc: Global, max: Max) -> Informer
         ensures { result ≡ record { max = max; seen = None } }
     {
@@ -42,7 +42,7 @@ impl Informer {
         }
     }
 
-    /// The version seen, 0 before the first listing.
+    /// The version seen; 0 before the first listing.
     pub fn seen(&self) -> Version
         ensures { result ≡ unwrap_or self.now.seen 0 }
     {
@@ -51,15 +51,18 @@ impl Informer {
 
     /// One step at the moment: a Tick of the queue, and then what came since the last step.
     ///
-    /// That is a Watch of the events after the version seen, a Feed of the listings, and an Add for each
-    /// event that concerns a CronJob: for an event of a CronJob its key, for one of a Job the key that its
-    /// controller reference names, if it names one. At the start in place of the Watch, and where it answers
-    /// `Expired`, both kinds are listed; the listings are fed until they know of the writes up to the first
-    /// of the two, or a Feed brings nothing more; and the key of each CronJob and of each Job's owner is
-    /// added. Then the version seen is that of the last event, or of the first listing.
+    /// That is a Watch of the events after the version seen, a Feed of the listings, and an Add for
+    /// each event that concerns a CronJob: for an event of a CronJob its key, for one of a Job the
+    /// key that its controller reference names, if it names one.
     ///
-    /// The step ends at the first other refusal, and the informer is then as it was. It is HistoryFull only where the
-    /// step's last call was answered so.
+    /// At the start in place of the Watch, and where the Watch answers `Expired`, both kinds are
+    /// listed. The listings are then fed until they know of the writes up to the first of the two,
+    /// or a Feed brings nothing more. The key of each CronJob and of each Job's owner is added.
+    ///
+    /// After the step the version seen is that of the last event, or of the first listing.
+    ///
+    /// The step ends at the first other refusal, and the informer is then as it was. It is
+    /// HistoryFull only where the step's last call was answered so.
     pub fn step<D: Desk>(
         &mut self,
         desk: &mut D,
@@ -80,7 +83,7 @@ impl Informer {
     }
 }
 
-// All of a step; the version that is seen then.
+// Makes the calls of a step. It answers with the version that is seen then.
 fn look<D: Desk>(
     informer: &Informer,
     desk: &mut D,

@@ -10,7 +10,8 @@ use cj_hub::{Desk, Pass};
 use cj_types::{CronJob, Job, Max, Refusal, Shared, Version};
 use std::alloc::Global;
 
-// Feeds until the listings know of the writes up to the version, or one of them brings nothing more.
+// Feeds until the listings know of the writes up to the version, or one of them brings nothing
+// more.
 fn feed_up_to<D: Desk>(
     desk: &mut D,
     pass: &mut Pass,
@@ -34,7 +35,7 @@ fn feed_up_to<D: Desk>(
     Ok(())
 }
 
-// Feeds, and an Add for each key that is concerned.
+// Feeds up to the version seen, then adds each key that is concerned.
 fn catch_up<D: Desk>(
     desk: &mut D,
     alloc: Global,
@@ -55,6 +56,7 @@ fn catch_up<D: Desk>(
     Ok(seen)
 }
 
+// Lists the Jobs, feeds, and adds each key that is concerned.
 fn list_jobs<D: Desk>(
     desk: &mut D,
     alloc: Global,
@@ -78,8 +80,8 @@ fn list_jobs<D: Desk>(
     }
 }
 
-// Both listings, Feeds, and an Add for each key that is concerned. The version is that of the earlier
-// listing, so that no event between the two is missed.
+// Lists both kinds, feeds, and adds each key that is concerned. The version is that of the
+// earlier listing, so that no event between the two is missed.
 pub(crate) fn list<D: Desk>(
     desk: &mut D,
     alloc: Global,

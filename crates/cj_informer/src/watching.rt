@@ -1,4 +1,4 @@
-//! What came since the last step, as events.
+//! Following what came since the last step, by events.
 ghost use Rattle.std.specs.Prelude.{◌≡◌, Some, IfErr};
 ghost use Rattle.cj_hub.specs.Runs.{Adds, FoundFull, TellsFull};
 ghost use Rattle.cj_informer.specs.Informs.{last_version};
@@ -21,7 +21,7 @@ fn last_seen(seen: Version, events: &[Event]) -> Version
     }
 }
 
-// A Feed, and an Add for each event that concerns a CronJob.
+// Feeds, and adds the key of each event that concerns a CronJob.
 fn follow<D: Desk>(
     desk: &mut D,
     alloc: Global,
@@ -41,7 +41,7 @@ fn follow<D: Desk>(
     Ok(last_seen(from, events))
 }
 
-// A Watch from the version seen; a listing where the events after it have expired.
+// Watches from the version seen; lists where the events after it have expired.
 pub(crate) fn watch<D: Desk>(
     desk: &mut D,
     alloc: Global,

@@ -1,2 +1,3 @@
+pub mod Statuses
 pub mod Writing
 pub mod zone_files

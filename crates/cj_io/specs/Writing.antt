@@ -1,22 +1,14 @@
--- What a writer holds where it may fail, and what is said then.
-use Rattle.std.specs.Prelude.{◌≡◌, ℕ, List, ◌++◌, codes, take, Option}
+-- What a writer holds where it may fail.
+use Rattle.std.specs.Prelude.{◌≡◌, ℕ, List, ◌++◌, take, Option}
 use Rattle.std.specs.Io.KnownBytes.{Appends}
-use Rattle.cj_io.specs.declared.failure.Failure.{Failure}
-use Rattle.cj_io.specs.declared.failure.Failure.TheVariants.{Device, HistoryFull, Memory}
 
 -- a beginning of the bytes was appended, none or all of them included
 abbrev pub AppendsSome : Option (List ℕ) → Option (List ℕ) → List ℕ → Type 0
 AppendsSome old new bytes = (count : ℕ) × Appends old new (take count bytes)
 
--- what standard error says of a failure, which ends with status 3
--- rule: statuses
-abbrev pub failure_line : Failure → List ℕ
-failure_line Device = codes "cronsim: input or output failed\n"
-failure_line Memory = codes "cronsim: out of memory\n"
-failure_line HistoryFull = codes "cronsim: history full\n"
-
 -- text that waited, and then this one, were appended up to what waits now
-pub record Prints (old : Option (List ℕ)) (waited text : List ℕ) (new : Option (List ℕ)) (waits : List ℕ) : Type 0 where
+pub record Prints (old : Option (List ℕ)) (waited text : List ℕ) (new : Option (List ℕ))
+    (waits : List ℕ) : Type 0 where
   pub written : List ℕ
   pub appended : Appends old new written
   pub are : waited ++ text ≡ written ++ waits

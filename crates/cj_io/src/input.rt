@@ -4,9 +4,9 @@ use crate::failure::Failure;
 use std::alloc::Global;
 use std::io::{ErrorKind, Read};
 
-/// An input has at most so many bytes.
+/// The most bytes that an input may have.
 pub const MOST_BYTES: usize = 16_777_216;
-/// An input ends within so many reads.
+/// The most reads after which an input must have ended.
 pub const MOST_READS: u32 = 33_554_432;
 
 /// Reads to the end, within the limits; an input past them counts as a failed read.

@@ -9,10 +9,10 @@ use std::alloc::Global;
 use std::io::Write;
 use std::marker::Model;
 
-// So many bytes are written at once.
+// How many bytes must wait before they are written.
 const MUCH: usize = 65_536;
 
-/// Text that waits to be written until there is much of it. Contracts see the text.
+/// Text that is buffered until there is much of it. Contracts see the text.
 #[derive(Drop)]
 pub struct Pending {
     text: String,
@@ -55,7 +55,8 @@ impl Pending {
         Ok(())
     }
 
-    /// Adds the text, and writes all that waits where that is much. Where that fails, a beginning of it was written.
+    /// Adds the text, and writes all that waits once that is much. Where writing fails, a beginning
+    /// of it was written.
     #[tactic(auto, using(crate::proofs::Written::prints_waiting, crate::proofs::Written::prints_all, crate::proofs::Written::appends_nothing))]
     pub fn print<W: Write>(&mut self, out: &mut W, text: &str) -> Result<(), Failure>
         ensures ok { OnOk result (Prints (W.contents out.old) self.old text.now (W.contents out.new)

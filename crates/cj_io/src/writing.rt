@@ -1,16 +1,19 @@
-// What is written, and told where it can't be.
+// What is written, and what is said where it can't be.
 ghost use Rattle.std.specs.Prelude.{◌≡◌, ◌≤◌, IfOk, OnErr, OnOk, length, take};
 ghost use Rattle.std.specs.Io.KnownBytes.{Appends, Keeps};
-ghost use Rattle.cj_io.specs.Writing.{AppendsSome, failure_line};
+ghost use Rattle.cj_io.specs.Statuses.{failure_line};
+ghost use Rattle.cj_io.specs.Writing.{AppendsSome};
+ghost use Rattle.cj_io.specs.declared.exit_status.ExitStatus.TheVariants.{Failed};
 
+use crate::exit_status::ExitStatus;
 use crate::failure::Failure;
 use std::io;
 use std::io::{ErrorKind, Write};
 
-// A writer takes a text within so many writes.
+// How many writes a text may take.
 const MOST_WRITES: u64 = u64::MAX;
 
-// One write: how many of the bytes the writer took, which is none where it was interrupted.
+// Writes once, and answers how many of the bytes the writer took: none where it was interrupted.
 fn write_once<W: Write>(writer: &mut W, bytes: &[u8]) -> io::Result<usize>
     ensures within { IfOk result (λ count. count ≤ length bytes.now) }
     ensures taken { IfOk result (λ count. Appends (W.contents writer.old) (W.contents writer.new)
@@ -42,26 +45,18 @@ pub fn write_whole<W: Write>(writer: &mut W, bytes: &[u8]) -> io::Result<()>
     Err(io::Error::from(ErrorKind::Interrupted))
 }
 
-fn line_of(failure: Failure) -> &'static [u8]
-    ensures { result.now ≡ failure_line failure }
-{
-    match failure {
-        Failure::Device => b"cronsim: input or output failed\n",
-        Failure::Memory => b"cronsim: out of memory\n",
-        Failure::HistoryFull => b"cronsim: history full\n",
-    }
-}
-
-/// Tells a failure on standard error, as far as that takes it, and answers its status.
-pub fn tell_failure<E: Write>(failure: Failure, err: &mut E) -> u8
-    ensures status { result ≡ 3 }
+/// Writes the line that names a failure to standard error, as far as that takes it, and answers the
+/// status.
+pub fn tell_failure<E: Write>(failure: Failure, err: &mut E) -> ExitStatus
+    ensures status { result ≡ Failed }
     ensures told { AppendsSome (E.contents err.old) (E.contents err.new) (failure_line failure) }
 {
-    let _ = write_whole(err, line_of(failure));
-    3
+    let _ = write_whole(err, failure.line());
+    ExitStatus::Failed
 }
 
-/// The same, and sees to it that the writer keeps nothing back.
+/// Writes all the bytes, or a beginning of them, and flushes the writer, so that it keeps nothing
+/// back.
 pub fn write_and_flush<W: Write>(writer: &mut W, bytes: &[u8]) -> Result<(), Failure>
     ensures whole { OnOk result (Appends (W.contents writer.old) (W.contents writer.new)
         bytes.now) }

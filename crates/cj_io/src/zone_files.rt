@@ -1,4 +1,5 @@
-// Zones that words and folders give: their names in an input, the files that may be looked up, a table of both.
+// Zones that words and folders give: their names in an input, the files that may be looked up, a
+// table of both.
 mod file;
 mod file_name;
 mod given;

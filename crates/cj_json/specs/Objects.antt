@@ -1,4 +1,4 @@
--- The object that is written of a CronJob and of a Job (Kubernetes API reference, batch/v1).
+-- The JSON object of a CronJob and of a Job (Kubernetes API reference, batch/v1).
 use Rattle.std.specs.Prelude.{ℕ, List, [], ◌∷◌, map, codes, Option, Some, None, option_map}
 use Rattle.std.specs.Fmt.{decimal}
 use Rattle.serde_json.specs.Data.{Data, boolean, number, string, array, object, unsigned, Members, no_members, put}
@@ -43,11 +43,13 @@ metadata_members key meta owners =
 -- ---- a CronJob
 
 abbrev pub template_metadata : JobTemplate → Members
-template_metadata t = put_labels (codes "labels") t.labels (put_labels (codes "annotations") t.annotations no_members)
+template_metadata t = put_labels (codes "labels") t.labels
+    (put_labels (codes "annotations") t.annotations no_members)
 
--- a template, with the value of the spec that it keeps
+-- a template, whose spec is given as a value
 abbrev pub template_data : JobTemplate → Data → Data
-template_data t job = object (put_some_object (codes "metadata") (template_metadata t) (put (codes "spec") job no_members))
+template_data t job = object (put_some_object (codes "metadata") (template_metadata t)
+    (put (codes "spec") job no_members))
 
 abbrev pub spec_head : CronSpec → Data → Members
 spec_head s template =
@@ -78,7 +80,7 @@ cron_status_members namespace status =
     put_some_time (codes "lastScheduleTime") status.last_schedule_time (
     put_some_list (codes "active") (map (active_data namespace) status.active) no_members))
 
--- an object of a kind, with its status where it has one
+-- the JSON object of a stored object of the given kind, with its status if it has one
 abbrev pub object_data : List ℕ → Members → Data → Members → Data
 object_data kind metadata spec status = object (
     put_some_object (codes "status") status (
@@ -89,9 +91,10 @@ object_data kind metadata spec status = object (
 
 abbrev pub cron_data : CronJob → Data → Data
 cron_data o job =
-    object_data (codes "CronJob") (metadata_members o.key o.meta []) (cron_spec_data o.spec job) (cron_status_members o.key.namespace o.status)
+    object_data (codes "CronJob") (metadata_members o.key o.meta []) (cron_spec_data o.spec job)
+    (cron_status_members o.key.namespace o.status)
 
--- what is written, where the kept spec has a value
+-- the JSON object, if the kept spec has a value
 -- rule: written
 abbrev pub cron_written : CronJob → Option Data
 cron_written o = option_map (cron_data o) (kept_value o.spec.template.spec)
@@ -99,7 +102,8 @@ cron_written o = option_map (cron_data o) (kept_value o.spec.template.spec)
 -- ---- a Job
 
 abbrev pub condition : List ℕ → Data
-condition kind = object (put (codes "type") (string kind) (put (codes "status") (string (codes "True")) no_members))
+condition kind = object (put (codes "type") (string kind)
+    (put (codes "status") (string (codes "True")) no_members))
 
 abbrev pub one_condition : List ℕ → Members
 one_condition kind = put (codes "conditions") (array (items_of (condition kind ∷ []))) no_members
@@ -117,7 +121,8 @@ job_status_members (Some outcome) = ended_members outcome
 
 abbrev pub job_data : Job → Data → Data
 job_data o spec =
-    object_data (codes "Job") (metadata_members o.key o.meta o.owners) spec (job_status_members o.outcome)
+    object_data (codes "Job") (metadata_members o.key o.meta o.owners) spec
+    (job_status_members o.outcome)
 
 -- rule: written
 abbrev pub job_written : Job → Option Data

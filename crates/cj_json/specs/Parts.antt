@@ -7,40 +7,40 @@ use Rattle.serde_json.specs.Written.{has_float}
 use Rattle.cj_types.specs.declared.owners.OwnerRef.{OwnerRef}
 use Rattle.cj_zone.specs.TimeText.{time_text_of}
 
--- ---- values that stand only where there is something
+-- ---- members that are written only where there is something
 
--- a text, where there is one
+-- the member with the text, where there is one
 abbrev pub put_some_text : List ℕ → Option (List ℕ) → Members → Members
 put_some_text name None ms = ms
 put_some_text name (Some s) ms = put name (string s) ms
 
--- a number, where there is one
+-- the member with the number, where there is one
 abbrev pub put_some_number : List ℕ → Option ℕ → Members → Members
 put_some_number name None ms = ms
 put_some_number name (Some n) ms = put name (number (unsigned n)) ms
 
--- a printed time (RFC 3339)
+-- the member with the printed time (RFC 3339)
 abbrev pub put_time : List ℕ → ℕ → Members → Members
 put_time name t ms = put name (string (time_text_of t)) ms
 
--- and where there is one
+-- the member with the printed time, where there is a time
 abbrev pub put_some_time : List ℕ → Option ℕ → Members → Members
 put_some_time name None ms = ms
 put_some_time name (Some t) ms = put_time name t ms
 
--- an object, where it has a member
+-- the member with the object, where the object isn't empty
 abbrev pub put_some_object : List ℕ → Members → Members → Members
 put_some_object name no_members ms = ms
 put_some_object name inner ms = put name (object inner) ms
 
--- a list, where it has an item
+-- the member with the list, where the list isn't empty
 abbrev pub put_some_list : List ℕ → List Data → Members → Members
 put_some_list name [] ms = ms
 put_some_list name (d ∷ ds) ms = put name (array (items_of (d ∷ ds))) ms
 
 -- ---- labels, annotations and owners
 
--- each name with its text, put in one after another
+-- the object with the text of each name
 abbrev pub label_members : Members → List (List ℕ × List ℕ) → Members
 label_members ms [] = ms
 label_members ms (l ∷ ls) = label_members (put l.0 (string l.1) ms) ls
@@ -69,7 +69,7 @@ unless_float d = if has_float d then None else Some d
 abbrev pub kept_value : List ℕ → Option Data
 kept_value text = option_and_then unless_float (read text)
 
--- a text that has one, so that an object which keeps it can be written
+-- the text is the JSON text of a value, so that an object that keeps it can be written
 -- rules: kept-spec, kept-below
 abbrev pub IsKept : List ℕ → Type 0
 IsKept text = IsSome (kept_value text)

@@ -138,7 +138,7 @@ fn status_members(
     Ok(members)
 }
 
-/// The object of a CronJob, with the value of the spec that its template keeps.
+/// The JSON object of a CronJob, whose template's spec is given as a value.
 pub(crate) fn cron_value(alloc: Global, cron: &CronJob, job: Value) -> Result<Value, Refusal>
     ensures ok { IfOk result (λ v. view v ≡ object.cron_data cron.now (view job)) }
     ensures err { IfErr result (λ e. e ≡ OutOfMemory) }

@@ -66,7 +66,7 @@ fn status_members(alloc: Global, outcome: &Option<Outcome>) -> Result<Map<String
     }
 }
 
-/// The object of a Job, with the value of the spec that it keeps.
+/// The JSON object of a Job, whose spec is given as a value.
 pub(crate) fn job_value(alloc: Global, job: &Job, spec: Value) -> Result<Value, Refusal>
     ensures ok { IfOk result (λ v. view v ≡ object.job_data job.now (view spec)) }
     ensures err { IfErr result (λ e. e ≡ OutOfMemory) }

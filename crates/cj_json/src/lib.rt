@@ -1,7 +1,7 @@
 //! Written objects: the JSON of a stored CronJob or Job, members in the order of their names.
 //!
-//! Here belongs how an object is written, and what is kept of JSON as a text. How JSON is read belongs to
-//! `cj_manifest`, whose laws rest on `Written::to_value` and `Written::write`.
+//! Here belongs how an object is written, and how a Job's spec is kept as a text. How JSON is read
+//! belongs to `cj_manifest`, whose laws rest on `Written::to_value` and `Written::write`.
 #![tactic(auto)]
 
 mod cron;

@@ -1,4 +1,4 @@
-// Members of an object, each put in at its place by name.
+// Members of an object, each inserted by name.
 ghost use Rattle.std.specs.Prelude.{◌≡◌, [], ◌∷◌, ◌++◌, map, IfOk, IfErr, OnOk};
 ghost use Rattle.cj_base.specs.declared.refusal.Refusal.TheVariants.{OutOfMemory};
 ghost use Rattle.serde_json.specs.Data.{boolean, number, string, unsigned, put as with_member, no_members};

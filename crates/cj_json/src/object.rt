@@ -1,4 +1,4 @@
-// What objects of both kinds have, and the specs that are kept as texts.
+// The members common to both kinds of objects, and the specs that are kept as texts.
 ghost use Rattle.std.specs.Prelude.{◌≡◌, ◌≢◌, Some, None, IfOk, IfErr};
 ghost use Rattle.cj_base.specs.declared.refusal.Refusal.TheVariants.{OutOfMemory, Syntax};
 ghost use Rattle.serde_json.specs.View.{view, members_view};
@@ -12,7 +12,7 @@ use cj_types::Refusal;
 use serde_json::{Map, Value};
 use std::alloc::Global;
 
-/// The value of a kept text.
+/// The JSON value of a kept spec's text.
 pub(crate) fn kept_value(alloc: Global, text: &str) -> Result<Value, Refusal>
     ensures ok { IfOk result (λ v. part.kept_value text.now ≡ Some (view v)) }
     ensures err { IfErr result (λ e. e ≢ OutOfMemory →
@@ -29,7 +29,7 @@ pub(crate) fn kept_value(alloc: Global, text: &str) -> Result<Value, Refusal>
     Ok(value)
 }
 
-/// An object of a kind, with its status where it has one.
+/// The JSON object of a stored object of the given kind, with its status if it has one.
 pub(crate) fn object_value(
     alloc: Global,
     kind: &str,

@@ -1,4 +1,4 @@
-// Values of which the JSON that commands print is made.
+// JSON values of times and texts, for what commands print.
 ghost use Rattle.std.specs.Prelude.{◌≡◌, ◌++◌, ◌∷◌, [], IfOk, IfErr, OnOk, option_map};
 ghost use Rattle.cj_base.specs.declared.refusal.Refusal.TheVariants.{OutOfMemory};
 ghost use Rattle.serde_json.specs.View.{view};
@@ -9,7 +9,7 @@ use cj_zone::time_text;
 use serde_json::Value;
 use std::alloc::{AllocError, Global};
 
-/// One more value of a list.
+/// Appends a value to a list.
 pub fn push_value(values: &mut Vec<Value>, value: Value) -> Result<(), Refusal>
     ensures ok { OnOk result (values.new.items ≡ values.old.items ++ (value ∷ [])) }
     ensures err { IfErr result (λ e. e ≡ OutOfMemory) }
@@ -18,7 +18,7 @@ pub fn push_value(values: &mut Vec<Value>, value: Value) -> Result<(), Refusal>
     Ok(())
 }
 
-/// A time as it is printed (RFC 3339, UTC).
+/// The printed time (RFC 3339, UTC).
 pub fn time_value(alloc: Global, time: Seconds) -> Result<Value, Refusal>
     ensures ok { IfOk result (λ v. view v ≡ time_data time) }
     ensures err { IfErr result (λ e. e ≡ OutOfMemory) }
@@ -27,7 +27,7 @@ pub fn time_value(alloc: Global, time: Seconds) -> Result<Value, Refusal>
     Ok(Value::String(text))
 }
 
-/// A time, or null where there is none.
+/// The printed time, or null where there is none.
 pub fn time_or_null(alloc: Global, time: Option<Seconds>) -> Result<Value, Refusal>
     ensures ok { IfOk result (λ v. view v ≡ time_or_null time) }
     ensures err { IfErr result (λ e. e ≡ OutOfMemory) }
@@ -38,7 +38,7 @@ pub fn time_or_null(alloc: Global, time: Option<Seconds>) -> Result<Value, Refus
     }
 }
 
-/// A text, or null where there is none.
+/// The text, or null where there is none.
 pub fn text_or_null(alloc: Global, text: Option<&str>) -> Result<Value, Refusal>
     ensures ok { IfOk result (λ v. view v ≡ text_or_null (option_map (λ s. s.now) text.entry)) }
     ensures err { IfErr result (λ e. e ≡ OutOfMemory) }

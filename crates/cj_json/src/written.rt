@@ -16,14 +16,14 @@ use std::alloc::Global;
 pub trait Written {
     ghost written: { Self → Option Data };
 
-    /// The JSON value; `Syntax` exactly where a spec that the object keeps isn't the text of JSON whose numbers are
-    /// i64 and u64 alone. No manifest that is read leaves one.
+    /// The JSON value. `Syntax` exactly where the object's kept spec isn't JSON, or has a number
+    /// that is neither an i64 nor a u64; no manifest that is read leaves such a spec.
     fn to_value(&self, alloc: Global) -> Result<Value, Refusal>
         ensures ok { IfOk result (λ v. written self.now ≡ Some (view v)) }
         ensures err { IfErr result (λ e. e ≢ OutOfMemory →
             (e ≡ Syntax) × (written self.now ≡ None)) };
 
-    /// Its compact text, with the same refusal.
+    /// The compact JSON text, refused just where `to_value` is.
     fn write(&self, alloc: Global) -> Result<String, Refusal>
         ensures ok { IfOk result (λ s. option_map compact_text (written self.now)
             ≡ Some (string_bytes s)) }

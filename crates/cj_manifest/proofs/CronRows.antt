@@ -127,7 +127,8 @@ deadline_given (Some d) = within_num last_deadline (as_number d)
 pub deadline_row : (n : Option ℕ) (o : Option Data) → o ≡ option_map number_data n → IsWithin last_deadline n
     → optional fields.seconds o ≡ Ok n
 deadline_row None o h k = ap (optional fields.seconds) h
-deadline_row (Some n) o h k = ap (optional fields.seconds) h ∙ ap (λ b. and_then (λ x. Ok (Some x)) (when b Why.Range n)) k
+deadline_row (Some n) o h k = ap (optional fields.seconds) h
+    ∙ ap (λ b. and_then (λ x. Ok (Some x)) (when b Why.Range n)) k
 
 -- For limit_num: a number that is let through is within the limit, and else 0 stands for it.
 limit_by : (most n : ℕ) (b : Bool) → nat_le 0 most ≡ true → nat_le n most ≡ b

@@ -72,7 +72,8 @@ key_is limit n m k h = found (key_faults limit n m) (place n m) k h
 -- and it isn't refused
 pub not_refused : (k : ObjectKind) (m : Data) (e : Refusal) → IsNamed k m
     → new_key (fields.name_limit k) (key_of k m).namespace (key_of k m).name ≡ Err e → ⊥
-not_refused k m e h is = refused (key_faults (fields.name_limit k) (key_of k m).namespace (key_of k m).name) (key_of k m) e
+not_refused k m e h is = refused (key_faults (fields.name_limit k) (key_of k m).namespace (key_of k m).name)
+    (key_of k m) e
     (no_faults k m h) is
 
 -- A refusal that can't be any but OutOfMemory is OutOfMemory.

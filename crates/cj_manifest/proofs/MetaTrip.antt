@@ -110,7 +110,8 @@ pub meta_says : (k : ObjectKind) (key : Place) (meta : Meta) (os : List OwnerRef
     → MetaIs key meta (map owner_data os) meta.labels meta.annotations m → MetaSays k key meta os m
 meta_says k key meta os m named labels annotations is =
     let name : fields.name k m ≡ Ok key.name = name_row (fields.name_limit k) key.name _ is.name named.name in
-    let namespace : fields.namespace m ≡ Ok key.namespace = namespace_row key.namespace _ is.namespace named.namespace in
+    let namespace : fields.namespace m ≡ Ok key.namespace
+    = namespace_row key.namespace _ is.namespace named.namespace in
     let uid : fields.uid m ≡ Ok (Some (uid_text meta.uid)) = ap (optional text) is.uid in
     let version : fields.resource_version m ≡ Ok (Some (decimal meta.version)) = ap (optional text) is.version in
     let sound_labels : result_err (fields.labels m) ≡ None = ap (λ o. result_err (optional texts o)) is.labels

@@ -85,7 +85,8 @@ spec_says zones spec ms fine text sound =
           no_faults _ _ (no_faults _ _
           (no_faults _ _ (no_faults _ _ (no_faults _ _
           (no_fault At.ScheduleText (fields.schedule s) (ap result_err schedule))
-          (no_fault At.TimeZone (fields.time_zone zones s) (zone_row zones spec.time_zone _ is.time_zone fine.time_zone)))
+          (no_fault At.TimeZone (fields.time_zone zones s)
+          (zone_row zones spec.time_zone _ is.time_zone fine.time_zone)))
           (no_fault At.ConcurrencyPolicy (fields.policy s) (ap result_err policy)))
           (no_fault At.Suspend (fields.suspend s) (ap result_err suspend)))
           (no_faults _ _ (no_faults _ _

@@ -141,7 +141,9 @@ unsigned_case b n rest = holds-cond IsFine (b && nat_lt n (2 ^ 64)) (Some (unsig
 -- For from_fine: a whole number from minus 2 ^ 63 to minus 1 is a fine one, else what follows is.
 negative_case : (b : Bool) (n : ℕ) (rest : Option Num) → Holds IsFine rest
     → Holds IsFine (cond (b && nat_lt 0 n && nat_le n (2 ^ 63)) (Some (negative (neg_ℤ (pos n)))) rest)
-negative_case b n rest = holds-cond IsFine (b && nat_lt 0 n && nat_le n (2 ^ 63)) (Some (negative (neg_ℤ (pos n)))) rest (λ h. let two = and_parts (b && nat_lt 0 n) _ h in negative_fine n (ltb-true _ _ (and_parts b _ two.0).1) (leb-true _ _ two.1))
+negative_case b n rest = holds-cond IsFine (b && nat_lt 0 n && nat_le n (2 ^ 63)) (Some (negative (neg_ℤ (pos n)))) rest
+    (λ h. let two = and_parts (b && nat_lt 0 n) _ h in negative_fine n (ltb-true _ _ (and_parts b _ two.0).1)
+    (leb-true _ _ two.1))
 
 -- The number of a numeral, with a minus or without, is a fine number, where there is one.
 from_fine : (sign : Bool) (p : Parts) → Holds IsFine (number_from sign p)

@@ -131,7 +131,8 @@ record ItemsFit (n : ℕ) (ds : List Data) : Type 0 where
 -- The items that are written of a list read back where each alone does.
 items_fit : {A : Type 0} (n : ℕ) (f : A → Data) → ((a : A) → IsFlat n (f a)) → (xs : List A) → ItemsFit n (map f xs)
 items_fit n f h [] = record { back = tt; flat = omega arith }
-items_fit n f h (x ∷ xs) = let one = h x in let rest = items_fit n f h xs in record { back = (one.back, rest.back); flat = omega (arith, one.flat, rest.flat) }
+items_fit n f h (x ∷ xs) = let one = h x in let rest
+    = items_fit n f h xs in record { back = (one.back, rest.back); flat = omega (arith, one.flat, rest.flat) }
 
 -- Members that read back still do with a list put in whose items do, unless it is empty.
 pub some_list_is : {A : Type 0} (n : ℕ) (k : List ℕ) (f : A → Data) (h : (a : A)

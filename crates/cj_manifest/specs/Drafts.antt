@@ -1,5 +1,5 @@
--- What a manifest without a fault says, with the defaults. Where a row has a fault, what stands for its value
--- is of no account.
+-- The draft of a manifest without a fault, with defaults. Where a row has a fault, any value serves
+-- in its place.
 use Rattle.std.specs.Prelude.{ℕ, ◌==◌, List, [], length, codes, false, if◌then◌else◌, Option, Some, None, Result, Ok, Err}
 use Rattle.std.specs.Result.{result_ok}
 use Rattle.serde_json.specs.Data.{Data, Items, Members, no_members, member}
@@ -25,12 +25,12 @@ use Rattle.cj_manifest.specs.Table as fields
 
 -- ---- values of rows
 
--- the value of a row, where it has one
+-- the value of a row, or the given one where it has a fault
 abbrev pub value_or : {A : Type 0} → A → Result A Cause → A
 value_or y (Ok x) = x
 value_or y (Err cause) = y
 
--- of a row that may be absent
+-- the value of an optional row
 abbrev pub given : {A : Type 0} → Result (Option A) Cause → Option A
 given r = value_or None r
 
@@ -41,12 +41,12 @@ unless_empty (Some s) = if length s == 0 then None else Some s
 
 -- ---- labels and annotations
 
--- with the member's value at its name, where it is there
+-- the labels with the member's text at its name, where the member is there
 abbrev pub with_label : List ℕ → Option (List ℕ) → List (List ℕ × List ℕ) → List (List ℕ × List ℕ)
 with_label name None labels = labels
 with_label name (Some value) labels = put_label name value labels
 
--- the members put in one after another
+-- the labels of all members
 abbrev pub labels_onto : List (List ℕ × List ℕ) → Members → List (List ℕ × List ℕ)
 labels_onto labels no_members = labels
 labels_onto labels (member k d ms) = labels_onto (with_label k (as_str d) labels) ms
@@ -102,11 +102,11 @@ template_of t j = record {
   spec = compact_text j;
 }
 
--- the name of the zone as it is given
+-- the name of the zone in the manifest
 abbrev pub zone_name : Data → Option (List ℕ)
 zone_name s = given (optional text (present (codes "timeZone") s))
 
--- the schedule as it is given
+-- the schedule's text in the manifest
 abbrev pub schedule_text : Data → List ℕ
 schedule_text s = value_or [] (fields.schedule s)
 

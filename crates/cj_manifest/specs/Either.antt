@@ -22,7 +22,8 @@ manifest_faults zones d = if is_job d then job_faults d else cron_faults zones d
 
 abbrev pub manifest_draft : Data → Option Manifest
 manifest_draft d =
-    if is_job d then option_map (λ draft. Said.Job draft) (job_draft d) else option_map (λ draft. Said.CronJob draft) (cron_draft d)
+    if is_job d then option_map (λ draft. Said.Job draft) (job_draft d) else option_map
+    (λ draft. Said.CronJob draft) (cron_draft d)
 
 abbrev pub manifest_warnings : Data → List (List ℕ)
 manifest_warnings d = if is_job d then job_warnings d else cron_warnings d

@@ -1,4 +1,4 @@
--- The faults of a manifest, in the order of the table: nothing in an object that is at fault is looked at.
+-- The faults of a manifest, in the order of the table. Nothing in a faulty object is looked at.
 use Rattle.std.specs.Prelude.{List, [], ◌++◌, Option, Some, None, Result, Ok, Err}
 use Rattle.std.specs.Result.{result_err}
 use Rattle.serde_json.specs.Data.{Data}
@@ -22,8 +22,9 @@ abbrev pub with_fields : Field → (Data → List FieldFault) → Result Data Ca
 with_fields field rows (Ok d) = rows d
 with_fields field rows (Err cause) = fault_of field (Some cause)
 
--- the same of an object that may be absent
-abbrev pub with_optional_fields : Field → (Data → List FieldFault) → Result (Option Data) Cause → List FieldFault
+-- the own fault of an object that may be absent, or the faults of the rows in it
+abbrev pub with_optional_fields : Field → (Data → List FieldFault) → Result (Option Data) Cause
+    → List FieldFault
 with_optional_fields field rows (Ok None) = []
 with_optional_fields field rows (Ok (Some d)) = rows d
 with_optional_fields field rows (Err cause) = fault_of field (Some cause)
@@ -72,11 +73,13 @@ job_fields = record { template = At.Pods; spec = At.PodSpec; restart_policy = At
 
 abbrev pub template_metadata_faults : Data → List FieldFault
 template_metadata_faults m =
-    fault_by At.JobTemplateLabels (fields.labels m) ++ fault_by At.JobTemplateAnnotations (fields.annotations m)
+    fault_by At.JobTemplateLabels (fields.labels m)
+    ++ fault_by At.JobTemplateAnnotations (fields.annotations m)
 
 abbrev pub template_faults : Data → List FieldFault
 template_faults t =
-    with_optional_fields At.JobTemplateMetadata template_metadata_faults (fields.template_metadata t)
+    with_optional_fields At.JobTemplateMetadata template_metadata_faults
+    (fields.template_metadata t)
     ++ with_fields At.JobTemplateSpec (job_spec_faults template_fields) (fields.job_spec t)
 
 abbrev pub timing_faults : List Zone → Data → List FieldFault
@@ -94,7 +97,8 @@ limit_faults s =
 
 abbrev pub cron_spec_faults : List Zone → Data → List FieldFault
 cron_spec_faults zones s =
-    timing_faults zones s ++ limit_faults s ++ with_fields At.JobTemplate template_faults (fields.job_template s)
+    timing_faults zones s ++ limit_faults s
+    ++ with_fields At.JobTemplate template_faults (fields.job_template s)
 
 -- ---- the whole
 
@@ -107,17 +111,19 @@ top_faults k d =
 abbrev pub object_faults : ObjectKind → (Data → List FieldFault) → Data → List FieldFault
 object_faults k spec_faults d = top_faults k d ++ with_fields At.Spec spec_faults (fields.spec d)
 
--- of a CronJob's manifest, under the zones of a table
+-- the faults of a CronJob's manifest, under the zones of a table
 -- rule: all-faults
 abbrev pub cron_faults : List Zone → Data → List FieldFault
-cron_faults zones d = with_fields At.Whole (object_faults Of.Cron (cron_spec_faults zones)) (fields.whole d)
+cron_faults zones d = with_fields At.Whole (object_faults Of.Cron (cron_spec_faults zones))
+    (fields.whole d)
 
--- of a Job's, whose spec nobody looks at
+-- the faults of a Job's manifest, except those of its spec
 -- rule: cluster-job
 abbrev pub head_faults : Data → List FieldFault
 head_faults d = with_fields At.Whole (top_faults Of.Job) (fields.whole d)
 
--- of a Job's
+-- the faults of a Job's manifest
 -- rules: all-faults, job-rows
 abbrev pub job_faults : Data → List FieldFault
-job_faults d = with_fields At.Whole (object_faults Of.Job (job_spec_faults job_fields)) (fields.whole d)
+job_faults d = with_fields At.Whole (object_faults Of.Job (job_spec_faults job_fields))
+    (fields.whole d)

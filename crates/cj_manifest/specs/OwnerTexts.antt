@@ -1,4 +1,4 @@
--- An owner reference whose texts stand in a manifest, as the reference that it is.
+-- An owner reference whose texts are borrowed from a manifest, as a reference.
 use Rattle.cj_types.specs.declared.owners.OwnerRef.{OwnerRef}
 use Rattle.cj_manifest.specs.declared.owner.OwnerTexts.{OwnerTexts}
 

@@ -12,11 +12,11 @@ abbrev pub then_do : {A B : Type 0} → Option A → (A → Option B) → Option
 then_do None f = None
 then_do (Some x) f = f x
 
--- a text that must be there
+-- the row of a required text
 abbrev pub text_at : List ℕ → Data → Option (List ℕ)
 text_at name d = option_and_then as_str (present name d)
 
--- a truth value, false where it is absent
+-- the row of a truth value, false where it is absent
 abbrev pub flag_of : Option Data → Option Bool
 flag_of None = Some false
 flag_of (Some d) = as_bool d
@@ -24,7 +24,7 @@ flag_of (Some d) = as_bool d
 abbrev pub flag_at : List ℕ → Data → Option Bool
 flag_at name d = flag_of (present name d)
 
--- the reference that an object with those members is
+-- the reference in an object with those members
 abbrev pub owner : Data → Option OwnerRef
 owner d =
     then_do (text_at (codes "apiVersion") d) (λ api_version.

@@ -1,4 +1,4 @@
--- What a reading of a manifest's bytes answers.
+-- The answers of reading a manifest's bytes.
 use Rattle.std.specs.Prelude.{◌≡◌, ◌≢◌, ℕ, List, [], Option, Some, None, IsUtf8}
 use Rattle.std.specs.Result.{result_ok, result_err}
 use Rattle.serde_json.specs.Data.{Data}
@@ -9,22 +9,23 @@ use Rattle.cj_base.specs.declared.refusal.Refusal.TheVariants.{Syntax, Invalid, 
 use Rattle.cj_manifest.specs.declared.kind.ObjectKind.{ObjectKind}
 use Rattle.cj_manifest.specs.Table as fields
 
--- the bytes are UTF-8, and as JSON (RFC 8259) they are this value
+-- the bytes are UTF-8, and the JSON text (RFC 8259) of this value
 -- rule: manifest-json
 abbrev pub Reads : List ℕ → Data → Type 0
 Reads bytes d = IsUtf8 bytes × (read bytes ≡ Some d)
 
--- no value is what the bytes are
+-- the bytes are the JSON text of no value
 abbrev pub IsNoValue : List ℕ → Type 0
 IsNoValue bytes = (d : Data) → Reads bytes d → ⊥
 
--- there is no fault, and this is what is said, with these warnings
-pub record Says (X : Type 0) (faults : List FieldFault) (draft : Option X) (warnings : List (List ℕ)) (x : X) (ws : List (List ℕ)) : Type 0 where
+-- there is no fault, and the answer is this draft with these warnings
+pub record Says (X : Type 0) (faults : List FieldFault) (draft : Option X)
+    (warnings : List (List ℕ)) (x : X) (ws : List (List ℕ)) : Type 0 where
   pub sound : faults ≡ []
   pub drafted : draft ≡ Some x
   pub warned : ws ≡ warnings
 
--- there are just these faults, or there was no memory
+-- the refusal is of just these faults, or for want of memory
 abbrev pub HasFaults : List FieldFault → Refusal → Type 0
 HasFaults faults (Invalid fs) = (fs ≡ faults) × (fs ≢ [])
 HasFaults faults OutOfMemory = Unit {0}
@@ -32,7 +33,8 @@ HasFaults faults other = ⊥
 
 -- the bytes are a value without a fault, with this draft and these warnings
 -- rule: manifest-json
-pub record IsReading (X : Type 0) (faults : Data → List FieldFault) (draft : Data → Option X) (warnings : Data → List (List ℕ)) (bytes : List ℕ) (x : X) (ws : List (List ℕ)) : Type 0 where
+pub record IsReading (X : Type 0) (faults : Data → List FieldFault) (draft : Data → Option X)
+    (warnings : Data → List (List ℕ)) (bytes : List ℕ) (x : X) (ws : List (List ℕ)) : Type 0 where
   pub value : Data
   pub reads : Reads bytes value
   pub sound : faults value ≡ []
@@ -51,6 +53,6 @@ IsRefused faults bytes other = ⊥
 abbrev pub IsNamed : ObjectKind → Data → Type 0
 IsNamed k m = (result_err (fields.name k m) ≡ None) × (result_err (fields.namespace m) ≡ None)
 
--- and so in the metadata of a manifest
+-- in the metadata of a manifest the rows of the name and of the namespace have no fault
 abbrev pub HasNames : ObjectKind → Data → Type 0
 HasNames k d = (m : Data) → result_ok (fields.metadata d) ≡ Some m → IsNamed k m

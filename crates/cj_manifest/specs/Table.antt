@@ -1,4 +1,5 @@
--- The table: the row of each field, in the names of batch/v1 (Kubernetes API reference, `CronJob` and `Job`).
+-- The table: the row of each field, in the names of batch/v1 (Kubernetes API reference, `CronJob`
+-- and `Job`).
 use Rattle.std.specs.Prelude.{ℕ, List, codes, Bool, false, not, Option, Result}
 use Rattle.serde_json.specs.Data.{Data, Items, Members}
 use Rattle.serde_json.specs.Written.{has_float}
@@ -29,12 +30,12 @@ name_limit Of.Job = longest
 
 -- ---- the whole
 
--- an object, each number in it an i64 or a u64
+-- the whole is an object, and each number in it an i64 or a u64
 abbrev pub whole : Data → Result Data Cause
 whole d = and_then (λ o. when (not (has_float o)) Why.Fraction o) (an_object d)
 
--- a CronJob's may be of the version before batch/v1, which Kubernetes served up to 1.24: "Deprecated API
--- Migration Guide"
+-- `apiVersion`; a CronJob's may be the version before batch/v1, which Kubernetes served up to 1.24:
+-- "Deprecated API Migration Guide"
 abbrev pub supported : ObjectKind → Data → Result (List ℕ) Cause
 supported Of.Cron d = either (codes "batch/v1") (codes "batch/v1beta1") d
 supported Of.Job d = choice (codes "batch/v1") d
@@ -73,7 +74,7 @@ uid m = optional text (present (codes "uid") m)
 abbrev pub resource_version : Data → Result (Option (List ℕ)) Cause
 resource_version m = optional text (present (codes "resourceVersion") m)
 
--- a Job's alone
+-- `ownerReferences`, of a Job alone
 abbrev pub owners : Data → Result (Option Items) Cause
 owners m = optional owners_in.owners (present (codes "ownerReferences") m)
 
@@ -98,7 +99,7 @@ seconds d = range last_deadline d
 abbrev pub deadline : Data → Result (Option ℕ) Cause
 deadline s = optional seconds (present (codes "startingDeadlineSeconds") s)
 
--- a number of Jobs that are kept
+-- a history limit: how many finished Jobs are kept
 abbrev pub limit : Data → Result ℕ Cause
 limit d = range last_history_limit d
 
@@ -128,4 +129,5 @@ pod_spec p = required an_object (present (codes "spec") p)
 
 -- rule: all-faults
 abbrev pub restart_policy : Data → Result (List ℕ) Cause
-restart_policy p = required (either (codes "Never") (codes "OnFailure")) (present (codes "restartPolicy") p)
+restart_policy p = required (either (codes "Never") (codes "OnFailure"))
+    (present (codes "restartPolicy") p)

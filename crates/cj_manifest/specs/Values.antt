@@ -1,4 +1,5 @@
--- The kinds of value that a field has: each reads the value of a member, or gives the cause for which it is refused.
+-- The kinds of values of fields: each reads the value of a member, or gives the cause for which it
+-- is refused.
 use Rattle.std.specs.Prelude.{ℕ, ◌==◌, ◌||◌, ◌&&◌, List, length, codes, nat_le, bytes_eq, Bool, true, false, if◌then◌else◌, Option, Some, None, option_map, Result, Ok, Err, is_some, is_none}
 use Rattle.serde_json.specs.Data.{Data, Members, no_members, member, Num, unsigned, negative, float}
 use Rattle.serde_json.specs.Find.{as_bool, as_str, as_object, as_number}
@@ -44,15 +45,16 @@ an_object d = if is_some (as_object d) then Ok d else Err Why.WrongType
 
 -- ---- choices
 
--- the one text that is supported
+-- a choice of one supported text
 abbrev pub choice : List ℕ → Data → Result (List ℕ) Cause
 choice only d = and_then (λ s. when (bytes_eq s only) Why.NotSupported s) (text d)
 
--- one of two
+-- a choice of two texts
 abbrev pub either : List ℕ → List ℕ → Data → Result (List ℕ) Cause
-either one other d = and_then (λ s. when (bytes_eq s one || bytes_eq s other) Why.NotSupported s) (text d)
+either one other d = and_then (λ s. when (bytes_eq s one || bytes_eq s other) Why.NotSupported s)
+    (text d)
 
--- a policy by its name; the empty text stands for none, and so for Allow
+-- a policy by its name; the empty text counts as absent, and so as Allow
 abbrev pub policy_named : List ℕ → Result Policy Cause
 policy_named s =
     if length s == 0 || bytes_eq s (codes "Allow") then Ok Allow
@@ -65,7 +67,7 @@ policy d = and_then policy_named (text d)
 
 -- ---- range
 
--- from 0 to the greatest number
+-- a whole number from 0 to the greatest
 abbrev pub up_to : ℕ → Num → Result ℕ Cause
 up_to most (unsigned n) = when (nat_le n most) Why.Range n
 up_to most (negative z) = Err Why.Range
@@ -88,7 +90,7 @@ namespace d = and_then (λ s. unless (namespace_cause s) s) (text d)
 abbrev pub schedule : Data → Result (List ℕ) Cause
 schedule d = and_then (λ s. unless (option_map Why.Schedule (fault_of s)) s) (text d)
 
--- the name of a zone that is there
+-- the name of a zone in the table
 -- rule: all-faults
 abbrev pub zone : List Zone → Data → Result (List ℕ) Cause
 zone zones d = and_then (λ s. when (is_some (zone_named s zones)) Why.Zone s) (text d)

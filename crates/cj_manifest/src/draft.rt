@@ -1,4 +1,4 @@
-// What a manifest without a fault says.
+// The drafts of manifests without faults.
 ghost use Rattle.std.specs.Prelude.{◌≡◌, ◌≤◌, false, option_map, IfOk, IfErr, IfSome};
 ghost use Rattle.cj_base.specs.declared.refusal.Refusal.TheVariants.{OutOfMemory};
 ghost use Rattle.serde_json.specs.Data.{depth};
@@ -209,7 +209,7 @@ fn cron_spec(
     })
 }
 
-// The same spec on a place of its own.
+// The spec, moved to the heap.
 fn shared_spec(
     alloc: Global,
     spec: &Value,
@@ -228,7 +228,7 @@ fn shared_spec(
 
 // ---- drafts
 
-/// The draft of a CronJob's manifest, where the objects in it are there.
+/// The draft of a CronJob's manifest; `None` where an object in it is missing.
 pub(crate) fn cron_draft(alloc: Global, value: &Value) -> Result<Option<CronJobDraft>, Refusal>
     requires plain { has_float (view value.now) ≡ false }
     requires flat { depth (view value.now) ≤ max_depth }
@@ -257,7 +257,7 @@ pub(crate) fn cron_draft(alloc: Global, value: &Value) -> Result<Option<CronJobD
     Ok(Some(CronJobDraft { key, meta, spec }))
 }
 
-/// The draft of a Job's manifest, where the objects in it are there.
+/// The draft of a Job's manifest; `None` where an object in it is missing.
 pub(crate) fn job_draft(alloc: Global, value: &Value) -> Result<Option<JobDraft>, Refusal>
     requires plain { has_float (view value.now) ≡ false }
     requires flat { depth (view value.now) ≤ max_depth }

@@ -27,7 +27,7 @@ pub(crate) fn given_text(alloc: Global, text: Option<&str>) -> Result<Option<Tex
     Ok(Some(Text::new(alloc, found)?))
 }
 
-// One label more, of these texts.
+// Adds a label with these texts.
 fn put_text(labels: &mut Labels, alloc: Global, key: &str, value: &str) -> Result<(), Refusal>
     ensures ok { OnOk result (labels.new ≡ said.with_label key.now (Some value.now) labels.old) }
     ensures err { IfErr result (λ e. e ≡ OutOfMemory) }
@@ -58,7 +58,7 @@ fn labels_of(alloc: Global, members: &Map<String, Value>) -> Result<Labels, Refu
     Ok(labels)
 }
 
-/// Labels or annotations, of the members that are there.
+/// The labels or annotations in an object of texts; members that are null are left out.
 pub(crate) fn label_map(
     alloc: Global,
     members: Option<&Map<String, Value>>,
@@ -114,7 +114,7 @@ fn owners_of(alloc: Global, items: &Vec<Value>) -> Result<OwnerRefs, Refusal>
     Ok(owners)
 }
 
-/// The owner references, where there are any.
+/// The owner references, none where the member is absent.
 pub(crate) fn owner_list(alloc: Global, items: Option<&Vec<Value>>) -> Result<OwnerRefs, Refusal>
     ensures ok { IfOk result (λ o. o ≡ said.owners_in
         (option_map (λ v. items_view v.now.items) items.entry)) }

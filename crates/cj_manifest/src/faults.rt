@@ -33,7 +33,7 @@ fn note(faults: &mut FieldFaults, field: Field, cause: Option<Cause>) -> Result<
     Ok(())
 }
 
-// The fault of a field that was read, if it has one.
+// Notes the fault of a field that was read, if it has one.
 fn note_read<T: Drop>(
     faults: &mut FieldFaults,
     field: Field,
@@ -44,7 +44,7 @@ fn note_read<T: Drop>(
     note(faults, field, read.err())
 }
 
-// Both notes were made.
+// `Ok` where both notes were made.
 fn noted(first: Result<(), AllocError>, second: Result<(), AllocError>) -> Result<(), AllocError>
     ensures { OnOk result ((first ≡ Ok tt) × (second ≡ Ok tt)) }
 {
@@ -296,7 +296,7 @@ pub(crate) fn cron_faults(
     Ok(faults)
 }
 
-/// The faults of a Job's manifest, whose spec nobody looks at.
+/// The faults of a Job's manifest, except those of its spec.
 pub(crate) fn head_faults(alloc: Global, value: &Value) -> Result<FieldFaults, AllocError>
     ensures { IfOk result (λ f. f ≡ table.head_faults (view value.now)) }
 {

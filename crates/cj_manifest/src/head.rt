@@ -1,4 +1,5 @@
-// What is read of a Job beside its spec: a cluster's Job has whatever spec its server took.
+// The head of a Job, its key and owners. Its spec isn't read: a cluster's Job has whatever spec its
+// server accepted.
 ghost use Rattle.std.specs.Prelude.{◌≡◌, [], Some, IfOk, IfErr};
 ghost use Rattle.serde_json.specs.View.{view};
 ghost use Rattle.cj_base.specs.declared.refusal.Refusal.TheVariants.{OutOfMemory};
@@ -32,8 +33,8 @@ fn head_in(alloc: Global, metadata: &Value) -> Result<JobHead, Refusal>
     Ok(JobHead { key, owners })
 }
 
-/// The key and the owners of a Job's JSON value, or `Invalid` with every fault of its top and its metadata, in
-/// the order of the table of fields. Its spec isn't looked at.
+/// The key and the owners of a Job's JSON value, or `Invalid` with every fault of its top and its
+/// metadata, in the order of the table of fields. Its spec isn't looked at.
 pub fn head_of(alloc: Global, value: &Value) -> Result<JobHead, Refusal>
     ensures sound { IfOk result (λ _. table.head_faults (view value.now) ≡ []) }
     ensures said { IfOk result (λ h. said.job_head (view value.now) ≡ Some h) }

@@ -1,7 +1,7 @@
 ghost use Rattle.std.specs.Prelude.{◌≡◌};
 ghost use Rattle.cj_manifest.specs.Table as fields;
 
-/// The kind of object that a manifest is read as.
+/// The kind of object as which a manifest is read.
 #[derive(Clone, Copy)]
 pub(crate) enum ObjectKind {
     Cron,
@@ -19,7 +19,8 @@ impl ObjectKind {
         }
     }
 
-    /// The most characters of a name: the names of a CronJob's Jobs are up to 11 characters longer than its own.
+    /// The most characters of a name: the names of a CronJob's Jobs are up to 11 characters longer
+    /// than its own.
     pub fn name_limit(self) -> usize
         ensures { result ≡ fields.name_limit self }
     {

@@ -58,7 +58,7 @@ fn is_cron_spec_name(key: &str) -> bool
 }
 
 impl Level {
-    /// Whether a member of that name is read, or dropped without a warning.
+    /// Whether a member of that name is known: read, or dropped without a warning.
     pub fn knows(self, key: &str) -> bool
         ensures { result ≡ table.is_known self key.now }
     {
@@ -74,7 +74,7 @@ impl Level {
         }
     }
 
-    /// What the path of a member begins with.
+    /// The path of the level, with which the paths of its members begin.
     pub fn prefix(self) -> &'static str
         ensures { result.now ≡ table.prefix self }
     {

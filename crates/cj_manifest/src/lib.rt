@@ -1,8 +1,13 @@
-//! Manifests: JSON bytes to drafts, with every fault by its field and a warning for every member that is dropped.
+//! Manifests: JSON bytes to drafts, with every fault by its field and a warning for every member
+//! that is dropped.
 //!
-//! Here belongs the table of fields: what each may be, in which order faults are told, and what is made of a member.
-//! Which object a draft becomes belongs to the store. The crates above rest on `read_manifest`, `read_cronjob` and
-//! `read_job`, and on `manifest_laws`: what is written reads back.
+//! A draft is what a manifest asks for, in the field's words a desired object. Here belongs the
+//! table of fields: which values each may have, in which order faults are reported, and what a
+//! draft keeps of a member. Which object a draft becomes belongs to the store. The crates above
+//! rest on `read_manifest`, `read_cronjob` and `read_job`, and on `manifest_laws`: a written object
+//! reads back.
+//!
+//! docs/ARCHITECTURE.md has a glossary of house words.
 #![tactic(auto)]
 
 mod draft;
@@ -22,7 +27,6 @@ mod values;
 mod warned;
 mod warning;
 
-pub use cj_json::Written;
 pub use head::{JobHead, head_of};
 pub use laws::manifest_laws;
 pub use manifest::Manifest;

@@ -3,12 +3,12 @@ ghost use Rattle.cj_manifest.specs.Either.{kind_of, key_of};
 
 use cj_types::{CronJobDraft, JobDraft, Key};
 
-/// What a manifest says, by its kind.
+/// The draft of a manifest, by its kind.
 #[derive(Debug, Drop)]
 pub enum Manifest {
-    /// A CronJob is asked for.
+    /// The manifest of a CronJob.
     CronJob(CronJobDraft),
-    /// A Job is asked for.
+    /// The manifest of a Job.
     Job(JobDraft),
 }
 
@@ -23,7 +23,7 @@ impl Manifest {
         }
     }
 
-    /// Namespace and name.
+    /// The namespace and the name in the manifest.
     pub fn key(&self) -> &Key
         ensures { result.now ≡ key_of self.now }
     {

@@ -14,7 +14,7 @@ use cj_json::has_float;
 use cj_types::Cause;
 use serde_json::{Map, Value};
 
-/// The whole manifest.
+/// The row of the whole manifest.
 pub(crate) fn whole(value: &Value) -> Result<&Value, Cause>
     ensures fault { result_err result ≡ result_err (fields.whole (view value.now)) }
     ensures value { option_map (λ v. view v.now) (result_ok result)
@@ -28,7 +28,7 @@ pub(crate) fn whole(value: &Value) -> Result<&Value, Cause>
     }
 }
 
-// `batch/v1`, and for a CronJob also the version before it.
+// The row of `apiVersion`: `batch/v1`, and for a CronJob also the version before it.
 fn supported(kind: ObjectKind, value: &Value) -> Result<&str, Cause>
     ensures fault { result_err result ≡ result_err (fields.supported kind (view value.now)) }
     ensures value { option_map (λ s. s.now) (result_ok result)
@@ -60,7 +60,7 @@ pub(crate) fn kind_field(kind: ObjectKind, value: &Value) -> Result<&str, Cause>
     }
 }
 
-/// The object `metadata`, which must be there.
+/// The row of `metadata`, a required object.
 pub fn metadata(value: &Value) -> Result<&Value, Cause>
     ensures fault { result_err result ≡ result_err (fields.metadata (view value.now)) }
     ensures value { option_map (λ v. view v.now) (result_ok result)
@@ -99,7 +99,7 @@ pub(crate) fn namespace(metadata: &Value) -> Result<&str, Cause>
     }
 }
 
-// An object of texts, where there is one.
+// The row of an optional object of texts.
 fn texts_at<'v>(value: &'v Value, name: &str) -> Result<Option<&'v Map<String, Value>>, Cause>
     ensures fault { result_err result
         ≡ result_err (optional read.texts (member_at name.now (view value.now))) }
@@ -112,7 +112,7 @@ fn texts_at<'v>(value: &'v Value, name: &str) -> Result<Option<&'v Map<String, V
     }
 }
 
-// A text, where there is one.
+// The row of an optional text.
 fn text_at<'v>(value: &'v Value, name: &str) -> Result<Option<&'v str>, Cause>
     ensures fault { result_err result
         ≡ result_err (optional read.text (member_at name.now (view value.now))) }

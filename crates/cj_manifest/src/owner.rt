@@ -1,4 +1,4 @@
-// Owner references as a manifest gives them.
+// Owner references in a manifest.
 ghost use Rattle.std.specs.Prelude.{◌≡◌, option_map};
 ghost use Rattle.std.specs.Result.{result_ok, result_err};
 ghost use Rattle.serde_json.specs.Find.{as_str};
@@ -10,7 +10,7 @@ use crate::values::present;
 use cj_types::Cause;
 use serde_json::Value;
 
-/// An owner reference whose texts stand in the manifest.
+/// An owner reference whose texts are borrowed from the manifest.
 #[derive(Clone, Copy)]
 pub(crate) struct OwnerTexts<'v> {
     pub api_version: &'v str,

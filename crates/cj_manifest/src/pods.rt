@@ -1,6 +1,6 @@
 use cj_base::Field;
 
-/// The fields below a Job's `spec`, which stands at one of two paths.
+/// The fields below a Job's `spec`, which has one of two paths.
 #[derive(Clone, Copy)]
 pub(crate) struct PodFields {
     pub template: Field,
@@ -8,14 +8,14 @@ pub(crate) struct PodFields {
     pub restart_policy: Field,
 }
 
-/// Those below `spec.jobTemplate.spec`.
+/// The fields below `spec.jobTemplate.spec`.
 pub(crate) const TEMPLATE_FIELDS: PodFields = PodFields {
     template: Field::JobTemplatePods,
     spec: Field::JobTemplatePodSpec,
     restart_policy: Field::JobTemplateRestartPolicy,
 };
 
-/// Those below a Job's own `spec`.
+/// The fields below a Job's own `spec`.
 pub(crate) const JOB_FIELDS: PodFields = PodFields {
     template: Field::Pods,
     spec: Field::PodSpec,

@@ -28,7 +28,7 @@ use cj_zone::ZoneTable;
 use serde_json::Value;
 use std::alloc::Global;
 
-// The value that the bytes are.
+// The JSON value of the bytes.
 fn value_of(alloc: Global, bytes: &[u8]) -> Result<Value, Refusal>
     ensures reads { IfOk result (λ v. Reads bytes.now (view v)) }
     ensures flat { IfOk result (λ v. depth (view v) ≤ max_depth) }
@@ -41,7 +41,7 @@ fn value_of(alloc: Global, bytes: &[u8]) -> Result<Value, Refusal>
     }
 }
 
-/// Refuses what has a fault.
+/// `Invalid` with the faults, if there are any.
 pub(crate) fn refuse(faults: FieldFaults) -> Result<(), Refusal>
     ensures sound { OnOk result (faults ≡ []) }
     ensures refused { IfErr result (HasFaults faults) }
@@ -53,9 +53,9 @@ pub(crate) fn refuse(faults: FieldFaults) -> Result<(), Refusal>
     }
 }
 
-/// What a JSON value that is the manifest of a CronJob says under the zones of a table, as `read_cronjob`
-/// reads its bytes: `Invalid` with every fault, in the order of the table of fields; the value nests at most
-/// as deep as JSON is read.
+/// Reads a JSON value as the manifest of a CronJob under the zones of a table, as `read_cronjob`
+/// reads its bytes: `Invalid` with every fault, in the order of the table of fields. The value
+/// nests at most as deep as JSON is read.
 pub fn cron_of(
     alloc: Global,
     value: &Value,
@@ -77,8 +77,8 @@ pub fn cron_of(
     }
 }
 
-/// What a JSON value that is the manifest of a Job says, as `read_job` reads its bytes: `Invalid` with every
-/// fault, in the order of the table of fields; the value nests at most as deep as JSON is read.
+/// Reads a JSON value as the manifest of a Job, as `read_job` reads its bytes: `Invalid` with every
+/// fault, in the order of the table of fields. The value nests at most as deep as JSON is read.
 pub fn job_of(alloc: Global, value: &Value) -> Result<(JobDraft, Vec<Warning>), Refusal>
     requires flat { depth (view value.now) ≤ max_depth }
     ensures said { IfOk result (λ r. Says JobDraft (table.job_faults (view value.now))
@@ -94,7 +94,7 @@ pub fn job_of(alloc: Global, value: &Value) -> Result<(JobDraft, Vec<Warning>), 
     }
 }
 
-// What the value of a manifest of either kind says.
+// Reads a JSON value as a manifest of either kind.
 fn manifest_of(
     alloc: Global,
     value: &Value,
@@ -118,13 +118,14 @@ fn manifest_of(
     }
 }
 
-/// Reads the manifest of a CronJob under the zones of a table: what it says, with the defaults, and a warning
-/// for each member that is dropped; before these one for `apiVersion` where that is `batch/v1beta1`, the
-/// version before `batch/v1`, as which the object is stored and written.
+/// Reads the manifest of a CronJob under the zones of a table: its draft, with defaults filled in,
+/// and a warning for each member that is dropped. The first warning is of `apiVersion` where that
+/// is `batch/v1beta1`, the version before `batch/v1`; the object is stored and written as
+/// `batch/v1`.
 ///
-/// `Syntax` where the bytes aren't UTF-8, or no JSON, or nest more than 127 deep, or have a number that no
-/// float comes near; `Invalid` with every fault, in the order of the table of fields, of which nothing below
-/// a faulty object is looked at. A member that is null counts as absent.
+/// `Syntax` where the bytes aren't UTF-8 or no JSON, nest more than 127 deep, or have a number
+/// beyond the range of floats. `Invalid` with every fault, in the order of the table of fields;
+/// nothing below a faulty object is looked at. A member that is null counts as absent.
 pub fn read_cronjob(
     alloc: Global,
     bytes: &[u8],
@@ -139,7 +140,8 @@ pub fn read_cronjob(
     cron_of(alloc, &value, zones)
 }
 
-/// Reads the manifest of a Job, as `read_cronjob` reads a CronJob's; its `apiVersion` is `batch/v1` alone.
+/// Reads the manifest of a Job, as `read_cronjob` reads a CronJob's; its `apiVersion` must be
+/// `batch/v1`.
 pub fn read_job(alloc: Global, bytes: &[u8]) -> Result<(JobDraft, Vec<Warning>), Refusal>
     ensures read { IfOk result (λ r. IsReading JobDraft table.job_faults said.job_draft
         warned.job_warnings bytes.now r.0 r.1.items) }

@@ -1,4 +1,4 @@
-// One function for each kind of read.
+// Readers of members, one for each kind of value.
 ghost use Rattle.std.specs.Prelude.{◌≡◌, ◌≤◌, IfOk, option_map};
 ghost use Rattle.std.specs.Result.{result_ok, result_err};
 ghost use Rattle.std.specs.Str.{bytes_eq};
@@ -12,14 +12,14 @@ use cj_types::{Cause, Policy, name_cause, namespace_cause};
 use cj_zone::ZoneTable;
 use serde_json::{Map, Value};
 
-/// Whether the texts are the same.
+/// Whether the texts are equal.
 pub(crate) fn same_text(one: &str, other: &str) -> bool
     ensures { result ≡ bytes_eq one.now other.now }
 {
     one == other
 }
 
-/// A member, where null counts as absent.
+/// The value of a member; null counts as absent.
 pub fn present<'v>(value: &'v Value, name: &str) -> Option<&'v Value>
     ensures { option_map (λ v. view v.now) result ≡ member_at name.now (view value.now) }
 {
@@ -30,7 +30,7 @@ pub fn present<'v>(value: &'v Value, name: &str) -> Option<&'v Value>
     }
 }
 
-/// A text.
+/// The value as a text.
 pub fn text(value: &Value) -> Result<&str, Cause>
     ensures fault { result_err result ≡ result_err (read.text (view value.now)) }
     ensures value { option_map (λ s. s.now) (result_ok result)
@@ -51,7 +51,7 @@ pub(crate) fn truth(value: &Value) -> Result<bool, Cause>
     }
 }
 
-/// An object, which is handed on.
+/// The value, which must be an object.
 pub fn object(value: &Value) -> Result<&Value, Cause>
     ensures fault { result_err result ≡ result_err (read.an_object (view value.now)) }
     ensures value { option_map (λ v. view v.now) (result_ok result)
@@ -64,7 +64,7 @@ pub fn object(value: &Value) -> Result<&Value, Cause>
     }
 }
 
-/// A member that must be there and be an object.
+/// The value of a required member, which must be an object.
 pub(crate) fn required_object<'v>(value: &'v Value, name: &str) -> Result<&'v Value, Cause>
     ensures fault { result_err result
         ≡ result_err (read.required read.an_object (member_at name.now (view value.now))) }
@@ -77,7 +77,7 @@ pub(crate) fn required_object<'v>(value: &'v Value, name: &str) -> Result<&'v Va
     }
 }
 
-/// The one text that is supported.
+/// The value, which must be the one supported text.
 pub(crate) fn choice<'v>(value: &'v Value, only: &str) -> Result<&'v str, Cause>
     ensures fault { result_err result ≡ result_err (read.choice only.now (view value.now)) }
     ensures value { option_map (λ s. s.now) (result_ok result)
@@ -91,7 +91,7 @@ pub(crate) fn choice<'v>(value: &'v Value, only: &str) -> Result<&'v str, Cause>
     }
 }
 
-/// One of two texts.
+/// The value, which must be one of two texts.
 pub(crate) fn either<'v>(value: &'v Value, one: &str, other: &str) -> Result<&'v str, Cause>
     ensures fault { result_err result
         ≡ result_err (read.either one.now other.now (view value.now)) }
@@ -126,7 +126,7 @@ pub(crate) fn policy(value: &Value) -> Result<Policy, Cause>
     policy_named(text(value)?)
 }
 
-/// A whole number from 0 to `most`.
+/// The value as a whole number from 0 to `most`.
 pub(crate) fn range(value: &Value, most: u64) -> Result<u64, Cause>
     ensures row { result ≡ read.range most (view value.now) }
     ensures in_range { IfOk result (λ n. n ≤ most) }
@@ -143,7 +143,7 @@ pub(crate) fn range(value: &Value, most: u64) -> Result<u64, Cause>
     }
 }
 
-/// The name of an object, of at most so many characters.
+/// The value as a name of an object of at most `limit` characters.
 pub(crate) fn name(value: &Value, limit: usize) -> Result<&str, Cause>
     ensures fault { result_err result ≡ result_err (read.name limit (view value.now)) }
     ensures value { option_map (λ s. s.now) (result_ok result)
@@ -168,7 +168,7 @@ pub(crate) fn namespace(value: &Value) -> Result<&str, Cause>
     }
 }
 
-/// The text of a schedule.
+/// The value as a schedule's text.
 pub(crate) fn schedule(value: &Value) -> Result<&str, Cause>
     ensures fault { result_err result ≡ result_err (read.schedule (view value.now)) }
     ensures value { option_map (λ s. s.now) (result_ok result)
@@ -181,7 +181,7 @@ pub(crate) fn schedule(value: &Value) -> Result<&str, Cause>
     }
 }
 
-/// The name of a zone of the table.
+/// The value as the name of a zone in the table.
 pub(crate) fn zone<'v>(value: &'v Value, zones: &ZoneTable) -> Result<&'v str, Cause>
     ensures fault { result_err result ≡ result_err
         (read.zone (zones_of zones.now) (view value.now)) }
@@ -207,7 +207,7 @@ fn all_texts(members: &Map<String, Value>) -> bool
     true
 }
 
-/// An object of texts.
+/// The value as an object whose members are texts.
 pub(crate) fn texts(value: &Value) -> Result<&Map<String, Value>, Cause>
     ensures fault { result_err result ≡ result_err (read.texts (view value.now)) }
     ensures value { option_map (λ m. members_view m.now.entries) (result_ok result)

@@ -1,4 +1,4 @@
-// What a manifest is warned of: the older version of the API, and the members that are dropped.
+// The warnings of a manifest: of the older version of the API, and of the members that are dropped.
 ghost use Rattle.std.specs.Prelude.{◌≡◌, ◌++◌, ◌∷◌, [], option_map, IfOk, IfErr, OnOk};
 ghost use Rattle.cj_base.specs.declared.refusal.Refusal.TheVariants.{OutOfMemory};
 ghost use Rattle.serde_json.specs.View.{view, members_view};
@@ -15,7 +15,7 @@ use cj_types::Refusal;
 use serde_json::{Map, Value};
 use std::alloc::Global;
 
-// A warning of the member of that name in the object whose members' paths begin so.
+// Notes the warning of a member, by the path of its object and its name.
 fn push_warning(
     warnings: &mut Vec<Warning>,
     alloc: Global,
@@ -90,7 +90,8 @@ fn is_beta(version: Option<&str>) -> bool
     }
 }
 
-// The older version of the API is read, and what is stored and written is `batch/v1`.
+// Notes the warning of the older version of the API: the object is stored and written as
+// `batch/v1`.
 fn note_version(warnings: &mut Vec<Warning>, alloc: Global, value: &Value) -> Result<(), Refusal>
     ensures ok { OnOk result (warnings.new.items
         ≡ warnings.old.items ++ table.version_warnings (view value.now)) }
@@ -102,8 +103,8 @@ fn note_version(warnings: &mut Vec<Warning>, alloc: Global, value: &Value) -> Re
     Ok(())
 }
 
-/// The warnings of a CronJob's manifest: the older version of the API where it is given in that, then the members that
-/// are dropped. The only error is want of memory.
+/// The warnings of a CronJob's manifest: of the older version of the API, if it is given in that,
+/// then of the members that are dropped. The only error is `OutOfMemory`.
 pub fn cron_warnings(alloc: Global, value: &Value) -> Result<Vec<Warning>, Refusal>
     ensures ok { IfOk result (λ v. v.items ≡ table.cron_warnings (view value.now)) }
     ensures err { IfErr result (λ e. e ≡ OutOfMemory) }

@@ -6,8 +6,8 @@ use std::alloc::Global;
 use std::fmt;
 use std::marker::Model;
 
-/// A member of a manifest that was dropped, or that was read as another than it is, named by its dotted path.
-/// Contracts see the bytes of the path.
+/// A warning about a member of a manifest, by its dotted path: the member was dropped, or it is an
+/// `apiVersion` that is read as `batch/v1`. Contracts see the bytes of the path.
 #[derive(Debug, Drop)]
 pub struct Warning {
     path: Text,
@@ -22,7 +22,7 @@ impl Model for Warning {
 }
 
 impl Warning {
-    // Of the member of that name in the object whose members' paths begin so.
+    // The warning of a member, by the path of its object and its name.
     pub(crate) fn new(alloc: Global, prefix: &str, key: &str) -> Result<Warning, Refusal>
         ensures ok { IfOk result (λ w. w ≡ prefix.now ++ key.now) }
         ensures err { IfErr result (λ e. e ≡ OutOfMemory) }

@@ -47,7 +47,7 @@ const STEPS: [u64; 18] = [
     91 * DAY,
 ];
 
-// No more than so many stretches are between them.
+// The greatest number of intervals between them.
 const MOST: u64 = 8;
 
 impl Axis {
@@ -82,7 +82,7 @@ impl Axis {
         self.end.saturating_sub(self.start).max(MINUTE)
     }
 
-    /// Where a moment stands, in tenths; one before the first or after the last stands at the edge.
+    /// The place of a moment, in tenths; one before the first or after the last is at the edge.
     pub(crate) fn x(self, at: u64) -> u64 {
         let past = at.saturating_sub(self.start).min(self.span());
         let x = past.saturating_mul(WIDE).checked_div(self.span());
@@ -121,7 +121,7 @@ pub(crate) fn moment_text(alloc: Global, at: u64) -> Result<String, Refusal>
     }
 }
 
-// A moment as it stands above the lanes: the date where days count, else hour and minute.
+// A moment as it is written above the lanes: the date where days count, else hour and minute.
 fn label(alloc: Global, step: u64, at: u64) -> Result<String, Refusal>
     ensures err { IfErr result (λ e. e ≡ OutOfMemory) }
 {
@@ -176,7 +176,8 @@ fn push_tick(
     Ok(())
 }
 
-/// A line through the lanes for each of these moments, with the moment above it, and below it in a long picture.
+/// A line through the lanes for each of these moments, with the moment above it, and below it in a
+/// long picture.
 pub(crate) fn push_ticks(
     alloc: Global,
     text: &mut String,

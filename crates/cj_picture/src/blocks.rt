@@ -34,11 +34,10 @@ pub(crate) struct Block {
     pub(crate) look: Look,
     /// Whether something is wrong with the Job.
     pub(crate) ill: bool,
-    /// What is told under the pointer, as XML has it.
+    /// The title under the pointer, as XML has it.
     pub(crate) title: String,
 }
 
-// A function of its own, so that whoever gives one up makes one call and not one for each part.
 impl Drop for Block {
     fn drop(self) {
         let Block {
@@ -54,7 +53,8 @@ impl Drop for Block {
     }
 }
 
-/// What is told of a Job under the pointer: when it was due, when it was made, and how and when it ended.
+/// The title of a Job under the pointer: when it was due, when it was made, and how and when it
+/// ended.
 pub(crate) fn title(
     alloc: Global,
     job: &Job,

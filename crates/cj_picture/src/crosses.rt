@@ -12,11 +12,10 @@ use std::alloc::Global;
 pub(crate) struct Cross {
     pub(crate) lane: usize,
     pub(crate) at: Seconds,
-    /// What is told under the pointer, as XML has it.
+    /// The title under the pointer, as XML has it.
     pub(crate) title: String,
 }
 
-// A function of its own, so that whoever gives one up makes one call and not one for each part.
 impl Drop for Cross {
     fn drop(self) {
         let Cross {

@@ -18,7 +18,6 @@ pub(crate) struct Lane {
     pub(crate) height: u64,
 }
 
-// A function of its own, so that whoever gives one up makes one call and not one for each part.
 impl Drop for Lane {
     fn drop(self) {
         let Lane {
@@ -34,7 +33,7 @@ impl Drop for Lane {
 /// How the lanes are laid out.
 #[derive(Clone, Copy, Debug)]
 pub(crate) struct Layout {
-    /// Whether there are so many that each gets one line, and those with nothing to show none.
+    /// Whether there are enough that each gets one line, and those with nothing to show none.
     pub(crate) dense: bool,
     /// How many aren't shown.
     pub(crate) hidden: u64,
@@ -104,7 +103,8 @@ impl Lane {
         Ok(())
     }
 
-    /// The row in which a bar goes that takes that long, and which has its end then. Bars come in the order of their ends.
+    /// The row in which a bar goes that takes that long, and which has its end then. Bars come in
+    /// the order of their ends.
     pub(crate) fn place(&mut self, from: u64, to: u64) -> Result<usize, Refusal>
         ensures err { IfErr result (λ e. e ≡ OutOfMemory) }
     {

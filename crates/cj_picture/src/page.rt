@@ -1,4 +1,4 @@
-// What stands around a picture.
+// The page around a picture.
 ghost use Rattle.std.specs.Prelude.{◌≡◌, IfErr};
 ghost use Rattle.cj_base.specs.declared.refusal.Refusal.TheVariants.{OutOfMemory};
 
@@ -20,7 +20,6 @@ pub(crate) struct Page {
     pub(crate) crosses: Vec<Cross>,
 }
 
-// A function of its own, so that whoever gives one up makes one call and not one for each part.
 impl Drop for Page {
     fn drop(self) {
         let Page {
@@ -120,7 +119,7 @@ fn push_hidden(alloc: Global, text: &mut String, layout: Layout) -> Result<(), R
 }
 
 impl Page {
-    // What stands behind the bars.
+    // What is behind the bars.
     fn push_ground(
         &self,
         alloc: Global,
@@ -150,7 +149,8 @@ impl Page {
         push_hidden(alloc, text, self.layout)
     }
 
-    /// The page as SVG, with what it is called, the meaning of its colours, and words below, line by line.
+    /// The page as SVG, with what it is called, the meaning of its colours, and words below, line
+    /// by line.
     pub(crate) fn text(
         &self,
         alloc: Global,

@@ -1,4 +1,5 @@
-/// How the parts look, on light and on dark pages. Colours stand in classes, with a rule for dark pages.
+/// How the parts look, on light and on dark pages. Colours are in classes, with a rule for dark
+/// pages.
 pub(crate) const STYLE: &str =
     "<style>text{font:12px ui-monospace,SFMono-Regular,Menlo,Consolas,monospace}.h{font-weight:600}.skip{stroke-width:2;fill:none}.open{opacity:.75}.ill{stroke-width:2}text{fill:#1b1f24}.dim{fill:#656d76}.grid{stroke:#d8dee4}.lane{fill:#f6f8fa}.bg{fill:#fff}.done{fill:#2da44e}.fail{fill:#cf222e}.run{fill:#0969da}.drop{fill:#8250df}.heat{fill:#0969da}.due{stroke:#656d76}.skip{stroke:#bf8700}.ill{stroke:#bf8700}@media (prefers-color-scheme:dark){text{fill:#e6edf3}.dim{fill:#8b949e}.grid{stroke:#30363d}.lane{fill:#161b22}.bg{fill:#0d1117}.done{fill:#3fb950}.fail{fill:#f85149}.run{fill:#58a6ff}.drop{fill:#bc8cff}.heat{fill:#58a6ff}.due{stroke:#8b949e}.skip{stroke:#d29922}.ill{stroke:#d29922}}</style>\n";
 

@@ -14,7 +14,7 @@ pub(crate) fn tenths(alloc: Global, length: u64) -> Result<String, Refusal>
     Ok(format!(in alloc; "{whole}.{rest}")?)
 }
 
-/// What a character of a text or an attribute is written as, where it can't stand for itself.
+/// What a character of a text or an attribute is written as, where it can't be written itself.
 fn entity(c: char) -> Option<&'static str> {
     match c {
         '&' => Some("&amp;"),

@@ -72,7 +72,8 @@ one_kind a b e =
     λ i. record { uid = u i; why = w i }
 
 -- For put: with a tally put in at a kind, it stands there.
-pub stands : (k : Kind) (t : Tally) (a b : Families) → tree.Updates kind_cmp a.tallies b.tallies k (Some t) → Stands k t a b
+pub stands : (k : Kind) (t : Tally) (a b : Families) → tree.Updates kind_cmp a.tallies b.tallies k (Some t)
+    → Stands k t a b
 stands k t a b up = λ q. up.0 q ∙ ap (λ (x : Bool). cond x (Some t) (tally_at a q)) (eq_kind k q)
 
 -- ---- tallies
@@ -112,7 +113,8 @@ count_short f k gs counted =
     let short = family_short k gs in omega (arith, is, short)
 
 -- Of one gap, the family is that gap or nothing.
-family_one : (k : Kind) (g : Gap) (b : Bool) → is_kind (kind_of g) k ≡ b → family k (g ∷ []) ≡ (if b then g ∷ [] else [])
+family_one : (k : Kind) (g : Gap) (b : Bool) → is_kind (kind_of g) k ≡ b
+    → family k (g ∷ []) ≡ (if b then g ∷ [] else [])
 family_one k g b e = ap (λ (x : Bool). if x then g ∷ [] else []) e
 
 -- For note: with the tally of its kind put in, a gap more is counted.

@@ -3,6 +3,7 @@ use Rattle.std.proofs.Common.{◌≡◌, ◌⊎◌, inl, inr, ℕ, List, subst, 
 use Rattle.std.specs.Prelude.{Option, Result, Ok, Err, IfOk}
 use Rattle.std.specs.Result.{IsOkAnd}
 use Rattle.std.specs.Io.KnownBytes.{Appends}
+use Rattle.cj_io.specs.declared.exit_status.ExitStatus.{ExitStatus}
 use Rattle.cj_io.specs.declared.failure.Failure.{Failure}
 use Rattle.cj_answers.specs.declared.answer.Answer.{Answer}
 use Rattle.cj_args.specs.declared.request.Request.{Request}
@@ -11,10 +12,12 @@ use Rattle.cj_program.specs.Answers.{IsOutcome}
 use Rattle.cj_answers.specs.Outcome.{Outcome, outcome_of, status_of}
 use Rattle.cj_program.specs.Writing.{FailsAnswer, IsCut, IsFailed, IsGiven, IsUnanswered}
 
--- files are the zone files that were read for the request, input is its input; out and err are the outputs before it, out' and err' after it.
+-- files are the zone files that were read for the request, input is its input; out and err are the outputs before it,
+-- out' and err' after it.
 module _ (request : Request) (files : List ZoneFile) (input out out' err err' : Option (List ℕ)) where
   -- An answer for the request that was given is an outcome of it, with its status and its texts.
-  pub served : (r : Result Answer Failure) (status : ℕ) → IfOk r (λ a. IsOutcome request files input (outcome_of a))
+  pub served : (r : Result Answer Failure) (status : ExitStatus)
+      → IfOk r (λ a. IsOutcome request files input (outcome_of a))
       → IsOkAnd r (λ a. IsGiven status (outcome_of a) out out' err err')
       → (o : Outcome) × IsOutcome request files input o × (status ≡ status_of o.ending) × Appends out out' o.printed
       × Appends err err' o.said
@@ -31,7 +34,7 @@ module _ (request : Request) (files : List ZoneFile) (input out out' err err' : 
   cut (Err e) is (inr c) = absurd c
 
   -- For serve, clause served: an answer given for what the request is found to be is its outcome.
-  pub served_at : (request' : Request) → request ≡ request' → (r : Result Answer Failure) (status : ℕ)
+  pub served_at : (request' : Request) → request ≡ request' → (r : Result Answer Failure) (status : ExitStatus)
       → IfOk r (λ a. IsOutcome request' files input (outcome_of a))
       → IsOkAnd r (λ a. IsGiven status (outcome_of a) out out' err err')
       → (o : Outcome) × IsOutcome request files input o × (status ≡ status_of o.ending) × Appends out out' o.printed
@@ -40,7 +43,7 @@ module _ (request : Request) (files : List ZoneFile) (input out out' err err' : 
       (subst (λ (q : Request). IfOk r (λ a. IsOutcome q files input (outcome_of a))) (sym e) is) g
 
   -- a script that was run
-  pub replayed_at : (request' : Request) → request ≡ request' → (status : ℕ)
+  pub replayed_at : (request' : Request) → request ≡ request' → (status : ExitStatus)
       → (o : Outcome) × IsOutcome request' files input o × (status ≡ status_of o.ending) × Appends out out' o.printed
       × Appends err err' o.said
       → (o : Outcome) × IsOutcome request files input o × (status ≡ status_of o.ending) × Appends out out' o.printed

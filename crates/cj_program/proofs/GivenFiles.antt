@@ -2,20 +2,22 @@
 use Rattle.std.proofs.Common.{◌≡◌, ℕ, List, subst}
 use Rattle.std.specs.Prelude.{Option, Result, Ok, Err, IfOk}
 use Rattle.std.specs.Result.{IsOkAnd}
+use Rattle.cj_io.specs.declared.exit_status.ExitStatus.{ExitStatus}
 use Rattle.cj_io.specs.declared.failure.Failure.{Failure}
 use Rattle.cj_answers.specs.declared.answer.Answer.{Answer}
 use Rattle.cj_answers.specs.Outcome.{Outcome, outcome_of}
 use Rattle.cj_program.specs.Writing.{IsGiven}
 
 -- For serve_several, clause given: an answer that is this outcome and was given.
-pub given_as : (r : Result Answer Failure) (o : Outcome) (status : ℕ) (out out' err err' : Option (List ℕ))
+pub given_as : (r : Result Answer Failure) (o : Outcome) (status : ExitStatus) (out out' err err' : Option (List ℕ))
     → IfOk r (λ a. outcome_of a ≡ o) → IsOkAnd r (λ a. IsGiven status (outcome_of a) out out' err err')
     → IsGiven status o out out' err err'
 given_as (Ok a) o status out out' err err' is g = subst (λ (x : Outcome). IsGiven status x out out' err err') is g
 given_as (Err e) o status out out' err err' is g = absurd g
 
 -- For serve_upcoming, clause given: an answer of which this holds, and that was given.
-pub given_one : (r : Result Answer Failure) (Is : Outcome → Type 0) (status : ℕ) (out out' err err' : Option (List ℕ))
+pub given_one : (r : Result Answer Failure) (Is : Outcome → Type 0) (status : ExitStatus)
+    (out out' err err' : Option (List ℕ))
     → IfOk r (λ a. Is (outcome_of a)) → IsOkAnd r (λ a. IsGiven status (outcome_of a) out out' err err')
     → (o : Outcome) × Is o × IsGiven status o out out' err err'
 given_one (Ok a) Is status out out' err err' is g = (outcome_of a, is, g)

@@ -6,7 +6,8 @@ use Rattle.cj_run.specs.Turns.{progress_after, progress_of, turn}
 use Rattle.cj_run.specs.declared.turns.Progress.{Progress}
 use Rattle.cj_program.specs.remarks.Refused.{line_if, moment, refused_lines}
 
-module _ (s : SpanView) (e : Told) (h past : List Told) (is : e ∷ h ≡ past) (p p' : Progress) (went : p ≡ progress_of s h) where
+module _ (s : SpanView) (e : Told) (h past : List Told) (is : e ∷ h ≡ past) (p p' : Progress)
+    (went : p ≡ progress_of s h) where
   -- For refused_text: how far a run is with an entry more.
   pub went_more : p' ≡ progress_after s p e.caller.role e.call → p' ≡ progress_of s past
   went_more more =

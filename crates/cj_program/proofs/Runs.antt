@@ -3,8 +3,11 @@ use Rattle.std.proofs.Common.{◌≡◌, ◌≢◌, ◌⊎◌, inl, inr, ℕ, Li
 use Rattle.std.specs.Prelude.{Option, Result, Ok, Err, IfOk, codes}
 use Rattle.std.specs.Result.{IsOkAnd}
 use Rattle.std.specs.Io.KnownBytes.{Appends}
+use Rattle.cj_io.specs.declared.exit_status.ExitStatus.{ExitStatus}
+use Rattle.cj_io.specs.declared.exit_status.ExitStatus.TheVariants.{Success}
 use Rattle.cj_io.specs.declared.failure.Failure.{Failure}
-use Rattle.cj_io.specs.Writing.{AppendsSome, failure_line}
+use Rattle.cj_io.specs.Statuses.{failure_line}
+use Rattle.cj_io.specs.Writing.{AppendsSome}
 use Rattle.cj_scenario.specs.declared.fault.SceneFault.{SceneFault}
 use Rattle.cj_scenario.specs.declared.fault.SceneFault.TheVariants as Why
 use Rattle.cj_scenario.specs.declared.detection.form.Form.TheVariants as A
@@ -17,7 +20,7 @@ use Rattle.cj_io.specs.declared.zone_files.file.ZoneFile.{ZoneFile}
 use Rattle.cj_io.specs.declared.zone_files.given.GivenZones.{GivenZones}
 use Rattle.cj_answers.specs.Given.{IsNoneGiven, IsReadUnder, pair_words}
 use Rattle.cj_answers.specs.Outcome.{Outcome, done, explained, outcome_of, refusal, status_of}
-use Rattle.cj_answers.specs.Plan.{IsSceneRefusal}
+use Rattle.cj_check.specs.Plan.{IsSceneRefusal}
 use Rattle.cj_program.specs.Replay.{EndsBadly, EndsWell, IsRead, IsReplayOutcome}
 use Rattle.cj_program.specs.Writing.{FailsReplay, IsCut, IsGiven, IsUnanswered}
 
@@ -52,10 +55,12 @@ module _ (s : Script) (out out' err err' : Option (List ℕ)) where
 -- ---- of the bytes
 
 -- bytes are all of the input of the request r, and given are the zones of its words with the files.
-module _ (r : ReplayRequest) (files : List ZoneFile) (given : GivenZones) (zones : IsReadUnder r.zones files given) (bytes : List ℕ)
+module _ (r : ReplayRequest) (files : List ZoneFile) (given : GivenZones) (zones : IsReadUnder r.zones files given)
+    (bytes : List ℕ)
     (input : Option (List ℕ)) (read : IsRead input bytes) (out out' err err' : Option (List ℕ)) where
   -- For serve_bytes: the run of their script that ended well is an outcome of replay.
-  pub run_served : (s : Script) → IsScript given bytes s → (status : ℕ) → (status ≡ 0) × EndsWell s out out' err err'
+  pub run_served : (s : Script) → IsScript given bytes s → (status : ExitStatus)
+      → (status ≡ Success) × EndsWell s out out' err err'
       → (o : Outcome) × IsReplayOutcome r files input o × (status ≡ status_of o.ending) × Appends out out' o.printed
       × Appends err err' o.said
   run_served s is status (e, w) = (
@@ -100,7 +105,7 @@ module _ (r : ReplayRequest) (files : List ZoneFile) (given : GivenZones) (zones
     }))
 
     -- For serve_bytes: a refusal of the bytes that was given is an outcome of replay.
-    pub refusal_served : (status : ℕ) (made : Result Answer Failure) → IfOk made (λ _. fault ≢ Why.Memory)
+    pub refusal_served : (status : ExitStatus) (made : Result Answer Failure) → IfOk made (λ _. fault ≢ Why.Memory)
         → IfOk made (λ a. IsSceneRefusal r.explain A.Script bytes fault (outcome_of a))
         → IsOkAnd made (λ a. IsGiven status (outcome_of a) out out' err err')
         → (o : Outcome) × IsReplayOutcome r files input o × (status ≡ status_of o.ending) × Appends out out' o.printed
@@ -128,14 +133,15 @@ module _ (r : ReplayRequest) (files : List ZoneFile) (given : GivenZones) (zones
 -- ---- of the words
 
 -- A rule of the words of the request r is refused, so nothing is read.
-module _ (r : ReplayRequest) (files : List ZoneFile) (input out out' err err' : Option (List ℕ)) (none : IsNoneGiven r.zones []) where
+module _ (r : ReplayRequest) (files : List ZoneFile) (input out out' err err' : Option (List ℕ))
+    (none : IsNoneGiven r.zones []) where
   -- What is answered then is an outcome of replay.
   refused_rule : (o : Outcome) → o ≡ explained r.explain pair_words (refusal (codes "cronsim: zone\n"))
       → IsReplayOutcome r files input o
   refused_rule o is = inl (record { zones = none; answer = is })
 
   -- For serve_replay: that answer, where it was given, is an outcome of replay.
-  pub rule_served : (status : ℕ) (made : Result Answer Failure)
+  pub rule_served : (status : ExitStatus) (made : Result Answer Failure)
       → IfOk made (λ a. outcome_of a ≡ explained r.explain pair_words (refusal (codes "cronsim: zone\n")))
       → IsOkAnd made (λ a. IsGiven status (outcome_of a) out out' err err')
       → (o : Outcome) × IsReplayOutcome r files input o × (status ≡ status_of o.ending) × Appends out out' o.printed

@@ -1,19 +1,20 @@
 -- What each request is answered.
 use Rattle.std.specs.Prelude.{ℕ, List, Option}
-use Rattle.cj_answers.specs.Audit.{IsAuditOutcome}
-use Rattle.cj_answers.specs.CheckOutcome.{IsCheckOutcome}
+use Rattle.cj_inspect.specs.Audit.{IsAuditOutcome}
+use Rattle.cj_check.specs.CheckOutcome.{IsCheckOutcome}
 use Rattle.cj_answers.specs.Describe.{IsDescribeOutcome}
 use Rattle.cj_answers.specs.Outcome.{IsNextOutcome, Outcome}
-use Rattle.cj_answers.specs.Plan.{IsPlanOutcome}
-use Rattle.cj_answers.specs.Upcoming.{IsUpcomingOutcome}
-use Rattle.cj_answers.specs.Why.{IsWhyOutcome}
+use Rattle.cj_check.specs.Plan.{IsPlanOutcome}
+use Rattle.cj_inspect.specs.Upcoming.{IsUpcomingOutcome}
+use Rattle.cj_inspect.specs.Why.{IsWhyOutcome}
 use Rattle.cj_io.specs.declared.zone_files.file.ZoneFile.{ZoneFile}
 use Rattle.cj_program.specs.Replay.{IsReplayOutcome}
 use Rattle.cj_program.specs.Run.{IsRunOutcome}
 use Rattle.cj_args.specs.declared.request.Request.{Request}
 use Rattle.cj_args.specs.declared.request.Request.TheVariants.{Audit, Check, Describe, Next, Plan, Replay, Run, Upcoming, Why}
 
--- the outcome of a request, with the zone files that were read for it, on an input, where what it holds is known
+-- the outcome of a request, with the zone files that were read for it, on an input, where what it
+-- holds is known
 -- rule: statuses
 abbrev pub IsOutcome : Request → List ZoneFile → Option (List ℕ) → Outcome → Type 0
 IsOutcome (Next r) files input o = IsNextOutcome r files o

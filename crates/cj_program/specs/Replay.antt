@@ -2,7 +2,8 @@
 use Rattle.std.specs.Prelude.{◌≡◌, ◌≢◌, ◌⊎◌, ℕ, ◌≤◌, List, [], length, Option, IfSome, codes, false, true}
 use Rattle.std.specs.Io.KnownBytes.{Appends}
 use Rattle.cj_io.specs.declared.failure.Failure.{Failure}
-use Rattle.cj_io.specs.Writing.{AppendsSome, failure_line}
+use Rattle.cj_io.specs.Statuses.{failure_line}
+use Rattle.cj_io.specs.Writing.{AppendsSome}
 use Rattle.cj_scenario.specs.declared.fault.SceneFault.{SceneFault}
 use Rattle.cj_scenario.specs.declared.fault.SceneFault.TheVariants as Why
 use Rattle.cj_scenario.specs.declared.detection.form.Form.TheVariants as A
@@ -14,7 +15,7 @@ use Rattle.cj_io.specs.declared.zone_files.file.ZoneFile.{ZoneFile}
 use Rattle.cj_io.specs.declared.zone_files.given.GivenZones.{GivenZones}
 use Rattle.cj_answers.specs.Given.{IsReadUnder, RefusesRule}
 use Rattle.cj_answers.specs.Outcome.{Outcome, done}
-use Rattle.cj_answers.specs.Plan.{IsSceneRefusal}
+use Rattle.cj_check.specs.Plan.{IsSceneRefusal}
 
 -- what was read, all of the input
 pub record IsRead (input : Option (List ℕ)) (bytes : List ℕ) : Type 0 where
@@ -22,7 +23,8 @@ pub record IsRead (input : Option (List ℕ)) (bytes : List ℕ) : Type 0 where
   pub fits : length bytes ≤ 16_777_216
 
 -- the script that is read under the zones of the words and the files
-pub record ReadsScript (r : ReplayRequest) (files : List ZoneFile) (input : Option (List ℕ)) (script : Script) : Type 0 where
+pub record ReadsScript (r : ReplayRequest) (files : List ZoneFile) (input : Option (List ℕ))
+    (script : Script) : Type 0 where
   pub given : GivenZones
   pub zones : IsReadUnder r.zones files given
   pub bytes : List ℕ
@@ -30,7 +32,8 @@ pub record ReadsScript (r : ReplayRequest) (files : List ZoneFile) (input : Opti
   pub said : IsScript given bytes script
 
 -- what is read under these zones is no script, for another cause than memory
-pub record RefusesScript (r : ReplayRequest) (files : List ZoneFile) (input : Option (List ℕ)) (o : Outcome) : Type 0 where
+pub record RefusesScript (r : ReplayRequest) (files : List ZoneFile) (input : Option (List ℕ))
+    (o : Outcome) : Type 0 where
   pub given : GivenZones
   pub zones : IsReadUnder r.zones files given
   pub bytes : List ℕ
@@ -41,19 +44,22 @@ pub record RefusesScript (r : ReplayRequest) (files : List ZoneFile) (input : Op
   pub says : IsSceneRefusal r.explain A.Script bytes fault o
 
 -- the lines of its steps and the report, where no step found the history full
-pub record PrintsRun (r : ReplayRequest) (files : List ZoneFile) (input : Option (List ℕ)) (o : Outcome) : Type 0 where
+pub record PrintsRun (r : ReplayRequest) (files : List ZoneFile) (input : Option (List ℕ))
+    (o : Outcome) : Type 0 where
   pub script : Script
   pub reads : ReadsScript r files input script
   pub text : List ℕ
   pub run : IsReplayed script text false
   pub answer : o ≡ done text
 
--- what `replay` answers, where the input is known: a rule of the words is refused first, and nothing is read then
+-- what `replay` answers, where the input is known: a rule of the words is refused first, and
+-- nothing is read then
 -- rules: replay, replay-lines
 abbrev pub IsReplayOutcome : ReplayRequest → List ZoneFile → Option (List ℕ) → Outcome → Type 0
-IsReplayOutcome r files input o = RefusesRule r.zones r.explain o ⊎ RefusesScript r files input o ⊎ PrintsRun r files input o
+IsReplayOutcome r files input o = RefusesRule r.zones r.explain o ⊎ RefusesScript r files input o
+    ⊎ PrintsRun r files input o
 
--- ---- a run that ends with status 3
+-- ---- a run that fails
 
 -- a step found the history full: all was printed all the same, and a line on standard error says so
 -- rule: replay-full
@@ -72,11 +78,14 @@ pub record IsRunCut (script : Script) (out out' err err' : Option (List ℕ)) : 
   pub failure : Failure
   pub told : AppendsSome err err' (failure_line failure)
 
-abbrev pub EndsBadly : Script → Option (List ℕ) → Option (List ℕ) → Option (List ℕ) → Option (List ℕ) → Type 0
-EndsBadly script out out' err err' = FillsHistory script out out' err err' ⊎ IsRunCut script out out' err err'
+abbrev pub EndsBadly : Script → Option (List ℕ) → Option (List ℕ) → Option (List ℕ)
+    → Option (List ℕ) → Type 0
+EndsBadly script out out' err err' = FillsHistory script out out' err err'
+    ⊎ IsRunCut script out out' err err'
 
 -- the script of the input was run, which ended so
-pub record IsFailedRun (r : ReplayRequest) (files : List ZoneFile) (input out out' err err' : Option (List ℕ)) : Type 0 where
+pub record IsFailedRun (r : ReplayRequest) (files : List ZoneFile)
+    (input out out' err err' : Option (List ℕ)) : Type 0 where
   pub script : Script
   pub reads : ReadsScript r files input script
   pub ends : EndsBadly script out out' err err'

@@ -14,19 +14,21 @@ use Rattle.cj_io.specs.declared.zone_files.file.ZoneFile.{ZoneFile}
 use Rattle.cj_io.specs.declared.zone_files.given.GivenZones.{GivenZones}
 use Rattle.cj_answers.specs.Given.{IsReadUnder, RefusesRule}
 use Rattle.cj_answers.specs.Outcome.{IsInForm, Outcome, RefusesForm, done, explained}
-use Rattle.cj_answers.specs.Plan.{IsAskedDetection, IsSceneRefusal}
+use Rattle.cj_check.specs.Plan.{IsAskedDetection, IsSceneRefusal}
 
 -- the bytes are no scenario of a run, for another cause than memory
-pub record RefusesSimulation (explain : Bool) (given : GivenZones) (bytes : List ℕ) (o : Outcome) : Type 0 where
+pub record RefusesSimulation (explain : Bool) (given : GivenZones) (bytes : List ℕ) (o : Outcome)
+    : Type 0 where
   pub fault : SceneFault
   pub refused : IsRefusedSimulation given bytes fault
   pub told : fault ≢ Why.Memory
   pub says : IsSceneRefusal explain A.Simulation bytes fault o
 
--- the report of a run of the scenario that they are, with so many workers, or what else of its history is asked for; behind
--- it, where people ask for it, what nobody read of the scenario, and what its history says of edits, starts, gaps and
--- suspended CronJobs
-pub record PrintsReport (r : RunRequest) (given : GivenZones) (bytes : List ℕ) (o : Outcome) : Type 0 where
+-- the report of a run of the scenario that they say, with that many workers, or what else of its
+-- history is asked for; behind it, where people ask for it, what nobody read of the scenario, and
+-- what its history says of edits, starts, gaps and suspended CronJobs
+pub record PrintsReport (r : RunRequest) (given : GivenZones) (bytes : List ℕ) (o : Outcome)
+    : Type 0 where
   pub simulation : Simulation
   pub said : IsSimulation given bytes simulation
   pub log : WorldLog
@@ -45,7 +47,8 @@ abbrev pub IsRanOf : RunRequest → GivenZones → List ℕ → Outcome → Type
 IsRanOf r given bytes o = RefusesSimulation r.explain given bytes o ⊎ PrintsReport r given bytes o
 
 -- what is read, all of the input, is run under the zones of the words and the files
-pub record RunsInput (r : RunRequest) (files : List ZoneFile) (input : Option (List ℕ)) (o : Outcome) : Type 0 where
+pub record RunsInput (r : RunRequest) (files : List ZoneFile) (input : Option (List ℕ))
+    (o : Outcome) : Type 0 where
   pub given : GivenZones
   pub zones : IsReadUnder r.zones files given
   pub bytes : List ℕ
@@ -53,8 +56,8 @@ pub record RunsInput (r : RunRequest) (files : List ZoneFile) (input : Option (L
   pub fits : length bytes ≤ 16_777_216
   pub ran : IsRanOf r given bytes o
 
--- what `run` answers in a form that there is, where the input is known: a rule of the words is refused first, and nothing is
--- read then
+-- what `run` answers in a form that there is, where the input is known: a rule of the words is
+-- refused first, and nothing is read then
 -- rule: run
 abbrev pub IsRunAnswer : RunRequest → List ZoneFile → Option (List ℕ) → Outcome → Type 0
 IsRunAnswer r files input o = RefusesRule r.zones r.explain o ⊎ RunsInput r files input o

@@ -1,8 +1,10 @@
 -- What standard output and standard error hold where a writer fails.
 use Rattle.std.specs.Prelude.{◌≡◌, ◌⊎◌, ℕ, List, Option}
 use Rattle.std.specs.Io.KnownBytes.{Appends, Keeps}
+use Rattle.cj_io.specs.declared.exit_status.ExitStatus.{ExitStatus}
 use Rattle.cj_io.specs.declared.failure.Failure.{Failure}
-use Rattle.cj_io.specs.Writing.{AppendsSome, failure_line}
+use Rattle.cj_io.specs.Statuses.{failure_line}
+use Rattle.cj_io.specs.Writing.{AppendsSome}
 use Rattle.cj_args.specs.declared.request.ReplayRequest.{ReplayRequest}
 use Rattle.cj_args.specs.declared.request.Request.{Request}
 use Rattle.cj_args.specs.declared.request.Request.TheVariants.{Audit, Check, Describe, Next, Plan, Replay, Run, Upcoming, Why}
@@ -11,7 +13,7 @@ use Rattle.cj_program.specs.Answers.{IsOutcome}
 use Rattle.cj_answers.specs.Outcome.{Outcome, status_of}
 use Rattle.cj_program.specs.Replay.{IsFailedRun, IsReplayOutcome}
 
--- standard output was cut off, and a line on standard error tells of which failure
+-- standard output was cut off, and a line on standard error names the failure
 pub record IsOutputCut (printed : List ℕ) (out out' err err' : Option (List ℕ)) : Type 0 where
   pub failure : Failure
   pub begun : AppendsSome out out' printed
@@ -23,52 +25,66 @@ pub record IsErrorCut (printed said : List ℕ) (out out' err err' : Option (Lis
   pub begun : AppendsSome err err' said
 
 -- what two texts left where one couldn't be written
-abbrev pub IsCut : List ℕ → List ℕ → Option (List ℕ) → Option (List ℕ) → Option (List ℕ) → Option (List ℕ) → Type 0
-IsCut printed said out out' err err' = IsOutputCut printed out out' err err' ⊎ IsErrorCut printed said out out' err err'
+abbrev pub IsCut : List ℕ → List ℕ → Option (List ℕ) → Option (List ℕ) → Option (List ℕ)
+    → Option (List ℕ) → Type 0
+IsCut printed said out out' err err' = IsOutputCut printed out out' err err'
+    ⊎ IsErrorCut printed said out out' err err'
 
 -- an outcome was given, and its status is this one
-pub record IsGiven (status : ℕ) (o : Outcome) (out out' err err' : Option (List ℕ)) : Type 0 where
+pub record IsGiven (status : ExitStatus) (o : Outcome) (out out' err err' : Option (List ℕ))
+    : Type 0 where
   pub status_is : status ≡ status_of o.ending
   pub printed : Appends out out' o.printed
   pub said : Appends err err' o.said
 
--- there is no answer: nothing was printed, and a line on standard error tells of which failure
+-- there is no answer: nothing was printed, and a line on standard error names the failure
 pub record IsUnanswered (out out' err err' : Option (List ℕ)) : Type 0 where
   pub failure : Failure
   pub nothing : Keeps out out'
   pub told : AppendsSome err err' (failure_line failure)
 
 -- the answer of the request was cut off
-pub record IsAnswerCut (request : Request) (files : List ZoneFile) (input out out' err err' : Option (List ℕ)) : Type 0 where
+pub record IsAnswerCut (request : Request) (files : List ZoneFile)
+    (input out out' err err' : Option (List ℕ)) : Type 0 where
   pub outcome : Outcome
   pub answer : IsOutcome request files input outcome
   pub cut : IsCut outcome.printed outcome.said out out' err err'
 
 -- the answer of `replay` was cut off
-pub record IsRefusalCut (r : ReplayRequest) (files : List ZoneFile) (input out out' err err' : Option (List ℕ)) : Type 0 where
+pub record IsRefusalCut (r : ReplayRequest) (files : List ZoneFile)
+    (input out out' err err' : Option (List ℕ)) : Type 0 where
   pub outcome : Outcome
   pub answer : IsReplayOutcome r files input outcome
   pub cut : IsCut outcome.printed outcome.said out out' err err'
 
--- `replay` ended with status 3
+-- `replay` failed
 -- rule: statuses
-abbrev pub FailsReplay : ReplayRequest → List ZoneFile → Option (List ℕ) → Option (List ℕ) → Option (List ℕ) → Option (List ℕ) → Option (List ℕ) → Type 0
+abbrev pub FailsReplay : ReplayRequest → List ZoneFile → Option (List ℕ) → Option (List ℕ)
+    → Option (List ℕ) → Option (List ℕ) → Option (List ℕ) → Type 0
 FailsReplay r files input out out' err err' =
-    IsUnanswered out out' err err' ⊎ IsRefusalCut r files input out out' err err' ⊎ IsFailedRun r files input out out' err err'
+    IsUnanswered out out' err err' ⊎ IsRefusalCut r files input out out' err err'
+    ⊎ IsFailedRun r files input out out' err err'
 
 -- another command did
-abbrev pub FailsAnswer : Request → List ZoneFile → Option (List ℕ) → Option (List ℕ) → Option (List ℕ) → Option (List ℕ) → Option (List ℕ) → Type 0
-FailsAnswer request files input out out' err err' = IsUnanswered out out' err err' ⊎ IsAnswerCut request files input out out' err err'
+abbrev pub FailsAnswer : Request → List ZoneFile → Option (List ℕ) → Option (List ℕ)
+    → Option (List ℕ) → Option (List ℕ) → Option (List ℕ) → Type 0
+FailsAnswer request files input out out' err err' = IsUnanswered out out' err err'
+    ⊎ IsAnswerCut request files input out out' err err'
 
--- a request that ended with status 3
+-- a request that failed
 -- rule: statuses
-abbrev pub IsFailed : Request → List ZoneFile → Option (List ℕ) → Option (List ℕ) → Option (List ℕ) → Option (List ℕ) → Option (List ℕ) → Type 0
+abbrev pub IsFailed : Request → List ZoneFile → Option (List ℕ) → Option (List ℕ) → Option (List ℕ)
+    → Option (List ℕ) → Option (List ℕ) → Type 0
 IsFailed (Replay r) files input out out' err err' = FailsReplay r files input out out' err err'
 IsFailed (Next r) files input out out' err err' = FailsAnswer (Next r) files input out out' err err'
-IsFailed (Check r) files input out out' err err' = FailsAnswer (Check r) files input out out' err err'
+IsFailed (Check r) files input out out' err err'
+    = FailsAnswer (Check r) files input out out' err err'
 IsFailed (Plan r) files input out out' err err' = FailsAnswer (Plan r) files input out out' err err'
 IsFailed (Run r) files input out out' err err' = FailsAnswer (Run r) files input out out' err err'
 IsFailed (Why r) files input out out' err err' = FailsAnswer (Why r) files input out out' err err'
-IsFailed (Audit r) files input out out' err err' = FailsAnswer (Audit r) files input out out' err err'
-IsFailed (Upcoming r) files input out out' err err' = FailsAnswer (Upcoming r) files input out out' err err'
-IsFailed (Describe r) files input out out' err err' = FailsAnswer (Describe r) files input out out' err err'
+IsFailed (Audit r) files input out out' err err'
+    = FailsAnswer (Audit r) files input out out' err err'
+IsFailed (Upcoming r) files input out out' err err'
+    = FailsAnswer (Upcoming r) files input out out' err err'
+IsFailed (Describe r) files input out out' err err'
+    = FailsAnswer (Describe r) files input out out' err err'

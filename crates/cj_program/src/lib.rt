@@ -1,9 +1,9 @@
-//! The program: what the words of a command line ask for, and what is answered, written and told.
+//! The program: what the words of a command line ask for, what the answer is, and what is written.
 //!
-//! Here belongs which answer goes to which request, what is written of it and what is told where that fails.
-//! What the answer says belongs to the crates below; files, folders and the process belong to the program itself.
-//! That rests on `parse_words`, `read_input` and `serve`, whose `served`, `failed` and `most` say what was written
-//! at each status.
+//! Here belongs which answer goes to which request, what is written of it, and what is said where
+//! that fails. What the answer says belongs to the crates below; files, folders and the process
+//! belong to the program itself. That rests on `parse_words`, `read_input` and `serve`, whose
+//! clauses `served` and `failed` say what was written at each exit status.
 #![tactic(auto)]
 
 mod as_json;
@@ -16,16 +16,13 @@ mod shown;
 mod told;
 mod writing;
 
-pub use cj_answers::{
-    CronFile, FileAnswer, MOST_LIST_BYTES, MOST_LIST_READS, by_clock, check_file_answer, next_text,
-};
-pub use cj_args::{
-    AuditRequest, CheckRequest, DescribeRequest, NextRequest, PlanRequest, ReplayRequest, Request,
-    RunRequest, UpcomingRequest, WhyRequest, WordFault, ZoneWords, parse_words,
-};
+pub use cj_answers::{by_clock, next_text};
+pub use cj_args::{CheckRequest, Request, UpcomingRequest, WordFault, parse_words};
+pub use cj_check::{FileAnswer, check_file_answer};
+pub use cj_inspect::{CronFile, MOST_LIST_BYTES, MOST_LIST_READS};
 pub use cj_io::{
-    Failure, FileBytes, MOST_BYTES, MOST_READS, ZoneFile, is_file_name, read_input, tell_failure,
-    zones_named,
+    ExitStatus, Failure, FileBytes, MOST_BYTES, MOST_READS, ZoneFile, is_file_name, read_input,
+    tell_failure, zones_named,
 };
 pub use cj_run::Meter;
 pub use cj_types::{Seconds, Text};

@@ -1,4 +1,4 @@
-// What people are told of a run.
+// What is said to people of a run.
 mod calls;
 mod families;
 mod gaps;

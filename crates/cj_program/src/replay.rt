@@ -1,6 +1,7 @@
 // Running a script.
-ghost use Rattle.std.specs.Prelude.{◌≡◌, ◌<◌, ◌≤◌, List, ℕ, Option, [], codes, false, true};
+ghost use Rattle.std.specs.Prelude.{◌≡◌, ◌≢◌, List, ℕ, Option, [], codes, false, true};
 ghost use Rattle.std.specs.Io.KnownBytes.{Appends};
+ghost use Rattle.cj_io.specs.declared.exit_status.ExitStatus.TheVariants as Status;
 ghost use Rattle.cj_io.specs.Writing.{AppendsSome};
 ghost use Rattle.cj_answers.specs.Given.{IsReadUnder};
 ghost use Rattle.cj_answers.specs.Outcome.{Outcome, status_of};
@@ -8,36 +9,43 @@ ghost use Rattle.cj_program.specs.Replay.{EndsBadly, EndsWell, IsRead, IsReplayO
 ghost use Rattle.cj_program.specs.Writing.{FailsReplay};
 
 use crate::serving::give_answer;
-use cj_answers::{given_for, refused_pair, refused_scene};
+use cj_answers::{given_for, refused_pair};
 use cj_args::ReplayRequest;
-use cj_io::{Failure, GivenZones, MOST_BYTES, MOST_READS, ZoneFile, read_input, tell_failure};
+use cj_check::refused_scene;
+use cj_io::{
+    ExitStatus, Failure, GivenZones, MOST_BYTES, MOST_READS, ZoneFile, read_input, tell_failure,
+};
 use cj_replay::replay;
 use cj_scenario::Form;
 use cj_script::{Script, read_script};
 use std::alloc::Global;
 use std::io::{Read, Write};
 
-// Ends a run that was printed, by whether a step found the history full.
-fn end_of<E: Write>(is_full: bool, err: &mut E) -> u8
-    ensures well { result < 3 → (result ≡ 0) × (is_full ≡ false)
+// Ends a replay that was printed, by whether a step found the history full.
+fn end_of<E: Write>(is_full: bool, err: &mut E) -> ExitStatus
+    ensures well { result ≢ Status.Failed → (result ≡ Status.Success) × (is_full ≡ false)
         × Appends (E.contents err.old) (E.contents err.new) [] }
-    ensures full { result ≡ 3 → (is_full ≡ true)
+    ensures full { result ≡ Status.Failed → (is_full ≡ true)
         × AppendsSome (E.contents err.old) (E.contents err.new) (codes "cronsim: history full\n") }
-    ensures most { result ≤ 3 }
 {
     if is_full {
         tell_failure(Failure::HistoryFull, err)
     } else {
-        0
+        ExitStatus::Success
     }
 }
 
-fn run_script<W: Write, E: Write>(alloc: Global, script: &Script, out: &mut W, err: &mut E) -> u8
-    ensures well { result < 3 → (result ≡ 0) × EndsWell script.now (W.contents out.old)
+fn run_script<W: Write, E: Write>(
+    alloc: Global,
+    script: &Script,
+    out: &mut W,
+    err: &mut E,
+) -> ExitStatus
+    ensures well { result ≢ Status.Failed → (result ≡ Status.Success)
+        × EndsWell script.now (W.contents out.old) (W.contents out.new) (E.contents err.old)
+        (E.contents err.new) }
+    ensures badly { result ≡ Status.Failed → EndsBadly script.now (W.contents out.old)
         (W.contents out.new) (E.contents err.old) (E.contents err.new) }
-    ensures badly { result ≡ 3 → EndsBadly script.now (W.contents out.old) (W.contents out.new)
-        (E.contents err.old) (E.contents err.new) }
-    ensures most { result ≤ 3 }
 {
     match replay(alloc, script, out) {
         Ok(is_full) => end_of(is_full, err),
@@ -45,7 +53,7 @@ fn run_script<W: Write, E: Write>(alloc: Global, script: &Script, out: &mut W, e
     }
 }
 
-// Runs the script that the bytes are under the zones that are given.
+// Runs the script that the bytes say, under the zones that are given.
 fn serve_bytes<W: Write, E: Write>(
     alloc: Global,
     replay: &ReplayRequest<'_>,
@@ -53,17 +61,16 @@ fn serve_bytes<W: Write, E: Write>(
     bytes: &[u8],
     out: &mut W,
     err: &mut E,
-) -> u8
-    ensures served { result < 3 → (files : List ZoneFile) (input : Option (List ℕ)) →
+) -> ExitStatus
+    ensures served { result ≢ Status.Failed → (files : List ZoneFile) (input : Option (List ℕ)) →
         IsReadUnder replay.now.zones files given.entry → IsRead input bytes.now →
         (o : Outcome) × IsReplayOutcome replay.now files input o × (result ≡ status_of o.ending)
         × Appends (W.contents out.old) (W.contents out.new) o.printed
         × Appends (E.contents err.old) (E.contents err.new) o.said }
-    ensures failed { result ≡ 3 → (files : List ZoneFile) (input : Option (List ℕ)) →
+    ensures failed { result ≡ Status.Failed → (files : List ZoneFile) (input : Option (List ℕ)) →
         IsReadUnder replay.now.zones files given.entry → IsRead input bytes.now →
         FailsReplay replay.now files input (W.contents out.old) (W.contents out.new)
         (E.contents err.old) (E.contents err.new) }
-    ensures most { result ≤ 3 }
 {
     match read_script(alloc, given, bytes) {
         Ok(script) => run_script(alloc, &script, out, err),
@@ -83,18 +90,17 @@ fn serve_given<R: Read, W: Write, E: Write>(
     input: &mut R,
     out: &mut W,
     err: &mut E,
-) -> u8
-    ensures served { result < 3 → (files : List ZoneFile) →
+) -> ExitStatus
+    ensures served { result ≢ Status.Failed → (files : List ZoneFile) →
         IsReadUnder replay.now.zones files given.entry →
         (o : Outcome) × IsReplayOutcome replay.now files (R.remaining input.old) o
         × (result ≡ status_of o.ending)
         × Appends (W.contents out.old) (W.contents out.new) o.printed
         × Appends (E.contents err.old) (E.contents err.new) o.said }
-    ensures failed { result ≡ 3 → (files : List ZoneFile) →
+    ensures failed { result ≡ Status.Failed → (files : List ZoneFile) →
         IsReadUnder replay.now.zones files given.entry →
         FailsReplay replay.now files (R.remaining input.old) (W.contents out.old)
         (W.contents out.new) (E.contents err.old) (E.contents err.new) }
-    ensures most { result ≤ 3 }
 {
     match read_input(alloc, input, MOST_BYTES, MOST_READS) {
         Ok(bytes) => serve_bytes(alloc, replay, given, bytes.as_slice(), out, err),
@@ -102,8 +108,8 @@ fn serve_given<R: Read, W: Write, E: Write>(
     }
 }
 
-/// Serves the command `replay`: the zones are looked at first, then all of the input is read. Status 3 also tells that a
-/// step found the history full.
+/// Serves the command `replay`: the zones are looked at first, then all of the input is read.
+/// `Failed` also means that a step found the history full.
 pub(crate) fn serve_replay<R: Read, W: Write, E: Write>(
     alloc: Global,
     replay: &ReplayRequest<'_>,
@@ -111,15 +117,15 @@ pub(crate) fn serve_replay<R: Read, W: Write, E: Write>(
     input: &mut R,
     out: &mut W,
     err: &mut E,
-) -> u8
-    ensures served { result < 3 → (o : Outcome)
+) -> ExitStatus
+    ensures served { result ≢ Status.Failed → (o : Outcome)
         × IsReplayOutcome replay.now files.now (R.remaining input.old) o
         × (result ≡ status_of o.ending)
         × Appends (W.contents out.old) (W.contents out.new) o.printed
         × Appends (E.contents err.old) (E.contents err.new) o.said }
-    ensures failed { result ≡ 3 → FailsReplay replay.now files.now (R.remaining input.old)
-        (W.contents out.old) (W.contents out.new) (E.contents err.old) (E.contents err.new) }
-    ensures most { result ≤ 3 }
+    ensures failed { result ≡ Status.Failed → FailsReplay replay.now files.now
+        (R.remaining input.old) (W.contents out.old) (W.contents out.new) (E.contents err.old)
+        (E.contents err.new) }
 {
     match given_for(alloc, &replay.zones, files) {
         Ok(Some(given)) => serve_given(alloc, replay, given, input, out, err),

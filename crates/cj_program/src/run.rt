@@ -7,10 +7,9 @@ ghost use Rattle.cj_program.specs.Run.{IsRanOf, IsRunAnswer, IsRunOutcome};
 
 use crate::remarks::asked_remark;
 use crate::shown::shown;
-use cj_answers::{
-    Answer, Ending, asked_detection, given_for, is_form, refused_form, refused_pair, refused_scene,
-};
+use cj_answers::{Answer, Ending, given_for, is_form, refused_form, refused_pair};
 use cj_args::RunRequest;
+use cj_check::{asked_detection, refused_scene};
 use cj_io::{Failure, GivenZones, MOST_BYTES, MOST_READS, ZoneFile, read_input};
 use cj_run::{Meter, run_simulation};
 use cj_scenario::Form;
@@ -23,7 +22,8 @@ use std::thread::Threads;
 // The most gaps of one CronJob and one cause that get a line each.
 const MOST_LINES: u64 = 20;
 
-// The answer with what is printed of a run, with what was seen of the scenario and with what is told of the run.
+// The answer with what is printed of a run, with what was seen of the scenario and with what is
+// said of the run.
 fn reported(
     alloc: Global,
     explain: bool,
@@ -44,7 +44,7 @@ fn reported(
     answer.explained(explain, words.as_str())
 }
 
-// Runs the scenario that the bytes are.
+// Runs the scenario that the bytes say.
 fn answered<T: Threads + Wait + Sync>(
     rt: &T,
     alloc: Global,
@@ -85,7 +85,7 @@ fn bytes_answer<T: Threads + Wait + Sync>(
     }
 }
 
-// What is answered in a form that there is.
+// What is answered where the form of the output is one of `run`'s.
 fn form_answer<T: Threads + Wait + Sync, R: Read>(
     rt: &T,
     alloc: Global,
@@ -104,8 +104,8 @@ fn form_answer<T: Threads + Wait + Sync, R: Read>(
     bytes_answer(rt, alloc, run, given, bytes.as_slice(), meter)
 }
 
-/// What the command `run` answers: the form of what is printed is looked at first, then the zones, then all of the input
-/// is read. A history that a call found full fails it, as want of memory does.
+/// What the command `run` answers. The form of the output is looked at first, then the zones, and
+/// then all of the input is read. A run without a report is a failure.
 pub(crate) fn run_answer<T: Threads + Wait + Sync, R: Read>(
     rt: &T,
     alloc: Global,

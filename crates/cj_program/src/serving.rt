@@ -1,6 +1,7 @@
-ghost use Rattle.std.specs.Prelude.{◌≡◌, ◌<◌, ◌≤◌, ◌⊎◌};
+ghost use Rattle.std.specs.Prelude.{◌≡◌, ◌≢◌, ◌⊎◌};
 ghost use Rattle.std.specs.Result.{IsOkAnd};
 ghost use Rattle.std.specs.Io.KnownBytes.{Appends};
+ghost use Rattle.cj_io.specs.declared.exit_status.ExitStatus.TheVariants as Status;
 ghost use Rattle.cj_program.specs.Answers.{IsOutcome};
 ghost use Rattle.cj_answers.specs.Outcome.{Outcome, outcome_of, status_of};
 ghost use Rattle.cj_program.specs.Writing.{IsCut, IsFailed, IsGiven, IsUnanswered};
@@ -8,46 +9,44 @@ ghost use Rattle.cj_program.specs.Writing.{IsCut, IsFailed, IsGiven, IsUnanswere
 use crate::replay::serve_replay;
 use crate::run::run_answer;
 use crate::writing::give;
-use cj_answers::{
-    Answer, Ending, audit_answer, check_answer, describe_answer, next_answer, plan_answer,
-    upcoming_answer, why_answer,
-};
+use cj_answers::{Answer, Ending, describe_answer, next_answer};
 use cj_args::Request;
-use cj_io::{Failure, ZoneFile, tell_failure};
+use cj_check::{check_answer, plan_answer};
+use cj_inspect::{audit_answer, upcoming_answer, why_answer};
+use cj_io::{ExitStatus, Failure, ZoneFile, tell_failure};
 use cj_run::Meter;
 use std::alloc::Global;
 use std::io::{Read, Write};
 use std::sync::Wait;
 use std::thread::Threads;
 
-fn status_code(ending: Ending) -> u8
-    ensures code { result ≡ status_of ending }
-    ensures most { result < 3 }
+fn status_of(ending: Ending) -> ExitStatus
+    ensures status { result ≡ status_of ending }
+    ensures given { result ≢ Status.Failed }
 {
     match ending {
-        Ending::Done => 0,
-        Ending::Refused => 1,
+        Ending::Done => ExitStatus::Success,
+        Ending::Refused => ExitStatus::Refused,
     }
 }
 
-/// Gives an answer, or tells why there is none.
+/// Gives an answer, or says why there is none.
 pub(crate) fn give_answer<W: Write, E: Write>(
     answer: Result<Answer, Failure>,
     out: &mut W,
     err: &mut E,
-) -> u8
-    ensures given { result < 3 → IsOkAnd answer
+) -> ExitStatus
+    ensures given { result ≢ Status.Failed → IsOkAnd answer
         (λ a. IsGiven result (outcome_of a) (W.contents out.old) (W.contents out.new)
         (E.contents err.old) (E.contents err.new)) }
-    ensures failed { result ≡ 3 → IsUnanswered (W.contents out.old) (W.contents out.new)
+    ensures failed { result ≡ Status.Failed → IsUnanswered (W.contents out.old) (W.contents out.new)
         (E.contents err.old) (E.contents err.new)
         ⊎ IsOkAnd answer (λ a. IsCut (outcome_of a).printed (outcome_of a).said (W.contents out.old)
         (W.contents out.new) (E.contents err.old) (E.contents err.new)) }
-    ensures most { result ≤ 3 }
 {
     match answer {
         Ok(answer) => give(
-            status_code(answer.ending),
+            status_of(answer.ending),
             answer.printed.as_str(),
             answer.said.as_str(),
             out,
@@ -57,9 +56,9 @@ pub(crate) fn give_answer<W: Write, E: Write>(
     }
 }
 
-/// Serves a request, for which these zone files were read, and answers the status: 0 where it is done, 1 where what it
-/// asks about is refused, 3 where reading, writing or memory failed, or where a call found the history full; one line on
-/// standard error says which. The meter shows meanwhile how far a run is.
+/// Serves a request, for which these zone files were read, and answers the exit status: `Success`
+/// where it is done, `Refused` where what it asks about is refused, and `Failed` after a failure,
+/// which one line on standard error names. The meter shows meanwhile how far a run is.
 pub fn serve<T: Threads + Wait + Sync, R: Read, W: Write, E: Write>(
     rt: &T,
     alloc: Global,
@@ -69,15 +68,14 @@ pub fn serve<T: Threads + Wait + Sync, R: Read, W: Write, E: Write>(
     out: &mut W,
     err: &mut E,
     meter: &Meter,
-) -> u8
-    ensures served { result < 3 → (o : Outcome)
+) -> ExitStatus
+    ensures served { result ≢ Status.Failed → (o : Outcome)
         × IsOutcome request.now files.now (R.remaining input.old) o
         × (result ≡ status_of o.ending)
         × Appends (W.contents out.old) (W.contents out.new) o.printed
         × Appends (E.contents err.old) (E.contents err.new) o.said }
-    ensures failed { result ≡ 3 → IsFailed request.now files.now (R.remaining input.old)
+    ensures failed { result ≡ Status.Failed → IsFailed request.now files.now (R.remaining input.old)
         (W.contents out.old) (W.contents out.new) (E.contents err.old) (E.contents err.new) }
-    ensures most { result ≤ 3 }
 {
     match request {
         Request::Next(next) => give_answer(next_answer(alloc, next, files), out, err),

@@ -15,8 +15,8 @@ use cj_run::Ran;
 use std::alloc::Global;
 use std::mem;
 
-// The time line, the entries, a picture or one JSON value of a run's history, or its report: the first of these that the
-// words ask for.
+// The time line, the entries, a picture or one JSON value of a run's history, or its report: the
+// first of these that the words ask for.
 fn shown_text(
     alloc: Global,
     run: &RunRequest<'_>,

@@ -25,7 +25,8 @@ pub given_back : (counts now : Counts) (k : Place) (n m : ℕ) → map.get count
 given_back counts now k n m before put =
     ap (λ (c : Counts). map.insert c k m) put
     ∙ alike _ _ (λ q. get_put (map.insert counts k n) k m q ∙ ap (cond (key_eq k q) (Some m)) (get_put counts k n q)
-    ∙ chosen (key_eq k q) (Some m) (Some n) (map.get counts q) (λ e. ap (map.get counts) (sym (eq_true k q e)) ∙ before))
+    ∙ chosen (key_eq k q) (Some m) (Some n) (map.get counts q)
+    (λ e. ap (map.get counts) (sym (eq_true k q e)) ∙ before))
 
 -- For Failures::put_back: after a put the key has a count.
 pub count_there : (counts now : Counts) (k : Place) (n : ℕ) → now ≡ map.insert counts k n → map.get now k ≡ None → ⊥

@@ -190,7 +190,8 @@ pub last_there : (l : List Place) (k : Place) → stands_in l k ≡ true → wit
 last_there l k e = ap (λ t. if t then l else l ++ k ∷ []) e
 
 -- For Line::push and add: the places say what the line is, with a key put last whose place says so now.
-pub marked_push : (l m : List Place) (old new : BTreeMap Place Bool) (k : Place) → IsMarked l old → is_lined old k ≡ false
+pub marked_push : (l m : List Place) (old new : BTreeMap Place Bool) (k : Place) → IsMarked l old
+    → is_lined old k ≡ false
     → m ≡ l ++ k ∷ [] → Marks old new k → IsMarked m new
 marked_push l m old new k marked out last marks = record {
   same = λ q. marks q ∙ ap (cond (key_eq k q) true) (marked.same q) ∙ sym (in_last l k q)

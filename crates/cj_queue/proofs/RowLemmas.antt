@@ -168,7 +168,8 @@ add_last l m a p k lined free last = by (stands_in l k) refl
     by false e = add_new l m a p k lined free e (last ∙ last_absent l k e)
 
 -- For Work::add and add_key: IsKept stays when a key that isn't being worked on goes last, and places stay.
-pub kept_last : (l m a p old new : List Place) (k : Place) → IsKept l a p old → stands_in p k ≡ false → m ≡ with_last l k
+pub kept_last : (l m a p old new : List Place) (k : Place) → IsKept l a p old → stands_in p k ≡ false
+    → m ≡ with_last l k
     → ArePlaced old new → IsKept m a p new
 kept_last l m a p old new k kept free last more = record {
   lined = by (stands_in l k) refl;
@@ -298,12 +299,14 @@ lined_take (x ∷ l) m a p o k lined h removal sets = subst (λ y. IsLined y a o
 -- ---- room
 
 -- For Work::reserve: with the same keys added again, the same keys are dirty.
-pub same_dirty : (l a b : List Place) → ((q : Place) → stands_in b q ≡ stands_in a q) → keys_of (l ++ b) ≡ keys_of (l ++ a)
+pub same_dirty : (l a b : List Place) → ((q : Place) → stands_in b q ≡ stands_in a q)
+    → keys_of (l ++ b) ≡ keys_of (l ++ a)
 same_dirty l a b h = same_keys (l ++ a) (l ++ b) (λ q. list_any-append (key_eq q) l b
     ∙ ap (λ t. stands_in l q || t) (h q) ∙ sym (list_any-append (key_eq q) l a))
 
 -- For Work::reserve: IsKept stays when the same keys are those that were added again.
-pub kept_same : (l a b p ps : List Place) → IsKept l a p ps → ((q : Place) → stands_in b q ≡ stands_in a q) → IsKept l b p ps
+pub kept_same : (l a b p ps : List Place) → IsKept l a p ps → ((q : Place) → stands_in b q ≡ stands_in a q)
+    → IsKept l b p ps
 kept_same l a b p ps kept h = record {
   lined = record {
     free = kept.lined.free;

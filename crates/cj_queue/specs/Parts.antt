@@ -1,4 +1,4 @@
--- What contracts see of the queue's parts, and what their types keep.
+-- The parts of the queue in contracts, and the invariants of their types.
 use Rattle.std.specs.Prelude.{◌≡◌, ℕ, Bool, true, false, not, ◌&&◌, ◌==◌, unwrap_or, cond, if◌then◌else◌, List, [], ◌∷◌, ◌++◌, map, Option, refl}
 use Rattle.std.specs.Ordering.{eq_of_both, on}
 use Rattle.std.specs.Cmp.Lexicographic.{pointwise}
@@ -17,7 +17,7 @@ key_eq = eq_of_both (on (λ k. k.namespace) (pointwise ◌==◌)) (on (λ k. k.n
 abbrev pub stands_in : List Place → Place → Bool
 stands_in ks k = list_any (key_eq k) ks
 
--- no key stands twice
+-- no key is in the list more than once
 abbrev pub are_distinct : List Place → Bool
 are_distinct [] = true
 are_distinct (k ∷ ks) = not (stands_in ks k) && are_distinct ks
@@ -26,20 +26,20 @@ are_distinct (k ∷ ks) = not (stands_in ks k) && are_distinct ks
 abbrev pub keys_of : List Place → Keys
 keys_of ks = from_entries (map (λ k. (k, tt)) ks)
 
--- whether the key's place, if it has one, says that the key stands in the line
+-- whether the key has a place that marks it as in the line
 abbrev pub is_lined : BTreeMap Place Bool → Place → Bool
 is_lined places k = unwrap_or (get hash_cmp places k) false
 
--- just the keys of the line have a place that says so, and no key stands twice
+-- just the keys of the line have a place that marks them so, and each is in the line once
 pub record IsMarked (line : List Place) (places : BTreeMap Place Bool) : Type 0 where
   pub same : (k : Place) → is_lined places k ≡ stands_in line k
   pub once : are_distinct line ≡ true
 
--- the place of the key says in new that the key stands in the line, and every other what it says in old
+-- in new the key's place marks it as in the line, and every other key is marked as in old
 abbrev pub Marks : BTreeMap Place Bool → BTreeMap Place Bool → Place → Type 0
 Marks old new k = (q : Place) → is_lined new q ≡ cond (key_eq k q) true (is_lined old q)
 
--- the line with the key last, unless it stands in the line
+-- the line with the key appended, unless it is in the line
 abbrev pub with_last : List Place → Place → List Place
 with_last line k = if stands_in line k then line else line ++ k ∷ []
 
@@ -47,7 +47,7 @@ with_last line k = if stands_in line k then line else line ++ k ∷ []
 abbrev pub ArePlaced : List Place → List Place → Type 0
 ArePlaced ks places = (k : Place) → stands_in ks k ≡ true → stands_in places k ≡ true
 
--- of `Line`: the keys, those that have a place, and for how many more there is room
+-- `Line` in contracts: its keys, the keys that have a place, and for how many more there is room
 pub record Line : Type 0 where
   pub keys : List Place
   pub places : List Place
@@ -55,10 +55,13 @@ pub record Line : Type 0 where
 
 abbrev pub line_code : Coded Line
 line_code =
-    code_by (List Place × (List Place × ℕ)) (coded× (coded_list coded_place) (coded× (coded_list coded_place) coded_ℕ))
-    (λ l. (l.keys, (l.places, l.room))) (λ p. record { keys = p.0; places = (p.1).0; room = (p.1).1 }) (λ _. refl)
+    code_by (List Place × (List Place × ℕ))
+    (coded× (coded_list coded_place) (coded× (coded_list coded_place) coded_ℕ))
+    (λ l. (l.keys, (l.places, l.room))) (λ p. record
+    { keys = p.0; places = (p.1).0; room = (p.1).1 }) (λ _. refl)
 
--- of `Work`: the row, the keys that have a place in the line, and for how many adds there is room
+-- `Work` in contracts: the row, the keys that have a place in the line, and for how many adds there
+-- is room
 pub record Work : Type 0 where
   pub row : Row
   pub places : List Place
@@ -67,24 +70,27 @@ pub record Work : Type 0 where
 abbrev pub work_code : Coded Work
 work_code =
     code_by (Row × (List Place × ℕ)) (coded× row_code (coded× (coded_list coded_place) coded_ℕ))
-    (λ r. (r.row, (r.places, r.room))) (λ p. record { row = p.0; places = (p.1).0; room = (p.1).1 }) (λ _. refl)
+    (λ r. (r.row, (r.places, r.room))) (λ p. record { row = p.0; places = (p.1).0; room = (p.1).1 })
+    (λ _. refl)
 
--- no key of the line is being worked on, each of those that were added again is, and no key stands twice in the line
+-- no key of the line is being worked on, each key that was added again is, and no key is in the
+-- line more than once
 -- rule: queue-line
 pub record IsLined (line again processing : List Place) : Type 0 where
   pub free : (k : Place) → stands_in line k ≡ true → stands_in processing k ≡ false
   pub held : (k : Place) → stands_in again k ≡ true → stands_in processing k ≡ true
   pub once : are_distinct line ≡ true
 
--- the same, and each of those that were added again has a place in the line
+-- the lists are so, and each key that was added again has a place in the line
 pub record IsKept (line again processing places : List Place) : Type 0 where
   pub lined : IsLined line again processing
   pub placed : ArePlaced again places
 
--- how often in a row the work on each key failed
+-- the number of failures in a row of each key
 abbrev pub Counts : Type 0
 Counts = FinMap place_cmp ℕ
 
--- if a put at the key made `now` of counts that had `before` there, back is what these were
+-- if a put at the key turned counts that had `before` there into `now`, then `back` is those counts
 abbrev pub IsPutBack : Counts → Counts → Place → Option ℕ → Type 0
-IsPutBack now back k before = (counts : Counts) (n : ℕ) → get_count counts k ≡ before → now ≡ insert counts k n → back ≡ counts
+IsPutBack now back k before = (counts : Counts) (n : ℕ) → get_count counts k ≡ before
+    → now ≡ insert counts k n → back ≡ counts

@@ -1,5 +1,5 @@
--- The work queue, and what each call leaves of it: client-go, package workqueue, whose names of the calls
--- stand in brackets.
+-- The work queue, and how each call changes it: client-go, package workqueue, whose names of the
+-- calls are in brackets.
 use Rattle.std.specs.Prelude.{ℕ, ◌+◌, ◌*◌, ◌^◌, min, max, Bool, true, false, if◌then◌else◌, is_some, unwrap_or, nat_le, List, [], ◌∷◌, ◌++◌, Option, Some, None, refl}
 use Rattle.std.specs.FinMap.{FinMap, empty, get, insert, remove, code}
 use Rattle.std.specs.Coded.{Coded, code_by, coded×, coded_ℕ, coded_bool, coded_list}
@@ -16,7 +16,8 @@ has s k = is_some (get s k)
 
 -- ---- the line, and the sets that keep a key with one caller at a time
 
--- the keys in the order in which they are taken, those that want work, and those that are being worked on
+-- the keys in the order in which they are taken, the dirty keys, and the keys that are being worked
+-- on
 pub record Row : Type 0 where
   pub line : List Place
   pub dirty : Keys
@@ -24,10 +25,13 @@ pub record Row : Type 0 where
 
 abbrev pub row_code : Coded Row
 row_code =
-    code_by (List Place × (Keys × Keys)) (coded× (coded_list coded_place) (coded× (code coded_place coded_unit) (code coded_place coded_unit)))
-    (λ r. (r.line, (r.dirty, r.processing))) (λ p. record { line = p.0; dirty = (p.1).0; processing = (p.1).1 }) (λ _. refl)
+    code_by (List Place × (Keys × Keys)) (coded× (coded_list coded_place)
+    (coded× (code coded_place coded_unit) (code coded_place coded_unit)))
+    (λ r. (r.line, (r.dirty, r.processing)))
+    (λ p. record { line = p.0; dirty = (p.1).0; processing = (p.1).1 }) (λ _. refl)
 
--- an add (Add): the key is dirty, and goes last in the line unless it was dirty or is being worked on
+-- an add (Add): the key becomes dirty, and is appended to the line unless it was dirty or is being
+-- worked on
 -- rules: queue-add, add-while-held
 abbrev pub row_add : Row → Place → Row
 row_add r k =
@@ -43,12 +47,12 @@ abbrev pub take_in : Row → List Place → Row
 take_in r [] = r
 take_in r (k ∷ ks) = record { line = ks; dirty = remove r.dirty k; processing = insert r.processing k tt }
 
--- a take (Get): the first of the line is being worked on, and no longer dirty
+-- a take (Get): the first key of the line is being worked on, and no longer dirty
 -- rule: queue-take
 abbrev pub row_take : Row → Row
 row_take r = take_in r r.line
 
--- the end of the work on a key (Done), which goes last in the line where it is dirty
+-- the end of the work on a key (Done), which is appended to the line if it is dirty
 -- rules: queue-done, add-while-held
 abbrev pub row_end : Row → Place → Row
 row_end r k = record { line = if has r.dirty k then r.line ++ k ∷ [] else r.line; dirty = r.dirty; processing = remove r.processing k }
@@ -59,8 +63,8 @@ first (k ∷ ks) = Some k
 
 -- ---- the queue
 
--- beside the row: the keys that wait with their times, the failures in a row of each key, the greatest tick so far, and
--- whether the queue is shut
+-- the queue: the row, the waiting keys with their times, the failures in a row of each key, the
+-- greatest tick so far, and whether the queue is shut
 pub record Queue : Type 0 where
   pub row : Row
   pub waiting : Waiting
@@ -70,7 +74,9 @@ pub record Queue : Type 0 where
 
 abbrev pub queue_code : Coded Queue
 queue_code =
-    code_by (Row × (Waiting × (FinMap place_cmp ℕ × (ℕ × Bool)))) (coded× row_code (coded× (code coded_place coded_ℕ) (coded× (code coded_place coded_ℕ) (coded× coded_ℕ coded_bool))))
+    code_by (Row × (Waiting × (FinMap place_cmp ℕ × (ℕ × Bool))))
+    (coded× row_code (coded× (code coded_place coded_ℕ)
+    (coded× (code coded_place coded_ℕ) (coded× coded_ℕ coded_bool))))
     (λ q. (q.row, (q.waiting, (q.failures, (q.tick, q.shut)))))
     (λ p. record { row = p.0; waiting = (p.1).0; failures = ((p.1).1).0; tick = (((p.1).1).1).0; shut = (((p.1).1).1).1 })
     (λ _. refl)
@@ -103,7 +109,8 @@ taken q = with_row q (row_take q.row)
 abbrev pub ended : Queue → Place → Queue
 ended q k = with_row q (row_end q.row k)
 
--- a delayed add (AddAfter): at once where the time is not above the greatest tick, else the key waits
+-- a delayed add (AddAfter): at once where the time is not above the greatest tick, else the key
+-- waits
 -- rule: queue-delay
 abbrev pub added_after : Queue → Place → ℕ → Queue
 added_after q k at =
@@ -118,26 +125,27 @@ ticked q now =
     if q.shut then record { row = q.row; waiting = q.waiting; failures = q.failures; tick = max q.tick now; shut = q.shut }
     else record { row = row_adds q.row (ready q.waiting now); waiting = without q.waiting (ready q.waiting now); failures = q.failures; tick = max q.tick now; shut = q.shut }
 
--- the shutdown (ShutDown): nothing waits any more
+-- the shutdown (ShutDown): no key waits any more
 -- rule: queue-shut
 abbrev pub closed : Queue → Queue
 closed q = record { row = q.row; waiting = empty; failures = q.failures; tick = q.tick; shut = true }
 
--- how often in a row the work on the key failed (NumRequeues)
+-- the number of failures in a row of the key (NumRequeues)
 abbrev pub failures_of : Queue → Place → ℕ
 failures_of q k = unwrap_or (get q.failures k) 0
 
--- 5 ms, doubled for each failure in a row, and at most 1,000 s (ItemExponentialFailureRateLimiter)
+-- the retry delay: 5 ms, doubled for each failure in a row, and at most 1,000 s
+-- (ItemExponentialFailureRateLimiter)
 -- rule: queue-retry
 abbrev pub delay : ℕ → ℕ
 delay f = min (5 * 2 ^ f) 1000000
 
--- one failure more, counted to 18: from there on the delay is the greatest
+-- a failure is counted, up to 18, where the delay is the greatest
 -- rule: queue-retry
 abbrev pub failed : Queue → Place → Queue
 failed q k = with_failures q (insert q.failures k (min (failures_of q k + 1) 18))
 
--- the failures are counted from 0 again (Forget)
+-- the count of failures is 0 again (Forget)
 -- rule: queue-retry
 abbrev pub forgotten : Queue → Place → Queue
 forgotten q k = with_failures q (remove q.failures k)
@@ -146,12 +154,12 @@ abbrev pub added_where : Queue → Place → Option ℕ → Queue
 added_where q k None = q
 added_where q k (Some at) = added_after q k at
 
--- the end of a sync that went well: done, forget, and a delayed add where there is a next time
+-- the end of a sync that succeeded: done, forget, and a delayed add where there is a next time
 -- rule: queue-retry
 abbrev pub finished_ok : Queue → Place → Option ℕ → Queue
 finished_ok q k at = added_where (forgotten (ended q k) k) k at
 
--- the end of one that did not: done, a delayed add, one failure more
+-- the end of a sync that failed: done, a delayed add, and a failure counted
 -- rule: queue-retry
 abbrev pub finished_retry : Queue → Place → ℕ → Queue
 finished_retry q k now = failed (added_after (ended q k) k (now + delay (failures_of q k))) k

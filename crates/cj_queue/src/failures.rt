@@ -8,12 +8,11 @@ use std::alloc::Global;
 use std::collections::BTreeMap;
 use std::marker::Model;
 
-/// How often in a row the work on each key failed. Contracts see the counts.
+/// The number of failures in a row of each key. Contracts see the counts.
 pub struct Failures {
     counts: BTreeMap<Key, u64>,
 }
 
-// A function of its own, so that whoever gives one up makes one call and not one for each part.
 impl Drop for Failures {
     fn drop(self) {
         let Failures { counts: _ } = self;
@@ -34,7 +33,7 @@ impl Model for Failures {
 }
 
 impl Failures {
-    /// No failure.
+    /// No counts.
     pub fn new(alloc: Global) -> Failures
         ensures { result ≡ map.empty }
     {
@@ -58,7 +57,7 @@ impl Failures {
         self.counts.get(key).copied()
     }
 
-    /// Gives the key this count, with the memory that it needs.
+    /// Sets the key's count, with the memory that it needs.
     pub fn put(&mut self, alloc: Global, key: &Key, count: u64) -> Result<(), Refusal>
         ensures ok { OnOk result (self.new ≡ map.insert self.old key.now count) }
         ensures err { OnErr result (self.new ≡ self.old) }
@@ -71,7 +70,7 @@ impl Failures {
         Ok(())
     }
 
-    /// Gives the key again the count that it had before a put, if it had one.
+    /// Undoes a put: sets the key's count to what it was before, or removes it.
     pub fn put_back(&mut self, key: &Key, before: Option<u64>)
         ensures { IsPutBack self.old self.new key.now before }
     {
@@ -85,7 +84,7 @@ impl Failures {
         *kept = count;
     }
 
-    /// Keeps no count of the key.
+    /// Removes the key's count.
     #[tactic(auto, using(cj_table::proofs::Rows::removed_at))]
     pub fn remove(&mut self, key: &Key)
         ensures { self.new ≡ map.remove self.old key.now }

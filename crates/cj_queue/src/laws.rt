@@ -1,4 +1,4 @@
-// Laws of the work queue, over its calls as `cj_queue` states them.
+// Laws of the work queue, over the definitions of its calls.
 mod laws;
 
 pub use laws::{queue_laws, row_laws};

@@ -1,9 +1,9 @@
-//! The work queue of the controller: a line of keys to work on, each worked on by one caller at a time, with
-//! adds after a delay and retries that are put off for longer after each failure. It follows client-go's
-//! workqueue.
+//! The work queue of the controller, after client-go's workqueue. Keys wait in line (client-go's
+//! `queue`). A key is worked on by one caller at a time. Adds can be delayed, and retries wait
+//! longer after each failure.
 //!
-//! Moments come in with the calls, as milliseconds. A call that grows something takes the memory first: where
-//! there is none it answers `Refusal::OutOfMemory`, and the queue is as it was.
+//! Moments come in with the calls, as milliseconds. A call that grows something takes the memory
+//! first: where there is none it answers `Refusal::OutOfMemory`, and the queue is unchanged.
 #![tactic(auto)]
 
 mod backoff;

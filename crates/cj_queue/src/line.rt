@@ -12,20 +12,19 @@ use std::alloc::Global;
 use std::collections::{BTreeMap, VecDeque};
 use std::marker::Model;
 
-/// Keys in the order in which they came, each once. Whether one stands here is found in an order, that of hashes and then
-/// of keys, so that no choice of keys makes it slow.
+/// Keys in the order in which they came, each once. A key is looked up in the order of hashes, and
+/// of keys with one hash in the order of keys, so that no choice of keys makes look-ups slow.
 ///
-/// A key needs a place before it is pushed, which takes memory. `prepare` makes the place, so that the push can't fail;
-/// it stays until the key is the first and is taken out. Contracts see the keys, those that have a place, and for how
-/// many more keys there is room.
+/// A key needs a place before it is pushed, which takes memory. `prepare` makes the place, so that
+/// the push can't fail; it stays until the key is the first and is taken out. Contracts see the
+/// keys, those that have a place, and for how many more keys there is room.
 pub struct Line {
     // The keys, the first one in front.
     order: VecDeque<Key>,
-    // Of each key that has a place, whether it stands in the line.
+    // For each key that has a place, whether it is in the line.
     places: BTreeMap<Tagged, bool>,
 }
 
-// A function of its own, so that whoever gives one up makes one call and not one for each part.
 impl Drop for Line {
     fn drop(self) {
         let Line {
@@ -55,7 +54,7 @@ impl Model for Line {
 }
 
 impl Line {
-    /// No key.
+    /// An empty line.
     pub fn new(alloc: Global) -> Line
         ensures { result.keys ≡ [] }
     {
@@ -65,7 +64,7 @@ impl Line {
         }
     }
 
-    /// Makes room for so many keys more.
+    /// Reserves room for `count` more keys.
     pub fn reserve(&mut self, count: usize) -> Result<(), Refusal>
         ensures keys { self.new.keys ≡ self.old.keys }
         ensures places { self.new.places ≡ self.old.places }
@@ -87,7 +86,7 @@ impl Line {
         put_place(&mut self.places, alloc, key)
     }
 
-    /// The key goes last, unless it stands in the line.
+    /// Appends the key, which has a place, unless it is in the line.
     pub fn push(&mut self, key: Key)
         requires room { 0 < self.old.room }
         requires placed { stands_in self.old.places key ≡ true }
@@ -102,7 +101,7 @@ impl Line {
         self.order.push_back_reserved(tagged.into_key());
     }
 
-    /// The key goes last, with the memory that it needs, unless it stands in the line.
+    /// Appends the key, with the memory that it needs, unless it is in the line.
     pub fn add(&mut self, alloc: Global, key: &Key) -> Result<(), Refusal>
         ensures ok { OnOk result (self.new.keys ≡ with_last self.old.keys key.now) }
         ensures err { OnErr result (self.new.keys ≡ self.old.keys) }
@@ -125,7 +124,7 @@ impl Line {
         self.order.front()
     }
 
-    /// Takes the first key out, and its place, if there is one.
+    /// Removes the first key and its place, if there is one.
     pub fn pop_first(&mut self) -> Option<Key>
         ensures key { result ≡ first self.old.keys }
         ensures keys { self.new.keys ≡ drop 1 self.old.keys }
@@ -159,7 +158,7 @@ fn put_place(places: &mut BTreeMap<Tagged, bool>, alloc: Global, key: &Key) -> R
     Ok(())
 }
 
-// Lets the key's place say that the key stands in the line. Whether it said so.
+// Marks the key as in the line. Answers whether it was marked before.
 fn mark(places: &mut BTreeMap<Tagged, bool>, key: &Tagged) -> bool
     requires { stands_in (keys places.old) key.now ≡ true }
     ensures was { result ≡ is_lined places.old key.now }
@@ -174,7 +173,8 @@ fn mark(places: &mut BTreeMap<Tagged, bool>, key: &Tagged) -> bool
     was
 }
 
-// Gives the key a place, where it has none, and lets it say that the key stands in the line. Whether it said so.
+// Gives the key a place, where it has none, and marks it as in the line. Answers whether it was
+// marked before.
 fn put_marked(places: &mut BTreeMap<Tagged, bool>, key: Tagged) -> Result<bool, Refusal>
     ensures was { IfOk result (λ was. was ≡ is_lined places.old key) }
     ensures marks { OnOk result (Marks places.old places.new key) }

@@ -15,10 +15,10 @@ use std::marker::Model;
 
 /// Keys to work on, each by one caller at a time.
 ///
-/// A key that is added is dirty, and stands in the line until it is taken; one that is added while it is
-/// worked on comes back into the line when that work is done. Contracts see the line, the dirty keys and
-/// those that are being worked on, the times for which keys wait, the failures, the greatest tick, and
-/// whether the queue is shut.
+/// An added key is dirty, and is in the line until it is taken. A key that is added while it is
+/// worked on goes back into the line when that work is done. Contracts see the line, the dirty
+/// keys, the keys that are being worked on, the times for which keys wait, the failures, the
+/// greatest tick, and whether the queue is shut.
 pub struct Queue {
     alloc: Global,
     work: Work,
@@ -28,7 +28,6 @@ pub struct Queue {
     shut: bool,
 }
 
-// A function of its own, so that whoever gives one up makes one call and not one for each part.
 impl Drop for Queue {
     fn drop(self) {
         let Queue {
@@ -76,8 +75,8 @@ impl Queue {
         }
     }
 
-    /// The key is dirty, and goes last in the line unless it was dirty or is being worked on. After `shut`
-    /// nothing happens.
+    /// Marks the key as dirty, and appends it to the line unless it was dirty or is being worked
+    /// on. After `shut` this does nothing.
     pub fn add(&mut self, key: &Key) -> Result<(), Refusal>
         ensures ok { OnOk result (self.new ≡ added self.old key.now) }
         ensures err { OnErr result (self.new ≡ self.old) }
@@ -89,14 +88,15 @@ impl Queue {
         self.work.add_key(self.alloc, key)
     }
 
-    /// The first of the line, which the next `take` gives.
+    /// The first key of the line, which the next `take` gives.
     pub fn front(&self) -> Option<&Key>
         ensures { option_copied result ≡ first self.now.row.line }
     {
         self.work.front()
     }
 
-    /// Takes the first of the line to work on it: it isn't dirty any more. None where the line is empty.
+    /// Takes the first key of the line to work on it: it isn't dirty any more. `None` where the
+    /// line is empty.
     pub fn take(&mut self) -> Result<Option<Key>, Refusal>
         ensures answer { IfOk result (λ k. k ≡ first self.old.row.line) }
         ensures ok { OnOk result (self.new ≡ taken self.old) }
@@ -113,7 +113,7 @@ impl Queue {
         self.work.is_processing(key)
     }
 
-    /// Ends the work on the key, which goes last in the line where it was added meanwhile.
+    /// Ends the work on the key, and appends it to the line if it was added meanwhile.
     pub fn done(&mut self, key: &Key) -> Result<(), Refusal>
         requires { IsTrue (has self.old.row.processing key.now) }
         ensures ok { OnOk result (self.new ≡ ended self.old key.now) }
@@ -125,8 +125,9 @@ impl Queue {
         Ok(())
     }
 
-    /// Adds the key at once where the time, in milliseconds, isn't above the greatest tick so far. Else it
-    /// waits for that time, or for an earlier one where it waits already. After `shut` nothing happens.
+    /// Adds the key at once where the time, in milliseconds, isn't above the greatest tick so far.
+    /// Else the key waits for that time, or for an earlier one for which it waits already. After
+    /// `shut` this does nothing.
     pub fn add_after(&mut self, key: &Key, at_ms: u64) -> Result<(), Refusal>
         ensures ok { OnOk result (self.new ≡ added_after self.old key.now at_ms) }
         ensures err { OnErr result (self.new ≡ self.old) }
@@ -141,7 +142,7 @@ impl Queue {
         self.work.add_key(self.alloc, key)
     }
 
-    /// The moment is `now_ms`: adds each key that waits for a time not above it, by time, then key.
+    /// Adds each key that waits for a time not above the moment `now_ms`, by time, then key.
     pub fn tick(&mut self, now_ms: Millis) -> Result<(), Refusal>
         ensures ok { OnOk result (self.new ≡ ticked self.old now_ms) }
         ensures err { OnErr result (self.new ≡ self.old) }
@@ -160,7 +161,7 @@ impl Queue {
         Ok(())
     }
 
-    /// Drops what waits, and takes no more adds.
+    /// Drops all waiting keys, and takes no more adds.
     pub fn shut(&mut self)
         ensures { self.new ≡ closed self.old }
     {
@@ -175,7 +176,8 @@ impl Queue {
         self.shut
     }
 
-    /// How long to wait after the key's failures in a row so far: 5 ms, doubled for each, and at most 1,000,000 ms.
+    /// The delay after the key's failures in a row so far: 5 ms, doubled for each, and at most
+    /// 1,000,000 ms.
     pub fn retry_delay(&self, key: &Key) -> Millis
         ensures value { result ≡ delay (failures_of self.now key.now) }
         ensures bound { result ≤ 1000000 }
@@ -183,7 +185,7 @@ impl Queue {
         Millis::new(delay_after(self.failures.get(key))).unwrap()
     }
 
-    /// Counts one failure more of the key, up to 18.
+    /// Counts a failure of the key, up to 18.
     pub fn failed(&mut self, key: &Key) -> Result<(), Refusal>
         ensures ok { OnOk result (self.new ≡ failed self.old key.now) }
         ensures err { OnErr result (self.new ≡ self.old) }
@@ -193,14 +195,14 @@ impl Queue {
         self.failures.put(self.alloc, key, one_more(count))
     }
 
-    /// Counts the key's failures from 0 again.
+    /// Resets the key's count of failures to 0.
     pub fn forget(&mut self, key: &Key)
         ensures { self.new ≡ forgotten self.old key.now }
     {
         self.failures.remove(key);
     }
 
-    /// `done`, `forget` and, where there is a time, `add_after` in one.
+    /// `done`, `forget` and, where a time is given, `add_after`, in one call.
     pub fn finish_ok(&mut self, key: &Key, at_ms: Option<u64>) -> Result<(), Refusal>
         requires { IsTrue (has self.old.row.processing key.now) }
         ensures ok { OnOk result (self.new ≡ finished_ok self.old key.now at_ms) }
@@ -228,7 +230,7 @@ impl Queue {
         Ok(())
     }
 
-    /// `done`, `add_after` by the retry delay from `now_ms` on, and `failed` in one.
+    /// `done`, `add_after` by the retry delay from `now_ms` on, and `failed`, in one call.
     pub fn finish_retry(&mut self, key: &Key, now_ms: Millis) -> Result<(), Refusal>
         requires { IsTrue (has self.old.row.processing key.now) }
         ensures ok { OnOk result (self.new ≡ finished_retry self.old key.now now_ms) }
@@ -257,7 +259,7 @@ impl Queue {
     }
 }
 
-// Adds the keys, one after the other, and lets them wait no more.
+// Adds the keys, one after the other, and removes them from those that wait.
 fn add_all(waits: &mut Waits, work: &mut Work, keys: Vec<Key>)
     requires room { length keys.items ≤ work.old.room }
     requires placed { ArePlaced keys.items work.old.places }
@@ -270,7 +272,7 @@ fn add_all(waits: &mut Waits, work: &mut Work, keys: Vec<Key>)
     }
 }
 
-// Ends the work on the key, whose failures are forgotten.
+// Ends the work on the key, and forgets its failures.
 fn end_well(work: &mut Work, failures: &mut Failures, key: &Key)
     requires room { 0 < work.old.room }
     requires held { IsTrue (has work.old.row.processing key.now) }
@@ -283,7 +285,8 @@ fn end_well(work: &mut Work, failures: &mut Failures, key: &Key)
     work.end(key);
 }
 
-// Lets the key wait for the time, or for an earlier one where it waits already, with one failure more.
+// The key waits for the time, or for an earlier one for which it waits already, and a failure of it
+// is counted.
 fn put_off(
     waits: &mut Waits,
     failures: &mut Failures,

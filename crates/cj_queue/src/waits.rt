@@ -10,13 +10,12 @@ use std::alloc::Global;
 use std::collections::BTreeMap;
 use std::marker::Model;
 
-/// Keys that wait, each for its time. Contracts see the time of each.
+/// Waiting keys, each with its time. Contracts see the time of each key.
 pub struct Waits {
     times: BTreeMap<Key, u64>,
     order: BTreeMap<(u64, Key), ()>,
 }
 
-// A function of its own, so that whoever gives one up makes one call and not one for each part.
 impl Drop for Waits {
     fn drop(self) {
         let Waits { times: _, order: _ } = self;
@@ -39,7 +38,7 @@ impl Model for Waits {
 }
 
 impl Waits {
-    /// Nothing waits.
+    /// No key waits.
     pub fn new(alloc: Global) -> Waits
         ensures { result ≡ map.empty }
     {
@@ -49,7 +48,7 @@ impl Waits {
         }
     }
 
-    /// Lets the key wait for the time, or for an earlier one where it waits already.
+    /// The key waits for the time, or for an earlier one for which it waits already.
     pub fn keep(&mut self, alloc: Global, key: &Key, at: u64) -> Result<(), Refusal>
         ensures ok { OnOk result (self.new ≡ waits_for self.old key.now at) }
         ensures err { OnErr result (self.new ≡ self.old) }
@@ -76,7 +75,7 @@ impl Waits {
         remove_both(&mut self.times, &mut self.order, key);
     }
 
-    /// Nothing waits any more.
+    /// Removes all waiting keys.
     pub fn clear(&mut self)
         ensures { self.new ≡ map.empty }
     {
@@ -94,7 +93,7 @@ impl Waits {
     }
 }
 
-// The time for which a key waits that waited for `before`, if for any, and is to wait for `at`.
+// The earlier of the time for which a key waits already, if it does, and a new one.
 fn kept_time(before: Option<u64>, at: u64) -> u64
     ensures { result ≡ earlier before at }
 {
@@ -132,7 +131,7 @@ fn push_copy(found: &mut Vec<Key>, alloc: Global, key: &Key) -> Result<(), Refus
     found.push(copy).map_err(|_| Refusal::OutOfMemory)
 }
 
-// Lets a key wait that did not.
+// Adds a key that doesn't wait yet.
 fn put_new(
     times: &mut BTreeMap<Key, u64>,
     order: &mut BTreeMap<(u64, Key), ()>,
@@ -158,7 +157,7 @@ fn put_new(
     Ok(())
 }
 
-// Lets a key that waits wait for an earlier time.
+// Gives a waiting key an earlier time.
 fn put_earlier(
     times: &mut BTreeMap<Key, u64>,
     order: &mut BTreeMap<(u64, Key), ()>,
@@ -186,7 +185,7 @@ fn put_earlier(
     Ok(())
 }
 
-// Takes the key out of both maps.
+// Removes the key from both maps.
 fn remove_both(times: &mut BTreeMap<Key, u64>, order: &mut BTreeMap<(u64, Key), ()>, key: &Key)
     requires agree { Agrees times.old order.old }
     ensures agree { Agrees times.new order.new }

@@ -11,21 +11,20 @@ use std::alloc::Global;
 use std::collections::HashSet;
 use std::marker::Model;
 
-/// The keys that want work, and those that are being worked on.
+/// The dirty keys, and the keys that are being worked on.
 ///
-/// A key needs a place in the line before it is added. `prepare` makes one, with the memory that this takes, so that
-/// an add can't fail. Contracts see the line, the dirty keys and those that are being worked on, the keys that have a
-/// place, and for how many adds there is room.
+/// A key needs a place in the line before it is added. `prepare` makes one, with the memory that
+/// this takes, so that an add can't fail. Contracts see the line, the dirty keys and those that are
+/// being worked on, the keys that have a place, and for how many adds there is room.
 pub struct Work {
-    // The keys that want work and that nobody works on.
+    // The dirty keys that nobody works on.
     line: Line,
-    // Those of the keys being worked on that were added meanwhile.
+    // The keys being worked on that were added again meanwhile.
     again: HashSet<Key>,
     // The keys that are being worked on.
     processing: HashSet<Key>,
 }
 
-// A function of its own, so that whoever gives one up makes one call and not one for each part.
 impl Drop for Work {
     fn drop(self) {
         let Work {
@@ -68,7 +67,7 @@ fn put(set: &mut HashSet<Key>, key: Key)
     let _ = set.insert(key);
 }
 
-// Makes room in a set for so many keys more.
+// Reserves room in a set for `count` more keys.
 fn make_room(set: &mut HashSet<Key>, count: usize) -> Result<(), Refusal>
     ensures same { (q : Place) → stands_in set.new.keys q ≡ stands_in set.old.keys q }
     ensures ok { OnOk result (count ≤ spare set.new) }
@@ -80,7 +79,7 @@ fn make_room(set: &mut HashSet<Key>, count: usize) -> Result<(), Refusal>
 }
 
 impl Work {
-    /// No key.
+    /// No dirty key, and none that is being worked on.
     pub fn new(alloc: Global) -> Work
         ensures { result.row ≡ new_row }
     {
@@ -91,7 +90,7 @@ impl Work {
         }
     }
 
-    /// Makes room for so many adds.
+    /// Reserves room for `count` adds.
     #[tactic(auto, using(crate::proofs::RowLemmas::same_dirty, crate::proofs::RowLemmas::kept_same))]
     pub fn reserve(&mut self, count: usize) -> Result<(), Refusal>
         ensures row { self.new.row ≡ self.old.row }
@@ -126,7 +125,8 @@ impl Work {
         Ok(())
     }
 
-    /// The key is dirty, and goes last in the line unless it was dirty or is being worked on.
+    /// Marks the key as dirty, and appends it to the line unless it was dirty or is being worked
+    /// on.
     pub fn add(&mut self, key: Key)
         requires room { 0 < self.old.room }
         requires placed { stands_in self.old.places key ≡ true }
@@ -158,14 +158,14 @@ impl Work {
         Ok(())
     }
 
-    /// The first of the line.
+    /// The first key of the line.
     pub fn front(&self) -> Option<&Key>
         ensures { option_copied result ≡ first self.now.row.line }
     {
         self.line.first()
     }
 
-    /// Moves the first of the line to those that are being worked on.
+    /// Moves the first key of the line to those that are being worked on.
     pub fn take(&mut self, alloc: Global) -> Result<Option<Key>, Refusal>
         ensures answer { IfOk result (λ k. k ≡ first self.old.row.line) }
         ensures ok { OnOk result (self.new.row ≡ row_take self.old.row) }
@@ -188,7 +188,7 @@ impl Work {
         self.processing.contains(key)
     }
 
-    /// Ends the work on a key, which goes last where it is dirty.
+    /// Ends the work on a key, and appends it to the line if it is dirty.
     pub fn end(&mut self, key: &Key)
         requires room { 0 < self.old.room }
         requires held { IsTrue (has self.old.row.processing key.now) }

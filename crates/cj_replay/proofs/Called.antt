@@ -12,10 +12,12 @@ use Rattle.cj_script.specs.operations.Calls.{IsCallOf, IsEnd}
 use Rattle.cj_replay.specs.Runs.{job_for}
 
 -- For call_after: a call that is right where each key has the Job of the operation's own is right where the Jobs stand.
-pub called : (zones : ZoneTable) (snapshot : Snapshot) (job_at : Place → Option Job) (job : Option Job) (operation : Operation) (call : Call)
+pub called : (zones : ZoneTable) (snapshot : Snapshot) (job_at : Place → Option Job) (job : Option Job)
+    (operation : Operation) (call : Call)
     → job ≡ job_for job_at operation → IsCallOf zones snapshot (λ _. job) operation call
     → IsCallOf zones snapshot job_at operation call
 called zones snapshot job_at job (Calls said) call e is = is
-called zones snapshot job_at job (Ends key outcome at) call e is = subst (λ (j : Option Job). IsEnd j key outcome at call) e is
+called zones snapshot job_at job (Ends key outcome at) call e is
+    = subst (λ (j : Option Job). IsEnd j key outcome at call) e is
 called zones snapshot job_at job (Claims at) call e is = is
 called zones snapshot job_at job (Closes end) call e is = is

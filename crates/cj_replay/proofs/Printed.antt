@@ -44,7 +44,8 @@ module _ (zones : ZoneTable) (limits : Kept) (h : List Told) (start : Option (Li
   pub none_played : (waits : List ℕ) → waits ≡ [] → HasPlayed zones limits h [] false h start start waits
   none_played waits e = record { text = []; makes = (refl, refl, refl); printed = nothing_printed start waits e }
 
-  module _ (done : List Step) (full : Bool) (h1 : List Told) (old : Option (List ℕ)) (waited : List ℕ) (a : HasPlayed zones limits h done full h1 start old waited) (step : Step) where
+  module _ (done : List Step) (full : Bool) (h1 : List Told) (old : Option (List ℕ)) (waited : List ℕ)
+      (a : HasPlayed zones limits h done full h1 start old waited) (step : Step) where
     -- With one step more that is printed, HasPlayed goes on from the steps before it.
     pub played_more : (now : Bool) (h2 : List Told) (new : Option (List ℕ)) (waits : List ℕ)
         → PrintsStep zones limits h1 step now h2 old waited new waits
@@ -99,7 +100,8 @@ module _ (window : ℕ) (h : List Told) (old : Option (List ℕ)) (waited : List
       → AppendsSome old new (waited ++ report) → CutsReport window h old waited new
   report_cut new report e b = record { rest = report; is_rest = inr e; begun = b }
 
-  module _ (between new : Option (List ℕ)) (report waits : List ℕ) (e : report ≡ report_of window h) (p : Prints old waited report between waits) where
+  module _ (between new : Option (List ℕ)) (report waits : List ℕ) (e : report ≡ report_of window h)
+      (p : Prints old waited report between waits) where
     -- Since before the report, what waited and the report were printed, of which an end still
     -- waits.
     has : HasPrinted old between waits (waited ++ report)
@@ -153,7 +155,8 @@ module _ (s : Script) where
     x.begun,
   )
 
-  module _ (full : Bool) (h : List Told) (a b c : Option (List ℕ)) (waits : List ℕ) (x : HasPlayed s.zones s.limits [] s.steps.items full h a b waits) (k : KeepsPromise s.limits.window h) where
+  module _ (full : Bool) (h : List Told) (a b c : Option (List ℕ)) (waits : List ℕ)
+      (x : HasPlayed s.zones s.limits [] s.steps.items full h a b waits) (k : KeepsPromise s.limits.window h) where
     -- The lines of all steps with the report behind them are the whole run.
     whole : (report : List ℕ) → report ≡ report_of s.limits.window h → IsReplayed s (x.text ++ report) full
     whole report e = record {
@@ -206,7 +209,8 @@ at_step : (steps : List Step) (i : ℕ) (step : Step) → i < length steps → s
     → take (i + 1) steps ≡ take i steps ++ step ∷ []
 at_step steps i step lt is = take_more steps i step lt ∙ ap (λ (x : Step). take i steps ++ x ∷ []) (sym is)
 
-module _ (zones : ZoneTable) (limits limits' : Kept) (h : List Told) (start : Option (List ℕ)) (steps : List Step) (i : ℕ) (step : Step) (lt : i < length steps) (is : step ≡ get_or steps i step) (kept : limits' ≡ limits)
+module _ (zones : ZoneTable) (limits limits' : Kept) (h : List Told) (start : Option (List ℕ)) (steps : List Step)
+    (i : ℕ) (step : Step) (lt : i < length steps) (is : step ≡ get_or steps i step) (kept : limits' ≡ limits)
     (full : Bool) (h1 : List Told) (old : Option (List ℕ)) (waited : List ℕ) (a : HasPlayed zones limits h
     (take i steps) full h1 start old waited) where
   -- For print_all: HasPlayed goes on at a turn of its loop that prints a step.

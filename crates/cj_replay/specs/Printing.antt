@@ -10,29 +10,36 @@ use Rattle.cj_script.specs.declared.step.Step.{Step}
 use Rattle.cj_replay.specs.Runs.{MakesAll, MakesStep}
 
 -- its line was printed
-pub record PrintsStep (zones : ZoneTable) (limits : Kept) (h : List Told) (step : Step) (full : Bool) (h' : List Told) (old : Option (List ℕ)) (waited : List ℕ) (new : Option (List ℕ)) (waits : List ℕ) : Type 0 where
+pub record PrintsStep (zones : ZoneTable) (limits : Kept) (h : List Told) (step : Step)
+    (full : Bool) (h' : List Told) (old : Option (List ℕ)) (waited : List ℕ) (new : Option (List ℕ))
+    (waits : List ℕ) : Type 0 where
   pub line : List ℕ
   pub makes : MakesStep zones limits h step line full h'
   pub printed : Prints old waited line new waits
 
 -- the step's line, or nothing where there was no memory for it
 abbrev pub IsLine : ZoneTable → Kept → List Told → Step → List ℕ → Type 0
-IsLine zones limits h step line = (line ≡ []) ⊎ ((full : Bool) × (h' : List Told) × MakesStep zones limits h step line full h')
+IsLine zones limits h step line = (line ≡ [])
+    ⊎ ((full : Bool) × (h' : List Told) × MakesStep zones limits h step line full h')
 
 -- a beginning of what waited and its line was printed
-pub record PrintsPart (zones : ZoneTable) (limits : Kept) (h : List Told) (step : Step) (old : Option (List ℕ)) (waited : List ℕ) (new : Option (List ℕ)) : Type 0 where
+pub record PrintsPart (zones : ZoneTable) (limits : Kept) (h : List Told) (step : Step)
+    (old : Option (List ℕ)) (waited : List ℕ) (new : Option (List ℕ)) : Type 0 where
   pub line : List ℕ
   pub is_line : IsLine zones limits h step line
   pub begun : AppendsSome old new (waited ++ line)
 
--- all these steps were made, and since a start their lines were printed, of which an end still waits
-pub record HasPlayed (zones : ZoneTable) (limits : Kept) (h : List Told) (done : List Step) (full : Bool) (h' : List Told) (start new : Option (List ℕ)) (waits : List ℕ) : Type 0 where
+-- all these steps were made, and since a start their lines were printed, of which an end still
+-- waits
+pub record HasPlayed (zones : ZoneTable) (limits : Kept) (h : List Told) (done : List Step)
+    (full : Bool) (h' : List Told) (start new : Option (List ℕ)) (waits : List ℕ) : Type 0 where
   pub text : List ℕ
   pub makes : MakesAll zones limits h done text full h'
   pub printed : HasPrinted start new waits text
 
 -- only the first of these steps were made, and of their lines a beginning was printed
-pub record BreaksOff (zones : ZoneTable) (limits : Kept) (h : List Told) (steps : List Step) (start new : Option (List ℕ)) : Type 0 where
+pub record BreaksOff (zones : ZoneTable) (limits : Kept) (h : List Told) (steps : List Step)
+    (start new : Option (List ℕ)) : Type 0 where
   pub done : List Step
   pub left : List Step
   pub are : steps ≡ done ++ left
@@ -47,7 +54,8 @@ abbrev pub PrintsReport : ℕ → List Told → Option (List ℕ) → List ℕ �
 PrintsReport window h old waited new = Appends old new (waited ++ report_of window h)
 
 -- a beginning of both, or of what waited alone
-pub record CutsReport (window : ℕ) (h : List Told) (old : Option (List ℕ)) (waited : List ℕ) (new : Option (List ℕ)) : Type 0 where
+pub record CutsReport (window : ℕ) (h : List Told) (old : Option (List ℕ)) (waited : List ℕ)
+    (new : Option (List ℕ)) : Type 0 where
   pub rest : List ℕ
   pub is_rest : (rest ≡ []) ⊎ (rest ≡ report_of window h)
   pub begun : AppendsSome old new (waited ++ rest)

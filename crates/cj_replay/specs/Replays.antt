@@ -7,7 +7,8 @@ use Rattle.cj_script.specs.declared.script.Script.{Script}
 use Rattle.cj_script.specs.declared.step.Step.{Step}
 use Rattle.cj_replay.specs.Runs.{MakesAll}
 
--- all steps were made on an empty world, and the report follows; and whether the history was found full
+-- all steps were made on an empty world, and the report follows; and whether the history was found
+-- full
 -- rules: replay-lines, replay-report, replay-full
 pub record IsReplayed (s : Script) (text : List ℕ) (full : Bool) : Type 0 where
   pub history : List Told

@@ -1,5 +1,5 @@
--- What steps that are made one after the other print, and the history that they leave. Histories have the
--- newest entry first.
+-- What steps that are made one after the other print, and the history that they leave. Histories
+-- have the newest entry first.
 use Rattle.std.specs.Prelude.{◌≡◌, ℕ, ◌+◌, nat_le, Bool, true, false, ◌||◌, List, [], ◌∷◌, ◌++◌, length, if◌then◌else◌, Option, Some, None, Result, Err}
 use Rattle.std.specs.FinMap as map
 use Rattle.cj_base.specs.declared.refusal.Refusal.{Refusal}
@@ -23,11 +23,11 @@ use Rattle.cj_replay.specs.snapshots.Snapshots.{seen_of}
 
 -- ---- one step
 
--- the Job that stands at the key
+-- the Job at the key
 abbrev pub job_at : ℕ → List Told → Place → Option Job
 job_at window h key = map.get (state_of window h).store.jobs key
 
--- the Job that stands at the key of the end that an operation asks for; none at another operation
+-- the Job at the key of the end that an operation asks for; none at another operation
 abbrev pub job_for : (Place → Option Job) → Operation → Option Job
 job_for job_at (Ends key outcome at) = job_at key
 job_for job_at other = None
@@ -35,7 +35,8 @@ job_for job_at other = None
 -- what a call is answered after the history: HistoryFull at a full one, else what the history gives
 -- rule: replay-lines
 abbrev pub answered : Kept → List Told → Caller → Call → Result Reply Refusal
-answered limits h caller call = if nat_le limits.history (length h) then Err HistoryFull else answer_of limits.window h caller call
+answered limits h caller call = if nat_le limits.history (length h) then Err HistoryFull else
+    answer_of limits.window h caller call
 
 -- the place of its entry, if it is entered, counted from 1
 abbrev pub place_after : List Told → Result Reply Refusal → Option ℕ
@@ -53,12 +54,14 @@ abbrev pub wants_memory : Result Reply Refusal → Bool
 wants_memory (Err OutOfMemory) = true
 wants_memory other = false
 
--- the step's line is that of the answer that the history so far gives to its call, and its entry is added;
--- and whether the history was found full
+-- the step's line is that of the answer that the history so far gives to its call, and its entry is
+-- added; and whether the history was found full
 -- rule: replay-lines
-pub record MakesStep (zones : ZoneTable) (limits : Kept) (h : List Told) (step : Step) (line : List ℕ) (full : Bool) (h' : List Told) : Type 0 where
+pub record MakesStep (zones : ZoneTable) (limits : Kept) (h : List Told) (step : Step)
+    (line : List ℕ) (full : Bool) (h' : List Told) : Type 0 where
   pub call : Call
-  pub means : IsCallOf zones (seen_of step.caller.number h) (job_at limits.window h) step.operation call
+  pub means : IsCallOf zones (seen_of step.caller.number h) (job_at limits.window h) step.operation
+      call
   pub answer : Result Reply Refusal
   pub given : answer ≡ answered limits h step.caller call
   pub printed : line ≡ step_line (place_after h answer) step.who step.verb answer
@@ -68,7 +71,8 @@ pub record MakesStep (zones : ZoneTable) (limits : Kept) (h : List Told) (step :
 -- ---- all steps
 
 -- a step makes, and the others go on from what it leaves
-pub record MakesFirst (zones : ZoneTable) (limits : Kept) (h : List Told) (step : Step) (text : List ℕ) (full : Bool) (Others : List Told → List ℕ → Bool → Type 0) : Type 0 where
+pub record MakesFirst (zones : ZoneTable) (limits : Kept) (h : List Told) (step : Step)
+    (text : List ℕ) (full : Bool) (Others : List Told → List ℕ → Bool → Type 0) : Type 0 where
   pub line : List ℕ
   pub rest : List ℕ
   pub now : Bool
@@ -79,10 +83,11 @@ pub record MakesFirst (zones : ZoneTable) (limits : Kept) (h : List Told) (step 
   pub printed : text ≡ line ++ rest
   pub found : full ≡ (now || later)
 
--- the lines of all steps, each as the history so far answers it, whether one of them found the history full,
--- and the history in the end
+-- the lines of all steps, each as the history so far answers it, whether one of them found the
+-- history full, and the history in the end
 -- rules: replay-lines, replay-full
 abbrev pub MakesAll : ZoneTable → Kept → List Told → List Step → List ℕ → Bool → List Told → Type 0
 MakesAll zones limits h [] text full h' = (text ≡ []) × (full ≡ false) × (h' ≡ h)
 MakesAll zones limits h (step ∷ steps) text full h' =
-    MakesFirst zones limits h step text full (λ between rest later. MakesAll zones limits between steps rest later h')
+    MakesFirst zones limits h step text full
+    (λ between rest later. MakesAll zones limits between steps rest later h')

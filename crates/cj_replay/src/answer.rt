@@ -1,4 +1,4 @@
-// What a step is answered, and what that adds.
+// How the world answers a step, and what that adds to its history.
 ghost use Rattle.std.specs.Prelude.{◌≡◌, List, IfOk, IfErr, OnOk, length, string_bytes, if◌then◌else◌, Some, None};
 ghost use Rattle.cj_base.specs.declared.refusal.Refusal.TheVariants.{OutOfMemory};
 ghost use Rattle.cj_calls.specs.Rows.{Told};
@@ -39,7 +39,7 @@ fn wants_memory(answer: &Answer) -> bool
     matches!(answer, Err(Refusal::OutOfMemory))
 }
 
-/// Makes the call, unless there is no memory.
+/// Makes the call, or fails for want of memory.
 #[tactic(auto, using(crate::proofs::Answered::given, crate::proofs::Answered::left))]
 pub(crate) fn answer_to(
     alloc: Global,
@@ -81,7 +81,7 @@ fn place_of(world: &World, answer: &Answer) -> Option<usize>
     }
 }
 
-/// The line of a step whose call was answered so just now.
+/// The line of a step whose call has just been answered so.
 pub(crate) fn line_of(
     alloc: Global,
     world: &World,

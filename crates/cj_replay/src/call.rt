@@ -14,7 +14,7 @@ use cj_world::World;
 use cj_zone::ZoneTable;
 use std::alloc::Global;
 
-// The Job that an operation ends, if one stands at its key.
+// The Job that an operation ends, if there is one at its key.
 fn job_of<'w>(world: &'w World, operation: &Operation) -> Option<&'w Shared<Job>>
     ensures { option_copied result
         ≡ job_for (job_at world.now.limits.window world.now.history) operation.now }
@@ -25,7 +25,8 @@ fn job_of<'w>(world: &'w World, operation: &Operation) -> Option<&'w Shared<Job>
     }
 }
 
-// The call of an operation of a caller that has seen so much, after the world's history.
+// The call of an operation of a caller that has seen what the snapshot says, after the world's
+// history.
 #[tactic(auto, using(crate::proofs::Called::called))]
 fn call_after(
     alloc: Global,

@@ -1,4 +1,4 @@
-// All steps, and the report.
+// The replay of all steps, and the report.
 ghost use Rattle.std.specs.Prelude.{◌≡◌, [], List, ℕ, IfOk, OnOk, OnErr};
 ghost use Rattle.std.specs.Io.KnownBytes.{Appends};
 ghost use Rattle.cj_io.specs.Writing.{AppendsSome};
@@ -75,7 +75,7 @@ fn promised(world: &World)
     world.history();
 }
 
-// Prints the report of the world after what waits to be written.
+// Prints the report of the world after the lines that still wait.
 #[tactic(auto, using(crate::proofs::Printed::report_printed, crate::proofs::Printed::report_cut, crate::proofs::Printed::report_begun, crate::proofs::Printed::report_lacking))]
 fn print_report<W: Write>(
     alloc: Global,
@@ -93,7 +93,7 @@ fn print_report<W: Write>(
     pending.finish(out)
 }
 
-// Makes the steps of a script on an empty world.
+// Makes the steps of a script on an empty world, and prints their lines and the report.
 #[tactic(auto, using(crate::proofs::Printed::replayed, crate::proofs::Printed::broken_off, crate::proofs::Printed::cut_in_report))]
 fn replay_on<W: Write>(
     alloc: Global,
@@ -123,12 +123,12 @@ fn replay_on<W: Write>(
     Ok(is_full)
 }
 
-/// Makes the steps of a script one after the other on an empty world, and prints the line of each as the
-/// world answers it, and then the report: the objects and the reasons of the end. Answers whether a step
-/// found the history full, which stops nothing.
+/// Makes the steps of a script on an empty world, one after the other. Prints the line of each as
+/// the world answers it, and then the report: the objects and the reasons of the end. Answers
+/// whether a step found the history full, which stops nothing.
 ///
-/// Lines are written as the steps go, through a buffer of 64 KiB. Where memory or the writer fails the run
-/// ends, and a beginning of what it prints was printed.
+/// Lines are written as the steps go, through a buffer of 64 KiB. Where memory or the writer fails
+/// the replay ends, and a beginning of its output was printed.
 #[tactic(auto, using(crate::proofs::Printed::nothing_done))]
 pub fn replay<W: Write>(alloc: Global, script: &Script, out: &mut W) -> Result<bool, Failure>
     ensures whole { IfOk result (λ full. (text : List ℕ) × IsReplayed script.now text full

@@ -1,4 +1,4 @@
-// What each worker has seen in its sync so far, as a history tells it.
+// What each worker has seen in its sync so far, by a history.
 mod kept;
 mod reply;
 

@@ -1,4 +1,4 @@
-// One step.
+// One step of a script, made on the world.
 ghost use Rattle.std.specs.Prelude.{◌≡◌, IfOk, IfErr, OnOk, string_bytes};
 ghost use Rattle.cj_base.specs.declared.refusal.Refusal.TheVariants.{OutOfMemory};
 ghost use Rattle.cj_replay.specs.snapshots.Remembered.{Remembers};
@@ -20,7 +20,8 @@ pub(crate) struct Stepped {
     pub is_full: bool,
 }
 
-/// Makes a step's call on the world. Where there is no memory nothing is said of the world, and the run ends.
+/// Makes a step's call on the world. Where memory is wanting nothing is said of the world, and the
+/// replay ends.
 #[tactic(auto, using(crate::proofs::Stepped::makes))]
 pub(crate) fn make_step(
     alloc: Global,

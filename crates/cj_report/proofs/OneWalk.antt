@@ -61,7 +61,8 @@ elsewhere : (before new : Bool) → before ≡ ((new && false) || before)
 elsewhere before true = refl
 elsewhere before false = refl
 
-module _ (m : map.FinMap place_cmp ReasonSet) (key : Place) (reasons : List Reason) (set : ReasonSet) (adds : Adds reasons (told m key) set) (other : Place) (reason : Reason) where
+module _ (m : map.FinMap place_cmp ReasonSet) (key : Place) (reasons : List Reason) (set : ReasonSet)
+    (adds : Adds reasons (told m key) set) (other : Place) (reason : Reason) where
   abbrev Is : Bool → Type 0
   Is b = has reason (told (map.insert m key set) other)
       ≡ ((said.is_told reason reasons && b) || has reason (told m other))

@@ -32,7 +32,8 @@ named_text key version = codes "ok " ++ (key.name ++ (codes " v=" ++ decimal ver
 -- the claimed time with the version of the status that says so
 abbrev pub claimed_text : Option (ℕ × ℕ) → List ℕ
 claimed_text None = codes "ok none"
-claimed_text (Some (time, version)) = codes "ok " ++ (time_text_of time ++ (codes " v=" ++ decimal version))
+claimed_text (Some (time, version)) = codes "ok "
+    ++ (time_text_of time ++ (codes " v=" ++ decimal version))
 
 -- the Job that was dropped with the version of its deletion
 abbrev pub dropped_text : Option (Place × ℕ) → List ℕ
@@ -48,7 +49,7 @@ abbrev pub job_text : Verb → Job → List ℕ
 job_text (Writes verb) job = version_text job.meta.version
 job_text (Does verb) job = made_text verb job
 
--- the CronJob of a key, if it stands
+-- the CronJob of a key, if there is one
 abbrev pub seen_text : {A : Type 0} → Option A → List ℕ
 seen_text None = codes "ok none"
 seen_text (Some cron) = codes "ok"

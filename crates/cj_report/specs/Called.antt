@@ -17,6 +17,7 @@ role_word Informer = codes "Informer"
 role_word Worker = codes "Worker"
 
 -- the name of a call with a small first letter, as a script has it
+-- rule: explain-refused
 unfoldable pub call_word : Call → List ℕ
 call_word (Of.CreateCron draft at) = codes "createCron"
 call_word (Of.UpdateCron draft) = codes "updateCron"

@@ -17,4 +17,6 @@ place_text (Some number) = decimal number
 -- rule: step-line
 abbrev pub step_line : Option ℕ → List ℕ → Verb → Result Reply Refusal → List ℕ
 step_line place who verb answer =
-    place_text place ++ (codes " " ++ (who ++ (codes " " ++ (verb_word verb ++ (codes " " ++ (answer_text verb answer ++ codes "\n"))))))
+    place_text place ++ (codes " " ++ (who
+    ++ (codes " " ++ (verb_word verb ++
+    (codes " " ++ (answer_text verb answer ++ codes "\n"))))))

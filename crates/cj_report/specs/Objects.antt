@@ -17,8 +17,11 @@ moment_text (Some time) = time_text_of time
 -- rule: object-lines
 unfoldable pub cron_line : CronJob → List ℕ
 cron_line cron =
-    codes "cron " ++ (cron.key.namespace ++ (codes "/" ++ (cron.key.name ++ (codes " last " ++ (moment_text cron.status.last_schedule_time
-    ++ (codes " success " ++ (moment_text cron.status.last_successful_time ++ (codes " active " ++ (decimal (length cron.status.active) ++ codes "\n")))))))))
+    codes "cron " ++ (cron.key.namespace ++
+    (codes "/" ++ (cron.key.name ++ (codes " last "
+    ++ (moment_text cron.status.last_schedule_time
+    ++ (codes " success " ++ (moment_text cron.status.last_successful_time
+    ++ (codes " active " ++ (decimal (length cron.status.active) ++ codes "\n")))))))))
 
 -- the name in the controller reference
 abbrev pub name_in : Option OwnerRef → List ℕ
@@ -37,7 +40,9 @@ state_text (Some Failed) = codes "Failed"
 -- rule: object-lines
 unfoldable pub job_line : Job → List ℕ
 job_line job =
-    codes "job " ++ (job.key.namespace ++ (codes "/" ++ (job.key.name ++ (codes " " ++ (owner_text job.owners ++ (codes " " ++ (state_text job.outcome ++ codes "\n")))))))
+    codes "job " ++ (job.key.namespace ++
+    (codes "/" ++ (job.key.name ++ (codes " "
+    ++ (owner_text job.owners ++ (codes " " ++ (state_text job.outcome ++ codes "\n")))))))
 
 -- a line for each CronJob
 -- rule: object-lines

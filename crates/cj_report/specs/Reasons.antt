@@ -1,5 +1,5 @@
--- The reasons of a history: each was told when a worker finished a key that it had taken. Histories are read
--- from the newest entry on.
+-- The reasons of a history: each is in the Finish of a worker, for the key that it had taken.
+-- Histories are read from the newest entry on.
 use Rattle.std.specs.Prelude.{ℕ, ◌==◌, Bool, false, ◌&&◌, ◌||◌, List, [], ◌∷◌, ◌++◌, codes, bytes_eq, filter, if◌then◌else◌, Option, Some, None, Result, Ok, Err}
 use Rattle.std.specs.List.{list_any}
 use Rattle.cj_base.specs.declared.refusal.Refusal.{Refusal}
@@ -54,11 +54,12 @@ abbrev pub tells : Reason → Call → Result Reply Refusal → Bool
 tells reason call (Ok reply) = is_told reason (reasons_in call)
 tells reason call (Err refusal) = false
 
--- the reason was told of the key
+-- the key has the reason
 -- rule: reason-lines
 abbrev pub has_reason : Place → Reason → List Told → Bool
 has_reason key reason [] = false
-has_reason key reason (t ∷ h) = (tells reason t.call t.answer && is_key key (held t.caller.number h)) || has_reason key reason h
+has_reason key reason (t ∷ h) = (tells reason t.call t.answer
+    && is_key key (held t.caller.number h)) || has_reason key reason h
 
 -- ---- lines
 
@@ -66,14 +67,15 @@ has_reason key reason (t ∷ h) = (tells reason t.call t.answer && is_key key (h
 abbrev pub by_name : List Reason
 by_name = FailedCreate ∷ JobAlreadyActive ∷ TooManyMissedTimes ∷ UnknownTimeZone ∷ []
 
--- those that were told of the key
+-- those that the key has
 -- rule: reason-lines
 abbrev pub told_of : Place → List Told → List Reason → List Reason
 told_of key h reasons = filter (λ reason. has_reason key reason h) reasons
 
 -- `reason NAMESPACE/NAME REASON`
 unfoldable pub reason_line : Place → List ℕ → List ℕ
-reason_line key word = codes "reason " ++ (key.namespace ++ (codes "/" ++ (key.name ++ (codes " " ++ (word ++ codes "\n")))))
+reason_line key word = codes "reason " ++
+    (key.namespace ++ (codes "/" ++ (key.name ++ (codes " " ++ (word ++ codes "\n")))))
 
 abbrev pub each_line : Place → List Reason → List ℕ
 each_line key [] = []

@@ -1,4 +1,4 @@
--- The report of a history: the objects that it leaves, and the reasons that it tells.
+-- The report of a history: the objects that it leaves, and the reasons in it.
 use Rattle.std.specs.Prelude.{ℕ, List, ◌++◌}
 use Rattle.std.specs.FinMap as map
 use Rattle.cj_types.specs.declared.cron.CronJob.{CronJob}
@@ -9,7 +9,7 @@ use Rattle.cj_state.specs.Legal.{state_of}
 use Rattle.cj_report.specs.Objects.{cron_lines, job_lines}
 use Rattle.cj_report.specs.Reasons.{reason_lines}
 
--- the lines of the objects, and of the reasons that the history tells
+-- the lines of the objects, and of the reasons in the history
 abbrev pub report_lines : List CronJob → List Job → List Told → List ℕ
 report_lines crons jobs h = (cron_lines crons ++ job_lines jobs) ++ reason_lines h crons
 

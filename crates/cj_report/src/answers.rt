@@ -1,4 +1,4 @@
-// What a step's answer prints.
+// What is printed of the answer to a step.
 ghost use Rattle.std.specs.Prelude.{◌≡◌, IfOk, IfErr, string_bytes};
 ghost use Rattle.cj_base.specs.declared.refusal.Refusal.TheVariants.{OutOfMemory};
 ghost use Rattle.cj_report.specs.Answers as said;
@@ -86,7 +86,7 @@ fn job_text(alloc: Global, verb: Verb, job: &Job) -> Result<String, Refusal>
     }
 }
 
-// How many of them are there.
+// How many of the Jobs that a live read looked for are there.
 fn found(jobs: &[Option<Shared<Job>>]) -> usize
     ensures { result ≡ said.found jobs.now }
 {
@@ -122,7 +122,8 @@ fn reply_text(alloc: Global, verb: Verb, reply: &Reply) -> Result<String, Refusa
     }
 }
 
-/// What the answer of a step with this verb prints: `ok`, with what there is to say, or the name of the refusal.
+/// What is printed of the answer to a step with this verb: `ok`, with what there is to say, or the
+/// name of the refusal.
 pub(crate) fn answer_text(alloc: Global, verb: Verb, answer: &Answer) -> Result<String, Refusal>
     ensures ok { IfOk result (λ s. string_bytes s ≡ said.answer_text verb answer.now) }
     ensures err { IfErr result (λ e. e ≡ OutOfMemory) }

@@ -1,4 +1,4 @@
-// Who called, for what, and which object that is about.
+// The words for who called and for what, and which object a call is about.
 ghost use Rattle.std.specs.Prelude.{◌≡◌, option_copied, option_map};
 ghost use Rattle.cj_report.specs.Called as said;
 
@@ -16,7 +16,7 @@ pub(crate) fn role_word(role: Role) -> &'static str
     }
 }
 
-/// The name of a call with a small first letter, as a script has it.
+/// The name of a call with a small first letter, as scripts have it.
 #[tactic(auto, unfolding(crate::specs::Called::call_word))]
 pub fn call_word(call: &Call) -> &'static str
     ensures { result.now ≡ said.call_word call.now }

@@ -1,4 +1,4 @@
-// How texts stand in columns, and keys in them.
+// Columns of text, and keys in them.
 ghost use Rattle.std.specs.Prelude.{◌≡◌, ◌++◌, IfOk, IfErr, OnOk, option_copied, replicate, string_bytes};
 ghost use Rattle.cj_base.specs.declared.refusal.Refusal.TheVariants.{OutOfMemory};
 ghost use Rattle.cj_report.specs.Columns as said;
@@ -15,7 +15,7 @@ fn push_blanks(text: &mut String, count: usize) -> Result<(), AllocError>
     Ok(())
 }
 
-/// A cell, and blanks behind it.
+/// A cell, filled up with blanks.
 pub(crate) fn push_cell(text: &mut String, width: usize, cell: &str) -> Result<(), AllocError>
     ensures { OnOk result (string_bytes text.new
         ≡ string_bytes text.old ++ said.cell width cell.now) }

@@ -1,4 +1,4 @@
-// The line of a step.
+// The line that a replay prints of a step.
 ghost use Rattle.std.specs.Prelude.{◌≡◌, IfOk, IfErr, string_bytes};
 ghost use Rattle.cj_base.specs.declared.refusal.Refusal.TheVariants.{OutOfMemory};
 ghost use Rattle.cj_report.specs.Lines as said;
@@ -20,8 +20,8 @@ fn place_text(alloc: Global, place: Option<usize>) -> Result<String, Refusal>
     }
 }
 
-/// `PLACE WHO DO ANSWER`: the place of the step's entry in the history, or `-` where it wasn't entered; who
-/// did what; and what that was answered.
+/// `PLACE WHO DO ANSWER`: the place of the step's entry in the history, or `-` where it wasn't
+/// entered; who did what; and what that was answered.
 pub fn step_line(
     alloc: Global,
     place: Option<usize>,

@@ -87,9 +87,9 @@ fn push_jobs(text: &mut String, alloc: Global, jobs: &[Shared<Job>]) -> Result<(
     Ok(())
 }
 
-/// A line for each CronJob, with its last times and how many Jobs its status names, then one for each Job,
-/// with the name in its controller reference and how it stands.
-pub fn objects_text(
+/// A line for each CronJob, with its last times and how many Jobs its status names, then one for
+/// each Job, with the name in its controller reference and how it stands.
+pub(crate) fn objects_text(
     alloc: Global,
     crons: &[Shared<CronJob>],
     jobs: &[Shared<Job>],

@@ -1,4 +1,4 @@
-// The reasons that a history tells.
+// The lines of the reasons in a history.
 ghost use Rattle.std.specs.Prelude.{◌≡◌, List, IfOk, IfErr, string_bytes};
 ghost use mathlib.Core.List.{reverse};
 ghost use Rattle.cj_base.specs.declared.refusal.Refusal.TheVariants.{OutOfMemory};
@@ -11,7 +11,7 @@ use cj_calls::Entry;
 use cj_types::{CronJob, Key, Reason, Refusal, Shared};
 use std::alloc::Global;
 
-// Those of the reasons that were told of the key.
+// A line for each reason of the key.
 fn told_of(
     alloc: Global,
     key: &Key,
@@ -78,9 +78,9 @@ fn key_lines(alloc: Global, key: &Key, tellings: &Tellings) -> Result<String, Re
     lines_or_none(alloc, key, told.as_slice())
 }
 
-/// A line for each reason that the history tells of each CronJob, by name, or one that says that there is
-/// none. A reason is told by an accepted Finish of a worker that had taken the CronJob's key.
-pub fn reasons_text(
+/// A line for each reason of each CronJob in the history, by name, or one that says that there is
+/// none. A reason is in an accepted Finish of a worker that had taken the CronJob's key.
+pub(crate) fn reasons_text(
     alloc: Global,
     crons: &[Shared<CronJob>],
     entries: &[Entry],

@@ -10,7 +10,7 @@ use cj_calls::Entry;
 use cj_types::{CronJob, Job, Refusal, Shared};
 use std::alloc::Global;
 
-/// The lines of these objects, and those of the reasons that the entries tell, the oldest entry first.
+/// The lines of these objects, and those of the reasons in the entries, the oldest entry first.
 pub fn report_text(
     alloc: Global,
     crons: &[Shared<CronJob>],

@@ -1,4 +1,4 @@
-// What a history tells, read once from its oldest entry on.
+// The reasons in a history, read once from its oldest entry on.
 ghost use Rattle.std.specs.Prelude.{◌≡◌, List, [], ◌∷◌, IfOk, IfErr, OnOk, option_copied};
 ghost use mathlib.Core.List.{reverse};
 ghost use Rattle.cj_base.specs.declared.refusal.Refusal.TheVariants.{OutOfMemory};
@@ -12,7 +12,7 @@ use cj_types::{Key, Reason, Refusal, TryCopy};
 use std::alloc::Global;
 use std::collections::BTreeMap;
 
-/// Some of the reasons.
+/// A set of reasons.
 #[derive(Clone, Copy)]
 struct ReasonSet {
     failed_create: bool,
@@ -21,12 +21,12 @@ struct ReasonSet {
     unknown_time_zone: bool,
 }
 
-/// What a history tells.
+/// The reasons in a history, by CronJob.
 #[derive(Drop)]
 pub(crate) struct Tellings {
     // The key that each worker took last, by the worker's number.
     keys: BTreeMap<u64, Key>,
-    // The reasons that were told of each key.
+    // The reasons of each key.
     reasons: Table<ReasonSet>,
 }
 
@@ -58,7 +58,7 @@ fn reasons_in(call: &Call) -> &[Reason]
     }
 }
 
-// The reasons that the entry tells: those of an accepted Finish.
+// The reasons in an entry: those of an accepted Finish.
 pub(crate) fn reasons_told(entry: &Entry) -> &[Reason]
     ensures { result.now ≡ known.reasons_told entry.now.call entry.now.answer }
 {
@@ -75,7 +75,7 @@ pub(crate) fn is_told(reason: Reason, reasons: &[Reason]) -> bool
 }
 
 impl ReasonSet {
-    // None of them.
+    // The empty set.
     fn new() -> ReasonSet
         ensures { result ≡ known.no_reason }
     {
@@ -87,7 +87,7 @@ impl ReasonSet {
         }
     }
 
-    // Those of the list too.
+    // The set with those of the list added.
     fn with(self, reasons: &[Reason]) -> ReasonSet
         ensures { known.Adds reasons.now self result }
     {
@@ -114,7 +114,7 @@ impl ReasonSet {
 }
 
 impl Tellings {
-    /// Of no entry.
+    /// Nothing was read yet.
     pub(crate) fn new(alloc: Global) -> Tellings
         ensures { known.Knows result [] }
     {
@@ -124,7 +124,7 @@ impl Tellings {
         }
     }
 
-    // The reasons that were told of the key.
+    // The reasons of the key.
     fn told(&self, key: &Key) -> ReasonSet
         ensures { result ≡ known.told self.now.reasons key.now }
     {
@@ -134,7 +134,7 @@ impl Tellings {
         }
     }
 
-    // The worker takes the key, if there is one.
+    // Records that the worker took the key, if there is one.
     fn take(&mut self, alloc: Global, number: u64, key: Option<&Key>) -> Result<(), Refusal>
         ensures keys { OnOk result (known.Takes number (option_copied key.entry) self.old.keys
             self.new.keys) }
@@ -150,7 +150,7 @@ impl Tellings {
         }
     }
 
-    // The reasons are told of the key that the worker took last.
+    // Adds the reasons to the key that the worker took last.
     fn tell(&mut self, alloc: Global, number: u64, reasons: &[Reason]) -> Result<(), Refusal>
         ensures reasons { OnOk result (known.Tells (known.key_of self.old.keys number) reasons.now
             self.old.reasons self.new.reasons) }
@@ -175,7 +175,7 @@ impl Tellings {
         self.keys.get(&number)
     }
 
-    /// An entry more, which follows those that were read.
+    /// Takes in the entry that follows those that were read.
     pub(crate) fn note(&mut self, alloc: Global, entry: &Entry) -> Result<(), Refusal>
         ensures ok { OnOk result ((h : List Told) → known.Knows self.old h →
             known.Knows self.new (entry.now ∷ h)) }
@@ -186,7 +186,7 @@ impl Tellings {
         self.take(alloc, number, answered_key(entry.answer()))
     }
 
-    /// What the entries tell, of which the oldest is the first.
+    /// The reasons in the entries, of which the oldest is the first.
     pub(crate) fn read(alloc: Global, entries: &[Entry]) -> Result<Tellings, Refusal>
         ensures ok { IfOk result (λ t. known.Knows t (reverse entries.now)) }
         ensures err { IfErr result (λ e. e ≡ OutOfMemory) }
@@ -198,7 +198,7 @@ impl Tellings {
         Ok(tellings)
     }
 
-    /// Whether the reason was told of the key: by an accepted Finish of a worker that had taken it.
+    /// Whether the key has the reason: by an accepted Finish of a worker that had taken the key.
     pub(crate) fn has(&self, key: &Key, reason: Reason) -> bool
         ensures { result ≡ known.has reason (known.told self.now.reasons key.now) }
     {

@@ -1,4 +1,4 @@
-// Words of verbs and refusals.
+// The words for verbs and refusals.
 ghost use Rattle.std.specs.Prelude.{◌≡◌};
 ghost use Rattle.cj_report.specs.Words as word;
 
@@ -53,7 +53,7 @@ pub(crate) fn verb_word(verb: Verb) -> &'static str
 
 /// The name of a refusal.
 #[tactic(auto, unfolding(crate::specs::Words::refusal_name))]
-pub(crate) fn refusal_name(refusal: &Refusal) -> &'static str
+pub fn refusal_name(refusal: &Refusal) -> &'static str
     ensures { result.now ≡ word.refusal_name refusal.now }
 {
     match refusal {

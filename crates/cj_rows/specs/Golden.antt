@@ -1,5 +1,6 @@
 -- How rows are checked and counted.
 use Rattle.std.specs.Prelude.{◌≡◌, ◌⊎◌, ℕ, ◌+◌, List, [], ◌∷◌, ◌++◌, codes, decimal, true, false}
+use Rattle.cj_io.specs.Statuses.{code_of}
 use Rattle.cj_rows.specs.Row.{IsRowLine, Stated, is_comment}
 use Rattle.cj_rows.specs.Run.{Given, IsRun}
 use Rattle.cj_rows.specs.declared.tally.Tally.{Tally}
@@ -7,14 +8,15 @@ use Rattle.cj_rows.specs.declared.tally.Tally.{Tally}
 -- a run is as its row wants it where all three are
 -- rule: rows
 pub record IsWanted (r : Stated) (g : Given) : Type 0 where
-  pub status : g.status ≡ r.status
+  pub status : code_of g.status ≡ r.status
   pub printed : g.printed ≡ r.stdout
   pub said : g.said ≡ r.stderr
 
 -- one of the two sides of a difference
 abbrev pub side : List ℕ → ℕ → List ℕ → List ℕ → List ℕ
 side word status printed said =
-    (word ++ (codes ": status " ++ (decimal status ++ codes ", standard output:\n"))) ++ printed ++ codes "standard error:\n" ++ said
+    (word ++ (codes ": status " ++ (decimal status ++ codes ", standard output:\n"))) ++ printed
+    ++ codes "standard error:\n" ++ said
 
 -- `FILE:LINE: differs`
 abbrev pub place_line : List ℕ → ℕ → List ℕ
@@ -24,7 +26,7 @@ place_line file line = file ++ (codes ":" ++ (decimal line ++ codes ": differs\n
 abbrev pub reported : List ℕ → List ℕ → ℕ → Stated → Given → List ℕ
 reported report file line r g =
     report ++ place_line file line ++ side (codes "wanted") r.status r.stdout r.stderr
-    ++ side (codes "got") g.status g.printed g.said
+    ++ side (codes "got") (code_of g.status) g.printed g.said
 
 -- how many rows ran, how many of them differed, and what is reported of these
 pub record Count : Type 0 where
@@ -40,7 +42,12 @@ abbrev pub AddsRun : List ℕ → ℕ → Stated → Given → Count → Count �
 AddsRun file line r g old new =
     (IsWanted r g × (new ≡ record old { ran = old.ran + 1 }))
     ⊎ (¬ (IsWanted r g)
-    × (new ≡ record { ran = old.ran + 1; differed = old.differed + 1; report = reported old.report file line r g }))
+    × (new ≡ record {
+      ran = old.ran + 1;
+      differed = old.differed + 1;
+      report = reported old.report
+          file line r g;
+    }))
 
 -- a row is run on what it says, and its run is counted
 pub record AddsRow (file : List ℕ) (line : ℕ) (text : List ℕ) (old new : Count) : Type 0 where
@@ -53,7 +60,8 @@ pub record AddsRow (file : List ℕ) (line : ℕ) (text : List ℕ) (old new : C
 -- a comment changes nothing; every other line is a row
 abbrev pub AddsLine : List ℕ → ℕ → List ℕ → Count → Count → Type 0
 AddsLine file line text old new =
-    ((is_comment text ≡ true) × (new ≡ old)) ⊎ ((is_comment text ≡ false) × AddsRow file line text old new)
+    ((is_comment text ≡ true) × (new ≡ old))
+    ⊎ ((is_comment text ≡ false) × AddsRow file line text old new)
 
 -- the lines one after another, from that number on
 -- rule: rows

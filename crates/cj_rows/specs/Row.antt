@@ -1,5 +1,5 @@
--- A row: one JSON object (RFC 8259) on a line, with the words and the input that the program is given, and
--- the standard output, the standard error and the status that are wanted of it.
+-- A row: one JSON object (RFC 8259) on a line, with the words and the input that the program is
+-- given, and the standard output, the standard error and the status that are wanted of it.
 use Rattle.std.specs.Prelude.{◌≡◌, ◌⊎◌, ℕ, ◌≤◌, ◌==◌, List, [], ◌∷◌, ◌++◌, map, codes, Bool, false, not, option_map, Option, Some, option_and_then}
 use Rattle.std.specs.List.{filter}
 use Rattle.serde_json.specs.Data.{Data, Items, no_items, item}
@@ -29,7 +29,8 @@ stated_of r = record {
 -- the texts of a list that holds nothing else
 abbrev pub texts_in : Items → Option (List (List ℕ))
 texts_in no_items = Some []
-texts_in (item d ds) = option_and_then (λ text. option_map (λ texts. text ∷ texts) (texts_in ds)) (as_str d)
+texts_in (item d ds) =
+    option_and_then (λ text. option_map (λ texts. text ∷ texts) (texts_in ds)) (as_str d)
 
 -- one text more, at the end
 abbrev pub AddsWord : List (List ℕ) → Data → List (List ℕ) → Type 0

@@ -1,5 +1,7 @@
 -- What a row's run gives: what the program answers to its words and input.
-use Rattle.std.specs.Prelude.{◌≡◌, ◌⊎◌, ℕ, ◌<◌, List, [], ◌∷◌, None, Some, codes}
+use Rattle.std.specs.Prelude.{◌≡◌, ◌≢◌, ◌⊎◌, ℕ, List, [], ◌∷◌, None, Some, codes}
+use Rattle.cj_io.specs.declared.exit_status.ExitStatus.{ExitStatus}
+use Rattle.cj_io.specs.declared.exit_status.ExitStatus.TheVariants.{Failed}
 use Rattle.cj_program.specs.Answers.{IsOutcome}
 use Rattle.cj_args.specs.Command.{IsOf, RefusesWords, file_of}
 use Rattle.cj_answers.specs.Outcome.{Outcome, status_of}
@@ -10,7 +12,7 @@ use Rattle.cj_rows.specs.declared.run.Seen.{Seen}
 
 -- the status, and the bytes on standard output and on standard error
 pub record Given : Type 0 where
-  pub status : ℕ
+  pub status : ExitStatus
   pub printed : List ℕ
   pub said : List ℕ
 
@@ -25,12 +27,13 @@ pub record IsOutcomeOf (request : Request) (input : List ℕ) (g : Given) : Type
   pub printed : g.printed ≡ outcome.printed
   pub said : g.said ≡ outcome.said
 
--- the request reads no file by its name, and a status below 3 comes with its outcome
+-- the request reads no file by its name, and another status than that of a failure comes with its
+-- outcome
 pub record IsAnswered (request : Request) (input : List ℕ) (g : Given) : Type 0 where
   pub file : (file_of request ≡ None) ⊎ (file_of request ≡ Some (codes "-"))
-  pub outcome : g.status < 3 → IsOutcomeOf request input g
+  pub outcome : g.status ≢ Failed → IsOutcomeOf request input g
 
--- what is told of words that are no request
+-- what words get that are no request
 pub record IsTelling (fault : WordFault) (g : Given) : Type 0 where
   pub telling : Telling
   pub tells : Tells fault telling
@@ -38,17 +41,18 @@ pub record IsTelling (fault : WordFault) (g : Given) : Type 0 where
   pub printed : g.printed ≡ telling.printed
   pub said : g.said ≡ telling.said
 
--- a status below 3 comes with it
+-- another status than that of a failure comes with it
 abbrev pub IsToldOf : WordFault → Given → Type 0
-IsToldOf fault g = g.status < 3 → IsTelling fault g
+IsToldOf fault g = g.status ≢ Failed → IsTelling fault g
 
--- the words, the program's name first, are a request that is answered so, or are refused and that is told
+-- the words, the program's name first, are a request that is answered so, or are refused with this
+-- text
 abbrev pub IsRunOf : List (List ℕ) → List ℕ → Given → Type 0
 IsRunOf words input g =
     ((request : Request) × IsOf words request × IsAnswered request input g)
     ⊎ ((fault : WordFault) × RefusesWords words fault × IsToldOf fault g)
 
--- the same of a row's words
+-- a run of a row's words
 -- rule: rows
 abbrev pub IsRun : List (List ℕ) → List ℕ → Given → Type 0
 IsRun words input g = IsRunOf (codes "cronsim" ∷ words) input g

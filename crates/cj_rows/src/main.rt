@@ -1,6 +1,7 @@
-//! Runs the golden rows of data, and says which of them differ: the program on the words and input of each,
-//! beside the output, the error text and the status that the row wants. The files that hold the rows are its
-//! arguments. Rows show the texts that no clause fixes; what they are checked by is stated in `specs/`.
+//! Runs the golden rows of data, and says which of them differ: the program on the words and input
+//! of each, beside the output, the error text and the status that the row wants. The files that
+//! hold the rows are its arguments. Rows show the texts that no clause fixes; what they are checked
+//! by is stated in `specs/`.
 #![tactic(auto)]
 
 mod fault;

@@ -6,7 +6,7 @@ ghost use Rattle.cj_rows.specs.Run.{IsAnswered, IsRun, IsRunOf, IsToldOf, given_
 
 use crate::fault::Fault;
 use crate::row::Row;
-use cj_program::{Meter, Request, WordFault, parse_words, serve, tell_fault};
+use cj_program::{ExitStatus, Meter, Request, WordFault, parse_words, serve, tell_fault};
 use std::alloc::Global;
 use std::sync::Wait;
 use std::thread::Threads;
@@ -14,7 +14,7 @@ use std::thread::Threads;
 /// What a run gave.
 #[derive(Debug, Drop)]
 pub struct Seen {
-    pub status: u8,
+    pub status: ExitStatus,
     pub printed: Vec<u8>,
     pub said: Vec<u8>,
 }
@@ -66,7 +66,7 @@ fn served<T: Threads + Wait + Sync>(
     })
 }
 
-// What is told of words that are no request.
+// What words get that are no request.
 fn told(alloc: Global, fault: &WordFault) -> Seen
     ensures { IsToldOf fault.now (given_of result) }
 {

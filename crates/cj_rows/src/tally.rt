@@ -23,7 +23,7 @@ fn is_wanted(row: &Row<'_>, seen: &Seen) -> bool
 {
     let is_printed = seen.printed.as_slice() == row.stdout.as_bytes();
     let is_said = seen.said.as_slice() == row.stderr.as_bytes();
-    seen.status == row.status && is_printed && is_said
+    seen.status.code() == row.status && is_printed && is_said
 }
 
 fn push_bytes(report: &mut Vec<u8>, bytes: &[u8]) -> Result<(), AllocError>
@@ -74,7 +74,7 @@ fn push_difference(
     let (printed, said) = (seen.printed.as_slice(), seen.said.as_slice());
     push_bytes(report, place.as_bytes())?;
     push_side(alloc, report, "wanted", row.status, stdout, stderr)?;
-    push_side(alloc, report, "got", seen.status, printed, said)?;
+    push_side(alloc, report, "got", seen.status.code(), printed, said)?;
     Ok(())
 }
 

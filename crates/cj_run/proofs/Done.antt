@@ -16,7 +16,7 @@ use Rattle.cj_script.specs.declared.simulation.scenario.Simulation.{Simulation}
 use Rattle.cj_script.specs.declared.simulation.scenario.Edit.{Edit}
 use Rattle.cj_script.specs.operations.Calls.{IsUnseenCall}
 use Rattle.cj_run.specs.Simulations.{operations_below, creation, creations, edits_at}
-use Rattle.cj_run.specs.Deeds.{AreOf, Called, Does, IsOf}
+use Rattle.cj_run.specs.Actions.{AreOf, Called, Does, IsOf}
 
 -- A pass that stays as it was did no operation.
 pub does_nothing : (zones : ZoneTable) (p : PassView) → Does zones [] p p
@@ -28,7 +28,8 @@ does_nothing zones p = record {
 }
 
 -- A pass that got the receipt of an operation's call did that operation.
-pub does_call : (zones : ZoneTable) (operation : Operation) (call : Call) (p p' : PassView) → IsUnseenCall zones operation call
+pub does_call : (zones : ZoneTable) (operation : Operation) (call : Call) (p p' : PassView)
+    → IsUnseenCall zones operation call
     → Called call p p' → Does zones (operation ∷ []) p p'
 does_call zones operation call p p' is m = record {
   news = m.receipt ∷ [];
@@ -52,7 +53,8 @@ zip_append R (x ∷ xs) xs' (y ∷ ys) ys' h h' = (h.0, zip_append R xs xs' ys y
 
 -- For does_then: what is of a pass's role is of its role after its receipts.
 same_role : (zones : ZoneTable) (operations : List Operation) (p q : PassView) (news rs : List Receipt)
-    → q ≡ record p { receipts = p.receipts ++ news } → AreOf q.role zones operations rs → AreOf p.role zones operations rs
+    → q ≡ record p { receipts = p.receipts ++ news } → AreOf q.role zones operations rs
+    → AreOf p.role zones operations rs
 same_role zones operations p q news rs kept are =
     subst (λ (role : Role). AreOf role zones operations rs) (ap (λ (x : PassView). x.role) kept) are
 
@@ -65,7 +67,8 @@ kept_then p q r news news' one two =
     ∙ ap (λ (rs : List Receipt). record p { receipts = rs }) (append_assoc p.receipts news news')
 
 -- A pass that did some operations and then some more did the ones and the others, in their order.
-pub does_then : (zones : ZoneTable) (operations operations' : List Operation) (p q r : PassView) → Does zones operations p q
+pub does_then : (zones : ZoneTable) (operations operations' : List Operation) (p q r : PassView)
+    → Does zones operations p q
     → Does zones operations' q r → Does zones (operations ++ operations') p r
 does_then zones operations operations' p q r a b = record {
   news = a.news ++ b.news;
@@ -80,7 +83,8 @@ does_then zones operations operations' p q r a b = record {
 pub edits_append : (es es' : List Edit) (at : ℕ) → edits_at (es ++ es') at ≡ edits_at es at ++ edits_at es' at
 unfolding edits_at
 edits_append es es' at = ap (map (λ (e : Edit). e.operation)) (filter-append (λ (e : Edit). e.at == at) es es')
-    ∙ map-append (λ (e : Edit). e.operation) (filter (λ (e : Edit). e.at == at) es) (filter (λ (e : Edit). e.at == at) es')
+    ∙ map-append (λ (e : Edit). e.operation) (filter (λ (e : Edit). e.at == at) es)
+    (filter (λ (e : Edit). e.at == at) es')
 
 module _ (zones : ZoneTable) (p q r : PassView) (i : ℕ) where
   -- For create_all: with the CronJobs of the first i drafts created, then the next draft's, those
@@ -114,10 +118,11 @@ no_edits zones at p = does_nothing zones p
 -- ---- one more instant
 
 -- For drive: what is done in the first n instants, and then the edits of the next, is all of n + 1.
-pub live_more : (simulation : Simulation) (p q r : PassView) (n : ℕ)
+pub done_more : (simulation : Simulation) (p q r : PassView) (n : ℕ)
     → Does simulation.zones (operations_below simulation n) p q
     → Does simulation.zones (edits_at simulation.edits.items (instant simulation.span n)) q r
     → Does simulation.zones (operations_below simulation (n + 1)) p r
-live_more simulation p q r n a b =
-    rw (add-one) (does_then simulation.zones (operations_below simulation n) (edits_at simulation.edits.items (instant simulation.span n)) p q
+done_more simulation p q r n a b =
+    rw (add-one) (does_then simulation.zones (operations_below simulation n)
+    (edits_at simulation.edits.items (instant simulation.span n)) p q
     r a b)

@@ -35,6 +35,6 @@ steps_longer (suc k) at f g s =
     let more = s.2.gains in
     (before.0 ++ more.news, kept_then f.pass s.0.pass g.pass before.0 more.news before.1 more.kept)
 
--- For live: what the informer was told at an instant stands behind what it was told before.
+-- For run_instant: what the informer was told at an instant stands behind what it was told before.
 pub follows_longer : (at : ℕ) (f g : Follower) → Follows at f g → Extends f.pass g.pass
 follows_longer at f g follows = steps_longer (suc follows.0) at f g follows.1

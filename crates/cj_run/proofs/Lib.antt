@@ -1,6 +1,6 @@
 pub mod Done
 pub mod Followed
-pub mod Looked
+pub mod Validated
 pub mod Noted
 pub mod Reported
 pub mod Went

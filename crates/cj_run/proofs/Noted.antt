@@ -9,7 +9,8 @@ use Rattle.cj_script.specs.simulation.Runs.{RunTable}
 use Rattle.cj_run.specs.Made.{Notes, job_added, noted_all, noted_news, noted_told, seen}
 
 -- From a place on a list is its item there, and then what is behind it.
-from_there : {X : Type 0} (xs : List X) (i : ℕ) (x : X) → i < length xs → x ≡ get_or xs i x → drop i xs ≡ x ∷ drop (i + 1) xs
+from_there : {X : Type 0} (xs : List X) (i : ℕ) (x : X) → i < length xs → x ≡ get_or xs i x
+    → drop i xs ≡ x ∷ drop (i + 1) xs
 from_there xs i x lt is = drop_more xs i x lt ∙ ap (λ y. y ∷ drop (i + 1) xs) (sym is)
 
 -- For Made::note_all: to note a Job and then those behind it is to note all from that Job on.
@@ -30,14 +31,16 @@ first_noted runs now last (Some job) jobs n n' e = ap (λ (m : Notes). noted_all
 
 -- For Made::note_events: to note the Job that an event tells of and then those of the events behind it is to note those
 -- of all from that event on.
-pub event_more : (runs : RunTable) (now last : ℕ) (events : List Event) (i : ℕ) (event : Event) (n n' : Notes) → i < length events
+pub event_more : (runs : RunTable) (now last : ℕ) (events : List Event) (i : ℕ) (event : Event) (n n' : Notes)
+    → i < length events
     → event ≡ get_or events i event
     → n' ≡ noted_all runs now last (filter_map job_added (event ∷ [])) n
     → noted_all runs now last (filter_map job_added (drop (i + 1) events)) n'
     ≡ noted_all runs now last (filter_map job_added (drop i events)) n
 event_more runs now last events i event n n' lt is e =
     first_noted runs now last (job_added event) (filter_map job_added (drop (i + 1) events)) n n' e
-    ∙ ap (λ (es : List Event). noted_all runs now last (filter_map job_added es) n) (sym (from_there events i event lt is))
+    ∙ ap (λ (es : List Event). noted_all runs now last (filter_map job_added es) n)
+    (sym (from_there events i event lt is))
 
 -- For Made::note_news: to note what a receipt tells of and then what those behind it do is to note all from that one
 -- on.

@@ -15,16 +15,16 @@ use Rattle.cj_run.specs.Simulations.{operations_below}
 use Rattle.cj_world_laws.specs.Promise.{KeepsPromise}
 use Rattle.cj_world.specs.Worlds.{WorldLog}
 use Rattle.cj_report.specs.Reports.{report_of}
-use Rattle.cj_run.specs.Crews.{AreNumbered, IsCrew, IsOwn, passes_of}
-use Rattle.cj_run.specs.Deeds.{AreFresh, AreOf, Called, Does, HasDone, HasDriven, HasLived, HaveLived}
-use Rattle.cj_run.specs.Lineups.{notes_of, watch_of}
+use Rattle.cj_run.specs.Participants.{AreNumbered, AreComplete, IsOwn, passes_of}
+use Rattle.cj_run.specs.Actions.{AreFresh, AreOf, Called, Does, HasDone, HasDriven, HasRunLoop, HaveRunLoop}
+use Rattle.cj_run.specs.Drivers.{notes_of, watch_of}
 use Rattle.cj_run.specs.Made.{Notes, no_notes}
 use Rattle.cj_run.specs.Rounds.{GoesRounds, watch}
 use Rattle.cj_run.specs.Turns.{AllInstants, KeepsTime, turn}
-use Rattle.cj_run.specs.Looks.{IsKept}
+use Rattle.cj_run.specs.Validation.{IsValid}
 use Rattle.cj_run.specs.Runs.{HasRun, IsReport, IsRun}
-use Rattle.cj_run.specs.declared.crew.Crew.{Crew}
-use Rattle.cj_run.specs.declared.drive.Participants.{Participants}
+use Rattle.cj_run.specs.declared.participants.Participants.{Participants}
+use Rattle.cj_run.specs.declared.drive.Driver.{Driver}
 use Rattle.cj_run.specs.declared.rest.Follower.{Follower}
 
 -- For same_count: one count of a clock's instants isn't below another.
@@ -46,9 +46,9 @@ news_alone c n p p' none user d =
     d.are)
 
 -- For run_instants: all instants, and then the end of the queue.
-pub has_lived : (c : Simulation) (a b : Participants) (f : Follower) → HasDriven c a b → Called Shut b.follower.pass f.pass
-    → HasLived c a (record b { follower = f })
-has_lived c a b f driven shut = record {
+pub has_run_loop : (c : Simulation) (a b : Driver) (f : Follower) → HasDriven c a b → Called Shut b.follower.pass f.pass
+    → HasRunLoop c a (record b { follower = f })
+has_run_loop c a b f driven shut = record {
   last = b.follower;
   driven = record {
     instants = driven.instants;
@@ -59,70 +59,74 @@ has_lived c a b f driven shut = record {
   shut = shut;
 }
 
--- For run_on_hub: those who had done nothing before lived through all instants.
-pub have_lived : {E : Type 0} (c : Simulation) (a b : Participants) (r : Result (Unit {0}) E) → AreFresh a
-    → OnOk r (HasLived c a b)
-    → OnOk r (HaveLived c b)
-have_lived c a b (Ok u) fresh lived = record { before = a; fresh = fresh; lived = lived }
-have_lived c a b (Err e) fresh lived = tt
+-- For run_on_hub: those who had done nothing before ran all instants.
+pub have_run_loop : {E : Type 0} (c : Simulation) (a b : Driver) (r : Result (Unit {0}) E) → AreFresh a
+    → OnOk r (HasRunLoop c a b)
+    → OnOk r (HaveRunLoop c b)
+have_run_loop c a b (Ok u) fresh ran = record { before = a; fresh = fresh; ran = ran }
+have_run_loop c a b (Err e) fresh ran = tt
 
--- For live_through: where nothing kept them from it, they did.
-pub lived_through : {E : Type 0} (c : Simulation) (b : Participants) (r : Result (Unit {0}) E) → IsOk r → OnOk r (HaveLived c b)
-    → HaveLived c b
-lived_through c b (Ok u) ok lived = lived
-lived_through c b (Err e) ok lived = absurd (false≢true ok)
+-- For run_loop: where nothing kept them from it, they did.
+pub ran_all : {E : Type 0} (c : Simulation) (b : Driver) (r : Result (Unit {0}) E) → IsOk r → OnOk r (HaveRunLoop c b)
+    → HaveRunLoop c b
+ran_all c b (Ok u) ok ran = ran
+ran_all c b (Err e) ok ran = absurd (false≢true ok)
 
 -- What those who had done nothing before did is all that user, runners and informer did.
-has_done : (c : Simulation) (b : Participants) (l : HaveLived c b) (crew : Crew) → crew.user ≡ b.user
-    → crew.runners.items ≡ b.runners.items
-    → crew.informer ≡ b.follower.pass
-    → HasDone c l.lived.driven.instants crew
-has_done c b l crew user runners informer =
-    let n = l.lived.driven.instants in
+has_done : (c : Simulation) (b : Driver) (l : HaveRunLoop c b) (participants : Participants)
+    → participants.user ≡ b.user
+    → participants.runners.items ≡ b.runners.items
+    → participants.informer ≡ b.follower.pass
+    → HasDone c l.ran.driven.instants participants
+has_done c b l participants user runners informer =
+    let n = l.ran.driven.instants in
     record {
       did = subst (λ (p : PassView). AreOf User c.zones (operations_below c n) p.receipts) (sym user)
-          (news_alone c n l.before.user b.user l.fresh.user l.fresh.role l.lived.driven.did);
+          (news_alone c n l.before.user b.user l.fresh.user l.fresh.role l.ran.driven.did);
       idle = l.before.runners.items;
       idle_still = l.fresh.runners;
       made = notes_of b;
       first = l.before.follower;
       fresh = l.fresh.follower;
-      last = l.lived.last;
+      last = l.ran.last;
       rounds =
-          subst (λ (ps : List PassView). GoesRounds c n l.before.follower l.lived.last (watch l.before.runners.items no_notes)
+          subst (λ (ps : List PassView). GoesRounds c n l.before.follower l.ran.last
+          (watch l.before.runners.items no_notes)
           (watch ps (notes_of b))) (sym runners)
-          (subst (λ (m : Notes). GoesRounds c n l.before.follower l.lived.last (watch l.before.runners.items m) (watch_of b))
-          l.fresh.made l.lived.driven.rounds);
-      shut = subst (λ (p : PassView). Called Shut l.lived.last.pass p) (sym informer) l.lived.shut;
+          (subst (λ (m : Notes). GoesRounds c n l.before.follower l.ran.last (watch l.before.runners.items m)
+          (watch_of b))
+          l.fresh.made l.ran.driven.rounds);
+      shut = subst (λ (p : PassView). Called Shut l.ran.last.pass p) (sym informer) l.ran.shut;
     }
 
--- For crew_left: a whole crew, which did what the scenario says.
-pub has_run : (c : Simulation) (workers : ℕ) (crew : Crew) (b : Participants) → crew.user ≡ b.user
-    → crew.runners.items ≡ b.runners.items
-    → crew.informer ≡ b.follower.pass
-    → IsCrew workers crew
-    → HaveLived c b
-    → HasRun c workers crew
-has_run c workers crew b user runners informer whole l = record {
+-- For run_to_end: participants of whom none is missing, and who did what the scenario says.
+pub has_run : (c : Simulation) (workers : ℕ) (participants : Participants) (b : Driver) → participants.user ≡ b.user
+    → participants.runners.items ≡ b.runners.items
+    → participants.informer ≡ b.follower.pass
+    → AreComplete workers participants
+    → HaveRunLoop c b
+    → HasRun c workers participants
+has_run c workers participants b user runners informer whole l = record {
   complete = whole;
-  instants = l.lived.driven.instants;
-  every = l.lived.driven.all;
-  done = has_done c b l crew user runners informer;
+  instants = l.ran.driven.instants;
+  every = l.ran.driven.all;
+  done = has_done c b l participants user runners informer;
 }
 
--- For report: the report of a history that was closed with the passes of a crew, and looked over.
-pub reported : (c : Simulation) (crew : Crew) (w : WorldLog) (text : List ℕ) (ps : List PassView) (callers : List Caller) (user : ℕ)
-    → ps ≡ passes_of crew
+-- For report: the report of a history that was closed with the passes of the participants, and validated.
+pub reported : (c : Simulation) (participants : Participants) (w : WorldLog) (text : List ℕ) (ps : List PassView)
+    (callers : List Caller) (user : ℕ)
+    → ps ≡ passes_of participants
     → callers ≡ map caller_of ps
-    → user ≡ crew.user.number
+    → user ≡ participants.user.number
     → AreNumbered 0 callers
     → KeepsPromise w.limits.window w.history
     → All (IsExact w.history) ps
-    → IsKept c callers user w.history
+    → IsValid c callers user w.history
     → text ≡ report_of w.limits.window w.history
-    → IsReport c crew w text
-reported c crew w text ps callers user are of whose numbered promise exact kept printed =
-    let e : callers ≡ map caller_of (passes_of crew) = of ∙ ap (map caller_of) are in
+    → IsReport c participants w text
+reported c participants w text ps callers user are of whose numbered promise exact kept printed =
+    let e : callers ≡ map caller_of (passes_of participants) = of ∙ ap (map caller_of) are in
     record {
       promise = promise;
       all = record {
@@ -134,18 +138,21 @@ reported c crew w text ps callers user are of whose numbered promise exact kept 
       printed = printed;
     }
 
--- For run_simulation: the report of the history of a crew that did what the scenario says is that of the run.
-pub run_of : (c : Simulation) (workers : ℕ) (crew : Crew) (w : WorldLog) (text : List ℕ) → HasRun c workers crew
-    → IsReport c crew w text
+-- For run_simulation: where the participants did what the scenario says, the report of their history is that of the
+-- run.
+pub run_of : (c : Simulation) (workers : ℕ) (participants : Participants) (w : WorldLog) (text : List ℕ)
+    → HasRun c workers participants
+    → IsReport c participants w text
     → IsRun c workers w text
-run_of c workers crew w text ran r =
-    let e : ran.instants ≡ turn c.span w.history = same_count c.span ran.instants (turn c.span w.history) ran.every r.time.all in
+run_of c workers participants w text ran r =
+    let e : ran.instants ≡ turn c.span w.history = same_count c.span ran.instants (turn c.span w.history) ran.every
+    r.time.all in
     record {
-      crew = crew;
+      participants = participants;
       complete = ran.complete;
       promise = r.promise;
       all = r.all;
       time = r.time;
-      done = subst (λ (n : ℕ). HasDone c n crew) e ran.done;
+      done = subst (λ (n : ℕ). HasDone c n participants) e ran.done;
       printed = r.printed;
     }

@@ -17,7 +17,8 @@ use Rattle.cj_run.specs.declared.rest.Follower.{Follower}
 use Rattle.cj_run.proofs.Followed.{follows_longer}
 
 -- For filter_twice: with one member more.
-kept_once : {X : Type 0} (p : X → Bool) (x : X) (xs : List X) (b : Bool) → p x ≡ b → filter p (filter p xs) ≡ filter p xs
+kept_once : {X : Type 0} (p : X → Bool) (x : X) (xs : List X) (b : Bool) → p x ≡ b
+    → filter p (filter p xs) ≡ filter p xs
     → filter p (filter p (x ∷ xs)) ≡ filter p (x ∷ xs)
 kept_once p x xs true e is = grind (arith, e, is)
 kept_once p x xs false e is = grind (arith, e, is)
@@ -49,11 +50,12 @@ pub ends_due : (at : ℕ) (ps qs : List PassView) (n n' : Notes)
 ends_due at ps qs n n' ended noted = record { receipts = ended.0; ends = ended.1; noted = noted }
 
 -- For note: what was noted, by nobody's call.
-pub notes_made : (runs : RunTable) (at : ℕ) (news : List Receipt) (ps : List PassView) (n n' : Notes) → n' ≡ noted_news runs at news n
+pub notes_made : (runs : RunTable) (at : ℕ) (news : List Receipt) (ps : List PassView) (n n' : Notes)
+    → n' ≡ noted_news runs at news n
     → NotesMade runs at news (watch ps n) (watch ps n')
 notes_made runs at news ps n n' noted = record { passes = refl; noted = noted }
 
--- For live: the ends, the informer's steps, and the notes of the receipts that it got in these.
+-- For run_instant: the ends, the informer's steps, and the notes of the receipts that it got in these.
 pub goes_round : (runs : RunTable) (at millis known : ℕ) (f f' g : Follower) (a m b : Watch) → f' ≡ f
     → millis ≡ at * 1000
     → known ≡ length f'.pass.receipts

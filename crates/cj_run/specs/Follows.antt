@@ -12,12 +12,12 @@ StepsOn at f g = Gets f.pass g.pass (λ es. HasStepped f.informer at g.informer 
 abbrev pub StepsOrStays : ℕ → Follower → Follower → Type 0
 StepsOrStays at f g = StepsOn at f g ⊎ (g ≡ f)
 
--- so many steps at the moment, one after the other
+-- that many steps at the moment, one after the other
 abbrev pub Steps : ℕ → ℕ → Follower → Follower → Type 0
 Steps zero at f g = g ≡ f
 Steps (suc k) at f g = (m : Follower) × Steps k at f m × StepsOn at m g
 
--- one at least
+-- one step or more
 -- rule: run-clock
 abbrev pub Follows : ℕ → Follower → Follower → Type 0
 Follows at f g = (k : ℕ) × Steps (suc k) at f g

@@ -1,12 +1,13 @@
+pub mod Errors
 pub mod Simulations
 pub mod Turns
 pub mod Made
 pub mod Rounds
-pub mod Lineups
+pub mod Drivers
 pub mod Follows
-pub mod Deeds
+pub mod Actions
 pub mod Works
-pub mod Crews
-pub mod Looks
+pub mod Participants
+pub mod Validation
 pub mod Readings
 pub mod Runs

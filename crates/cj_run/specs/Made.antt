@@ -1,4 +1,4 @@
--- Which run each Job takes that a CronJob makes, and what tells of it.
+-- Which run each Job takes that a CronJob makes, and which answers name the Job.
 use Rattle.std.specs.Prelude.{ℕ, ◌+◌, ◌^◌, ◌-◌, nat_lt, max, min, List, [], ◌∷◌, ◌++◌, Option, Some, None, Result, Ok, bytes_eq, if◌then◌else◌}
 use Rattle.std.specs.List.{filter_map}
 use Rattle.std.specs.FinMap as map
@@ -27,8 +27,8 @@ use Rattle.cj_run.specs.declared.made.Count.{Count}
 abbrev pub Counts : Type 0
 Counts = map.FinMap place_cmp Count
 
--- what was noted of the Jobs that were made: the last one's uid, 0 before the first; how many of each CronJob, and
--- those that run and will end
+-- what was noted of the Jobs that were made: the last one's uid, 0 before the first; how many of
+-- each CronJob, and those that run and will end
 pub record Notes : Type 0 where
   pub last : ℕ
   pub counts : Counts
@@ -60,7 +60,7 @@ ending_of Failed = Ends.Failed
 abbrev pub running_as : ℕ → Job → Run → Running
 running_as now job run = record { key = job.key; uid = job.meta.uid; made = now; seconds = run.seconds; outcome = ending_of run.end }
 
--- those that run, with one more where it ends at all
+-- the Jobs that run, with another one where it ends at all
 abbrev pub with_run : List Running → ℕ → Job → Option Run → List Running
 with_run rs now job None = rs
 with_run rs now job (Some run) = rs ++ running_as now job run ∷ []
@@ -70,7 +70,8 @@ with_run rs now job (Some run) = rs ++ running_as now job run ∷ []
 abbrev pub noted_of : RunTable → ℕ → Job → Place → List ℕ → Notes → Notes
 noted_of runs now job key uid n =
     let before = made_before (map.get n.counts key) uid in
-    notes n.last (map.insert n.counts key (counted uid before)) (with_run n.running now job (run_of runs key before))
+    notes n.last (map.insert n.counts key (counted uid before))
+    (with_run n.running now job (run_of runs key before))
 
 -- a Job is noted that was made at the moment; one that no CronJob made isn't
 abbrev pub noted_by : RunTable → ℕ → Job → Option Place → Option OwnerRef → Notes → Notes
@@ -81,34 +82,37 @@ noted_by runs now job (Some key) None n = n
 abbrev pub noted : RunTable → ℕ → Job → Notes → Notes
 noted runs now job n = noted_by runs now job (key_of_job job) (controller_of job.owners) n
 
--- a Job that an answer tells of is noted where its uid is above the last that was noted before that answer
+-- a Job that an answer names is noted where its uid is above the last that was noted before that
+-- answer
 -- rule: run-jobs
 abbrev pub seen : RunTable → ℕ → ℕ → Job → Notes → Notes
 seen runs now before job n =
     let n' = notes (max n.last job.meta.uid) n.counts n.running in
     if nat_lt before job.meta.uid then noted runs now job n' else n'
 
--- so are all that it tells of, one after the other
+-- all Jobs that an answer names are noted, one after the other
 -- rule: run-jobs
 abbrev pub noted_all : RunTable → ℕ → ℕ → List Job → Notes → Notes
 noted_all runs now before [] n = n
-noted_all runs now before (job ∷ jobs) n = noted_all runs now before jobs (seen runs now before job n)
+noted_all runs now before (job ∷ jobs) n = noted_all runs now before jobs
+    (seen runs now before job n)
 
--- ---- what tells of them
+-- ---- which Jobs answers name
 
--- the Job that an event tells the creation of
+-- the Job that an event says was created
 abbrev pub job_added : Event → Option Job
 job_added (Added (Kind.Job job)) = Some job
 job_added event = None
 
--- the Jobs that an answer to the informer tells of: those whose creation it tells, or all that it lists
+-- the Jobs that an answer to the informer names: those that its events say were created, or all
+-- that it lists
 -- rule: run-jobs
 abbrev pub jobs_told : Result Reply Refusal → List Job
 jobs_told (Ok (Events events)) = filter_map job_added events
 jobs_told (Ok (Jobs jobs version)) = jobs
 jobs_told answer = []
 
--- of the Jobs that an answer tells of those are noted that are later than what was noted before it
+-- of the Jobs that an answer names those are noted that are later than what was noted before it
 -- rule: run-jobs
 abbrev pub noted_told : RunTable → ℕ → Result Reply Refusal → Notes → Notes
 noted_told runs at answer n = noted_all runs at n.last (jobs_told answer) n

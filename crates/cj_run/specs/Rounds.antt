@@ -1,5 +1,5 @@
--- What is done at each instant of a run beside the user's edits: the runners end the Jobs that are due, the informer
--- follows what is written, and the Jobs that it is told of are noted.
+-- What is done at each instant of a run, but for the user's edits: the runners end the Jobs that
+-- are due, the informer follows what is written, and the Jobs that it is shown are noted.
 use Rattle.std.specs.Prelude.{◌≡◌, ◌*◌, ℕ, zero, suc, not, filter, List, ◌++◌}
 use Rattle.cj_hub.specs.Receipts.{PassView}
 use Rattle.cj_hub.specs.declared.receipt.Receipt.{Receipt}
@@ -35,9 +35,10 @@ pub record EndsDue (at : ℕ) (a b : Watch) : Type 0 where
 
 -- ---- the Jobs that were made
 
--- the Jobs are noted that the receipts tell of, and nobody calls. Each Job that was made is told of by an event, or by
--- a listing where events have expired; a listing doesn't have one that is gone by then, but no Job is made and goes
--- within one instant, since a sync drops what has ended, or was made at an earlier one
+-- the Jobs are noted that the receipts name, and nobody calls. Each Job that was made is named by
+-- an event, or by a listing where events have expired; a listing doesn't have one that is gone by
+-- then, but no Job is made and goes within one instant, since a sync drops what has ended, or was
+-- made at an earlier one
 -- rule: run-jobs
 pub record NotesMade (runs : RunTable) (at : ℕ) (news : List Receipt) (a b : Watch) : Type 0 where
   pub passes : b.passes ≡ a.passes
@@ -45,8 +46,8 @@ pub record NotesMade (runs : RunTable) (at : ℕ) (news : List Receipt) (a b : W
 
 -- ---- an instant
 
--- the Jobs that are due are ended, then the informer follows, and what it was told at that is noted: its receipts are
--- those that it had before, and the news
+-- the Jobs that are due are ended, then the informer follows, and what it was shown then is noted:
+-- its receipts are those that it had before, and the news
 -- rules: run-clock, run-jobs
 pub record GoesRound (runs : RunTable) (at : ℕ) (f g : Follower) (a b : Watch) : Type 0 where
   pub between : Watch
@@ -56,7 +57,7 @@ pub record GoesRound (runs : RunTable) (at : ℕ) (f g : Follower) (a b : Watch)
   pub kept : g.pass ≡ record f.pass { receipts = f.pass.receipts ++ news }
   pub notes : NotesMade runs at news between b
 
--- and so at the first so many instants, one after the other
+-- the round at each of the first `n` instants, one after the other
 -- rules: run-clock, run-jobs
 abbrev pub GoesRounds : Simulation → ℕ → Follower → Follower → Watch → Watch → Type 0
 GoesRounds c zero f g a b = (g ≡ f) × (b ≡ a)

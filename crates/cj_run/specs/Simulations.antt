@@ -1,4 +1,5 @@
--- What the user of a run does, and when: each CronJob is created at the start, and each edit is made at its instant.
+-- What the user of a run does, and when: each CronJob is created at the start, and each edit is
+-- made at its instant.
 use Rattle.std.specs.Prelude.{ℕ, zero, suc, ◌==◌, List, ◌++◌, map}
 use Rattle.std.specs.List.{filter}
 use Rattle.cj_types.specs.declared.cron.CronJobDraft.{CronJobDraft}
@@ -22,7 +23,7 @@ creations at drafts = map (creation at) drafts
 unfoldable pub edits_at : List Edit → ℕ → List Operation
 edits_at edits at = map (λ e. e.operation) (filter (λ e. e.at == at) edits)
 
--- what is done up to the first so many instants
+-- what the user does up to the end of the first `n` instants
 -- rule: run-edits
 abbrev pub operations_below : Simulation → ℕ → List Operation
 operations_below c zero = creations c.span.start c.crons.items

@@ -1,7 +1,7 @@
--- When calls are made in a run, by its clock. An instant begins with the informer's first Tick at it. It is over with
--- the first call that belongs between it and the next one, which is one of a runner or of the user, or the informer's
--- Shut; or else where the next one begins. Within an instant informer and workers call; between two of them runners and
--- user do.
+-- When calls are made in a run, by its clock. An instant begins with the informer's first Tick at
+-- it. It is over with the first call that belongs between it and the next one, which is one of a
+-- runner or of the user, or the informer's Shut; or else where the next one begins. Within an
+-- instant informer and workers call; between two of them runners and user do.
 use Rattle.std.specs.Prelude.{◌≡◌, ◌<◌, ◌↔◌, ◌==◌, ◌+◌, ◌-◌, ◌*◌, ◌&&◌, ◌||◌, nat_le, ℕ, zero, suc, Bool, true, false, if◌then◌else◌, List, [], ◌∷◌, ◌++◌, Result, Ok, Err, map}
 use Rattle.cj_base.specs.declared.refusal.Refusal.{Refusal}
 use Rattle.cj_calls.specs.Rows.{Told}
@@ -72,8 +72,8 @@ is_within s n Worker call = true
 is_within s n Runner call = false
 is_within s n User call = false
 
--- before it: the ends of Jobs, by its moment, and the user; its first Tick, or the end of the queue, and then a
--- worker's Take that is refused
+-- before it: the ends of Jobs, by its moment, and the user; its first Tick, or the end of the
+-- queue, and then a worker's Take that is refused
 -- rule: run-clock
 abbrev pub is_before : SpanView → ℕ → Role → Call → Result Reply Refusal → Bool
 is_before s n Informer (Of.Tick at) answer = is_moment s n at
@@ -88,9 +88,10 @@ is_before s n User call answer = true
 -- a call is at its time: within the instant that goes on, or before the next one
 -- rule: run-clock
 abbrev pub is_timely : SpanView → Progress → Role → Call → Result Reply Refusal → Bool
-is_timely s p role call answer = (p.on && is_within s (p.begun - 1) role call) || is_before s p.begun role call answer
+is_timely s p role call answer = (p.on && is_within s (p.begun - 1) role call)
+    || is_before s p.begun role call answer
 
--- so is each entry of a history
+-- each entry of a history is at its time
 -- rule: run-clock
 abbrev pub are_timely : SpanView → List Told → Bool
 are_timely s [] = true
@@ -98,7 +99,8 @@ are_timely s (e ∷ h) = are_timely s h && is_timely s (progress_of s h) e.calle
 
 -- ---- the user's calls
 
--- for each call of the caller with that number, the oldest first: how many instants had begun before it
+-- for each call of the caller with that number, the oldest first: how many instants had begun
+-- before it
 -- rule: run-edits
 abbrev pub turns_after : ℕ → ℕ → List ℕ → Told → List ℕ
 turns_after number n ns e = if e.caller.number == number then ns ++ n ∷ [] else ns
@@ -115,12 +117,12 @@ turns_below c (suc n) = turns_below c n ++ map (λ _. n) (edits_at c.edits.items
 
 -- ---- all of it
 
--- the clock has so many instants
+-- the clock has just that many instants
 abbrev pub AllInstants : SpanView → ℕ → Type 0
 AllInstants s count = (n : ℕ) → (n < count) ↔ IsInstant s n
 
--- all instants of the clock begin and are over, one after the other, each call is at its time, and so is each of the
--- user's
+-- all instants of the clock begin and are over, one after the other, each call is at its time, and
+-- so is each of the user's
 -- rules: run-clock, run-edits
 pub record KeepsTime (c : Simulation) (user : ℕ) (h : List Told) : Type 0 where
   pub all : AllInstants c.span (turn c.span h)

@@ -1,4 +1,5 @@
--- What a worker of a run did, by its receipts: whole syncs, one after the other, until it found the queue shut.
+-- What a worker of a run did, by its receipts: whole syncs, one after the other, until it found the
+-- queue shut.
 use Rattle.std.specs.Prelude.{List, fold, Result, Ok, Err}
 use Rattle.cj_base.specs.declared.refusal.Refusal.{Refusal}
 use Rattle.cj_base.specs.declared.refusal.Refusal.TheVariants.{ShutDown}

@@ -7,7 +7,7 @@ use cj_types::{Millis, Seconds};
 use cj_worker::{Clock, Reading};
 use std::sync::atomic::{AtomicU64, Ordering};
 
-/// The clock of a run, which stands at one of its instants.
+/// The clock of a run. It shows one of its instants.
 #[derive(Drop)]
 pub(crate) struct RunClock {
     span: Span,

@@ -2,15 +2,16 @@
 ghost use Rattle.std.specs.Prelude.{◌≡◌, OnOk, drop};
 ghost use Rattle.cj_script.specs.simulation.Spans.{instant, IsInstant};
 ghost use Rattle.cj_run.specs.Simulations.{edits_at};
-ghost use Rattle.cj_run.specs.Deeds.{Does, HasDriven};
-ghost use Rattle.cj_run.specs.Lineups.{watch_of};
+ghost use Rattle.cj_run.specs.Actions.{Does, HasDriven};
+ghost use Rattle.cj_run.specs.Drivers.{watch_of};
 ghost use Rattle.cj_run.specs.Rounds.{EndsDue, GoesRound, NotesMade};
 
 use crate::clock::RunClock;
 use crate::ends::end_jobs;
+use crate::error::RunError;
 use crate::made::Made;
 use crate::meter::Meter;
-use crate::rest::{Follower, Halt};
+use crate::rest::Follower;
 use crate::user::{create_all, edit_all};
 use cj_hub::{Hub, Pass, Receipt};
 use cj_script::Simulation;
@@ -20,16 +21,17 @@ use std::mem;
 use std::sync::Wait;
 use std::thread::Threads;
 
-/// Who calls in a run beside its workers, and what was noted of the Jobs that were made.
+/// What the run loop drives: the participants but for the workers, and what was noted of the Jobs
+/// that were made.
 #[derive(Drop)]
-pub(crate) struct Participants {
+pub(crate) struct Driver {
     pub user: Pass,
     pub follower: Follower,
     pub runners: Vec<Pass>,
     pub made: Made,
 }
 
-// What a pass got behind its first so many receipts.
+// The receipts that a pass got after the first `known` ones.
 fn news(pass: &Pass, known: usize) -> &[Receipt]
     ensures { result.now ≡ drop known pass.now.receipts }
 {
@@ -40,24 +42,23 @@ fn news(pass: &Pass, known: usize) -> &[Receipt]
     &receipts[known..]
 }
 
-// Notes the Jobs that were made at the moment, by what the informer was told behind its first so many receipts.
+// Notes the Jobs that were made at the moment, by the receipts that the informer got after the
+// first `known` ones.
 fn note(
     alloc: Global,
     simulation: &Simulation,
-    participants: &mut Participants,
+    driver: &mut Driver,
     known: usize,
     now: Seconds,
 ) -> Result<(), Refusal>
-    ensures user { participants.new.user ≡ participants.old.user }
-    ensures follower { participants.new.follower ≡ participants.old.follower }
+    ensures user { driver.new.user ≡ driver.old.user }
+    ensures follower { driver.new.follower ≡ driver.old.follower }
     ensures made { OnOk result (NotesMade simulation.now.runs now
-        (drop known participants.old.follower.pass.receipts) (watch_of participants.old)
-        (watch_of participants.new)) }
+        (drop known driver.old.follower.pass.receipts) (watch_of driver.old)
+        (watch_of driver.new)) }
 {
-    let told = news(&participants.follower.pass, known);
-    participants
-        .made
-        .note_news(alloc, &simulation.runs, now, told)
+    let told = news(&driver.follower.pass, known);
+    driver.made.note_news(alloc, &simulation.runs, now, told)
 }
 
 // Ends the Jobs that are due at the moment.
@@ -66,88 +67,88 @@ fn end<R: Threads + Wait + Sync>(
     rt: &R,
     alloc: Global,
     hub: &Hub,
-    participants: &mut Participants,
+    driver: &mut Driver,
     now: Seconds,
 ) -> Result<(), Refusal>
-    ensures user { participants.new.user ≡ participants.old.user }
-    ensures follower { participants.new.follower ≡ participants.old.follower }
-    ensures ended { OnOk result (EndsDue now (watch_of participants.old)
-        (watch_of participants.new)) }
+    ensures user { driver.new.user ≡ driver.old.user }
+    ensures follower { driver.new.follower ≡ driver.old.follower }
+    ensures ended { OnOk result (EndsDue now (watch_of driver.old)
+        (watch_of driver.new)) }
 {
-    let runners = mem::replace(&mut participants.runners, Vec::new(alloc));
-    let (runners, result) = end_jobs(rt, alloc, hub, runners, &mut participants.made, now);
-    participants.runners = runners;
+    let runners = mem::replace(&mut driver.runners, Vec::new(alloc));
+    let (runners, result) = end_jobs(rt, alloc, hub, runners, &mut driver.made, now);
+    driver.runners = runners;
     result
 }
 
-// All of an instant: the ends that are due, the edits, and then the work of informer and workers until the hub is at
-// rest. By then the informer was told of each Job that was made.
+// Runs one instant: the ends that are due, the edits, and then the work of informer and workers
+// until the hub is at rest. By then the informer has seen each Job that was made.
 #[tactic(auto, using(crate::proofs::Went::goes_round))]
-fn live<R: Threads + Wait + Sync>(
+fn run_instant<R: Threads + Wait + Sync>(
     rt: &R,
     alloc: Global,
     hub: &Hub,
     clock: &RunClock,
     simulation: &Simulation,
-    participants: &mut Participants,
+    driver: &mut Driver,
     now: Seconds,
-) -> Result<(), Halt>
+) -> Result<(), RunError>
     ensures edits { OnOk result (Does simulation.now.zones
-        (edits_at simulation.now.edits.items now) participants.old.user participants.new.user) }
-    ensures round { OnOk result (GoesRound simulation.now.runs now participants.old.follower
-        participants.new.follower (watch_of participants.old) (watch_of participants.new)) }
+        (edits_at simulation.now.edits.items now) driver.old.user driver.new.user) }
+    ensures round { OnOk result (GoesRound simulation.now.runs now driver.old.follower
+        driver.new.follower (watch_of driver.old) (watch_of driver.new)) }
 {
-    end(rt, alloc, hub, participants, now)?;
+    end(rt, alloc, hub, driver, now)?;
     edit_all(
         rt,
         alloc,
         hub,
-        &mut participants.user,
+        &mut driver.user,
         &simulation.zones,
         simulation.edits.as_slice(),
         now,
     )?;
-    let known = participants.follower.pass.receipts().len();
-    let rest = participants.follower.settle(rt, hub, Millis::from(now))?;
-    note(alloc, simulation, participants, known, now)?;
+    let known = driver.follower.pass.receipts().len();
+    let rest = driver.follower.settle(rt, hub, Millis::from(now))?;
+    note(alloc, simulation, driver, known, now)?;
     clock.advance(rest);
     Ok(())
 }
 
-// All of the instant of that number.
-fn live_at<R: Threads + Wait + Sync>(
+// Runs the instant of that number.
+fn run_instant_at<R: Threads + Wait + Sync>(
     rt: &R,
     alloc: Global,
     hub: &Hub,
     clock: &RunClock,
     simulation: &Simulation,
-    participants: &mut Participants,
+    driver: &mut Driver,
     n: u64,
-) -> Result<(), Halt>
+) -> Result<(), RunError>
     requires { IsInstant simulation.now.span n }
     ensures edits { OnOk result (Does simulation.now.zones
-        (edits_at simulation.now.edits.items (instant simulation.now.span n)) participants.old.user
-        participants.new.user) }
+        (edits_at simulation.now.edits.items (instant simulation.now.span n)) driver.old.user
+        driver.new.user) }
     ensures round { OnOk result (GoesRound simulation.now.runs (instant simulation.now.span n)
-        participants.old.follower participants.new.follower (watch_of participants.old)
-        (watch_of participants.new)) }
+        driver.old.follower driver.new.follower (watch_of driver.old)
+        (watch_of driver.new)) }
 {
     let now = simulation.span.instant(n).unwrap();
-    live(rt, alloc, hub, clock, simulation, participants, now)
+    run_instant(rt, alloc, hub, clock, simulation, driver, now)
 }
 
-/// The CronJobs are created, and then each instant is lived through; only where the hub is at rest does the clock move.
-/// The meter shows how far that is.
+/// Creates the CronJobs, and then runs each instant. The clock moves on only where the hub is at
+/// rest. The meter shows how far the run is.
 pub(crate) fn drive<R: Threads + Wait + Sync>(
     rt: &R,
     alloc: Global,
     hub: &Hub,
     clock: &RunClock,
     simulation: &Simulation,
-    participants: &mut Participants,
+    driver: &mut Driver,
     meter: &Meter,
-) -> Result<(), Halt>
-    ensures { OnOk result (HasDriven simulation.now participants.old participants.new) }
+) -> Result<(), RunError>
+    ensures { OnOk result (HasDriven simulation.now driver.old driver.new) }
 {
     let start = simulation.span.start();
     meter.begin(simulation.span.count());
@@ -155,13 +156,13 @@ pub(crate) fn drive<R: Threads + Wait + Sync>(
         rt,
         alloc,
         hub,
-        &mut participants.user,
+        &mut driver.user,
         &simulation.zones,
         simulation.crons.as_slice(),
         start,
     )?;
     for n in 0..simulation.span.count() {
-        live_at(rt, alloc, hub, clock, simulation, participants, n)?;
+        run_instant_at(rt, alloc, hub, clock, simulation, driver, n)?;
         meter.advance();
     }
     Ok(())

@@ -3,7 +3,7 @@ ghost use Rattle.std.specs.Prelude.{◌≡◌, [], ◌∷◌, ◌++◌, List, If
 ghost use Rattle.cj_hub.specs.declared.receipt.Receipt.{Receipt};
 ghost use Rattle.cj_runner.specs.Dues.{is_due};
 ghost use Rattle.cj_runner.specs.Ends.{AreEnded};
-ghost use Rattle.cj_run.specs.Lineups.{noted_in};
+ghost use Rattle.cj_run.specs.Drivers.{noted_in};
 ghost use Rattle.cj_run.specs.Rounds.{without_due};
 
 use crate::made::Made;
@@ -23,7 +23,7 @@ struct Sorted {
 }
 
 impl Sorted {
-    // One more of them, where it belongs.
+    // Adds a Job where it belongs.
     fn put(&mut self, job: Running, now: Seconds) -> Result<(), AllocError>
         ensures due { OnOk result (self.new.due.items
             ≡ self.old.due.items ++ filter (is_due now) (job ∷ [])) }

@@ -32,7 +32,7 @@ pub(crate) struct Made {
     pub running: Vec<Running>,
 }
 
-// How many of the Jobs a CronJob with this uid made.
+// How many of the counted Jobs a CronJob with this uid made.
 fn jobs_of(count: Option<&Count>, uid: &Text) -> u64
     ensures { result ≡ made_before (option_copied count.entry) uid.now }
 {
@@ -53,7 +53,7 @@ fn ending_of(end: RunEnd) -> Ending
 }
 
 impl Made {
-    /// Nothing was made.
+    /// No Job was made.
     pub(crate) fn new(alloc: Global) -> Made
         ensures { notes result.last result.counts result.running.items ≡ no_notes }
     {
@@ -82,7 +82,7 @@ impl Made {
         Ok(before)
     }
 
-    // A Job more that runs, where it ends at all.
+    // Adds a Job that runs, where it ends at all.
     fn start(
         &mut self,
         alloc: Global,
@@ -127,7 +127,7 @@ impl Made {
         self.start(alloc, now, job, runs.of(&place, before))
     }
 
-    // Notes a Job that an answer tells of, unless it was noted before that answer.
+    // Notes a Job that an answer names, unless it was noted before that answer.
     fn note_new(
         &mut self,
         alloc: Global,
@@ -150,7 +150,7 @@ impl Made {
         }
     }
 
-    // Notes those of a listing.
+    // Notes the Jobs of a listing.
     fn note_all(
         &mut self,
         alloc: Global,
@@ -170,7 +170,7 @@ impl Made {
         Ok(())
     }
 
-    // Notes the Job whose creation an event tells, if it tells one.
+    // Notes the Job that an event says was created, if it says so.
     fn note_event(
         &mut self,
         alloc: Global,
@@ -190,7 +190,7 @@ impl Made {
         }
     }
 
-    // Notes those whose creations events tell.
+    // Notes the Jobs that events say were created.
     fn note_events(
         &mut self,
         alloc: Global,
@@ -210,7 +210,7 @@ impl Made {
         Ok(())
     }
 
-    // Notes those that an answer to the informer tells of.
+    // Notes the Jobs that an answer to the informer names.
     fn note_told(
         &mut self,
         alloc: Global,
@@ -230,7 +230,8 @@ impl Made {
         }
     }
 
-    /// Notes the Jobs that the informer's receipts tell of, which were made at the moment; none of them twice.
+    /// Notes the Jobs that the informer's receipts name and that were made at the moment, each
+    /// once.
     pub(crate) fn note_news(
         &mut self,
         alloc: Global,

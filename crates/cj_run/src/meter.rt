@@ -1,6 +1,6 @@
 use std::sync::atomic::{AtomicU64, Ordering};
 
-/// How far a run is, for whoever looks at it from another thread meanwhile. No clause speaks of it.
+/// How far a run is, for another thread to read meanwhile. No clause speaks of it.
 #[derive(Drop)]
 pub struct Meter {
     over: AtomicU64,
@@ -8,7 +8,7 @@ pub struct Meter {
 }
 
 impl Meter {
-    /// Of no run yet.
+    /// A meter of no run yet.
     pub fn new() -> Meter {
         Meter {
             over: AtomicU64::new(0),
@@ -16,12 +16,12 @@ impl Meter {
         }
     }
 
-    /// A run of so many instants begins.
+    /// Records that a run of `all` instants begins.
     pub(crate) fn begin(&self, all: u64) {
         self.all.store(all, Ordering::SeqCst);
     }
 
-    /// One more instant is over.
+    /// Records that another instant is over.
     pub(crate) fn advance(&self) {
         self.over.fetch_add(1, Ordering::SeqCst);
     }

@@ -3,33 +3,35 @@ ghost use Rattle.std.specs.Prelude.{◌≡◌, [], ◌∷◌, ◌++◌, All, Err
 ghost use Rattle.cj_hub.specs.Receipts.{IsExact, caller_of};
 ghost use Rattle.cj_world_laws.specs.Promise.{KeepsPromise};
 ghost use Rattle.cj_report.specs.Reports.{report_of};
-ghost use Rattle.cj_base.specs.declared.refusal.Refusal.TheVariants.{OutOfMemory};
-ghost use Rattle.cj_run.specs.Crews.{AreNumbered};
-ghost use Rattle.cj_run.specs.Deeds.{AreFresh, HaveLived, IsFresh, IsUnused};
-ghost use Rattle.cj_run.specs.Looks.{IsKept};
+ghost use Rattle.cj_run.specs.Participants.{AreNumbered};
+ghost use Rattle.cj_run.specs.Actions.{AreFresh, HaveRunLoop, IsFresh, IsUnused};
+ghost use Rattle.cj_run.specs.Validation.{IsValid};
 ghost use Rattle.cj_run.specs.Runs.{HasRun, IsReport, IsRun, IsRunFailure, pass_at};
 
 use crate::clock::RunClock;
-use crate::crew::{Crew, RUNNERS, are_numbered, callers_of, is_crew, passes_of};
-use crate::drive::Participants;
-use crate::look::is_kept;
+use crate::drive::Driver;
+use crate::error::RunError;
 use crate::made::Made;
 use crate::meter::Meter;
-use crate::rest::{Follower, Halt};
+use crate::participants::{
+    Participants, RUNNERS, are_complete, are_numbered, callers_of, passes_of,
+};
+use crate::rest::Follower;
 use crate::threads::{ThreadResults, WorkerEnds, run_threads};
+use crate::validation::is_valid;
 use cj_calls::{Caller, Role};
 use cj_hub::{Closed, Hub, HubState, Pass};
 use cj_informer::Informer;
 use cj_io::Failure;
 use cj_report::report_text;
 use cj_script::Simulation;
-use cj_types::{Heap, Limits, Max, Refusal};
+use cj_types::{Heap, Limits, Max};
 use cj_worker::{SyncEnd, WorkerEnd};
 use std::alloc::{AllocError, Global};
 use std::sync::Wait;
 use std::thread::Threads;
 
-/// What came of a run: the report of the end, and the history that it is of.
+/// What a run leaves: the report of its end, and its history.
 #[derive(Drop)]
 pub struct Ran {
     /// A line for each object and for each reason.
@@ -38,24 +40,22 @@ pub struct Ran {
     pub closed: Heap<Closed>,
 }
 
-// One pass more.
-fn put(passes: &mut Vec<Pass>, pass: Pass) -> Result<(), Refusal>
+// Adds a pass at the end.
+fn put(passes: &mut Vec<Pass>, pass: Pass) -> Result<(), AllocError>
     ensures { OnOk result (passes.new.items ≡ passes.old.items ++ pass ∷ []) }
 {
-    match passes.push(pass) {
-        Ok(()) => Ok(()),
-        Err(_) => Err(Refusal::OutOfMemory),
-    }
+    passes.push(pass)?;
+    Ok(())
 }
 
-// So many passes of a role.
+// Enrolls `count` passes of a role.
 fn enroll<R: Wait>(
     rt: &R,
     alloc: Global,
     hub: &Hub,
     role: Role,
     count: u64,
-) -> Result<Vec<Pass>, Refusal>
+) -> Result<Vec<Pass>, RunError>
     ensures { IfOk result (λ ps. All IsUnused ps.items) }
 {
     let mut passes = Vec::new(alloc);
@@ -65,7 +65,7 @@ fn enroll<R: Wait>(
     Ok(passes)
 }
 
-fn new_follower<R: Wait>(rt: &R, alloc: Global, hub: &Hub) -> Result<Follower, Refusal>
+fn new_follower<R: Wait>(rt: &R, alloc: Global, hub: &Hub) -> Result<Follower, RunError>
     ensures { IfOk result IsFresh }
 {
     let max = Max::new(500).unwrap();
@@ -75,12 +75,12 @@ fn new_follower<R: Wait>(rt: &R, alloc: Global, hub: &Hub) -> Result<Follower, R
     })
 }
 
-fn new_participants<R: Wait>(rt: &R, alloc: Global, hub: &Hub) -> Result<Participants, Refusal>
+fn new_driver<R: Wait>(rt: &R, alloc: Global, hub: &Hub) -> Result<Driver, RunError>
     ensures { IfOk result AreFresh }
 {
     let runners = enroll(rt, alloc, hub, Role::Runner, RUNNERS)?;
     let follower = new_follower(rt, alloc, hub)?;
-    Ok(Participants {
+    Ok(Driver {
         user: hub.enroll(rt, Role::User)?,
         follower,
         runners,
@@ -88,37 +88,44 @@ fn new_participants<R: Wait>(rt: &R, alloc: Global, hub: &Hub) -> Result<Partici
     })
 }
 
-// Whether a worker found the history full.
-fn found_full(end: &WorkerEnd) -> bool {
-    matches!(&end.end, SyncEnd::Broken(Refusal::HistoryFull))
-}
-
-// Why workers gave up.
-fn refusal_of(ends: &WorkerEnds) -> Refusal
-    ensures lost { IfErr ends.now (λ _. result ≡ OutOfMemory) }
-{
-    match ends {
-        Ok(ends) => {
-            if ends.as_slice().iter().any(found_full) {
-                Refusal::HistoryFull
-            } else {
-                Refusal::OutOfMemory
-            }
-        }
-        Err(_) => Refusal::OutOfMemory,
+// Whether the worker's last sync broke off by this error.
+fn broke_by(end: &WorkerEnd, error: RunError) -> bool {
+    match &end.end {
+        SyncEnd::Broken(refusal) => RunError::of(refusal) == error,
+        _ => false,
     }
 }
 
-// Why the instants were not all lived through, or were in vain since a worker gave up.
-fn check_results<R: Wait>(rt: &R, hub: &Hub, results: &ThreadResults) -> Result<(), Refusal>
+// Why workers gave up: a call of theirs was refused, or else memory was wanting, also for one of
+// their threads.
+fn error_of(ends: &WorkerEnds) -> RunError
+    ensures lost { IfErr ends.now (λ e. result ≡ e) }
+{
+    let ends = match ends {
+        Ok(ends) => ends.as_slice(),
+        Err(error) => return *error,
+    };
+    if ends.iter().any(|end| broke_by(end, RunError::HistoryFull)) {
+        return RunError::HistoryFull;
+    }
+    if ends
+        .iter()
+        .any(|end| broke_by(end, RunError::UnexpectedRefusal))
+    {
+        return RunError::UnexpectedRefusal;
+    }
+    RunError::Memory
+}
+
+// Why the instants were not all run, or were in vain since a worker gave up.
+fn check_results<R: Wait>(rt: &R, hub: &Hub, results: &ThreadResults) -> Result<(), RunError>
     ensures { OnOk result (IsOk results.now.instants) }
 {
     match &results.instants {
-        Err(Halt::Refused(Refusal::HistoryFull)) => Err(Refusal::HistoryFull),
-        Err(Halt::Refused(_)) => Err(Refusal::OutOfMemory),
-        Err(Halt::GivenUp) => Err(refusal_of(&results.workers)),
-        Ok(()) => match hub.state(rt, results.participants.follower.informer.seen()) {
-            HubState::Broken => Err(refusal_of(&results.workers)),
+        Err(RunError::GivenUp) => Err(error_of(&results.workers)),
+        Err(error) => Err(*error),
+        Ok(()) => match hub.state(rt, results.driver.follower.informer.seen()) {
+            HubState::Broken => Err(error_of(&results.workers)),
             _ => Ok(()),
         },
     }
@@ -135,26 +142,28 @@ fn passes_at(alloc: Global, ends: Vec<WorkerEnd>) -> Result<Vec<Pass>, AllocErro
     Ok(passes)
 }
 
-// Who called in a run. Where nothing came of the workers, memory was wanting.
-fn crew_of(alloc: Global, participants: Participants, ends: WorkerEnds) -> Result<Crew, Refusal>
+// Who called in a run.
+fn participants_of(
+    alloc: Global,
+    driver: Driver,
+    ends: WorkerEnds,
+) -> Result<Participants, RunError>
     ensures workers { IfOk ends (λ es. IfOk result (λ c. c.workers.items ≡ map pass_at es.items)) }
-    ensures lost { IfErr ends (λ _. result ≡ Err OutOfMemory) }
-    ensures runners { IfOk result (λ c. c.runners.items ≡ participants.runners.items) }
-    ensures informer { IfOk result (λ c. c.informer ≡ participants.follower.pass) }
-    ensures user { IfOk result (λ c. c.user ≡ participants.user) }
+    ensures lost { IfErr ends (λ e. result ≡ Err e) }
+    ensures runners { IfOk result (λ c. c.runners.items ≡ driver.runners.items) }
+    ensures informer { IfOk result (λ c. c.informer ≡ driver.follower.pass) }
+    ensures user { IfOk result (λ c. c.user ≡ driver.user) }
 {
-    let Ok(ends) = ends else {
-        return Err(Refusal::OutOfMemory);
-    };
-    let Participants {
+    let ends = ends?;
+    let Driver {
         user,
         follower,
         runners,
         made: _,
-    } = participants;
+    } = driver;
     let workers = passes_at(alloc, ends)?;
     let informer = follower.pass;
-    Ok(Crew {
+    Ok(Participants {
         workers,
         runners,
         informer,
@@ -163,21 +172,22 @@ fn crew_of(alloc: Global, participants: Participants, ends: WorkerEnds) -> Resul
 }
 
 #[tactic(auto, unfolding(cj_report::specs::Reports::report_of))]
-fn closed_report(alloc: Global, closed: &Closed) -> Result<String, Refusal>
+fn closed_report(alloc: Global, closed: &Closed) -> Result<String, RunError>
     ensures { IfOk result (λ s. string_bytes s
         ≡ report_of closed.now.limits.window closed.now.history) }
 {
     let (crons, jobs) = closed.objects()?;
-    report_text(alloc, crons.as_slice(), jobs.as_slice(), closed.history())
+    let history = closed.history();
+    Ok(report_text(alloc, crons.as_slice(), jobs.as_slice(), history)?)
 }
 
-// Closes the hub with these passes.
-fn close(alloc: Global, hub: Heap<Hub>, passes: Vec<Pass>) -> Result<Heap<Closed>, Refusal>
+// Closes the hub with these passes, which are all that it enrolled.
+fn close(alloc: Global, hub: Heap<Hub>, passes: Vec<Pass>) -> Result<Heap<Closed>, RunError>
     ensures { IfOk result (λ c. All (IsExact c.history) passes.items) }
 {
     match hub.into_inner().close(passes) {
         Ok(closed) => Ok(Heap::new(alloc, closed)?),
-        Err(_) => Err(Refusal::OutOfMemory),
+        Err(_) => Err(RunError::Inconsistent),
     }
 }
 
@@ -188,26 +198,27 @@ fn promised(closed: &Closed)
     closed.history();
 }
 
-// Looks over a closed history: whether it has the entries of these callers alone, made at their times. None that the
-// threads of a run made is refused.
-fn look_over(
+// Validates a closed history: it must have the entries of these callers alone, made at their times.
+// What one pass did is proved, but no clause can say where its entries are among those of other
+// threads, so each history is looked through.
+fn validate(
     alloc: Global,
     simulation: &Simulation,
     callers: &[Caller],
     user: u64,
     closed: &Closed,
-) -> Result<(), Refusal>
-    ensures { OnOk result (IsKept simulation.now callers.now user closed.now.history) }
+) -> Result<(), RunError>
+    ensures { OnOk result (IsValid simulation.now callers.now user closed.now.history) }
 {
-    if is_kept(alloc, simulation, callers, user, closed.history())? {
+    if is_valid(alloc, simulation, callers, user, closed.history())? {
         Ok(())
     } else {
-        Err(Refusal::OutOfMemory)
+        Err(RunError::Inconsistent)
     }
 }
 
 // The callers of these passes, which are numbered by their places.
-fn numbered(alloc: Global, passes: &[Pass]) -> Result<Vec<Caller>, Refusal>
+fn numbered(alloc: Global, passes: &[Pass]) -> Result<Vec<Caller>, RunError>
     ensures callers { IfOk result (λ cs. cs.items ≡ map caller_of passes.now) }
     ensures numbered { IfOk result (λ cs. AreNumbered 0 cs.items) }
 {
@@ -215,32 +226,33 @@ fn numbered(alloc: Global, passes: &[Pass]) -> Result<Vec<Caller>, Refusal>
     if are_numbered(callers.as_slice()) {
         Ok(callers)
     } else {
-        Err(Refusal::OutOfMemory)
+        Err(RunError::Inconsistent)
     }
 }
 
-// Closes the hub, and reports of its history.
+// Closes the hub, validates its history, and writes the report.
 #[tactic(auto, using(crate::proofs::Reported::reported))]
 fn report(
     alloc: Global,
     hub: Heap<Hub>,
     simulation: &Simulation,
-    crew: Crew,
-) -> Result<Ran, Refusal>
-    ensures { IfOk result (λ r. IsReport simulation.now crew r.closed (string_bytes r.report)) }
+    participants: Participants,
+) -> Result<Ran, RunError>
+    ensures { IfOk result (λ r. IsReport simulation.now participants r.closed
+        (string_bytes r.report)) }
 {
-    let user = crew.user.caller().number;
-    let passes = passes_of(alloc, crew)?;
+    let user = participants.user.caller().number;
+    let passes = passes_of(alloc, participants)?;
     let callers = numbered(alloc, passes.as_slice())?;
     let closed = close(alloc, hub, passes)?;
     promised(closed.get());
-    look_over(alloc, simulation, callers.as_slice(), user, closed.get())?;
+    validate(alloc, simulation, callers.as_slice(), user, closed.get())?;
     let report = closed_report(alloc, closed.get())?;
     Ok(Ran { report, closed })
 }
 
 // Enrolls all who call in a run, and runs their threads on the hub.
-#[tactic(auto, using(crate::proofs::Reported::have_lived))]
+#[tactic(auto, using(crate::proofs::Reported::have_run_loop))]
 fn run_on_hub<R: Threads + Wait + Sync>(
     rt: &R,
     alloc: Global,
@@ -248,64 +260,55 @@ fn run_on_hub<R: Threads + Wait + Sync>(
     simulation: &Simulation,
     workers: u64,
     meter: &Meter,
-) -> Result<Heap<ThreadResults>, Refusal>
-    ensures { IfOk result (λ r. OnOk r.instants (HaveLived simulation.now r.participants)) }
+) -> Result<Heap<ThreadResults>, RunError>
+    ensures { IfOk result (λ r. OnOk r.instants (HaveRunLoop simulation.now r.driver)) }
 {
     let passes = enroll(rt, alloc, hub, Role::Worker, workers)?;
-    let participants = new_participants(rt, alloc, hub)?;
+    let driver = new_driver(rt, alloc, hub)?;
     let clock = RunClock::new(simulation.span);
-    let results = run_threads(
-        rt,
-        alloc,
-        hub,
-        &clock,
-        simulation,
-        participants,
-        passes,
-        meter,
-    )?;
-    Heap::new(alloc, results)
+    let results = run_threads(rt, alloc, hub, &clock, simulation, driver, passes, meter)?;
+    Ok(Heap::new(alloc, results)?)
 }
 
-// Runs all threads on the hub, where all instants are lived through and nobody gives up.
-fn live_through<R: Threads + Wait + Sync>(
+// Runs all threads on the hub. It fails where not all instants were run, or a worker gave up.
+fn run_loop<R: Threads + Wait + Sync>(
     rt: &R,
     alloc: Global,
     hub: &Hub,
     simulation: &Simulation,
     workers: u64,
     meter: &Meter,
-) -> Result<Heap<ThreadResults>, Refusal>
-    ensures { IfOk result (λ r. HaveLived simulation.now r.participants) }
+) -> Result<Heap<ThreadResults>, RunError>
+    ensures { IfOk result (λ r. HaveRunLoop simulation.now r.driver) }
 {
     let results = run_on_hub(rt, alloc, hub, simulation, workers, meter)?;
     check_results(rt, hub, results.get())?;
     Ok(results)
 }
 
-// Who called in a run on the hub.
+// Runs a scenario on the hub to its end, and answers who called.
 #[tactic(auto, using(crate::proofs::Reported::has_run))]
-fn crew_left<R: Threads + Wait + Sync>(
+fn run_to_end<R: Threads + Wait + Sync>(
     rt: &R,
     alloc: Global,
     hub: &Hub,
     simulation: &Simulation,
     workers: u64,
     meter: &Meter,
-) -> Result<Crew, Refusal>
+) -> Result<Participants, RunError>
     ensures { IfOk result (λ c. HasRun simulation.now workers c) }
 {
-    let results = live_through(rt, alloc, hub, simulation, workers, meter)?;
+    let results = run_loop(rt, alloc, hub, simulation, workers, meter)?;
     let ThreadResults {
-        participants,
+        driver,
         workers: ends,
         instants: _,
     } = results.into_inner();
-    let crew = crew_of(alloc, participants, ends)?;
-    if is_crew(&crew, workers) {
-        Ok(crew)
+    let participants = participants_of(alloc, driver, ends)?;
+    if are_complete(&participants, workers) {
+        Ok(participants)
     } else {
-        Err(Refusal::OutOfMemory)
+        Err(RunError::Inconsistent)
     }
 }
 
@@ -317,32 +320,23 @@ fn run_whole<R: Threads + Wait + Sync>(
     simulation: &Simulation,
     workers: u64,
     meter: &Meter,
-) -> Result<Ran, Refusal>
+) -> Result<Ran, RunError>
     ensures { IfOk result (λ r. IsRun simulation.now workers r.closed (string_bytes r.report)) }
 {
     let limits = Limits::new(16_777_216, 1_000).unwrap();
     let hub = Heap::new(alloc, Hub::new(alloc, limits)?)?;
-    let crew = crew_left(rt, alloc, hub.get(), simulation, workers, meter)?;
-    report(alloc, hub, simulation, crew)
+    let participants = run_to_end(rt, alloc, hub.get(), simulation, workers, meter)?;
+    report(alloc, hub, simulation, participants)
 }
 
-// What a run without a report is told as: where it isn't the full history that was met, memory was wanting.
-fn failure_by(refusal: Refusal) -> Failure
-    ensures { IsRunFailure result }
-{
-    match refusal {
-        Refusal::HistoryFull => Failure::HistoryFull,
-        _ => Failure::Memory,
-    }
-}
-
-/// Runs a scenario on an empty world with so many workers, and gives the report of the end, a line for each
-/// object and for each reason that the history tells, with that history.
+/// Runs a scenario on an empty world with that many workers. Returns the history with the report of
+/// its end, which has a line for each object and for each reason.
 ///
-/// At each instant the Jobs end whose time has come, then the user's edits are made, and then the informer
-/// and the workers go on until the hub is at rest; only then does the clock move. Each thread has ended when
-/// this returns. The meter shows meanwhile how far it is. There is no report where a call found the history full,
-/// or where memory was wanting or a thread couldn't be started.
+/// At each instant the Jobs that are due end, then the user's edits are made, and then the informer
+/// and the workers go on until the hub is at rest. Only then does the clock move. Each thread has
+/// ended when this returns. The meter shows meanwhile how far the run is. There is no report where
+/// a call found the history full, where memory was wanting or a thread couldn't be started, or
+/// where the program itself is at fault.
 pub fn run_simulation<R: Threads + Wait + Sync>(
     rt: &R,
     alloc: Global,
@@ -355,6 +349,6 @@ pub fn run_simulation<R: Threads + Wait + Sync>(
 {
     match run_whole(rt, alloc, simulation, workers, meter) {
         Ok(ran) => Ok(ran),
-        Err(refusal) => Err(failure_by(refusal)),
+        Err(error) => Err(error.failure()),
     }
 }

@@ -1,13 +1,14 @@
 // The threads of a run.
 ghost use Rattle.std.specs.Prelude.{◌≡◌, Err, IfErr, IfOk, OnOk};
-ghost use Rattle.cj_base.specs.declared.refusal.Refusal.TheVariants.{OutOfMemory};
 ghost use Rattle.cj_calls.specs.declared.call.Call.TheVariants as Of;
-ghost use Rattle.cj_run.specs.Deeds.{Called, HasLived};
+ghost use Rattle.cj_run.specs.Actions.{Called, HasRunLoop};
+ghost use Rattle.cj_run.specs.declared.error.RunError.TheVariants.{Inconsistent};
 
 use crate::clock::RunClock;
-use crate::drive::{Participants, drive};
+use crate::drive::{Driver, drive};
+use crate::error::RunError;
 use crate::meter::Meter;
-use crate::rest::{Follower, Halt};
+use crate::rest::Follower;
 use cj_calls::Call;
 use cj_hub::{Hub, Pass};
 use cj_script::Simulation;
@@ -20,19 +21,19 @@ use std::thread;
 use std::thread::Threads;
 
 /// The passes of workers, each with the end of its last sync.
-pub(crate) type WorkerEnds = Result<Vec<WorkerEnd>, Refusal>;
+pub(crate) type WorkerEnds = Result<Vec<WorkerEnd>, RunError>;
 
-/// What the threads of a run hand back: who called beside the workers, whether all instants were lived
-/// through, and what came of the workers.
+/// What the threads of a run hand back: who called beside the workers, whether all instants were
+/// run, and what came of the workers.
 #[derive(Drop)]
 pub(crate) struct ThreadResults {
-    pub participants: Participants,
-    pub instants: Result<(), Halt>,
+    pub driver: Driver,
+    pub instants: Result<(), RunError>,
     pub workers: WorkerEnds,
 }
 
-// Shuts the queue, again after each want of memory, of which it tells then. At a full history the workers end
-// by themselves.
+// Shuts the queue. It tries again as long as memory is wanting, and answers that in the end. At a
+// full history the workers end by themselves.
 fn shut<R: Wait>(rt: &R, hub: &Hub, follower: &mut Follower) -> Result<(), Refusal>
     ensures { OnOk result (Called Of.Shut follower.old.pass follower.new.pass) }
 {
@@ -50,25 +51,25 @@ fn shut<R: Wait>(rt: &R, hub: &Hub, follower: &mut Follower) -> Result<(), Refus
     unreachable!()
 }
 
-// Lives through all instants, and then shuts the queue.
-#[tactic(auto, using(crate::proofs::Reported::has_lived))]
+// Runs all instants, and then shuts the queue.
+#[tactic(auto, using(crate::proofs::Reported::has_run_loop))]
 fn run_instants<R: Threads + Wait + Sync>(
     rt: &R,
     alloc: Global,
     hub: &Hub,
     clock: &RunClock,
     simulation: &Simulation,
-    mut participants: Participants,
+    mut driver: Driver,
     meter: &Meter,
-) -> (Participants, Result<(), Halt>)
-    ensures { OnOk result.1 (HasLived simulation.now participants result.0) }
+) -> (Driver, Result<(), RunError>)
+    ensures { OnOk result.1 (HasRunLoop simulation.now driver result.0) }
 {
-    let driven = drive(rt, alloc, hub, clock, simulation, &mut participants, meter);
-    let shut = shut(rt, hub, &mut participants.follower);
+    let driven = drive(rt, alloc, hub, clock, simulation, &mut driver, meter);
+    let shut = shut(rt, hub, &mut driver.follower);
     match (driven, shut) {
-        (Ok(()), Ok(())) => (participants, Ok(())),
-        (Ok(()), Err(refusal)) => (participants, Err(Halt::Refused(refusal))),
-        (Err(halt), _) => (participants, Err(halt)),
+        (Ok(()), Ok(())) => (driver, Ok(())),
+        (Ok(()), Err(refusal)) => (driver, Err(RunError::from(refusal))),
+        (Err(error), _) => (driver, Err(error)),
     }
 }
 
@@ -82,67 +83,61 @@ fn run_and_send<R: Threads + Wait + Sync>(
     workers: Vec<Pass>,
     to: Sender<WorkerEnds>,
 ) {
-    let ends = run_workers(rt, alloc, hub, workers, &OpenGate, clock, &simulation.zones);
-    let _ = to.send(rt, ends);
+    let ended = run_workers(rt, alloc, hub, workers, &OpenGate, clock, &simulation.zones);
+    let _ = to.send(rt, ended.map_err(RunError::from));
 }
 
-// What came of the workers. Where it couldn't be handed over, memory was wanting.
+// What came of the workers. Their thread always sends it, so a channel that gives nothing is no
+// run's.
 fn handed_over(received: Result<WorkerEnds, RecvError>) -> WorkerEnds
     ensures given { IfOk received (λ ends. result ≡ ends) }
-    ensures lost { IfErr received (λ _. result ≡ Err OutOfMemory) }
+    ensures lost { IfErr received (λ _. result ≡ Err Inconsistent) }
 {
     match received {
         Ok(ends) => ends,
-        Err(_) => Err(Refusal::OutOfMemory),
+        Err(_) => Err(RunError::Inconsistent),
     }
 }
 
-// What came of the workers, received.
+// Receives what came of the workers.
 fn receive<R: Wait>(rt: &R, from: &Receiver<WorkerEnds>) -> WorkerEnds {
     handed_over(from.recv(rt))
 }
 
-/// Starts the workers in a thread beside this one, lives through all instants, receives what came of the workers,
-/// and joins their thread. Refused `OutOfMemory` where the thread can't be started; nothing is lived through then.
+/// Starts the workers in a thread beside this one, runs all instants, receives what came of the
+/// workers, and joins their thread. A thread that can't be started counts as want of memory; no
+/// instant is run then.
 pub(crate) fn run_threads<R: Threads + Wait + Sync>(
     rt: &R,
     alloc: Global,
     hub: &Hub,
     clock: &RunClock,
     simulation: &Simulation,
-    participants: Participants,
+    driver: Driver,
     workers: Vec<Pass>,
     meter: &Meter,
-) -> Result<ThreadResults, Refusal>
-    ensures { IfOk result (λ r. OnOk r.instants (HasLived simulation.now participants
-        r.participants)) }
+) -> Result<ThreadResults, RunError>
+    ensures { IfOk result (λ r. OnOk r.instants (HasRunLoop simulation.now driver
+        r.driver)) }
 {
     let (to, from) = bounded(alloc, 1)?;
     thread::scope(
         thread::scope_env(),
         rt,
-        |scope| -> Result<ThreadResults, Refusal>
-            ensures { IfOk result (λ r. OnOk r.instants (HasLived simulation.entry.now
-                participants r.participants)) }
+        |scope| -> Result<ThreadResults, RunError>
+            ensures { IfOk result (λ r. OnOk r.instants (HasRunLoop simulation.entry.now
+                driver r.driver)) }
         {
             let Ok(child) = scope.spawn(move || {
                 run_and_send(rt, alloc, hub, clock, simulation, workers, to)
             }) else {
-                return Err(Refusal::OutOfMemory);
+                return Err(RunError::Memory);
             };
-            let (participants, instants) = run_instants(
-                rt,
-                alloc,
-                hub,
-                clock,
-                simulation,
-                participants,
-                meter,
-            );
+            let (driver, instants) = run_instants(rt, alloc, hub, clock, simulation, driver, meter);
             let workers = receive(rt, &from);
             child.join(rt);
             Ok(ThreadResults {
-                participants,
+                driver,
                 instants,
                 workers,
             })

@@ -12,7 +12,7 @@ use cj_types::Millis;
 pub struct Progress {
     /// How many instants have begun.
     pub begun: u64,
-    /// Whether the last of them goes on.
+    /// Whether the last one that began still goes on.
     pub on: bool,
 }
 
@@ -46,7 +46,7 @@ fn informer_is_within(span: &Span, n: u64, call: &Call) -> bool
     }
 }
 
-// Whether a worker's is.
+// Whether a worker's call is within the instant.
 fn worker_is_within(span: &Span, n: u64, call: &Call) -> bool
     ensures { result ≡ is_within span.now n Worker call.now }
 {
@@ -79,7 +79,7 @@ fn informer_is_before(span: &Span, n: u64, call: &Call, answer: &Answer) -> bool
     }
 }
 
-// Whether a worker's is.
+// Whether a worker's call is before the instant.
 fn worker_is_before(span: &Span, n: u64, call: &Call, answer: &Answer) -> bool
     ensures { result ≡ is_before span.now n Worker call.now answer.now }
 {
@@ -89,7 +89,7 @@ fn worker_is_before(span: &Span, n: u64, call: &Call, answer: &Answer) -> bool
     }
 }
 
-// Whether a runner's is.
+// Whether a runner's call is before the instant.
 fn runner_is_before(span: &Span, n: u64, call: &Call, answer: &Answer) -> bool
     ensures { result ≡ is_before span.now n Runner call.now answer.now }
 {
@@ -130,7 +130,7 @@ fn begins(span: &Span, progress: Progress, role: Role, call: &Call) -> bool
     }
 }
 
-// Whether an instant that goes on is over with the call.
+// Whether the call ends an instant that goes on.
 fn ends(role: Role, call: &Call) -> bool
     ensures { result ≡ ends role call.now }
 {
@@ -160,7 +160,7 @@ impl Progress {
         within || is_before(span, self.begun, role, call, answer)
     }
 
-    /// How far the run is with a call more.
+    /// How far the run is after this call.
     pub fn after(self, span: &Span, role: Role, call: &Call) -> Progress
         requires { self.begun + 1 < 2 ^ 64 }
         ensures value { result ≡ progress_after span.now self role call.now }

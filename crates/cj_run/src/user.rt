@@ -1,7 +1,7 @@
 // What the user of a run does.
 ghost use Rattle.std.specs.Prelude.{OnOk, [], ◌∷◌};
 ghost use Rattle.cj_run.specs.Simulations.{creation, creations, edits_at};
-ghost use Rattle.cj_run.specs.Deeds.{Called, Does};
+ghost use Rattle.cj_run.specs.Actions.{Called, Does};
 
 use cj_calls::Call;
 use cj_hub::{Hub, Pass};
@@ -11,7 +11,7 @@ use cj_zone::ZoneTable;
 use std::alloc::Global;
 use std::sync::Wait;
 
-// Makes one call, of whose receipt only the pass keeps one.
+// Makes one call. The pass keeps its receipt.
 fn make<R: Wait>(rt: &R, hub: &Hub, user: &mut Pass, call: Call) -> Result<(), Refusal>
     ensures { OnOk result (Called call user.old user.new) }
 {
@@ -38,7 +38,7 @@ fn create<R: Wait>(
     make(rt, hub, user, Call::CreateCron(draft, at))
 }
 
-/// Creates CronJobs one after the other.
+/// Creates the CronJobs, one after the other.
 pub(crate) fn create_all<R: Wait>(
     rt: &R,
     alloc: Global,
@@ -71,7 +71,7 @@ fn operation<R: Wait>(
     make(rt, hub, user, call)
 }
 
-// Makes an edit, if it is one of the moment.
+// Makes an edit, if it is due at the moment.
 #[tactic(auto, unfolding(crate::specs::Simulations::edits_at), using(crate::proofs::Done::does_nothing))]
 fn edit<R: Wait>(
     rt: &R,
@@ -91,7 +91,7 @@ fn edit<R: Wait>(
     }
 }
 
-/// Makes the edits of the moment one after the other.
+/// Makes the edits that are due at the moment, one after the other.
 pub(crate) fn edit_all<R: Wait>(
     rt: &R,
     alloc: Global,

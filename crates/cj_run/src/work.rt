@@ -12,13 +12,13 @@ use cj_types::Refusal;
 pub(crate) enum Stage {
     /// It holds no key.
     Idle,
-    /// It took one.
+    /// It took a key.
     Taken,
-    /// It saw the CronJob,
+    /// It saw the CronJob.
     SawCron,
-    /// the Jobs that are listed,
+    /// It saw the listed Jobs, too.
     SawJobs,
-    /// and those that are active.
+    /// It saw the active Jobs, too.
     SawActive,
     /// Its plan was claimed, and is carried out.
     Claimed,
@@ -87,8 +87,8 @@ fn after_all(receipts: &[Receipt]) -> Stage
     stage
 }
 
-/// Whether the calls of the receipts are those of whole syncs, one after the other, and a last one that found the
-/// queue shut.
+/// Whether the calls of the receipts are those of whole syncs, one after the other, and a last one
+/// that found the queue shut.
 pub(crate) fn is_over(receipts: &[Receipt]) -> bool
     ensures { IsTrue result ↔ (after_all Idle receipts.now ≡ Over) }
 {

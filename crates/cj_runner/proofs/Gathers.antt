@@ -51,7 +51,8 @@ kept_after ends e g g' h k = record {
       (part_kept (map (λ (x : ShareEnd). Some x) h.kept) ends (Some e) h.part);
   passes = k.passes ∙ ap (λ (ps : List PassView). ps ++ e.pass ∷ []) h.passes
       ∙ sym (map_push (λ (x : ShareEnd). x.pass) h.kept e);
-  whole = λ none. let j = k.joins none in all_after ends h.kept e g.receipts.items g'.receipts.items (h.whole j.before) j.stop j.receipts;
+  whole = λ none. let j = k.joins none in all_after ends h.kept e g.receipts.items g'.receipts.items
+      (h.whole j.before) j.stop j.receipts;
 }
 
 -- For gather: what was gathered of some shares is gathered with one more, whatever came of it.

@@ -30,8 +30,8 @@ pub owners_more : (shares shares' : List Share) (s : Share) (ps : List PassView)
 owners_more shares shares' s ps more is = ap (λ (xs : List Share). map (λ x. x.pass) xs) more
     ∙ map_push (λ (x : Share). x.pass) shares s ∙ ap (λ (qs : List PassView). qs ++ s.pass ∷ []) is
 
--- For share_out: with a share more of the first n that were left, the shares and the rest are still the
--- list.
+-- For share_out: with a share more of the first n that were left, the shares and the rest are still
+-- the list.
 pub parts_more : (shares shares' : List Share) (s : Share) (n : ℕ) (left rest all : List Running)
     → shares' ≡ shares ++ s ∷ [] → s.running.items ≡ take n left → rest ≡ drop n left
     → flat_map (λ x. x.running.items) shares ++ left ≡ all → flat_map (λ x. x.running.items) shares' ++ rest ≡ all

@@ -27,7 +27,8 @@ pub record Keeps (p q : PassView) (news : List Receipt) : Type 0 where
 -- rule: runner-ends
 abbrev pub HandedBack : List PassView → List PassView → List Receipt → Type 0
 HandedBack [] [] news = news ≡ []
-HandedBack (p ∷ ps) (q ∷ qs) news = (mine : List Receipt) × (others : List Receipt) × (news ≡ mine ++ others) × Keeps p q mine × HandedBack ps qs others
+HandedBack (p ∷ ps) (q ∷ qs) news = (mine : List Receipt) × (others : List Receipt) ×
+    (news ≡ mine ++ others) × Keeps p q mine × HandedBack ps qs others
 HandedBack _ _ _ = ⊥
 
 -- the first list is the second without some of its members
@@ -37,8 +38,8 @@ IsPart [] ys = Unit {0}
 IsPart (x ∷ xs) [] = ⊥
 IsPart (x ∷ xs) (y ∷ ys) = ((x ≡ y) × IsPart xs ys) ⊎ IsPart (x ∷ xs) ys
 
--- the passes come back in order, without those that were lost; their new receipts are of ends that are due,
--- in the list's order, each at most once
+-- the passes come back in order, without those that were lost; their new receipts are of ends that
+-- are due, in the list's order, each at most once
 -- rule: runner-ends
 pub record CameBack (now : ℕ) (running : List Running) (passes back : List PassView) : Type 0 where
   pub kept : List PassView
@@ -47,9 +48,11 @@ pub record CameBack (now : ℕ) (running : List Running) (passes back : List Pas
   pub handed : HandedBack kept back news
   pub due : IsPart (calls_of news) (due_ends now running)
 
--- the receipts are of just the ends that are due, in the list's order, and all passes come back with them
+-- the receipts are of just the ends that are due, in the list's order, and all passes come back
+-- with them
 -- rule: runner
-pub record AreEnded (now : ℕ) (running : List Running) (passes back : List PassView) (receipts : List Receipt) : Type 0 where
+pub record AreEnded (now : ℕ) (running : List Running) (passes back : List PassView)
+    (receipts : List Receipt) : Type 0 where
   pub ends : calls_of receipts ≡ due_ends now running
   pub handed : HandedBack passes back receipts
 

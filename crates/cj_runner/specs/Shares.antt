@@ -18,13 +18,15 @@ use Rattle.cj_runner.specs.declared.shares.Share.{Share}
 use Rattle.cj_runner.specs.declared.threads.ShareEnd.{ShareEnd}
 
 -- each pass has a share, and the shares, one after the other, are the list, but for what is left
-pub record AreShares (passes : List PassView) (running : List Running) (shares : List Share) (left : List Running) : Type 0 where
+pub record AreShares (passes : List PassView) (running : List Running) (shares : List Share)
+    (left : List Running) : Type 0 where
   pub owners : map (λ s. s.pass) shares ≡ passes
   pub parts : flat_map (λ s. s.running.items) shares ++ left ≡ running
 
--- one call was entered: its receipt is the pass's, and comes after the others; a history that is told gained
--- just its entry
-pub record Makes (tells : Bool) (w w' : WorldLog) (p p' : PassView) (call : Call) (rs rs' : List Receipt) : Type 0 where
+-- one call was entered: its receipt is the pass's, and comes after the others; a history that is
+-- known gained just its entry
+pub record Makes (tells : Bool) (w w' : WorldLog) (p p' : PassView) (call : Call)
+    (rs rs' : List Receipt) : Type 0 where
   pub receipt : Receipt
   pub call_is : receipt.entry.call ≡ call
   pub own : receipt.entry.caller ≡ caller_of p
@@ -32,7 +34,8 @@ pub record Makes (tells : Bool) (w w' : WorldLog) (p p' : PassView) (call : Call
   pub added : rs' ≡ rs ++ receipt ∷ []
   pub told : IsTrue tells → w' ≡ record w { history = receipt.entry ∷ w.history }
 
--- the receipts are of the ends that are due, in order: of all, or of the first ones where the runner stopped
+-- the receipts are of the ends that are due, in order: of all, or of the first ones where the
+-- runner stopped
 -- rule: runner
 pub record HasEnded (now : ℕ) (running : List Running) (e : Ends) : Type 0 where
   pub rest : List Call
@@ -44,7 +47,7 @@ pub record Came (now : ℕ) (share : Share) (e : ShareEnd) : Type 0 where
   pub keeps : Keeps share.pass e.pass e.ends.receipts.items
   pub ended : HasEnded now share.running.items e.ends
 
--- the same, where the thread was started
+-- what came of a share whose thread may not have been started
 abbrev pub HasCome : ℕ → Share → Option ShareEnd → Type 0
 HasCome now share None = Unit {0}
 HasCome now share (Some e) = Came now share e
@@ -70,19 +73,21 @@ TakesUp g None g' = Loses g g'
 TakesUp g (Some e) g' = Keeping g e g' ⊎ Loses g g'
 
 -- all came back, without a reason, and these are their receipts
-pub record AreAll (ends : List (Option ShareEnd)) (kept : List ShareEnd) (receipts : List Receipt) : Type 0 where
+pub record AreAll (ends : List (Option ShareEnd)) (kept : List ShareEnd)
+    (receipts : List Receipt) : Type 0 where
   pub all : ends ≡ map Some kept
   pub quiet : AllByRecursion (λ e. e.ends.stop ≡ None) kept
   pub joined : receipts ≡ flat_map (λ e. e.ends.receipts.items) kept
 
--- the passes are those of some that came back; where there is no reason, all did, and the receipts are theirs
+-- the passes are those of some that came back; where there is no reason, all did, and the receipts
+-- are theirs
 pub record IsGathered (ends : List (Option ShareEnd)) (g : Gathered) : Type 0 where
   pub kept : List ShareEnd
   pub part : IsPart (map Some kept) ends
   pub passes : g.passes.items ≡ map (λ e. e.pass) kept
   pub whole : g.stop ≡ None → AreAll ends kept g.receipts.items
 
--- what a stop is told as
+-- the refusal that a stop is answered as
 abbrev pub refusal_by : Stop → Refusal
 refusal_by Of.HistoryFull = No.HistoryFull
 refusal_by Of.Estranged = No.Estranged

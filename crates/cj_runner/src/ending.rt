@@ -26,7 +26,7 @@ pub(crate) struct Ends {
     pub(crate) stop: Option<Stop>,
 }
 
-// Ends one Job. Its receipt comes after the others.
+// Ends one Job, and puts its receipt after the others.
 fn end_one<D: Desk>(
     desk: &mut D,
     pass: &mut Pass,

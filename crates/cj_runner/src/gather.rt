@@ -17,7 +17,7 @@ pub(crate) struct Gathered {
 }
 
 impl Gathered {
-    /// Nothing yet, with room for so many passes and receipts.
+    /// Nothing yet, with room for these numbers of passes and receipts.
     pub(crate) fn new(alloc: Global, passes: usize, receipts: usize) -> Result<Gathered, AllocError>
         ensures { IfOk result (λ g. (g.passes.items ≡ []) × (g.receipts.items ≡ [])) }
     {
@@ -40,7 +40,7 @@ impl Gathered {
         }
     }
 
-    // What one share handed back. Its pass is lost where its thread couldn't be started.
+    // Adds what one share handed back. Its pass is lost where its thread couldn't be started.
     fn take_up(&mut self, end: Option<ShareEnd>)
         ensures { TakesUp self.old end self.new }
     {

@@ -20,7 +20,7 @@ fn none_due(running: &[Running], now: Seconds) -> bool
     running.iter().all(|one| !one.is_due(now))
 }
 
-// The same, with a reason where one that is due was in no share, since there is no pass.
+// Adds a reason to stop where one that is due was in no share, since there is no pass.
 fn leave(gathered: Gathered, left: &[Running], now: Seconds) -> Gathered
     ensures passes { result.passes.items ≡ gathered.passes.items }
     ensures receipts { result.receipts.items ≡ gathered.receipts.items }
@@ -44,8 +44,8 @@ fn refusal_of(stop: Stop) -> Refusal
     }
 }
 
-// The ends, and what came back of them. The memory that keeps what comes back is there before the first
-// thread is started.
+// Makes the ends, and puts together what came back. The memory that keeps it is there before the
+// first thread is started.
 fn run<R: Threads + Wait + Sync>(
     rt: &R,
     alloc: Global,
@@ -64,19 +64,20 @@ fn run<R: Threads + Wait + Sync>(
     Ok(leave(gather(room, ends), left.as_slice(), now))
 }
 
-/// Ends the Jobs of the list that are due: those that were made before the moment and have run for their
-/// seconds. Each is ended by one EndJob of its key and uid at the moment.
+/// Ends the Jobs of the list that are due: those that were made before the moment and have run for
+/// their seconds. Each is ended by one EndJob of its key and uid at the moment.
 ///
-/// The list is split into as many shares as there are passes. Each pass ends what is due in its share, in
-/// order, in a thread of its own, up to the first call that the hub doesn't enter. An end that was entered
-/// with a refusal has a receipt like the others. The receipts stand in the list's order, and the passes come
-/// back in theirs, each with its own.
+/// The list is split into as many shares as there are passes. Each pass ends what is due in its
+/// share, in order, in a thread of its own, up to the first call that the hub doesn't enter. An end
+/// that was entered with a refusal has a receipt like the others. The receipts come in the list's
+/// order, and the passes in theirs, each with its own receipts.
 ///
-/// Refused with `HistoryFull`, `Estranged` or `OutOfMemory` where an end that is due was left, by the first
-/// such refusal in order of the passes; the ends made by then stand. A thread that can't be started counts as
-/// `OutOfMemory`: its pass is lost, and its share left. All passes are lost where there is no memory to list
-/// the threads; no thread is started then. Without a pass it is `OutOfMemory` exactly where something is due.
-/// Where nothing is due, no thread is started and nothing refused.
+/// Refused with `HistoryFull`, `Estranged` or `OutOfMemory` where an end that is due was left, by
+/// the first such refusal in order of the passes; the ends made by then remain. A thread that can't
+/// be started counts as `OutOfMemory`: its pass is lost, and its share left. All passes are lost
+/// where there is no memory to list the threads; no thread is started then. Without a pass it is
+/// `OutOfMemory` exactly where something is due. Where nothing is due, no thread is started and
+/// nothing refused.
 pub fn end_due<R: Threads + Wait + Sync>(
     rt: &R,
     alloc: Global,

@@ -13,7 +13,8 @@ pub(crate) struct Share {
     pub(crate) running: Vec<Running>,
 }
 
-// One share for each pass, in the list's order, each of at most so many. What is left of the list comes beside them.
+// One share of at most `most` Jobs for each pass, in the list's order. What is left of the list
+// comes beside them.
 fn share_out(
     alloc: Global,
     passes: Vec<Pass>,
@@ -34,7 +35,8 @@ fn share_out(
     Ok((shares, left))
 }
 
-/// The list in shares of one size, one for each pass. Something is left only where there is no pass.
+/// The list in shares of one size, one for each pass. Something is left only where there is no
+/// pass.
 pub(crate) fn shares_of(
     alloc: Global,
     passes: Vec<Pass>,

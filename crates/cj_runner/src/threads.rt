@@ -42,7 +42,8 @@ fn end_here(rt: &impl Wait, alloc: Global, hub: &Hub, share: Share, now: Seconds
     ShareEnd { pass, ends }
 }
 
-/// Ends what is due, each share in a thread of its own. None stands for a share whose thread can't be started.
+/// Ends what is due, each share in a thread of its own. None stands for a share whose thread can't
+/// be started.
 pub(crate) fn run_shares<R: Threads + Wait + Sync>(
     rt: &R,
     alloc: Global,

@@ -92,7 +92,8 @@ goes_on zones others more name d rest all e h (other, k, adds) =
     record { others = other; names = names_after zones others more other name (unless_null d) e h k; adds = adds }
 
 -- Where the members lead to one that was added, they lead on to those behind it.
-pub leads_member : (first : List Zone) (ms : Members) (zones more : List Zone) (name : List ℕ) (d : Data) (rest : Members)
+pub leads_member : (first : List Zone) (ms : Members) (zones more : List Zone) (name : List ℕ) (d : Data)
+    (rest : Members)
     → LeadsOn first ms zones (member name d rest)
     → AddsMember zones name (unless_null d) more → LeadsOn first ms more rest
 leads_member first ms zones more name d rest leads h = record {

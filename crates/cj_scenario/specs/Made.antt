@@ -34,8 +34,8 @@ fresh_meta count created draft = record {
   annotations = draft.annotations;
 }
 
--- the CronJob that the first create of all makes of a draft, whose uid and version are dropped, with its last
--- schedule time
+-- the CronJob that the first create of all makes of a draft, whose uid and version are dropped,
+-- with its last schedule time
 abbrev pub scene_cron : CronJobDraft → ℕ → Option ℕ → CronJob
 scene_cron draft created last = record {
   key = draft.key;
@@ -61,7 +61,8 @@ with_active cron names = record {
 abbrev pub count_of : GivenJob → ℕ
 count_of given = given.time / 60 + 2
 
--- the Job that the CronJob makes for the time, as one that was created at that time and stands as it is said
+-- the Job that the CronJob makes for the time, as one that was created at that time and is in the
+-- state that the scenario says
 abbrev pub scene_job : CronJob → GivenJob → Job
 scene_job cron given =
     let draft = made_job cron given.time (time_text_of given.time) in
@@ -75,7 +76,8 @@ scene_job cron given =
 
 -- ---- the answer
 
--- a value of the form, whose manifest has no fault under the zones that are given and those in it, says this
+-- a value of the form, whose manifest has no fault under the zones that are given and those in it,
+-- says this
 pub record Says (given : GivenZones) (d : Data) (s : Scene) : Type 0 where
   pub form : Form
   pub formed : IsForm given d form
@@ -84,7 +86,8 @@ pub record Says (given : GivenZones) (d : Data) (s : Scene) : Type 0 where
   pub drafted : cron_draft form.manifest ≡ Some draft
   pub zones : zones_of s.zones ≡ form.zones
   pub local : local_zone s.zones ≡ local_zone given.rules
-  pub cron : s.cron ≡ with_active (scene_cron draft form.created form.last) (names_of (live_jobs s.jobs))
+  pub cron : s.cron ≡ with_active (scene_cron draft form.created form.last)
+      (names_of (live_jobs s.jobs))
   pub jobs : s.jobs ≡ map (scene_job s.cron) form.jobs
   pub active : s.active ≡ map (λ job. Some job) (live_jobs s.jobs)
 
@@ -105,14 +108,16 @@ pub record HasFault (given : GivenZones) (d : Data) (e : SceneFault) : Type 0 wh
   pub formed : IsForm given d form
   pub first : IsFirst (cron_faults form.zones form.manifest) e
 
--- why a value is no scenario: it has no such form; else its manifest is at fault; or there was no memory
+-- why a value is no scenario: it has no such form; else its manifest is at fault; or there was no
+-- memory
 abbrev pub IsRefusedValue : GivenZones → Data → SceneFault → Type 0
 IsRefusedValue given d FormFault = IsNoForm given d
 IsRefusedValue given d (Manifest fault) = HasFault given d (Manifest fault)
 IsRefusedValue given d Memory = Unit {0}
 IsRefusedValue given d Syntax = ⊥
 
--- why bytes are none: they are no JSON; else the value that they are is none; or there was no memory
+-- why bytes are none: they are no JSON; else the value that they are is none; or there was no
+-- memory
 -- rule: plan-scenario
 abbrev pub IsRefusedScene : GivenZones → List ℕ → SceneFault → Type 0
 IsRefusedScene given bytes Syntax = IsNoValue bytes

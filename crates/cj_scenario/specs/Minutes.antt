@@ -12,4 +12,5 @@ AreMinutesOf jobs minutes = (minute : ℕ) → contains nat_cmp minutes minute �
 -- the set with the minute
 abbrev pub AddsMinute : BTreeSet ℕ → ℕ → BTreeSet ℕ → Type 0
 AddsMinute minutes added more =
-    (minute : ℕ) → contains nat_cmp more minute ≡ ((added == minute) || contains nat_cmp minutes minute)
+    (minute : ℕ) → contains nat_cmp more minute
+    ≡ ((added == minute) || contains nat_cmp minutes minute)

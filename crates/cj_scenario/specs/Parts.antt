@@ -1,4 +1,4 @@
--- The parts of a scenario, whose manifest stands in its value, as the form that they are.
+-- The parts of a scenario, with its manifest still as a value.
 use Rattle.serde_json.specs.View.{view}
 use Rattle.cj_zone.specs.Table.{zones_of}
 use Rattle.cj_scenario.specs.declared.form.Parts.{Parts}

@@ -1,6 +1,6 @@
--- The form of a scenario for a plan: a JSON object (RFC 8259) with a CronJob's manifest, the moment of its
--- creation, the last time that was scheduled, its Jobs, and zones by name. Members that aren't named here, or
--- are null, are of no account.
+-- The form of a scenario for a plan: a JSON object (RFC 8259) with a CronJob's manifest, the moment
+-- of its creation, the last time that was scheduled, its Jobs, and zones by name. Members that
+-- aren't named here, or are null, are of no account.
 use Rattle.std.specs.Prelude.{◌≡◌, ◌⊎◌, map, ℕ, ◌==◌, ◌/◌, ◌≤◌, List, [], ◌∷◌, ◌++◌, codes, bytes_eq, Bool, false, if◌then◌else◌, Option, Some, None, option_and_then}
 use Rattle.std.specs.List.{list_any}
 use Rattle.serde_json.specs.Data.{Data, Items, no_items, item, Members, no_members, member}
@@ -41,7 +41,7 @@ IsMaybeTime (Some d) (Some t) = IsTime d t
 
 -- ---- zones
 
--- one zone more, of a name that is free, whose clock is what `jiff` makes of the rule
+-- another zone, of a name that is free, whose clock is what `jiff` makes of the rule
 pub record AddsRule (zones : List Zone) (name rule : List ℕ) (more : List Zone) : Type 0 where
   pub zone : Zone
   pub more_are : more ≡ zones ++ zone ∷ []
@@ -75,7 +75,8 @@ abbrev pub AddsObject : List Zone → Option Data → List Zone → Type 0
 AddsObject zones None all = all ≡ zones
 AddsObject zones (Some d) all = AddsMaybe zones (as_object d) all
 
--- the zones of the rules that are given, those of such an object, and those of the files that are given
+-- the zones of the rules that are given, those of such an object, and those of the files that are
+-- given
 -- rules: zone-option, zoneinfo
 pub record AreZones (given : GivenZones) (o : Option Data) (zones : List Zone) : Type 0 where
   pub own : List Zone
@@ -84,7 +85,7 @@ pub record AreZones (given : GivenZones) (o : Option Data) (zones : List Zone) :
 
 -- ---- Jobs
 
--- how a Job of that time stands, by the word for it; a Complete one ended at its time
+-- the state of a Job of that time, by the word for it; a Complete one ended at its time
 abbrev pub outcome_named : ℕ → List ℕ → Option (Option Outcome)
 outcome_named time word =
     if bytes_eq word (codes "Running") then Some None
@@ -114,7 +115,8 @@ pub record AddsItem (jobs : List GivenJob) (d : Data) (more : List GivenJob) : T
 -- the Jobs with those of the items, one after another
 abbrev pub AddsItems : List GivenJob → Items → List GivenJob → Type 0
 AddsItems jobs no_items all = all ≡ jobs
-AddsItems jobs (item d ds) all = (more : List GivenJob) × AddsItem jobs d more × AddsItems more ds all
+AddsItems jobs (item d ds) all = (more : List GivenJob) × AddsItem jobs d more
+    × AddsItems more ds all
 
 abbrev pub AddsArray : Option Items → List GivenJob → Type 0
 AddsArray None jobs = ⊥
@@ -127,7 +129,7 @@ AreJobs (Some d) jobs = AddsArray (as_array d) jobs
 
 -- ---- the whole
 
--- what a scenario says, with the manifest as it stands in it
+-- what a scenario says, with its manifest still as a value
 pub record Form : Type 0 where
   pub zones : List Zone
   pub manifest : Data

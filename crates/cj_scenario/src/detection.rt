@@ -1,4 +1,5 @@
-// What a text of JSON is by its members: which command takes it, and which of its members nobody reads.
+// What a JSON text is by its members: which command takes it, and which of its members no command
+// reads.
 mod form;
 mod fraction;
 mod ignored;

@@ -18,7 +18,7 @@ pub enum SceneFault {
     Memory,
 }
 
-// The calls that go by this refuse nothing but memory.
+// The calls that convert by this are refused for want of memory alone, as their clauses say.
 impl From<Refusal> for SceneFault {
     ghost use Rattle.std.specs.Prelude.{◌≡◌};
     ghost use Rattle.cj_scenario.specs.declared.fault.SceneFault.TheVariants.{Memory};

@@ -52,7 +52,7 @@ fn given(value: &Value) -> Option<GivenJob>
     Some(GivenJob { time, outcome })
 }
 
-// A Job of a minute that none of the Jobs has, whose minutes these are.
+// The Job that a value says, in a minute in which no other Job is. Adds its minute to theirs.
 fn new_job(minutes: &mut BTreeSet<u64>, value: &Value) -> Result<GivenJob, SceneFault>
     ensures ok { IfOk result (form.IsGiven (view value.now)) }
     ensures only { IfOk result (λ job. (other : GivenJob) → form.IsGiven (view value.now) other →

@@ -1,8 +1,8 @@
 //! Scenarios: a CronJob with its Jobs and zones, as a JSON text says them.
 //!
-//! Here belongs what a scenario is, with the zones that any input may have, and (`detection`) what a text is where
-//! another is wanted. What is decided for a scenario belongs to the crates above. They rest on `read_scene`, `table_of`
-//! and `detect`.
+//! Here belongs what a scenario is, with the zones that any input may have, and (`detection`) what
+//! a text is where a text of another form is wanted. What is decided for a scenario belongs to the
+//! crates above. They rest on `read_scene`, `table_of` and `detect`.
 #![tactic(auto)]
 
 mod detection;

@@ -50,7 +50,7 @@ pub(crate) fn live_jobs(alloc: Global, jobs: &[Shared<Job>]) -> Result<Vec<Share
     Ok(live)
 }
 
-// The name in a key at the end.
+// Adds the name in a key at the end.
 fn push_name(alloc: Global, names: &mut Names, key: &Key) -> Result<(), Refusal>
     ensures ok { OnOk result (names.new ≡ names.old ++ key.now.name ∷ []) }
     ensures err { IfErr result (λ e. e ≡ OutOfMemory) }
@@ -58,7 +58,7 @@ fn push_name(alloc: Global, names: &mut Names, key: &Key) -> Result<(), Refusal>
     names.push(ObjectName::of_key(alloc, key)?)
 }
 
-/// Their names.
+/// The names of these Jobs.
 pub(crate) fn names_of(alloc: Global, live: &[Shared<Job>]) -> Result<Names, Refusal>
     ensures ok { IfOk result (λ n. n ≡ names_of live.now) }
     ensures err { IfErr result (λ e. e ≡ OutOfMemory) }
@@ -70,7 +70,7 @@ pub(crate) fn names_of(alloc: Global, live: &[Shared<Job>]) -> Result<Names, Ref
     Ok(names)
 }
 
-/// Each of them, as found.
+/// Each of these Jobs, as a live read finds it.
 pub(crate) fn found_of(
     alloc: Global,
     live: &[Shared<Job>],

@@ -34,8 +34,8 @@ fn fresh_meta(count: u64, created: Seconds, draft: DraftMeta) -> Meta
     }
 }
 
-/// The CronJob that the first create makes of a draft at that time, with its last schedule time. A uid and a
-/// version in the draft are dropped: nothing stands that they could be compared with.
+/// The CronJob that the first create makes of a draft at that time, with its last schedule time. A
+/// uid and a version in the draft are dropped, since there is no object to compare them with.
 pub(crate) fn scene_cron(
     alloc: Global,
     draft: CronJobDraft,

@@ -25,7 +25,8 @@ use cj_zone::ZoneTable;
 use serde_json::Value;
 use std::alloc::Global;
 
-/// The value that a scenario's bytes are: `Syntax` where they aren't JSON. It nests at most as deep as JSON is read.
+/// The value that a scenario's bytes are: `Syntax` where they aren't JSON. It nests at most as deep
+/// as JSON is read.
 pub fn value_of(alloc: Global, bytes: &[u8]) -> Result<Value, SceneFault>
     ensures reads { IfOk result (λ v. Reads bytes.now (view v)) }
     ensures flat { IfOk result (λ v. depth (view v) ≤ max_depth) }
@@ -38,7 +39,7 @@ pub fn value_of(alloc: Global, bytes: &[u8]) -> Result<Value, SceneFault>
     }
 }
 
-/// The fault that a manifest's refusal is told by: its first.
+/// The fault that stands for a manifest's refusal: its first one.
 pub fn first_fault(refusal: &Refusal) -> SceneFault
     ensures { (faults : List FieldFault) → HasFaults faults refusal.now → IsFirst faults result }
 {
@@ -70,7 +71,7 @@ pub fn draft_of(
     }
 }
 
-// The names of those of the Jobs that run, and what a live read finds for each.
+// The names of the Jobs that run, and what a live read finds for each.
 fn active_among(
     alloc: Global,
     jobs: &[Shared<Job>],
@@ -111,7 +112,7 @@ fn scene_with(
     })
 }
 
-// What the value says.
+// The scene that the value says.
 fn scene_of(alloc: Global, given: GivenZones<'_>, value: &Value) -> Result<Scene, SceneFault>
     requires flat { depth (view value.now) ≤ max_depth }
     ensures said { IfOk result (Says given.entry (view value.now)) }
@@ -125,14 +126,15 @@ fn scene_of(alloc: Global, given: GivenZones<'_>, value: &Value) -> Result<Scene
     Ok(scene)
 }
 
-/// Reads a scenario for a plan, under the zones that are given: a JSON object with `manifest`, a CronJob's; `created`, the time of its
-/// creation; `last`, its last schedule time; `jobs`, a list of objects with a `time` and an `outcome`,
-/// `Running`, `Complete` or `Failed`; and `zones`, an object from names to POSIX rules. The last three may be
-/// absent; members of other names, or that are null, are ignored.
+/// Reads a scenario for a plan, under the zones that are given. It is a JSON object with
+/// `manifest`, a CronJob's; `created`, the time of its creation; `last`, its last schedule time;
+/// `jobs`, a list of objects with a `time` and an `outcome`, `Running`, `Complete` or `Failed`; and
+/// `zones`, an object from names to POSIX rules. The last three may be absent. Members of other
+/// names, or that are null, are ignored.
 ///
-/// Refused in this order: `Syntax` for bytes that aren't JSON, `Form` for a value of another form, with a
-/// zone that is refused or two Jobs of one minute, and `Manifest` with the manifest's first fault under all
-/// these zones.
+/// Refused in this order: `Syntax` for bytes that aren't JSON, `Form` for a value of another form,
+/// with a zone that is refused or two Jobs of one minute, and `Manifest` with the manifest's first
+/// fault under all these zones.
 pub fn read_scene(alloc: Global, given: GivenZones<'_>, bytes: &[u8]) -> Result<Scene, SceneFault>
     ensures read { IfOk result (IsScene given.entry bytes.now) }
     ensures refused { IfErr result (IsRefusedScene given.entry bytes.now) }

@@ -12,7 +12,7 @@ use cj_types::Refusal;
 use cj_zone::ZoneTable;
 use serde_json::{Map, Value};
 
-// The zone of a rule more, at the end.
+// Adds the zone of a rule at the end.
 fn add_rule(table: &mut ZoneTable, name: &str, rule: &str) -> Result<(), SceneFault>
     ensures ok { OnOk result (form.AddsRule (zones_of table.old) name.now rule.now
         (zones_of table.new)) }
@@ -28,7 +28,7 @@ fn add_rule(table: &mut ZoneTable, name: &str, rule: &str) -> Result<(), SceneFa
     }
 }
 
-// The zone of a member more, unless that is null.
+// Adds the zone of a member, unless it is null.
 fn add_member(table: &mut ZoneTable, name: &str, value: &Value) -> Result<(), SceneFault>
     ensures ok { OnOk result (form.AddsMember (zones_of table.old) name.now
         (unless_null (view value.now)) (zones_of table.new)) }
@@ -57,7 +57,7 @@ fn add_members(table: &mut ZoneTable, members: &Map<String, Value>) -> Result<()
     Ok(())
 }
 
-// The zones of an object from names to POSIX rules more, where there is one.
+// Adds the zones of an object from names to POSIX rules, where there is one.
 fn add_object(table: &mut ZoneTable, object: Option<&Value>) -> Result<(), SceneFault>
     ensures ok { OnOk result (form.AddsObject (zones_of table.old)
         (option_map (λ v. view v.now) object.entry) (zones_of table.new)) }
@@ -74,9 +74,9 @@ fn add_object(table: &mut ZoneTable, object: Option<&Value>) -> Result<(), Scene
     }
 }
 
-/// The zones of the rules that are given, those of an object from names to POSIX rules, where there is one, and
-/// those of the files that are given: `Form` where the object has another form or a zone of it is refused. A file
-/// is passed over whose name isn't free. The local zone stays.
+/// The zones of the rules that are given, those of an object from names to POSIX rules, where there
+/// is one, and those of the files that are given: `Form` where the object has another form or a
+/// zone of it is refused. A file is passed over whose name isn't free. The local zone stays.
 pub fn table_of(given: GivenZones<'_>, object: Option<&Value>) -> Result<ZoneTable, SceneFault>
     ensures ok { IfOk result (λ t. form.AreZones given.entry
         (option_map (λ v. view v.now) object.entry) (zones_of t)) }

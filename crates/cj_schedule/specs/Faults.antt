@@ -1,5 +1,5 @@
--- The fault of a text that is no schedule, by the grammar: a fault of the whole text, or the first faulty element from
--- the left, with its place.
+-- The fault of a text that is no schedule, by the grammar: a fault of the whole text, or the first
+-- faulty element from the left, with its place.
 use Rattle.std.specs.Prelude.{◌≡◌, ◌≢◌, ◌⊎◌, ℕ, ◌+◌, ◌<◌, ◌≤◌, ◌==◌, true, false, not, List, [], ◌∷◌, ◌++◌, length, None, codes}
 use Rattle.std.specs.List.{list_all}
 use Rattle.cj_base.specs.declared.schedule_fault.ScheduleCause.{ScheduleCause}
@@ -28,11 +28,12 @@ abbrev pub EndsElement : List ℕ → Type 0
 EndsElement [] = Unit {0}
 EndsElement (b ∷ bs) = b ≡ comma
 
--- in a word that begins at this place stand these elements, each with a comma after it, and then, at the byte, one that
--- is refused for the cause
+-- the word, which begins at this place, has these elements, each with a comma after it, and then,
+-- at the byte, one that is refused for the cause
 abbrev pub IsListFault : FieldKind → ℕ → List ℕ → List Element → ℕ → ScheduleCause → Type 0
 IsListFault kind place word [] byte cause =
-    (element rest : List ℕ) × (word ≡ element ++ rest) × (list_all (λ b. not (b == comma)) element ≡ true)
+    (element rest : List ℕ) × (word ≡ element ++ rest)
+    × (list_all (λ b. not (b == comma)) element ≡ true)
     × EndsElement rest × IsCause kind element cause × (byte ≡ place)
 IsListFault kind place word (e ∷ es) byte cause =
     (front back : List ℕ) × (word ≡ front ++ comma ∷ back) × IsElement kind front e
@@ -41,7 +42,8 @@ IsListFault kind place word (e ∷ es) byte cause =
 -- the fault is one of the field with this word
 abbrev pub IsFieldFault : FieldKind → Piece → ScheduleFault → Type 0
 IsFieldFault kind word fault =
-    (es : List Element) × IsListFault kind word.place word.text es fault.byte fault.cause × (fault.field ≡ field_number kind)
+    (es : List Element) × IsListFault kind word.place word.text es fault.byte fault.cause
+    × (fault.field ≡ field_number kind)
 
 -- the word is a list of the field
 abbrev pub IsField : FieldKind → Piece → Type 0
@@ -67,18 +69,21 @@ HasFieldFault text fault =
 abbrev pub BeginsAsField : List ℕ → Type 0
 BeginsAsField word = (has_zone word ≡ false) × (begins (codes "@") word ≡ false)
 
--- a fault of the whole text, the first row that holds: longer than 1,024 bytes, nothing but blanks, a zone in the first
--- word, a macro that isn't in the table or doesn't stand alone, and not five words
+-- a fault of the whole text, the first row that holds: longer than 1,024 bytes, nothing but blanks,
+-- a zone in the first word, a macro that isn't in the table or isn't alone, and not five words
 abbrev pub IsTextFault : List ℕ → ScheduleCause → Type 0
 IsTextFault text Length = 1024 < length text
 IsTextFault text Empty = (length text ≤ 1024) × (are_blanks text ≡ true)
 IsTextFault text Zone =
-    (word : List ℕ) × (words : List (List ℕ)) × (length text ≤ 1024) × AreWords text (word ∷ words) × (has_zone word ≡ true)
+    (word : List ℕ) × (words : List (List ℕ)) × (length text ≤ 1024) × AreWords text (word ∷ words)
+    × (has_zone word ≡ true)
 IsTextFault text Macro =
-    (word : List ℕ) × (words : List (List ℕ)) × (length text ≤ 1024) × AreWords text (word ∷ words) × (has_zone word ≡ false)
+    (word : List ℕ) × (words : List (List ℕ)) × (length text ≤ 1024) × AreWords text (word ∷ words)
+    × (has_zone word ≡ false)
     × (begins (codes "@") word ≡ true) × ((words ≢ []) ⊎ (meaning_of word ≡ None))
 IsTextFault text Fields =
-    (word : List ℕ) × (words : List (List ℕ)) × (length text ≤ 1024) × AreWords text (word ∷ words) × BeginsAsField word
+    (word : List ℕ) × (words : List (List ℕ)) × (length text ≤ 1024) × AreWords text (word ∷ words)
+    × BeginsAsField word
     × (length words ≢ 4)
 IsTextFault text Syntax = ⊥
 IsTextFault text Range = ⊥

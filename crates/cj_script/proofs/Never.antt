@@ -25,14 +25,14 @@ use Rattle.cj_script.specs.declared.operations.verb.Verb.TheVariants.{Does, Writ
 use Rattle.cj_script.specs.declared.operations.verb.Write.{Write}
 use Rattle.cj_script.specs.declared.operations.verb.Write.TheVariants as Kind
 use Rattle.cj_script.specs.declared.callers.Named.{Named}
-use Rattle.cj_script.specs.declared.step.Deed.{Deed}
+use Rattle.cj_script.specs.declared.step.Action.{Action}
 use Rattle.cj_script.specs.declared.step.Step.{Step}
 use Rattle.cj_script.specs.Drafts.{cron_said, drafted, job_said, needed, then}
 use Rattle.cj_script.specs.Callers.{callers_in}
 use Rattle.cj_script.specs.Limits.{limits_in}
 use Rattle.cj_script.specs.Scripts.{IsRefusedValue, told_in}
 use Rattle.cj_script.specs.Lists.{after_fault, all_of, before, both}
-use Rattle.cj_script.specs.Steps.{operation_of, deed_in, step_of, steps_of, verb_in, who_in}
+use Rattle.cj_script.specs.Steps.{operation_of, action_in, step_of, steps_of, verb_in, who_in}
 use Rattle.cj_script.specs.Writes.{cron_operation, job_operation, object_in, write_operation}
 
 pub record IsOther {A : Type 0} (r : Result A SceneFault) : Type 0 where
@@ -88,7 +88,8 @@ unfolding job_said
 other_job m = other_drafted (job_faults m) (job_draft m)
 
 -- A step that makes a call of a CronJob's manifest isn't refused as no JSON.
-other_cron_operation : (zones : List Zone) (call : CronJobDraft → Call) (d : Data) → IsOther (cron_operation zones call d)
+other_cron_operation : (zones : List Zone) (call : CronJobDraft → Call) (d : Data)
+    → IsOther (cron_operation zones call d)
 other_cron_operation zones call d =
     other_then (object_in d) (λ m. then (cron_said zones m) (λ draft. Ok (Calls (call draft))))
     (other_needed (present (codes "object") d))
@@ -111,7 +112,8 @@ other_write zones Kind.CreateCron d =
     (λ at. other_cron_operation zones (λ draft. Of.CreateCron draft at) d)
 other_write zones Kind.UpdateCron d = other_cron_operation zones (λ draft. Of.UpdateCron draft) d
 other_write zones Kind.CreateJob d =
-    other_then (needed (moment_in d)) (λ at. job_operation (λ draft. Of.CreateJob draft at) d) (other_needed (moment_in d))
+    other_then (needed (moment_in d)) (λ at. job_operation (λ draft. Of.CreateJob draft at) d)
+    (other_needed (moment_in d))
     (λ at. other_job_operation (λ draft. Of.CreateJob draft at) d)
 other_write zones Kind.UpdateJob d = other_job_operation (λ draft. Of.UpdateJob draft) d
 
@@ -120,26 +122,27 @@ other_operation : (zones : List Zone) (verb : Verb) (d : Data) → IsOther (oper
 other_operation zones (Writes verb) d = other_write zones verb d
 other_operation zones (Does verb) d = other_needed (plain_operation verb d)
 
--- A deed, its verb with what it does, isn't refused as no JSON.
-pub other_deed : (zones : List Zone) (d : Data) → IsOther (deed_in zones d)
-unfolding deed_in
-other_deed zones d =
-    let made : Verb → Operation → Result Deed SceneFault = λ verb operation. Ok (record { verb = verb; operation = operation }) in
-    let acted : Verb → Result Deed SceneFault = λ verb. then (operation_of zones verb d) (made verb) in
+-- A action, its verb with what it does, isn't refused as no JSON.
+pub other_action : (zones : List Zone) (d : Data) → IsOther (action_in zones d)
+unfolding action_in
+other_action zones d =
+    let made : Verb → Operation
+    → Result Action SceneFault = λ verb operation. Ok (record { verb = verb; operation = operation }) in
+    let acted : Verb → Result Action SceneFault = λ verb. then (operation_of zones verb d) (made verb) in
     other_then (needed (verb_in d)) acted (other_needed (verb_in d))
     (λ verb. other_then (operation_of zones verb d) (made verb) (other_operation zones verb d)
     (λ operation. record { differs = λ e. absurd (cc e) }))
 
--- A step, its caller with the deed, isn't refused as no JSON.
+-- A step, its caller with the action, isn't refused as no JSON.
 other_step : (zones : List Zone) (callers : List Named) (d : Data) → IsOther (step_of zones callers d)
 unfolding step_of
 other_step zones callers d =
-    let made : Named → Deed → Result Step SceneFault =
-    λ named deed. Ok (record { who = named.name; caller = named.caller; verb = deed.verb; operation = deed.operation }) in
-    let done : Named → Result Step SceneFault = λ named. then (deed_in zones d) (made named) in
+    let made : Named → Action → Result Step SceneFault =
+    λ named action. Ok (record { who = named.name; caller = named.caller; verb = action.verb; operation = action.operation }) in
+    let done : Named → Result Step SceneFault = λ named. then (action_in zones d) (made named) in
     other_then (needed (who_in callers d)) done (other_needed (who_in callers d))
-    (λ named. other_then (deed_in zones d) (made named) (other_deed zones d)
-    (λ deed. record { differs = λ e. absurd (cc e) }))
+    (λ named. other_then (action_in zones d) (made named) (other_action zones d)
+    (λ action. record { differs = λ e. absurd (cc e) }))
 
 -- A manifest's fault before a rest that isn't refused as no JSON isn't refused so either.
 pub other_after : {A B : Type 0} (fault : FieldFault) (rest : Result A SceneFault) → IsOther rest
@@ -193,7 +196,8 @@ other_told zones d =
     (λ steps. other_fine (limits, steps)))))
 
 -- why a value is refused that has these zones
-pub refused_under : (given : GivenZones) (d : Data) (zones : List Zone) (e : SceneFault) → AreZones given (present (codes "zones") d) zones
+pub refused_under : (given : GivenZones) (d : Data) (zones : List Zone) (e : SceneFault)
+    → AreZones given (present (codes "zones") d) zones
     → (e ≢ Memory → told_in zones d ≡ Err e) → IsRefusedValue given d e
 refused_under given d zones Syntax are h = absurd ((other_told zones d).differs (h (λ q. absurd (cc q))))
 refused_under given d zones Form are h = inr (record { zones = zones; are = are; told = h (λ q. absurd (cc q)) })

@@ -1,5 +1,5 @@
--- The callers of a script: an object from their names to their roles, in the order of the names. One whose
--- role is null is none.
+-- The callers of a script: an object from their names to their roles, in the order of the names.
+-- One whose role is null is none.
 use Rattle.std.specs.Prelude.{ℕ, List, [], ◌∷◌, ◌++◌, length, codes, bytes_eq, if◌then◌else◌, Option, Some, None, option_map, option_and_then}
 use Rattle.std.specs.List.{find}
 use Rattle.serde_json.specs.Data.{Data, Members, no_members, member}
@@ -24,7 +24,8 @@ role_in (Some d) = option_map (λ role. Some role) (option_and_then role_named (
 
 -- a caller more, whose number is its place
 abbrev pub with_caller : List Named → List ℕ → Role → List Named
-with_caller callers name role = callers ++ record { name = name; caller = record { number = length callers; role = role } } ∷ []
+with_caller callers name role = callers ++ record
+    { name = name; caller = record { number = length callers; role = role } } ∷ []
 
 -- a caller more where there is a role
 abbrev pub with_role : List Named → List ℕ → Option Role → List Named
@@ -34,11 +35,13 @@ with_role callers name (Some role) = with_caller callers name role
 -- the callers with those of the members
 abbrev pub with_callers : List Named → Members → Option (List Named)
 with_callers callers no_members = Some callers
-with_callers callers (member name d ms) = option_and_then (λ role. with_callers (with_role callers name role) ms) (role_in (unless_null d))
+with_callers callers (member name d ms) = option_and_then
+    (λ role. with_callers (with_role callers name role) ms) (role_in (unless_null d))
 
 -- rule: script
 abbrev pub callers_in : Data → Option (List Named)
-callers_in d = option_and_then (with_callers []) (option_and_then as_object (present (codes "callers") d))
+callers_in d = option_and_then (with_callers [])
+    (option_and_then as_object (present (codes "callers") d))
 
 -- the caller of that name, if one has it
 -- rule: script

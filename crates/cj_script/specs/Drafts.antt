@@ -16,7 +16,8 @@ needed None = Err Form
 needed (Some x) = Ok x
 
 -- the next part, unless one before it is refused
-abbrev pub then : {A B : Type 0} → Result A SceneFault → (A → Result B SceneFault) → Result B SceneFault
+abbrev pub then : {A B : Type 0} → Result A SceneFault → (A → Result B SceneFault)
+    → Result B SceneFault
 then (Ok x) f = f x
 then (Err e) f = Err e
 

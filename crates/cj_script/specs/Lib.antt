@@ -4,6 +4,7 @@ pub mod Drafts
 pub mod Writes
 pub mod Lists
 pub mod Steps
+pub mod Refusals
 pub mod Scripts
 pub mod operations
 pub mod simulation

@@ -5,7 +5,8 @@ use Rattle.cj_base.specs.declared.faults.FieldFault.{FieldFault}
 use Rattle.cj_scenario.specs.declared.fault.SceneFault.{SceneFault}
 use Rattle.cj_scenario.specs.declared.fault.SceneFault.TheVariants.{Form, Manifest, Memory, Syntax}
 
--- after a manifest's fault: another refusal than a manifest's outweighs it, and what is read no more counts
+-- after a manifest's fault: another refusal than a manifest's outweighs it, and what is read no
+-- more counts
 abbrev pub outweighed : FieldFault → SceneFault → SceneFault
 outweighed fault Syntax = Syntax
 outweighed fault Form = Form
@@ -24,9 +25,11 @@ abbrev pub before : {A : Type 0} → List A → Result (List A) SceneFault → R
 before items (Ok others) = Ok (items ++ others)
 before items (Err e) = Err e
 
--- an item before others: a fault of the form outweighs every manifest's, and a manifest's those of later ones
+-- an item before others: a fault of the form outweighs every manifest's, and a manifest's those of
+-- later ones
 -- rule: script-order
-abbrev pub both : {A : Type 0} → Result A SceneFault → Result (List A) SceneFault → Result (List A) SceneFault
+abbrev pub both : {A : Type 0} → Result A SceneFault → Result (List A) SceneFault
+    → Result (List A) SceneFault
 both (Ok x) rest = before (x ∷ []) rest
 both (Err Syntax) rest = Err Syntax
 both (Err Form) rest = Err Form
@@ -40,14 +43,18 @@ all_of said no_items = Ok []
 all_of said (item d ds) = both (said d) (all_of said ds)
 
 -- items before others, with the first fault of a manifest among them
-abbrev pub joined : {A : Type 0} → List A → Option FieldFault → Result (List A) SceneFault → Result (List A) SceneFault
+abbrev pub joined : {A : Type 0} → List A → Option FieldFault → Result (List A) SceneFault
+    → Result (List A) SceneFault
 joined items None rest = before items rest
 joined items (Some fault) rest = after_fault fault rest
 
--- with one answer more, these items and that fault are so many items and this fault
-pub record Gathers {A : Type 0} (items : List A) (fault : Option FieldFault) (answer : Result A SceneFault) (more : List A) (first : Option FieldFault) : Type 0 where
-  pub joins : (rest : Result (List A) SceneFault) → joined more first rest ≡ joined items fault (both answer rest)
+-- the items and the first fault after another answer
+pub record Gathers {A : Type 0} (items : List A) (fault : Option FieldFault)
+    (answer : Result A SceneFault) (more : List A) (first : Option FieldFault) : Type 0 where
+  pub joins : (rest : Result (List A) SceneFault)
+      → joined more first rest ≡ joined items fault (both answer rest)
 
 -- with this answer they end in a refusal
-pub record Stops {A : Type 0} (items : List A) (fault : Option FieldFault) (answer : Result A SceneFault) (e : SceneFault) : Type 0 where
+pub record Stops {A : Type 0} (items : List A) (fault : Option FieldFault)
+    (answer : Result A SceneFault) (e : SceneFault) : Type 0 where
   pub joins : (rest : Result (List A) SceneFault) → joined items fault (both answer rest) ≡ Err e

@@ -11,7 +11,7 @@ use Rattle.cj_script.specs.declared.operations.operation.Operation.{Operation}
 use Rattle.cj_script.specs.declared.operations.verb.Verb.{Verb}
 use Rattle.cj_script.specs.declared.operations.verb.Verb.TheVariants.{Does, Writes}
 use Rattle.cj_script.specs.declared.callers.Named.{Named}
-use Rattle.cj_script.specs.declared.step.Deed.{Deed}
+use Rattle.cj_script.specs.declared.step.Action.{Action}
 use Rattle.cj_script.specs.declared.step.Step.{Step}
 use Rattle.cj_script.specs.Callers.{caller_named}
 use Rattle.cj_script.specs.Drafts.{needed, then}
@@ -23,7 +23,8 @@ use Rattle.cj_script.specs.Writes.{write_operation}
 -- `who` is the name of a caller
 -- rule: step-form
 abbrev pub who_in : List Named → Data → Option Named
-who_in callers d = option_and_then (caller_named callers) (option_and_then as_str (present (codes "who") d))
+who_in callers d = option_and_then (caller_named callers)
+    (option_and_then as_str (present (codes "who") d))
 
 -- `do` is the word of a verb
 -- rule: step-form
@@ -36,14 +37,16 @@ operation_of zones (Does verb) d = needed (plain_operation verb d)
 
 -- what a step does
 -- rule: step-form
-unfoldable pub deed_in : List Zone → Data → Result Deed SceneFault
-deed_in zones d = then (needed (verb_in d)) (λ verb. then (operation_of zones verb d) (λ operation. Ok (record { verb = verb; operation = operation })))
+unfoldable pub action_in : List Zone → Data → Result Action SceneFault
+action_in zones d = then (needed (verb_in d))
+    (λ verb. then (operation_of zones verb d)
+    (λ operation. Ok (record { verb = verb; operation = operation })))
 
 -- rule: step-form
 unfoldable pub step_of : List Zone → List Named → Data → Result Step SceneFault
 step_of zones callers d =
     then (needed (who_in callers d)) (λ named.
-    then (deed_in zones d) (λ deed. Ok (record { who = named.name; caller = named.caller; verb = deed.verb; operation = deed.operation })))
+    then (action_in zones d) (λ action. Ok (record { who = named.name; caller = named.caller; verb = action.verb; operation = action.operation })))
 
 -- ---- all steps
 

@@ -1,4 +1,5 @@
--- What a step does whose verb takes a manifest, `object`: that must be there, and `at` where something is created.
+-- What a step does whose verb takes a manifest, `object`: that must be there, and `at` where
+-- something is created.
 use Rattle.std.specs.Prelude.{List, codes, Result, Ok}
 use Rattle.serde_json.specs.Data.{Data}
 use Rattle.cj_zone.specs.declared.zone.Zone.{Zone}
@@ -19,13 +20,16 @@ abbrev pub object_in : Data → Result Data SceneFault
 object_in d = needed (present (codes "object") d)
 
 abbrev pub cron_operation : List Zone → (CronJobDraft → Call) → Data → Result Operation SceneFault
-cron_operation zones call d = then (object_in d) (λ m. then (cron_said zones m) (λ draft. Ok (Calls (call draft))))
+cron_operation zones call d = then (object_in d)
+    (λ m. then (cron_said zones m) (λ draft. Ok (Calls (call draft))))
 
 abbrev pub job_operation : (JobDraft → Call) → Data → Result Operation SceneFault
-job_operation call d = then (object_in d) (λ m. then (job_said m) (λ draft. Ok (Calls (call draft))))
+job_operation call d = then (object_in d)
+    (λ m. then (job_said m) (λ draft. Ok (Calls (call draft))))
 
 abbrev pub create_cron : List Zone → Data → Result Operation SceneFault
-create_cron zones d = then (needed (moment_in d)) (λ at. cron_operation zones (λ draft. Of.CreateCron draft at) d)
+create_cron zones d = then (needed (moment_in d))
+    (λ at. cron_operation zones (λ draft. Of.CreateCron draft at) d)
 
 abbrev pub update_cron : List Zone → Data → Result Operation SceneFault
 update_cron zones d = cron_operation zones (λ draft. Of.UpdateCron draft) d

@@ -30,7 +30,8 @@ fn role_named(word: &str) -> Option<Role>
     }
 }
 
-// The role of a member; none where it is null, and no answer where it is another value.
+// The role of a member. The outer option is none where it is no role, the inner one where it is
+// null.
 fn role_in(value: &Value) -> Option<Option<Role>>
     ensures { result ≡ said.role_in (unless_null (view value.now)) }
 {
@@ -40,7 +41,7 @@ fn role_in(value: &Value) -> Option<Option<Role>>
     }
 }
 
-// One caller more, at the end, where there is a role.
+// Adds a caller at the end, where there is a role.
 fn add_caller(
     alloc: Global,
     callers: &mut Vec<Named>,
@@ -76,8 +77,8 @@ fn callers_of(alloc: Global, members: &Map<String, Value>) -> Result<Option<Vec<
     Ok(Some(callers))
 }
 
-/// The callers of a script by name, or none where they are missing or have the wrong form. One whose role is
-/// null is none.
+/// The callers of a script by name, or none where they are missing or have the wrong form. One
+/// whose role is null doesn't count.
 pub(crate) fn callers_at(alloc: Global, value: &Value) -> Result<Option<Vec<Named>>, Refusal>
     ensures ok { IfOk result (λ cs. option_map (λ v. v.items) cs
         ≡ said.callers_in (view value.now)) }

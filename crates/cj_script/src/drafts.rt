@@ -15,7 +15,7 @@ use serde_json::Value;
 use std::alloc::Global;
 
 /// The draft of a CronJob under the zones, or the manifest's first fault.
-pub fn cron_said(
+pub(crate) fn cron_said(
     alloc: Global,
     zones: &ZoneTable,
     manifest: &Value,

@@ -7,8 +7,8 @@ use crate::operations::present;
 use cj_types::Limits;
 use serde_json::Value;
 
-/// A number, or this one where it is missing.
-pub fn number_or(usual: u64, found: Option<&Value>) -> Option<u64>
+/// The number that was found, or the usual one where there is none.
+pub(crate) fn number_or(usual: u64, found: Option<&Value>) -> Option<u64>
     ensures { result ≡ said.number_or usual (option_map (λ v. view v.now) found.entry) }
 {
     match found {

@@ -12,8 +12,9 @@ use cj_types::FieldFault;
 use serde_json::Value;
 use std::alloc::Global;
 
-/// What each value of a list says, as `said` has it: `Form` where it has another form, else its manifest's first fault.
-pub trait Reads {
+/// How each value of a list is read, as `said` states it: `Form` where it has another form, else
+/// its manifest's first fault.
+pub(crate) trait Reads {
     type Item: Drop;
 
     ghost said: { Self → Data → Result Self.Item SceneFault };
@@ -32,7 +33,7 @@ struct Gathered<A> {
     fault: Option<FieldFault>,
 }
 
-// The item of a value more, or its fault where it is the first.
+// Adds the item of a value, or its fault where it is the first fault.
 #[tactic(auto, using(crate::proofs::Joins::gathers_item, crate::proofs::Joins::gathers_fault, crate::proofs::Joins::stops_form, crate::proofs::Joins::stops_syntax))]
 fn gather<R: Reads>(
     alloc: Global,
@@ -79,8 +80,9 @@ fn gathered_of<R: Reads>(
     Ok(gathered)
 }
 
-/// What the values of a list say: `Form` where one of them has another form, else the first fault of a manifest.
-pub fn list_of<R: Reads>(
+/// What the values of a list say: `Form` where one of them has another form, else the first fault
+/// of a manifest.
+pub(crate) fn list_of<R: Reads>(
     alloc: Global,
     reader: &R,
     values: &Vec<Value>,

@@ -1,5 +1,5 @@
-// What a step of a script does: its verb, and the operation of a verb that takes no manifest, as a JSON object says it;
-// and the call of an operation, of what its caller has seen by then.
+// What a step of a script does: its verb, and the operation of a verb that takes no manifest, as a
+// JSON object says it; and the call of an operation, by what its caller has seen until then.
 mod call;
 mod finish;
 mod instant;
@@ -12,11 +12,12 @@ mod snapshot;
 mod verb;
 
 pub use call::{call_of, unseen_call};
-pub use instant::{instant_of, time_at};
+pub use instant::instant_of;
+pub(crate) use instant::time_at;
 pub use keys::key_of;
-pub use member::{number_at, present};
+pub(crate) use member::number_at;
+pub use member::present;
 pub use operation::Operation;
-pub use plain::plain_operation;
-pub use plan::{plan_for, reasons_for};
+pub(crate) use plain::plain_operation;
 pub use snapshot::Snapshot;
 pub use verb::{Plain, Verb, Write, verb_named};

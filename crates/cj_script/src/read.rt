@@ -20,7 +20,7 @@ use cj_zone::ZoneTable;
 use serde_json::Value;
 use std::alloc::Global;
 
-// What a script says beside its zones.
+// What a script says, but for its zones.
 #[derive(Drop)]
 struct Told {
     limits: Limits,
@@ -50,7 +50,7 @@ fn told_of(alloc: Global, zones: &ZoneTable, value: &Value) -> Result<Told, Scen
     Ok(Told { limits, steps })
 }
 
-// What the value says.
+// The script that the value says.
 fn script_of(alloc: Global, given: GivenZones<'_>, value: &Value) -> Result<Script, SceneFault>
     requires flat { depth (view value.now) ≤ max_depth }
     ensures said { IfOk result (Says given.entry (view value.now)) }
@@ -65,13 +65,15 @@ fn script_of(alloc: Global, given: GivenZones<'_>, value: &Value) -> Result<Scri
     })
 }
 
-/// Reads a script under the zones that are given: a JSON object with `callers`, an object from names to roles, `User`, `Runner`, `Informer`
-/// or `Worker`; `steps`, a list of objects that each say `who` does what, `do`, with what that needs; and,
-/// where wanted, `zones`, an object from names to POSIX rules, and the limits `history` and `window`, by
-/// default 1,048,576 and 1,000. Members of other names, or that are null, are ignored.
+/// Reads a script under the zones that are given. It is a JSON object with `callers`, an object
+/// from names to roles, `User`, `Runner`, `Informer` or `Worker`; and `steps`, a list of objects
+/// that each say `who` does what, `do`, with what that needs. It may have `zones`, an object from
+/// names to POSIX rules, and the limits `history` and `window`, by default 1,048,576 and 1,000.
+/// Members of other names, or that are null, are ignored.
 ///
-/// Refused in this order: `Syntax` for bytes that aren't JSON, `Form` for a value of another form or with a
-/// zone that is refused, and `Manifest` with the first fault of the first manifest that has one.
+/// Refused in this order: `Syntax` for bytes that aren't JSON, `Form` for a value of another form
+/// or with a zone that is refused, and `Manifest` with the first fault of the first manifest that
+/// has one.
 pub fn read_script(alloc: Global, given: GivenZones<'_>, bytes: &[u8]) -> Result<Script, SceneFault>
     ensures read { IfOk result (IsScript given.entry bytes.now) }
     ensures refused { IfErr result (IsRefusedScript given.entry bytes.now) }

@@ -2,14 +2,14 @@ use crate::step::Step;
 use cj_types::Limits;
 use cj_zone::ZoneTable;
 
-/// What a script says: the zones that its CronJobs may name, the limits of its world, and its steps in their order.
+/// What a script says: the zones that its CronJobs may name, the limits of its world, and its steps
+/// in their order.
 pub struct Script {
     pub zones: ZoneTable,
     pub limits: Limits,
     pub steps: Vec<Step>,
 }
 
-// A function of its own, so that whoever gives one up makes one call and not one for each part.
 impl Drop for Script {
     fn drop(self) {
         let Script {

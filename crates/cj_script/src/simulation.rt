@@ -1,4 +1,4 @@
-// Simulations: what a run's scenario says, as a JSON text.
+// What the scenario of a run says, as a JSON text.
 mod edits;
 mod read;
 mod run;

@@ -17,14 +17,14 @@ use cj_zone::ZoneTable;
 use serde_json::Value;
 use std::alloc::Global;
 
-/// What is done: the verb with what it does.
+/// What a step does: the verb with its operation.
 #[derive(Drop)]
-pub struct Deed {
+pub(crate) struct Action {
     pub verb: Verb,
     pub operation: Operation,
 }
 
-/// Who does what: the caller with its name, and the verb with what it does.
+/// Who does what: the caller with its name, and the verb with its operation.
 pub struct Step {
     pub who: Shared<Text>,
     pub caller: Caller,
@@ -32,7 +32,6 @@ pub struct Step {
     pub operation: Operation,
 }
 
-// A function of its own, so that whoever gives one up makes one call and not one for each part.
 impl Drop for Step {
     fn drop(self) {
         let Step {
@@ -78,24 +77,28 @@ fn operation_of(
     }
 }
 
-/// What a value says that is done, under these zones: `Form` where it has another form, else its manifest's
-/// first fault.
-#[tactic(auto, unfolding(crate::specs::Steps::deed_in))]
-pub fn deed_of(alloc: Global, zones: &ZoneTable, value: &Value) -> Result<Deed, SceneFault>
+/// The action that a value says, under these zones: `Form` where it has another form, else its
+/// manifest's first fault.
+#[tactic(auto, unfolding(crate::specs::Steps::action_in))]
+pub(crate) fn action_of(
+    alloc: Global,
+    zones: &ZoneTable,
+    value: &Value,
+) -> Result<Action, SceneFault>
     requires flat { depth (view value.now) ≤ max_depth }
-    ensures ok { IfOk result (λ s. said.deed_in (zones_of zones.now) (view value.now) ≡ Ok s) }
+    ensures ok { IfOk result (λ s. said.action_in (zones_of zones.now) (view value.now) ≡ Ok s) }
     ensures err { IfErr result (λ e. e ≢ Memory →
-        said.deed_in (zones_of zones.now) (view value.now) ≡ Err e) }
+        said.action_in (zones_of zones.now) (view value.now) ≡ Err e) }
 {
     let Some(verb) = verb_at(value) else {
         return Err(SceneFault::Form);
     };
     let operation = operation_of(alloc, zones, verb, value)?;
-    Ok(Deed { verb, operation })
+    Ok(Action { verb, operation })
 }
 
-/// The step that a value says, by these callers and under these zones: `Form` where it has another form, else
-/// its manifest's first fault.
+/// The step that a value says, by these callers and under these zones: `Form` where it has another
+/// form, else its manifest's first fault.
 #[tactic(auto, unfolding(crate::specs::Steps::step_of))]
 pub(crate) fn step_of(
     alloc: Global,
@@ -113,7 +116,7 @@ pub(crate) fn step_of(
         return Err(SceneFault::Form);
     };
     let who = named.name.share()?;
-    let Deed { verb, operation } = deed_of(alloc, zones, value)?;
+    let Action { verb, operation } = action_of(alloc, zones, value)?;
     Ok(Step {
         who,
         caller: named.caller,

@@ -32,7 +32,8 @@ impl Reads for Steps<'_> {
     }
 }
 
-/// The steps of a list: `Form` where one of them has another form, else the first fault of a manifest.
+/// The steps of a list: `Form` where one of them has another form, else the first fault of a
+/// manifest.
 pub(crate) fn steps_of(
     alloc: Global,
     zones: &ZoneTable,

@@ -1,4 +1,4 @@
-// One function for each kind of step that takes a manifest.
+// What a step does whose verb takes a manifest: one function for each verb.
 ghost use Rattle.std.specs.Prelude.{◌≡◌, ◌≢◌, ◌≤◌, Ok, Err, IfOk, IfErr};
 ghost use Rattle.serde_json.specs.Data.{depth};
 ghost use Rattle.serde_json.specs.Read.{max_depth};
@@ -71,8 +71,8 @@ fn update_job(alloc: Global, value: &Value) -> Result<Operation, SceneFault>
     Ok(Operation::Calls(Call::UpdateJob(draft)))
 }
 
-/// What a step with this verb does under the zones: `Form` where its time or its manifest is missing, else
-/// the manifest's first fault.
+/// What a step with this verb does under the zones: `Form` where its time or its manifest is
+/// missing, else the manifest's first fault.
 pub(crate) fn write_operation(
     alloc: Global,
     zones: &ZoneTable,

@@ -18,7 +18,7 @@ use Rattle.cj_store.specs.Crons.{new_cron, cron_created, updated_cron, cron_upda
 use Rattle.cj_store.specs.Jobs.{job_made, job_created, new_job, updated_job, job_updated, job_updated_from, ended_job, job_ended, job_ended_from, job_deleted, job_deleted_from, is_asked, last_job}
 use Rattle.cj_types.specs.Events.{version_of}
 use Rattle.cj_queue.specs.Queue.{has}
-use Rattle.cj_state.specs.declared.phases.seat.Seat.{Seat}
+use Rattle.cj_state.specs.declared.phases.sync.InFlight.{InFlight}
 use Rattle.cj_state.specs.declared.state.State.{State}
 use Rattle.cj_state.specs.Sound.{IsSound}
 
@@ -182,9 +182,9 @@ pub gone_numbered : (s : State) (k : Place) (u : Option ℕ) (e : Event) → IsS
 gone_numbered s k u e sound h = gone_version s.store k u e h ∙ ap (λ n. n + 1) (sym sound.counted)
 
 -- The key that a worker holds is being worked on.
-pub held_key : (s : State) (w : ℕ) (seat : Seat) → IsSound s → map.get s.seats w ≡ Some seat
-    → has s.queue.row.processing seat.key ≡ true
-held_key s w seat sound h = sound.held w seat h
+pub held_key : (s : State) (w : ℕ) (sync : InFlight) → IsSound s → map.get s.syncs w ≡ Some sync
+    → has s.queue.row.processing sync.key ≡ true
+held_key s w sync sound h = sound.held w sync h
 
 -- A CronJob that is created gets the number that the watch counts next.
 pub created_numbered : (s : State) (d : CronJobDraft) (now : ℕ) (e : Event) → IsSound s

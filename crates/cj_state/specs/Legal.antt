@@ -1,6 +1,6 @@
--- Histories: who called what and what was answered, the newest entry first. The state that a history leaves
--- is what its calls leave one after the other, so that a legal history is one of a single store and a single
--- queue, which take one call at a time.
+-- Histories: who called what and what was answered, the newest entry first. The state that a
+-- history leaves is what its calls leave one after the other, so that a legal history is one of a
+-- single store and a single queue, which take one call at a time.
 use Rattle.std.specs.Prelude.{◌≡◌, ℕ, Bool, true, false, List, [], ◌∷◌, Result, Err}
 use Rattle.std.specs.List.{AllByRecursion}
 use Rattle.cj_base.specs.declared.refusal.Refusal.{Refusal}
@@ -25,7 +25,8 @@ state_of window (e ∷ h) = (step_of (state_of window h) e.caller e.call).state
 abbrev pub answer_of : ℕ → List Told → Caller → Call → Result Reply Refusal
 answer_of window h caller call = (step_of (state_of window h) caller call).answer
 
--- what is entered: neither that nothing can be taken, nor that the history is full, nor want of memory
+-- what is entered: neither that nothing can be taken, nor that the history is full, nor want of
+-- memory
 abbrev pub is_entered : Result Reply Refusal → Bool
 is_entered (Err Empty) = false
 is_entered (Err HistoryFull) = false
@@ -36,7 +37,8 @@ is_entered _ = true
 -- rule: legal
 abbrev pub IsLegal : ℕ → List Told → Type 0
 IsLegal window [] = Unit {0}
-IsLegal window (e ∷ h) = (e.answer ≡ answer_of window h e.caller e.call) × (is_entered e.answer ≡ true) × IsLegal window h
+IsLegal window (e ∷ h) = (e.answer ≡ answer_of window h e.caller e.call)
+    × (is_entered e.answer ≡ true) × IsLegal window h
 
 -- a plan that comes in is the decision of what it rests on
 abbrev pub IsPlanned : Call → Type 0

@@ -1,5 +1,5 @@
--- What one call of one caller answers and leaves. Who may make which call stands here: a call that the role
--- may not make is refused before anything else is looked at.
+-- What one call of one caller answers and leaves. Who may make which call stands here: a call that
+-- the role may not make is refused before anything else is looked at.
 use Rattle.std.specs.Prelude.{ℕ, List, Option, Some, None, Result, Ok, Err}
 use Rattle.std.specs.FinMap as map
 use Rattle.cj_base.specs.declared.refusal.Refusal.{Refusal}
@@ -81,7 +81,8 @@ by_user s call = by_reader s call
 
 -- rule: roles
 abbrev pub by_runner : State → Call → Handled
-by_runner s (Of.EndJob k u o n) = writes s event_reply (map_ok job_modified (job_ended s.store k u o n))
+by_runner s (Of.EndJob k u o n) = writes s event_reply
+    (map_ok job_modified (job_ended s.store k u o n))
 by_runner s call = by_reader s call
 
 -- rule: roles
@@ -119,4 +120,4 @@ step_of s caller call = by_role s caller.role caller.number call
 
 -- before the first call
 abbrev pub start : ℕ → State
-start window = record { store = nothing; watch = new_log window; mirror = new_mirror; queue = new_queue; seats = map.empty }
+start window = record { store = nothing; watch = new_log window; mirror = new_mirror; queue = new_queue; syncs = map.empty }

@@ -146,7 +146,8 @@ few : (c n l : ℕ) → c ≤ n → n < l → not (nat_lt c l) ≡ false
 few c n l a b = grind (arith, nat_tests)
 
 -- up to the element from which on as many stand as the limit is
-surplus_is : {X : Type 0} (lt : X → X → Bool) (o : IsStrictWeakOrder lt) (xs : List X) (limit : ℕ) (d : X) → IsRising lt xs
+surplus_is : {X : Type 0} (lt : X → X → Bool) (o : IsStrictWeakOrder lt) (xs : List X) (limit : ℕ) (d : X)
+    → IsRising lt xs
     → 0 < limit → limit ≤ length xs
     → take (place_of (λ r. not (lt r (get_or xs (length xs - limit) d))) xs) xs ≡ above_cut lt limit xs
 surplus_is lt o xs limit d h l m =

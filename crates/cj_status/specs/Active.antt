@@ -20,27 +20,29 @@ names_of refs = map (λ r. r.key.name) refs
 abbrev pub active_of : List Job → List ℕ → List (List ℕ)
 active_of jobs uid = names_of (picked Meant.Running ByName uid jobs)
 
--- a name before another, as it, or behind it, where the rest with the name is given
+-- a name put before another, in its place, or behind it; the rest with the name in it is given
 abbrev pub placed : Ordering → List ℕ → List ℕ → List (List ℕ) → List (List ℕ) → List (List ℕ)
 placed Less name first others rest = name ∷ first ∷ others
 placed Equal name first others rest = first ∷ others
 placed Greater name first others rest = first ∷ rest
 
--- names in byte order with one more, which stands there once
+-- names in byte order with one added, unless it is among them
 -- rule: claim-status
 abbrev pub names_with : List ℕ → List (List ℕ) → List (List ℕ)
 names_with name [] = name ∷ []
-names_with name (first ∷ others) = placed (slice_cmp nat_cmp name first) name first others (names_with name others)
+names_with name (first ∷ others) = placed (slice_cmp nat_cmp name first) name first others
+    (names_with name others)
 
--- what was found for the name is that Job, unfinished
+-- the live read found a Job with that name, unfinished and with that uid as its controller's
 abbrev pub is_found : List ℕ → List ℕ → Option Job → Bool
 is_found uid name None = false
 is_found uid name (Some job) = bytes_eq job.key.name name && is_running uid job
 
--- of names with what a live read found for each, those whose Job it found unfinished
+-- the names for which a live read found an unfinished Job of the CronJob
 -- rule: final-status
 abbrev pub still_active : List ℕ → List (List ℕ) → List (Option Job) → List (List ℕ)
 still_active uid [] found = []
 still_active uid (name ∷ names) [] = []
 still_active uid (name ∷ names) (one ∷ found) =
-    if is_found uid name one then name ∷ still_active uid names found else still_active uid names found
+    if is_found uid name one then name ∷ still_active uid names found else still_active uid names
+    found

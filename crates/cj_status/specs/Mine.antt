@@ -1,5 +1,5 @@
--- The Jobs of a CronJob: Kubernetes, "Owners and Dependents" (the controller reference has the owner's uid), and the
--- conditions `Complete` and `Failed` of a Job.
+-- The Jobs of a CronJob: Kubernetes, "Owners and Dependents" (the controller reference has the
+-- owner's uid), and the conditions `Complete` and `Failed` of a Job.
 use Rattle.std.specs.Prelude.{ℕ, Bool, true, false, ◌&&◌, List, [], ◌∷◌, Option, None, Some}
 use Rattle.std.specs.Str.{bytes_eq}
 use Rattle.cj_types.specs.declared.job.Job.{Job}
@@ -18,7 +18,7 @@ has_uid uid (Some owner) = bytes_eq owner.uid uid
 abbrev pub is_mine : List ℕ → Job → Bool
 is_mine uid job = has_uid uid (controller_of job.owners)
 
--- and that hasn't finished
+-- a Job whose controller has this uid and that hasn't finished
 abbrev pub is_running : List ℕ → Job → Bool
 is_running uid job = is_mine uid job && is_unfinished job
 
@@ -27,7 +27,7 @@ ended_well None = false
 ended_well (Some (Complete time)) = true
 ended_well (Some Failed) = false
 
--- a Job that ended with success
+-- a Job that succeeded
 abbrev pub is_complete : Job → Bool
 is_complete job = ended_well job.outcome
 
@@ -40,7 +40,7 @@ ended_badly (Some Failed) = true
 abbrev pub is_failed : Job → Bool
 is_failed job = ended_badly job.outcome
 
--- the Jobs that a live read found, of one name after another
+-- the Jobs that a live read found, in the order of the names
 abbrev pub present : List (Option Job) → List Job
 present [] = []
 present (None ∷ found) = present found

@@ -1,4 +1,4 @@
--- Jobs as a plan names them, and their orders.
+-- References to Jobs, and their orders.
 use Rattle.std.specs.Prelude.{Bool, true, false, List, [], ◌∷◌, map}
 use Rattle.std.specs.declared.cmp.Ordering.{Ordering}
 use Rattle.std.specs.Ordering.{nat_cmp, is_lt, on, then_cmp}
@@ -11,15 +11,15 @@ use Rattle.cj_status.specs.declared.order.Sorting.TheVariants.{ByName, ByAge}
 abbrev pub ref : Job → JobRef
 ref job = record { key = job.key; uid = job.meta.uid; created = job.meta.created }
 
--- Jobs, each as a plan names it
+-- the references to the Jobs
 abbrev pub refs : List Job → List JobRef
 refs jobs = map ref jobs
 
--- by the bytes of the name
+-- the order by the bytes of the name
 abbrev pub name_cmp : JobRef → JobRef → Ordering
 name_cmp = on (λ r. r.key.name) (slice_cmp nat_cmp)
 
--- by creation time, then by the bytes of the name
+-- the order by creation time, then by the bytes of the name
 abbrev pub age_cmp : JobRef → JobRef → Ordering
 age_cmp = then_cmp (on (λ r. r.created) nat_cmp) name_cmp
 
@@ -30,7 +30,7 @@ ref_cmp ByAge = age_cmp
 abbrev pub precedes : Sorting → JobRef → JobRef → Bool
 precedes by a b = is_lt (ref_cmp by a b)
 
--- was created before the other; of two created at once, the first by name
+-- the first Job was created before the second, or at the same time with a lesser name
 abbrev pub is_older : JobRef → JobRef → Bool
 is_older a b = is_lt (age_cmp a b)
 

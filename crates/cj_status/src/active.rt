@@ -10,7 +10,7 @@ use crate::refs::JobRef;
 use cj_types::{Job, Key, Names, ObjectName, Refusal, Shared, TryCopy, Uid};
 use std::alloc::Global;
 
-// The name in a key at the end.
+// Appends the name in a key.
 fn push_name(alloc: Global, all: &mut Names, key: &Key) -> Result<(), Refusal>
     ensures ok { OnOk result (all.new ≡ all.old ++ key.now.name ∷ []) }
     ensures err { IfErr result (λ e. e ≡ OutOfMemory) }
@@ -18,7 +18,7 @@ fn push_name(alloc: Global, all: &mut Names, key: &Key) -> Result<(), Refusal>
     all.push(ObjectName::of_key(alloc, key)?)
 }
 
-// A copy of the name at the end.
+// Appends a copy of the name.
 fn push_copy(alloc: Global, all: &mut Names, name: &ObjectName) -> Result<(), Refusal>
     ensures ok { OnOk result (all.new ≡ all.old ++ name.now ∷ []) }
     ensures err { IfErr result (λ e. e ≡ OutOfMemory) }
@@ -46,7 +46,7 @@ pub fn active_of(alloc: Global, jobs: &[Shared<Job>], uid: &Uid) -> Result<Names
     names_of(alloc, running.as_slice())
 }
 
-/// Names in byte order with the name in a key, which stands there once.
+/// Names in byte order with the name in a key added, unless it is among them.
 pub fn names_with(alloc: Global, names: &Names, key: &Key) -> Result<Names, Refusal>
     ensures ok { IfOk result (λ n. n ≡ names_with key.now.name names.now) }
     ensures err { IfErr result (λ e. e ≡ OutOfMemory) }
@@ -83,7 +83,8 @@ fn is_found(uid: &Uid, name: &str, found: &Option<Shared<Job>>) -> bool
     }
 }
 
-// The same of the one at that place, if there is one.
+// Whether the live read found the Job at the place, if there is one, unfinished and the CronJob's
+// own.
 fn is_found_at(uid: &Uid, name: &str, found: &[Option<Shared<Job>>], place: usize) -> bool
     ensures { result ≡ is_found (uid_text uid.now) name.now (slice_index_or found.now place None) }
 {
@@ -93,7 +94,7 @@ fn is_found_at(uid: &Uid, name: &str, found: &[Option<Shared<Job>>], place: usiz
     }
 }
 
-// A copy of the name at the end, where it is kept.
+// Appends a copy of the name if it is kept.
 fn push_kept(alloc: Global, all: &mut Names, name: &ObjectName, keeps: bool) -> Result<(), Refusal>
     ensures ok { OnOk result (all.new ≡ if keeps then all.old ++ name.now ∷ [] else all.old) }
     ensures err { IfErr result (λ e. e ≡ OutOfMemory) }
@@ -104,8 +105,8 @@ fn push_kept(alloc: Global, all: &mut Names, name: &ObjectName, keeps: bool) -> 
     Ok(())
 }
 
-/// Of names with what a live read found for each, in their order, those whose Job, of the CronJob with
-/// this uid, it found unfinished.
+/// The names for which a live read found an unfinished Job of the CronJob with this uid, in their
+/// order.
 pub fn still_active(
     alloc: Global,
     uid: &Uid,

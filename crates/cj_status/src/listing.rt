@@ -11,16 +11,16 @@ use crate::refs::{JobRef, JobRefs};
 use cj_types::{Job, Refusal, Shared, Uid};
 use std::alloc::Global;
 
-/// Which Jobs of a listing are meant, by the CronJob's uid.
+/// A choice of Jobs in a listing, by the CronJob's uid.
 #[derive(Clone, Copy, Debug, PartialEq, Eq)]
 pub enum Pick {
-    /// The CronJob's own that haven't finished.
+    /// The CronJob's own Jobs that haven't finished.
     Running,
-    /// The CronJob's own that ended with success.
+    /// The CronJob's own Jobs that succeeded.
     Completed,
-    /// The CronJob's own that failed.
+    /// The CronJob's own Jobs that failed.
     Failed,
-    /// Those that aren't the CronJob's own.
+    /// The Jobs that aren't the CronJob's own.
     Foreign,
 }
 
@@ -36,7 +36,7 @@ fn picks(pick: Pick, uid: &Uid, job: &Job) -> bool
     }
 }
 
-// How a plan names the Job, at the end.
+// Appends the reference to the Job.
 fn push_ref(alloc: Global, items: &mut Vec<JobRef>, job: &Job) -> Result<(), Refusal>
     ensures ok { OnOk result (items.new.items ≡ items.old.items ++ ref job.now ∷ []) }
     ensures err { IfErr result (λ e. e ≡ OutOfMemory) }
@@ -46,7 +46,7 @@ fn push_ref(alloc: Global, items: &mut Vec<JobRef>, job: &Job) -> Result<(), Ref
         .map_err(|_| Refusal::OutOfMemory)
 }
 
-// Those of the listing that are meant, as they stand.
+// The chosen Jobs of the listing, in the listing's order.
 fn gather(
     alloc: Global,
     pick: Pick,
@@ -80,7 +80,7 @@ pub(crate) fn picked_items(
     Ok(items)
 }
 
-/// The Jobs of a listing that are meant, in order.
+/// The chosen Jobs of a listing, sorted.
 pub fn picked(
     alloc: Global,
     pick: Pick,
@@ -95,7 +95,7 @@ pub fn picked(
     Ok(JobRefs::from_vec(items))
 }
 
-// All of the listing, as they stand.
+// All Jobs of the listing, in the listing's order.
 fn gather_all(alloc: Global, jobs: &[Shared<Job>]) -> Result<Vec<JobRef>, Refusal>
     ensures ok { IfOk result (λ r. r.items ≡ refs jobs.now) }
     ensures err { IfErr result (λ e. e ≡ OutOfMemory) }
@@ -107,7 +107,7 @@ fn gather_all(alloc: Global, jobs: &[Shared<Job>]) -> Result<Vec<JobRef>, Refusa
     Ok(items)
 }
 
-/// All Jobs of a listing, in order.
+/// All Jobs of a listing, sorted.
 pub fn listed(alloc: Global, by: Sorting, jobs: &[Shared<Job>]) -> Result<JobRefs, Refusal>
     ensures ok { IfOk result (λ r. r ≡ listed by jobs.now) }
     ensures err { IfErr result (λ e. e ≡ OutOfMemory) }
@@ -117,7 +117,7 @@ pub fn listed(alloc: Global, by: Sorting, jobs: &[Shared<Job>]) -> Result<JobRef
     Ok(JobRefs::from_vec(items))
 }
 
-// Adds the Job that was found, if there is one and it hasn't finished.
+// Appends the Job that was found, if there is one and it hasn't finished.
 fn push_running(
     alloc: Global,
     uid: &Uid,
@@ -137,7 +137,7 @@ fn push_running(
     push_ref(alloc, items, job.get())
 }
 
-// The unfinished ones of those that were found, as they stand.
+// The unfinished Jobs that were found, in the order of the reads.
 fn gather_found(
     alloc: Global,
     uid: &Uid,
@@ -154,7 +154,7 @@ fn gather_found(
     Ok(items)
 }
 
-/// Of the Jobs that a live read found, the unfinished ones of the CronJob, by creation time, then name.
+/// The unfinished Jobs of the CronJob that a live read found, by creation time, then name.
 pub fn running_found(
     alloc: Global,
     uid: &Uid,

@@ -14,7 +14,7 @@ pub fn is_mine(uid: &Uid, job: &Job) -> bool
     }
 }
 
-/// Whether it is such a Job that hasn't finished.
+/// Whether the Job's controller has the uid and the Job hasn't finished.
 pub(crate) fn is_running(uid: &Uid, job: &Job) -> bool
     ensures { result ≡ is_running (uid_text uid.now) job.now }
 {
@@ -22,7 +22,7 @@ pub(crate) fn is_running(uid: &Uid, job: &Job) -> bool
     mine && job.is_unfinished()
 }
 
-/// Whether the Job ended with success.
+/// Whether the Job succeeded.
 pub(crate) fn is_complete(job: &Job) -> bool
     ensures { result ≡ is_complete job.now }
 {

@@ -7,7 +7,7 @@ use crate::refs::JobRef;
 use cj_types::Refusal;
 use std::cmp::Ordering;
 
-/// By what Jobs are put in order.
+/// An order of Jobs.
 #[derive(Clone, Copy, Debug, PartialEq, Eq)]
 pub enum Sorting {
     /// By the bytes of the name.
@@ -16,7 +16,7 @@ pub enum Sorting {
     ByAge,
 }
 
-/// How the two stand.
+/// The order of two Jobs.
 pub(crate) fn compare(by: Sorting, a: &JobRef, b: &JobRef) -> Ordering
     ensures { result ≡ ref_cmp by a.now b.now }
 {
@@ -27,7 +27,7 @@ pub(crate) fn compare(by: Sorting, a: &JobRef, b: &JobRef) -> Ordering
     }
 }
 
-/// Puts the Jobs in order.
+/// Sorts the Jobs.
 pub(crate) fn sort(by: Sorting, items: &mut Vec<JobRef>) -> Result<(), Refusal>
     ensures ok { OnOk result (items.new.items ≡ in_order (precedes by) items.old.items) }
     ensures err { IfErr result (λ e. e ≡ OutOfMemory) }

@@ -6,7 +6,7 @@ use cj_types::{Job, Key, Refusal, Same, Seconds, TryCopy, Uid, copy_all, same_al
 use std::alloc::Global;
 use std::marker::Model;
 
-/// A Job as a step of a plan names it.
+/// A reference to a Job in a step of a plan.
 #[derive(Debug)]
 pub struct JobRef {
     pub key: Key,
@@ -14,7 +14,6 @@ pub struct JobRef {
     pub created: Seconds,
 }
 
-// A function of its own, so that whoever gives one up makes one call and not one for each part.
 impl Drop for JobRef {
     fn drop(self) {
         let JobRef {
@@ -27,7 +26,7 @@ impl Drop for JobRef {
 }
 
 impl JobRef {
-    /// How a plan names this Job.
+    /// The reference to the Job.
     pub(crate) fn new(alloc: Global, job: &Job) -> Result<JobRef, Refusal>
         ensures ok { IfOk result (λ r. r ≡ ref job.now) }
         ensures err { IfErr result (λ e. e ≡ OutOfMemory) }
@@ -59,13 +58,12 @@ impl Same for JobRef {
     }
 }
 
-/// Jobs that a plan names, which contracts see as a list.
+/// References to Jobs. Contracts see the list.
 #[derive(Debug)]
 pub struct JobRefs {
     items: Vec<JobRef>,
 }
 
-// A function of its own, so that whoever gives one up makes one call and not one for each part.
 impl Drop for JobRefs {
     fn drop(self) {
         let JobRefs { items: _ } = self;
@@ -82,7 +80,7 @@ impl Model for JobRefs {
 }
 
 impl JobRefs {
-    /// No Job.
+    /// An empty list.
     pub fn new(alloc: Global) -> JobRefs
         ensures { result ≡ [] }
     {
@@ -91,28 +89,28 @@ impl JobRefs {
         }
     }
 
-    /// The Jobs of a list, which it takes over.
+    /// The list with these references.
     pub(crate) fn from_vec(items: Vec<JobRef>) -> JobRefs
         ensures { result ≡ items.items }
     {
         JobRefs { items }
     }
 
-    /// The Jobs in their order.
+    /// The references in their order.
     pub fn as_slice(&self) -> &[JobRef]
         ensures { result.now ≡ self.now }
     {
         self.items.as_slice()
     }
 
-    /// Whether there is one.
+    /// Whether the list isn't empty.
     pub fn has_any(&self) -> bool
         ensures { result ≡ has_any self.now }
     {
         !self.as_slice().is_empty()
     }
 
-    /// The others too, behind these.
+    /// Appends the other references.
     pub fn append(&mut self, others: JobRefs) -> Result<(), Refusal>
         ensures ok { OnOk result (self.new ≡ self.old ++ others) }
         ensures err { IfErr result (λ e. e ≡ OutOfMemory) }

@@ -25,7 +25,8 @@ fn later(a: Option<Seconds>, b: Option<Seconds>) -> Option<Seconds>
     }
 }
 
-/// The greatest of a time, if there is one, and the times at which Jobs of the CronJob ended with success.
+/// The greatest of the given time, if any, and the completion times of the CronJob's Jobs that
+/// succeeded.
 pub fn last_success(standing: Option<Seconds>, jobs: &[Shared<Job>], uid: &Uid) -> Option<Seconds>
     ensures { result ≡ success_of standing jobs.now (uid_text uid.now) }
 {

@@ -21,7 +21,8 @@ module _ {X : Type 0} (P : Place → X → Type 0) where
   put_holds m n k v e new old = subst Holds (sym e) (λ q x is. put_at m k v q x new old is)
 
   -- For removal_holds: what stands at any key after the removal meets the fact there.
-  removal_at : (m : map.FinMap place_cmp X) (k q : Place) (x : X) → Holds m → map.get (map.remove m k) q ≡ Some x → P q x
+  removal_at : (m : map.FinMap place_cmp X) (k q : Place) (x : X) → Holds m → map.get (map.remove m k) q ≡ Some x
+      → P q x
   removal_at m k q x old is = elim (at_removal m k q).1 as (λ _. P q x) [
     | inl h ↦ absurd (let none : map.get (map.remove m k) q ≡ None = h.1 in cc)
     | inr h ↦ old q x (sym h ∙ is)
@@ -33,4 +34,5 @@ module _ {X : Type 0} (P : Place → X → Type 0) where
 
   -- All of an empty map meet the fact, as there are none.
   pub empty_holds : (m : map.FinMap place_cmp X) → m ≡ map.empty → Holds m
-  empty_holds m e k x is = absurd (let none : map.get m k ≡ None = subst (λ (t : map.FinMap place_cmp X). map.get t k ≡ None) (sym e) (map.get-empty place_cmp k) in cc)
+  empty_holds m e k x is = absurd (let none : map.get m k ≡ None
+      = subst (λ (t : map.FinMap place_cmp X). map.get t k ≡ None) (sym e) (map.get-empty place_cmp k) in cc)

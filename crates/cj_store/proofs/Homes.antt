@@ -56,7 +56,8 @@ counted_left s t old later more h x (inr e) is =
     (omega arith, omega arith)
 
 -- After a deletion the uids and versions of all objects are within the counts still.
-pub counted_removal : (s t : Content) → IsCounted s → RemovedAt s t → s.version ≤ t.version → s.uids ≤ t.uids → IsCounted t
+pub counted_removal : (s t : Content) → IsCounted s → RemovedAt s t → s.version ≤ t.version → s.uids ≤ t.uids
+    → IsCounted t
 counted_removal s t old removal later more = λ h x is. counted_left s t old later more h x (removal h) is
 
 -- an object with that uid is the one at the place
@@ -99,7 +100,8 @@ left s t h a (inr e) x = sym e ∙ x
 
 -- After a deletion no two objects have one uid still.
 pub own_removal : (s t : Content) → HasOwnUids s → RemovedAt s t → HasOwnUids t
-own_removal s t own removal = λ g h a b x y same. own g h a b (left s t g a (removal g) x) (left s t h b (removal h) y) same
+own_removal s t own removal = λ g h a b x y same. own g h a b (left s t g a (removal g) x) (left s t h b (removal h) y)
+    same
 
 -- ---- the writes
 

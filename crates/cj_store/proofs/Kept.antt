@@ -85,13 +85,15 @@ put_cron_sound s n k c u sound e keyed dated version more uid counts given = rec
 }
 
 -- For Store::remove_cron: a sound store is sound without the CronJob of a key.
-pub remove_cron_sound : (s : Content) (n : map.FinMap place_cmp CronJob) (k : Place) → IsSound s → n ≡ map.remove s.crons k
+pub remove_cron_sound : (s : Content) (n : map.FinMap place_cmp CronJob) (k : Place) → IsSound s
+    → n ≡ map.remove s.crons k
     → IsSound (with_crons s n s.uids)
 remove_cron_sound s n k sound e = record {
   crons = removal_holds (CronIs (s.version + 1)) s.crons n k e (crons_later s.crons s.version sound.crons);
   jobs = jobs_later s.jobs s.version sound.jobs;
   counts = let h : s.uids ≤ s.version = sound.counts in omega arith;
-  counted = counted_removal s (with_crons s n s.uids) sound.counted (cron_removal s n k s.uids e) (omega arith) (omega arith);
+  counted = counted_removal s (with_crons s n s.uids) sound.counted (cron_removal s n k s.uids e) (omega arith)
+      (omega arith);
   own = own_removal s (with_crons s n s.uids) sound.own (cron_removal s n k s.uids e);
 }
 
@@ -116,7 +118,8 @@ remove_job_sound s n k sound e = record {
   crons = crons_later s.crons s.version sound.crons;
   jobs = removal_holds (JobIs (s.version + 1)) s.jobs n k e (jobs_later s.jobs s.version sound.jobs);
   counts = let h : s.uids ≤ s.version = sound.counts in omega arith;
-  counted = counted_removal s (with_jobs s n s.uids) sound.counted (job_removal s n k s.uids e) (omega arith) (omega arith);
+  counted = counted_removal s (with_jobs s n s.uids) sound.counted (job_removal s n k s.uids e) (omega arith)
+      (omega arith);
   own = own_removal s (with_jobs s n s.uids) sound.own (job_removal s n k s.uids e);
 }
 

@@ -1,4 +1,4 @@
--- What the store holds, as contracts see it.
+-- The content of a store, as contracts see it.
 use Rattle.std.specs.Prelude.{◌≡◌, ℕ, ◌≤◌, ◌<◌, ◌^◌, Option, Some, refl}
 use Rattle.std.specs.Option.{option_map}
 use Rattle.std.specs.FinMap as map
@@ -21,46 +21,51 @@ pub record Content : Type 0 where
 abbrev pub coded_content : Coded Content
 coded_content =
     code_by ((map.FinMap place_cmp CronJob × map.FinMap place_cmp Job) × (ℕ × ℕ))
-    (coded× (coded× (map.code coded_place cron_job.coded) (map.code coded_place job.coded)) (coded× coded_ℕ coded_ℕ))
+    (coded× (coded× (map.code coded_place cron_job.coded) (map.code coded_place job.coded))
+    (coded× coded_ℕ coded_ℕ))
     (λ s. ((s.crons, s.jobs), (s.version, s.uids)))
     (λ p. record { crons = (p.0).0; jobs = (p.0).1; version = (p.1).0; uids = (p.1).1 })
     (λ _. refl)
 
--- before the first write
+-- the content before the first write
 abbrev pub nothing : Content
 nothing = record { crons = map.empty; jobs = map.empty; version = 0; uids = 0 }
 
--- one more write may be made: fewer than the most that are ever made
+-- another write is possible: fewer than 2^40 were made
 abbrev pub HasRoom : Content → Type 0
 HasRoom s = s.version < 2 ^ 40
 
--- where an object stands: its kind and its key
+-- the place of an object: its kind and its key
 pub data Home : Type 0 where
   CronAt : Place → Home
   JobAt : Place → Home
 
--- the metadata of the current object there
+-- the metadata of the current object at a place
 abbrev pub meta_at : Content → Home → Option Meta
 meta_at s (CronAt k) = option_map (λ c. c.meta) (map.get s.crons k)
 meta_at s (JobAt k) = option_map (λ j. j.meta) (map.get s.jobs k)
 
--- and its uid
+-- the uid of the current object at a place
 abbrev pub uid_at : Content → Home → Option ℕ
 uid_at s h = option_map (λ m. m.uid) (meta_at s h)
 
--- the uids and versions of the current objects were given out: they are within the counts
+-- the uids and versions of the current objects are within the counts
 abbrev pub IsCounted : Content → Type 0
-IsCounted s = (h : Home) (m : Meta) → meta_at s h ≡ Some m → (m.version ≤ s.version) × (m.uid ≤ s.uids)
+IsCounted s = (h : Home) (m : Meta) → meta_at s h ≡ Some m
+    → (m.version ≤ s.version) × (m.uid ≤ s.uids)
 
 -- no two current objects have one uid
 abbrev pub HasOwnUids : Content → Type 0
-HasOwnUids s = (g h : Home) (m n : Meta) → meta_at s g ≡ Some m → meta_at s h ≡ Some n → m.uid ≡ n.uid → g ≡ h
+HasOwnUids s = (g h : Home) (m n : Meta) → meta_at s g ≡ Some m → meta_at s h ≡ Some n
+    → m.uid ≡ n.uid → g ≡ h
 
--- each object stands at its own key and wasn't changed more often than there were writes
+-- each object is at its own key, and its generation is at most the count of writes
 -- rule: store-objects
 pub record IsSound (s : Content) : Type 0 where
-  pub crons : (k : Place) (c : CronJob) → map.get s.crons k ≡ Some c → (c.key ≡ k) × (c.meta.generation ≤ s.version)
-  pub jobs : (k : Place) (j : Job) → map.get s.jobs k ≡ Some j → (j.key ≡ k) × (j.meta.generation ≤ s.version)
+  pub crons : (k : Place) (c : CronJob) → map.get s.crons k ≡ Some c
+      → (c.key ≡ k) × (c.meta.generation ≤ s.version)
+  pub jobs : (k : Place) (j : Job) → map.get s.jobs k ≡ Some j
+      → (j.key ≡ k) × (j.meta.generation ≤ s.version)
   pub counts : s.uids ≤ s.version
   pub counted : IsCounted s
   pub own : HasOwnUids s

@@ -1,5 +1,5 @@
--- The answers of calls on CronJobs, with the first refusal that holds. The object that a write leaves is its
--- answer; a deletion's is the last object with the deletion's version.
+-- The answers of calls on CronJobs, with the first refusal that holds. A write answers the object
+-- that it leaves, and a deletion the last object with the version of the deletion.
 use Rattle.std.specs.Prelude.{ℕ, ◌==◌, Option, Some, None, Result, Ok, Err, [], is_some, if◌then◌else◌}
 use Rattle.std.specs.FinMap as map
 use Rattle.cj_base.specs.declared.refusal.Refusal.{Refusal}
@@ -13,14 +13,14 @@ use Rattle.cj_store.specs.Content.{Content}
 use Rattle.cj_store.specs.Equal.{same_cron_spec}
 use Rattle.cj_store.specs.Metadata.{new_meta, touched, updated, version_not_allowed}
 
--- no Job runs, none was ever scheduled
+-- the status of a new CronJob: no Job runs, and none was ever scheduled
 abbrev pub first_status : CronStatus
 first_status = record { active = []; last_schedule_time = None; last_successful_time = None }
 
 abbrev pub new_cron : Content → CronJobDraft → ℕ → CronJob
 new_cron s draft now = record { key = draft.key; meta = new_meta s draft.meta now; spec = draft.spec; status = first_status }
 
--- a create: refused with a version, and where the name is there; a uid in the draft is dropped
+-- a create: refused with a version, and where the name is taken; a uid in the draft is dropped
 -- rules: create, refusals
 abbrev pub cron_created : Content → CronJobDraft → ℕ → Result CronJob Refusal
 cron_created s draft now =
@@ -28,13 +28,14 @@ cron_created s draft now =
     else if is_some (map.get s.crons draft.key) then Err AlreadyExists
     else Ok (new_cron s draft now)
 
--- the standing object with the draft's labels, annotations and spec
+-- the current object with the draft's labels, annotations and spec
 abbrev pub updated_cron : Content → CronJobDraft → CronJob → CronJob
 updated_cron s draft cron = record cron { meta = updated s draft.meta (same_cron_spec draft.spec cron.spec) cron.meta; spec = draft.spec }
 
 abbrev pub cron_updated_from : Content → CronJobDraft → Option CronJob → Result CronJob Refusal
 cron_updated_from s draft None = Err NotFound
-cron_updated_from s draft (Some cron) = if is_current draft.meta cron.meta then Ok (updated_cron s draft cron) else Err (Conflict cron.meta.version)
+cron_updated_from s draft (Some cron) = if is_current draft.meta cron.meta then Ok
+    (updated_cron s draft cron) else Err (Conflict cron.meta.version)
 
 -- an update, conditional on the version and the uid that the draft gives
 -- rules: update, refusals
@@ -48,7 +49,8 @@ abbrev pub status_set_from : Content → ℕ → ℕ → CronStatus → Option C
 status_set_from s uid version status None = Err NotFound
 status_set_from s uid version status (Some cron) =
     if cron.meta.uid == uid then
-    if cron.meta.version == version then Ok (with_status s status cron) else Err (Conflict cron.meta.version)
+    if cron.meta.version == version then Ok (with_status s status cron) else Err
+    (Conflict cron.meta.version)
     else Err NotFound
 
 -- an update of the status of the object with this uid, conditional on its version

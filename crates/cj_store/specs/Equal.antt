@@ -1,4 +1,5 @@
--- Equality of values as a truth value. Every type of values has a code, which differs where the values do.
+-- Equality of values as a truth value. Every type of values has a code, which differs where the
+-- values do.
 use Rattle.std.specs.Prelude.{Bool, true, false, ◌&&◌, ◌==◌}
 use Rattle.std.specs.Coded.{Coded, coded_list, coded_ℕ}
 use base.Stored.{Gv, gnil, gnum, gcons}
@@ -18,7 +19,7 @@ same_code _ _ = false
 unfoldable pub is_same : {X : Type 0} → Coded X → X → X → Bool
 is_same c x y = same_code (c.code x) (c.code y)
 
--- the same CronJob's spec, Job's spec, owner references in their order
+-- equality of CronJobs' specs, of Jobs' specs, and of owner references in their order
 abbrev pub same_cron_spec : CronSpec → CronSpec → Bool
 same_cron_spec = is_same cron_spec.coded
 

@@ -1,5 +1,5 @@
--- The answers of calls on Jobs, with the first refusal that holds. The object that a write leaves is its
--- answer; a deletion's is the last object with the deletion's version.
+-- The answers of calls on Jobs, with the first refusal that holds. A write answers the object that
+-- it leaves, and a deletion the last object with the version of the deletion.
 use Rattle.std.specs.Prelude.{ℕ, Bool, true, ◌==◌, List, Option, Some, None, Result, Ok, Err, is_some, if◌then◌else◌}
 use Rattle.std.specs.List.{filter}
 use Rattle.std.specs.FinMap as map
@@ -20,10 +20,11 @@ use Rattle.cj_store.specs.Metadata.{new_meta, touched, updated, version_not_allo
 abbrev pub new_job : Content → JobDraft → ℕ → Job
 new_job s draft now = record { key = draft.key; meta = new_meta s draft.meta now; owners = draft.owners; spec = draft.spec; outcome = None }
 
--- a controller's create: refused where the name is there; a uid or version in the draft is dropped
+-- a controller's create: refused where the name is taken; a uid or version in the draft is dropped
 -- rule: owned-create
 abbrev pub job_made : Content → JobDraft → ℕ → Result Job Refusal
-job_made s draft now = if is_some (map.get s.jobs draft.key) then Err AlreadyExists else Ok (new_job s draft now)
+job_made s draft now = if is_some (map.get s.jobs draft.key) then Err AlreadyExists else Ok
+    (new_job s draft now)
 
 -- a user's create: refused also with a controller reference, and with a version
 -- rules: create, owned-create, refusals
@@ -33,7 +34,7 @@ job_created s draft now =
     else if is_some draft.meta.version then Err version_not_allowed
     else job_made s draft now
 
--- the standing object with the draft's labels, annotations and spec
+-- the current object with the draft's labels, annotations and spec
 abbrev pub updated_job : Content → JobDraft → Job → Job
 updated_job s draft job = record job { meta = updated s draft.meta (same_job_spec draft.spec job.spec) job.meta; spec = draft.spec }
 
@@ -44,12 +45,13 @@ job_updated_from s draft (Some job) =
     if same_owners draft.owners job.owners then Ok (updated_job s draft job) else Err NotPermitted
     else Err (Conflict job.meta.version)
 
--- an update, conditional on the version and the uid that the draft gives; owner references can't change
+-- an update, conditional on the version and the uid that the draft gives; owner references can't
+-- change
 -- rules: update, refusals
 abbrev pub job_updated : Content → JobDraft → Result Job Refusal
 job_updated s draft = job_updated_from s draft (map.get s.jobs draft.key)
 
--- no uid is asked for, or this one
+-- no uid is given, or this one
 abbrev pub is_asked : Option ℕ → ℕ → Bool
 is_asked None uid = true
 is_asked (Some asked) uid = uid == asked
@@ -59,7 +61,8 @@ last_job s job = record job { meta = touched s job.meta }
 
 abbrev pub job_deleted_from : Content → Option ℕ → Option Job → Result Job Refusal
 job_deleted_from s uid None = Err NotFound
-job_deleted_from s uid (Some job) = if is_asked uid job.meta.uid then Ok (last_job s job) else Err NotFound
+job_deleted_from s uid (Some job) = if is_asked uid job.meta.uid then Ok (last_job s job) else Err
+    NotFound
 
 -- a deletion, with a uid as its precondition where one is given
 -- rule: deletion

@@ -8,7 +8,7 @@ use Rattle.cj_types.specs.declared.meta.Meta.{Meta}
 use Rattle.cj_types.specs.declared.meta.DraftMeta.{DraftMeta}
 use Rattle.cj_store.specs.Content.{Content}
 
--- of a new object: a uid that no object had, the version of this write, generation 1
+-- the metadata of a new object: a uid that no object had, the version of this write, generation 1
 -- rules: create, uid-never-returns
 abbrev pub new_meta : Content → DraftMeta → ℕ → Meta
 new_meta s draft now = record {
@@ -20,11 +20,12 @@ new_meta s draft now = record {
   annotations = draft.annotations;
 }
 
--- after a write that leaves labels, annotations and spec alone
+-- the metadata after a write that leaves labels, annotations and spec alone
 abbrev pub touched : Content → Meta → Meta
 touched s meta = record meta { version = s.version + 1 }
 
--- after an update: the draft's labels and annotations, and a generation more unless the spec is the same
+-- the metadata after an update: the draft's labels and annotations; the generation grows by 1 if
+-- the spec changes
 -- rule: update
 abbrev pub updated : Content → DraftMeta → Bool → Meta → Meta
 updated s draft is_same meta = record meta {
@@ -34,6 +35,6 @@ updated s draft is_same meta = record meta {
   annotations = draft.annotations;
 }
 
--- `metadata.resourceVersion NotAllowed`: what a create with a version is refused with
+-- the refusal of a create whose draft gives a version: `metadata.resourceVersion NotAllowed`
 abbrev pub version_not_allowed : Refusal
 version_not_allowed = Invalid (record { field = ResourceVersion; cause = NotAllowed } ∷ [])

@@ -14,8 +14,8 @@ fn key_of(cron: &Shared<CronJob>) -> &Key
 }
 
 impl Store {
-    /// Makes the write that was planned, on the content that it was planned on and no other. Where there is no memory
-    /// the store is as it was.
+    /// Makes a planned write, on the content that it was planned on and no other. Unchanged where
+    /// there is no memory.
     pub fn commit(&mut self, alloc: Global, change: Change) -> Result<(), Refusal>
         requires room { HasRoom self.old }
         requires planned { IsFor self.old change }
@@ -26,7 +26,7 @@ impl Store {
         self.apply(alloc, change.into_event())
     }
 
-    // Makes the write that the event tells of.
+    // Makes the write of the event.
     pub(crate) fn apply(&mut self, alloc: Global, event: Event) -> Result<(), Refusal>
         requires room { HasRoom self.old }
         requires planned { IsNext self.old event }

@@ -18,7 +18,8 @@ fn version_of(cron: &Shared<CronJob>) -> Version
 }
 
 impl Store {
-    /// Creates a CronJob, and answers it. Refused: `Invalid` with a version in the draft, `AlreadyExists`.
+    /// Creates a CronJob, and answers it. Refused: `Invalid` with a version in the draft,
+    /// `AlreadyExists`.
     pub fn create_cron(
         &mut self,
         alloc: Global,
@@ -37,8 +38,8 @@ impl Store {
         Ok(answer)
     }
 
-    /// Replaces labels, annotations and spec of a CronJob, and answers it. Refused: `NotFound`, `Conflict`
-    /// where the draft gives a version or uid that isn't the current one.
+    /// Replaces labels, annotations and spec of a CronJob, and answers it. Refused: `NotFound`,
+    /// `Conflict` where the draft gives a version or uid that isn't the current one.
     pub fn update_cron(
         &mut self,
         alloc: Global,
@@ -55,8 +56,8 @@ impl Store {
         Ok(answer)
     }
 
-    /// Replaces the status of a CronJob, and answers it. Refused: `NotFound`, also where another uid stands there, and
-    /// `Conflict` where the version isn't the current one.
+    /// Replaces the status of a CronJob, and answers it. Refused: `NotFound`, also where the
+    /// CronJob at the key has another uid, and `Conflict` where the version isn't the current one.
     pub fn set_status(
         &mut self,
         alloc: Global,
@@ -77,7 +78,7 @@ impl Store {
         Ok(answer)
     }
 
-    /// Deletes a CronJob, and answers the deletion's version. Refused: `NotFound`.
+    /// Deletes a CronJob, and answers the version of the deletion. Refused: `NotFound`.
     pub fn delete_cron(&mut self, alloc: Global, key: &Key) -> Result<Version, Refusal>
         requires { HasRoom self.old }
         ensures ok { IfOk result (λ v. map_ok (λ c. c.meta.version) (cron_deleted self.old key.now)

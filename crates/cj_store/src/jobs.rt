@@ -18,8 +18,8 @@ fn version_of(job: &Shared<Job>) -> Version
 }
 
 impl Store {
-    /// Creates a Job for a user, and answers it. Refused: `NotPermitted` with a controller reference, `Invalid` with a
-    /// version in the draft, `AlreadyExists`.
+    /// Creates a Job for a user, and answers it. Refused, in this order: `NotPermitted` with a
+    /// controller reference, `Invalid` with a version in the draft, `AlreadyExists`.
     pub fn create_job(
         &mut self,
         alloc: Global,
@@ -55,9 +55,9 @@ impl Store {
         Ok(answer)
     }
 
-    /// Replaces labels, annotations and spec of a Job, and answers it. Refused: `NotFound`, `Conflict` where
-    /// the draft gives a version or uid that isn't the current one, `NotPermitted` where its owner references
-    /// differ.
+    /// Replaces labels, annotations and spec of a Job, and answers it. Refused: `NotFound`,
+    /// `Conflict` where the draft gives a version or uid that isn't the current one, `NotPermitted`
+    /// where its owner references differ.
     pub fn update_job(&mut self, alloc: Global, draft: JobDraft) -> Result<Shared<Job>, Refusal>
         requires { HasRoom self.old }
         ensures ok { IfOk result (λ j. job_updated self.old draft ≡ Ok j) }
@@ -70,8 +70,8 @@ impl Store {
         Ok(answer)
     }
 
-    /// Deletes a Job, and answers the deletion's version. Refused: `NotFound`, also where a uid is given and
-    /// another one stands there.
+    /// Deletes a Job, and answers the version of the deletion. Refused: `NotFound`, also where a
+    /// uid is given and the Job at the key has another.
     pub fn delete_job(
         &mut self,
         alloc: Global,
@@ -93,8 +93,8 @@ impl Store {
         Ok(version)
     }
 
-    /// Ends a Job, and answers it; `Complete` gets this moment as its completion time. Refused: `NotFound`, also where
-    /// another uid stands there, and `AlreadyFinished`.
+    /// Finishes a Job, and answers it; `Complete` gets the present moment as its completion time.
+    /// Refused: `NotFound`, also where the Job at the key has another uid, and `AlreadyFinished`.
     pub fn end_job(
         &mut self,
         alloc: Global,

@@ -1,9 +1,11 @@
-//! The versioned store of CronJobs and Jobs: one count of versions over all objects, conditional updates, uids that
-//! never return, ends that are final (Kubernetes API conventions, "Concurrency Control and Consistency").
+//! The versioned store of CronJobs and Jobs: one count of versions over all objects, conditional
+//! updates, uids that never return, ends that are final (Kubernetes API conventions, "Concurrency
+//! Control and Consistency").
 //!
-//! Here belongs what each write answers, the first refusal that holds, and the content after it. Who may call, and what
-//! is told of a write to others, belongs to the crates above. They rest on the plans (`plan_create_cron` and its like),
-//! on `Store::commit`, and on what every content, event and answer keeps (`store_laws`).
+//! Here belongs the answer of each write, the first refusal that holds, and the content after it.
+//! Who may call, and how others learn of a write, belongs to the crates above. They rest on the
+//! plans (`plan_create_cron` and the other `plan_` calls), on `Store::commit`, and on the laws of
+//! contents, events and answers (`store_laws`).
 #![tactic(auto)]
 
 mod change;

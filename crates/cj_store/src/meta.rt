@@ -10,7 +10,7 @@ use cj_types::{
 };
 use std::alloc::Global;
 
-// What a create with a version is refused with.
+// The refusal of a create whose draft gives a version.
 pub(crate) fn version_not_allowed(alloc: Global) -> Refusal
     ensures { result ≢ OutOfMemory → result ≡ version_not_allowed }
 {

@@ -7,8 +7,8 @@ use cj_types::{Job, Key, Listing, Refusal, Shared};
 use std::alloc::Global;
 
 impl Store {
-    /// The Jobs of the key's namespace whose controller reference names a CronJob of `batch/v1` of the key's
-    /// name, whatever its uid, in order of name. No other Job is walked, and none is copied.
+    /// The Jobs of the key's namespace whose controller reference names a CronJob of `batch/v1`
+    /// with the key's name, whatever its uid, in order of name. No other Job is walked.
     pub fn jobs_of(&self, alloc: Global, key: &Key) -> Result<Listing<Shared<Job>>, Refusal>
         ensures ok { IfOk result (λ l. l ≡ jobs_of self.now key.now) }
         ensures err { IfErr result (λ e. e ≡ OutOfMemory) }

@@ -4,7 +4,7 @@ ghost use Rattle.cj_base.specs.declared.refusal.Refusal.TheVariants.{OutOfMemory
 use cj_types::{Refusal, Shared};
 use std::alloc::Global;
 
-/// What was made on a place of its own, once for the store and once for the answer.
+/// The object on the heap, as two shared values: one for the store and one for the answer.
 pub(crate) fn placed<T: Drop>(
     alloc: Global,
     made: Result<T, Refusal>,

@@ -15,7 +15,7 @@ use cj_types::{
 };
 use std::alloc::Global;
 
-// The CronJobs that writes would leave, or why they are refused. Nothing changes here.
+// The CronJobs that writes would store, or the refusals of these writes. Nothing changes here.
 impl Store {
     fn new_cron(&self, alloc: Global, draft: CronJobDraft, now: Seconds) -> CronJob
         requires { HasRoom self.now }
@@ -66,7 +66,7 @@ impl Store {
         Ok(self.new_cron(alloc, draft, now))
     }
 
-    // The CronJob that the draft would change, with a copy of its status.
+    // The CronJob that the draft would update, with a copy of its status.
     fn replaced_cron(
         &self,
         alloc: Global,

@@ -24,7 +24,7 @@ fn is_asked(asked: Option<Uid>, uid: Uid) -> bool
     }
 }
 
-// The outcome of a Job that ends now.
+// The outcome of a Job that finishes now.
 fn ended_at(now: Seconds, outcome: Outcome) -> Outcome
     ensures { result ≡ ended_at now outcome }
 {
@@ -50,7 +50,7 @@ fn is_of_a_user(alloc: Global, draft: &JobDraft) -> Result<(), Refusal>
     Ok(())
 }
 
-// The Jobs that writes would leave, or why they are refused. Nothing changes here.
+// The Jobs that writes would store, or the refusals of these writes. Nothing changes here.
 impl Store {
     fn new_job(&self, draft: JobDraft, now: Seconds) -> Job
         requires { HasRoom self.now }
@@ -97,7 +97,7 @@ impl Store {
         self.job_made(draft, now)
     }
 
-    // The Job that the draft would change, with a copy of its owners.
+    // The Job that the draft would update, with a copy of its owners.
     fn replaced_job(
         &self,
         alloc: Global,

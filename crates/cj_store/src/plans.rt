@@ -6,13 +6,16 @@ ghost use Rattle.cj_store.specs.Jobs.{job_created, job_made, job_updated, job_de
 ghost use Rattle.cj_store.specs.Change.{map_ok, IsFor, cron_added, cron_modified, cron_gone, job_added, job_modified, job_gone};
 
 use crate::{Change, Store};
-use cj_types::{CronJobDraft, CronStatus, JobDraft, Key, Outcome, Refusal, Seconds, Uid, Version};
+use cj_types::{
+    CronJobDraft, CronStatus, Event, JobDraft, Key, Object, Outcome, Refusal, Seconds, Shared, Uid,
+    Version,
+};
 use std::alloc::Global;
 
-/// Each write as a plan: the change that the call of the same name would make, or why it would be refused. Nothing
-/// changes until the change is committed.
+/// Each write as a plan: the change that the call of the same name would make, or its refusal. The
+/// store changes only when the change is committed.
 impl Store {
-    /// What `create_cron` would make.
+    /// The change of `create_cron`.
     pub fn plan_create_cron(
         &self,
         alloc: Global,
@@ -27,10 +30,11 @@ impl Store {
         ensures planned { IfOk result (λ change. IsFor self.now change) }
     {
         let cron = self.cron_created(alloc, draft, now)?;
-        Change::cron_added(alloc, self, cron)
+        let cron = Shared::new(alloc, cron)?;
+        Change::of(alloc, self, Event::Added(Object::Cron(cron)))
     }
 
-    /// What `update_cron` would make.
+    /// The change of `update_cron`.
     pub fn plan_update_cron(&self, alloc: Global, draft: CronJobDraft) -> Result<Change, Refusal>
         requires { HasRoom self.now }
         ensures ok { IfOk result (λ change. map_ok cron_modified (cron_updated self.now draft)
@@ -39,10 +43,11 @@ impl Store {
         ensures planned { IfOk result (λ change. IsFor self.now change) }
     {
         let cron = self.cron_updated(alloc, draft)?;
-        Change::cron_modified(alloc, self, cron)
+        let cron = Shared::new(alloc, cron)?;
+        Change::of(alloc, self, Event::Modified(Object::Cron(cron)))
     }
 
-    /// What `set_status` would make.
+    /// The change of `set_status`.
     pub fn plan_set_status(
         &self,
         alloc: Global,
@@ -59,10 +64,11 @@ impl Store {
         ensures planned { IfOk result (λ change. IsFor self.now change) }
     {
         let cron = self.status_set(alloc, key, uid, version, status)?;
-        Change::cron_modified(alloc, self, cron)
+        let cron = Shared::new(alloc, cron)?;
+        Change::of(alloc, self, Event::Modified(Object::Cron(cron)))
     }
 
-    /// What `delete_cron` would make.
+    /// The change of `delete_cron`.
     pub fn plan_delete_cron(&self, alloc: Global, key: &Key) -> Result<Change, Refusal>
         requires { HasRoom self.now }
         ensures ok { IfOk result (λ change. map_ok cron_gone (cron_deleted self.now key.now)
@@ -71,10 +77,11 @@ impl Store {
         ensures planned { IfOk result (λ change. IsFor self.now change) }
     {
         let cron = self.cron_deleted(alloc, key)?;
-        Change::cron_gone(alloc, self, cron)
+        let cron = Shared::new(alloc, cron)?;
+        Change::of(alloc, self, Event::Deleted(Object::Cron(cron)))
     }
 
-    /// What `create_job` would make.
+    /// The change of `create_job`.
     pub fn plan_create_job(
         &self,
         alloc: Global,
@@ -88,10 +95,11 @@ impl Store {
         ensures planned { IfOk result (λ change. IsFor self.now change) }
     {
         let job = self.job_created(alloc, draft, now)?;
-        Change::job_added(alloc, self, job)
+        let job = Shared::new(alloc, job)?;
+        Change::of(alloc, self, Event::Added(Object::Job(job)))
     }
 
-    /// What `make_job` would make.
+    /// The change of `make_job`.
     pub fn plan_make_job(
         &self,
         alloc: Global,
@@ -105,10 +113,11 @@ impl Store {
         ensures planned { IfOk result (λ change. IsFor self.now change) }
     {
         let job = self.job_made(draft, now)?;
-        Change::job_added(alloc, self, job)
+        let job = Shared::new(alloc, job)?;
+        Change::of(alloc, self, Event::Added(Object::Job(job)))
     }
 
-    /// What `update_job` would make.
+    /// The change of `update_job`.
     pub fn plan_update_job(&self, alloc: Global, draft: JobDraft) -> Result<Change, Refusal>
         requires { HasRoom self.now }
         ensures ok { IfOk result (λ change. map_ok job_modified (job_updated self.now draft)
@@ -117,10 +126,11 @@ impl Store {
         ensures planned { IfOk result (λ change. IsFor self.now change) }
     {
         let job = self.job_updated(alloc, draft)?;
-        Change::job_modified(alloc, self, job)
+        let job = Shared::new(alloc, job)?;
+        Change::of(alloc, self, Event::Modified(Object::Job(job)))
     }
 
-    /// What `delete_job` would make.
+    /// The change of `delete_job`.
     pub fn plan_delete_job(
         &self,
         alloc: Global,
@@ -135,10 +145,11 @@ impl Store {
         ensures planned { IfOk result (λ change. IsFor self.now change) }
     {
         let job = self.job_deleted(alloc, key, uid)?;
-        Change::job_gone(alloc, self, job)
+        let job = Shared::new(alloc, job)?;
+        Change::of(alloc, self, Event::Deleted(Object::Job(job)))
     }
 
-    /// What `end_job` would make.
+    /// The change of `end_job`.
     pub fn plan_end_job(
         &self,
         alloc: Global,
@@ -155,6 +166,7 @@ impl Store {
         ensures planned { IfOk result (λ change. IsFor self.now change) }
     {
         let job = self.job_ended(alloc, key, uid, outcome, now)?;
-        Change::job_modified(alloc, self, job)
+        let job = Shared::new(alloc, job)?;
+        Change::of(alloc, self, Event::Modified(Object::Job(job)))
     }
 }

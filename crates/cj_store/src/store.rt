@@ -16,7 +16,6 @@ pub struct Store {
     pub(crate) creations: u64,
 }
 
-// A function of its own, so that whoever gives one up makes one call and not one for each part.
 impl Drop for Store {
     fn drop(self) {
         let Store {
@@ -53,10 +52,10 @@ impl Model for Store {
 }
 
 impl Store {
-    /// The most writes that are ever made.
+    /// The most writes that a store makes, 2^40.
     pub const MOST_WRITES: u64 = 1_099_511_627_776;
 
-    /// A store with no object.
+    /// An empty store.
     pub fn new(alloc: Global) -> Store
         ensures { result ≡ nothing }
     {
@@ -68,7 +67,7 @@ impl Store {
         }
     }
 
-    /// Whether one more write may be made: fewer than 2^40 were.
+    /// Whether another write is possible: fewer than 2^40 were made.
     pub fn has_room(&self) -> bool
         ensures { IsTrue result ↔ HasRoom self.now }
     {
@@ -92,7 +91,7 @@ impl Store {
         self.crons.get(key)
     }
 
-    /// The CronJobs in the order of their keys. None is copied.
+    /// The CronJobs in the order of their keys, as shared values.
     pub fn list_crons(&self, alloc: Global) -> Result<Listing<Shared<CronJob>>, Refusal>
         ensures ok { IfOk result (λ l. l ≡ map.values self.now.crons) }
         ensures err { IfErr result (λ e. e ≡ OutOfMemory) }
@@ -109,7 +108,7 @@ impl Store {
         self.jobs.get(key)
     }
 
-    /// The Jobs in the order of their keys. None is copied.
+    /// The Jobs in the order of their keys, as shared values.
     pub fn list_jobs(&self, alloc: Global) -> Result<Listing<Shared<Job>>, Refusal>
         ensures ok { IfOk result (λ l. l ≡ map.values self.now.jobs) }
         ensures err { IfErr result (λ e. e ≡ OutOfMemory) }

@@ -1,5 +1,6 @@
-// Laws of the store that the layers above it cite: what its content keeps, what each accepted call answers,
-// and what the event of a write does; and writes that are planned in turn, as they have to be.
+// Laws of the store for the layers above it: which contents are sound, what each accepted call
+// answers, and how the event of a write changes the content. `turns` has writes that are planned
+// one after the other, as they must be.
 mod answers;
 mod events;
 mod sound;

@@ -13,7 +13,8 @@ use Rattle.cj_table.proofs.Puts.{one_key}
 one_number : (q k : ℕ) → eq_by_cmp nat_cmp q k ≡ true → q ≡ k
 one_number q k e = grind (arith, nat_tests)
 
-module _ {K : Type 0} (R : K → K → Ordering) (X : Type 0) (o : IsTotalOrder R) (exact : (q k : K) → eq_by_cmp R q k ≡ true → q ≡ k) where
+module _ {K : Type 0} (R : K → K → Ordering) (X : Type 0) (o : IsTotalOrder R)
+    (exact : (q k : K) → eq_by_cmp R q k ≡ true → q ≡ k) where
   -- A key ties with itself.
   self_true : (k : K) → eq_by_cmp R k k ≡ true
   self_true k = (eq_by_cmp_equiv o).refl k
@@ -48,7 +49,8 @@ module _ {K : Type 0} (R : K → K → Ordering) (X : Type 0) (o : IsTotalOrder 
         (sym (map.get-insert o m k x q) ∙ h);
     removal_here = λ m k. map.get-remove o m k k ∙ ap (λ t. cond t None (map.get m k)) (self_true k);
     removal_other = λ m k q n. map.get-remove o m k q ∙ kept q k None (map.get m q) (eq_by_cmp R q k) refl n;
-    after_removal = λ m k q y h. removal_either q k y (map.get m q) (eq_by_cmp R q k) refl (sym (map.get-remove o m k q) ∙ h);
+    after_removal = λ m k q y h. removal_either q k y (map.get m q) (eq_by_cmp R q k) refl
+        (sym (map.get-remove o m k q) ∙ h);
   }
 
 -- For apart_laws: in maps by key, an insert or a removal changes its own key alone.

@@ -50,7 +50,8 @@ module _ {X : Type 0} where
   at_put m k v q = (refl, put_split m k v q)
 
   -- The second of the two: what removal_split says, behind the look-up itself.
-  pub at_removal : (m : map.FinMap place_cmp X) (k q : Place) → (map.get (map.remove m k) q ≡ map.get (map.remove m k) q)
+  pub at_removal : (m : map.FinMap place_cmp X) (k q : Place)
+      → (map.get (map.remove m k) q ≡ map.get (map.remove m k) q)
       × (((q ≡ k) × (map.get (map.remove m k) q ≡ None)) ⊎ (map.get (map.remove m k) q ≡ map.get m q))
   at_removal m k q = (refl, removal_split m k q)
 

@@ -18,13 +18,15 @@ found_at es q = get_rows places_total places_exact es q
 
 -- Of such a map: where a look-up finds v at k and else what it did, v is inserted at k.
 pub inserted_at : {X : Type 0} (es fs : List (Place × X)) (k : Place) (v : X)
-    → ((q : Place) → lookup (is_at (place_cmp q)) fs ≡ cond (is_at (place_cmp k) q) (Some v) (lookup (is_at (place_cmp q)) es))
+    → ((q : Place)
+    → lookup (is_at (place_cmp q)) fs ≡ cond (is_at (place_cmp k) q) (Some v) (lookup (is_at (place_cmp q)) es))
     → map.from_entries {R = place_cmp} fs ≡ map.insert (map.from_entries es) k v
 inserted_at es fs k v h = inserted places_total places_exact es fs k v h
 
 -- Of such a map: where a look-up finds nothing at k and else what it did, k is removed.
 pub removed_at : {X : Type 0} (es fs : List (Place × X)) (k : Place)
-    → ((q : Place) → lookup (is_at (place_cmp q)) fs ≡ cond (is_at (place_cmp k) q) None (lookup (is_at (place_cmp q)) es))
+    → ((q : Place)
+    → lookup (is_at (place_cmp q)) fs ≡ cond (is_at (place_cmp k) q) None (lookup (is_at (place_cmp q)) es))
     → map.from_entries {R = place_cmp} fs ≡ map.remove (map.from_entries es) k
 removed_at es fs k h = removed places_total places_exact es fs k h
 

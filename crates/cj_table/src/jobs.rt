@@ -1,6 +1,6 @@
-// The Jobs by key, with an index that has the Jobs of each CronJob, so that a list of them walks over these alone and
-// looks none up. Each Job stands in one place, its slot, and both know it by the slot's number, so that a Job put in
-// place of another is written there alone.
+// The Jobs by key, with an index of each CronJob's Jobs, so that listing them walks these alone and
+// looks none up. Each Job has one place, its slot. Table and index both refer to the slot's number,
+// so that replacing a Job writes that slot alone.
 mod by_owner;
 mod jobs;
 mod own_jobs;

@@ -4,8 +4,8 @@ ghost use Rattle.std.specs.FinMap as map;
 ghost use Rattle.cj_types.specs.Keys.{Place, place_cmp};
 ghost use Rattle.cj_table.specs.Apart.{PlacesApart, NumbersApart};
 
-/// The laws of maps by key: the order is total and tells any two keys apart; what stands at a key after an insert and
-/// after a removal; an insert of an absent key is undone by its removal.
+/// The laws of maps by key: the order is total and separates any two keys; which value a key has
+/// after an insert and after a removal; removing a key undoes its insertion.
 pub fn table_laws<X>()
     ensures total { IsTotalOrder place_cmp }
     ensures exact { map.IsAntisymmetric place_cmp }
@@ -22,8 +22,8 @@ pub fn table_laws<X>()
         map.remove (map.insert m k v) k ≡ m }
 {}
 
-/// What stands where after an insert and after a removal, with the other keys apart: of maps by key, and of
-/// maps by number.
+/// Which value any key has after an insert or a removal at one key, in maps by key and in maps by
+/// number.
 pub fn apart_laws<X>()
     ensures places { PlacesApart X }
     ensures numbers { NumbersApart X }

@@ -1,8 +1,9 @@
-//! A map by key, listed in the order of keys, which contracts see as a finite map, and the laws of such maps.
+//! A map by key, listed in the order of keys, which contracts see as a finite map, and the laws of
+//! such maps.
 //!
-//! Here belongs how objects are found by key, and (`jobs`) how Jobs are found by owner. What an object means, and when
-//! it changes, belongs to the crates above. They rest on the clauses of `Table` and `Jobs`, which say what each call
-//! answers and leaves, and on `table_laws`.
+//! Here belongs how objects are found by key, and (`jobs`) how Jobs are found by owner. What an
+//! object means, and when it changes, belongs to the crates above. They rest on the clauses of
+//! `Table` and `Jobs`, which say what each call answers and leaves, and on `table_laws`.
 #![tactic(auto)]
 
 mod in_order;

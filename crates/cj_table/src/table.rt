@@ -9,9 +9,9 @@ use std::alloc::Global;
 use std::collections::BTreeMap;
 use std::marker::Model;
 
-/// A value for each of some keys, which stand in the order of their hashes, and those of one hash in the order of keys: so a
-/// key is found by few comparisons of numbers, and nobody can choose names that are slow to find. They are listed in the
-/// order of keys. Contracts see a finite map.
+/// A map from keys to values. Entries are sorted by the hash of their key, and those of one hash by
+/// key: a search compares few numbers, and nobody can choose names that are slow to find. Listings
+/// are in the order of keys. Contracts see a finite map.
 #[derive(Drop)]
 pub struct Table<X> {
     rows: BTreeMap<Tagged, X>,
@@ -29,7 +29,7 @@ impl<X> Model for Table<X> {
 }
 
 impl<X> Table<X> {
-    /// No key.
+    /// An empty table.
     pub fn new(alloc: Global) -> Table<X>
         ensures { result ≡ map.empty }
     {
@@ -55,8 +55,8 @@ impl<X> Table<X> {
 }
 
 impl<X: Drop> Table<X> {
-    /// Puts the value at the key, in place of the one that stood there. Where there is no memory the table is as it
-    /// was; a key that has a value needs none.
+    /// Sets the value at the key, replacing any earlier one. Unchanged where there is no memory;
+    /// replacing needs none.
     #[tactic(auto, using(crate::proofs::Rows::put_row, crate::proofs::Rows::found_row))]
     pub fn insert(&mut self, key: Key, value: X) -> Result<(), Refusal>
         ensures ok { OnOk result (self.new ≡ map.insert self.old key value) }
@@ -70,7 +70,7 @@ impl<X: Drop> Table<X> {
         }
     }
 
-    /// Takes the key and its value out, if they are there.
+    /// Removes the key and its value, if they are there.
     #[tactic(auto, using(crate::proofs::Rows::gone_row))]
     pub fn remove(&mut self, key: &Key)
         ensures { self.new ≡ map.remove self.old key.now }

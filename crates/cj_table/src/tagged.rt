@@ -20,8 +20,8 @@ fn hash_of(key: &Key) -> u64
     hasher.finish()
 }
 
-/// A key with its hash, by which it is compared first. So most comparisons read no text, and those of keys that were
-/// chosen to have one hash still find their order. Contracts see the key.
+/// A key with its hash, by which it is compared first. Most comparisons read no text, and keys that
+/// were chosen to share a hash are still ordered. Contracts see the key.
 #[derive(Drop)]
 pub struct Tagged {
     hash: u64,
@@ -117,7 +117,7 @@ impl PartialOrd for Tagged {
     }
 }
 
-// A key that is looked for, with its hash.
+// A key to search for, with its hash.
 #[derive(Clone, Copy)]
 pub(crate) struct Probe<'a> {
     hash: u64,
@@ -127,7 +127,7 @@ pub(crate) struct Probe<'a> {
 impl<'a> Probe<'a> {
     ghost use Rattle.cj_table.specs.Tags.{hash_of};
 
-    // Looks for the key.
+    // A search for the key.
     pub(crate) fn new(key: &'a Key) -> Probe<'a>
         ensures hash { result.hash ≡ hash_of key.now }
         ensures key { result.key.now ≡ key.now }

@@ -3,7 +3,8 @@ use crate::samples::{labels, take};
 use cj_types::Labels;
 use std::alloc::Global;
 
-// Entries in the order in which they are put, and as they then stand; a name, and the value that is found there.
+// Entries in the order in which they are put, and as they then stand; a name, and the value that is
+// found there.
 struct Put(&'static str, &'static str, &'static str, &'static str);
 
 // Each name stands once, by its bytes, with its last value.

@@ -1,5 +1,5 @@
-// Tests of the hub: users on threads, strange passes, full histories, waiting Takes, its window, desks, and how far the
-// work is.
+// Tests of the hub: users on threads, strange passes, full histories, waiting Takes, its window,
+// desks, and how far the work is.
 pub mod answers;
 mod closings;
 mod desk_tests;

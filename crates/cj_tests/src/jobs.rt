@@ -4,8 +4,8 @@ use cj_base::both;
 use cj_types::Job;
 use std::alloc::Global;
 
-// A Job's owners, each with version, kind, name, uid and `*` where it is the controller, and the number of its outcome;
-// the CronJob that they name, and whether it is unfinished.
+// A Job's owners, each with version, kind, name, uid and `*` where it is the controller, and the
+// number of its outcome; the CronJob that they name, and whether it is unfinished.
 struct OfJob(&'static str, u8, &'static str, bool);
 
 const OF_JOBS: [OfJob; 19] = [
@@ -77,7 +77,8 @@ fn finds_the_cron_job_and_the_end_of_a_job(rt: HostRuntime) {
     none_wrong(&rt, first_wrong(rt.alloc(), &OF_JOBS));
 }
 
-// The uid and version that a draft gives, `-` for none, and whether they are those of uid 10, version 12.
+// The uid and version that a draft gives, `-` for none, and whether they are those of uid 10,
+// version 12.
 struct Given(&'static str, &'static str, bool);
 
 const GIVEN: [Given; 17] = [

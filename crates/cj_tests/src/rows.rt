@@ -48,7 +48,8 @@ fn is_told<T: Sample>(alloc: Global, number: u8, other_number: u8) -> bool {
     }
 }
 
-/// The first of so many numbers whose value doesn't compare with the value of each as the numbers do.
+/// The first of so many numbers whose value doesn't compare with the value of each as the numbers
+/// do.
 pub fn first_untold<T: Sample>(alloc: Global, count: u8) -> Option<usize> {
     for number in 0..count {
         for other in 0..count {

@@ -7,8 +7,8 @@ use cj_types::{
 };
 use std::alloc::Global;
 
-// Each value here is made for the number of a change: as it is for 0 and for a number that names no change, and else
-// different in one place.
+// Each value here is made for the number of a change: as it is for 0 and for a number that names no
+// change, and else different in one place.
 
 // The change of a part where its own changes begin after this number and are so many; 0 elsewhere.
 fn within(change: u8, after: u8, changes: u8) -> u8 {
@@ -145,7 +145,8 @@ pub fn meta(alloc: Global, change: u8) -> Result<Meta, Refusal> {
     })
 }
 
-/// What a draft gives: a uid and a version, each none for `-`, and the words of labels and annotations.
+/// What a draft gives: a uid and a version, each none for `-`, and the words of labels and
+/// annotations.
 pub fn given(
     alloc: Global,
     uid: &str,
@@ -305,7 +306,8 @@ impl Sample for CronJobDraft {
     }
 }
 
-// The owner of the words `VERSION KIND NAME UID MARKS`: `*` for the controller, `!` for one that blocks the deletion.
+// The owner of the words `VERSION KIND NAME UID MARKS`: `*` for the controller, `!` for one that
+// blocks the deletion.
 fn owner(alloc: Global, words: &str) -> Result<OwnerRef, Refusal> {
     let mut words = words;
     let (api_version, kind, name, uid) = all_four(

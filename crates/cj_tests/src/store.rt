@@ -1,5 +1,5 @@
-// Tests of the store: a worked row of calls, two thousand Jobs, ten thousand calls beside a plain list, and plans that
-// are made in turn.
+// Tests of the store: a worked row of calls, two thousand Jobs, ten thousand calls beside a plain
+// list, and plans that are made in turn.
 #[cfg(test)]
 mod ask;
 #[cfg(test)]

@@ -1,4 +1,5 @@
-// Tests of the watch window and of the mirror: worked rows, and thousands of writes beside plain lists.
+// Tests of the watch window and of the mirror: worked rows, and thousands of writes beside plain
+// lists.
 #[cfg(test)]
 mod boxed;
 #[cfg(test)]

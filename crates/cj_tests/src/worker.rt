@@ -1,5 +1,6 @@
-// Tests of syncs and workers: a whole sync, syncs that are disturbed at each point, a clock that moves on, a Job's
-// name that is taken, and two workers on threads, of which one may be stopped at each point.
+// Tests of syncs and workers: a whole sync, syncs that are disturbed at each point, a clock that
+// moves on, a Job's name that is taken, and two workers on threads, of which one may be stopped at
+// each point.
 mod add_tests;
 mod clock_tests;
 mod clocks;

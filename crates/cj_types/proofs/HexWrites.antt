@@ -59,7 +59,8 @@ filled (suc room) (suc j) n acc some fits small =
     by : (b : Bool) → nat_eq (n / 16) 0 ≡ b → (0 < j → IsFilled j (n / 16) (hex_digit (n % 16) ∷ acc) rest)
         → IsFilled (suc j) n acc (cond b (hex_digit (n % 16) ∷ acc) rest)
     by true e ih = last_digit j n acc (eqb-true (n / 16) 0 e)
-    by false e ih = more_digits j n acc rest (ih (positive j small (λ z. absurd (cc (sym (ap (λ m. nat_eq m 0) z) ∙ e)))))
+    by false e ih = more_digits j n acc rest (ih (positive j small
+        (λ z. absurd (cc (sym (ap (λ m. nat_eq m 0) z) ∙ e)))))
 
 -- For twelve_digits: what `0` and a width of 12 make of the digits.
 laid : (numeral : List ℕ) → padded_integral (format_spec 32 0 4 12 (2 ^ 64 - 1)) false [] numeral

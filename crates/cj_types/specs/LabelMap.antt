@@ -1,4 +1,5 @@
--- Labels and annotations: a finite map from text to text, kept as its entries in the order of the names' bytes.
+-- Labels and annotations: a finite map from text to text, kept as its entries in the order of the
+-- names' bytes.
 use Rattle.std.specs.Prelude.{ℕ, Bool, List, Option}
 use Rattle.std.specs.declared.cmp.Ordering.{Ordering}
 use Rattle.std.specs.Ordering.{nat_cmp}
@@ -9,7 +10,7 @@ use Rattle.std.specs.FinMap.{find, put, is_sorted}
 abbrev pub text_cmp : List ℕ → List ℕ → Ordering
 text_cmp = slice_cmp nat_cmp
 
--- the entries with this value at the name, in place of the value that stood there
+-- the entries with this value at the name, replacing any earlier one
 abbrev pub put_label : List ℕ → List ℕ → List (List ℕ × List ℕ) → List (List ℕ × List ℕ)
 put_label name value labels = put text_cmp name value labels
 

@@ -1,5 +1,5 @@
--- The ranges of the numbers in a CronJob's spec: batch/v1, `CronJobSpec`, whose `startingDeadlineSeconds` is
--- an int64 and whose history limits are int32, none of them below 0.
+-- The ranges of the numbers in a CronJob's spec: batch/v1, `CronJobSpec`, whose
+-- `startingDeadlineSeconds` is an int64 and whose history limits are int32, none of them below 0.
 use Rattle.std.specs.Prelude.{ℕ}
 
 -- 2^63 - 1

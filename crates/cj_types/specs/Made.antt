@@ -1,4 +1,4 @@
--- The Job that the controller makes of a CronJob for a scheduled time, as a manifest would say it.
+-- The Job that the controller creates for a scheduled time of a CronJob, as a draft.
 use Rattle.std.specs.Prelude.{ℕ, ◌/◌, List, [], ◌∷◌, ◌++◌, None, true, codes}
 use Rattle.std.specs.Fmt.{decimal}
 use Rattle.cj_types.specs.declared.cron.CronJob.{CronJob}
@@ -9,7 +9,7 @@ use Rattle.cj_types.specs.Keys.{Place, place}
 use Rattle.cj_types.specs.LabelMap.{put_label}
 use Rattle.cj_types.specs.Uids.{uid_text}
 
--- the annotation that Kubernetes' CronJob controller gives the Jobs that it makes
+-- the annotation with which Kubernetes' CronJob controller marks its Jobs
 abbrev pub scheduled_annotation : List ℕ
 scheduled_annotation = codes "batch.kubernetes.io/cronjob-scheduled-timestamp"
 
@@ -18,11 +18,11 @@ scheduled_annotation = codes "batch.kubernetes.io/cronjob-scheduled-timestamp"
 abbrev pub made_name : List ℕ → ℕ → List ℕ
 made_name name time = name ++ 45 ∷ decimal (time / 60)
 
--- in the CronJob's namespace
+-- the Job's key: its name, in the CronJob's namespace
 abbrev pub made_place : Place → ℕ → Place
 made_place k time = place k.namespace (made_name k.name time)
 
--- the CronJob, as the Job's controller
+-- the reference to the CronJob as the Job's controller
 abbrev pub owner_of : CronJob → OwnerRef
 owner_of cron = record {
   api_version = codes "batch/v1";
@@ -43,7 +43,7 @@ made_meta cron time_text = record {
   annotations = put_label scheduled_annotation time_text cron.spec.template.annotations;
 }
 
--- the Job for a time, whose printed form is given
+-- the Job for a time, given also as a text
 -- rule: made-job
 abbrev pub made_job : CronJob → ℕ → List ℕ → JobDraft
 made_job cron time time_text = record {

@@ -9,11 +9,12 @@ use Rattle.cj_base.specs.declared.cause.Cause.TheVariants.{TooLong, Format}
 abbrev pub is_letter_or_digit : ℕ → Bool
 is_letter_or_digit b = (nat_le 97 b && nat_le b 122) || (nat_le 48 b && nat_le b 57)
 
--- or `-`
+-- `a` to `z`, `0` to `9` or `-`
 abbrev pub is_label_byte : ℕ → Bool
 is_label_byte b = is_letter_or_digit b || b == 45
 
--- DNS label: one or more of `a` to `z`, `0` to `9` and `-`, beginning and ending with a letter or digit
+-- DNS label: one or more of `a` to `z`, `0` to `9` and `-`, beginning and ending with a letter or
+-- digit
 -- rule: names
 unfoldable pub is_label : List ℕ → Bool
 is_label bs =
@@ -31,16 +32,18 @@ is_subdomain bs = list_all is_label (slice_split (λ b. b == 46) bs)
 abbrev pub char_len : List ℕ → ℕ
 char_len text = length (chars text)
 
--- the most characters of a name, and of a CronJob's, whose Jobs add up to 11
+-- the most characters of a name
 -- rule: names
 abbrev pub longest : ℕ
 longest = 63
 
+-- the most characters of a CronJob's name: its Jobs' names add up to 11
 -- rule: names
 abbrev pub longest_cron : ℕ
 longest_cron = 52
 
--- too long comes before badly formed
+-- why a text is refused, by whether it is too long and whether it is well formed: too long comes
+-- first
 -- rule: name-faults
 abbrev pub cause_of : ℕ → (List ℕ → Bool) → List ℕ → Option Cause
 cause_of limit is_well_formed text =
@@ -48,12 +51,12 @@ cause_of limit is_well_formed text =
     else if is_well_formed text then None
     else Some Format
 
--- why a text is no name of at most so many characters
+-- why a text is no name of at most `limit` characters
 -- rule: name-faults
 abbrev pub name_cause : ℕ → List ℕ → Option Cause
 name_cause limit text = cause_of limit is_subdomain text
 
--- a name of an object
+-- the text is a name of an object
 abbrev pub is_name : List ℕ → Bool
 is_name text = is_none (name_cause longest text)
 

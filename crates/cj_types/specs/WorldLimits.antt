@@ -1,5 +1,4 @@
--- How much is kept of what happened: of the history from its first entry on, and of the events of a watch the
--- latest ones.
+-- How much is kept: of the history the first entries, and of a watch's events the latest.
 use Rattle.std.specs.Prelude.{ℕ}
 
 -- the most entries of a history, 2^24

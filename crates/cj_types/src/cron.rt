@@ -4,7 +4,7 @@ use crate::{CronKey, Deadline, DraftMeta, HistoryLimit, Labels, Meta, Names, Pol
 use cj_base::{Refusal, Same, Seconds, Shared, Text, TryCopy, all_four, all_three};
 use std::alloc::Global;
 
-/// What each Job of a CronJob is made with (batch/v1, `JobTemplateSpec`).
+/// The template for each Job of a CronJob (batch/v1, `JobTemplateSpec`).
 #[derive(Debug)]
 pub struct JobTemplate {
     pub labels: Labels,
@@ -12,7 +12,6 @@ pub struct JobTemplate {
     pub spec: SpecText,
 }
 
-// A function of its own, so that whoever gives one up makes one call and not one for each part.
 impl Drop for JobTemplate {
     fn drop(self) {
         let JobTemplate {
@@ -47,7 +46,7 @@ impl Same for JobTemplate {
     }
 }
 
-/// What a CronJob asks for (batch/v1, `CronJobSpec`).
+/// The desired state of a CronJob (batch/v1, `CronJobSpec`).
 #[derive(Debug)]
 pub struct CronSpec {
     /// The schedule as it was given.
@@ -58,14 +57,13 @@ pub struct CronSpec {
     pub suspend: bool,
     /// How late a Job may still be started, if that is limited.
     pub starting_deadline_seconds: Option<Deadline>,
-    /// How many Jobs that ended with success are kept.
+    /// How many successful Jobs are kept.
     pub successful_limit: HistoryLimit,
     /// How many failed Jobs are kept.
     pub failed_limit: HistoryLimit,
     pub template: JobTemplate,
 }
 
-// A function of its own, so that whoever gives one up makes one call and not one for each part.
 impl Drop for CronSpec {
     fn drop(self) {
         let CronSpec {
@@ -115,7 +113,7 @@ impl Same for CronSpec {
     }
 }
 
-/// What the controller wrote of a CronJob (batch/v1, `CronJobStatus`).
+/// The observed state of a CronJob, which the controller writes (batch/v1, `CronJobStatus`).
 #[derive(Debug)]
 pub struct CronStatus {
     /// The names of the Jobs that run.
@@ -124,7 +122,6 @@ pub struct CronStatus {
     pub last_successful_time: Option<Seconds>,
 }
 
-// A function of its own, so that whoever gives one up makes one call and not one for each part.
 impl Drop for CronStatus {
     fn drop(self) {
         let CronStatus {
@@ -154,17 +151,16 @@ impl Same for CronStatus {
     }
 }
 
-/// A CronJob as it is stored.
+/// A stored CronJob.
 #[derive(Debug)]
 pub struct CronJob {
     pub key: CronKey,
     pub meta: Meta,
-    /// Shared, so that a write that leaves it alone copies none of it.
+    /// Shared, so that a write that doesn't change the spec copies none of it.
     pub spec: Shared<CronSpec>,
     pub status: CronStatus,
 }
 
-// A function of its own, so that whoever gives one up makes one call and not one for each part.
 impl Drop for CronJob {
     fn drop(self) {
         let CronJob {
@@ -240,7 +236,7 @@ impl Same for CronJob {
     }
 }
 
-/// A CronJob as a manifest says it, with the defaults.
+/// A CronJob as a manifest describes it, with defaults filled in.
 #[derive(Debug, Drop)]
 pub struct CronJobDraft {
     pub key: CronKey,

@@ -9,7 +9,8 @@ use cj_base::{Refusal, Same, TryCopy};
 use std::alloc::Global;
 use std::marker::Model;
 
-/// The key of a CronJob, whose name has at most 52 characters, so that the names of its Jobs have at most 63.
+/// The key of a CronJob, whose name has at most 52 characters, so that the names of its Jobs have
+/// at most 63.
 ///
 /// Contracts see what they see of its `Key`.
 #[derive(Debug)]
@@ -17,7 +18,6 @@ pub struct CronKey {
     key: Key,
 }
 
-// A function of its own, so that whoever gives one up makes one call and not one for each part.
 impl Drop for CronKey {
     fn drop(self) {
         let CronKey { key } = self;
@@ -40,8 +40,9 @@ impl Model for CronKey {
 }
 
 impl CronKey {
-    /// The key of these texts, or `Invalid` with the faults of `metadata.name` and `metadata.namespace`, in this order:
-    /// `TooLong` for a name of more than 52 or a namespace of more than 63 characters, else `Format`.
+    /// The key of these texts, or `Invalid` with the faults of `metadata.name` and
+    /// `metadata.namespace`, in this order: `TooLong` for a name of more than 52 or a namespace of
+    /// more than 63 characters, else `Format`.
     pub fn new(alloc: Global, namespace: &str, name: &str) -> Result<CronKey, Refusal>
         ensures ok { IfOk result (λ k. new_key longest_cron namespace.now name.now ≡ Ok k) }
         ensures err { IfErr result (λ e. e ≢ OutOfMemory →

@@ -4,7 +4,7 @@ use crate::{CronJob, Job};
 use cj_base::{Refusal, Same, Shared, TryCopy, Version};
 use std::alloc::Global;
 
-/// An object of either kind, shared with whoever else holds it.
+/// A CronJob or a Job, shared with all other holders of it.
 #[derive(Debug, Drop)]
 pub enum Object {
     Cron(Shared<CronJob>),
@@ -33,7 +33,7 @@ impl Same for Object {
 impl Object {
     ghost use Rattle.cj_types.specs.Events.{object_version};
 
-    /// The version of the write that left the object as it stands.
+    /// The version of the object's latest write.
     pub fn version(&self) -> Version
         ensures { result ≡ object_version self.now }
     {
@@ -44,21 +44,21 @@ impl Object {
     }
 }
 
-/// What a watch tells of one write (Kubernetes, "Efficient detection of changes").
+/// A watch event of one write (Kubernetes, "Efficient detection of changes").
 #[derive(Debug, Drop)]
 pub enum Event {
     /// ADDED: the object as it was created.
     Added(Object),
-    /// MODIFIED: the object as it stands after the write.
+    /// MODIFIED: the object after the write.
     Modified(Object),
-    /// DELETED: the last object, with the version of the deletion.
+    /// DELETED: the object's last state, with the version of the deletion.
     Deleted(Object),
 }
 
 impl Event {
     ghost use Rattle.cj_types.specs.Events.{version_of};
 
-    /// The version of the write that the event tells of.
+    /// The version of the event's write.
     pub fn version(&self) -> Version
         ensures { result ≡ version_of self.now }
     {

@@ -5,7 +5,7 @@ use crate::{DraftMeta, Key, Meta, Outcome, OwnerRefs, SpecText};
 use cj_base::{Refusal, Same, Text, TryCopy, all_four};
 use std::alloc::Global;
 
-/// A Job as it is stored.
+/// A stored Job.
 #[derive(Debug)]
 pub struct Job {
     pub key: Key,
@@ -16,7 +16,6 @@ pub struct Job {
     pub outcome: Option<Outcome>,
 }
 
-// A function of its own, so that whoever gives one up makes one call and not one for each part.
 impl Drop for Job {
     fn drop(self) {
         let Job {
@@ -30,14 +29,15 @@ impl Drop for Job {
 }
 
 impl Job {
-    /// Whether the Job hasn't ended.
+    /// Whether the Job hasn't finished.
     pub fn is_unfinished(&self) -> bool
         ensures { result ≡ is_unfinished self.now }
     {
         self.outcome.is_none()
     }
 
-    /// The name of the CronJob of `batch/v1` that the Job's controller reference names, if it names one.
+    /// The name of the CronJob of `batch/v1` that the Job's controller reference names, if it names
+    /// one.
     pub fn cron_name(&self) -> Option<&Text>
         ensures { option_copied result ≡ cron_of self.now }
     {

@@ -17,16 +17,17 @@ use std::cmp::Ordering;
 use std::hash::{Hash, Hasher};
 use std::marker::Model;
 
-/// Namespace and name of an object, both well formed: a DNS label, and a DNS subdomain of at most 63 characters.
+/// Namespace and name of an object, both well formed: a DNS label, and a DNS subdomain of at most
+/// 63 characters.
 ///
-/// Keys are ordered by the bytes of the namespace, then of the name. Copies share the texts, which contracts see.
+/// Keys are ordered by the bytes of the namespace, then of the name. Copies share the texts, which
+/// contracts see.
 #[derive(Debug)]
 pub struct Key {
     // The namespace, then the name.
     texts: Shared<TextPair>,
 }
 
-// A function of its own, so that whoever gives one up makes one call and not one for each part.
 impl Drop for Key {
     fn drop(self) {
         let Key { texts } = self;
@@ -71,8 +72,8 @@ pub(crate) fn key_faults(
 }
 
 impl Key {
-    /// The key of these texts, or `Invalid` with the faults of `metadata.name` and `metadata.namespace`, in this order:
-    /// `TooLong` for more than 63 characters, else `Format`.
+    /// The key of these texts, or `Invalid` with the faults of `metadata.name` and
+    /// `metadata.namespace`, in this order: `TooLong` for more than 63 characters, else `Format`.
     pub fn new(alloc: Global, namespace: &str, name: &str) -> Result<Key, Refusal>
         ensures ok { IfOk result (λ k. new_key longest namespace.now name.now ≡ Ok k) }
         ensures err { IfErr result (λ e. e ≢ OutOfMemory →

@@ -15,7 +15,6 @@ pub struct Labels {
     items: Vec<(Text, Text)>,
 }
 
-// A function of its own, so that whoever gives one up makes one call and not one for each part.
 impl Drop for Labels {
     fn drop(self) {
         let Labels { items: _ } = self;
@@ -33,7 +32,8 @@ impl Model for Labels {
     ghost invariant = { λ t. IsTrue (is_label_map t.items.items) };
 }
 
-// Whether the name comes after every name: so names that rise, as JSON's members do, are put without a search.
+// Whether the name comes after all others. Names in rising order, as of a JSON object's members,
+// need no search.
 fn comes_last(items: &[(Text, Text)], name: &str) -> bool
     requires sorted { IsTrue (is_label_map items.now) }
     ensures { IsTrue result → (v : List ℕ) → put_label name.now v items.now
@@ -69,7 +69,7 @@ fn find_place(items: &[(Text, Text)], name: &str) -> Result<usize, usize>
 }
 
 impl Labels {
-    /// No entry.
+    /// An empty map.
     pub fn new(alloc: Global) -> Labels
         ensures { result ≡ [] }
     {
@@ -105,7 +105,7 @@ impl Labels {
         None
     }
 
-    /// Puts the value at the name, in place of the one that stood there; unchanged where there is no memory.
+    /// Sets the value of the name, replacing any earlier one; unchanged where there is no memory.
     pub fn put(&mut self, name: Text, value: Text) -> Result<(), Refusal>
         ensures ok { OnOk result (self.new ≡ put_label name value self.old) }
         ensures err { OnErr result (self.new ≡ self.old) }

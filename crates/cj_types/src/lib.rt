@@ -1,8 +1,11 @@
-//! The objects that are stored, what a manifest says of them, and the names that they go by.
+//! The stored objects, the drafts that manifests describe, and their names.
 //!
-//! Here belongs what a CronJob, a Job, a draft or an event is, which names are well formed, and the Job that a CronJob
-//! makes for a time. How objects are read, written and kept belongs to the crates above. They rest on the types, which
-//! keep names and numbers in their forms, on `Key::new` with its faults, and on `CronJob::job_for`.
+//! Here belongs what a CronJob, a Job, a draft (a desired object) or an event is, which names are
+//! well formed, and the Job that a CronJob makes for a time. How objects are read, written and kept
+//! belongs to the crates above. They rest on the types, which keep names and numbers in their
+//! forms, on `Key::new` with its faults, and on `CronJob::job_for`.
+//!
+//! docs/ARCHITECTURE.md has a glossary of house words.
 #![tactic(auto)]
 
 mod cron;
@@ -29,8 +32,8 @@ mod versions;
 mod world_limits;
 
 pub use cj_base::{
-    Cause, Civil, Field, FieldFault, FieldFaults, Heap, Listing, Millis, Refusal, Same,
-    ScheduleCause, ScheduleFault, Seconds, Shared, Text, TryCopy, Version, copy_all, same_all,
+    Cause, Field, FieldFault, FieldFaults, Heap, Listing, Millis, Refusal, Same, Seconds, Shared,
+    Text, TryCopy, Version, copy_all, same_all,
 };
 pub use cron::{CronJob, CronJobDraft, CronSpec, CronStatus, JobTemplate};
 pub use cron_key::CronKey;

@@ -26,7 +26,7 @@ impl Deadline {
     /// The greatest number of seconds.
     pub const LAST: u64 = 9_223_372_036_854_775_807;
 
-    /// So many seconds, where that is at most 2^63-1.
+    /// The deadline of `count` seconds, where that is at most 2^63-1.
     pub fn new(seconds: u64) -> Option<Deadline>
         ensures in_range { IsSome result ↔ (seconds ≤ last_deadline) }
         ensures value { IfSome result (λ d. d ≡ seconds) }
@@ -80,7 +80,7 @@ impl HistoryLimit {
     /// The greatest number of Jobs.
     pub const LAST: u64 = 2_147_483_647;
 
-    /// So many Jobs, where that is at most 2,147,483,647.
+    /// The limit of `count` Jobs, where that is at most 2,147,483,647.
     pub fn new(count: u64) -> Option<HistoryLimit>
         ensures in_range { IsSome result ↔ (count ≤ last_history_limit) }
         ensures value { IfSome result (λ l. l ≡ count) }

@@ -18,8 +18,8 @@ fn job_name(alloc: Global, cron: &str, time: Seconds) -> Result<Text, Refusal>
 }
 
 impl CronKey {
-    /// The key of the CronJob's Job for a scheduled time: in its namespace, with its name, `-`, and the time in whole
-    /// minutes since 1970. This adds at most 11 characters.
+    /// The key of the CronJob's Job for a scheduled time: in its namespace, with its name, `-`, and
+    /// the time in whole minutes since 1970. This adds at most 11 characters.
     pub fn job_key(&self, alloc: Global, time: Seconds) -> Result<Key, Refusal>
         ensures ok { IfOk result (λ k. k ≡ made_place self.now time) }
         ensures err { IfErr result (λ e. e ≡ OutOfMemory) }
@@ -91,9 +91,10 @@ fn meta(alloc: Global, cron: &CronJob, time_text: &str) -> Result<DraftMeta, Ref
 }
 
 impl CronJob {
-    /// The Job that the controller makes for a scheduled time, which is also given as it is printed: of the name that
-    /// `job_key` gives, with the template's labels and spec, its annotations and
-    /// `batch.kubernetes.io/cronjob-scheduled-timestamp`, and the CronJob as its controller.
+    /// The Job that the controller makes for a scheduled time, which is also given as it is
+    /// printed: of the name that `job_key` gives, with the template's labels and spec, its
+    /// annotations and `batch.kubernetes.io/cronjob-scheduled-timestamp`, and the CronJob as its
+    /// controller.
     pub fn job_for(
         &self,
         alloc: Global,

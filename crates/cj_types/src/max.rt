@@ -21,7 +21,7 @@ impl Model for Max {
 }
 
 impl Max {
-    /// At most so many events, where that is 1 to 500.
+    /// At most `count` events, where that is 1 to 500.
     pub fn new(count: u16) -> Option<Max>
         ensures in_range { IsSome result ↔ ((1 ≤ count) × (count ≤ 500)) }
         ensures value { IfSome result (λ m. m ≡ count) }

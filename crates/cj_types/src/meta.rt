@@ -6,13 +6,13 @@ use crate::{Labels, Uid, version_text};
 use cj_base::{Refusal, Same, Seconds, Text, TryCopy, Version, all_four, both};
 use std::alloc::Global;
 
-/// What the store keeps of every object beside its key.
+/// The metadata that the store keeps of every object, except its key.
 #[derive(Debug)]
 pub struct Meta {
     pub uid: Uid,
-    /// The write that left the object as it stands.
+    /// The version of the object's latest write.
     pub version: Version,
-    /// 1 at the creation, one more after each change of the spec.
+    /// 1 at creation; each change of the spec adds 1.
     pub generation: u64,
     /// When the object was created.
     pub created: Seconds,
@@ -20,7 +20,6 @@ pub struct Meta {
     pub annotations: Labels,
 }
 
-// A function of its own, so that whoever gives one up makes one call and not one for each part.
 impl Drop for Meta {
     fn drop(self) {
         let Meta {
@@ -63,7 +62,7 @@ impl Same for Meta {
     }
 }
 
-/// What a manifest says of an object beside its key; uid and version as the texts that it gives, if any.
+/// The metadata in a manifest, except the key; uid and version are the texts that it gives, if any.
 #[derive(Debug, Drop)]
 pub struct DraftMeta {
     pub uid: Option<Text>,
@@ -72,7 +71,7 @@ pub struct DraftMeta {
     pub annotations: Labels,
 }
 
-// Whether the text is the current one, where it was given.
+// Whether the text, where one was given, is the current one.
 fn says(given: &Option<Text>, current: &Text) -> bool
     ensures { result ≡ says given.now current.now }
 {
@@ -83,7 +82,7 @@ fn says(given: &Option<Text>, current: &Text) -> bool
 }
 
 impl DraftMeta {
-    /// Whether the uid and the version are those of the standing object, where they were given.
+    /// Whether the uid and the version, where they were given, are those of the stored object.
     pub fn is_current(&self, alloc: Global, meta: &Meta) -> Result<bool, Refusal>
         ensures ok { IfOk result (λ b. b ≡ is_current self.now meta.now) }
         ensures err { IfErr result (λ e. e ≡ OutOfMemory) }

@@ -12,7 +12,6 @@ pub struct Names {
     items: Vec<ObjectName>,
 }
 
-// A function of its own, so that whoever gives one up makes one call and not one for each part.
 impl Drop for Names {
     fn drop(self) {
         let Names { items: _ } = self;
@@ -28,7 +27,7 @@ impl Model for Names {
 }
 
 impl Names {
-    /// No name.
+    /// An empty list.
     pub fn new(alloc: Global) -> Names
         ensures { result ≡ [] }
     {
@@ -44,7 +43,7 @@ impl Names {
         self.items.as_slice()
     }
 
-    /// One name more, at the end; unchanged where there is no memory.
+    /// Appends a name; unchanged where there is no memory.
     pub fn push(&mut self, name: ObjectName) -> Result<(), Refusal>
         ensures ok { OnOk result (self.new ≡ self.old ++ name ∷ []) }
         ensures err { OnErr result (self.new ≡ self.old) }

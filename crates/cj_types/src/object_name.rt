@@ -14,7 +14,6 @@ pub struct ObjectName {
     text: Text,
 }
 
-// A function of its own, so that whoever gives one up makes one call and not one for each part.
 impl Drop for ObjectName {
     fn drop(self) {
         let ObjectName { text } = self;
@@ -34,8 +33,8 @@ impl Model for ObjectName {
 }
 
 impl ObjectName {
-    /// The name of this text, or `Invalid` with the fault of `metadata.name`: `TooLong` for more than 63
-    /// characters, else `Format`.
+    /// The name of this text, or `Invalid` with the fault of `metadata.name`: `TooLong` for more
+    /// than 63 characters, else `Format`.
     pub fn new(alloc: Global, text: &str) -> Result<ObjectName, Refusal>
         ensures ok { IfOk result (λ n. new_name text.now ≡ Ok n) }
         ensures err { IfErr result (λ e. e ≢ OutOfMemory → new_name text.now ≡ Err e) }
@@ -58,7 +57,7 @@ impl ObjectName {
         Ok(ObjectName { text })
     }
 
-    /// Its bytes.
+    /// The bytes of the name.
     pub fn as_str(&self) -> &str
         ensures value { result.now ≡ self.now }
         ensures well_formed { IsTrue (is_name self.now) }

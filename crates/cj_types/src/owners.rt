@@ -19,7 +19,6 @@ pub struct OwnerRef {
     pub block_owner_deletion: bool,
 }
 
-// A function of its own, so that whoever gives one up makes one call and not one for each part.
 impl Drop for OwnerRef {
     fn drop(self) {
         let OwnerRef {
@@ -80,7 +79,6 @@ pub struct OwnerRefs {
     items: Vec<OwnerRef>,
 }
 
-// A function of its own, so that whoever gives one up makes one call and not one for each part.
 impl Drop for OwnerRefs {
     fn drop(self) {
         let OwnerRefs { items: _ } = self;
@@ -97,7 +95,7 @@ impl Model for OwnerRefs {
 }
 
 impl OwnerRefs {
-    /// No owner.
+    /// An empty list.
     pub fn new(alloc: Global) -> OwnerRefs
         ensures { result ≡ [] }
     {
@@ -113,7 +111,7 @@ impl OwnerRefs {
         self.items.as_slice()
     }
 
-    /// One reference more, at the end; unchanged where there is no memory.
+    /// Appends a reference; unchanged where there is no memory.
     pub fn push(&mut self, owner: OwnerRef) -> Result<(), Refusal>
         ensures ok { OnOk result (self.new ≡ self.old ++ owner ∷ []) }
         ensures err { OnErr result (self.new ≡ self.old) }

@@ -3,7 +3,7 @@ ghost use Rattle.cj_types.specs.Printed.{policy_name, reason_name};
 
 use cj_base::{Same, Seconds};
 
-/// What becomes of a new Job of a CronJob while an earlier one runs (batch/v1, `concurrencyPolicy`).
+/// How a CronJob treats a new Job while an earlier one runs (batch/v1, `concurrencyPolicy`).
 #[derive(Clone, Copy, Debug, PartialEq, Eq)]
 pub enum Policy {
     /// Both run.
@@ -30,9 +30,9 @@ impl Policy {
 /// How a Job ended.
 #[derive(Clone, Copy, Debug, PartialEq, Eq)]
 pub enum Outcome {
-    /// With success, at this time.
+    /// It succeeded, at this time.
     Complete(Seconds),
-    /// Without; no time is kept.
+    /// It failed; no time is kept.
     Failed,
 }
 
@@ -56,7 +56,7 @@ pub enum Reason {
 }
 
 impl Reason {
-    /// The reason as it is written.
+    /// The printed name of the reason.
     pub fn name(self) -> &'static str
         ensures { result.now ≡ reason_name self }
     {

@@ -12,7 +12,6 @@ pub struct Reasons {
     items: Vec<Reason>,
 }
 
-// A function of its own, so that whoever gives one up makes one call and not one for each part.
 impl Drop for Reasons {
     fn drop(self) {
         let Reasons { items: _ } = self;
@@ -29,7 +28,7 @@ impl Model for Reasons {
 }
 
 impl Reasons {
-    /// No reason.
+    /// An empty list.
     pub fn new(alloc: Global) -> Reasons
         ensures { result ≡ [] }
     {
@@ -45,7 +44,7 @@ impl Reasons {
         self.items.as_slice()
     }
 
-    /// One reason more, at the end; unchanged where there is no memory.
+    /// Appends a reason; unchanged where there is no memory.
     pub fn push(&mut self, reason: Reason) -> Result<(), Refusal>
         ensures ok { OnOk result (self.new ≡ self.old ++ reason ∷ []) }
         ensures err { OnErr result (self.new ≡ self.old) }

@@ -5,8 +5,8 @@ use cj_base::{Refusal, Same, Shared, Text, TryCopy};
 use std::alloc::Global;
 use std::marker::Model;
 
-/// The `spec` of a Job, kept as the compact text of its JSON value: two specs are equal where these texts are.
-/// Copies share the text.
+/// The `spec` of a Job, kept as the compact text of its JSON value: two specs are equal where these
+/// texts are. Copies share the text.
 ///
 /// Contracts see the bytes of the text.
 #[derive(Debug)]
@@ -14,7 +14,6 @@ pub struct SpecText {
     text: Shared<Text>,
 }
 
-// A function of its own, so that whoever gives one up makes one call and not one for each part.
 impl Drop for SpecText {
     fn drop(self) {
         let SpecText { text } = self;
@@ -40,7 +39,7 @@ impl SpecText {
         Ok(SpecText { text })
     }
 
-    /// Its text.
+    /// The text of the spec.
     pub fn as_str(&self) -> &str
         ensures { result.now ≡ self.now }
     {

@@ -13,7 +13,6 @@ pub(crate) struct TextPair {
     split: usize,
 }
 
-// A function of its own, so that whoever gives one up makes one call and not one for each part.
 impl Drop for TextPair {
     fn drop(self) {
         let TextPair { text: _, split: _ } = self;
@@ -30,7 +29,7 @@ impl Model for TextPair {
     ghost invariant = { λ p. IsCharBoundary (string_bytes p.text) p.split };
 }
 
-// The texts one behind the other, in memory of just their size.
+// The second text appended to the first, in memory of just their size.
 fn joined(alloc: Global, first: &str, second: &str) -> Result<String, AllocError>
     ensures bytes { IfOk result (λ t. string_bytes t ≡ first.now ++ second.now) }
     ensures seam { IfOk result (λ t. IsCharBoundary (string_bytes t) (length first.now)) }

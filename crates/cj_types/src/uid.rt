@@ -7,7 +7,8 @@ use cj_base::{Refusal, Text};
 use std::alloc::Global;
 use std::marker::Model;
 
-/// What tells one object from every other that ever stood: the count of creations up to its own, from 1 to 2^40.
+/// Identifies an object among all that were ever created: the count of creations up to its own,
+/// from 1 to 2^40.
 ///
 /// Contracts see the count.
 #[derive(Clone, Copy, Debug, PartialEq, Eq, PartialOrd, Ord, Hash)]
@@ -49,7 +50,8 @@ impl Uid {
         self.count
     }
 
-    /// The text of a UUID that ends in the count: `00000000-0000-0000-0000-` and twelve lower-case hexadecimal digits.
+    /// The text of a UUID that ends in the count: `00000000-0000-0000-0000-` and twelve lower-case
+    /// hexadecimal digits.
     pub fn text(self, alloc: Global) -> Result<Text, Refusal>
         ensures ok { IfOk result (λ t. t ≡ uid_text self) }
         ensures err { IfErr result (λ e. e ≡ OutOfMemory) }
@@ -59,7 +61,7 @@ impl Uid {
         Ok(Text::from_string(text))
     }
 
-    /// Whether this is the uid's text; it takes no memory.
+    /// Whether this is the uid's text. The test takes no memory.
     pub fn has_text(self, text: &str) -> bool
         ensures { result ≡ bytes_eq text.now (uid_text self) }
     {

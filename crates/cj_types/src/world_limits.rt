@@ -3,8 +3,8 @@ ghost use Rattle.cj_types.specs.WorldLimits.{Kept, kept, last_history, last_wind
 
 use std::marker::Model;
 
-/// How much is kept of what happened: at most so many entries of the history, from 1 to 16,777,216, and so many of the
-/// latest events, from 1 to 100,000.
+/// How much is kept: the most entries of the history, from 1 to 16,777,216, and the number of
+/// latest events in the watch window, from 1 to 100,000.
 ///
 /// Contracts see the two numbers.
 #[derive(Clone, Copy, Debug, PartialEq, Eq, Hash)]
@@ -31,7 +31,7 @@ impl Limits {
     /// The most events of a window.
     pub const LAST_WINDOW: u32 = 100_000;
 
-    /// So many entries and so many events, where these are 1 to 16,777,216 and 1 to 100,000.
+    /// The limits with these two numbers, where they are 1 to 16,777,216 and 1 to 100,000.
     pub fn new(history: u32, window: u32) -> Option<Limits>
         ensures in_range { IsSome result ↔ ((1 ≤ history) × (history ≤ last_history) × (1 ≤ window)
             × (window ≤ last_window)) }

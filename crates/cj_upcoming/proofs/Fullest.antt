@@ -62,6 +62,7 @@ first_are_peaks most minutes all same order long = record {
   same = subst (λ xs. IsPermutation minutes xs) (sym (take-append-drop most all)) same;
   size = length-take most all ∙ ap (min most) long;
   greatest = all_in (λ p. All (λ r. r.count ≤ p.count) (drop most all)) (take most all) (λ p first.
-      all_in (λ r. r.count ≤ p.count) (drop most all) (λ r rest. no_more r p (none_fuller most all order p r first rest)));
+      all_in (λ r. r.count ≤ p.count) (drop most all)
+      (λ r rest. no_more r p (none_fuller most all order p r first rest)));
   order = rising_take most all order;
 }

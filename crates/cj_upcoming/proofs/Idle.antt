@@ -10,7 +10,8 @@ use Rattle.cj_upcoming.proofs.Places.{rest_at, past_end}
 
 -- what is told from a place on makes, behind the text so far, all that is told
 pub record Tells (zones : List Zone) (from : ℕ) (crons : List ClusterCron) (i : ℕ) (text : List Data) : Type 0 where
-  pub goes_on : (rest : List Data) → AreStandingData zones from (drop i crons) rest → AreStandingData zones from crons (text ++ rest)
+  pub goes_on : (rest : List Data) → AreStandingData zones from (drop i crons) rest
+      → AreStandingData zones from crons (text ++ rest)
 
 module _ (zones : List Zone) (from : ℕ) (crons : List ClusterCron) where
   -- At the beginning all is still to be told.
@@ -20,7 +21,8 @@ module _ (zones : List Zone) (from : ℕ) (crons : List ClusterCron) where
   -- With what is told of the CronJob at a place the rest is told from the next place on.
   pub tells_step : (i : ℕ) (c : ClusterCron) (standing : Standing) (old new : List Data) → i < length crons
       → c ≡ get_or crons i c → IsStanding zones from c.cron.spec standing
-      → new ≡ old ++ standing_data standing c.cron.key → Tells zones from crons i old → Tells zones from crons (i + 1) new
+      → new ≡ old ++ standing_data standing c.cron.key → Tells zones from crons i old
+      → Tells zones from crons (i + 1) new
   tells_step i c standing old new inside at is grown tells = record {
     goes_on = λ rest h.
         let here : AreStandingData zones from (c ∷ drop (i + 1) crons) (standing_data standing c.cron.key ++ rest) =

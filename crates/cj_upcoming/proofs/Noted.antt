@@ -65,7 +65,10 @@ module _ (zones : List Zone) (w : Span) (crons : List ClusterCron) where
   at_place place c s at is h =
       let same : Some h.cron ≡ Some c = sym h.there ∙ ap (λ n. slice_get crons n) is ∙ at in
       let one : h.cron ≡ c = cc same in
-      record { at_place = is; at_time = subst (λ (x : ClusterCron). IsStartAt zones w x.cron.spec s.time) one h.at_time }
+      record {
+        at_place = is;
+        at_time = subst (λ (x : ClusterCron). IsStartAt zones w x.cron.spec s.time) one h.at_time;
+      }
 
   -- With those of the CronJob at a place, those before the next place are noted.
   pub starts_step : (place : ℕ) (x : ClusterCron) (a b c : BTreeSet Start) → slice_get crons place ≡ Some x

@@ -31,12 +31,19 @@ module _ (zones : List Zone) (w : Span) (place : ℕ) (spec : CronSpec) where
       (λ s h. absurd (cc (sym none ∙ h.at_time.clock.in_zone)))
 
   module _ (t : Sets) (z : Zone) (runs : spec.suspend ≡ false) (reads : IsSchedule spec.schedule t)
-      (only : (u : Sets) → IsSchedule spec.schedule u → Some t ≡ Some u) (in_zone : zone_for spec.time_zone zones ≡ Some z) where
+      (only : (u : Sets) → IsSchedule spec.schedule u
+      → Some t ≡ Some u) (in_zone : zone_for spec.time_zone zones ≡ Some z) where
     -- A due time of the schedule in the zone is a start.
     to_start : (s : Start) → IsTimeAt w t z place s → IsStartOf zones w place spec s
     to_start s h = record {
       at_place = h.at_place;
-      at_time = record { runs = runs; schedule = t; zone = z; clock = record { reads = reads; in_zone = in_zone }; due_in = h.due_in };
+      at_time = record {
+        runs = runs;
+        schedule = t;
+        zone = z;
+        clock = record { reads = reads; in_zone = in_zone };
+        due_in = h.due_in;
+      };
     }
 
     -- A start is at a due time of the schedule in the zone.

@@ -36,7 +36,8 @@ flipped o = record {
 
 -- Minutes are in a total order, by their counts and then by their places.
 pub minutes_total : IsTotalOrder fuller_cmp
-minutes_total = then_total (flipped (on_total (λ (m : Minute). m.count) nat_cmp_total)) (on_total (λ (m : Minute). m.first) nat_cmp_total)
+minutes_total = then_total (flipped (on_total (λ (m : Minute). m.count) nat_cmp_total))
+    (on_total (λ (m : Minute). m.first) nat_cmp_total)
 
 -- So they can be sorted.
 pub minutes_rank : IsStrictWeakOrder is_fuller

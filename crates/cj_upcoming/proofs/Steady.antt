@@ -1,4 +1,4 @@
--- The instants at which a clock is put, stretch by stretch.
+-- The instants at which a clock is put, interval by interval.
 use Rattle.std.proofs.Common.{◌≡◌, ◌<◌, ◌≤◌, ◌+◌, ◌-◌, ℕ, ℤ, false, not, cond, [], ◌∷◌, ◌++◌, sym, ap, ◌∙◌, arith}
 use Rattle.std.specs.List.{range_with_len, filter}
 use Rattle.std.specs.Ordering.{int_eq}
@@ -48,4 +48,5 @@ changes_step z at same last low high steady =
     ∙ ap (λ n. filter (is_change z) (range_with_len n (last - same))) place
     ∙ ap (λ n. filter (is_change z) (range_with_len (same + 1) n)) count
     ∙ filter_step (is_change z) (same + 1) (last + 1) (omega arith)
-    ∙ ap (λ n. cond (is_change z (same + 1)) ((same + 1) ∷ []) [] ++ filter (is_change z) (range_with_len (same + 1 + 1) n)) rest
+    ∙ ap (λ n. cond (is_change z (same + 1)) ((same + 1) ∷ []) []
+    ++ filter (is_change z) (range_with_len (same + 1 + 1) n)) rest

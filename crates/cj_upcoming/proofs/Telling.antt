@@ -8,7 +8,8 @@ use Rattle.cj_upcoming.proofs.Places.{rest_at, past_end}
 
 -- what is told from a place on makes, behind the text so far, all that is told
 pub record Leads (zones : List Zone) (from : ℕ) (crons : List ClusterCron) (i : ℕ) (text : List ℕ) : Type 0 where
-  pub goes_on : (rest : List ℕ) → AreStandings zones from (drop i crons) rest → AreStandings zones from crons (text ++ rest)
+  pub goes_on : (rest : List ℕ) → AreStandings zones from (drop i crons) rest
+      → AreStandings zones from crons (text ++ rest)
 
 module _ (zones : List Zone) (from : ℕ) (crons : List ClusterCron) where
   -- At the beginning all is still to be told.
@@ -18,7 +19,8 @@ module _ (zones : List Zone) (from : ℕ) (crons : List ClusterCron) where
   -- With the line of the CronJob at a place the rest is told from the next place on.
   pub leads_step : (i : ℕ) (c : ClusterCron) (standing : Standing) (old new : List ℕ) → i < length crons
       → c ≡ get_or crons i c → IsStanding zones from c.cron.spec standing
-      → new ≡ old ++ standing_line standing c.cron.key → Leads zones from crons i old → Leads zones from crons (i + 1) new
+      → new ≡ old ++ standing_line standing c.cron.key → Leads zones from crons i old
+      → Leads zones from crons (i + 1) new
   leads_step i c standing old new inside at is grown leads = record {
     goes_on = λ rest h.
         let here : AreStandings zones from (c ∷ drop (i + 1) crons) (standing_line standing c.cron.key ++ rest) =

@@ -9,7 +9,8 @@ use Rattle.cj_upcoming.proofs.Members.{IsIn, all_in}
 -- Each minute ends before a place at which all of them end.
 ends_by : (time first count end : ℕ) (ss : List Start) (m : Minute) → first + count + length ss ≡ end
     → IsIn m (minutes_from time first count ss) → m.first + m.count ≤ end
-ends_by time first count end [] m e (inl is) = subst (λ (x : Minute). x.first + x.count ≤ end) (sym is) (omega (arith, e))
+ends_by time first count end [] m e (inl is) =
+    subst (λ (x : Minute). x.first + x.count ≤ end) (sym is) (omega (arith, e))
 ends_by time first count end [] m e (inr none) = absurd none
 ends_by time first count end (s ∷ ss) m e h =
     by (s.time == time) (λ k. ends_by time first (count + 1) end ss m (omega (arith, e)) k)

@@ -20,13 +20,15 @@ changes z after last = filter (is_change z) (range_with_len (after + 1) (last - 
 
 -- put forward it skips local times, put back it shows some twice
 abbrev pub change_word : Zone → ℕ → List ℕ
-change_word z t = if int_lt (zone_offset z (t - 1)) (zone_offset z t) then codes "skips" else codes "repeats"
+change_word z t =
+    if int_lt (zone_offset z (t - 1)) (zone_offset z t) then codes "skips" else codes "repeats"
 
 -- `skips ZONE LOCAL LOCAL TIME`: what the clock shows just before and then, and when that is
 -- rule: clock-changes
 abbrev pub change_line : Zone → ℕ → List ℕ
 change_line z t =
-    change_word z t ++ (codes " " ++ (z.name ++ (codes " " ++ (civil_text (civil_at z (t - 1)) ++ (codes " "
+    change_word z t
+    ++ (codes " " ++ (z.name ++ (codes " " ++ (civil_text (civil_at z (t - 1)) ++ (codes " "
     ++ (civil_text (civil_at z t) ++ (codes " " ++ (time_text_of t ++ codes "\n"))))))))
 
 abbrev pub change_lines : Zone → List ℕ → List ℕ

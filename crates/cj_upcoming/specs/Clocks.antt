@@ -14,7 +14,8 @@ clock hour minute = two hour ++ (codes ":" ++ two minute)
 -- rule: local-text
 abbrev pub civil_text : Civil → List ℕ
 civil_text c =
-    decimal (unsigned_abs c.year) ++ (codes "-" ++ (two c.month ++ (codes "-" ++ (two c.day ++ (codes "T"
+    decimal (unsigned_abs c.year)
+    ++ (codes "-" ++ (two c.month ++ (codes "-" ++ (two c.day ++ (codes "T"
     ++ clock c.hour c.minute)))))
 
 abbrev pub sign : ℤ → List ℕ
@@ -35,7 +36,7 @@ offset_text offset =
 abbrev pub days_text : ℕ → List ℕ
 days_text days = if days == 0 then [] else decimal days ++ codes "d "
 
--- `1d 02:30` of so many seconds, with seconds where there are some
+-- `1d 02:30` of a number of seconds, with seconds where there are some
 -- rule: describe-times
 abbrev pub span_text : ℕ → List ℕ
 span_text n =

@@ -23,7 +23,8 @@ abbrev pub step_lines : Zone → ℕ → ℕ → ℕ → List ℕ
 step_lines z start after t = change_lines z (changes z after t) ++ time_line z start t
 
 -- the least due time after one, and the rest of the text, which goes on from it
-pub record GoesOn (s : Sets) (z : Zone) (start after : ℕ) (text : List ℕ) (Rest : ℕ → List ℕ → Type 0) : Type 0 where
+pub record GoesOn (s : Sets) (z : Zone) (start after : ℕ) (text : List ℕ)
+    (Rest : ℕ → List ℕ → Type 0) : Type 0 where
   pub t : ℕ
   pub rest : List ℕ
   pub least : IsLeastDue s z after (after + reach) t
@@ -38,7 +39,7 @@ pub record Ends (s : Sets) (z : Zone) (after : ℕ) (text : List ℕ) : Type 0 w
   pub quiet : IsQuiet s z after (after + reach)
   pub says : text ≡ none_line
 
--- so many due times, each the least one after the one before, or an end where there is none
+-- that number of due times, each the least one after the one before, or an end where there is none
 -- rule: describe-times
 abbrev pub AreComing : Sets → Zone → ℕ → ℕ → ℕ → List ℕ → Type 0
 AreComing s z start after zero text = text ≡ []

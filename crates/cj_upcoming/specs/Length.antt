@@ -12,16 +12,18 @@ number_of n (b ∷ bs) =
 -- rule: upcoming-length
 abbrev pub unit_seconds : ℕ → Option ℕ
 unit_seconds b =
-    if b == 109 then Some 60 else (if b == 104 then Some 3_600 else (if b == 100 then Some 86_400 else None))
+    if b == 109 then Some 60 else (if b == 104 then Some 3_600 else
+    (if b == 100 then Some 86_400 else None))
 
 abbrev pub times : Option ℕ → Option ℕ → Option ℕ
 times (Some n) (Some m) = Some (n * m)
 times (Some n) None = None
 times None m = None
 
--- so many of a unit
+-- a number of a unit
 abbrev pub measure : List ℕ → ℕ → Option ℕ
-measure digits unit = if length digits == 0 then None else times (number_of 0 digits) (unit_seconds unit)
+measure digits unit =
+    if length digits == 0 then None else times (number_of 0 digits) (unit_seconds unit)
 
 -- of a text, read from its end
 abbrev pub length_by : List ℕ → Option ℕ

@@ -1,4 +1,5 @@
--- Lists of numbers as people tell them: runs of numbers that follow one another, joined by commas and `and`.
+-- Lists of numbers as people tell them: runs of numbers that follow one another, joined by commas
+-- and `and`.
 use Rattle.std.specs.Prelude.{ℕ, ◌+◌, ◌==◌, Bool, true, false, List, [], ◌∷◌, ◌++◌, length, codes, if◌then◌else◌}
 use Rattle.cj_upcoming.specs.declared.part.Part.{Part}
 use Rattle.cj_upcoming.specs.Parts.{name}
@@ -13,7 +14,8 @@ run_words part first last =
 abbrev pub runs_from : Part → ℕ → ℕ → List ℕ → List (List ℕ)
 runs_from part first last [] = run_words part first last ∷ []
 runs_from part first last (n ∷ ns) =
-    if n == last + 1 then runs_from part first n ns else run_words part first last ∷ runs_from part n n ns
+    if n == last + 1 then runs_from part first n ns else run_words part first last
+    ∷ runs_from part n n ns
 
 abbrev pub runs : Part → List ℕ → List (List ℕ)
 runs part [] = []

@@ -7,11 +7,11 @@ use Rattle.cj_status.specs.Order.{IsRising}
 use Rattle.cj_upcoming.specs.declared.start.Start.{Start}
 use Rattle.cj_upcoming.specs.declared.minute.Minute.{Minute}
 
--- so many starts of one time, from a place of the list on
+-- a number of starts of one time, from a place of the list on
 abbrev pub minute : ℕ → ℕ → ℕ → Minute
 minute time first count = record { time = time; first = first; count = count }
 
--- the minutes of starts in order, of the first of which so many were counted before these
+-- the minutes of starts in order, of the first of which that number were counted before these
 abbrev pub minutes_from : ℕ → ℕ → ℕ → List Start → List Minute
 minutes_from time first count [] = minute time first count ∷ []
 minutes_from time first count (s ∷ ss) =
@@ -36,7 +36,8 @@ fuller_cmp = then_cmp (λ a b. nat_cmp b.count a.count) (on (λ m. m.first) nat_
 abbrev pub is_fuller : Minute → Minute → Bool
 is_fuller a b = is_lt (fuller_cmp a b)
 
--- so many of the minutes, or all where they are fewer, the fullest first; no other has more starts than one of them
+-- that number of the minutes, or all where they are fewer, the fullest first; no other has more
+-- starts than one of them
 -- rule: upcoming-peaks
 pub record IsPeaks (most : ℕ) (minutes peaks : List Minute) : Type 0 where
   pub rest : List Minute

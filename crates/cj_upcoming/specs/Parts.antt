@@ -21,7 +21,8 @@ count Days = 31
 count Months = 12
 count Weekdays = 7
 
--- the schedule has the number; a week begins with Monday, its day 1, and ends with Sunday, its day 7 (ISO 8601)
+-- the schedule has the number; a week begins with Monday, its day 1, and ends with Sunday, its day
+-- 7 (ISO 8601)
 -- rule: describe-parts
 abbrev pub allows : Sets → Part → ℕ → Bool
 allows s Minutes n = has s.minutes n
@@ -37,14 +38,19 @@ numbers s part = filter (allows s part) (range_with_len (first part) (count part
 
 unfoldable pub month_name : ℕ → List ℕ
 month_name n =
-    if n == 1 then codes "January" else (if n == 2 then codes "February" else (if n == 3 then codes "March"
-    else (if n == 4 then codes "April" else (if n == 5 then codes "May" else (if n == 6 then codes "June"
-    else (if n == 7 then codes "July" else (if n == 8 then codes "August" else (if n == 9 then codes "September"
-    else (if n == 10 then codes "October" else (if n == 11 then codes "November" else codes "December"))))))))))
+    if n == 1 then codes "January" else (if n == 2 then codes "February" else
+    (if n == 3 then codes "March"
+    else (if n == 4 then codes "April" else
+    (if n == 5 then codes "May" else (if n == 6 then codes "June"
+    else (if n == 7 then codes "July" else
+    (if n == 8 then codes "August" else (if n == 9 then codes "September"
+    else (if n == 10 then codes "October" else
+    (if n == 11 then codes "November" else codes "December"))))))))))
 
 unfoldable pub day_name : ℕ → List ℕ
 day_name n =
-    if n == 1 then codes "Monday" else (if n == 2 then codes "Tuesday" else (if n == 3 then codes "Wednesday"
+    if n == 1 then codes "Monday" else (if n == 2 then codes "Tuesday" else
+    (if n == 3 then codes "Wednesday"
     else (if n == 4 then codes "Thursday" else (if n == 5 then codes "Friday"
     else (if n == 6 then codes "Saturday" else codes "Sunday")))))
 

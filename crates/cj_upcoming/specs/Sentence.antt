@@ -1,5 +1,5 @@
--- A schedule in a sentence, by its five sets (POSIX.1-2017, crontab; Kubernetes CronJob documentation, "Schedule
--- syntax").
+-- A schedule in a sentence, by its five sets (POSIX.1-2017, crontab; Kubernetes CronJob
+-- documentation, "Schedule syntax").
 use Rattle.std.specs.Prelude.{ℕ, ◌+◌, ◌==◌, ◌&&◌, ◌||◌, Bool, true, false, List, [], ◌∷◌, ◌++◌, Option, Some, None, length, codes, decimal, if◌then◌else◌}
 use Rattle.cj_schedule.specs.Matches.{Sets}
 use Rattle.cj_upcoming.specs.declared.part.Part.TheVariants.{Minutes, Hours, Days, Months, Weekdays}
@@ -37,12 +37,13 @@ of_hours hs =
     if length hs == 24 then codes " of every hour"
     else codes " of " ++ (noun (codes "hour") hs ++ (codes " " ++ list_words Hours hs))
 
--- the same, where nothing has to be said of every hour
+-- the words of the time, where nothing has to be said of every hour
 abbrev pub in_hours : List ℕ → List ℕ
 in_hours hs = if length hs == 24 then [] else of_hours hs
 
 abbrev pub every : ℕ → List ℕ
-every step = if step == 1 then codes "Every minute" else codes "Every " ++ (decimal step ++ codes " minutes")
+every step =
+    if step == 1 then codes "Every minute" else codes "Every " ++ (decimal step ++ codes " minutes")
 
 abbrev pub clocks : ℕ → List ℕ → List (List ℕ)
 clocks minute [] = []
@@ -71,7 +72,8 @@ time_words ms hs = time_by (single ms) ms hs
 
 -- `on day 1 of the month`
 abbrev pub on_days : List ℕ → List ℕ
-on_days ds = codes "on " ++ (noun (codes "day") ds ++ (codes " " ++ (list_words Days ds ++ codes " of the month")))
+on_days ds = codes "on "
+    ++ (noun (codes "day") ds ++ (codes " " ++ (list_words Days ds ++ codes " of the month")))
 
 abbrev pub on_weekdays : List ℕ → List ℕ
 on_weekdays ws = codes "on " ++ list_words Weekdays ws
@@ -101,7 +103,8 @@ is_open s = s.day_open || s.weekday_open
 abbrev pub date_words : Sets → List ℕ
 date_words s =
     time_words (numbers s Minutes) (numbers s Hours)
-    ++ (day_words (is_open s) (numbers s Days) (numbers s Weekdays) ++ month_words (numbers s Months))
+    ++ (day_words (is_open s) (numbers s Days) (numbers s Weekdays)
+    ++ month_words (numbers s Months))
 
 abbrev pub words_where : Bool → Sets → List ℕ
 words_where true s = date_words s

@@ -47,7 +47,8 @@ IsStanding zones from spec Unread = IsUnread zones spec
 abbrev pub key_text : Place → List ℕ
 key_text key = key.namespace ++ (codes "/" ++ key.name)
 
--- `suspended NAMESPACE/NAME`, `never NAMESPACE/NAME`, `unread NAMESPACE/NAME`; nothing of one that comes
+-- `suspended NAMESPACE/NAME`, `never NAMESPACE/NAME`, `unread NAMESPACE/NAME`; nothing of one that
+-- comes
 -- rules: upcoming-suspended, upcoming-never
 abbrev pub standing_line : Standing → Place → List ℕ
 standing_line Comes key = []
@@ -55,8 +56,9 @@ standing_line Suspended key = codes "suspended " ++ (key_text key ++ codes "\n")
 standing_line Never key = codes "never " ++ (key_text key ++ codes "\n")
 standing_line Unread key = codes "unread " ++ (key_text key ++ codes "\n")
 
--- what is told of one CronJob, and the rest of the text of those behind it
-pub record Tells (zones : List Zone) (from : ℕ) (c : ClusterCron) (text : List ℕ) (Rest : List ℕ → Type 0) : Type 0 where
+-- the line of one CronJob, and the rest of the text of those behind it
+pub record Tells (zones : List Zone) (from : ℕ) (c : ClusterCron) (text : List ℕ)
+    (Rest : List ℕ → Type 0) : Type 0 where
   pub standing : Standing
   pub is : IsStanding zones from c.cron.spec standing
   pub rest : List ℕ

@@ -1,5 +1,5 @@
--- When something starts in a window: Kubernetes CronJob documentation, "Schedule syntax", "Time zones" and "Schedule
--- suspension".
+-- When something starts in a window: Kubernetes CronJob documentation, "Schedule syntax", "Time
+-- zones" and "Schedule suspension".
 use Rattle.std.specs.Prelude.{◌≡◌, ℕ, true, false, List, Option, Some, None, codes}
 use Rattle.std.specs.declared.cmp.Ordering.{Ordering}
 use Rattle.std.specs.Cmp.{IsTotalOrder, on_total, then_total, nat_cmp_total}
@@ -19,7 +19,8 @@ abbrev pub start_cmp : Start → Start → Ordering
 start_cmp = then_cmp (on (λ s. s.time) nat_cmp) (on (λ s. s.cron) nat_cmp)
 
 pub starts_total : IsTotalOrder start_cmp
-starts_total = then_total (on_total (λ s. s.time) nat_cmp_total) (on_total (λ s. s.cron) nat_cmp_total)
+starts_total =
+    then_total (on_total (λ s. s.time) nat_cmp_total) (on_total (λ s. s.cron) nat_cmp_total)
 
 -- the zone of a name, if one has it, and UTC where there is no name
 abbrev pub zone_for : Option (List ℕ) → List Zone → Option Zone
@@ -27,7 +28,8 @@ zone_for None zones = Some (utc_zone (codes "UTC"))
 zone_for (Some name) zones = zone_named name zones
 
 -- the schedule that a CronJob's text is, in the zone that it names
-pub record HasClock (zones : List Zone) (spec : CronSpec) (schedule : Sets) (zone : Zone) : Type 0 where
+pub record HasClock (zones : List Zone) (spec : CronSpec) (schedule : Sets) (zone : Zone)
+    : Type 0 where
   pub reads : IsSchedule spec.schedule schedule
   pub in_zone : zone_for spec.time_zone zones ≡ Some zone
 
@@ -46,6 +48,7 @@ pub record IsStartAt (zones : List Zone) (w : Span) (spec : CronSpec) (t : ℕ) 
   pub due_in : IsDueIn w schedule zone t
 
 -- that of the CronJob at a place
-pub record IsStartOf (zones : List Zone) (w : Span) (place : ℕ) (spec : CronSpec) (s : Start) : Type 0 where
+pub record IsStartOf (zones : List Zone) (w : Span) (place : ℕ) (spec : CronSpec) (s : Start)
+    : Type 0 where
   pub at_place : s.cron ≡ place
   pub at_time : IsStartAt zones w spec s.time

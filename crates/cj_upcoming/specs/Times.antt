@@ -20,6 +20,7 @@ abbrev pub IsDueNone : Sets → Zone → ℕ → Type 0
 IsDueNone s z from = (t : ℕ) → from ≤ t → t ≤ from + reach → due s z t ≡ false
 
 -- a due instant of the window, of the CronJob at a place
-pub record IsTimeAt (w : Span) (schedule : Sets) (zone : Zone) (place : ℕ) (s : Start) : Type 0 where
+pub record IsTimeAt (w : Span) (schedule : Sets) (zone : Zone) (place : ℕ) (s : Start)
+    : Type 0 where
   pub at_place : s.cron ≡ place
   pub due_in : IsDueIn w schedule zone s.time

@@ -15,7 +15,8 @@ fresh seen (Some name) = if list_any (λ n. bytes_eq n name) seen then [] else n
 -- the names that CronJobs name, each once, behind those before
 abbrev pub named : List (List ℕ) → List ClusterCron → List (List ℕ)
 named seen [] = []
-named seen (c ∷ cs) = fresh seen c.cron.spec.time_zone ++ named (seen ++ fresh seen c.cron.spec.time_zone) cs
+named seen (c ∷ cs) =
+    fresh seen c.cron.spec.time_zone ++ named (seen ++ fresh seen c.cron.spec.time_zone) cs
 
 abbrev pub lines_where : Option Zone → Span → List ℕ
 lines_where None w = []

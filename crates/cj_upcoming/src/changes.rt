@@ -7,10 +7,10 @@ ghost use Rattle.cj_upcoming.specs.Changes.{change_line, change_lines, changes, 
 
 use crate::clocks::civil_text;
 use cj_base::{Refusal, Seconds};
-use cj_zone::{Zone, local, steady_from, stretch_at, time_text};
+use cj_zone::{Zone, interval_at, local, steady_from, time_text};
 use std::alloc::{AllocError, Global};
 
-/// The instant of so many seconds.
+/// The instant of a number of seconds since 1970.
 pub(crate) fn instant(count: u64) -> Seconds
     requires { count ≤ last_second }
     ensures { result ≡ count }
@@ -34,9 +34,9 @@ fn same_until(zone: &Zone, at: Seconds) -> u64
     ensures same { (t : ℕ) → at ≤ t → t ≤ result →
         zone_offset zone.now t ≡ zone_offset zone.now at }
 {
-    let stretch = stretch_at(zone, at);
-    if stretch.one == stretch.other {
-        stretch.last
+    let interval = interval_at(zone, at);
+    if interval.one == interval.other {
+        interval.last
     } else {
         steady_from(zone, at).last
     }
@@ -125,9 +125,10 @@ fn change_lines(alloc: Global, zone: &Zone, changes: &[Seconds]) -> Result<Strin
     Ok(text)
 }
 
-/// A line for each instant after one and up to another at which the zone's clock is put forward, and so skips local
-/// times, or back, and so shows some twice: what it shows a second before and then, and when that is.
-pub fn changes_text(
+/// A line for each instant after one and up to another at which the zone's clock is put forward,
+/// and so skips local times, or back, and so shows some twice: what it shows a second before and
+/// then, and when that is.
+pub(crate) fn changes_text(
     alloc: Global,
     zone: &Zone,
     after: Seconds,

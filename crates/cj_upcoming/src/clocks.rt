@@ -76,7 +76,7 @@ fn days_text(alloc: Global, days: u64) -> Result<String, AllocError>
     format!(in alloc; "{days}d ")
 }
 
-/// How long so many seconds are.
+/// A number of seconds, as people read it.
 pub(crate) fn span_text(alloc: Global, span: u64) -> Result<String, AllocError>
     ensures { IfOk result (λ s. string_bytes s ≡ span_text span) }
 {

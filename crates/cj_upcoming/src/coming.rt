@@ -45,9 +45,10 @@ fn push_step(
     Ok(())
 }
 
-/// The next times of a schedule on a zone's clock, so many, each the least one after the one before: its day of the week,
-/// the local time, how far the clock is ahead of UTC, the time in UTC, and how far off that is; before them what the
-/// clock skips or shows twice on the way. An end where nothing is due within 3,000 days.
+/// The next `count` times of a schedule on a zone's clock, each the least one after the one before:
+/// its day of the week, the local time, how far the clock is ahead of UTC, the time in UTC, and how
+/// far off that is; before them what the clock skips or shows twice on the way. An end where
+/// nothing is due within 3,000 days.
 pub fn coming_text(
     alloc: Global,
     schedule: &Schedule,

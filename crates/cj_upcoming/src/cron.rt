@@ -14,7 +14,7 @@ use cj_types::CronSpec;
 use cj_zone::ZoneTable;
 use std::collections::BTreeSet;
 
-/// Notes the starts of the CronJob that stands at a place; a suspended one has none.
+/// Notes the starts of the CronJob at a place; a suspended one has none.
 pub(crate) fn note_cron(
     zones: &ZoneTable,
     window: &Window,

@@ -64,8 +64,9 @@ fn words(alloc: Global, schedule: &Schedule) -> Result<String, AllocError>
     }
 }
 
-/// A schedule in a sentence, as `At 02:30 on Monday to Friday, by the clock of Europe/Berlin`, with the name of the
-/// zone whose clock it goes by. Where both day fields are given, it says that either of them allows a day.
+/// A schedule in a sentence, as `At 02:30 on Monday to Friday, by the clock of Europe/Berlin`, with
+/// the name of the zone whose clock it goes by. Where both day fields are given, it says that
+/// either of them allows a day.
 pub fn sentence(alloc: Global, schedule: &Schedule, zone: &str) -> Result<String, Refusal>
     ensures ok { IfOk result (λ s. string_bytes s ≡ sentence schedule.now zone.now) }
     ensures memory { IfErr result (λ e. e ≡ OutOfMemory) }

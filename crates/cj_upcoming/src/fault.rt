@@ -2,13 +2,13 @@ use cj_base::Refusal;
 use std::alloc::AllocError;
 use thiserror::Error;
 
-/// Why the starts of a window aren't told.
+/// Why the starts of a window aren't listed.
 #[derive(Debug, Drop, Error)]
 pub enum StartsFault {
     /// Memory was asked for and refused.
     #[error("out of memory")]
     Memory,
-    /// The window has more starts than may be told.
+    /// The window has more starts than may be listed.
     #[error("too many starts")]
     TooMany,
 }

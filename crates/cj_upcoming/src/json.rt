@@ -1,4 +1,4 @@
-// What is told of a window and of a schedule, as JSON.
+// Windows and schedules as JSON.
 mod changes;
 mod coming;
 mod minutes;

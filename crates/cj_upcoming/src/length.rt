@@ -41,7 +41,8 @@ fn measure(digits: &[u8], unit: u8) -> Option<u64>
     }
 }
 
-/// How many seconds a text means: a number below ten million, and `m` for minutes, `h` for hours or `d` for days.
+/// How many seconds a text means: a number below ten million, and `m` for minutes, `h` for hours or
+/// `d` for days.
 pub fn read_length(text: &str) -> Option<u64>
     ensures { result ≡ length_of text.now }
 {

@@ -1,9 +1,10 @@
 //! What starts in a window of time, and what a schedule says.
 //!
-//! Here belongs which CronJobs of a list are due at which instants of a window, the minutes that are the fullest, the
-//! instants at which a clock is put forward or back, and a schedule in a sentence with its next times. How a cluster is
-//! read belongs to `cj_cluster`, which times are due to `cj_due`. The commands rest on `upcoming`: exactly the starts of
-//! the window, in order; on the texts of its lines; and on `sentence`, which is defined over the schedule's five sets.
+//! Here belongs which CronJobs of a list are due at which instants of a window, the minutes that
+//! are the fullest, the instants at which a clock is put forward or back, and a schedule in a
+//! sentence with its next times. How a cluster is read belongs to `cj_cluster`, which times are due
+//! to `cj_due`. The commands rest on `upcoming`: exactly the starts of the window, in order; on the
+//! texts of its lines; and on `sentence`, which is defined over the schedule's five sets.
 #![tactic(auto)]
 
 mod changes;
@@ -37,7 +38,6 @@ mod whole;
 mod window;
 mod zone_changes;
 
-pub use changes::changes_text;
 pub use coming::coming_text;
 pub use describe::sentence;
 pub use fault::StartsFault;
@@ -46,12 +46,10 @@ pub use json::{
     zone_changes_value,
 };
 pub use length::read_length;
-pub use lines::{peaks_text, starts_text};
 pub use minute::Minute;
 pub use minutes::minutes_of;
 pub use named::named_changes_text;
-pub use report::window_text;
-pub use standing::Standing;
+pub use report::window_lines;
 pub use standings::standings_text;
 pub use start::Start;
 pub use starts::Starts;

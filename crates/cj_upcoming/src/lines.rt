@@ -142,8 +142,9 @@ fn peak_lines(
     Ok(text)
 }
 
-/// A line for each minute in which something starts, in their order: its time, and the CronJobs that start then.
-pub fn starts_text(
+/// A line for each minute in which something starts, in their order: its time, and the CronJobs
+/// that start then.
+pub(crate) fn starts_text(
     alloc: Global,
     crons: &[Shared<ClusterCron>],
     starts: &[Start],
@@ -156,9 +157,9 @@ pub fn starts_text(
     start_lines(alloc, crons, starts, minutes.as_slice())
 }
 
-/// A line for each of the fullest minutes, at most so many, the fullest first: its time, how much starts then, and the
-/// CronJobs. Of two that are as full the earlier comes first.
-pub fn peaks_text(
+/// A line for each of the fullest minutes, at most `most`, the fullest first: its time, how much
+/// starts then, and the CronJobs. Of two that are as full the earlier comes first.
+pub(crate) fn peaks_text(
     alloc: Global,
     crons: &[Shared<ClusterCron>],
     starts: &[Start],

@@ -7,6 +7,6 @@ pub struct Minute {
     pub time: Seconds,
     /// The place of its first start among all starts, from 0.
     pub first: usize,
-    /// How many starts it has, which stand one after the other.
+    /// How many starts it has, one after the other.
     pub count: usize,
 }

@@ -139,8 +139,9 @@ fn named_lines(
     Ok(lines)
 }
 
-/// A line for each instant after one and up to another at which the zone's clock is put so that it skips local times, or
-/// shows some twice, that the schedule names: the last of these, and from where to where the clock goes; `utc` is UTC.
+/// A line for each instant after one and up to another at which the zone's clock is put so that it
+/// skips local times, or shows some twice, that the schedule names: the last of these, and from
+/// where to where the clock goes; `utc` is UTC.
 pub fn named_changes_text(
     alloc: Global,
     schedule: &Schedule,

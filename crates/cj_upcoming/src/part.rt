@@ -80,7 +80,7 @@ pub(crate) fn day_name(day: u8) -> &'static str
     }
 }
 
-/// How a number is told: a month and a day of the week by name, others in digits.
+/// How a number is written: a month and a day of the week by name, others in digits.
 pub(crate) fn name(alloc: Global, part: Part, number: u8) -> Result<String, AllocError>
     ensures { IfOk result (λ s. string_bytes s ≡ name part number) }
 {

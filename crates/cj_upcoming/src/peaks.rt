@@ -28,7 +28,7 @@ fn sort(minutes: &mut Vec<Minute>) -> Result<(), AllocError>
     Ok(())
 }
 
-/// The fullest minutes, at most so many, the fullest first.
+/// The fullest minutes, at most `most`, the fullest first.
 pub(crate) fn peaks(alloc: Global, starts: &[Start], most: usize) -> Result<Vec<Minute>, AllocError>
     ensures peaks { IfOk result (λ v. IsPeaks most (minutes starts.now) v.items) }
     ensures within { IfOk result (λ v. All (IsWithin starts.now) v.items) }

@@ -12,7 +12,8 @@ use std::marker::Model;
 // No number of a set.
 const NONE: u8 = 64;
 
-// Whether the day fields allow a day of the month and a day of the week, in a month that is allowed.
+// Whether the day fields allow a day of the month and a day of the week, in a month that is
+// allowed.
 #[tactic(auto, unfolding(cj_schedule::specs::Matches::matches_day))]
 fn date_rule(schedule: &Schedule, month: u8, day: u8, weekday: u8) -> bool
     requires { has schedule.now.months month ≡ true }

@@ -1,16 +1,12 @@
-// All that is told of a window.
+// The lines of a window.
 ghost use Rattle.std.specs.Prelude.{◌≡◌, ◌++◌, IfOk, IfErr, string_bytes};
 ghost use Rattle.cj_base.specs.declared.refusal.Refusal.TheVariants.{OutOfMemory};
 ghost use Rattle.cj_zone.specs.Table.{zones_of};
-ghost use Rattle.cj_upcoming.specs.Report.{IsTextOf, IsWindowText};
-ghost use Rattle.cj_upcoming.specs.Upcoming.{HasMore};
-ghost use Rattle.cj_upcoming.specs.declared.fault.StartsFault.TheVariants.{TooMany};
+ghost use Rattle.cj_upcoming.specs.Report.{IsTextOf};
 
-use crate::fault::StartsFault;
 use crate::lines::{peaks_text, starts_text};
 use crate::standings::standings_text;
 use crate::start::Start;
-use crate::whole::upcoming;
 use crate::window::Window;
 use crate::zone_changes::zone_changes_text;
 use cj_cluster::ClusterCron;
@@ -31,8 +27,10 @@ fn joined(
     format!(in alloc; "{started}{standings}{changes}{fullest}")
 }
 
-// What is told of these starts.
-fn text_of(
+/// The lines of a window with these starts, of CronJobs: one for each minute in which something
+/// starts, for each CronJob that starts nothing, for each instant at which the clock of a zone that
+/// one of them names is put, and for each of the fullest minutes, at most `peaks`.
+pub fn window_lines(
     alloc: Global,
     zones: &ZoneTable,
     window: &Window,
@@ -55,28 +53,5 @@ fn text_of(
         changes.as_str(),
         fullest.as_str(),
     )?;
-    Ok(text)
-}
-
-/// What is told of a window, of CronJobs: a line for each minute in which something starts, for each CronJob that starts
-/// nothing, for each instant at which the clock of a zone that one of them names is put, and for each of the fullest
-/// minutes, at most `peaks`.
-///
-/// `TooMany` where there are more than `most` starts, `Memory` where memory is wanting.
-pub fn window_text(
-    alloc: Global,
-    zones: &ZoneTable,
-    window: &Window,
-    crons: &[Shared<ClusterCron>],
-    most: usize,
-    peaks: usize,
-) -> Result<String, StartsFault>
-    ensures ok { IfOk result (λ s. IsWindowText (zones_of zones.now) window.now crons.now peaks
-        (string_bytes s)) }
-    ensures many { IfErr result (λ e. e ≡ TooMany →
-        HasMore (zones_of zones.now) window.now crons.now most) }
-{
-    let starts = upcoming(alloc, zones, window, crons, most)?;
-    let text = text_of(alloc, zones, window, crons, starts.as_slice(), peaks)?;
     Ok(text)
 }

@@ -42,7 +42,8 @@ fn push_run(
     runs.push(words).map_err(AllocError::from)
 }
 
-// The first number of the run that the next number lies in, where one from the first up to the last was before it.
+// The first number of the run that the next number lies in, where one from the first up to the last
+// was before it.
 fn next_run(
     alloc: Global,
     runs: &mut Vec<String>,

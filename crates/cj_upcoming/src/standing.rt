@@ -10,7 +10,7 @@ use cj_zone::ZoneTable;
 
 /// Whether a CronJob ever starts something.
 #[derive(Clone, Copy, Debug, PartialEq, Eq)]
-pub enum Standing {
+pub(crate) enum Standing {
     /// Its schedule comes within 3,000 days.
     Comes,
     /// It is suspended.

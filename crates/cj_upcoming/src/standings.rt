@@ -1,4 +1,4 @@
-// What is told of CronJobs that start nothing.
+// The lines of CronJobs that start nothing.
 ghost use Rattle.std.specs.Prelude.{◌≡◌, ◌++◌, IfOk, IfErr, OnOk, string_bytes};
 ghost use Rattle.cj_base.specs.declared.refusal.Refusal.TheVariants.{OutOfMemory};
 ghost use Rattle.cj_zone.specs.Table.{zones_of};
@@ -39,8 +39,8 @@ fn push_standing(
     text.push_str(line.as_str())
 }
 
-/// A line for each CronJob that starts nothing from an instant on: one that is suspended, whose schedule comes at no
-/// time within 3,000 days, or that names no zone that is given.
+/// A line for each CronJob that starts nothing from an instant on: one that is suspended, whose
+/// schedule comes at no time within 3,000 days, or that names no zone that is given.
 pub fn standings_text(
     alloc: Global,
     zones: &ZoneTable,

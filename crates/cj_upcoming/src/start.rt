@@ -8,7 +8,8 @@ ghost use Rattle.cj_upcoming.specs.Starts.{start_cmp, starts_total};
 use cj_base::Seconds;
 use std::cmp::Ordering;
 
-/// A time at which a CronJob starts something. Starts are in the order of their times, then of the CronJobs.
+/// A time at which a CronJob starts something. Starts are in the order of their times, then of the
+/// CronJobs.
 #[derive(Clone, Copy, Debug)]
 pub struct Start {
     /// The time.

@@ -36,9 +36,9 @@ fn note_crons(
     Ok(())
 }
 
-/// What starts in a window, of CronJobs: exactly the instants of the window at which one that isn't suspended is due by
-/// its schedule, on the clock of its zone, each with the place of that CronJob, in the order of times and then of
-/// places.
+/// What starts in a window, of CronJobs: exactly the instants of the window at which one that isn't
+/// suspended is due by its schedule, on the clock of its zone, each with the place of that CronJob,
+/// in the order of times and then of places.
 ///
 /// `TooMany` where they are more than `most`, `Memory` where memory is wanting.
 pub fn upcoming(

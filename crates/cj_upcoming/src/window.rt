@@ -8,7 +8,8 @@ use std::marker::Model;
 // As many seconds as the definition says.
 const REACH: u64 = 259_200_000;
 
-/// A window of time: the instants from one on and before another, which is at most 3,000 days later.
+/// A window of time: the instants from one on and before another, which is at most 3,000 days
+/// later.
 ///
 /// Contracts see the two instants.
 pub struct Window {
@@ -35,8 +36,8 @@ impl Model for Window {
 }
 
 impl Window {
-    /// The window that begins with an instant and lasts so many seconds; `None` where it would last longer than 3,000
-    /// days or end after the year 9998.
+    /// The window that begins with an instant and lasts `length` seconds; `None` where it would
+    /// last longer than 3,000 days or end after the year 9998.
     pub fn new(from: Seconds, length: u64) -> Option<Window>
         ensures in_range { IsSome result ↔ ((length ≤ reach) × (from + length ≤ last_second)) }
         ensures from { IfSome result (λ w. w.from ≡ from) }

@@ -97,8 +97,8 @@ fn zone_lines(
     Ok(text)
 }
 
-/// Of each zone that a CronJob names, a line for each instant in the window, after its first, at which the zone's clock
-/// is put forward or back.
+/// Of each zone that a CronJob names, a line for each instant in the window, after its first, at
+/// which the zone's clock is put forward or back.
 pub fn zone_changes_text(
     alloc: Global,
     zones: &ZoneTable,

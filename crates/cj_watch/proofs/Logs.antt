@@ -6,7 +6,8 @@ use Rattle.std.proofs.lemmas.Bool.Decides.{nat_tests}
 use Rattle.circular_buffer.specs.Buffer.{Buffer, buffer, keep_last}
 use Rattle.cj_base.specs.declared.refusal.Refusal.TheVariants.{Expired}
 use Rattle.cj_types.specs.declared.event.Event.{Event}
-use Rattle.cj_watch.specs.Numbers.{version_of, IsNumbered, later}
+use Rattle.cj_types.specs.Events.{version_of}
+use Rattle.cj_watch.specs.Numbers.{IsNumbered, later}
 use Rattle.cj_watch.specs.Log.{Log, IsWindow, latest, pushed, since}
 use Rattle.cj_watch.specs.Laws.{KeepsLatest, TellsAll}
 use Rattle.cj_watch.proofs.Pieces.{piece_is, last_of_last}

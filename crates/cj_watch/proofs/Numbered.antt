@@ -3,7 +3,8 @@ use Rattle.std.proofs.Common.{◌≡◌, ◌∙◌, ap, sym, subst, refl, ℕ, �
 use Rattle.std.proofs.Math.Seq.{drop-nil}
 use Rattle.std.proofs.lemmas.Bool.Decides.{nat_tests}
 use Rattle.cj_types.specs.declared.event.Event.{Event}
-use Rattle.cj_watch.specs.Numbers.{version_of, IsNumbered, later}
+use Rattle.cj_types.specs.Events.{version_of}
+use Rattle.cj_watch.specs.Numbers.{IsNumbered, later}
 
 -- A list numbered on from m is numbered on from n, where m is n.
 numbered_at : (m n : ℕ) (es : List Event) → m ≡ n → IsNumbered m es → IsNumbered n es

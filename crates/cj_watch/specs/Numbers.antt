@@ -1,17 +1,13 @@
 -- The numbers of writes: Kubernetes API concepts, "Resource versions".
 use Rattle.std.specs.Prelude.{◌≡◌, ℕ, ◌+◌, nat_lt, List, [], ◌∷◌, filter}
 use Rattle.cj_types.specs.declared.event.Event.{Event}
-use Rattle.cj_types.specs.Events as event
+use Rattle.cj_types.specs.Events.{version_of}
 
--- the resource version of the object that an event carries
-abbrev pub version_of : Event → ℕ
-version_of e = event.version_of e
-
--- the versions follow one another, the first being the one after n
+-- the events have the versions n + 1, n + 2, and so on
 abbrev pub IsNumbered : ℕ → List Event → Type 0
 IsNumbered n [] = Unit {0}
 IsNumbered n (e ∷ es) = (version_of e ≡ n + 1) × IsNumbered (n + 1) es
 
--- the events whose version is greater, in their order
+-- the events with a version above the given one, in their order
 abbrev pub later : ℕ → List Event → List Event
 later version events = filter (λ e. nat_lt version (version_of e)) events

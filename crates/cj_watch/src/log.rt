@@ -1,23 +1,24 @@
 ghost use Rattle.std.specs.Prelude.{◌≡◌, ◌≢◌, ◌+◌, ◌-◌, ◌≤◌, min, nat_lt, length, IfOk, IfErr, Ok, Err};
 ghost use Rattle.cj_base.specs.declared.refusal.Refusal.TheVariants.{OutOfMemory};
-ghost use Rattle.cj_watch.specs.Numbers.{IsNumbered, version_of};
+ghost use Rattle.cj_types.specs.Events.{version_of};
+ghost use Rattle.cj_watch.specs.Numbers.{IsNumbered};
 
+use crate::Window;
 use crate::ring::{copy_range, put_last};
-use crate::{Window, version_of};
 use circular_buffer::HeapCircularBuffer;
 use cj_types::{Event, Listing, Max, Refusal, Version};
 use std::alloc::Global;
 use std::marker::Model;
 
-/// The latest events, as many as fit in a window, each with the count of the events up to it as its version.
+/// The latest events of all writes, as many as fit the window. An event's version is the count of
+/// events up to it.
 ///
-/// Contracts see the events that are kept, the count of all events so far, and the window.
+/// Contracts see the kept events, the count of all events so far, and the window.
 pub struct WatchLog {
     events: HeapCircularBuffer<Event>,
     count: u64,
 }
 
-// A function of its own, so that whoever gives one up makes one call and not one for each part.
 impl Drop for WatchLog {
     fn drop(self) {
         let WatchLog {
@@ -48,7 +49,7 @@ impl Model for WatchLog {
 impl WatchLog {
     ghost use Rattle.cj_watch.specs.Log.{IsWindow, new_log, pushed, since};
 
-    /// No event, and memory for as many as fit in the window.
+    /// A log with no event, and with memory for as many as fit the window.
     pub fn new(alloc: Global, window: Window) -> Result<WatchLog, Refusal>
         ensures ok { IfOk result (λ l. l ≡ new_log window) }
         ensures err { IfErr result (λ e. e ≡ OutOfMemory) }
@@ -60,7 +61,7 @@ impl WatchLog {
         Ok(WatchLog { events, count: 0 })
     }
 
-    /// The version of the last event, 0 before the first: how many there were so far.
+    /// The version of the last event, 0 before the first: the count of events so far.
     pub fn version(&self) -> Version
         ensures value { result ≡ self.now.count }
         ensures window { IsWindow self.now }
@@ -68,18 +69,18 @@ impl WatchLog {
         Version::new(self.count)
     }
 
-    /// Makes sure of room for one event more. All memory was taken by `new`, so that nothing is left to do.
+    /// Reserves room for the next event. `new` took all memory, so this does nothing.
     pub fn make_room(&mut self)
         ensures { self.new ≡ self.old }
     {}
 
-    /// The event of the next write, whose version is one above the count so far. Takes no memory; the oldest event
-    /// goes where there are as many as fit.
+    /// Appends the event of the next write, whose version is the count so far plus 1. Takes no
+    /// memory; a full log drops its oldest event.
     pub fn push(&mut self, event: Event)
         requires next { version_of event ≡ self.old.count + 1 }
         ensures { self.new ≡ pushed self.old event }
     {
-        self.count = version_of(&event).get();
+        self.count = event.version().get();
         put_last(&mut self.events, event);
     }
 
@@ -107,7 +108,7 @@ impl WatchLog {
         version.get().saturating_sub(before).min(len) as usize
     }
 
-    // The place after so many events from that one on, or the end.
+    // The place `max` events after `start`, or the end.
     fn end_after(&self, start: usize, max: Max) -> usize
         requires { start ≤ length self.now.kept }
         ensures { result ≡ min (length self.now.kept) (start + max) }
@@ -115,9 +116,9 @@ impl WatchLog {
         self.events.len().min(start + usize::from(max.get()))
     }
 
-    /// The first `max` events after the version, in their order, none where the version is the last one or
-    /// above it; their versions follow on that one. Or `Expired` with the oldest version that is served, where events
-    /// after the version are gone.
+    /// The first `max` events after the version, in order of version; none where the version is the
+    /// last one or above it. `Expired` with the oldest version served, where events after the
+    /// version were dropped.
     pub fn since(
         &self,
         alloc: Global,

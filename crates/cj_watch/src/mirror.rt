@@ -1,4 +1,5 @@
-// The Jobs as a list that lags has them: those after the first so many writes, kept up by the events of these.
+// The mirror, a listing of the Jobs that lags behind the store: the Jobs after some first writes,
+// fed with their events.
 mod laws;
 mod mirror;
 mod telling;

@@ -6,7 +6,7 @@ use circular_buffer::HeapCircularBuffer;
 use cj_types::{Refusal, TryCopy};
 use std::alloc::Global;
 
-/// Puts an item at the end of a ring, whose first item goes where it is full.
+/// Appends an item to a ring; a full ring drops its first item.
 pub fn put_last<T: Drop>(ring: &mut HeapCircularBuffer<T>, item: T)
     ensures { ring.new ≡ buffer (keep_last ring.old.capacity (ring.old.items ++ item ∷ []))
         ring.old.capacity }

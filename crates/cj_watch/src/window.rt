@@ -25,7 +25,7 @@ impl Window {
     /// The most events.
     pub const LAST: u32 = 100_000;
 
-    /// A window of so many events, where that is 1 to 100,000.
+    /// A window of `count` events, where that is 1 to 100,000.
     pub fn new(count: u32) -> Option<Window>
         ensures in_range { IsSome result ↔ ((1 ≤ count) × (count ≤ last_window)) }
         ensures value { IfSome result (λ w. w ≡ count) }

@@ -16,6 +16,7 @@ is_deadline (Some deadline) base now = nat_lt base (now - deadline)
 -- rule: explain-why
 abbrev pub since_words : CronJob → ℕ → List ℕ
 since_words cron now =
-    if is_deadline cron.spec.starting_deadline_seconds (unwrap_or cron.status.last_schedule_time cron.meta.created) now
+    if is_deadline cron.spec.starting_deadline_seconds
+    (unwrap_or cron.status.last_schedule_time cron.meta.created) now
     then codes "the moment less its starting deadline"
     else base_words cron.status.last_schedule_time

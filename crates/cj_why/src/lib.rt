@@ -1,8 +1,8 @@
 //! Why a CronJob starts a Job at a moment, or why not, in words for people.
 //!
-//! Here belongs the wording of the times missed, of the Jobs that run and of the policy, and (`reviews`) what each
-//! CronJob of a cluster missed, with the plan of its next sync. The decision itself belongs to `cj_decide`. The
-//! commands rest on `why`, `review` and `plan_text`.
+//! Here belongs the wording of the times missed, of the Jobs that run and of the policy, and
+//! (`reviews`) what each CronJob of a cluster missed, with the plan of its next sync. The decision
+//! itself belongs to `cj_decide`. The commands rest on `why`, `review` and `plan_text`.
 #![tactic(auto)]
 
 mod missed;
@@ -12,7 +12,7 @@ mod since;
 mod start;
 
 pub use reviews::{
-    CronRow, Reviewed, Verdict, cron_rows, cron_values, found, listed, plan_text, plan_value,
-    problems, review, table_text, zone_copy, zone_of,
+    CronRow, Reviewed, Verdict, cron_rows, cron_values, plan_text, plan_value, problems, review,
+    table_text, zone_copy, zone_of,
 };
 pub use start::why;

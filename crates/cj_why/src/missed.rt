@@ -34,7 +34,8 @@ fn many_words(alloc: Global, since: &str, what: &str, latest: &str) -> Result<St
     format!(in alloc; "missed: more than 100 since {since} ({what}), the latest at {latest}\n")
 }
 
-/// A line that says how many times were missed since an instant, what set that, and which was the latest.
+/// A line that says how many times were missed since an instant, what set that, and which was the
+/// latest.
 pub(crate) fn missed_words(
     alloc: Global,
     missed: &Missed,

@@ -209,9 +209,10 @@ fn timed_why(
     }
 }
 
-/// Lines that say why a Job of the CronJob is started at this moment, or why not: whether it is suspended, its
-/// deadline 0 and its zone known, how many times were missed and since when, which Jobs run, which may run though
-/// nothing is known of them, and what its policy makes of that. The only error is want of memory.
+/// Lines that say why a Job of the CronJob is started at this moment, or why not: whether it is
+/// suspended, its deadline 0 and its zone known, how many times were missed and since when, which
+/// Jobs run, which may run though nothing is known of them, and what its policy makes of that. The
+/// only error is want of memory.
 pub fn why(
     alloc: Global,
     cron: &CronJob,

@@ -1,4 +1,4 @@
--- The steps of a plan, told by their kinds.
+-- The steps of a plan, by their kinds.
 use Rattle.std.proofs.Common.{◌≡◌, ◌∙◌, ◌<◌, ◌+◌, ℕ, List, [], ◌∷◌, ◌++◌, Bool, Option, Some, None, is_some, map, take, length, refl, ap, sym, append_assoc, add-one}
 use Rattle.std.proofs.Math.Seq.{take-suc}
 use Rattle.std.proofs.lemmas.List.{map_push, map-append}

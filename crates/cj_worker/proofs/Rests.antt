@@ -23,8 +23,8 @@ use Rattle.cj_worker.specs.declared.gate.Point.TheVariants.{Claimed, Made}
 use Rattle.cj_worker.specs.declared.gate.Reading.{Reading}
 use Rattle.cj_worker.specs.declared.gate.Turn.{Turn}
 use Rattle.cj_worker.specs.declared.gate.Turn.TheVariants.{Go, Stop}
-use Rattle.cj_worker.specs.declared.hitch.Hitch.{Hitch}
-use Rattle.cj_worker.specs.declared.hitch.Hitch.TheVariants.{Refused, Starved, Lost}
+use Rattle.cj_worker.specs.declared.error.SyncError.{SyncError}
+use Rattle.cj_worker.specs.declared.error.SyncError.TheVariants.{Refused, Starved, Lost}
 use Rattle.cj_worker.specs.declared.ending.SyncEnd.{SyncEnd}
 use Rattle.cj_worker.specs.declared.ending.SyncEnd.TheVariants.{Idle, ShutDown, Done, Retried, Broken, Stopped}
 use Rattle.cj_worker.specs.declared.outline.Next.{Next}
@@ -32,8 +32,8 @@ use Rattle.cj_worker.specs.declared.outline.Next.TheVariants as Kind
 use Rattle.cj_worker.specs.declared.outline.Outline.{Outline}
 use Rattle.cj_worker.specs.Outlines.{IsOutline, call_by, step_calls}
 use Rattle.cj_worker.specs.Sequences.{IsFinish, AllAccepted, Begun, FirstRefused, StopsAt, EndsWith, IsDone, IsWell}
-use Rattle.cj_worker.specs.Syncs.{IsLost, IsUnentered, IsUnfit, IsEarly, IsHalted, IsRetried, IsRest, IsFrom, IsRun, IsSync, SeesActive, SeesJobs, SeesCron, SeesAll, then_plan, calls_of, reasons_by, reasons_with, reasons_of, opening, is_key, key_in}
-use Rattle.cj_worker.specs.Hitches.{IsHitched, HaltedBy, HasFailed, HasStepped, reasons_at, why_of}
+use Rattle.cj_worker.specs.Syncs.{IsLost, IsUnentered, IsUnfit, IsEarly, UpToFailure, IsRetried, IsRest, IsFrom, IsRun, IsSync, SeesActive, SeesJobs, SeesCron, SeesAll, then_plan, calls_of, reasons_by, reasons_with, reasons_of, opening, is_key, key_in}
+use Rattle.cj_worker.specs.Errors.{HasErred, UpToError, HasFailed, HasStepped, reasons_at, why_of}
 
 -- none of the calls ends the sync
 abbrev pub NoEnd : List Call → Type 0
@@ -48,11 +48,12 @@ one_accepted c es h = rw h.only (h.of, h.says, tt)
 pub ok_of : (a : Result Reply Refusal) (r : Reply) → a ≡ Ok r → IsOk a
 ok_of a r is = rw is refl
 
--- A hitch at the first of some calls halts these calls.
-pub hitched_first : (c : Call) (cs : List Call) (es : List Told) (h : Hitch) → IsHitched c h es → HaltedBy (c ∷ cs) es h
-hitched_first c cs es (Refused r) h = rw h.only (h.of, inl (h.says, refl))
-hitched_first c cs es Starved h = rw h tt
-hitched_first c cs es (Lost r) h = (rw h.0 tt, h.1)
+-- An error at the first of some calls is where these calls end.
+pub erred_first : (c : Call) (cs : List Call) (es : List Told) (h : SyncError) → HasErred c h es
+    → UpToError (c ∷ cs) es h
+erred_first c cs es (Refused r) h = rw h.only (h.of, inl (h.says, refl))
+erred_first c cs es Starved h = rw h tt
+erred_first c cs es (Lost r) h = (rw h.0 tt, h.1)
 
 -- Entries of accepted calls before entries of other accepted calls are those of both lists of
 -- calls.
@@ -122,35 +123,38 @@ StopsAt-longer point (c ∷ cs) ds (e ∷ es) h = (
   elim h.2 [ inl a ↦ inl a | inr b ↦ inr (StopsAt-longer point cs ds es b) ],
 )
 
--- Calls that a hitch halts are halted by it with further calls listed behind them.
-pub HaltedBy-longer : (cs ds : List Call) (es : List Told) (h : Hitch) → HaltedBy cs es h → HaltedBy (cs ++ ds) es h
-HaltedBy-longer cs ds es (Refused r) h = FirstRefused-longer cs ds es r h
-HaltedBy-longer cs ds es Starved h = Begun-longer cs ds es h
-HaltedBy-longer cs ds es (Lost r) h = (Begun-longer cs ds es h.0, h.1)
+-- What calls add up to an error is the same with further calls listed behind them.
+pub UpToError-longer : (cs ds : List Call) (es : List Told) (h : SyncError) → UpToError cs es h
+    → UpToError (cs ++ ds) es h
+UpToError-longer cs ds es (Refused r) h = FirstRefused-longer cs ds es r h
+UpToError-longer cs ds es Starved h = Begun-longer cs ds es h
+UpToError-longer cs ds es (Lost r) h = (Begun-longer cs ds es h.0, h.1)
 
--- Behind accepted calls that don't end the sync, calls that a hitch halts make a list that it
--- halts.
-HaltedBy-after : (cs ds : List Call) (es fs : List Told) (h : Hitch) → NoEnd cs → AllAccepted cs es → HaltedBy ds fs h
-    → HaltedBy (cs ++ ds) (es ++ fs) h
-HaltedBy-after cs ds es fs (Refused r) on a k = FirstRefused-after cs ds es fs r a k
-HaltedBy-after cs ds es fs Starved on a k = Begun-after cs ds es fs on a k
-HaltedBy-after cs ds es fs (Lost r) on a k = (Begun-after cs ds es fs on a k.0, k.1)
+-- Behind accepted calls that don't end the sync, what other calls add up to an error is what both
+-- lists add up to it.
+UpToError-after : (cs ds : List Call) (es fs : List Told) (h : SyncError) → NoEnd cs → AllAccepted cs es
+    → UpToError ds fs h
+    → UpToError (cs ++ ds) (es ++ fs) h
+UpToError-after cs ds es fs (Refused r) on a k = FirstRefused-after cs ds es fs r a k
+UpToError-after cs ds es fs Starved on a k = Begun-after cs ds es fs on a k
+UpToError-after cs ds es fs (Lost r) on a k = (Begun-after cs ds es fs on a k.0, k.1)
 
--- the reasons with which a hitch is finished
-abbrev pub Suits : (Refusal → List Reason) → List Reason → Hitch → Type 0
+-- the reasons with which an error is finished
+abbrev pub Suits : (Refusal → List Reason) → List Reason → SyncError → Type 0
 Suits reasons rs (Refused r) = rs ≡ reasons r
 Suits reasons rs Starved = rs ≡ reasons No.OutOfMemory
 Suits reasons rs (Lost r) = Unit {0}
 
--- After a plan, the reasons that reasons_at gives for a hitch are those of its refusal by
+-- After a plan, the reasons that reasons_at gives for an error are those of its refusal by
 -- reasons_by.
-pub Suits-by : (plain failed : List Reason) (h : Hitch) → Suits (reasons_by plain failed) (reasons_at plain failed h) h
+pub Suits-by : (plain failed : List Reason) (h : SyncError) → Suits (reasons_by plain failed)
+    (reasons_at plain failed h) h
 Suits-by plain failed (Refused r) = refl
 Suits-by plain failed Starved = refl
 Suits-by plain failed (Lost r) = tt
 
--- Where no plan was made, no reasons at all suit any hitch.
-pub Suits-none : (h : Hitch) → Suits (reasons_of None) [] h
+-- Where no plan was made, no reasons at all suit any error.
+pub Suits-none : (h : SyncError) → Suits (reasons_of None) [] h
 Suits-none (Refused r) = refl
 Suits-none Starved = refl
 Suits-none (Lost r) = tt
@@ -176,10 +180,10 @@ early_ok gives rs why reading es given h = (
   h.says,
 )
 
--- For Held::retry: a Finish for another try that has a hitch ends the sync early, as Broken.
+-- For Held::retry: a Finish for another try that has an error ends the sync early, as Broken.
 pub early_broken : (gives : Reading → Type 0) (rs : List
-    Reason) (why : Refusal) (h : Hitch) (reading : Reading) (es : List Told) → gives reading
-    → IsHitched (Of.Finish (Again reading.millis) rs) h es → IsEarly gives rs why es (Broken (why_of h))
+    Reason) (why : Refusal) (h : SyncError) (reading : Reading) (es : List Told) → gives reading
+    → HasErred (Of.Finish (Again reading.millis) rs) h es → IsEarly gives rs why es (Broken (why_of h))
 early_broken gives rs why (Refused e) reading es given h = inr (
   record { reading = reading; given = given; entry = h.entry; only = h.only; of = h.of },
   h.says,
@@ -189,26 +193,27 @@ early_broken gives rs why Starved reading es given h = inl (h, tt)
 early_broken gives rs why (Lost e) reading es given h = inl (h.0, lost_unentered e h.1)
 
 module _ (gives : Reading → Type 0) (may : Point → Type 0) (reasons : Refusal → List Reason) where
-  -- Entries up to where calls are halted, then those of the early end, are what the calls add.
-  early : (cs : List Call) (es fs : List Told) (why : Refusal) (end : SyncEnd) → IsHalted cs es why
+  -- Entries up to where calls fail, then those of the early end, are what the calls add.
+  early : (cs : List Call) (es fs : List Told) (why : Refusal) (end : SyncEnd) → UpToFailure cs es why
       → IsEarly gives (reasons why) why fs end → IsRest gives may reasons cs (es ++ fs) end
   early cs es fs why Idle h k = absurd k
   early cs es fs why ShutDown h k = absurd k
   early cs es fs why Done h k = absurd k
   early cs es fs why (Stopped point) h k = absurd k
-  early cs es fs why (Retried r) h k = record { front = es; back = fs; why = why; split = refl; halted = h; early = k }
+  early cs es fs why (Retried r) h k = record { front = es; back = fs; why = why; split = refl; failed = h; early = k }
   early cs es fs why (Broken r) h k = inr (record {
     front = es;
     back = fs;
     why = why;
     split = refl;
-    halted = h;
+    failed = h;
     early = k;
   })
 
-  -- a halted list of calls, and what came of the hitch
-  pub IsRest-failed : (cs : List Call) (es fs : List Told) (rs : List Reason) (h : Hitch) (end : SyncEnd)
-      → Suits reasons rs h → HaltedBy cs es h → HasFailed gives rs h fs end → IsRest gives may reasons cs (es ++ fs) end
+  -- What calls add up to an error, then what the error leads to, are what the calls add.
+  pub IsRest-failed : (cs : List Call) (es fs : List Told) (rs : List Reason) (h : SyncError) (end : SyncEnd)
+      → Suits reasons rs h → UpToError cs es h → HasFailed gives rs h fs end
+      → IsRest gives may reasons cs (es ++ fs) end
   IsRest-failed cs es fs rs (Refused r) end suits h k =
       let P : List Reason → Type 0 = λ x. IsEarly gives x r fs end in
       early cs es fs r end (inl h) (subst P suits k)
@@ -217,7 +222,7 @@ module _ (gives : Reading → Type 0) (may : Point → Type 0) (reasons : Refusa
       early cs es fs No.OutOfMemory end (inr (h, refl)) (subst P suits k)
   IsRest-failed cs es fs rs (Lost r) end suits h k = rw (k.1, k.0, append-nil es) (inl h)
 
-  -- For IsRest-after: behind accepted calls that don't end the sync, calls that are halted and then
+  -- For IsRest-after: behind accepted calls that don't end the sync, calls that fail and are then
   -- ended early make a list that is.
   retried : (cs ds : List Call) (es fs : List Told) (end : SyncEnd) → NoEnd cs → AllAccepted cs es
       → IsRetried gives reasons ds fs end → IsRetried gives reasons (cs ++ ds) (es ++ fs) end
@@ -226,7 +231,7 @@ module _ (gives : Reading → Type 0) (may : Point → Type 0) (reasons : Refusa
     back = k.back;
     why = k.why;
     split = ap (λ xs. es ++ xs) k.split ∙ sym (append_assoc es k.front k.back);
-    halted = elim k.halted [
+    failed = elim k.failed [
       | inl a ↦ inl (FirstRefused-after cs ds es k.front k.why h a)
       | inr b ↦ inr
           (Begun-after cs ds es k.front on h b.0, b.1)
@@ -269,18 +274,18 @@ steps_go_on (x ∷ steps) = (step_goes_on x, steps_go_on steps)
 
 -- Steps that come behind accepted calls which don't end the sync come to the same with these in
 -- front.
-HasStepped-after : (may : Type 0) (cs ds : List Call) (es fs : List Told) (r : Result Turn Hitch) → NoEnd cs
+HasStepped-after : (may : Type 0) (cs ds : List Call) (es fs : List Told) (r : Result Turn SyncError) → NoEnd cs
     → AllAccepted cs es → HasStepped may ds r fs → HasStepped may (cs ++ ds) r (es ++ fs)
 HasStepped-after may cs ds es fs (Ok Go) on h k = AllAccepted-append cs ds es fs h k
 HasStepped-after may cs ds es fs (Ok Stop) on h k = (StopsAt-after Made cs ds es fs h k.0, k.1)
-HasStepped-after may cs ds es fs (Err x) on h k = HaltedBy-after cs ds es fs x on h k
+HasStepped-after may cs ds es fs (Err x) on h k = UpToError-after cs ds es fs x on h k
 
--- Steps that were stopped or halted come to the same with further steps listed behind them.
-HasStepped-longer : (may : Type 0) (cs ds : List Call) (es : List Told) (r : Result Turn Hitch) → r ≢ Ok Go
+-- Steps that were stopped or failed come to the same with further steps listed behind them.
+HasStepped-longer : (may : Type 0) (cs ds : List Call) (es : List Told) (r : Result Turn SyncError) → r ≢ Ok Go
     → HasStepped may cs r es → HasStepped may (cs ++ ds) r es
 HasStepped-longer may cs ds es (Ok Go) other h = absurd (other refl)
 HasStepped-longer may cs ds es (Ok Stop) other h = (StopsAt-longer Made cs ds es h.0, h.1)
-HasStepped-longer may cs ds es (Err x) other h = HaltedBy-longer cs ds es x h
+HasStepped-longer may cs ds es (Err x) other h = UpToError-longer cs ds es x h
 
 -- The calls of the first i + 1 steps are those of the first i and that of the step after them.
 map_take : (steps : List Next) (i : ℕ) → i < length steps → map call_by (take (i + 1) steps)
@@ -288,7 +293,7 @@ map_take : (steps : List Next) (i : ℕ) → i < length steps → map call_by (t
 map_take steps i lt = rw (add-one, take-suc steps i Kind.Drop lt, map_push call_by) refl
 
 -- one more step of the list
-pub step_more : (may : Type 0) (steps : List Next) (i : ℕ) (es fs : List Told) (r : Result Turn Hitch)
+pub step_more : (may : Type 0) (steps : List Next) (i : ℕ) (es fs : List Told) (r : Result Turn SyncError)
     → i < length steps → AllAccepted (map call_by (take i steps)) es
     → HasStepped may (call_by (get_or steps i Kind.Drop) ∷ []) r fs
     → HasStepped may (map call_by (take (i + 1) steps)) r (es ++ fs)
@@ -296,9 +301,9 @@ step_more may steps i es fs r lt h k = rw (map_take steps i lt)
     (HasStepped-after may (map call_by (take i steps)) (call_by (get_or steps i Kind.Drop) ∷ []) es fs r
     (steps_go_on (take i steps)) h k)
 
--- For take_steps: a step at which the gate stops or that has a hitch says what came of all the
+-- For take_steps: a step at which the gate stops or that has an error says what came of all the
 -- steps.
-pub step_last : (may : Type 0) (steps : List Next) (i : ℕ) (es fs : List Told) (r : Result Turn Hitch)
+pub step_last : (may : Type 0) (steps : List Next) (i : ℕ) (es fs : List Told) (r : Result Turn SyncError)
     → i < length steps → r ≢ Ok Go → AllAccepted (map call_by (take i steps)) es
     → HasStepped may (call_by (get_or steps i Kind.Drop) ∷ []) r fs → HasStepped may (map call_by steps) r (es ++ fs)
 step_last may steps i es fs r lt other h k =
@@ -340,20 +345,20 @@ module _ (gives : Reading → Type 0) (may : Point → Type 0) (zones : ZoneTabl
     rest = then_more k.plan c cs e fs end on is ok k.rest;
   }
 
-  -- For go_on of Held, Seen and Listed: a hitch at the next call, then the end that it leads to,
-  -- are all that the sync adds, and no plan is made.
+  -- For see_cron, list_jobs and check_active: an error at the next call, then the end that it leads
+  -- to, are all that the sync adds, and no plan is made.
   pub From-failed : (K : Planned → List Told → Type 0) (c : Call) (cs : List Call)
-      (es fs : List Told) (h : Hitch) (end : SyncEnd) → HaltedBy (c ∷ []) es h → HasFailed gives [] h fs end
+      (es fs : List Told) (h : SyncError) (end : SyncEnd) → UpToError (c ∷ []) es h → HasFailed gives [] h fs end
       → IsFrom gives may zones K (c ∷ cs) (es ++ fs) end
   From-failed K c cs es fs x end h k = record {
     plan = None;
     timely = tt;
     seen = tt;
     rest = IsRest-failed gives may (reasons_of None) (c ∷ cs) es fs [] x end (Suits-none x)
-        (HaltedBy-longer (c ∷ []) cs es x h) k;
+        (UpToError-longer (c ∷ []) cs es x h) k;
   }
 
-  -- For Checked::go_on: where memory for a plan is lacking, the early end is all that is added.
+  -- For Checked::decide: where memory for a plan is lacking, the early end is all that is added.
   pub From-early : (K : Planned → List Told → Type 0) (fs : List Told) (why : Refusal) (end : SyncEnd)
       → why ≡ No.OutOfMemory → IsEarly gives [] why fs end → IsFrom gives may zones K [] fs end
   From-early K fs why end is k = record {
@@ -363,8 +368,8 @@ module _ (gives : Reading → Type 0) (may : Point → Type 0) (zones : ZoneTabl
     rest = early gives may (reasons_of None) [] [] fs why end (inr (tt, is)) k;
   }
 
-  -- For Listed::go_on: an answered SeeActive, then what a sync adds from Checked on, are what it
-  -- adds from Listed on.
+  -- For Listed::check_active: an answered SeeActive, then what a sync adds from Checked on, are
+  -- what it adds from Listed on.
   pub listed_more : (cron : Option CronJob) (jobs : List Job) (active : List (Option Job))
       (es fs : List Told) (end : SyncEnd) → IsOne Of.SeeActive (λ a. a ≡ Ok (Is.SeenActive active)) es
       → IsFrom gives may zones (λ p xs. (p.cron ≡ cron) × (p.jobs ≡ jobs) × (p.active ≡ active)) [] fs end
@@ -376,8 +381,8 @@ module _ (gives : Reading → Type 0) (may : Point → Type 0) (zones : ZoneTabl
       (λ f. f) one.of (ok_of one.entry.answer (Is.SeenActive active) one.says)
       (λ p h. (h.0, h.1, one.says ∙ ap (λ x. Ok (Is.SeenActive x)) (sym h.2))) k)
 
-  -- For Seen::go_on: an answered SeeJobs, then what a sync adds from Listed on, are what it adds
-  -- from Seen on.
+  -- For Seen::list_jobs: an answered SeeJobs, then what a sync adds from Listed on, are what it
+  -- adds from Seen on.
   pub seen_more : (cron : Option CronJob) (jobs : List Job) (es fs : List Told) (end : SyncEnd)
       → IsOne Of.SeeJobs (λ a. a ≡ Ok (Is.SeenJobs jobs)) es
       → IsFrom gives may zones (λ p xs. (p.cron ≡ cron) × (p.jobs ≡ jobs) × SeesActive p xs) (Of.SeeActive ∷ []) fs end
@@ -389,8 +394,8 @@ module _ (gives : Reading → Type 0) (may : Point → Type 0) (zones : ZoneTabl
       (ok_of one.entry.answer (Is.SeenJobs jobs) one.says)
       (λ p h. (h.0, (one.says ∙ ap (λ x. Ok (Is.SeenJobs x)) (sym h.1), h.2))) k)
 
-  -- For Held::go_on: an answered SeeCron, then what a sync adds from Seen on, are what it adds from
-  -- Held on.
+  -- For Held::see_cron: an answered SeeCron, then what a sync adds from Seen on, are what it adds
+  -- from Held on.
   pub held_more : (cron : Option CronJob) (es fs : List Told) (end : SyncEnd)
       → IsOne Of.SeeCron (λ a. a ≡ Ok (Is.SeenCron cron)) es
       → IsFrom gives may zones (λ p xs. (p.cron ≡ cron) × SeesJobs p xs) (Of.SeeJobs ∷ Of.SeeActive ∷ []) fs end
@@ -428,17 +433,17 @@ module _ (gives : Reading → Type 0) (may : Point → Type 0) where
       → IsRest gives may (reasons_with p) (calls_of p) es (Stopped Claimed)
   claim_stop p es one can = (rw one.only (one.of, one.says, inl ((p, refl), refl)), can)
 
-  -- For claim: a Claim that has a hitch, then the end that it leads to, are what the plan's calls
+  -- For claim: a Claim that has an error, then the end that it leads to, are what the plan's calls
   -- add.
-  pub claim_failed : (p : Planned) (o : Outline) (es fs : List Told) (h : Hitch) (end : SyncEnd) → IsOutline p o
-      → IsHitched (Of.Claim p) h es → HasFailed gives (reasons_at o.retry o.failed h) h fs end
+  pub claim_failed : (p : Planned) (o : Outline) (es fs : List Told) (h : SyncError) (end : SyncEnd) → IsOutline p o
+      → HasErred (Of.Claim p) h es → HasFailed gives (reasons_at o.retry o.failed h) h fs end
       → IsRest gives may (reasons_with p) (calls_of p) (es ++ fs) end
   claim_failed p o es fs h end is one k =
       let rs = p.steps.reasons in
       let tried = rw (is.retry, is.failed) at k in
       IsRest-failed gives may (reasons_with p) (calls_of p) es fs (reasons_at rs (rs ++ FailedCreate ∷ []) h) h end
       (Suits-by rs (rs ++ FailedCreate ∷ []) h)
-      (hitched_first (Of.Claim p) (step_calls p.steps ++ Of.Finish Well rs ∷ []) es h one) tried
+      (erred_first (Of.Claim p) (step_calls p.steps ++ Of.Finish Well rs ∷ []) es h one) tried
 
 -- ---- the whole
 

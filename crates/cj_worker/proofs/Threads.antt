@@ -53,7 +53,7 @@ module _ {H A B : Type 0} (pass_of : H → PassView) (clock_of : H → A) (gate_
   abbrev pub WentIn : H → WorkerEnd → Type 0
   WentIn h e = Went (gives (clock_of h)) (may (gate_of h)) (zones_of h) (pass_of h) e
 
-  -- For went_all: how a worker went in a thread, told by what the thread was given.
+  -- For went_all: how a worker went in a thread, by what the thread was given.
   went_by : (clock : A) (gate : B) (zones : ZoneTable) (h : H) (e : WorkerEnd) → IsBy clock gate zones h → WentIn h e
       → Went (gives clock) (may gate) zones (pass_of h) e
   went_by clock gate zones h e by went =
@@ -61,7 +61,7 @@ module _ {H A B : Type 0} (pass_of : H → PassView) (clock_of : H → A) (gate_
       (subst (λ x. Went (gives (clock_of h)) (may x) zones (pass_of h) e) by.1
       (subst (λ x. Went (gives (clock_of h)) (may (gate_of h)) x (pass_of h) e) by.2 went))
 
-  -- The same of all threads.
+  -- How the workers went in all threads, by what the threads were given.
   went_all : (clock : A) (gate : B) (zones : ZoneTable) (hs : List H) (es : List WorkerEnd)
       → AllByRecursion (IsBy clock gate zones) hs → AllZip WentIn hs es
       → AllZip (Went (gives clock) (may gate) zones) (map pass_of hs) es

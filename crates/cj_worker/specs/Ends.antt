@@ -1,4 +1,4 @@
--- What the end of a sync tells of the pass, at whatever desk.
+-- What the end of a sync says of the pass, at any desk.
 use Rattle.std.specs.Prelude.{◌≡◌, List, [], ◌∷◌, ◌++◌}
 use Rattle.cj_base.specs.declared.refusal.Refusal.{Refusal}
 use Rattle.cj_base.specs.declared.refusal.Refusal.TheVariants as No
@@ -28,7 +28,7 @@ IsBreaking No.Estranged = Unit {0}
 IsBreaking No.OutOfMemory = Unit {0}
 IsBreaking _ = ⊥
 
--- where the sync is Broken by HistoryFull, this is so
+-- where the sync is Broken by HistoryFull, P holds
 -- rule: sync-ends
 abbrev pub EndsFull : SyncEnd → Type 0 → Type 0
 EndsFull (Broken r) P = IfFull r P

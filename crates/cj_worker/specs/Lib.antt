@@ -2,6 +2,6 @@ pub mod Sequences
 pub mod Zoned
 pub mod Syncs
 pub mod Outlines
-pub mod Hitches
+pub mod Errors
 pub mod Ends
 pub mod Workers

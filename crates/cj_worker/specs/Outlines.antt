@@ -33,7 +33,7 @@ call_by Kind.Status = Of.SetStatus
 abbrev pub step_calls : Steps → List Call
 step_calls s = map call_of (all_steps s)
 
--- so many drops
+-- one drop for each Job
 abbrev pub drops_of : List JobRef → List Next
 drops_of jobs = map (λ _. Kind.Drop) jobs
 

@@ -1,4 +1,5 @@
--- What a caller adds to a history that makes calls one after the other, and stops at the first that is refused.
+-- What a caller adds to a history that makes calls one after the other, and stops at the first that
+-- is refused.
 use Rattle.std.specs.Prelude.{◌≡◌, ◌⊎◌, IsOk, List, [], ◌∷◌, Err}
 use Rattle.cj_base.specs.declared.refusal.Refusal.{Refusal}
 use Rattle.cj_base.specs.declared.refusal.Refusal.TheVariants as No
@@ -23,7 +24,8 @@ AllAccepted [] (e ∷ es) = ⊥
 AllAccepted (c ∷ cs) [] = ⊥
 AllAccepted (c ∷ cs) (e ∷ es) = (e.call ≡ c) × IsOk e.answer × AllAccepted cs es
 
--- the entries are of a beginning of these calls, in order, all accepted, and the sync isn't ended by them
+-- the entries are of a beginning of these calls, in order, all accepted, and the sync isn't ended
+-- by them
 -- rule: sync-calls
 abbrev pub Begun : List Call → List Told → Type 0
 Begun cs [] = Unit {0}
@@ -35,7 +37,8 @@ Begun (c ∷ cs) (e ∷ es) = (e.call ≡ c) × IsOk e.answer × (IsFinish c →
 abbrev pub FirstRefused : List Call → List Told → Refusal → Type 0
 FirstRefused [] es r = ⊥
 FirstRefused (c ∷ cs) [] r = ⊥
-FirstRefused (c ∷ cs) (e ∷ es) r = (e.call ≡ c) × (((e.answer ≡ Err r) × (es ≡ [])) ⊎ (IsOk e.answer × FirstRefused cs es r))
+FirstRefused (c ∷ cs) (e ∷ es) r = (e.call ≡ c) ×
+    (((e.answer ≡ Err r) × (es ≡ [])) ⊎ (IsOk e.answer × FirstRefused cs es r))
 
 -- the call that a point comes after
 -- rule: stopped-sync
@@ -46,12 +49,14 @@ Names Listed c = c ≡ Of.SeeJobs
 Names Claimed c = (p : Planned) × (c ≡ Of.Claim p)
 Names Made c = c ≡ Of.MakeNext
 
--- the entries are of these calls up to and with the one that the point names, in order, all accepted
+-- the entries are of these calls up to and with the one that the point names, in order, all
+-- accepted
 -- rule: stopped-sync
 abbrev pub StopsAt : Point → List Call → List Told → Type 0
 StopsAt point [] es = ⊥
 StopsAt point (c ∷ cs) [] = ⊥
-StopsAt point (c ∷ cs) (e ∷ es) = (e.call ≡ c) × IsOk e.answer × ((Names point c × (es ≡ [])) ⊎ StopsAt point cs es)
+StopsAt point (c ∷ cs) (e ∷ es) = (e.call ≡ c) × IsOk e.answer ×
+    ((Names point c × (es ≡ [])) ⊎ StopsAt point cs es)
 
 -- the last entry meets P
 abbrev pub EndsWith : (Told → Type 0) → List Told → Type 0

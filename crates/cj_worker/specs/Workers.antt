@@ -31,8 +31,8 @@ last_end (Broken r) = Some (Broken r)
 last_end (Stopped point) = Some (Stopped point)
 last_end _ = None
 
--- what such an end says: the last receipt is a new one, of a Take from a shut queue, or of the call after
--- which the gate stopped the sync
+-- what such an end says: the last receipt is a new one, of a Take from a shut queue, or of the call
+-- after which the gate stopped the sync
 -- rule: worker-ends
 abbrev pub HasEnd : SyncEnd → PassView → PassView → Type 0
 HasEnd ShutDown p q = EndsBy p q IsShut
@@ -50,9 +50,11 @@ abbrev pub added_by : List MadeSync → List Told
 added_by [] = []
 added_by (s ∷ ss) = s.entries ++ added_by ss
 
--- the entries are of whole syncs, one after the other, of which the last alone is one that a worker ends on
+-- the entries are of whole syncs, one after the other, of which the last alone is one that a worker
+-- ends on
 -- rule: worker-ends
-pub record AreSyncs (F : List Told → SyncEnd → Type 0) (es : List Told) (end : SyncEnd) : Type 0 where
+pub record AreSyncs (F : List Told → SyncEnd → Type 0) (es : List Told)
+    (end : SyncEnd) : Type 0 where
   pub before : List MadeSync
   pub whole : AllByRecursion (λ s. F s.entries s.end × (last_end s.end ≡ None)) before
   pub last : List Told
@@ -64,7 +66,7 @@ abbrev pub HasSynced : (List Told → SyncEnd → Type 0) → List Told → Opti
 HasSynced F es (Some end) = F es end
 HasSynced F es None = (end : SyncEnd) × F es end × (last_end end ≡ None)
 
--- the history of a hub isn't told
+-- contracts don't know the history of a hub
 abbrev pub untold : WorldLog
 untold = record { limits = kept 0 0; history = [] }
 
@@ -73,10 +75,11 @@ untold = record { limits = kept 0 0; history = [] }
 abbrev pub Gets : PassView → PassView → (List Told → Type 0) → Type 0
 Gets p q F = Adds false untold untold p q F
 
--- a worker that was given the pass hands it back so: its new receipts are of whole syncs one after the other,
--- the last of which is that on which it ended
+-- a worker that was given the pass hands it back so: its new receipts are of whole syncs one after
+-- the other, the last of which is that on which it ended
 -- rules: worker-ends, worker-passes
-pub record Went (gives : Reading → Type 0) (may : Point → Place → Type 0) (zones : ZoneTable) (p : PassView) (e : WorkerEnd) : Type 0 where
+pub record Went (gives : Reading → Type 0) (may : Point → Place → Type 0) (zones : ZoneTable)
+    (p : PassView) (e : WorkerEnd) : Type 0 where
   pub longer : Extends p e.pass
   pub syncs : Gets p e.pass (λ es. AreSyncs (IsSync gives may zones) es e.end)
   pub ended : HasEnd e.end p e.pass
@@ -90,5 +93,7 @@ IsPart (x ∷ xs) (y ∷ ys) = ((x ≡ y) × IsPart xs ys) ⊎ IsPart (x ∷ xs)
 
 -- the ends are those of the passes, in order, without those that were lost
 -- rule: worker-passes
-abbrev pub WentSome : (Reading → Type 0) → (Point → Place → Type 0) → ZoneTable → List PassView → List WorkerEnd → Type 0
-WentSome gives may zones passes ends = (some : List PassView) × IsPart some passes × AllZip (Went gives may zones) some ends
+abbrev pub WentSome : (Reading → Type 0) → (Point → Place → Type 0) → ZoneTable → List PassView
+    → List WorkerEnd → Type 0
+WentSome gives may zones passes ends = (some : List PassView) × IsPart some passes
+    × AllZip (Went gives may zones) some ends

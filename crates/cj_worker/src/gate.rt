@@ -24,7 +24,8 @@ pub enum Turn {
     Stop,
 }
 
-/// What a sync passes between its calls, with no lock held. It may wait there, or be stopped for good.
+/// What a sync passes between its calls, with no lock held. It may wait there, or be stopped for
+/// good.
 pub trait Gate {
     ghost use Rattle.cj_types.specs.Keys.{Place};
     ghost use Rattle.cj_worker.specs.declared.gate.Point.{Point};

@@ -17,8 +17,8 @@ pub(crate) enum Next {
     Status,
 }
 
-/// What a plan asks for after its claim: its steps in order, and the reasons for each way to end. All of it
-/// is grown before the claim, so that nothing after it takes memory.
+/// What a plan asks for after its claim: its steps in order, and the reasons for each way to end.
+/// All of it is grown before the claim, so that nothing after it takes memory.
 #[derive(Drop)]
 pub(crate) struct Outline {
     pub(crate) steps: Vec<Next>,

@@ -1,12 +1,12 @@
 //! The steps of a claimed plan.
-ghost use Rattle.std.specs.Prelude.{[], ◌∷◌, map};
+ghost use Rattle.std.specs.Prelude.{[], ◌∷◌, map, IfErr};
 ghost use Rattle.cj_hub.specs.Runs.{Adds, FoundFull};
 ghost use Rattle.cj_worker.specs.Outlines.{call_by};
-ghost use Rattle.cj_worker.specs.Hitches.{HasStepped, HitchesFull};
+ghost use Rattle.cj_worker.specs.Errors.{HasStepped, ErrorFull};
 
 use crate::asking::make;
+use crate::error::SyncError;
 use crate::gate::{Gate, Point, Turn};
-use crate::hitch::Hitch;
 use crate::outline::Next;
 use cj_calls::Call;
 use cj_hub::{Desk, Pass};
@@ -18,11 +18,11 @@ fn take_step<D: Desk, G: Gate>(
     gate: &G,
     key: &Key,
     step: Next,
-) -> Result<Turn, Hitch>
+) -> Result<Turn, SyncError>
     ensures adds { Adds D.tells (D.history desk.old) (D.history desk.new) pass.old pass.new
         (HasStepped (G.may_stop gate.now Point.Made key.now) (call_by step ∷ []) result) }
-    ensures full { HitchesFull result
-        (FoundFull D.tells (D.history desk.new) (D.refused_full desk.new)) }
+    ensures full { IfErr result (λ e. ErrorFull e
+        (FoundFull D.tells (D.history desk.new) (D.refused_full desk.new))) }
 {
     match step {
         Next::Drop => {
@@ -40,24 +40,25 @@ fn take_step<D: Desk, G: Gate>(
     }
 }
 
-/// Makes the steps in order, up to the first that isn't accepted, or to the making at which the gate stops.
+/// Makes the steps in order, up to the first that isn't accepted, or to the making at which the
+/// gate stops.
 pub(crate) fn take_steps<D: Desk, G: Gate>(
     desk: &mut D,
     pass: &mut Pass,
     gate: &G,
     key: &Key,
     steps: &[Next],
-) -> Result<Turn, Hitch>
+) -> Result<Turn, SyncError>
     ensures adds { Adds D.tells (D.history desk.old) (D.history desk.new) pass.old pass.new
         (HasStepped (G.may_stop gate.now Point.Made key.now) (map call_by steps.now) result) }
-    ensures full { HitchesFull result
-        (FoundFull D.tells (D.history desk.new) (D.refused_full desk.new)) }
+    ensures full { IfErr result (λ e. ErrorFull e
+        (FoundFull D.tells (D.history desk.new) (D.refused_full desk.new))) }
 {
     for step in steps {
         match take_step(desk, pass, gate, key, *step) {
             Ok(Turn::Go) => {}
             Ok(Turn::Stop) => return Ok(Turn::Stop),
-            Err(hitch) => return Err(hitch),
+            Err(error) => return Err(error),
         }
     }
     Ok(Turn::Go)

@@ -12,8 +12,8 @@ use cj_zone::ZoneTable;
 use std::alloc::Global;
 use std::sync::Wait;
 
-// What a worker does after a sync: it goes on, or ends on it. Work is given up where memory was lacking or
-// the sync broke.
+// What a worker does after a sync: it goes on, or ends on it. Work is given up where memory was
+// lacking or the sync broke.
 fn after(rt: &impl Wait, hub: &Hub, end: SyncEnd) -> Option<SyncEnd>
     ensures { result ≡ last_end end }
 {

@@ -61,7 +61,8 @@ impl<G: Gate, C: Clock> Promise<WorkerEnd> for WentFrom<G, C> {
         p.pass.value e };
 }
 
-// Each pass in a thread of its own. All memory that this takes is there before the first thread is started.
+// Each pass in a thread of its own. All memory that this takes is there before the first thread is
+// started.
 fn run_scoped<R: Threads + Wait + Sync, G: Gate + Sync, C: Clock + Sync>(
     rt: &R,
     alloc: Global,
@@ -103,14 +104,15 @@ fn run_scoped<R: Threads + Wait + Sync, G: Gate + Sync, C: Clock + Sync>(
     )
 }
 
-/// Workers, each with a pass of its own in a thread of its own, until the queue is shut and has no key.
+/// Workers, each with a pass of its own in a thread of its own, until the queue is shut and has no
+/// key.
 ///
-/// A worker makes one whole sync after the other. It goes on after one that is done or to be tried again, and
-/// ends after one that broke or was stopped. The passes come back in order, each with the receipts of its
-/// worker's syncs, one after the other, and with the end of the last one. One whose thread
-/// can't be started is lost. Work on the hub is given up where not every worker can be started, where a sync
-/// broke, and where one lacked memory. Refused `OutOfMemory` where the threads can't be listed; no thread is
-/// started then, and all passes are lost.
+/// A worker makes one whole sync after the other. It goes on after one that is done or to be tried
+/// again, and ends after one that broke or was stopped. The passes come back in order, each with
+/// the receipts of its worker's syncs, one after the other, and with the end of the last one. One
+/// whose thread can't be started is lost. Work on the hub is given up where not every worker can be
+/// started, where a sync broke, and where one lacked memory. Refused `OutOfMemory` where the
+/// threads can't be listed; no thread is started then, and all passes are lost.
 pub fn run_workers<R: Threads + Wait + Sync, G: Gate + Sync, C: Clock + Sync>(
     rt: &R,
     alloc: Global,

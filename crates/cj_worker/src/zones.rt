@@ -25,8 +25,8 @@ fn share(alloc: Global, zone: Option<&Zone>) -> Result<Option<Shared<Zone>>, Ref
     }
 }
 
-/// The zone by which a CronJob's schedule is read: the one that it names in the table, none where that isn't
-/// there; the table's local one where it names none. Without a CronJob there is none.
+/// The zone by which a CronJob's schedule is read: the one that it names in the table, none where
+/// that isn't there; the table's local one where it names none. Without a CronJob there is none.
 pub(crate) fn zone_for(
     alloc: Global,
     table: &ZoneTable,

@@ -114,7 +114,8 @@ module _ (limits : Kept) (h : List Told) (s : State) (st : Stands limits h s) (r
   pub sound_now : IsSound s
   sound_now = subst IsSound (sym st.state_is) (sound_of limits.window h)
 
-  module _ (caller : Caller) (call : Call) (r : Result Reply Refusal) (s' : State) (h' : List Told) (p : IsPlanned call) (a : Advanced s h caller call r s' h') where
+  module _ (caller : Caller) (call : Call) (r : Result Reply Refusal) (s' : State) (h' : List Told) (p : IsPlanned call)
+      (a : Advanced s h caller call r s' h') where
     -- An answer that is entered is the one that the history gives.
     answered : is_entered r ≡ true → r ≡ answer_of limits.window h caller call
     answered e = sym (ap (λ (m : Handled). m.answer) (a.entered e).0) ∙ ap

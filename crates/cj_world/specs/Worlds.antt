@@ -33,19 +33,23 @@ pub record Stands (limits : Kept) (h : List Told) (s : State) : Type 0 where
   pub small : limits.history ≤ last_history
   pub state_is : s ≡ state_of limits.window h
 
--- what one call answers and adds. It is refused with HistoryFull exactly at a full history, before anything
--- else; there, where nothing can be taken, and for want of memory nothing is added. Else the answer is the
--- one that the history gives, and the entry is added.
+-- what one call answers and adds. It is refused with HistoryFull exactly at a full history, before
+-- anything else; there, where nothing can be taken, and for want of memory nothing is added. Else
+-- the answer is the one that the history gives, and the entry is added.
 -- rule: entered
-pub record Applied (limits : Kept) (h : List Told) (caller : Caller) (call : Call) (r : Result Reply Refusal) (h' : List Told) : Type 0 where
-  pub entered : is_entered r ≡ true → (r ≡ answer_of limits.window h caller call) × (h' ≡ told caller call r ∷ h)
+pub record Applied (limits : Kept) (h : List Told) (caller : Caller) (call : Call)
+    (r : Result Reply Refusal) (h' : List Told) : Type 0 where
+  pub entered : is_entered r ≡ true
+      → (r ≡ answer_of limits.window h caller call) × (h' ≡ told caller call r ∷ h)
   pub unentered : is_entered r ≡ false → h' ≡ h
   pub empty : r ≡ Err Empty → answer_of limits.window h caller call ≡ Err Empty
   pub full : (r ≡ Err HistoryFull) ↔ (limits.history ≤ length h)
 
 -- the same of the state and the entries
-pub record Advanced (s : State) (h : List Told) (caller : Caller) (call : Call) (r : Result Reply Refusal) (s' : State) (h' : List Told) : Type 0 where
-  pub entered : is_entered r ≡ true → (step_of s caller call ≡ handled r s') × (h' ≡ told caller call r ∷ h)
+pub record Advanced (s : State) (h : List Told) (caller : Caller) (call : Call)
+    (r : Result Reply Refusal) (s' : State) (h' : List Told) : Type 0 where
+  pub entered : is_entered r ≡ true
+      → (step_of s caller call ≡ handled r s') × (h' ≡ told caller call r ∷ h)
   pub unentered : is_entered r ≡ false → (s' ≡ s) × (h' ≡ h)
   pub empty : r ≡ Err Empty → (step_of s caller call).answer ≡ Err Empty
   pub full : r ≢ Err HistoryFull
@@ -53,11 +57,13 @@ pub record Advanced (s : State) (h : List Told) (caller : Caller) (call : Call) 
 
 -- the receipts of an entry: two, where the answer is entered
 abbrev pub receipts_of : Caller → Call → Result Reply Refusal → Option (Told × Told)
-receipts_of caller call r = if is_entered r then Some (told caller call r, told caller call r) else None
+receipts_of caller call r = if is_entered r then Some (told caller call r, told caller call r) else
+    None
 
 -- a call that was entered: two receipts of its entry, which was added
 -- rule: entered
-pub record Entered (limits : Kept) (h : List Told) (caller : Caller) (call : Call) (p : Told × Told) (h' : List Told) : Type 0 where
+pub record Entered (limits : Kept) (h : List Told) (caller : Caller) (call : Call) (p : Told × Told)
+    (h' : List Told) : Type 0 where
   pub answer : Result Reply Refusal
   pub is_entered : is_entered answer ≡ true
   pub first : p.0 ≡ told caller call answer

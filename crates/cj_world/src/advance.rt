@@ -42,8 +42,8 @@ fn push(entries: &mut Vec<Entry>, entry: Entry)
     entries.push_reserved(entry);
 }
 
-/// Makes the call on the state, and adds its entry, which shares the call, where its answer is one that is
-/// entered. Where there is no memory all is as it was.
+/// Makes the call on the state, and adds its entry, which shares the call, where its answer is one
+/// that is entered. Where there is no memory all is as it was.
 #[tactic(auto, using(crate::proofs::Keeps::row_given, crate::proofs::Keeps::advanced_entered, crate::proofs::Keeps::receipts_entered, crate::proofs::Keeps::receipts_empty))]
 pub(crate) fn advance(
     alloc: Global,

@@ -15,7 +15,7 @@ use crate::advance::{Made, advance};
 use cj_base::both;
 use cj_calls::{Answer, Call, Caller, Entry};
 use cj_queue::Queue;
-use cj_state::{Seats, State};
+use cj_state::{InFlightSyncs, State};
 use cj_store::Store;
 use cj_types::{CronJob, Job, Key, Limits, Listing, Refusal, Shared, TryCopy, Version};
 use cj_watch::{Mirror, WatchLog, Window};
@@ -25,8 +25,8 @@ use std::marker::Model;
 
 /// What is stored, told, listed and queued, who works on what, and the history that led to it.
 ///
-/// Contracts see the limits and the history, the newest entry first. Its type keeps that the history is
-/// within its limit and legal, and that all that it holds is what the history leaves.
+/// Contracts see the limits and the history, the newest entry first. Its type keeps that the
+/// history is within its limit and legal, and that all that it holds is what the history leaves.
 pub struct World {
     alloc: Global,
     limits: Limits,
@@ -45,8 +45,6 @@ impl Model for World {
     ghost invariant = { λ w. Stands w.limits (reverse w.entries.items) w.state };
 }
 
-// A function of its own, so that whoever gives up a world makes one call and not one for each part. What the state
-// has within is given up by another.
 impl Drop for World {
     fn drop(self) {
         let World {
@@ -87,7 +85,7 @@ impl World {
             watch,
             mirror: Mirror::new(alloc),
             queue: Queue::new(alloc),
-            seats: Seats::new(alloc),
+            syncs: InFlightSyncs::new(alloc),
         };
         Ok(World {
             alloc,
@@ -97,11 +95,11 @@ impl World {
         })
     }
 
-    /// All entries, the oldest first, with what holds of every history: it is within its limit; each answer
-    /// is the one that the entries before it give, and each plan that came in is a decision; no key is in two
-    /// workers' hands; no scheduled time of a CronJob got two Jobs; a Job that was claimed under Forbid
-    /// or Replace was made alone; and the time of each accepted claim is the greatest one missed by the
-    /// CronJob that stood then.
+    /// All entries, the oldest first, with what holds of every history: it is within its limit;
+    /// each answer is the one that the entries before it give, and each plan that came in is a
+    /// decision; no key is in two workers' hands; no scheduled time of a CronJob got two Jobs; a
+    /// Job that was claimed under Forbid or Replace was made alone; and the time of each accepted
+    /// claim is the greatest one missed by the CronJob that stood then.
     pub fn history(&self) -> &[Entry]
         ensures entries { reverse result.now ≡ self.now.history }
         ensures short { (length self.now.history ≤ self.now.limits.history)
@@ -158,9 +156,9 @@ impl World {
         advance(self.alloc, &mut self.state, &mut self.entries, caller, call)
     }
 
-    /// Makes one call. Its answer is the one that the history gives, and its entry is added; or it is refused
-    /// for want of memory, because the history is full, or because there is nothing to take, and all is as it
-    /// was.
+    /// Makes one call. Its answer is the one that the history gives, and its entry is added; or it
+    /// is refused for want of memory, because the history is full, or because there is nothing to
+    /// take, and all is as it was.
     pub fn apply(&mut self, caller: &Caller, call: &Call) -> Answer
         ensures limits { self.new.limits ≡ self.old.limits }
         ensures applied { Applied self.old.limits self.old.history caller.now call.now result
@@ -244,13 +242,13 @@ impl World {
         self.state.queue.front().is_some()
     }
 
-    /// Whether no key is in the line, and nobody holds one. By the history alone: no key is queued and none is held
-    /// (`rest_law` of cj_history).
+    /// Whether no key is in the line, and nobody holds one. By the history alone: no key is queued
+    /// and none is held (`rest_law` of cj_history).
     pub fn at_rest(&self) -> bool
         ensures { IsTrue result ↔ IsAtRest (state_in self.now) }
     {
         let no_line = self.state.queue.front().is_none();
-        let no_seat = self.state.seats.is_empty();
-        no_line && no_seat
+        let no_sync = self.state.syncs.is_empty();
+        no_line && no_sync
     }
 }

@@ -3,8 +3,8 @@ pub mod Shapes
 pub mod Follows
 pub mod Sound
 pub mod Fine
-pub mod Seatings
-pub mod Seated
+pub mod SyncChanges
+pub mod HeldSyncs
 pub mod Hands
 pub mod Inputs
 pub mod Callers

@@ -1,5 +1,5 @@
 pub mod Answers
-pub mod Seats
+pub mod InFlightSyncs
 pub mod Exclusive
 pub mod Callers
 pub mod Rest

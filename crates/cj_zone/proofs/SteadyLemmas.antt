@@ -32,7 +32,7 @@ use Rattle.jiff_tz.specs.Tzif.{count_at, type_after}
 use Rattle.jiff_tz.specs.declared.tzif.Tzif.{Tzif}
 use Rattle.cj_zone.specs.Offset.{rule_offset}
 use Rattle.cj_zone.specs.Steady.{IsSteady}
-use Rattle.cj_zone.specs.Stretch.{IsStretch}
+use Rattle.cj_zone.specs.Interval.{IsOffsetInterval}
 use Rattle.cj_zone.proofs.ClockLemmas.{rule_offset-view}
 use Rattle.cj_zone.proofs.TablesLemmas.{lt_yes, lt_no, offset_of_past, change_of, found_by}
 
@@ -212,7 +212,7 @@ second_before f n at g t floor range e most late within =
 
 -- Where a clock is steady, it goes by the one offset that it has at the start.
 pub one_clock : (f : ℕ → ℤ) (offset : ℤ) (at last : ℕ) → IsOffsetSeconds offset → offset ≡ f at → IsSteady f at last
-    → IsStretch f offset offset at last
+    → IsOffsetInterval f offset offset at last
 one_clock f offset at last range e h = record {
   one_in = range;
   other_in = range;

@@ -7,7 +7,7 @@ use jiff::tz::TimeZone;
 use jiff_core::Timestamp;
 use jiff_tz::Tzif;
 
-/// Whether the instant lies at or after the last transition.
+/// Whether the instant is at or after the last transition of the tables.
 pub(crate) fn is_past(tables: &Tzif, from: Seconds) -> bool
     ensures past { result ≡ true → Table.count_at tables.now (pos from)
         ≡ vec_len tables.now.transitions }
@@ -20,7 +20,7 @@ pub(crate) fn is_past(tables: &Tzif, from: Seconds) -> bool
     }
 }
 
-/// The same instant in `jiff`.
+/// The instant as a timestamp of `jiff`.
 pub(crate) fn timestamp(at: Seconds) -> Timestamp
     ensures { result.nanosecond ≡ pos at *ℤ pos 1_000_000_000 }
 {
@@ -49,7 +49,7 @@ pub(crate) fn epoch() -> Seconds
     }
 }
 
-// A second that lies at or before an instant, or the first of 1970 where it is earlier.
+// A second at or before an instant, or the first of 1970 where it is earlier.
 fn since(second: i64, at: Seconds) -> Seconds
     requires { second ≤ℤ pos at }
     ensures above { second ≤ℤ pos result }
@@ -61,7 +61,7 @@ fn since(second: i64, at: Seconds) -> Seconds
     Seconds::new(second as u64).unwrap_or(at)
 }
 
-/// How far the clock of the tables is ahead.
+/// The tables' UTC offset at the instant, in seconds.
 pub(crate) fn offset_of(tables: &Tzif, at: Seconds) -> i64
     ensures value { result ≡ (Table.offset_at tables.now (pos at *ℤ pos 1_000_000_000)).seconds }
     ensures in_range { IsOffsetSeconds result }
@@ -70,7 +70,7 @@ pub(crate) fn offset_of(tables: &Tzif, at: Seconds) -> i64
     TimeZone::tzif(tables).to_offset(instant).seconds() as i64
 }
 
-/// The last second before the next transition.
+/// The last second before the next transition after the instant.
 pub(crate) fn last_before_next(tables: &Tzif, from: Seconds) -> u64
     requires { Table.count_at tables.now (pos from) < vec_len tables.now.transitions }
     ensures before { pos result <ℤ (Table.transition_at tables.now
@@ -84,8 +84,8 @@ pub(crate) fn last_before_next(tables: &Tzif, from: Seconds) -> u64
     }
 }
 
-/// The second of the last transition at or before the instant, and the first of 1970 where it is earlier or there is
-/// none.
+/// The second of the last transition at or before the instant; the first of 1970 where that is
+/// earlier or missing.
 pub(crate) fn first_since_change(tables: &Tzif, at: Seconds) -> Seconds
     requires { Table.count_at tables.now (pos at) < vec_len tables.now.transitions }
     ensures first { result ≤ at }
@@ -99,7 +99,7 @@ pub(crate) fn first_since_change(tables: &Tzif, at: Seconds) -> Seconds
     }
 }
 
-/// The same of the last transition of the tables.
+/// The second of the tables' last transition; the first of 1970 where that is earlier or missing.
 pub(crate) fn last_change(tables: &Tzif, at: Seconds) -> Seconds
     requires { Table.count_at tables.now (pos at) ≡ vec_len tables.now.transitions }
     ensures first { result ≤ at }

@@ -4,12 +4,12 @@ ghost use Rattle.jiff_tz.specs.Tzif as Table;
 ghost use Rattle.cj_zone.specs.Clock.{rules_offset};
 ghost use Rattle.cj_zone.specs.Offset.{zone_offset};
 ghost use Rattle.cj_zone.specs.Steady.{IsSteady, IsSameYear};
-ghost use Rattle.cj_zone.specs.Stretch.{IsStretch};
+ghost use Rattle.cj_zone.specs.Interval.{IsOffsetInterval};
 
 use crate::Zone;
 use crate::changes::{is_past, last_before_next, timestamp};
+use crate::interval::OffsetInterval;
 use crate::rules::Rules;
-use crate::stretch::Stretch;
 use cj_base::Seconds;
 use jiff::Timestamp;
 use jiff::tz::TimeZone;
@@ -28,7 +28,8 @@ fn end_of_month(at: Seconds) -> u64
     (at.get() / DAY + left) * DAY + (DAY - 1)
 }
 
-// A second before a rule's clock changes, and in the instant's month.
+// A second up to which a rule's clock keeps its offset: before its next change, and in the
+// instant's month.
 fn of_rule(rule: posix::TimeZone, at: Seconds) -> u64
     ensures low { at ≤ result }
     ensures steady { IsSteady (λ t. (Posix.offset_at rule (pos t *ℤ pos 1_000_000_000)).seconds) at
@@ -71,14 +72,15 @@ fn of_rules(rules: &Rules, at: Seconds) -> u64
     }
 }
 
-fn from_rules(rules: &Rules, at: Seconds) -> Stretch
-    ensures offsets { IsStretch (rules_offset rules.now) result.one result.other at result.last }
+fn from_rules(rules: &Rules, at: Seconds) -> OffsetInterval
+    ensures offsets { IsOffsetInterval (rules_offset rules.now) result.one result.other at
+        result.last }
     ensures last { at ≤ result.last }
     ensures begins { result.first ≡ at }
     ensures steady { result.other ≡ result.one }
 {
     let offset = rules.offset(at).seconds as i64;
-    Stretch {
+    OffsetInterval {
         one: offset,
         other: offset,
         first: at,
@@ -86,10 +88,11 @@ fn from_rules(rules: &Rules, at: Seconds) -> Stretch
     }
 }
 
-/// The stretch that begins at the instant and in which the clock stays as far ahead as it is then: up to the
-/// next change or the end of the instant's month, whichever comes first.
-pub fn steady_from(zone: &Zone, at: Seconds) -> Stretch
-    ensures offsets { IsStretch (zone_offset zone.now) result.one result.other at result.last }
+/// An interval from the instant on in which the clock keeps its offset: up to the next change, or
+/// to the end of the instant's month if that is earlier.
+pub fn steady_from(zone: &Zone, at: Seconds) -> OffsetInterval
+    ensures offsets { IsOffsetInterval (zone_offset zone.now) result.one result.other at
+        result.last }
     ensures last { at ≤ result.last }
     ensures begins { result.first ≡ at }
     ensures steady { result.other ≡ result.one }

@@ -1,7 +1,8 @@
 use cj_program::{Failure, Seconds, by_clock, time_text};
 use std::time::{SystemTime, UNIX_EPOCH};
 
-// The time of the machine's clock, in whole seconds; none where there is no clock, or it stands outside of 1970 to 9998.
+// The time of the machine's clock, in whole seconds; none where there is no clock, or its time is
+// outside of 1970 to 9998.
 fn clock(rt: &HostRuntime) -> Option<Seconds> {
     let Ok(now) = SystemTime::now(rt) else {
         return None;
@@ -12,8 +13,8 @@ fn clock(rt: &HostRuntime) -> Option<Seconds> {
     Seconds::new(since.as_secs())
 }
 
-/// The moment that a text means by the machine's clock, as `-1h`, or that is now where there is no text; none where the
-/// text has none to do with the clock, or there is no clock.
+/// The moment that a text means by the machine's clock, as `-1h`, or that is now where there is no
+/// text; none where the text has none to do with the clock, or there is no clock.
 pub fn moment_by_clock(rt: &HostRuntime, text: Option<&str>) -> Result<Option<String>, Failure> {
     let Some(now) = clock(rt) else {
         return Ok(None);

@@ -5,10 +5,11 @@ use std::env;
 use std::env::VarError;
 use std::fs::File;
 
-// A zone file has at most so many bytes.
+// The most bytes of a zone file.
 const MOST_ZONE_BYTES: usize = 1_048_576;
 
-// The file of a zone in the folder; none where there is no such file, or more bytes in it than a zone file has.
+// The file of a zone in the folder; none where there is no such file, or it is too large for a zone
+// file.
 fn file_of(rt: &HostRuntime, folder: &str, name: &str) -> Result<Option<ZoneFile>, Failure> {
     let alloc = rt.alloc();
     let path = format!(in alloc; "{folder}/{name}")?;
@@ -25,7 +26,8 @@ fn file_of(rt: &HostRuntime, folder: &str, name: &str) -> Result<Option<ZoneFile
     }
 }
 
-// The file of a zone more, where the zone's name leads to one in the folder. No folder has the empty name.
+// Adds the file of a zone, where the zone's name leads to one in the folder. No folder has the
+// empty name.
 fn push_file(
     rt: &HostRuntime,
     files: &mut Vec<ZoneFile>,
@@ -56,7 +58,7 @@ pub fn named_file(rt: &HostRuntime, folder: &str, name: &str) -> Result<Vec<Zone
     Ok(files)
 }
 
-/// The files of the zones that an input names, behind those that are there; of a zone that has one none more.
+/// Adds the files of the zones that an input names, but for zones that have one already.
 pub fn push_input_files(
     rt: &HostRuntime,
     files: &mut Vec<ZoneFile>,

@@ -1,6 +1,7 @@
-//! The program `cronsim`: it takes the words of its command line, opens the file that they name, reads the zone
-//! files that its input names and, where a moment is now or so much before or after it, the clock, and has `cj_program` serve the request.
-//! Nothing else belongs here, since no contract can say what a file, a clock or a terminal holds.
+//! The program `cronsim`: it takes the words of its command line, opens the file that they name,
+//! reads the zone files that its input names, and has `cj_program` serve the request. Where a
+//! moment is now, or relative to now, it reads the clock. Nothing else belongs here, since no
+//! contract can say what a file, a clock or a terminal holds.
 #![tactic(auto)]
 
 mod clock;
@@ -11,8 +12,8 @@ mod source;
 mod words;
 
 use cj_program::{
-    Failure, MOST_BYTES, MOST_LIST_BYTES, MOST_LIST_READS, Meter, Request, parse_words, read_input,
-    serve, tell_failure, tell_fault,
+    ExitStatus, Failure, MOST_BYTES, MOST_LIST_BYTES, MOST_LIST_READS, Meter, Request, parse_words,
+    read_input, serve, tell_failure, tell_fault,
 };
 use clock::moment_by_clock;
 use folder::{folder_set, input_files, named_file};
@@ -26,10 +27,7 @@ use std::thread::Threads;
 use std::time::Clock;
 use words::{asked, joined};
 
-// The exit status of a failed input or output.
-const FAILED: u8 = 3;
-
-// How many bytes an input may have.
+// The most bytes that an input may have.
 fn most_bytes(request: &Request<'_>) -> usize {
     match request {
         Request::Why(_) | Request::Audit(_) | Request::Upcoming(_) => MOST_LIST_BYTES,
@@ -37,8 +35,8 @@ fn most_bytes(request: &Request<'_>) -> usize {
     }
 }
 
-// Whether people are told of a file that can't be read: where they ask for that, and of the commands on a cluster and on
-// the times to come always.
+// Whether people are told of a file that can't be read: where they ask for that, and always by the
+// commands on a cluster and on the times to come.
 fn tells_files(request: &Request<'_>) -> bool {
     match request {
         Request::Why(_) | Request::Audit(_) | Request::Upcoming(_) => true,
@@ -46,9 +44,9 @@ fn tells_files(request: &Request<'_>) -> bool {
     }
 }
 
-// Says to people why the file of a request that failed could not be opened, or that it is too long.
-fn tell_unread<E: Write>(request: &Request<'_>, status: u8, input: &Input, err: &mut E) {
-    if status != FAILED || !tells_files(request) {
+// Says to people why the file of a failed request could not be opened, or that it is too long.
+fn tell_unread<E: Write>(request: &Request<'_>, status: ExitStatus, input: &Input, err: &mut E) {
+    if status != ExitStatus::Failed || !tells_files(request) {
         return;
     }
     let Some(file) = request.file() else {
@@ -65,7 +63,8 @@ fn tell_unread<E: Write>(request: &Request<'_>, status: u8, input: &Input, err: 
     }
 }
 
-// Serves a request whose input may name zones of a folder: the input is read first, then the files of the zones.
+// Serves a request whose input may name zones of a folder: the input is read first, then the files
+// of the zones.
 fn serve_with_folder<T: Threads + Wait + Sync>(
     threads: &T,
     rt: &HostRuntime,
@@ -73,7 +72,7 @@ fn serve_with_folder<T: Threads + Wait + Sync>(
     folder: &str,
     input: &mut Input,
     meter: &Meter,
-) -> Result<u8, Failure> {
+) -> Result<ExitStatus, Failure> {
     let alloc = rt.alloc();
     let (out, err) = (&mut rt.stdout(), &mut rt.stderr());
     match read_input(alloc, input, MOST_LIST_BYTES, MOST_LIST_READS) {
@@ -99,8 +98,8 @@ fn serve_with_folder<T: Threads + Wait + Sync>(
     }
 }
 
-// Where zones are looked up whose folder nobody gives: the machine's own, for the commands on a cluster and on the times
-// to come.
+// The folder of zones where nobody gives one: the machine's own, for the commands on a cluster and
+// on the times to come.
 fn machine_folder(request: &Request<'_>) -> Option<&'static str> {
     match request {
         Request::Why(_) | Request::Audit(_) | Request::Upcoming(_) | Request::Describe(_) => {
@@ -126,7 +125,7 @@ fn serve_request<T: Threads + Wait + Sync>(
     request: &Request<'_>,
     input: &mut Input,
     meter: &Meter,
-) -> Result<u8, Failure> {
+) -> Result<ExitStatus, Failure> {
     let alloc = rt.alloc();
     let set = folder_set(rt)?;
     let set = set.as_ref().map(|folder| folder.as_str());
@@ -158,8 +157,9 @@ fn serve_request<T: Threads + Wait + Sync>(
     }
 }
 
-// The moment that a request means by the clock: now, where the words leave it out, or so much before or after it. Where
-// `check` explains nothing and the words leave it out, there is none to be told of.
+// The moment that a request means by the clock: now, where the words leave it out, or as long
+// before or after now as they say. `check` without `--explain` needs none where the words leave it
+// out.
 fn clock_moment(rt: &HostRuntime, request: &Request<'_>) -> Result<Option<String>, Failure> {
     match request {
         Request::Check(check) if check.explain || check.moment.is_some() => {
@@ -172,7 +172,7 @@ fn clock_moment(rt: &HostRuntime, request: &Request<'_>) -> Result<Option<String
     }
 }
 
-// The file of a request that reads one; of several each is opened when its turn comes.
+// The file of a request that reads one file. Each of several files is opened when its turn comes.
 fn only_file<'a>(request: &Request<'a>) -> Option<&'a str> {
     match request {
         Request::Check(check) if check.files.len() > 1 => None,
@@ -200,7 +200,7 @@ fn serve_parsed<T: Threads + Wait + Clock + Sync>(
     threads: &T,
     rt: &HostRuntime,
     request: Request<'_>,
-) -> Result<u8, Failure> {
+) -> Result<ExitStatus, Failure> {
     let moment = clock_moment(rt, &request)?;
     let request = at_moment(request, moment.as_ref().map(|text| text.as_str()));
     let mut input = Input::open(rt, only_file(&request));
@@ -213,8 +213,11 @@ fn serve_parsed<T: Threads + Wait + Clock + Sync>(
     Ok(status)
 }
 
-// Reads the words of the command line and serves what they ask for.
-fn run<T: Threads + Wait + Clock + Sync>(threads: &T, rt: &HostRuntime) -> Result<u8, Failure> {
+// Reads the words of the command line, and serves the request that they are.
+fn run<T: Threads + Wait + Clock + Sync>(
+    threads: &T,
+    rt: &HostRuntime,
+) -> Result<ExitStatus, Failure> {
     let alloc = rt.alloc();
     let given: Vec<String> = std::env::args(rt)?.collect(alloc)?;
     let args = joined(alloc, given.as_slice())?;
@@ -229,8 +232,9 @@ fn run<T: Threads + Wait + Clock + Sync>(threads: &T, rt: &HostRuntime) -> Resul
 }
 
 fn main(rt: HostRuntime) -> ExitCode {
-    match run(&rt, &rt) {
-        Ok(status) => ExitCode::from(status),
-        Err(failure) => ExitCode::from(tell_failure(failure, &mut rt.stderr())),
-    }
+    let status = match run(&rt, &rt) {
+        Ok(status) => status,
+        Err(failure) => tell_failure(failure, &mut rt.stderr()),
+    };
+    ExitCode::from(status.code())
 }

@@ -1,7 +1,8 @@
-// What people see on a terminal while a run goes on: a line on standard error, which is gone when the run is over.
+// The progress of a run on a terminal: a line on standard error, which is cleared when the run is
+// over.
 use crate::serve_request;
 use crate::source::Input;
-use cj_program::{Failure, Meter, Request};
+use cj_program::{ExitStatus, Failure, Meter, Request};
 use crossbeam_channel::{Receiver, RecvTimeoutError, bounded};
 use std::io::{IsTerminal, Write};
 use std::sync::Wait;
@@ -12,7 +13,7 @@ use std::time::{Clock, Duration};
 // How often the line is written, in milliseconds.
 const PAUSE: u64 = 500;
 
-// Writes how far the run is, over what stood there.
+// Writes how far the run is, over the line that was there.
 fn tell(rt: &HostRuntime, meter: &Meter) {
     let (over, all) = (meter.over(), meter.all());
     if all > 0 {
@@ -20,12 +21,12 @@ fn tell(rt: &HostRuntime, meter: &Meter) {
     }
 }
 
-// Takes the line away.
+// Clears the line.
 fn clear(rt: &HostRuntime) {
     let _ = rt.stderr().write_all(b"\r\x1b[K");
 }
 
-// Tells how far the run is now and then, until the other end of the channel is gone.
+// Writes how far the run is now and then, until the other end of the channel is gone.
 fn watch<T: Wait + Clock>(threads: &T, rt: &HostRuntime, meter: &Meter, end: &Receiver<u64>) {
     let mut told = false;
     for _ in threads.forever() {
@@ -44,24 +45,24 @@ fn watch<T: Wait + Clock>(threads: &T, rt: &HostRuntime, meter: &Meter, end: &Re
     }
 }
 
-/// Whether it is shown how far a request is: that of a run, on a terminal.
+/// Whether progress is shown: of a run, on a terminal.
 pub fn is_shown(rt: &HostRuntime, request: &Request<'_>) -> bool {
     matches!(request, Request::Run(_)) && rt.stderr().is_terminal()
 }
 
-/// Serves a request, and shows how far it is meanwhile, where a thread can be had for that.
+/// Serves a request, and shows its progress meanwhile, where a thread can be started for that.
 pub fn serve_shown<T: Threads + Wait + Clock + Sync>(
     threads: &T,
     rt: &HostRuntime,
     request: &Request<'_>,
     input: &mut Input,
-) -> Result<u8, Failure> {
+) -> Result<ExitStatus, Failure> {
     let meter = Meter::new();
     let (end, ended) = bounded(rt.alloc(), 1)?;
     thread::scope(
         thread::scope_env(),
         threads,
-        |scope| -> Result<u8, Failure> {
+        |scope| -> Result<ExitStatus, Failure> {
             let child = scope.spawn(|| watch(threads, rt, &meter, &ended));
             let status = serve_request(threads, rt, request, input, &meter);
             drop(end);

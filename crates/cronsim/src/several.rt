@@ -1,14 +1,11 @@
 use crate::folder::{input_files, push_input_files};
 use crate::source::Input;
 use cj_program::{
-    CheckRequest, CronFile, Failure, FileAnswer, MOST_BYTES, MOST_LIST_BYTES, MOST_LIST_READS,
-    MOST_READS, UpcomingRequest, check_file_answer, read_input, serve_several, serve_upcoming,
-    tell_failure,
+    CheckRequest, CronFile, ExitStatus, Failure, FileAnswer, MOST_BYTES, MOST_LIST_BYTES,
+    MOST_LIST_READS, MOST_READS, UpcomingRequest, check_file_answer, read_input, serve_several,
+    serve_upcoming, tell_failure,
 };
 use std::io::Write;
-
-// The status where one of several files can't be read.
-const UNREAD: u8 = 3;
 
 // What is answered of one of several files; none where it can't be read.
 fn answer_of<'a>(
@@ -37,7 +34,7 @@ pub fn serve_files(
     rt: &HostRuntime,
     check: &CheckRequest<'_>,
     folder: Option<&str>,
-) -> Result<u8, Failure> {
+) -> Result<ExitStatus, Failure> {
     let mut answers = Vec::new(rt.alloc());
     for name in check.files.as_slice() {
         answers.push(answer_of(rt, check, folder, name)?)?;
@@ -51,7 +48,7 @@ pub fn serve_files(
     ))
 }
 
-// All bytes of one of several files; none where it can't be read, which is told.
+// All bytes of one of several files; none where it can't be read, which standard error says.
 fn bytes_of(rt: &HostRuntime, name: &str) -> Result<Option<Vec<u8>>, Failure> {
     let mut input = Input::open(rt, Some(name));
     match read_input(rt.alloc(), &mut input, MOST_LIST_BYTES, MOST_LIST_READS) {
@@ -81,15 +78,16 @@ fn all_bytes(
     Ok(Some(all))
 }
 
-/// Serves a request for what several files have start: all of them are read first, then the files of their zones.
+/// Serves a request for what several files have start: all of them are read first, then the files
+/// of their zones.
 pub fn serve_upcoming_files(
     rt: &HostRuntime,
     upcoming: &UpcomingRequest<'_>,
     folder: Option<&str>,
-) -> Result<u8, Failure> {
+) -> Result<ExitStatus, Failure> {
     let alloc = rt.alloc();
     let Some(all) = all_bytes(rt, upcoming)? else {
-        return Ok(UNREAD);
+        return Ok(ExitStatus::Failed);
     };
     let mut zone_files = Vec::new(alloc);
     let mut sources = Vec::new(alloc);

@@ -31,7 +31,7 @@ impl Input {
         Input { source, count: 0 }
     }
 
-    /// One whose every read fails.
+    /// An input whose every read fails.
     pub fn unreadable() -> Input {
         Input {
             source: Source::Unopened(ErrorKind::Other),
@@ -57,7 +57,7 @@ impl Input {
 }
 
 impl Read for Input {
-    // A directory can be opened, and can't be read: that it is one is kept for people.
+    // A directory can be opened, but not read: that it is one is kept for people.
     fn read(&mut self, buf: &mut [u8]) -> io::Result<usize> {
         let read = match &mut self.source {
             Source::Standard(input) => input.read(buf),

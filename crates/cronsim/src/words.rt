@@ -10,7 +10,7 @@ pub fn asked<'w, 'a>(words: &'w [&'a str]) -> &'w [&'a str] {
     }
 }
 
-// Whether a word is so much before now, as `-1h`.
+// Whether a word is a moment before now, as `-1h`.
 fn is_before(word: &str) -> bool {
     let bytes = word.as_bytes();
     bytes.len() > 1 && bytes[0] == b'-' && bytes[1].is_ascii_digit()
@@ -26,8 +26,8 @@ fn moment_option(command: &str) -> &'static str {
     }
 }
 
-/// The words, with `--now -1h` of `why` as `--now=-1h`, and so of the other commands that take a moment by the clock,
-/// since a word that begins with `-` is an option to clap.
+/// The words, with `--now -1h` of `why` as `--now=-1h`, and likewise for the other commands that
+/// take a moment by the clock, since clap takes a word that begins with `-` for an option.
 pub fn joined(alloc: Global, words: &[String]) -> Result<Vec<String>, Failure> {
     let option = match words {
         [_, command, ..] => moment_option(command.as_str()),

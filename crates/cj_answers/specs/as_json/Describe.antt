@@ -1,4 +1,5 @@
--- A schedule in a sentence and its next times, as JSON. The members of an object are in the order of their names.
+-- A schedule in a sentence and its next times, as JSON. The members of an object are in the order
+-- of their names.
 use Rattle.std.specs.Prelude.{◌≡◌, ℕ, ◌==◌, nat_lt, List, length, Bool, true, false, codes, if◌then◌else◌}
 use Rattle.std.specs.List.{before_first, position_or_len}
 use Rattle.serde_json.specs.Data.{Data, string, array, object, member, no_members}
@@ -17,7 +18,8 @@ use Rattle.cj_answers.specs.as_json.Next.{zone_data}
 -- a text up to the end of its first line
 abbrev pub first_line : List ℕ → List ℕ
 first_line text =
-    if nat_lt (position_or_len (λ b. b == 10) text) (length text) then before_first (λ b. b == 10) text else text
+    if nat_lt (position_or_len (λ b. b == 10) text) (length text)
+    then before_first (λ b. b == 10) text else text
 
 abbrev pub describe_object : Data → Data → List ℕ → List ℕ → Data → Data → Data
 describe_object after changes schedule sentence zone times = object (
@@ -28,15 +30,17 @@ describe_object after changes schedule sentence zone times = object (
     member (codes "timeZone") zone (
     member (codes "times") times no_members))))))
 
--- the start, where the clock is put on the way from one time to the next, the schedule, its sentence, the zone as the words
--- give it, and the times
+-- the start, where the clock is put on the way from one time to the next, the schedule, its
+-- sentence, the zone as the words give it, and the times
 -- rule: describe-json
 abbrev pub describe_data : DescribeRequest → Sets → Zone → ℕ → List ℕ → Data
 describe_data r s z start times =
-    describe_object (time_data start) (array (items_of (changes_along z start times))) r.schedule.now
+    describe_object (time_data start) (array (items_of (changes_along z start times)))
+    r.schedule.now
     (first_line (sentence s z.name)) (zone_data r.time_zone r.zone) (times_data z start times)
 
-pub record IsDescribeJson (r : DescribeRequest) (s : Sets) (z : Zone) (start : ℕ) (text : List ℕ) : Type 0 where
+pub record IsDescribeJson (r : DescribeRequest) (s : Sets) (z : Zone) (start : ℕ) (text : List ℕ)
+    : Type 0 where
   pub times : List ℕ
   pub are : AreTimes s z start r.count times
   pub line : IsJsonLine (describe_data r s z start times) text

@@ -1,34 +1,15 @@
 -- The next due times as JSON. The members of an object are in the order of their names.
-use Rattle.std.specs.Prelude.{◌≡◌, ◌⊎◌, ℕ, zero, suc, ◌+◌, List, [], ◌∷◌, map, Bool, true, false, Option, None, Some, codes}
+use Rattle.std.specs.Prelude.{ℕ, List, map, Bool, true, false, Option, None, Some, codes}
 use Rattle.std.specs.Borrow.{Bor}
 use Rattle.serde_json.specs.Data.{Data, null, string, array, object, member, no_members}
 use Rattle.serde_json.specs.View.{items_of}
 use Rattle.cj_schedule.specs.Matches.{Sets}
 use Rattle.cj_zone.specs.declared.zone.Zone.{Zone}
-use Rattle.cj_due.specs.Due.{reach, IsQuiet, IsLeastDue}
 use Rattle.cj_json.specs.Values.{time_data}
+use Rattle.cj_upcoming.specs.json.Coming.{AreTimes}
 use Rattle.cj_args.specs.declared.request.NextRequest.{NextRequest}
 use Rattle.cj_answers.specs.NextText.{IsNextText}
 use Rattle.cj_answers.specs.as_json.Forms.{IsJsonLine}
-
--- the least due instant after `after` is the first of the times, and the rest goes on from it
-pub record LeadsOn (s : Sets) (z : Zone) (after : ℕ) (times : List ℕ) (Rest : ℕ → List ℕ → Type 0) : Type 0 where
-  pub t : ℕ
-  pub rest : List ℕ
-  pub least : IsLeastDue s z after (after + reach) t
-  pub first : times ≡ t ∷ rest
-  pub more : Rest t rest
-
--- nothing is due within 3,000 days
-pub record Stops (s : Sets) (z : Zone) (after : ℕ) (times : List ℕ) : Type 0 where
-  pub quiet : IsQuiet s z after (after + reach)
-  pub none : times ≡ []
-
--- so many due instants, each the least one after the one before, or fewer where there is none
--- rule: next-json
-abbrev pub AreNext : Sets → Zone → ℕ → ℕ → List ℕ → Type 0
-AreNext s z after zero times = times ≡ []
-AreNext s z after (suc n) times = LeadsOn s z after times (λ t rest. AreNext s z t n rest) ⊎ Stops s z after times
 
 -- the zone, as the words give it
 abbrev pub zone_data : Option (Bor (List ℕ)) → Option (Bor (List ℕ)) → Data
@@ -51,9 +32,10 @@ abbrev pub next_data : NextRequest → ℕ → List ℕ → Data
 next_data r after times =
     next_object r.schedule.now (time_data after) (zone_data r.time_zone r.zone) (times_data times)
 
-pub record IsNextJson (r : NextRequest) (s : Sets) (z : Zone) (after : ℕ) (text : List ℕ) : Type 0 where
+pub record IsNextJson (r : NextRequest) (s : Sets) (z : Zone) (after : ℕ) (text : List ℕ)
+    : Type 0 where
   pub times : List ℕ
-  pub are : AreNext s z after r.count times
+  pub are : AreTimes s z after r.count times
   pub line : IsJsonLine (next_data r after times) text
 
 -- in JSON, or a line for each

@@ -1,52 +1,19 @@
 // The next due times as JSON.
-ghost use Rattle.std.specs.Prelude.{◌≡◌, ◌++◌, ◌∷◌, [], map, IfOk, IfErr, OnOk, string_bytes};
+ghost use Rattle.std.specs.Prelude.{◌≡◌, map, IfOk, IfErr, string_bytes};
 ghost use Rattle.cj_base.specs.declared.refusal.Refusal.TheVariants.{OutOfMemory};
 ghost use Rattle.serde_json.specs.View.{view};
 ghost use Rattle.cj_json.specs.Values.{time_data};
-ghost use Rattle.cj_answers.specs.as_json.Next.{AreNext, IsNextJson, next_data, next_object, zone_data};
+ghost use Rattle.cj_answers.specs.as_json.Next.{IsNextJson, next_data, next_object, zone_data};
 
 use crate::as_json::forms::value_line;
 use cj_args::NextRequest;
 use cj_base::{Refusal, Seconds};
-use cj_due::next_after;
 use cj_json::{push_value, time_value};
 use cj_schedule::Schedule;
+use cj_upcoming::coming_times;
 use cj_zone::Zone;
 use serde_json::{Value, json};
 use std::alloc::{AllocError, Global};
-
-fn push_time(times: &mut Vec<Seconds>, time: Seconds) -> Result<(), Refusal>
-    ensures ok { OnOk result (times.new.items ≡ times.old.items ++ (time ∷ [])) }
-    ensures err { IfErr result (λ e. e ≡ OutOfMemory) }
-{
-    times.push(time).map_err(AllocError::from)?;
-    Ok(())
-}
-
-// So many due times, each the least one after the one before, or fewer where none is within 3,000 days.
-fn next_times(
-    alloc: Global,
-    schedule: &Schedule,
-    zone: &Zone,
-    after: Seconds,
-    count: u16,
-) -> Result<Vec<Seconds>, Refusal>
-    ensures ok { IfOk result (λ v. AreNext schedule.now zone.now after count v.items) }
-    ensures err { IfErr result (λ e. e ≡ OutOfMemory) }
-{
-    let mut times = Vec::new(alloc);
-    let mut at = after;
-    for _ in 0..count {
-        match next_after(schedule, zone, at) {
-            Some(t) => {
-                push_time(&mut times, t)?;
-                at = t;
-            }
-            None => return Ok(times),
-        }
-    }
-    Ok(times)
-}
 
 fn time_values(alloc: Global, times: &[Seconds]) -> Result<Vec<Value>, Refusal>
     ensures ok { IfOk result (λ v. map view v.items ≡ map time_data times.now) }
@@ -120,7 +87,7 @@ pub(crate) fn next_json(
         (string_bytes s)) }
     ensures err { IfErr result (λ e. e ≡ OutOfMemory) }
 {
-    let times = next_times(alloc, schedule, zone, after, next.count)?;
+    let times = coming_times(alloc, schedule, zone, after, next.count)?;
     let value = next_value(alloc, next, after, times.as_slice())?;
     Ok(value_line(alloc, &value)?)
 }

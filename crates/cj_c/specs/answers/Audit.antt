@@ -1,36 +1,17 @@
--- What is told of the list of a cluster's objects: what is wrong in it.
-use Rattle.std.specs.Prelude.{◌≢◌, ◌⊎◌, ℕ, List, length, codes}
-use Rattle.std.specs.FinMap as map
-use Rattle.serde_json.specs.Data.{Data, null, number, unsigned, object, member, no_members}
+-- The text for the list of a cluster's objects: what is wrong in it.
+use Rattle.std.specs.Prelude.{◌≢◌, ◌⊎◌, ℕ, List, codes}
+use Rattle.serde_json.specs.Data.{Data, null}
 use Rattle.cj_audit.specs.declared.finding.Finding.{Finding}
 use Rattle.cj_audit.specs.Findings.{IsAudit}
-use Rattle.cj_audit.specs.Json.{findings_data, manual_data}
 use Rattle.cj_cluster.specs.kubectl.Reading.{IsClusterList, IsRefusedList}
 use Rattle.cj_cluster.specs.declared.kubectl.fault.ListFault.{ListFault}
 use Rattle.cj_cluster.specs.declared.kubectl.fault.ListFault.TheVariants as Why
 use Rattle.cj_cluster.specs.declared.kubectl.list.ClusterList.{ClusterList}
 use Rattle.cj_zone.specs.declared.zone.Zone.{Zone}
-use Rattle.cj_c.specs.answers.FaultsJson.{one_fault}
-use Rattle.cj_c.specs.answers.Items.{others_data, refused_data}
+use Rattle.cj_views.specs.Audit.{audit_data}
+use Rattle.cj_views.specs.Faults.{one_fault}
 use Rattle.cj_c.specs.answers.Texts.{IsJsonText}
 use Rattle.cj_c.specs.answers.Zones.{AreZonesOf, IsZonesRefusal}
-
-abbrev pub audit_object : ℕ → ℕ → Data → Data → Data → Data → Data
-audit_object crons jobs findings manual others refused = object (
-    member (codes "cronJobs") (number (unsigned crons)) (
-    member (codes "findings") findings (
-    member (codes "jobs") (number (unsigned jobs)) (
-    member (codes "manual") manual (
-    member (codes "others") others (
-    member (codes "refused") refused no_members))))))
-
--- how many CronJobs and Jobs were looked at, the findings, the Jobs that somebody made by hand, and the items that can't be
--- used
--- rule: library-audit
-abbrev pub audit_data : ClusterList → List Finding → Data
-audit_data list findings =
-    audit_object (length (map.values list.cluster.crons)) (length (map.values list.cluster.jobs)) (findings_data findings)
-    (manual_data list.cluster.times (map.values list.cluster.jobs)) (others_data list.notes) (refused_data list.notes)
 
 -- exactly what is wrong in what the bytes list, under the zones
 -- rule: library-audit
@@ -61,4 +42,5 @@ pub record IsNoList (bytes zones_text text : List ℕ) : Type 0 where
 -- why it is refused: the zones are, which are looked at first; or it is no list
 -- rule: library-audit
 abbrev pub IsAuditRefusal : List ℕ → List ℕ → List ℕ → Type 0
-IsAuditRefusal bytes zones_text text = IsZonesRefusal zones_text text ⊎ IsNoList bytes zones_text text
+IsAuditRefusal bytes zones_text text =
+    IsZonesRefusal zones_text text ⊎ IsNoList bytes zones_text text

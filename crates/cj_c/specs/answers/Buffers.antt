@@ -4,21 +4,24 @@ use Rattle.cj_base.specs.declared.refusal.Refusal.{Refusal}
 use Rattle.cj_c.specs.declared.answers.told.Told.{Told}
 use Rattle.cj_c.specs.declared.answers.told.Told.TheVariants as Was
 
--- the whole text, at the beginning of the buffer, and its length; or its length alone, where the buffer is too small
+-- the whole text, at the beginning of the buffer, and its length; or its length alone, where the
+-- buffer is too small
 -- rule: library-answers
 abbrev pub IsGiven : List ℕ → ℕ → List ℕ → List ℕ → ℕ → ℕ → Type 0
 IsGiven text done old new size status =
-    ((status ≡ done) × (length text ≤ length old) × (new ≡ text ++ drop (length text) old) × (size ≡ length text))
+    ((status ≡ done) × (length text ≤ length old) × (new ≡ text ++ drop (length text) old)
+    × (size ≡ length text))
     ⊎ ((status ≡ 6) × (length old < length text) × (new ≡ old) × (size ≡ length text))
 
 -- there was no memory, and all stays as it was
 abbrev pub IsUnchanged : List ℕ → List ℕ → ℕ → ℕ → Type 0
 IsUnchanged old new was is = (new ≡ old) × (is ≡ was)
 
--- of what is told: an answer, a refusal, or that there was no memory
+-- of the text: an answer, a refusal, or none for want of memory
 abbrev pub IsLeft : Result Told Refusal → List ℕ → List ℕ → ℕ → ℕ → ℕ → Type 0
 IsLeft (Ok (Was.Done text)) old new was is status = IsGiven (string_bytes text) 0 old new is status
-IsLeft (Ok (Was.Refused text)) old new was is status = IsGiven (string_bytes text) 2 old new is status
+IsLeft (Ok (Was.Refused text)) old new was is status =
+    IsGiven (string_bytes text) 2 old new is status
 IsLeft (Err e) old new was is status = (status ≡ 3) × IsUnchanged old new was is
 
 -- it is such an answer, or such a refusal
@@ -26,7 +29,8 @@ abbrev pub IsTold : (List ℕ → Type 0) → (List ℕ → Type 0) → Told →
 IsTold IsAnswer IsRefusal (Was.Done text) = IsAnswer (string_bytes text)
 IsTold IsAnswer IsRefusal (Was.Refused text) = IsRefusal (string_bytes text)
 
--- what such a call leaves: an answer, or a refusal, as far as the buffer has room; or there was no memory
+-- what such a call leaves: an answer, or a refusal, as far as the buffer has room; or there was no
+-- memory
 -- rule: library-answers
 abbrev pub IsAnswered : (List ℕ → Type 0) → (List ℕ → Type 0) → List ℕ → List ℕ → ℕ → ℕ → ℕ → Type 0
 IsAnswered IsAnswer IsRefusal old new was is status =

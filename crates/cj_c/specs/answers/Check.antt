@@ -1,4 +1,4 @@
--- What is told of a manifest that is checked.
+-- The text for a manifest that is checked.
 use Rattle.std.specs.Prelude.{◌≢◌, ◌⊎◌, ℕ, List, [], codes, map}
 use Rattle.serde_json.specs.Data.{Data, string, array, object, member, no_members}
 use Rattle.serde_json.specs.View.{items_of}
@@ -7,7 +7,7 @@ use Rattle.cj_manifest.specs.Either.{key_of, kind_of, manifest_draft, manifest_f
 use Rattle.cj_manifest.specs.Reading.{IsNoValue, IsReading, Reads}
 use Rattle.cj_types.specs.Keys.{Place}
 use Rattle.cj_zone.specs.declared.zone.Zone.{Zone}
-use Rattle.cj_c.specs.answers.FaultsJson.{faults_data, one_fault}
+use Rattle.cj_views.specs.Faults.{faults_data, one_fault}
 use Rattle.cj_c.specs.answers.Texts.{IsJsonText}
 use Rattle.cj_c.specs.answers.Zones.{AreZonesOf, IsZonesRefusal}
 
@@ -18,19 +18,21 @@ sound_object kind key warnings = object (
     member (codes "namespace") (string key.namespace) (
     member (codes "warnings") warnings no_members))))
 
--- of a manifest without a fault: kind, name and namespace, and the paths of the members that are dropped
+-- of a manifest without a fault: kind, name and namespace, and the paths of the members that are
+-- dropped
 -- rule: library-check
 abbrev pub sound_data : Manifest → List (List ℕ) → Data
 sound_data m warnings = sound_object (kind_of m) (key_of m) (array (items_of (map string warnings)))
 
--- the manifest has no fault under the zones, and is told so
+-- the manifest has no fault under the zones, and the text says so
 -- rule: library-check
 pub record IsSound (bytes zones_text text : List ℕ) : Type 0 where
   pub zones : List Zone
   pub zones_are : AreZonesOf zones_text zones
   pub manifest : Manifest
   pub warnings : List (List ℕ)
-  pub reads : IsReading Manifest (manifest_faults zones) manifest_draft manifest_warnings bytes manifest warnings
+  pub reads : IsReading Manifest (manifest_faults zones) manifest_draft manifest_warnings bytes
+      manifest warnings
   pub printed : IsJsonText (sound_data manifest warnings) text
 
 -- it has just these faults, in the order of the table of fields
@@ -54,4 +56,5 @@ pub record IsNoJson (bytes zones_text text : List ℕ) : Type 0 where
 -- rule: library-check
 abbrev pub IsCheckRefusal : List ℕ → List ℕ → List ℕ → Type 0
 IsCheckRefusal bytes zones_text text =
-    IsZonesRefusal zones_text text ⊎ (IsNoJson bytes zones_text text ⊎ IsFaulty bytes zones_text text)
+    IsZonesRefusal zones_text text
+    ⊎ (IsNoJson bytes zones_text text ⊎ IsFaulty bytes zones_text text)

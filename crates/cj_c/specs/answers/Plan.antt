@@ -1,4 +1,4 @@
--- What is told of a scenario: the plan of its CronJob at a moment.
+-- The text for a scenario: the plan of its CronJob at a moment.
 use Rattle.std.specs.Prelude.{◌≡◌, ◌≢◌, ◌⊎◌, ℕ, ◌<◌, List, [], ◌∷◌, Some, codes}
 use Rattle.serde_json.specs.Data.{Data, null}
 use Rattle.cj_base.specs.Instant.{last_second}
@@ -13,14 +13,16 @@ use Rattle.cj_why.specs.reviews.PlanJson.{plan_data}
 use Rattle.cj_why.specs.reviews.ZoneFor.{zone_for}
 use Rattle.cj_zone.specs.Table.{zones_of}
 use Rattle.cj_c.specs.answers.Buffers.{IsAnswered, IsUnchanged}
-use Rattle.cj_c.specs.answers.FaultsJson.{faults_data, one_fault}
+use Rattle.cj_views.specs.Faults.{faults_data, one_fault}
 use Rattle.cj_c.specs.answers.Texts.{IsJsonText}
 use Rattle.cj_c.specs.answers.Zones.{IsBare}
 
--- the steps are the one plan of the CronJob, its Jobs, those of them that run, the moment and its zone
+-- the steps are the one plan of the CronJob, its Jobs, those of them that run, the moment and its
+-- zone
 abbrev pub IsPlanOf : Scene → ℕ → Steps → Type 0
 IsPlanOf scene now steps =
-    IsPlan (Some scene.cron) scene.jobs scene.active now (zone_for scene.cron.spec.time_zone (zones_of scene.zones)) steps
+    IsPlan (Some scene.cron) scene.jobs scene.active now
+    (zone_for scene.cron.spec.time_zone (zones_of scene.zones)) steps
 
 -- the plan of what the bytes say, under UTC and their own zones
 -- rule: library-plan

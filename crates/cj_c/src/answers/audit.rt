@@ -1,79 +1,30 @@
 // What is wrong in the list of a cluster's objects.
-ghost use Rattle.std.specs.Prelude.{◌≡◌, ◌≢◌, ℕ, List, IfOk, IfErr, length, string_bytes};
-ghost use Rattle.std.specs.FinMap as map;
+ghost use Rattle.std.specs.Prelude.{◌≡◌, ◌≢◌, ℕ, List, IfOk, IfErr, string_bytes};
 ghost use Rattle.cj_audit.specs.Findings.{IsAudit};
 ghost use Rattle.cj_audit.specs.declared.finding.Finding.{Finding};
 ghost use Rattle.cj_base.specs.declared.refusal.Refusal.TheVariants.{OutOfMemory};
 ghost use Rattle.cj_cluster.specs.declared.kubectl.fault.ListFault.TheVariants.{Memory};
 ghost use Rattle.cj_zone.specs.Table.{zones_of};
 ghost use Rattle.serde_json.specs.View.{view};
-ghost use Rattle.cj_c.specs.answers.Audit.{IsAuditRefusal, IsAudited, audit_data, audit_object, list_fault_data};
+ghost use Rattle.cj_views.specs.Audit.{audit_data};
+ghost use Rattle.cj_c.specs.answers.Audit.{IsAuditRefusal, IsAudited, list_fault_data};
 ghost use Rattle.cj_c.specs.answers.Buffers.{IsAnswered, IsTold};
 ghost use Rattle.cj_c.specs.answers.Texts.{IsJsonText};
 ghost use Rattle.cj_c.specs.answers.Zones.{AreZonesOf};
 
 use crate::answers::buffer::leave;
-use crate::answers::faults::one_fault;
-use crate::answers::items::{others_value, refused_value};
 use crate::answers::text::json_text;
 use crate::answers::told::Told;
 use crate::answers::zones::{refused_zones, zones_of_text};
-use cj_audit::{Findings, audit, findings_value, manual_value};
-use cj_base::{Refusal, all_four, both};
+use cj_audit::audit;
+use cj_base::Refusal;
 use cj_cluster::{ClusterList, ListFault, read_cluster};
+use cj_views::{audit_value, one_fault};
 use cj_zone::ZoneTable;
-use serde_json::{Value, json};
-use std::alloc::{AllocError, Global};
+use serde_json::Value;
+use std::alloc::Global;
 
-// How many CronJobs and Jobs there are.
-fn counts(alloc: Global, list: &ClusterList) -> Result<(usize, usize), Refusal>
-    ensures crons { IfOk result (λ n. n.0 ≡ length (map.values list.now.cluster.crons)) }
-    ensures jobs { IfOk result (λ n. n.1 ≡ length (map.values list.now.cluster.jobs)) }
-    ensures err { IfErr result (λ e. e ≡ OutOfMemory) }
-{
-    let (crons, jobs) = both(list.cluster.crons(alloc), list.cluster.jobs(alloc))?;
-    Ok((crons.as_slice().len(), jobs.as_slice().len()))
-}
-
-fn audit_object(
-    alloc: Global,
-    crons: usize,
-    jobs: usize,
-    findings: Value,
-    manual: Value,
-    items: (Value, Value),
-) -> Result<Value, AllocError>
-    ensures { IfOk result (λ v. view v ≡ audit_object crons jobs (view findings) (view manual)
-        (view items.0) (view items.1)) }
-{
-    let (others, refused) = items;
-    json!(in alloc; {
-        "cronJobs": crons,
-        "findings": findings,
-        "jobs": jobs,
-        "manual": manual,
-        "others": others,
-        "refused": refused
-    })
-}
-
-fn audit_value(alloc: Global, list: &ClusterList, findings: &Findings) -> Result<Value, Refusal>
-    ensures ok { IfOk result (λ v. view v ≡ audit_data list.now findings.now) }
-    ensures err { IfErr result (λ e. e ≡ OutOfMemory) }
-{
-    let (crons, jobs) = counts(alloc, list)?;
-    let notes = list.notes.as_slice();
-    let (findings, manual, others, refused) = all_four(
-        findings_value(alloc, findings),
-        manual_value(alloc, &list.cluster),
-        others_value(alloc, notes),
-        refused_value(alloc, notes),
-    )?;
-    let items = (others, refused);
-    Ok(audit_object(alloc, crons, jobs, findings, manual, items)?)
-}
-
-// What is told of a list under these zones.
+// The text for a list under these zones.
 fn audit_text(alloc: Global, list: &ClusterList, zones: &ZoneTable) -> Result<String, Refusal>
     ensures ok { IfOk result (λ s. (findings : List Finding)
         × IsAudit (zones_of zones.now) list.now.cluster list.now.notes findings
@@ -96,7 +47,7 @@ fn fault_value(alloc: Global, fault: ListFault) -> Result<Value, Refusal>
     }
 }
 
-// What is told of bytes that are no list.
+// The text for bytes that are no list.
 fn refused_list(alloc: Global, fault: ListFault) -> Result<String, Refusal>
     ensures ok { IfOk result (λ s. (fault ≢ Memory)
         × IsJsonText (list_fault_data fault) (string_bytes s)) }
@@ -106,7 +57,7 @@ fn refused_list(alloc: Global, fault: ListFault) -> Result<String, Refusal>
     json_text(alloc, &value)
 }
 
-// What is told of the bytes of a list under these zones.
+// The answer for the bytes of a list under these zones.
 fn audited_under(alloc: Global, bytes: &[u8], zones: &ZoneTable) -> Result<Told, Refusal>
     ensures ok { (zones_text : List ℕ) → AreZonesOf zones_text (zones_of zones.now) →
         IfOk result (IsTold (IsAudited bytes.now zones_text)
@@ -130,9 +81,9 @@ fn audited(alloc: Global, bytes: &[u8], zones: &[u8]) -> Result<Told, Refusal>
     }
 }
 
-/// What is wrong in what `kubectl get cronjobs,jobs -o json` prints, under UTC and the zones of an object from names to
-/// POSIX rules, or no text: each Job, and each two, that a correct controller would not have made, as JSON; or why there
-/// is no such list.
+/// What is wrong in what `kubectl get cronjobs,jobs -o json` prints, under UTC and the zones of an
+/// object from names to POSIX rules, or no text: each Job, and each two, that a correct controller
+/// would not have made, as JSON; or why there is no such list.
 #[unsafe(no_mangle)]
 pub extern "C" fn cronsim_audit(
     alloc: Global,

@@ -28,8 +28,8 @@ fn give(text: &[u8], done: u32, buffer: &mut [u8], size: &mut usize) -> u32
     done
 }
 
-/// Gives what is told, with the status; its length alone where the buffer is too small. Nothing changes where there was no
-/// memory.
+/// Writes the text into the buffer, with the status; its length alone where the buffer is too
+/// small. Nothing changes where there was no memory.
 pub(crate) fn leave(told: Result<Told, Refusal>, buffer: &mut [u8], size: &mut usize) -> u32
     requires { IfErr told (λ e. e ≡ OutOfMemory) }
     ensures { IsLeft told buffer.old buffer.new size.old size.new result }

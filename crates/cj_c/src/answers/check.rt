@@ -9,12 +9,11 @@ ghost use Rattle.serde_json.specs.Data.{string};
 ghost use Rattle.serde_json.specs.View.{view};
 ghost use Rattle.cj_c.specs.answers.Buffers.{IsAnswered, IsTold};
 ghost use Rattle.cj_c.specs.answers.Check.{IsCheckRefusal, IsSound, sound_data, sound_object};
-ghost use Rattle.cj_c.specs.answers.FaultsJson.{faults_data, one_fault};
+ghost use Rattle.cj_views.specs.Faults.{faults_data, one_fault};
 ghost use Rattle.cj_c.specs.answers.Texts.{IsJsonText};
 ghost use Rattle.cj_c.specs.answers.Zones.{AreZonesOf};
 
 use crate::answers::buffer::leave;
-use crate::answers::faults::{faults_value, one_fault};
 use crate::answers::text::json_text;
 use crate::answers::told::Told;
 use crate::answers::zones::{refused_zones, zones_of_text};
@@ -22,6 +21,7 @@ use cj_base::{FieldFault, Refusal};
 use cj_json::push_value;
 use cj_manifest::{Manifest, Warning, read_manifest};
 use cj_types::Key;
+use cj_views::{faults_value, one_fault};
 use cj_zone::ZoneTable;
 use serde_json::{Value, json};
 use std::alloc::{AllocError, Global};
@@ -64,7 +64,7 @@ fn sound_value(alloc: Global, manifest: &Manifest, warnings: &[Warning]) -> Resu
     Ok(sound_object(alloc, manifest.kind(), manifest.key(), warnings)?)
 }
 
-// What is told of a manifest without a fault.
+// The text for a manifest without a fault.
 fn sound_text(alloc: Global, manifest: &Manifest, warnings: &[Warning]) -> Result<String, Refusal>
     ensures ok { IfOk result (λ s. IsJsonText (sound_data manifest.now warnings.now)
         (string_bytes s)) }
@@ -82,7 +82,7 @@ fn faulty_text(alloc: Global, faults: &[FieldFault]) -> Result<String, Refusal>
     json_text(alloc, &value)
 }
 
-/// What is told of bytes that are no JSON.
+/// The text for bytes that are no JSON.
 pub(crate) fn no_json(alloc: Global) -> Result<String, Refusal>
     ensures ok { IfOk result (λ s. IsJsonText (one_fault (codes "Syntax") (codes "$"))
         (string_bytes s)) }
@@ -92,7 +92,7 @@ pub(crate) fn no_json(alloc: Global) -> Result<String, Refusal>
     json_text(alloc, &value)
 }
 
-// What is told of a manifest that is refused.
+// The text for a manifest that is refused.
 fn refused_text(alloc: Global, refusal: &Refusal) -> Result<String, Refusal>
     ensures ok { (bytes zones_text : List ℕ) (zones : List Zone) → AreZonesOf zones_text zones →
         IsRefused (either.manifest_faults zones) bytes refusal.now →
@@ -106,7 +106,7 @@ fn refused_text(alloc: Global, refusal: &Refusal) -> Result<String, Refusal>
     }
 }
 
-// What is told of a manifest under these zones.
+// The answer for a manifest under these zones.
 fn checked_under(alloc: Global, bytes: &[u8], zones: &ZoneTable) -> Result<Told, Refusal>
     ensures ok { (zones_text : List ℕ) → AreZonesOf zones_text (zones_of zones.now) →
         IfOk result (IsTold (IsSound bytes.now zones_text) (IsCheckRefusal bytes.now zones_text)) }
@@ -132,8 +132,9 @@ fn checked(alloc: Global, bytes: &[u8], zones: &[u8]) -> Result<Told, Refusal>
     }
 }
 
-/// Checks the manifest of a CronJob or a Job, as JSON, under UTC and the zones of an object from names to POSIX rules, or
-/// no text: its kind, namespace and name, with the members that are dropped; or all its faults.
+/// Checks the manifest of a CronJob or a Job, as JSON, under UTC and the zones of an object from
+/// names to POSIX rules, or no text: its kind, namespace and name, with the members that are
+/// dropped; or all its faults.
 #[unsafe(no_mangle)]
 pub extern "C" fn cronsim_check(
     alloc: Global,

@@ -7,14 +7,13 @@ ghost use Rattle.cj_why.specs.reviews.PlanJson.{plan_data};
 ghost use Rattle.cj_zone.specs.Table.{local_zone};
 ghost use Rattle.cj_zone.specs.Zones.{utc_zone};
 ghost use Rattle.cj_c.specs.answers.Buffers.{IsTold};
-ghost use Rattle.cj_c.specs.answers.FaultsJson.{faults_data};
+ghost use Rattle.cj_views.specs.Faults.{faults_data};
 ghost use Rattle.serde_json.specs.View.{view};
 ghost use Rattle.cj_c.specs.answers.Plan.{IsPlanAnswered, IsPlanOf, IsPlanRefusal, IsPlanned, scene_fault_data};
 ghost use Rattle.cj_c.specs.answers.Texts.{IsJsonText};
 ghost use Rattle.cj_c.specs.answers.Zones.{IsBare};
 
 use crate::answers::buffer::leave;
-use crate::answers::faults::{faults_value, one_fault};
 use crate::answers::text::json_text;
 use crate::answers::told::Told;
 use crate::answers::zones::bare;
@@ -23,6 +22,7 @@ use cj_base::{FieldFault, Refusal, Seconds};
 use cj_decide::{Plan, Steps, decide};
 use cj_io::GivenZones;
 use cj_scenario::{Scene, SceneFault, read_scene};
+use cj_views::{faults_value, one_fault};
 use cj_why::{plan_value, zone_copy};
 use serde_json::Value;
 use std::alloc::Global;
@@ -80,7 +80,7 @@ fn fault_value(alloc: Global, fault: SceneFault) -> Result<Value, Refusal>
     }
 }
 
-// What is told of a scenario that is refused.
+// The text for a scenario that is refused.
 fn refused_scene(alloc: Global, fault: SceneFault) -> Result<String, Refusal>
     ensures ok { IfOk result (λ s. (fault ≢ Memory)
         × IsJsonText (scene_fault_data fault) (string_bytes s)) }
@@ -90,7 +90,7 @@ fn refused_scene(alloc: Global, fault: SceneFault) -> Result<String, Refusal>
     json_text(alloc, &value)
 }
 
-// What is told of a scenario at a moment, under zones that are given.
+// The answer for a scenario at a moment, under zones that are given.
 fn told_under(
     alloc: Global,
     given: GivenZones<'_>,
@@ -115,8 +115,8 @@ fn told(alloc: Global, bytes: &[u8], now: Seconds) -> Result<Told, Refusal>
     told_under(alloc, given, bytes, now)
 }
 
-/// What a sync of a CronJob does at a moment: the plan of a scenario, as JSON, which has the CronJob's manifest, its Jobs
-/// and its zones; or why that is refused.
+/// What a sync of a CronJob does at a moment: the plan of a scenario, as JSON, which has the
+/// CronJob's manifest, its Jobs and its zones; or why that is refused.
 #[unsafe(no_mangle)]
 pub extern "C" fn cronsim_plan(
     alloc: Global,

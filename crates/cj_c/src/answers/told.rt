@@ -1,8 +1,8 @@
-/// What a caller is told, as JSON.
+/// What a call answers, as JSON.
 #[derive(Drop)]
 pub(crate) enum Told {
-    /// What it asks for.
+    /// What the call asks for.
     Done(String),
-    /// Why what it gives is refused.
+    /// Why what the call gives is refused.
     Refused(String),
 }

@@ -4,11 +4,11 @@ ghost use Rattle.cj_base.specs.declared.refusal.Refusal.TheVariants.{OutOfMemory
 ghost use Rattle.cj_zone.specs.Table.{zones_of};
 ghost use Rattle.cj_c.specs.answers.Zones.{AreZonesOf, IsBare, IsNoZones, IsZonesRefusal};
 
-use crate::answers::faults::one_fault;
 use crate::answers::text::json_text;
 use cj_base::Refusal;
 use cj_io::GivenZones;
 use cj_scenario::{SceneFault, table_of, value_of};
+use cj_views::one_fault;
 use cj_zone::ZoneTable;
 use std::alloc::Global;
 
@@ -52,7 +52,7 @@ pub(crate) fn zones_of_text(alloc: Global, bytes: &[u8]) -> Result<ZoneTable, Sc
     }
 }
 
-/// What is told of zones that are refused.
+/// The text for zones that are refused.
 pub(crate) fn refused_zones(alloc: Global, fault: SceneFault) -> Result<String, Refusal>
     ensures told { (bytes : List ℕ) → IsNoZones bytes fault →
         IfOk result (λ s. IsZonesRefusal bytes (string_bytes s)) }

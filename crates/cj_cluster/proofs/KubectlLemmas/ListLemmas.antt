@@ -21,7 +21,8 @@ use Rattle.cj_cluster.proofs.KubectlLemmas.Places.{rest_at}
 -- ---- one item after another
 
 -- what goes on from this list, at its place, is what goes on from none
-pub record Leads (zones : List Zone) (t : TypeMeta) (all : Items) (place : ℕ) (list : ClusterList) (rest : Items) : Type 0 where
+pub record Leads (zones : List Zone) (t : TypeMeta) (all : Items) (place : ℕ) (list : ClusterList) (rest : Items)
+    : Type 0 where
   pub whole : (end : ClusterList) → AddsItems zones t (place + 1) rest list end → AddsItems zones t 1 all start end
 
 -- Before its first item a list leads to nothing yet, and to all its items.
@@ -30,21 +31,24 @@ pub leads_start : (zones : List Zone) (t : TypeMeta) (all : Items) (list : Clust
 leads_start zones t all list is = record { whole = λ end h. subst (λ l. AddsItems zones t 1 all l end) is h }
 
 -- Where a list leads to an item that is added, it leads on to what is behind it.
-leads_item : (zones : List Zone) (t : TypeMeta) (all : Items) (place : ℕ) (list more : ClusterList) (d : Data) (rest : Items)
+leads_item : (zones : List Zone) (t : TypeMeta) (all : Items) (place : ℕ) (list more : ClusterList) (d : Data)
+    (rest : Items)
     → Leads zones t all place list (item d rest) → AddsItem zones (place + 1) (typed t.kind t.version d) list more
     → Leads zones t all (place + 1) more rest
 leads_item zones t all place list more d rest leads adds =
     record { whole = λ end h. leads.whole end (more, adds, h) }
 
 -- For list_of: so it is with a value of a list.
-pub leads_value : (zones : List Zone) (t : TypeMeta) (values : List Value) (i place : ℕ) (x : Value) (list more : ClusterList)
+pub leads_value : (zones : List Zone) (t : TypeMeta) (values : List Value) (i place : ℕ) (x : Value)
+    (list more : ClusterList)
     → i < length values → x ≡ get_or values i x
     → Leads zones t (items_view values) place list (items_view (drop i values))
     → AddsItem zones (place + 1) (typed t.kind t.version (view x)) list more
     → Leads zones t (items_view values) (place + 1) more (items_view (drop (i + 1) values))
 leads_value zones t values i place x list more inside at leads adds =
     leads_item zones t (items_view values) place list more (view x) (items_view (drop (i + 1) values))
-    (subst (λ vs. Leads zones t (items_view values) place list (items_view vs)) (rest_at values i x inside at) leads) adds
+    (subst (λ vs. Leads zones t (items_view values) place list (items_view vs)) (rest_at values i x inside at) leads)
+    adds
 
 -- For list_of: where a list leads to its end, it is the list of its items.
 pub leads_done : (zones : List Zone) (t : TypeMeta) (all : Items) (place : ℕ) (list : ClusterList)

@@ -43,4 +43,5 @@ job_faults_by status conditions times =
 
 -- rule: cluster-job
 abbrev pub job_server_faults : Data → RunTimes → List FieldFault
-job_server_faults d times = job_faults_by (result_err (status_row d)) (result_err (finish_row d)) times
+job_server_faults d times =
+    job_faults_by (result_err (status_row d)) (result_err (finish_row d)) times

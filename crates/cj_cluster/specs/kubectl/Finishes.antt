@@ -1,4 +1,4 @@
--- The end of a Job, whose time stands in a value, as the end that it is.
+-- The end of a Job, whose time is a value, as the end that it is.
 use Rattle.std.specs.Prelude.{option_map}
 use Rattle.serde_json.specs.View.{view}
 use Rattle.cj_cluster.specs.declared.kubectl.conditions.FinishAt.{FinishAt}

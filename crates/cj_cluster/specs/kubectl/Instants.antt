@@ -1,11 +1,11 @@
--- Times as clients print them (RFC 3339, section 5.6), without a fraction: at UTC by `Z`, or at a clock that is
--- so many hours and minutes ahead of UTC or behind it.
+-- Times as clients print them (RFC 3339, section 5.6), without a fraction: at UTC by `Z`, or at a
+-- clock that is a number of hours and minutes ahead of UTC or behind it.
 use Rattle.std.specs.Prelude.{◌≡◌, ◌⊎◌, ℕ, ◌+◌, ◌*◌, ◌≤◌, List, ◌∷◌, ◌++◌, take}
 use Rattle.jiff_fmt.specs.Text.{pad2}
 use Rattle.cj_base.specs.Instant.{last_second}
 use Rattle.cj_zone.specs.TimeText.{time_text_of}
 
--- `HH:MM`, as so many seconds
+-- `HH:MM`, as seconds
 pub record IsDistance (text : List ℕ) (seconds : ℕ) : Type 0 where
   pub hours : ℕ
   pub minutes : ℕ

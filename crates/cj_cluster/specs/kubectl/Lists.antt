@@ -1,15 +1,17 @@
--- What a client prints of a cluster: a list of objects (Kubernetes API conventions, "Lists and Simple kinds"), or
--- one object.
+-- What a client prints of a cluster: a list of objects (Kubernetes API conventions, "Lists and
+-- Simple kinds"), or one object.
 use Rattle.std.specs.Prelude.{ℕ, ◌||◌, List, codes, Bool, bytes_eq, if◌then◌else◌, Option, Some, None, option_and_then}
 use Rattle.serde_json.specs.Data.{Data, null, boolean, number, string, array, object, put, Items, no_items, item}
 use Rattle.serde_json.specs.Find.{as_array}
 use Rattle.cj_manifest.specs.Members.{present}
 use Rattle.cj_manifest.specs.Owners.{text_at}
 
--- the kinds of list: of objects of any kind, as a client makes them, and of one kind, as a server answers them
+-- the kinds of list: of objects of any kind, as a client makes them, and of one kind, as a server
+-- answers them
 abbrev pub is_list : List ℕ → Bool
 is_list kind =
-    bytes_eq kind (codes "List") || bytes_eq kind (codes "CronJobList") || bytes_eq kind (codes "JobList")
+    bytes_eq kind (codes "List") || bytes_eq kind (codes "CronJobList")
+    || bytes_eq kind (codes "JobList")
 
 abbrev pub is_single : List ℕ → Bool
 is_single kind = bytes_eq kind (codes "CronJob") || bytes_eq kind (codes "Job")
@@ -29,8 +31,8 @@ items_for d kind =
 abbrev pub items_of : Data → Option Items
 items_of d = option_and_then (items_for d) (text_at (codes "kind") d)
 
--- ---- the items of a list of one kind, each without what the list says of them all (Kubernetes API conventions,
--- "Resources": `kind` and `apiVersion`)
+-- ---- the items of a list of one kind, each without what the list says of them all (Kubernetes API
+-- conventions, "Resources": `kind` and `apiVersion`)
 
 abbrev pub kind_listed : List ℕ → Option (List ℕ)
 kind_listed kind =
@@ -63,7 +65,8 @@ abbrev pub unless_said : Option Data → Option (List ℕ) → Option (List ℕ)
 unless_said None kind = kind
 unless_said (Some said) kind = None
 
--- an item of a list whose items have that kind and whose version is that: where it says no kind, it is of both
+-- an item of a list whose items have that kind and whose version is that: where it says no kind, it
+-- is of both
 -- rule: cluster-list
 abbrev pub typed : Option (List ℕ) → Option (List ℕ) → Data → Data
 typed kind version d = with_kind (unless_said (present (codes "kind") d) kind) version d

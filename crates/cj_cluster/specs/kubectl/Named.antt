@@ -1,4 +1,5 @@
--- The CronJob that an item is of, as far as its value tells: Kubernetes, "Objects In Kubernetes", "Names and IDs".
+-- The CronJob that an item is of, as far as its value says: Kubernetes, "Objects In Kubernetes",
+-- "Names and IDs".
 use Rattle.std.specs.Prelude.{ℕ, ◌&&◌, List, ◌++◌, codes, bytes_eq, Bool, true, false, Option, Some, None, option_and_then, unwrap_or, if◌then◌else◌}
 use Rattle.std.specs.List.{list_any}
 use Rattle.serde_json.specs.Data.{Data}
@@ -52,7 +53,8 @@ abbrev pub may_have_uid : Option (List ℕ) → Option OwnerRef → Bool
 may_have_uid None owner = true
 may_have_uid (Some uid) owner = has_uid uid owner
 
--- the controller of the Job is that CronJob: by its name in the Job's namespace, and by its uid where that is written
+-- the controller of the Job is that CronJob: by its name in the Job's namespace, and by its uid
+-- where that is written
 -- rule: audit-stray
 abbrev pub is_named_by : CronName → Job → Bool
 is_named_by n job =

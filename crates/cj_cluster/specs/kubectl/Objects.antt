@@ -23,7 +23,8 @@ meta_made place created labels annotations = record {
 
 -- a CronJob as its server says it: its uid is a text, so it has its place for a number
 -- rule: cluster-cron
-abbrev pub cron_made : ℕ → CronJobDraft → List ℕ → ℕ → List (List ℕ) → Option ℕ → Option ℕ → ClusterCron
+abbrev pub cron_made : ℕ → CronJobDraft → List ℕ → ℕ → List (List ℕ) → Option ℕ → Option ℕ
+    → ClusterCron
 cron_made place draft uid created names last success = record {
   uid = uid;
   cron = record {

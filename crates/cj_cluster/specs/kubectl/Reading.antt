@@ -46,7 +46,8 @@ Unless (fault ∷ faults) r Further = r ≡ Read.Faulty (fault ∷ faults)
 -- the CronJob of a draft, by its value and its times
 abbrev pub cron_at : ℕ → Data → CronJobDraft → CronTimes → ClusterCron
 cron_at place d draft times =
-    cron_made place draft (unwrap_or draft.meta.uid []) (value_or 0 times.created) (value_or [] (active_of d))
+    cron_made place draft (unwrap_or draft.meta.uid []) (value_or 0 times.created)
+    (value_or [] (active_of d))
     (given times.last) (given times.success)
 
 -- what is read of a CronJob whose manifest has no fault
@@ -55,7 +56,8 @@ pub record IsSoundCron (place : ℕ) (d : Data) (r : Item) : Type 0 where
   pub times : CronTimes
   pub drafted : cron_draft d ≡ Some draft
   pub timed : AreCronTimes d times
-  pub answer : Unless (cron_server_faults draft.meta.uid d times) r (r ≡ Read.Cron (cron_at place d draft times))
+  pub answer : Unless (cron_server_faults draft.meta.uid d times) r
+      (r ≡ Read.Cron (cron_at place d draft times))
 
 -- rule: cluster-faults
 abbrev pub IsCronItem : List Zone → ℕ → Data → Item → Type 0
@@ -63,11 +65,17 @@ IsCronItem zones place d r = Unless (cron_faults zones d) r (IsSoundCron place d
 
 abbrev pub job_at : ℕ → Data → JobHead → RunTimes → Job
 job_at place d head times =
-    job_made place head (value_or 0 times.created) (outcome_of (given (finish_row d)) (given times.ended))
+    job_made place head (value_or 0 times.created)
+    (outcome_of (given (finish_row d)) (given times.ended))
 
 abbrev pub times_of : RunTimes → JobTimes
 times_of times =
-    record { scheduled = given times.scheduled; ended = given times.ended; is_manual = times.is_manual }
+    record {
+      scheduled = given times.scheduled;
+      ended = given times.ended;
+      is_manual =
+          times.is_manual;
+    }
 
 -- what is read of a Job whose head has no fault
 pub record IsSoundJob (place : ℕ) (d : Data) (r : Item) : Type 0 where
@@ -75,7 +83,8 @@ pub record IsSoundJob (place : ℕ) (d : Data) (r : Item) : Type 0 where
   pub times : RunTimes
   pub headed : job_head d ≡ Some head
   pub timed : AreRunTimes d times
-  pub answer : Unless (job_server_faults d times) r (r ≡ Read.Run (job_at place d head times) (times_of times))
+  pub answer : Unless (job_server_faults d times) r
+      (r ≡ Read.Run (job_at place d head times) (times_of times))
 
 -- rule: cluster-faults
 abbrev pub IsJobItem : ℕ → Data → Item → Type 0
@@ -109,7 +118,7 @@ IsItem zones place d r = IsObjectItem zones place (an_object d) r
 abbrev pub start : ClusterList
 start = record { cluster = nothing; notes = [] }
 
--- with a note more, which tells the CronJob that the item is of
+-- with one more note, which names the CronJob that the item is of
 abbrev pub noted : ℕ → Data → Said → ClusterList → ClusterList
 noted place d said s = record {
   cluster = s.cluster;
@@ -121,13 +130,14 @@ noted place d said s = record {
 abbrev pub taken : ListedKind → Place → Said
 taken kind key = Taken kind (key_text key.namespace key.name)
 
--- with a CronJob, where none stands at its key
+-- with a CronJob, where none is at its key
 abbrev pub adds_cron : ℕ → Data → ClusterCron → Option ClusterCron → ClusterList → ClusterList
 adds_cron place d cron None s = record { cluster = with_cron cron s.cluster; notes = s.notes }
 adds_cron place d cron (Some other) s = noted place d (taken Of.Cron cron.cron.key) s
 
 abbrev pub adds_job : ℕ → Data → Job → JobTimes → Option Job → ClusterList → ClusterList
-adds_job place d job times None s = record { cluster = with_job job times s.cluster; notes = s.notes }
+adds_job place d job times None s =
+    record { cluster = with_job job times s.cluster; notes = s.notes }
 adds_job place d job times (Some other) s = noted place d (taken Of.Run job.key) s
 
 -- with what is read at a place: the first object of a name stands

@@ -1,5 +1,5 @@
--- What a server says of an object beside its manifest (Kubernetes API reference, `CronJobStatus`, `JobStatus` and
--- `ObjectMeta`).
+-- What a server says of an object beside its manifest (Kubernetes API reference, `CronJobStatus`,
+-- `JobStatus` and `ObjectMeta`).
 use Rattle.std.specs.Prelude.{◌≡◌, ℕ, List, [], ◌∷◌, codes, bytes_eq, if◌then◌else◌, Bool, true, false, Option, Some, None, option_and_then, Result, Ok, Err}
 use Rattle.std.specs.Result.{result_ok}
 use Rattle.serde_json.specs.Data.{Data, Items, no_items, item}
@@ -42,7 +42,8 @@ some_time r = and_then (λ t. Ok (Some t)) r
 
 abbrev pub IsOptionalTime : Option Data → Result (Option ℕ) Cause → Type 0
 IsOptionalTime None r = r ≡ Ok None
-IsOptionalTime (Some d) r = (time : Result ℕ Cause) × IsTimeRow (as_str d) time × (r ≡ some_time time)
+IsOptionalTime (Some d) r =
+    (time : Result ℕ Cause) × IsTimeRow (as_str d) time × (r ≡ some_time time)
 
 -- ---- the status
 
@@ -68,7 +69,8 @@ abbrev pub name_in : Data → Result (List ℕ) Cause
 name_in d = required name_of (present (codes "name") d)
 
 -- with one name more before the others
-abbrev pub before : Result (List ℕ) Cause → Result (List (List ℕ)) Cause → Result (List (List ℕ)) Cause
+abbrev pub before : Result (List ℕ) Cause → Result (List (List ℕ)) Cause
+    → Result (List (List ℕ)) Cause
 before (Err cause) names = Err cause
 before (Ok name) names = and_then (λ ns. Ok (name ∷ ns)) names
 
@@ -101,7 +103,7 @@ ending_named name =
 abbrev pub where_true : List ℕ → Option Ending → Option Ending
 where_true holds ending = if bytes_eq holds (codes "True") then ending else None
 
--- the ending that a condition tells; one of another form tells none
+-- the ending that a condition states; one of another form states none
 -- rule: cluster-job
 abbrev pub ending_in : Data → Option Ending
 ending_in condition =
@@ -113,16 +115,18 @@ abbrev pub or_else : Option Data → Option Data → Option Data
 or_else None other = other
 or_else (Some d) other = Some d
 
--- the end that a condition tells, or else a later one
+-- the end that a condition states, or else a later one
 abbrev pub finish_or : Option Ending → Option Data → Option Finish → Option Finish
 finish_or None time later = later
 finish_or (Some ending) time later = Some (record { ending = ending; time = time })
 
--- by the first condition that tells an end; when, the time of completion says, or else the condition
+-- by the first condition that states an end; when, the time of completion says, or else the
+-- condition
 abbrev pub first_finish : Option Data → Items → Option Finish
 first_finish completion no_items = None
 first_finish completion (item d ds) =
-    finish_or (ending_in d) (or_else completion (present (codes "lastTransitionTime") d)) (first_finish completion ds)
+    finish_or (ending_in d) (or_else completion (present (codes "lastTransitionTime") d))
+    (first_finish completion ds)
 
 -- rule: cluster-job
 abbrev pub conditions_row : Option Data → Option Data → Result (Option Finish) Cause
@@ -132,12 +136,14 @@ conditions_row completion (Some d) =
 
 abbrev pub finish_row : Data → Result (Option Finish) Cause
 finish_row d =
-    conditions_row (member_of (codes "completionTime") (status_of d)) (member_of (codes "conditions") (status_of d))
+    conditions_row (member_of (codes "completionTime") (status_of d))
+    (member_of (codes "conditions") (status_of d))
 
 -- a Job that ended, did so at a time
 abbrev pub IsEndTime : Option Finish → Result (Option ℕ) Cause → Type 0
 IsEndTime None r = r ≡ Ok None
-IsEndTime (Some finish) r = (time : Result ℕ Cause) × IsRequiredTime finish.time time × (r ≡ some_time time)
+IsEndTime (Some finish) r =
+    (time : Result ℕ Cause) × IsRequiredTime finish.time time × (r ≡ some_time time)
 
 -- ---- the times of an object
 
@@ -157,11 +163,12 @@ pub record AreCronTimes (d : Data) (times : CronTimes) : Type 0 where
 abbrev pub scheduled_in : Data → Option Data
 scheduled_in d = member_of scheduled_annotation (member_of (codes "annotations") (metadata_of d))
 
--- the annotation by which `kubectl create job --from` tells that somebody made a Job by hand
+-- the annotation by which `kubectl create job --from` marks a Job that somebody made by hand
 abbrev pub manual_text : Data → Option (List ℕ)
 manual_text d =
     option_and_then as_str
-    (member_of (codes "cronjob.kubernetes.io/instantiate") (member_of (codes "annotations") (metadata_of d)))
+    (member_of (codes "cronjob.kubernetes.io/instantiate")
+    (member_of (codes "annotations") (metadata_of d)))
 
 abbrev pub says_manual : Option (List ℕ) → Bool
 says_manual None = false

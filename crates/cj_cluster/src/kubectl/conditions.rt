@@ -37,7 +37,7 @@ fn ending_named(name: &str) -> Option<Ending>
     }
 }
 
-// The ending that a condition tells, if it holds.
+// The ending that a condition states, if it holds.
 fn ending_in(condition: &Value) -> Option<Ending>
     ensures { result ≡ row.ending_in (view condition.now) }
 {
@@ -65,7 +65,7 @@ fn or_else<'v>(first: Option<&'v Value>, other: Option<&'v Value>) -> Option<&'v
     }
 }
 
-// The end that the first condition with one tells.
+// The end that the first condition with one states.
 fn first_finish<'v>(completion: Option<&'v Value>, conditions: &'v [Value]) -> Option<FinishAt<'v>>
     ensures { option_map finish_of result
         ≡ row.first_finish (option_map (λ v. view v.now) completion.entry)
@@ -100,7 +100,7 @@ fn conditions_row<'v>(
     }
 }
 
-/// The end of a Job, where its status tells one, or why the conditions are refused.
+/// The end of a Job, where its status states one, or why the conditions are refused.
 pub(crate) fn finish_row(value: &Value) -> Result<Option<FinishAt<'_>>, Cause>
     ensures fault { result_err result ≡ result_err (row.finish_row (view value.now)) }
     ensures value { option_map (option_map finish_of) (result_ok result)

@@ -84,9 +84,9 @@ fn apart(text: &[u8]) -> Option<Seconds>
     moved(offset[0], shown, distance)
 }
 
-/// The instant that a client prints as this text (RFC 3339): `YYYY-MM-DDTHH:MM:SSZ`, or with `+HH:MM` or
-/// `-HH:MM` in place of the `Z` for a clock ahead of UTC or behind it; `None` where there is none from 1970
-/// to 9998.
+/// The instant that a client prints as this text (RFC 3339): `YYYY-MM-DDTHH:MM:SSZ`, or with
+/// `+HH:MM` or `-HH:MM` in place of the `Z` for a clock ahead of UTC or behind it; `None` where
+/// there is none from 1970 to 9998.
 pub fn read_instant(text: &str) -> Option<Seconds>
     ensures found { IfSome result (IsInstant text.now) }
     ensures only { (t : ℕ) → IsInstant text.now t → result ≡ Some t }

@@ -21,7 +21,6 @@ pub struct ClusterList {
     pub notes: ItemNotes,
 }
 
-// A function of its own, so that whoever gives one up makes one call and not one for each part.
 impl Drop for ClusterList {
     fn drop(self) {
         let ClusterList { cluster, notes } = self;

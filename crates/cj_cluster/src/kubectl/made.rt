@@ -28,7 +28,8 @@ fn meta(place: Uid, created: Seconds, labels: Labels, annotations: Labels) -> Me
     }
 }
 
-/// The CronJob of a draft at a place of the list, with its times and the names of the Jobs that run.
+/// The CronJob of a draft at a place of the list, with its times and the names of the Jobs that
+/// run.
 pub(crate) fn cron(
     alloc: Global,
     place: Uid,

@@ -1,4 +1,4 @@
-// The CronJob that an item is of, as far as its value tells.
+// The CronJob that an item is of, as far as its value says.
 ghost use Rattle.std.specs.Prelude.{◌≡◌, IfOk, IfErr, codes, option_map, unwrap_or};
 ghost use Rattle.serde_json.specs.View.{view};
 ghost use Rattle.cj_base.specs.declared.refusal.Refusal.TheVariants.{OutOfMemory};
@@ -122,8 +122,8 @@ fn may_have_uid(uid: &Option<Text>, job: &Job) -> bool
 }
 
 impl CronName {
-    /// Whether the Job's controller is that CronJob: by its name in the Job's namespace, and by its uid where
-    /// that is written.
+    /// Whether the Job's controller is that CronJob: by its name in the Job's namespace, and by its
+    /// uid where that is written.
     pub fn controls(&self, job: &Job) -> bool
         ensures { result ≡ told.is_named_by self.now job.now }
     {

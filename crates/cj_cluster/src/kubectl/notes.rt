@@ -32,7 +32,7 @@ pub enum Said {
 pub struct ItemNote {
     /// The place of the item, from 1.
     pub place: u64,
-    /// The CronJob that it is of, as far as its value tells.
+    /// The CronJob that it is of, as far as its value says.
     pub cron: Option<CronName>,
     pub said: Said,
 }

@@ -55,7 +55,7 @@ fn add_value(
     add_item(alloc, list, place, value, item)
 }
 
-// The same of an item that may say no kind, in a list of that kind of items and that version.
+// The text of an item that may name no kind, in a list of items of that kind and version.
 fn add_typed(
     alloc: Global,
     list: &mut ClusterList,
@@ -106,14 +106,14 @@ fn list_of(
     Ok(list)
 }
 
-/// Reads what `kubectl get cronjobs,jobs -o json` prints, under the zones of a table: a list of objects, as
-/// `kind` says, or one CronJob or Job. In a list of one kind an item that says no kind is of the list's, and of its
-/// version.
+/// Reads what `kubectl get cronjobs,jobs -o json` prints, under the zones of a table: a list of
+/// objects, as `kind` says, or one CronJob or Job. In a list of one kind an item that says no kind
+/// is of the list's, and of its version.
 ///
 /// The cluster has each CronJob and Job that has no fault, numbered by its place in the list; the
-/// first of a name stands. A note tells of each other item: its kind, where that is another, or its
-/// faults. These are the faults of its manifest, or else of what its server says of it; the spec of a
-/// Job isn't looked at. A member that is null counts as absent.
+/// first item of a name counts. A note says of each other item: its kind, where that is another, or
+/// its faults. These are the faults of its manifest, or else of what its server says of it; the
+/// spec of a Job isn't looked at. A member that is null counts as absent.
 ///
 /// `Syntax` for bytes that aren't JSON, `Form` for a value that is neither; `Memory` too for a list
 /// of more than 2^40 items.

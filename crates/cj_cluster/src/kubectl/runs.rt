@@ -63,7 +63,7 @@ fn job_times(alloc: Global, times: &RunTimes) -> Result<Shared<JobTimes>, Refusa
     )
 }
 
-// The same Job with its times.
+// The Job with its times.
 fn run_of(
     alloc: Global,
     place: Uid,

@@ -104,8 +104,9 @@ fn split(alloc: Global, value: &Value) -> Result<Option<Vec<Text>>, Refusal>
     Ok(Some(texts_of(alloc, items, item_kind(value), version)?))
 }
 
-/// The objects of a list, each as a text of JSON of its own, with the kind and the version that the list says of it
-/// where it says none; `None` for bytes that are no list, be they no JSON or one object alone.
+/// The objects of a list, each as a text of JSON of its own, with the kind and the version that the
+/// list says of it where it says none; `None` for bytes that are no list, be they no JSON or one
+/// object alone.
 pub fn item_texts(alloc: Global, bytes: &[u8]) -> Result<Option<Vec<Text>>, Refusal>
     ensures ok { IfOk result (λ o. IsSplitIf bytes.now (option_map (λ v. v.items) o)) }
     ensures err { IfErr result (λ e. e ≡ OutOfMemory) }

@@ -97,7 +97,7 @@ fn scheduled(value: &Value) -> Result<Option<Seconds>, Cause>
     ))
 }
 
-// The text of the annotation by which a client tells that it made a Job by hand.
+// The text of the annotation by which a client marks a Job that it made by hand.
 fn manual_text(value: &Value) -> Option<&str>
     ensures { option_map (λ s. s.now) result ≡ manual_text (view value.now) }
 {

@@ -50,7 +50,8 @@ missed_starts c s z now (Kind.Some count latest) p running n t h e =
     (subst (IsLatestDue s z (window_of c now) now) k.0 h.3, k.1)
 
 -- a start decision that starts a Job
-pub record IsStart (c : CronJob) (running : List JobRef) (now : ℕ) (z : Option Zone) (v : StartDecision) (t : ℕ) : Type 0
+pub record IsStart (c : CronJob) (running : List JobRef) (now : ℕ) (z : Option Zone) (v : StartDecision) (t : ℕ)
+    : Type 0
   where
     pub zone : Zone
     pub known : z ≡ Some zone

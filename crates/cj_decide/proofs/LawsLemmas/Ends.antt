@@ -162,7 +162,8 @@ names_at_end c jobs found now z p f d h name = record { only = only; all = all }
 
     turn : IsIn name (cond d.start.replaces [] (still_active (uid_text c.meta.uid) c.status.active found))
         ⊎ IsMadeName c (claim_by c d.start) name → IsNamed c found p name
-    turn (inl k) = let r = kept_has d.start.replaces (uid_text c.meta.uid) c.status.active found name k in inl (sym replaces ∙ r.0, r.1)
+    turn (inl k) = let r = kept_has d.start.replaces (uid_text c.meta.uid) c.status.active found name k in inl
+        (sym replaces ∙ r.0, r.1)
     turn (inr k) = inr (subst (λ x. IsMadeName c x name) (sym claim) k)
 
     back : IsNamed c found p name → IsIn name (cond d.start.replaces []

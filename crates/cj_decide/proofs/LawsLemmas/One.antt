@@ -72,7 +72,8 @@ one_next s z now (Some t) None h k = absurd (clash (due s z t) (k t h.above h.wi
 one_next s z now (Some t) (Some u) h k = ap (λ (n : ℕ). Some n) (one_least s z now _ t u h k)
 
 -- By a schedule's times in a zone there is one start decision at most.
-one_times : (c : CronJob) (s : Sets) (z : Zone) (busy : Bool) (now : ℕ) (v w : StartDecision) → IsByTimes c s z busy now v
+one_times : (c : CronJob) (s : Sets) (z : Zone) (busy : Bool) (now : ℕ) (v w : StartDecision)
+    → IsByTimes c s z busy now v
     → IsByTimes c s z busy now w → v ≡ w
 one_times c s z busy now v w (m, n, hm, hn, e) (m', n', km, kn, f) =
     let missed = one_missed s z (window_of c now) now m m' hm km in

@@ -47,6 +47,7 @@ module _ (c : CronJob) where
   unless_replaces false z busy now v h = zone_replaces z busy now v h
 
 -- A start decision takes the place of what runs just where it gives a claim and the policy is Replace.
-pub start_replaces : (c : CronJob) (z : Option Zone) (busy : Bool) (now : ℕ) (v : StartDecision) → IsStartDecision c z busy now v
+pub start_replaces : (c : CronJob) (z : Option Zone) (busy : Bool) (now : ℕ) (v : StartDecision)
+    → IsStartDecision c z busy now v
     → v.replaces ≡ is_replacing c.spec.policy (claim_by c v)
 start_replaces c z busy now v h = unless_replaces c c.spec.suspend z busy now v h

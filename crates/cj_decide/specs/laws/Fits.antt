@@ -1,6 +1,6 @@
--- What a history of syncs needs of a plan: that no time of a CronJob is started twice, and none beside an
--- unfinished Job where the policy forbids it (Kubernetes CronJob documentation, "Concurrency policy").
--- Cleanup, reasons and the next time play no part.
+-- The facts about each plan by which, in a history of syncs, no time of a CronJob gets two Jobs,
+-- and no Job overlaps an unfinished one where the policy forbids it (Kubernetes CronJob
+-- documentation, "Concurrency policy"). Cleanup, reasons and the next time play no part.
 use Rattle.std.specs.Prelude.{◌≡◌, ◌⊎◌, ℕ, suc, ◌≤◌, Bool, true, false, List, [], ◌∷◌, Option, Some, None}
 use Rattle.cj_types.specs.Keys.{Place, place}
 use Rattle.cj_types.specs.Uids.{uid_text}
@@ -26,41 +26,42 @@ is_strict Allow = false
 is_strict Forbid = true
 is_strict Replace = true
 
--- a key that has one of some names
+-- the key has one of the names
 abbrev pub IsAt : List ℕ → List (List ℕ) → Place → Type 0
 IsAt namespace [] q = ⊥
 IsAt namespace (n ∷ ns) q = (place namespace n ≡ q) ⊎ IsAt namespace ns q
 
--- a key and a uid among those that are named
+-- the references have one with that key and uid
 abbrev pub IsAmong : List JobRef → Place → ℕ → Type 0
 IsAmong [] q i = ⊥
 IsAmong (r ∷ rs) q i = ((r.key ≡ q) × (r.uid ≡ i)) ⊎ IsAmong rs q i
 
--- the live read found such an unfinished Job for the name
+-- the live read found for the name an unfinished Job of the CronJob with that key and uid
 pub record IsHere (u : ℕ) (namespace name : List ℕ) (job : Job) (q : Place) (i : ℕ) : Type 0 where
   pub named : place namespace name ≡ q
   pub key : job.key ≡ q
   pub uid : job.meta.uid ≡ i
   pub runs : runs u job ≡ true
 
--- of names with what was found for each
+-- the live read found such a Job for one of the names
 abbrev pub IsFoundIn : ℕ → List ℕ → List (List ℕ) → List (Option Job) → Place → ℕ → Type 0
 IsFoundIn u namespace [] found q i = ⊥
 IsFoundIn u namespace (n ∷ ns) [] q i = ⊥
 IsFoundIn u namespace (n ∷ ns) (None ∷ found) q i = IsFoundIn u namespace ns found q i
-IsFoundIn u namespace (n ∷ ns) (Some job ∷ found) q i = IsHere u namespace n job q i ⊎ IsFoundIn u namespace ns found q i
+IsFoundIn u namespace (n ∷ ns) (Some job ∷ found) q i = IsHere u namespace n job q i
+    ⊎ IsFoundIn u namespace ns found q i
 
--- of a CronJob's active names
+-- the live read found such a Job for one of a CronJob's active names
 abbrev pub IsFound : CronJob → List (Option Job) → Place → ℕ → Type 0
 IsFound cron found q i = IsFoundIn cron.meta.uid cron.key.namespace cron.status.active found q i
 
--- one more than a time, 0 for none: t < upto last says that t is not after the last time
+-- the last time plus 1, or 0 for none: t < upto last says that t is not after the last time
 abbrev pub upto : Option ℕ → ℕ
 upto None = 0
 upto (Some t) = suc t
 
--- the Job that is made: its controller is the CronJob, in whose namespace it stands, and its name is in the
--- claim's status and the final one
+-- the Job that is created: its controller is the CronJob, in whose namespace it is, and its name is
+-- in the status of the claim and in the final one
 pub record IsMade (p : Planned) (cron : CronJob) (claim : Claim) (d : JobDraft) : Type 0 where
   pub owner : OwnerRef
   pub controller : controller_of d.owners ≡ Some owner
@@ -75,28 +76,32 @@ pub record IsMade (p : Planned) (cron : CronJob) (claim : Claim) (d : JobDraft) 
 pub record Starts (p : Planned) (cron : CronJob) (claim : Claim) : Type 0 where
   pub later : upto cron.status.last_schedule_time ≤ claim.time
   pub says : claim.status.last_schedule_time ≡ Some claim.time
-  pub drops : is_strict cron.spec.policy ≡ true → (q : Place) (i : ℕ) → IsFound cron p.active q i → IsAmong p.steps.drop_first q i
-  pub more : (q : Place) → IsAt cron.key.namespace cron.status.active q → IsAt cron.key.namespace claim.status.active q
+  pub drops : is_strict cron.spec.policy ≡ true → (q : Place) (i : ℕ) → IsFound cron p.active q i
+      → IsAmong p.steps.drop_first q i
+  pub more : (q : Place) → IsAt cron.key.namespace cron.status.active q
+      → IsAt cron.key.namespace claim.status.active q
   pub makes : (d : JobDraft) → p.steps.make ≡ Some d → IsMade p cron claim d
-  pub final : (f : CronStatus) → p.steps.status ≡ Some f → upto claim.status.last_schedule_time ≤ upto f.last_schedule_time
+  pub final : (f : CronStatus) → p.steps.status ≡ Some f
+      → upto claim.status.last_schedule_time ≤ upto f.last_schedule_time
 
--- one that claims none
+-- a plan that claims no time
 pub record Waits (p : Planned) (cron : CronJob) : Type 0 where
   pub makes : p.steps.make ≡ None
   pub drops : p.steps.drop_first ≡ []
-  pub final : (f : CronStatus) → p.steps.status ≡ Some f → upto cron.status.last_schedule_time ≤ upto f.last_schedule_time
+  pub final : (f : CronStatus) → p.steps.status ≡ Some f
+      → upto cron.status.last_schedule_time ≤ upto f.last_schedule_time
 
 abbrev pub FitsWith : Planned → CronJob → Option Claim → Type 0
 FitsWith p cron None = Waits p cron
 FitsWith p cron (Some claim) = Starts p cron claim
 
--- what the live read found unfinished is named in the final status, or dropped
+-- a Job that the live read found unfinished is named in the final status, or deleted
 abbrev pub Keeps : Planned → CronJob → Type 0
 Keeps p cron =
     (f : CronStatus) → p.steps.status ≡ Some f → (q : Place) (i : ℕ) → IsFound cron p.active q i
     → IsAt cron.key.namespace f.active q ⊎ IsAmong p.steps.drop_first q i
 
--- without a CronJob nothing is made and no status is written
+-- without a CronJob no Job is created and no status is written
 pub record Clears (p : Planned) : Type 0 where
   pub makes : p.steps.make ≡ None
   pub claim : p.steps.claim ≡ None
@@ -109,6 +114,6 @@ FitsFor p (Some cron) = FitsWith p cron p.steps.claim × Keeps p cron
 abbrev pub Fits : Planned → Type 0
 Fits p = FitsFor p p.cron
 
--- every plan does
+-- every plan fits so
 abbrev pub DecidedFits : Type 0
 DecidedFits = (p : Planned) → IsDecided p → Fits p

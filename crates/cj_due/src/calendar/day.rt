@@ -6,7 +6,7 @@ ghost use Rattle.cj_due.specs.calendar.Shown.{day_at};
 use crate::calendar::month::{Month, month_of};
 use cj_schedule::Schedule;
 
-// The least allowed day of the month from this day of it on.
+// The least allowed day of the month from the month's day `from` on.
 fn next_in_month(schedule: &Schedule, month: Month, from: u8) -> Option<u64>
     requires first { month.first ≤ 7_304_400 }
     requires low { 1 ≤ from }
@@ -25,7 +25,7 @@ fn next_in_month(schedule: &Schedule, month: Month, from: u8) -> Option<u64>
     }
 }
 
-/// The least allowed day from this one on and up to the last.
+/// The least allowed day from `from` on and up to `last`.
 pub(crate) fn next_day(schedule: &Schedule, from: u64, last: u64) -> Option<u64>
     requires from { from ≤ 7_304_400 }
     requires last { last ≤ 7_304_400 }
@@ -44,7 +44,7 @@ pub(crate) fn next_day(schedule: &Schedule, from: u64, last: u64) -> Option<u64>
     None
 }
 
-// The greatest allowed day of the month up to this day of it.
+// The greatest allowed day of the month up to the month's day `upto`.
 fn previous_in_month(schedule: &Schedule, month: Month, upto: u8) -> Option<u64>
     requires first { month.first ≤ 7_304_400 }
     requires low { 1 ≤ upto }
@@ -61,7 +61,7 @@ fn previous_in_month(schedule: &Schedule, month: Month, upto: u8) -> Option<u64>
     Some(month.first + day as u64 - 1)
 }
 
-/// The greatest allowed day up to this one and down to the first.
+/// The greatest allowed day up to `upto` and down to `first`.
 pub(crate) fn previous_day(schedule: &Schedule, upto: u64, first: u64) -> Option<u64>
     requires { upto ≤ 7_304_400 }
     ensures some { IfSome result (λ n. IsPrevious (day_at schedule.now) upto n) }

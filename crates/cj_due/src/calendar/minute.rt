@@ -4,7 +4,7 @@ ghost use Rattle.cj_due.specs.calendar.Minutes.{minute_in_day};
 
 use cj_schedule::Schedule;
 
-// The least allowed minute of a day from this one on and in its hour.
+// The least allowed minute of a day from `from` on, in the same hour.
 fn next_in_hour(schedule: &Schedule, from: u64) -> Option<u64>
     requires { from < 1_440 }
     ensures some { IfSome result (λ n. IsNext (minute_in_day schedule.now) from n) }
@@ -24,7 +24,7 @@ fn next_in_hour(schedule: &Schedule, from: u64) -> Option<u64>
     }
 }
 
-// The least allowed minute of a day from this hour on.
+// The least allowed minute of a day from the hour `from` on.
 fn next_by_hours(schedule: &Schedule, from: u8) -> Option<u64>
     requires { from ≤ 24 }
     ensures some { IfSome result (λ n. IsNext (minute_in_day schedule.now) (from * 60) n) }
@@ -40,7 +40,7 @@ fn next_by_hours(schedule: &Schedule, from: u8) -> Option<u64>
     }
 }
 
-/// The least allowed minute of a day from this one on.
+/// The least allowed minute of a day from `from` on.
 pub(crate) fn next_minute(schedule: &Schedule, from: u64) -> Option<u64>
     requires { from < 1_440 }
     ensures some { IfSome result (λ n. IsNext (minute_in_day schedule.now) from n) }
@@ -53,7 +53,7 @@ pub(crate) fn next_minute(schedule: &Schedule, from: u64) -> Option<u64>
     next_by_hours(schedule, (from / 60) as u8 + 1)
 }
 
-// The greatest allowed minute of a day up to this one and in its hour.
+// The greatest allowed minute of a day up to `upto`, in the same hour.
 fn previous_in_hour(schedule: &Schedule, upto: u64) -> Option<u64>
     requires { upto < 1_440 }
     ensures some { IfSome result (λ n. IsPrevious (minute_in_day schedule.now) upto n) }
@@ -67,7 +67,7 @@ fn previous_in_hour(schedule: &Schedule, upto: u64) -> Option<u64>
     Some(hour as u64 * 60 + minute as u64)
 }
 
-// The greatest allowed minute of a day before this hour.
+// The greatest allowed minute of a day before the hour `before`.
 fn previous_by_hours(schedule: &Schedule, before: u8) -> Option<u64>
     requires low { 1 ≤ before }
     requires high { before ≤ 24 }
@@ -80,7 +80,7 @@ fn previous_by_hours(schedule: &Schedule, before: u8) -> Option<u64>
     Some(hour as u64 * 60 + minute as u64)
 }
 
-/// The greatest allowed minute of a day up to this one.
+/// The greatest allowed minute of a day up to `upto`.
 pub(crate) fn previous_minute(schedule: &Schedule, upto: u64) -> Option<u64>
     requires { upto < 1_440 }
     ensures some { IfSome result (λ n. IsPrevious (minute_in_day schedule.now) upto n) }

@@ -4,7 +4,7 @@ ghost use Rattle.cj_due.specs.calendar.Months.{IsMonth};
 
 use jiff_core::civil::{Date, days_in_month};
 
-/// A month of the calendar, with how many days lie before it since -9999-01-01.
+/// A month of the calendar, with `first`, the number of days from -9999-01-01 to its first day.
 #[derive(Clone, Copy)]
 pub(crate) struct Month {
     pub year: i16,
@@ -14,7 +14,7 @@ pub(crate) struct Month {
 }
 
 impl Month {
-    /// How many days it has.
+    /// The number of days in the month.
     pub(crate) fn length(self) -> u8
         ensures value { result ≡ days_in_month self.year self.month }
         ensures low { 28 ≤ result }
@@ -23,7 +23,7 @@ impl Month {
         days_in_month(self.year, self.month)
     }
 
-    /// The weekday of its first day, from 0 for Sunday.
+    /// The weekday of the month's first day, from 0 for Sunday.
     pub(crate) fn weekday(self) -> u8
         requires { self.first ≤ 7_304_400 }
         ensures { result ≡ (self.first + 1) % 7 }
@@ -31,7 +31,7 @@ impl Month {
         ((self.first + 1) % 7) as u8
     }
 
-    /// The month after it.
+    /// The following month.
     pub(crate) fn next(self) -> Month
         requires { self.first ≤ 7_304_400 }
         ensures { result.first ≡ self.first + days_in_month self.year self.month }
@@ -52,7 +52,7 @@ impl Month {
     }
 }
 
-/// The month in which so many days since -9999-01-01 end, and how many of its days lie before that end, from 1.
+/// The month of the day `day` days after -9999-01-01, and the day's place in that month, from 1.
 pub(crate) fn month_of(day: u64) -> (Month, u8)
     requires { day ≤ 7_304_400 }
     ensures place { result.0.first + result.1 ≡ day + 1 }

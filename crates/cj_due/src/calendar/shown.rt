@@ -6,7 +6,7 @@ use crate::calendar::day::{next_day, previous_day};
 use crate::calendar::minute::{next_minute, previous_minute};
 use cj_schedule::Schedule;
 
-// The first allowed minute of the days from this one on and up to the last.
+// The first allowed minute of the days from `from` on and up to `last`.
 fn next_from_day(schedule: &Schedule, from: u64, last: u64) -> Option<u64>
     requires from { from ≤ 7_304_400 }
     requires last { last ≤ 7_304_400 }
@@ -20,8 +20,8 @@ fn next_from_day(schedule: &Schedule, from: u64, last: u64) -> Option<u64>
     Some(day * 1_440 + minute)
 }
 
-/// The least allowed minute from this one on and up to the end of the last day, counted from -9999-01-01T00:00 on a
-/// clock with no zone.
+/// The least allowed minute from `from` on and up to the end of the day `last`, on a clock with no
+/// zone. Minutes and days are counted from -9999-01-01T00:00.
 pub fn next_shown(schedule: &Schedule, from: u64, last: u64) -> Option<u64>
     requires from { from / 1_440 < 7_304_400 }
     requires last { last ≤ 7_304_400 }
@@ -55,8 +55,8 @@ fn previous_from_day(schedule: &Schedule, upto: u64, first: u64) -> Option<u64>
     Some(day * 1_440 + minute)
 }
 
-/// The greatest allowed minute up to this one and down to the beginning of the first day, counted from
-/// -9999-01-01T00:00 on a clock with no zone.
+/// The greatest allowed minute up to `upto` and down to the beginning of the day `first`, on a
+/// clock with no zone. Minutes and days are counted from -9999-01-01T00:00.
 pub fn previous_shown(schedule: &Schedule, upto: u64, first: u64) -> Option<u64>
     requires { upto / 1_440 < 7_304_400 }
     ensures some { IfSome result (λ n. IsPrevious (minute_at schedule.now) upto n) }

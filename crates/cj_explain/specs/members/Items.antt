@@ -11,23 +11,25 @@ use Rattle.cj_explain.specs.declared.members.items.Item.TheVariants as In
 use Rattle.cj_explain.specs.declared.members.want.Range.TheVariants.{Any}
 use Rattle.cj_explain.specs.declared.members.want.Want.TheVariants as Want
 use Rattle.cj_explain.specs.declared.members.want.Word.TheVariants as Word
-use Rattle.cj_explain.specs.members.Deeds.{caller, deed, moment}
+use Rattle.cj_explain.specs.members.Actions.{caller, action, moment}
 use Rattle.cj_explain.specs.members.Members.{Checked, at_fault, both, checked, must, other}
 use Rattle.cj_explain.specs.members.Wants.{is_key, words}
 
 -- ---- the items of a list
 
 abbrev pub job : List ℕ → Data → Checked
-job path d = both (must path d (codes "time") (Want.Text Word.Time)) (must path d (codes "outcome") (Want.Text Word.State))
+job path d = both (must path d (codes "time") (Want.Text Word.Time))
+    (must path d (codes "outcome") (Want.Text Word.State))
 
 abbrev pub step : List ℕ → Data → Data → Checked
-step path whole d = both (caller path whole d) (deed path d)
+step path whole d = both (caller path whole d) (action path d)
 
 abbrev pub edit : List ℕ → Data → Checked
-edit path d = both (moment path d) (deed path d)
+edit path d = both (moment path d) (action path d)
 
 abbrev pub run : List ℕ → Data → Checked
-run path d = both (must path d (codes "seconds") (Want.Number Any)) (must path d (codes "outcome") (Want.Text Word.End))
+run path d = both (must path d (codes "seconds") (Want.Number Any))
+    (must path d (codes "outcome") (Want.Text Word.End))
 
 abbrev pub seed_by : List ℕ → Option Data → Checked
 seed_by path None = at_fault [] path other (words Want.Manifest)
@@ -70,7 +72,8 @@ run_key path key = if is_key key then Ok tt else at_fault [] path other key_word
 
 abbrev pub runs : Data → List ℕ → List ℕ → Data → Checked
 runs whole path key d =
-    both (run_key path key) (both (checked [] path Want.List d) (items_in In.Run whole path (as_array d)))
+    both (run_key path key) (both (checked [] path Want.List d)
+    (items_in In.Run whole path (as_array d)))
 
 -- a member by what the object is of
 -- rule: explain-members
@@ -91,7 +94,8 @@ entry_path name key = name ++ (codes "." ++ key)
 abbrev pub entries_from : Entry → Data → List ℕ → Members → Checked
 entries_from kind whole name no_members = Ok tt
 entries_from kind whole name (member key d ms) =
-    both (entry_by kind whole (entry_path name key) key (unless_null d)) (entries_from kind whole name ms)
+    both (entry_by kind whole (entry_path name key) key (unless_null d))
+    (entries_from kind whole name ms)
 
 abbrev pub entries_in : Entry → Data → List ℕ → Option Members → Checked
 entries_in kind whole name None = Ok tt
@@ -99,4 +103,5 @@ entries_in kind whole name (Some ms) = entries_from kind whole name ms
 
 -- the members of a member, where that is an object
 abbrev pub entries : Entry → Data → List ℕ → Checked
-entries kind whole name = entries_in kind whole name (option_and_then as_object (present name whole))
+entries kind whole name = entries_in kind whole name
+    (option_and_then as_object (present name whole))

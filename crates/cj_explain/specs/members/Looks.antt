@@ -26,7 +26,7 @@ wrong_words wanted (Ok _) = rest wanted
 wrong_words wanted (Err (Member text)) = text
 wrong_words wanted (Err Memory) = []
 
--- a text that is of another form is told by that alone
+-- of a text of another form only that is said
 abbrev pub is_near : Form → Form → Bool
 is_near A.Scenario A.Scenario = true
 is_near A.Script A.Script = true
@@ -39,9 +39,10 @@ is_near wanted found = false
 -- the first member that is missing or wrong in an object
 -- rule: explain-members
 abbrev pub member_words : Form → Data → List ℕ
-member_words wanted d = if is_some (as_object d) && is_near wanted (form_of d) then wrong_words wanted (whole wanted d) else []
+member_words wanted d = if is_some (as_object d)
+    && is_near wanted (form_of d) then wrong_words wanted (whole wanted d) else []
 
--- and what is seen beside
+-- and what else is seen
 abbrev pub look_words : Form → Data → List ℕ
 look_words wanted d = member_words wanted d ++ detection_words wanted d
 

@@ -1,4 +1,5 @@
--- Members by their paths: one that must be there, and one that may be. Members that are null are missing.
+-- Members by their paths: one that must be there, and one that may be. Members that are null are
+-- missing.
 use Rattle.std.specs.Prelude.{ℕ, List, [], ◌∷◌, ◌++◌, codes, Option, Some, None, Result, Ok, Err, if◌then◌else◌}
 use Rattle.serde_json.specs.Data.{Data}
 use Rattle.cj_manifest.specs.Members.{present}
@@ -16,7 +17,7 @@ abbrev pub both : Checked → Checked → Checked
 both (Ok _) rest = rest
 both (Err e) rest = Err e
 
--- the path of a member of what stands at a path, which is empty for the whole
+-- the path of a member of the object at a path, which is empty for the whole
 abbrev pub member_at : List ℕ → List ℕ → List ℕ
 member_at [] name = name
 member_at (b ∷ bs) name = (b ∷ bs) ++ (codes "." ++ name)

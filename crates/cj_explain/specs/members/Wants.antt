@@ -50,7 +50,8 @@ is_state text = bytes_eq text (codes "Running") || is_end text
 
 abbrev pub is_role : List ℕ → Bool
 is_role text =
-    bytes_eq text (codes "User") || bytes_eq text (codes "Runner") || bytes_eq text (codes "Informer")
+    bytes_eq text (codes "User") || bytes_eq text (codes "Runner")
+    || bytes_eq text (codes "Informer")
     || bytes_eq text (codes "Worker")
 
 abbrev pub is_key : List ℕ → Bool

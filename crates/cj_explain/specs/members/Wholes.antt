@@ -1,4 +1,5 @@
--- The members of a scenario for a plan, of a script and of a run's scenario, in the order in which they are looked at.
+-- The members of a scenario for a plan, of a script and of a run's scenario, in the order in which
+-- they are looked at.
 use Rattle.std.specs.Prelude.{List, [], codes, Ok}
 use Rattle.serde_json.specs.Data.{Data}
 use Rattle.cj_scenario.specs.declared.detection.form.Form.{Form}

@@ -5,7 +5,7 @@ ghost use Rattle.cj_manifest.specs.Members.{unless_null};
 ghost use Rattle.cj_explain.specs.declared.members.wrong.Wrong.TheVariants.{Memory};
 ghost use Rattle.cj_explain.specs.members.Items as said;
 
-use crate::members::deed::{caller, deed};
+use crate::members::action::{action, caller};
 use crate::members::member::{must, other};
 use crate::members::want::{Range, Want, Word};
 use crate::members::wrong::Wrong;
@@ -42,7 +42,7 @@ fn step(alloc: Global, path: &str, whole: &Value, value: &Value) -> Result<(), W
         said.step path.now (view whole.now) (view value.now) ≡ Err e) }
 {
     caller(alloc, path, whole, value)?;
-    deed(alloc, path, value)
+    action(alloc, path, value)
 }
 
 fn edit(alloc: Global, path: &str, value: &Value) -> Result<(), Wrong>
@@ -50,7 +50,7 @@ fn edit(alloc: Global, path: &str, value: &Value) -> Result<(), Wrong>
     ensures err { IfErr result (λ e. e ≢ Memory → said.edit path.now (view value.now) ≡ Err e) }
 {
     must(alloc, path, value, "at", Want::Text(Word::Time))?;
-    deed(alloc, path, value)
+    action(alloc, path, value)
 }
 
 fn run(alloc: Global, path: &str, value: &Value) -> Result<(), Wrong>
@@ -116,7 +116,7 @@ fn numbered(
     }
 }
 
-/// The items of a list that stands at a path.
+/// The items of the list at a path.
 pub(crate) fn items_of(
     alloc: Global,
     kind: Item,

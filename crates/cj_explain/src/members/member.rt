@@ -1,4 +1,4 @@
-// One member.
+// One member of an object.
 ghost use Rattle.std.specs.Prelude.{◌≡◌, ◌≢◌, Ok, Err, IfOk, IfErr};
 ghost use Rattle.serde_json.specs.View.{view};
 ghost use Rattle.cj_explain.specs.declared.members.wrong.Wrong.TheVariants.{Member, Memory};
@@ -19,7 +19,7 @@ fn missing(alloc: Global, path: &str, name: &str, want: Want) -> Wrong
     told(alloc, path, name, ": missing, want ", want.words())
 }
 
-/// What is there is something else.
+/// A member that is there isn't what is wanted.
 pub(crate) fn other(alloc: Global, path: &str, name: &str, want: Want) -> Wrong
     ensures { result ≢ Memory →
         result ≡ Member (said.line path.now name.now said.other (words want)) }

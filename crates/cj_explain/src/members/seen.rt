@@ -1,4 +1,4 @@
-// What is said of a text of JSON that hasn't the form that is wanted.
+// What is said of a JSON text that hasn't the form that is wanted.
 ghost use Rattle.std.specs.Prelude.{◌≡◌, IfOk, IfErr, string_bytes};
 ghost use Rattle.cj_base.specs.declared.refusal.Refusal.TheVariants.{OutOfMemory};
 ghost use Rattle.serde_json.specs.View.{view};
@@ -64,9 +64,10 @@ fn look_words(alloc: Global, wanted: Form, value: &Value) -> Result<String, Refu
     Ok(text)
 }
 
-/// Lines on bytes that aren't of the form that is wanted: the first member that is missing or wrong, by its path, and
-/// what it has to be; where none is, what else may be wrong; and what is seen of the text beside. Of bytes that are no
-/// JSON nothing is said. The only error is want of memory.
+/// Lines on bytes that aren't of the form that is wanted: the first member that is missing or
+/// wrong, by its path, and what it has to be, or where there is none what else may be wrong; and
+/// then what else is seen of the text. Of bytes that are no JSON nothing is said. The only error is
+/// want of memory.
 pub fn look(alloc: Global, wanted: Form, bytes: &[u8]) -> Result<String, Refusal>
     ensures ok { IfOk result (λ s. IsLook wanted bytes.now (string_bytes s)) }
     ensures err { IfErr result (λ e. e ≡ OutOfMemory) }

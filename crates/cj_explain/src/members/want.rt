@@ -29,7 +29,7 @@ pub(crate) enum Word {
     /// The rule of a zone.
     Rule,
     Time,
-    /// How a Job stands.
+    /// The state of a Job.
     State,
     /// How a Job ends.
     End,

@@ -14,7 +14,7 @@ pub(crate) enum Wrong {
     Memory,
 }
 
-// The calls that go by this refuse nothing but memory.
+// The calls that convert by this are refused for want of memory alone, as their clauses say.
 impl From<Refusal> for Wrong {
     ghost from_gives = { λ _ e. e ≡ Memory };
 
@@ -23,7 +23,7 @@ impl From<Refusal> for Wrong {
     }
 }
 
-// The path of a member of what stands at a path, which is empty for the whole.
+// The path of a member of the object at a path, which is empty for the whole.
 fn push_path(text: &mut String, path: &str, name: &str) -> Result<(), AllocError>
     ensures { OnOk result (string_bytes text.new
         ≡ string_bytes text.old ++ member_at path.now name.now) }

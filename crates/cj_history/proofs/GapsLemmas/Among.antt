@@ -28,11 +28,12 @@ pub all_in : {X : Type 0} (P : X → Type 0) (xs : List X) → ((x : X) → IsIn
 all_in P [] h = tt
 all_in P (x ∷ xs) h = (h x (inl refl), all_in P xs (λ y k. h y (inr k)))
 
--- The numbers of a stretch are those from its first on, so many.
+-- The numbers of an interval are those from its first on, so many.
 pub in_range : (t a n : ℕ) → IsIn t (range_with_len a n) → (a ≤ t) × (t < a + n)
 in_range t a zero h = absurd h
 in_range t a (suc n) (inl e) = (omega (arith, e), omega (arith, e))
-in_range t a (suc n) (inr h) = let r = in_range t (a + 1) n h in let x = r.0 in let y = r.1 in (omega (arith, x), omega (arith, y))
+in_range t a (suc n) (inr h) = let r = in_range t (a + 1) n h in let x = r.0 in let y
+    = r.1 in (omega (arith, x), omega (arith, y))
 
 -- And each of these stands in it.
 pub range_in : (t a n : ℕ) → a ≤ t → t < a + n → IsIn t (range_with_len a n)
@@ -44,7 +45,7 @@ range_in t a (suc n) l h = elim (cases_lt a t) [
 
 -- ---- the times missed
 
--- A time is missed just where it is due in the stretch.
+-- A time is missed just where it is due in the interval.
 pub in_missed : (s : Sets) (z : Zone) (lo hi t : ℕ) → IsIn t (missed_times s z lo hi)
     → (lo < t) × (t ≤ hi) × (due s z t ≡ true)
 unfolding missed_times
@@ -56,7 +57,8 @@ in_missed s z lo hi t h =
     (omega (arith, x), omega (arith, x, y), r.1)
 
 -- And conversely.
-pub missed_in : (s : Sets) (z : Zone) (lo hi t : ℕ) → lo < t → t ≤ hi → due s z t ≡ true → IsIn t (missed_times s z lo hi)
+pub missed_in : (s : Sets) (z : Zone) (lo hi t : ℕ) → lo < t → t ≤ hi → due s z t ≡ true
+    → IsIn t (missed_times s z lo hi)
 unfolding missed_times
 missed_in s z lo hi t a b e =
     filtered_in (due s z) t (range_with_len (lo + 1) (hi - lo)) e
@@ -96,7 +98,8 @@ module _ (told : Mark → Bool) (cron : CronJob) (why : ℕ → Why) where
       ∙ sym (append_assoc (gap_if told cron why x) (gaps_with told cron why xs) (gaps_with told cron why ys))
 
   -- For note_times: with the next time gone through.
-  pub among_next : (s : Sets) (z : Zone) (lo at hi t : ℕ) (first before after : List Gap) → lo ≤ at → IsLeastDue s z at hi t
+  pub among_next : (s : Sets) (z : Zone) (lo at hi t : ℕ) (first before after : List Gap) → lo ≤ at
+      → IsLeastDue s z at hi t
       → before ≡ first ++ gaps_with told cron why (missed_times s z lo at)
       → after ≡ before ++ gap_if told cron why t
       → after ≡ first ++ gaps_with told cron why (missed_times s z lo t)
@@ -191,7 +194,7 @@ abbrev pub Rising : List ℕ → Type 0
 Rising [] = Unit {0}
 Rising (t ∷ ts) = ((x : ℕ) → IsIn x ts → t < x) × Rising ts
 
--- The numbers of a stretch rise.
+-- The numbers of an interval rise.
 range_rises : (a n : ℕ) → Rising (range_with_len a n)
 range_rises a zero = tt
 range_rises a (suc n) = ((λ x i. let r = in_range x (a + 1) n i in let l = r.0 in omega (arith, l)), range_rises (a + 1) n)

@@ -32,7 +32,8 @@ knows_sync e p a b sync comes h k u =
     ∙ ap (λ (o : Option Planned). moment_in o u (synced h u)) sync
 
 -- For note_entry: an entry that isn't an accepted claim is no sync.
-pub knows_none : (e : Told) (a : Moments) → None ≡ plan_in e.call e.answer → (h : List Told) → Knows a h → Knows a (e ∷ h)
+pub knows_none : (e : Told) (a : Moments) → None ≡ plan_in e.call e.answer → (h : List Told) → Knows a h
+    → Knows a (e ∷ h)
 knows_none e a sync h k u = k u ∙ ap (λ (o : Option Planned). moment_in o u (synced h u)) sync
 
 -- those that are listed are just the late ones, and rise
@@ -41,13 +42,16 @@ pub record AreLate (h : List Told) (cron : CronJob) (z : Zone) (upto : ℕ) (gs 
   pub rise : Rise gs
 
 -- t and moments have what the history h tells.
-module _ (t : Marks) (moments : Moments) (h : List Told) (k : known.Knows t h) (m : Knows moments h) (cron : CronJob) (z : Zone) (upto : ℕ) where
+module _ (t : Marks) (moments : Moments) (h : List Told) (k : known.Knows t h) (m : Knows moments h) (cron : CronJob)
+    (z : Zone) (upto : ℕ) where
   -- Where the text is a schedule, they are those among the times missed since.
   pub late_read : (s : Sets) → IsSchedule cron.spec.schedule s → (lo : ℕ) → lo ≡ seen_by (moment_of moments) cron
-      → (gs : List Gap) → gs ≡ gaps_with (known.has t) cron unsynced (missed_times s z lo upto) → AreLate h cron z upto gs
+      → (gs : List Gap) → gs ≡ gaps_with (known.has t) cron unsynced (missed_times s z lo upto)
+      → AreLate h cron z upto gs
   late_read s reads lo from gs is = record {
     exact = λ g. (to g, back g);
-    rise = subst Rise (sym is) (among_rises (known.has t) cron unsynced (missed_times s z lo upto) (missed_rises s z lo upto));
+    rise = subst Rise (sym is) (among_rises (known.has t) cron unsynced (missed_times s z lo upto)
+        (missed_rises s z lo upto));
   }
     where
       told : known.has t ≡ is_told h
@@ -84,7 +88,8 @@ module _ (t : Marks) (moments : Moments) (h : List Told) (k : known.Knows t h) (
           (subst (λ (f : Mark → Bool). has_job f cron.meta.uid g.time ≡ false) (sym told) a.jobless)))
 
   -- Where it isn't, there are none.
-  pub late_none : ((s : Sets) → IsSchedule cron.spec.schedule s → ⊥) → (gs : List Gap) → gs ≡ [] → AreLate h cron z upto gs
+  pub late_none : ((s : Sets) → IsSchedule cron.spec.schedule s → ⊥) → (gs : List Gap) → gs ≡ []
+      → AreLate h cron z upto gs
   late_none never gs is = record {
     exact = λ g. ((λ i. absurd (subst (IsIn g) is i)), (λ a. absurd (never a.schedule a.reads)));
     rise = subst Rise (sym is) tt;

@@ -21,7 +21,8 @@ module _ (told : Mark → Bool) (p : Planned) (gs after : List Gap) where
   )
 
   -- For note_plan: where its CronJob and its zone are known, and the instant up to which all was looked at.
-  pub adds_by : (c cron : CronJob) (y z : Zone) (from : CronJob → ℕ) (lo : ℕ) → Some c ≡ p.cron → Some y ≡ p.zone → c ≡ cron
+  pub adds_by : (c cron : CronJob) (y z : Zone) (from : CronJob → ℕ) (lo : ℕ) → Some c ≡ p.cron → Some y ≡ p.zone
+      → c ≡ cron
       → y ≡ z → lo ≡ from cron → Adds (GapsFrom told c p z lo) gs after
       → Adds (GapsBy told from p p.cron p.zone) gs after
   adds_by c cron y z from lo stands known same zone is adds =

@@ -43,7 +43,9 @@ both_same true false e f = absurd (cc f)
 both_same false b e f = absurd (cc e)
 
 -- p is a plan of the CronJob in the zone, and t a due time of it after its creation and up to the plan's moment.
-module _ (cron : CronJob) (p : Planned) (s : Sets) (z : Zone) (t : ℕ) (reads : IsSchedule cron.spec.schedule s) (stands : p.cron ≡ Some cron) (known : p.zone ≡ Some z) (is_due : due s z t ≡ true) (above : cron.meta.created < t) (within : t ≤ p.at) where
+module _ (cron : CronJob) (p : Planned) (s : Sets) (z : Zone) (t : ℕ) (reads : IsSchedule cron.spec.schedule s)
+    (stands : p.cron ≡ Some cron) (known : p.zone ≡ Some z) (is_due : due s z t ≡ true) (above : cron.meta.created < t)
+    (within : t ≤ p.at) where
   -- the plan was claimed, and claims nothing
   abbrev left : List Told
   left = by_worker (Of.Claim p) (Ok (Say.Claimed None)) ∷ []
@@ -81,7 +83,8 @@ module _ (cron : CronJob) (p : Planned) (s : Sets) (z : Zone) (t : ℕ) (reads :
       told o =
           says (making_mark (newer (claimed_for o t) None) Of.MakeNext (Ok reply))
           (record { uid = cron.meta.uid; time = t; deed = Made })
-          || (says (newer (claim_mark (claimed_for o t)) None) (record { uid = cron.meta.uid; time = t; deed = Made }) || false)
+          || (says (newer (claim_mark (claimed_for o t)) None) (record { uid = cron.meta.uid; time = t; deed = Made })
+          || false)
 
       first : (b : Bool) (c : Bool) → b ≡ true → (b || c) ≡ true
       first true c e = refl
@@ -110,15 +113,18 @@ module _ (cron : CronJob) (p : Planned) (s : Sets) (z : Zone) (t : ℕ) (reads :
       by (inr (inr k)) = absurd k
 
 -- One o'clock is such a gap of an hourly CronJob in UTC: its due time computes.
-pub hour_is_gap : (cron : CronJob) (p : Planned) → IsSchedule cron.spec.schedule hourly → p.cron ≡ Some cron → p.zone ≡ Some utc
+pub hour_is_gap : (cron : CronJob) (p : Planned) → IsSchedule cron.spec.schedule hourly → p.cron ≡ Some cron
+    → p.zone ≡ Some utc
     → cron.meta.created < 3_600 → 3_600 ≤ p.at → cron.spec.suspend ≡ false → is_late cron p 3_600 ≡ false
     → is_forbidden p ≡ true
-    → IsGap (by_worker (Of.Claim p) (Ok (Say.Claimed None)) ∷ []) (record { cron = cron; time = 3_600; why = Forbidden })
+    → IsGap (by_worker (Of.Claim p) (Ok (Say.Claimed None)) ∷ [])
+    (record { cron = cron; time = 3_600; why = Forbidden })
 hour_is_gap cron p reads stands known above within runs early forbids =
     left_is_gap cron p hourly utc 3_600 reads stands known due_hour above within runs early forbids
 
 -- And where no sync looked at it, it is late.
-pub hour_is_late : (cron : CronJob) (upto : ℕ) → IsSchedule cron.spec.schedule hourly → cron.meta.created < 3_600 → 3_600 ≤ upto
+pub hour_is_late : (cron : CronJob) (upto : ℕ) → IsSchedule cron.spec.schedule hourly → cron.meta.created < 3_600
+    → 3_600 ≤ upto
     → IsLate [] cron utc upto (record { cron = cron; time = 3_600; why = NeverSynced })
 hour_is_late cron upto reads above within = record {
   of = refl;

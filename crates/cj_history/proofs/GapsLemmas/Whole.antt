@@ -81,7 +81,8 @@ module _ (told : Mark → Bool) where
   gap_within (e ∷ h) g (inl a) =
       up_to g.time a.plan.at (moment_by a.plan.cron a.plan.zone a.plan.at g.cron.meta.uid (synced h g.cron.meta.uid))
       (synced (e ∷ h) g.cron.meta.uid) a.is_due.within
-      (by_covers a.plan.cron a.plan.zone g.cron a.is_due.zone a.plan.at (synced h g.cron.meta.uid) a.stands a.is_due.known)
+      (by_covers a.plan.cron a.plan.zone g.cron a.is_due.zone a.plan.at (synced h g.cron.meta.uid) a.stands
+      a.is_due.known)
       (ap (λ (o : Option Planned). moment_in o g.cron.meta.uid (synced h g.cron.meta.uid)) (sym a.sync))
   gap_within (e ∷ h) g (inr k) =
       up_to g.time (synced h g.cron.meta.uid) (synced (e ∷ h) g.cron.meta.uid) (synced (e ∷ h) g.cron.meta.uid)
@@ -187,9 +188,11 @@ module _ (told : Mark → Bool) where
     by_here : (c : Option CronJob) (z : Option Zone) → p.cron ≡ c → p.zone ≡ z → GapsBy told (seen_upto h) p c z gs
         → AreHere h e gs
     by_here None z a b k = none_here h e gs k (λ g x.
-        (let f : None ≡ Some g.cron = sym a ∙ ap (λ (y : Planned). y.cron) (sym (one_plan g x)) ∙ x.stands in absurd (cc f)))
+        (let f : None ≡ Some g.cron = sym a ∙ ap (λ (y : Planned). y.cron) (sym (one_plan g x))
+        ∙ x.stands in absurd (cc f)))
     by_here (Some c) None a b k = none_here h e gs k (λ g x.
-        (let f : None ≡ Some x.is_due.zone = sym b ∙ ap (λ (y : Planned). y.zone) (sym (one_plan g x)) ∙ x.is_due.known in
+        (let f : None ≡ Some x.is_due.zone = sym b ∙ ap (λ (y : Planned). y.zone) (sym (one_plan g x))
+        ∙ x.is_due.known in
         absurd (cc f)))
     by_here (Some c) (Some z) a b k = text_here c z a b k
 
@@ -219,7 +222,8 @@ module _ (told : Mark → Bool) where
       let b = all_listed h old before in
       let n = of_here h e new (plan_in e.call e.answer) refl at in
       record {
-        is = λ g i. (elim (in_parts g old new (subst (IsIn g) are i)) [ inl k ↦ inr (b.is g k) | inr k ↦ inl (n.is g k) ]);
+        is = λ g i. (elim (in_parts g old new (subst (IsIn g) are i))
+            [ inl k ↦ inr (b.is g k) | inr k ↦ inl (n.is g k) ]);
         all = λ g k. subst (IsIn g) (sym are) (elim k [
           | inl a ↦ in_right g old new (n.all g a)
           | inr a ↦ in_left g old new (b.all g a)

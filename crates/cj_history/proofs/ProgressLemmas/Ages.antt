@@ -20,7 +20,7 @@ use Rattle.cj_decide.proofs.LawsLemmas.Members.{in_filtered}
 use Rattle.cj_calls.specs.Rows.{Told}
 use Rattle.cj_state.specs.Readings.{listed_of}
 use Rattle.cj_state.specs.Legal.{IsLegal, state_of}
-use Rattle.cj_world_laws.specs.legal.Seats.{seat}
+use Rattle.cj_world_laws.specs.legal.InFlightSyncs.{sync}
 use Rattle.cj_history.specs.store.Written.{version, made, current_job, job_left}
 use Rattle.cj_history.specs.store.Writes.{entry_written, with_write, writes}
 use Rattle.cj_history.specs.store.Mirrors.{fed}
@@ -93,9 +93,10 @@ settled_later : (es h : List Told) (j : Job) → j.meta.uid ≤ made (writes h) 
 settled_later [] h j l s = (s, l)
 settled_later (e ∷ es) h j l s =
     let r = settled_later es h j l s in (
-      settled_with (writes (es ++ h)) (entry_written (writes (es ++ h)) (seat (es ++ h) e.caller.number) e.call e.answer) j
-          (entry_fair (writes (es ++ h)) (seat (es ++ h) e.caller.number) e.call e.answer) r.1 r.0,
-      more (writes (es ++ h)) (entry_written (writes (es ++ h)) (seat (es ++ h) e.caller.number) e.call e.answer) r.1,
+      settled_with (writes (es ++ h)) (entry_written (writes (es ++ h)) (sync (es ++ h) e.caller.number) e.call
+          e.answer) j
+          (entry_fair (writes (es ++ h)) (sync (es ++ h) e.caller.number) e.call e.answer) r.1 r.0,
+      more (writes (es ++ h)) (entry_written (writes (es ++ h)) (sync (es ++ h) e.caller.number) e.call e.answer) r.1,
     )
   where
     one : (w : Event) (ws : List Event) → made ws ≤ made (w ∷ ws)

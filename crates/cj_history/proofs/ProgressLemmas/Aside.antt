@@ -1,5 +1,5 @@
--- What others call aside leaves the worker's seat, its CronJob and the Job's name as they were; and a worker's calls by
--- the state alone.
+-- What others call aside leaves the worker's sync, its CronJob and the Job's name as they were; and
+-- a worker's calls by the state alone.
 use Rattle.std.proofs.Common.{◌≡◌, ◌≢◌, ℕ, ◌≤◌, ◌==◌, Bool, true, false, cond, List, [], ◌∷◌, ◌++◌, Option, Some, None, refl, sym, ap, subst, ◌∙◌, arith}
 use Rattle.std.specs.Prelude.{IfSome, Result, Ok, Err, if◌then◌else◌}
 use Rattle.std.proofs.lemmas.Bool.{eqb-true}
@@ -20,13 +20,13 @@ use Rattle.cj_calls.specs.declared.call.Call.{Call}
 use Rattle.cj_calls.specs.declared.reply.Reply.{Reply}
 use Rattle.cj_calls.specs.Rows.{Told}
 use Rattle.cj_state.specs.declared.state.State.{State}
-use Rattle.cj_state.specs.WorkerCalls.{Handled, seat_of}
+use Rattle.cj_state.specs.WorkerCalls.{Handled, sync_of}
 use Rattle.cj_state.specs.Readings.{listed_of}
 use Rattle.cj_state.specs.Step.{step_of}
 use Rattle.cj_state.specs.Legal.{IsLegal, is_entered, state_of}
-use Rattle.cj_world_laws.specs.legal.Seats.{seat, seat_after}
+use Rattle.cj_world_laws.specs.legal.InFlightSyncs.{sync, sync_after}
 use Rattle.cj_world_laws.specs.once.Once.{is_ok}
-use Rattle.cj_world_laws.proofs.LegalLemmas.Seated.{seats_agree}
+use Rattle.cj_world_laws.proofs.LegalLemmas.HeldSyncs.{syncs_agree}
 use Rattle.cj_world_laws.proofs.LegalLemmas.Callers.{idle}
 use Rattle.cj_history.specs.store.Written.{made, current_cron, current_job, cron_left, job_left}
 use Rattle.cj_history.specs.store.Writes.{entry_written, with_write, writes}
@@ -43,7 +43,8 @@ abbrev job_of : Option Place → List Event → Option Job
 job_of None ws = None
 job_of (Some q) ws = current_job ws q
 
--- some writes left what others left: at the key of a CronJob, and of a Job if one is named; and no fewer objects were made
+-- some writes left what others left: at the key of a CronJob, and of a Job if one is named; and no
+-- fewer objects were made
 record Alike (k : Place) (q : Option Place) (vs ws : List Event) : Type 0 where
   cron : current_cron ws k ≡ current_cron vs k
   job : job_of q ws ≡ job_of q vs
@@ -60,7 +61,8 @@ cron_aside (Modified (Kind.Job j)) k q was e = refl
 cron_aside (Deleted (Kind.Job j)) k q was e = refl
 
 -- A write of another Job leaves the one of the name.
-job_aside : (w : Event) (k q : Place) (was : Option Job) → is_of k (Some q) (object_of w) ≡ false → job_left w q was ≡ was
+job_aside : (w : Event) (k q : Place) (was : Option Job) → is_of k (Some q) (object_of w) ≡ false
+    → job_left w q was ≡ was
 job_aside (Added (Kind.Job j)) k q was e = ap (λ b. cond b (Some j) was) e
 job_aside (Modified (Kind.Job j)) k q was e = ap (λ b. cond b (Some j) was) e
 job_aside (Deleted (Kind.Job j)) k q was e = ap (λ b. cond b None was) e
@@ -96,32 +98,35 @@ alike : (w : ℕ) (k : Place) (q : Option Place) (es h : List Told) → AreAside
 alike w k q [] h a = record { cron = refl; job = refl; more = omega arith }
 alike w k q (e ∷ es) h a =
     alike_with k q (writes h) (writes (es ++ h))
-    (entry_written (writes (es ++ h)) (seat (es ++ h) e.caller.number) e.call e.answer) a.1 (alike w k q es h a.2)
+    (entry_written (writes (es ++ h)) (sync (es ++ h) e.caller.number) e.call e.answer) a.1 (alike w k q es h a.2)
 
 -- A caller of a worker's number and role is that worker.
 pub caller_is : (w : ℕ) (c : Caller) → (w == c.number) ≡ true → c.role ≡ Worker → c ≡ worker w
 caller_is w c n r = ap (λ (x : Role). record { number = c.number; role = x }) r
     ∙ ap (λ (x : ℕ). record { number = x; role = Worker }) (sym (eqb-true w c.number n))
 
--- What others call leaves the worker's seat: those of another number, and those of its number and another role.
-pub seat_aside : (window w : ℕ) (k : Place) (q : Option Place) (es h : List Told) → IsLegal window (es ++ h)
-    → AreAside w k q es h → seat (es ++ h) w ≡ seat h w
-seat_aside window w k q [] h l a = refl
-seat_aside window w k q (e ∷ es) h l a = left (w == e.caller.number) refl ∙ seat_aside window w k q es h l.2 a.2
+-- What others call leaves the worker's sync: those of another number, and those of its number and
+-- another role.
+pub sync_aside : (window w : ℕ) (k : Place) (q : Option Place) (es h : List Told) → IsLegal window (es ++ h)
+    → AreAside w k q es h → sync (es ++ h) w ≡ sync h w
+sync_aside window w k q [] h l a = refl
+sync_aside window w k q (e ∷ es) h l a = left (w == e.caller.number) refl ∙ sync_aside window w k q es h l.2 a.2
   where
     left : (b : Bool) → (w == e.caller.number) ≡ b
-        → (if b then seat_after (seat (es ++ h) w) e.call e.answer else seat (es ++ h) w) ≡ seat (es ++ h) w
-    left true n = (idle window e (es ++ h) l (λ r. a.0 (caller_is w e.caller n r))).seats (seat (es ++ h) w)
+        → (if b then sync_after (sync (es ++ h) w) e.call e.answer else sync (es ++ h) w) ≡ sync (es ++ h) w
+    left true n = (idle window e (es ++ h) l (λ r. a.0 (caller_is w e.caller n r))).syncs (sync (es ++ h) w)
     left false n = refl
 
--- What others call aside gives a uid that was given out, and that the Job at a key hasn't, to none there.
+-- What others call aside gives a uid that was given out, and that the Job at a key hasn't, to none
+-- there.
 never : (w : ℕ) (k : Place) (q : Option Place) (es h : List Told) → AreAside w k q es h → (i : Place) (u : ℕ)
     → u ≤ made (writes h) → IsNever (writes h) i u → IsNever (writes (es ++ h)) i u
 never w k q [] h a i u l n = n
 never w k q (e ∷ es) h a i u l n =
     let m = (alike w k q es h a.2).more in
-    never_with (writes (es ++ h)) (entry_written (writes (es ++ h)) (seat (es ++ h) e.caller.number) e.call e.answer) i u
-    (entry_fair (writes (es ++ h)) (seat (es ++ h) e.caller.number) e.call e.answer) (omega (arith, l, m))
+    never_with (writes (es ++ h)) (entry_written (writes (es ++ h)) (sync (es ++ h) e.caller.number) e.call e.answer) i
+    u
+    (entry_fair (writes (es ++ h)) (sync (es ++ h) e.caller.number) e.call e.answer) (omega (arith, l, m))
     (never w k q es h a.2 i u l n)
 
 -- ---- by the states
@@ -137,7 +142,7 @@ job_in (Some q) s = map.get s.jobs q
 
 -- what a state that others left has of the one before
 pub record Same (w : ℕ) (k : Place) (q : Option Place) (s t : State) : Type 0 where
-  pub seat : seat_of t w ≡ seat_of s w
+  pub sync : sync_of t w ≡ sync_of s w
   pub cron : map.get t.store.crons k ≡ map.get s.store.crons k
   pub job : job_in q t.store ≡ job_in q s.store
   pub more : s.store.uids ≤ t.store.uids
@@ -173,7 +178,7 @@ same_aside window w k q es h l a =
     let u = (store_agrees window h m).uids in
     let v = (store_agrees window (es ++ h) l).uids in
     record {
-      seat = seats_agree window (es ++ h) l w ∙ seat_aside window w k q es h l a ∙ sym (seats_agree window h m w);
+      sync = syncs_agree window (es ++ h) l w ∙ sync_aside window w k q es h l a ∙ sym (syncs_agree window h m w);
       cron = (store_agrees window (es ++ h) l).crons k ∙ f.cron ∙ sym ((store_agrees window h m).crons k);
       job = job_is window (es ++ h) l q ∙ f.job ∙ sym (job_is window h m q);
       more = (let c = f.more in omega (arith, c, u, v));
@@ -189,7 +194,8 @@ same_aside window w k q es h l a =
 
 -- ---- calls by the state alone
 
--- a worker's calls, each after what others leave, are all accepted, and that holds of the state after them
+-- a worker's calls, each after what others leave, are all accepted, and that holds of the state
+-- after them
 abbrev pub Goes : ℕ → Place → Option Place → State → List Call → (State → Type 0) → Type 0
 Goes w k q s [] P = P s
 Goes w k q s (call ∷ calls) P = (t : State) → Same w k q s t
@@ -201,7 +207,8 @@ ok_entered (Ok r) e = refl
 ok_entered (Err x) e = absurd (cc e)
 
 -- Calls that go so from the state of a legal history lead so from the history.
-pub goes_leads : (window w : ℕ) (k : Place) (q : Option Place) (h : List Told) (calls : List Call) (P : List Told → Type 0)
+pub goes_leads : (window w : ℕ) (k : Place) (q : Option Place) (h : List Told) (calls : List Call)
+    (P : List Told → Type 0)
     (R : State → Type 0) → IsLegal window h → ((g : List Told) → IsLegal window g → R (state_of window g) → P g)
     → Goes w k q (state_of window h) calls R → Leads window w k q h calls P
 goes_leads window w k q h [] P R l end f = end h l f
@@ -213,7 +220,8 @@ goes_leads window w k q h (call ∷ calls) P R l end f = λ es m a.
     )
 
 -- what a call is answered and leaves, where it is accepted and the calls after it go
-pub record Next (w : ℕ) (k : Place) (q : Option Place) (t : State) (call : Call) (calls : List Call) (P : State → Type 0) : Type 0
+pub record Next (w : ℕ) (k : Place) (q : Option Place) (t : State) (call : Call) (calls : List Call)
+    (P : State → Type 0) : Type 0
   where
     pub handled : Handled
     pub is : step_of t (worker w) call ≡ handled

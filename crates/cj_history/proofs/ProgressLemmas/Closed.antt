@@ -1,4 +1,5 @@
--- A plan claims nothing where its CronJob is suspended, its zone isn't known, no time was missed, or Forbid forbids it.
+-- A plan claims nothing where its CronJob is suspended, its zone isn't known, no time was missed,
+-- or Forbid forbids it.
 use Rattle.std.proofs.Common.{◌≡◌, inl, inr, ℕ, ◌<◌, Bool, true, false, List, ◌++◌, Option, Some, None, option_map, refl, sym, ap, subst, ◌∙◌, arith}
 use Rattle.cj_types.specs.Keys.{Place}
 use Rattle.cj_types.specs.declared.cron.CronJob.{CronJob}
@@ -22,13 +23,13 @@ use Rattle.cj_decide.specs.Start.{claim_of}
 use Rattle.cj_decide.specs.Decision.{Planned, many_of, reason_of, running_of, IsDecision}
 use Rattle.cj_decide.specs.laws.Laws.{IsIn, IsClaimed}
 use Rattle.cj_calls.specs.Rows.{Told}
-use Rattle.cj_state.specs.declared.phases.seat.Phase.TheVariants.{Checked}
-use Rattle.cj_state.specs.WorkerCalls.{seat_of}
+use Rattle.cj_state.specs.declared.phases.sync.Phase.TheVariants.{Checked}
+use Rattle.cj_state.specs.WorkerCalls.{sync_of}
 use Rattle.cj_state.specs.Legal.{IsLegal, state_of}
-use Rattle.cj_world_laws.proofs.LegalLemmas.Seated.{seats_agree}
+use Rattle.cj_world_laws.proofs.LegalLemmas.HeldSyncs.{syncs_agree}
 use Rattle.cj_history.specs.progress.Syncs.{Closed, suspended, zoneless, unmissed, forbidden, Says, PlansStay}
 use Rattle.cj_history.proofs.ProgressLemmas.Missed.{one_schedule, some_missed}
-use Rattle.cj_history.proofs.ProgressLemmas.Calls.{sat}
+use Rattle.cj_history.proofs.ProgressLemmas.Calls.{in_flight}
 use Rattle.cj_history.proofs.ProgressLemmas.Started.{IsRead, plan_of, seen_in}
 
 -- ---- the start decision
@@ -49,7 +50,8 @@ held_back (Kind.Some count latest) n f = (refl, refl)
 held_back (Kind.Many latest) n f = (refl, refl)
 
 -- Where a time is due in the window, not none are missed.
-not_none : (s : Sets) (z : Zone) (lo hi : ℕ) (m : Missed) → IsMissed s z lo hi m → 0 < missed_count s z lo hi → m ≡ Kind.None
+not_none : (s : Sets) (z : Zone) (lo hi : ℕ) (m : Missed) → IsMissed s z lo hi m → 0 < missed_count s z lo hi
+    → m ≡ Kind.None
     → ⊥
 not_none s z lo hi m h l e =
     let a : IsMissed s z lo hi Kind.None = subst (IsMissed s z lo hi) e h in omega (arith, a, l)
@@ -64,11 +66,13 @@ text_none c z busy now v s (inl (t, ht, (m, n, hm, hn, e))) hs none =
 text_none c z busy now v s (inr (never, e)) hs none = ap (λ (x : StartDecision). x.time) e
 
 -- By a text of which a time was missed, Forbid starts no Job beside one that runs, and says so.
-text_held : (c : CronJob) (z : Zone) (now : ℕ) (v : StartDecision) (t : ℕ) → IsByText c z true now v → IsClaimed c now z t
+text_held : (c : CronJob) (z : Zone) (now : ℕ) (v : StartDecision) (t : ℕ) → IsByText c z true now v
+    → IsClaimed c now z t
     → c.spec.policy ≡ Forbid → (v.time ≡ None) × (v.reason ≡ Some JobAlreadyActive)
 text_held c z now v t (inl (s, hs, (m, n, hm, hn, e))) d policy =
     let same : s ≡ d.sets = one_schedule c.spec.schedule s d.sets hs d.schedule in
-    let miss : IsMissed d.sets z (window_of c now) now m = subst (λ (x : Sets). IsMissed x z (window_of c now) now m) same
+    let miss : IsMissed d.sets z (window_of c now) now m
+    = subst (λ (x : Sets). IsMissed x z (window_of c now) now m) same
     hm in
     let some = some_missed d.sets z (window_of c now) now t d.latest in
     let both = held_back m n (not_none d.sets z (window_of c now) now m miss (omega (arith, some))) in
@@ -121,7 +125,7 @@ module _ (c : CronJob) (p : Planned) (d : IsDecision c p.jobs p.active p.at p.zo
 pub plans_stay : (window w : ℕ) (k : Place) (cron : CronJob) (h : List Told) → IsLegal window h
     → IsRead w k cron (state_of window h) → PlansStay w k cron h
 plans_stay window w k cron h l r p f y =
-    let seat : seat_of (state_of window h) w ≡ Some (sat k (Checked p.cron p.jobs p.active)) =
-    seats_agree window h l w ∙ f.rests in
-    let seen : p.cron ≡ Some cron = sym (ap seen_in (sym r.seat ∙ seat)) in
+    let sync : sync_of (state_of window h) w ≡ Some (in_flight k (Checked p.cron p.jobs p.active)) =
+    syncs_agree window h l w ∙ f.rests in
+    let seen : p.cron ≡ Some cron = sym (ap seen_in (sym r.sync ∙ sync)) in
     stays cron p (plan_of p cron f.decided seen) y

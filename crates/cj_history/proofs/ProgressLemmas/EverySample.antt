@@ -1,5 +1,5 @@
--- A history to which every_time_law applies: a CronJob is created, its key is added, and a worker syncs it, at any moment
--- from the creation on, with any schedule and in any zone.
+-- A history to which every_time_law applies: a CronJob is created, its key is added, and a worker
+-- syncs it, at any moment from the creation on, with any schedule and in any zone.
 use Rattle.std.proofs.Common.{◌≡◌, ◌≢◌, ◌⊎◌, inl, inr, ℕ, zero, suc, ◌+◌, ◌-◌, ◌<◌, ◌≤◌, max, Bool, true, false, List, [], ◌∷◌, ◌++◌, length, filter, map as map_list, Option, Some, None, refl, sym, ap, subst, ◌∙◌, arith}
 use Rattle.std.specs.Prelude.{Result, Ok, Err, IfSome}
 use Rattle.std.specs.List.{AllByRecursion}
@@ -45,33 +45,33 @@ use Rattle.cj_calls.specs.declared.reply.Reply.{Reply}
 use Rattle.cj_calls.specs.declared.reply.Reply.TheVariants as Say
 use Rattle.cj_calls.specs.Rows.{Told}
 use Rattle.cj_state.specs.phases.Steps.{Step, drops, makes, sets, makings, settings, all_steps}
-use Rattle.cj_state.specs.declared.phases.seat.Phase.TheVariants.{Held, Seen, Listed, Checked}
-use Rattle.cj_state.specs.declared.phases.seat.Seat.{Seat}
+use Rattle.cj_state.specs.declared.phases.sync.Phase.TheVariants.{Held, Seen, Listed, Checked}
+use Rattle.cj_state.specs.declared.phases.sync.InFlight.{InFlight}
 use Rattle.cj_state.specs.declared.state.State.{State}
 use Rattle.cj_state.specs.Readings.{listed_of, active_of}
-use Rattle.cj_state.specs.WorkerCalls.{Handled, seat_of, seated}
+use Rattle.cj_state.specs.WorkerCalls.{Handled, sync_of, with_sync}
 use Rattle.cj_state.specs.Step.{step_of}
 use Rattle.cj_state.specs.Legal.{IsLegal, IsPlanned, ArePlanned, answer_of, state_of}
-use Rattle.cj_world_laws.specs.legal.Seats.{seat}
-use Rattle.cj_world_laws.proofs.LegalLemmas.Seated.{seats_agree}
-use Rattle.cj_world_laws.proofs.OnceLemmas.Maps.{seat_here}
+use Rattle.cj_world_laws.specs.legal.InFlightSyncs.{sync}
+use Rattle.cj_world_laws.proofs.LegalLemmas.HeldSyncs.{syncs_agree}
+use Rattle.cj_world_laws.proofs.OnceLemmas.Maps.{sync_here}
 use Rattle.cj_history.specs.store.Written.{current_job}
 use Rattle.cj_history.specs.store.Writes.{entry_written, with_write, writes}
 use Rattle.cj_history.specs.progress.Undisturbed.{worker, entry, Leads}
 use Rattle.cj_history.specs.progress.Syncs.{calls_left, readings, works_off, IsReady, IsFor, IsOpen, unmissed}
-use Rattle.cj_history.specs.progress.Every.{Led, name_of, IsSync, Synced, stretch_start, AreLatest, made_for, IsNew}
+use Rattle.cj_history.specs.progress.Every.{Led, name_of, IsSync, Synced, interval_start, AreLatest, made_for, IsNew}
 use Rattle.cj_history.proofs.StoreLemmas.Sample.{a, told, created, named, new}
 use Rattle.cj_history.proofs.StoreLemmas.Lists.{values_all}
 use Rattle.cj_history.proofs.StoreLemmas.Stores.{store_agrees}
 use Rattle.cj_history.proofs.StoreLemmas.Followed.{mirror_agrees}
-use Rattle.cj_history.proofs.ProgressLemmas.Calls.{sat, take_is, see_cron_is, see_jobs_is, see_active_is}
+use Rattle.cj_history.proofs.ProgressLemmas.Calls.{in_flight, take_is, see_cron_is, see_jobs_is, see_active_is}
 use Rattle.cj_history.proofs.ProgressLemmas.Aside.{ok_entered}
 use Rattle.cj_history.proofs.ProgressLemmas.Started.{IsRead, Starting, starting, plan_of, seen_in, listed_in, plans_make_job}
 use Rattle.cj_history.proofs.ProgressLemmas.Missed.{clash, one_latest, some_missed}
 use Rattle.cj_history.proofs.ProgressLemmas.Rest.{plans_rest}
 use Rattle.cj_history.proofs.ProgressLemmas.Closed.{plans_stay}
 use Rattle.cj_history.proofs.ProgressLemmas.Whole.{taken_legal, reads_on}
-use Rattle.cj_history.proofs.ProgressLemmas.Stretches.{NoneOrLatest, none_or_latest, latest_or_none}
+use Rattle.cj_history.proofs.ProgressLemmas.Intervals.{NoneOrLatest, none_or_latest, latest_or_none}
 use Rattle.cj_history.proofs.ProgressLemmas.Synced.{lets}
 use Rattle.cj_history.proofs.ProgressLemmas.Since.{every_time_since}
 use Rattle.cj_history.proofs.ProgressLemmas.SyncSample.{ready, legal_ready, is_ready}
@@ -111,7 +111,8 @@ told_missed s z lo n = by (latest_or_none s z lo n)
     by (inr q) = (Kind.None, ap length (missed_times-none s z lo (lo + n) q))
     by (inl (t, h)) = few (cases_lt 100 (missed_count s z lo (lo + n)))
       where
-        few : (100 < missed_count s z lo (lo + n)) ⊎ (missed_count s z lo (lo + n) ≤ 100) → (m : Missed) × IsMissed s z lo (lo + n) m
+        few : (100 < missed_count s z lo (lo + n)) ⊎ (missed_count s z lo (lo + n) ≤ 100)
+            → (m : Missed) × IsMissed s z lo (lo + n) m
         few (inl l) = (Kind.Many t, (l, h))
         few (inr l) =
             let c = some_missed s z lo (lo + n) t h in
@@ -132,12 +133,13 @@ missed_upto s z lo hi = by (cases_lt hi lo)
 told_next : (s : Sets) (z : Zone) (now : ℕ) → (n : Option ℕ) × IsNext s z now n
 told_next s z now = by (least_or_none s z now reach)
   where
-    by : ((t : ℕ) × IsLeastDue s z now (now + reach) t) ⊎ IsQuiet s z now (now + reach) → (n : Option ℕ) × IsNext s z now n
+    by : ((t : ℕ) × IsLeastDue s z now (now + reach) t) ⊎ IsQuiet s z now (now + reach)
+        → (n : Option ℕ) × IsNext s z now n
     by (inl (t, h)) = (Some t, h)
     by (inr q) = (None, q)
 
--- After the readings there is a plan for the answers at any moment and in any zone, where the CronJob has a schedule and
--- isn't suspended.
+-- After the readings there is a plan for the answers at any moment and in any zone, where the
+-- CronJob has a schedule and isn't suspended.
 pub some_plan_for : (window w : ℕ) (k : Place) (cron : CronJob) (h : List Told) → IsLegal window h
     → IsRead w k cron (state_of window h) → cron.spec.suspend ≡ false → (s : Sets) → IsSchedule cron.spec.schedule s
     → (z : Zone) (now : ℕ) → (p : Planned) × IsFor h w k p × (p.zone ≡ Some z) × (p.at ≡ now)
@@ -146,10 +148,11 @@ some_plan_for window w k cron h l r e s reads z now =
     let n = told_next s z now in
     let v : Bool → StartDecision = λ b. by_missed m.0 cron.spec.policy b n.0 in
     let is : (b : Bool) → IsStartDecision cron (Some z) b now (v b) =
-    λ b. subst (λ x. IsUnlessSuspended x cron (Some z) b now (v b)) (sym e) (inl (s, reads, (m.0, n.0, m.1, n.1, refl))) in
+    λ b. subst (λ x. IsUnlessSuspended x cron (Some z) b now (v b)) (sym e) (inl (s, reads, (m.0, n.0, m.1, n.1, refl)))
+    in
     let d = some_plan cron r.jobs r.live now (Some z) (v true) (v false) (is true) (is false) in (
       record { cron = Some cron; jobs = r.jobs; active = r.live; at = now; zone = Some z; steps = d.0 },
-      record { decided = d.1; rests = sym (seats_agree window h l w) ∙ r.seat },
+      record { decided = d.1; rests = sym (syncs_agree window h l w) ∙ r.sync },
       refl,
       refl,
     )
@@ -168,7 +171,8 @@ run_led window w k q [] h = refl
 run_led window w k q (call ∷ calls) h = ([], tt, run_led window w k q calls (entry window h w call ∷ h))
 
 -- What they lead to holds then, and the history is legal.
-pub run_leads : (window w : ℕ) (k : Place) (q : Option Place) (P : List Told → Type 0) (calls : List Call) (h : List Told)
+pub run_leads : (window w : ℕ) (k : Place) (q : Option Place) (P : List Told → Type 0) (calls : List Call)
+    (h : List Told)
     → IsLegal window h → Leads window w k q h calls P
     → IsLegal window (run window w h calls) × P (run window w h calls)
 run_leads window w k q P [] h l f = (l, f)
@@ -193,27 +197,28 @@ left_planned reasons (sets st ∷ xs) = (tt, left_planned reasons xs)
 -- ---- the readings write nothing
 
 -- An entry that wrote nothing leaves the writes.
-unwritten : (e : Told) (h : List Told) → entry_written (writes h) (seat h e.caller.number) e.call e.answer ≡ None
+unwritten : (e : Told) (h : List Told) → entry_written (writes h) (sync h e.caller.number) e.call e.answer ≡ None
     → writes (e ∷ h) ≡ writes h
 unwritten e h n = ap (λ (o : Option Event). with_write o (writes h)) n
 
 -- A Take writes nothing.
-take_none : (ws : List Event) (o : Option Seat) (x : Result Reply Refusal) → entry_written ws o Of.Take x ≡ None
+take_none : (ws : List Event) (o : Option InFlight) (x : Result Reply Refusal) → entry_written ws o Of.Take x ≡ None
 take_none ws o (Ok r) = refl
 take_none ws o (Err e) = refl
 
 -- Nor does a SeeCron.
-cron_none : (ws : List Event) (o : Option Seat) (x : Result Reply Refusal) → entry_written ws o Of.SeeCron x ≡ None
+cron_none : (ws : List Event) (o : Option InFlight) (x : Result Reply Refusal) → entry_written ws o Of.SeeCron x ≡ None
 cron_none ws o (Ok r) = refl
 cron_none ws o (Err e) = refl
 
 -- Nor a SeeJobs.
-jobs_none : (ws : List Event) (o : Option Seat) (x : Result Reply Refusal) → entry_written ws o Of.SeeJobs x ≡ None
+jobs_none : (ws : List Event) (o : Option InFlight) (x : Result Reply Refusal) → entry_written ws o Of.SeeJobs x ≡ None
 jobs_none ws o (Ok r) = refl
 jobs_none ws o (Err e) = refl
 
 -- Nor a SeeActive.
-active_none : (ws : List Event) (o : Option Seat) (x : Result Reply Refusal) → entry_written ws o Of.SeeActive x ≡ None
+active_none : (ws : List Event) (o : Option InFlight) (x : Result Reply Refusal) → entry_written ws o Of.SeeActive x
+    ≡ None
 active_none ws o (Ok r) = refl
 active_none ws o (Err e) = refl
 
@@ -224,38 +229,39 @@ read_writes window w h =
     let b = entry window (a ∷ h) w Of.SeeCron in
     let c = entry window (b ∷ a ∷ h) w Of.SeeJobs in
     let d = entry window (c ∷ b ∷ a ∷ h) w Of.SeeActive in
-    unwritten d (c ∷ b ∷ a ∷ h) (active_none (writes (c ∷ b ∷ a ∷ h)) (seat (c ∷ b ∷ a ∷ h) w) d.answer)
-    ∙ (unwritten c (b ∷ a ∷ h) (jobs_none (writes (b ∷ a ∷ h)) (seat (b ∷ a ∷ h) w) c.answer)
-    ∙ (unwritten b (a ∷ h) (cron_none (writes (a ∷ h)) (seat (a ∷ h) w) b.answer)
-    ∙ unwritten a h (take_none (writes h) (seat h w) a.answer)))
+    unwritten d (c ∷ b ∷ a ∷ h) (active_none (writes (c ∷ b ∷ a ∷ h)) (sync (c ∷ b ∷ a ∷ h) w) d.answer)
+    ∙ (unwritten c (b ∷ a ∷ h) (jobs_none (writes (b ∷ a ∷ h)) (sync (b ∷ a ∷ h) w) c.answer)
+    ∙ (unwritten b (a ∷ h) (cron_none (writes (a ∷ h)) (sync (a ∷ h) w) b.answer)
+    ∙ unwritten a h (take_none (writes h) (sync h w) a.answer)))
 
 -- ---- what the readings saw
 
 -- After a Take of the first of the line, and the readings, the worker saw what stood before.
 saw : (window w : ℕ) (k : Place) (h : List Told) (cron : CronJob) → IsLegal window h → IsReady window h w k cron
-    → seat_of (state_of window (run window w (entry window h w Of.Take ∷ h) readings)) w
-    ≡ Some (sat k (Checked (map.get (state_of window h).store.crons k) (listed_of (state_of window h) k)
+    → sync_of (state_of window (run window w (entry window h w Of.Take ∷ h) readings)) w
+    ≡ Some (in_flight k (Checked (map.get (state_of window h).store.crons k) (listed_of (state_of window h) k)
     (active_of (state_of window h).store (map.get (state_of window h).store.crons k))))
 saw window w k h cron l r =
     let s : State = state_of window h in
-    let idle : seat_of s w ≡ None = seats_agree window h l w ∙ r.idle in
+    let idle : sync_of s w ≡ None = syncs_agree window h l w ∙ r.idle in
     let c : Option CronJob = map.get s.store.crons k in
     let js : List Job = listed_of s k in
-    let z1 : State = seated (record s { queue = taken s.queue }) w k Held in
-    let z2 : State = seated z1 w k (Seen c) in
-    let z3 : State = seated z2 w k (Listed c js) in
-    let z4 : State = seated z3 w k (Checked c js (active_of s.store c)) in
+    let z1 : State = with_sync (record s { queue = taken s.queue }) w k Held in
+    let z2 : State = with_sync z1 w k (Seen c) in
+    let z3 : State = with_sync z2 w k (Listed c js) in
+    let z4 : State = with_sync z3 w k (Checked c js (active_of s.store c)) in
     let e1 : (step_of s (worker w) Of.Take).state ≡ z1 = ap (λ (x : Handled). x.state) (take_is s w k idle r.line) in
     let e2 : (step_of z1 (worker w) Of.SeeCron).state ≡ z2 =
-    ap (λ (x : Handled). x.state) (see_cron_is z1 w k (seat_here s.seats w (sat k Held))) in
+    ap (λ (x : Handled). x.state) (see_cron_is z1 w k (sync_here s.syncs w (in_flight k Held))) in
     let e3 : (step_of z2 (worker w) Of.SeeJobs).state ≡ z3 =
-    ap (λ (x : Handled). x.state) (see_jobs_is z2 w k c (seat_here z1.seats w (sat k (Seen c)))) in
+    ap (λ (x : Handled). x.state) (see_jobs_is z2 w k c (sync_here z1.syncs w (in_flight k (Seen c)))) in
     let e4 : (step_of z3 (worker w) Of.SeeActive).state ≡ z4 =
-    ap (λ (x : Handled). x.state) (see_active_is z3 w k c js (seat_here z2.seats w (sat k (Listed c js)))) in
-    ap (λ (x : State). seat_of (step_of (step_of (step_of x (worker w) Of.SeeCron).state (worker w) Of.SeeJobs).state (worker w) Of.SeeActive).state w) e1
-    ∙ (ap (λ (x : State). seat_of (step_of (step_of x (worker w) Of.SeeJobs).state (worker w) Of.SeeActive).state w) e2
-    ∙ (ap (λ (x : State). seat_of (step_of x (worker w) Of.SeeActive).state w) e3
-    ∙ (ap (λ (x : State). seat_of x w) e4 ∙ seat_here z3.seats w (sat k (Checked c js (active_of s.store c))))))
+    ap (λ (x : Handled). x.state) (see_active_is z3 w k c js (sync_here z2.syncs w (in_flight k (Listed c js)))) in
+    ap (λ (x : State). sync_of (step_of (step_of (step_of x (worker w) Of.SeeCron).state (worker w) Of.SeeJobs).state
+    (worker w) Of.SeeActive).state w) e1
+    ∙ (ap (λ (x : State). sync_of (step_of (step_of x (worker w) Of.SeeJobs).state (worker w) Of.SeeActive).state w) e2
+    ∙ (ap (λ (x : State). sync_of (step_of x (worker w) Of.SeeActive).state w) e3
+    ∙ (ap (λ (x : State). sync_of x w) e4 ∙ sync_here z3.syncs w (in_flight k (Checked c js (active_of s.store c))))))
 
 -- A list of which nothing can be is empty.
 none_at_all : {X : Type 0} (xs : List X) → AllByRecursion (λ (x : X). ⊥) xs → xs ≡ []
@@ -270,7 +276,8 @@ none_in (r ∷ rs) n = absurd (n r (inl refl))
 -- ---- how long it is
 
 -- So many calls more.
-run_length : (window w : ℕ) (calls : List Call) (h : List Told) → length (run window w h calls) ≡ length calls + length h
+run_length : (window w : ℕ) (calls : List Call) (h : List Told)
+    → length (run window w h calls) ≡ length calls + length h
 run_length window w [] h = omega arith
 run_length window w (call ∷ calls) h =
     let e = run_length window w calls (entry window h w call ∷ h) in omega (arith, e)
@@ -294,8 +301,10 @@ few_steps [] [] (Some d) (Some x) e f = omega arith
 
 -- ---- the sample
 
--- a draft of a CronJob under Allow that isn't suspended, its schedule, a zone, and a moment at or after its creation
-module _ (d : CronJobDraft) (runs : d.spec.suspend ≡ false) (allow : d.spec.policy ≡ Allow) (s : Sets) (reads : IsSchedule d.spec.schedule s) (z : Zone) (t : ℕ) (late : 60 ≤ t) where
+-- a draft of a CronJob under Allow that isn't suspended, its schedule, a zone, and a moment at or
+-- after its creation
+module _ (d : CronJobDraft) (runs : d.spec.suspend ≡ false) (allow : d.spec.policy ≡ Allow) (s : Sets)
+    (reads : IsSchedule d.spec.schedule s) (z : Zone) (t : ℕ) (late : 60 ≤ t) where
   policy : d.spec.policy ≢ Forbid
   policy e = let f : ◌≡◌ {A = Policy} Allow Forbid = sym allow ∙ e in absurd (cc f)
 
@@ -320,7 +329,8 @@ module _ (d : CronJobDraft) (runs : d.spec.suspend ≡ false) (allow : d.spec.po
   -- No Job stands.
   none_stands : (q : Place) → map.get (state_of 3 seen).store.jobs q ≡ None
   none_stands q =
-      (store_agrees 3 seen after_readings.0).jobs q ∙ ap (λ (ws : List Event). current_job ws q) (read_writes 3 5 (ready d))
+      (store_agrees 3 seen after_readings.0).jobs q
+      ∙ ap (λ (ws : List Event). current_job ws q) (read_writes 3 5 (ready d))
 
   -- No Job is listed.
   none_listed : listed_of (state_of 3 (ready d)) a ≡ []
@@ -330,7 +340,8 @@ module _ (d : CronJobDraft) (runs : d.spec.suspend ≡ false) (allow : d.spec.po
     where
       none : (q : Place) (x : Job) → map.get (state_of 3 (ready d)).mirror.jobs q ≡ Some x → ⊥
       none q x e =
-          let f : ◌≡◌ {A = Option Job} None (Some x) = sym ((mirror_agrees 3 (ready d) (legal_ready d)).jobs q) ∙ e in absurd (cc f)
+          let f : ◌≡◌ {A = Option Job} None (Some x) = sym ((mirror_agrees 3 (ready d) (legal_ready d)).jobs q)
+          ∙ e in absurd (cc f)
 
   -- No name is taken.
   all_free : (o : Option Place) → IfSome o (λ q. map.get (state_of 3 seen).store.jobs q ≡ None)
@@ -344,7 +355,7 @@ module _ (d : CronJobDraft) (runs : d.spec.suspend ≡ false) (allow : d.spec.po
     synced_at = run 3 5 seen (works_off p)
 
     plan_is : p.cron ≡ Some (new d 1 1)
-    plan_is = sym (ap seen_in (sym after_readings.1.seat ∙ (seats_agree 3 seen after_readings.0 5 ∙ f.rests)))
+    plan_is = sym (ap seen_in (sym after_readings.1.sync ∙ (syncs_agree 3 seen after_readings.0 5 ∙ f.rests)))
 
     -- It is legal.
     works_legal : IsLegal 3 synced_at
@@ -388,14 +399,15 @@ module _ (d : CronJobDraft) (runs : d.spec.suspend ≡ false) (allow : d.spec.po
     -- No Job was listed.
     unlisted : p.jobs ≡ []
     unlisted =
-        ap listed_in (sym f.rests ∙ (sym (seats_agree 3 seen after_readings.0 5)
+        ap listed_in (sym f.rests ∙ (sym (syncs_agree 3 seen after_readings.0 5)
         ∙ saw 3 5 a (ready d) (new d 1 1) (legal_ready d) (is_ready d)))
         ∙ none_listed
 
     -- So none is cleaned up.
     uncleaned : p.steps.cleanup ≡ []
     uncleaned = none_in p.steps.cleanup (λ r i.
-        let c = cleans_finished (new d 1 1) p.jobs p.active p.at p.zone p.steps (plan_of p (new d 1 1) f.decided plan_is) r i in
+        let c = cleans_finished (new d 1 1) p.jobs p.active p.at p.zone p.steps
+        (plan_of p (new d 1 1) f.decided plan_is) r i in
         absurd (subst (λ (js : List Job). IsIn c.job js) unlisted c.listed))
 
     -- And under Allow none is dropped first.
@@ -404,7 +416,8 @@ module _ (d : CronJobDraft) (runs : d.spec.suspend ≡ false) (allow : d.spec.po
       where
         by : (o : Option Claim) → p.steps.claim ≡ o → p.steps.drop_first ≡ []
         by None e =
-            (no_claim (Some (new d 1 1)) p.jobs p.active p.at p.zone p.steps (plan_of p (new d 1 1) f.decided plan_is) e).drops
+            (no_claim (Some (new d 1 1)) p.jobs p.active p.at p.zone p.steps (plan_of p (new d 1 1) f.decided plan_is)
+            e).drops
         by (Some y) e =
             let start : Starting p (new d 1 1) y = starting p (new d 1 1) y f.decided plan_is e in
             subst (λ (x : Policy). IsAllowed x (running_of (new d 1 1) p.active) p.steps.drop_first) allow start.allowed
@@ -457,25 +470,28 @@ module _ (d : CronJobDraft) (runs : d.spec.suspend ≡ false) (allow : d.spec.po
     reads = reads;
   }
 
-  -- So the Jobs that are made in it are for the greatest due time from the creation to the moment, if there is one.
+  -- So the Jobs that are made in it are for the greatest due time from the creation to the moment,
+  -- if there is one.
   pub sample_times : AreLatest s z (new d 1 1) (t ∷ []) (made_for 3 1 sample.0)
   sample_times =
       every_time_since 3 (created d) sample.0 a (new d 1 1) s z (t ∷ []) sample.1.short sample.1.legal sample.1.planned
       is_new (late, tt) sample.1.synced
 
--- Where an hourly CronJob without a deadline is synced a minute after one o'clock, its one Job is for one o'clock.
+-- Where an hourly CronJob without a deadline is synced a minute after one o'clock, its one Job is
+-- for one o'clock.
 pub sample_hour : (d : CronJobDraft) (runs : d.spec.suspend ≡ false) (allow : d.spec.policy ≡ Allow)
     (reads : IsSchedule d.spec.schedule hourly) → d.spec.starting_deadline_seconds ≡ None
     → made_for 3 1 (sample d runs allow hourly reads utc 3_661 (omega arith)).0 ≡ 3_600 ∷ []
 sample_hour d runs allow reads free = by (sample_times d runs allow hourly reads utc 3_661 (omega arith))
   where
-    start : stretch_start (new d 1 1) [] 3_661 ≡ 60
+    start : interval_start (new d 1 1) [] 3_661 ≡ 60
     start = ap (λ (o : Option ℕ). max 60 (deadline_start o 3_661)) free
 
     hour : IsLatestDue hourly utc 60 3_661 3_600
     hour = record { above = omega arith; within = omega arith; is_due = due_hour; latest = quiet_minute }
 
-    by : AreLatest hourly utc (new d 1 1) (3_661 ∷ []) (made_for 3 1 (sample d runs allow hourly reads utc 3_661 (omega arith)).0)
+    by : AreLatest hourly utc (new d 1 1) (3_661 ∷ [])
+        (made_for 3 1 (sample d runs allow hourly reads utc 3_661 (omega arith)).0)
         → made_for 3 1 (sample d runs allow hourly reads utc 3_661 (omega arith)).0 ≡ 3_600 ∷ []
     by (inl (quiet, rest)) =
         let still : IsQuiet hourly utc 60 3_661 = subst (λ (n : ℕ). IsQuiet hourly utc n 3_661) start quiet in

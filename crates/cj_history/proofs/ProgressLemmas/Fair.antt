@@ -24,12 +24,12 @@ use Rattle.cj_calls.specs.declared.reply.Reply.{Reply}
 use Rattle.cj_calls.specs.declared.reply.Reply.TheVariants as Is
 use Rattle.cj_calls.specs.Rows.{Told}
 use Rattle.cj_state.specs.phases.Steps.{Step, drops, makes, sets, step_at}
-use Rattle.cj_state.specs.declared.phases.seat.Phase.{Phase}
-use Rattle.cj_state.specs.declared.phases.seat.Phase.TheVariants.{Held, Seen, Listed, Checked, Works}
-use Rattle.cj_state.specs.declared.phases.seat.Seat.{Seat}
+use Rattle.cj_state.specs.declared.phases.sync.Phase.{Phase}
+use Rattle.cj_state.specs.declared.phases.sync.Phase.TheVariants.{Held, Seen, Listed, Checked, Works}
+use Rattle.cj_state.specs.declared.phases.sync.InFlight.{InFlight}
 use Rattle.cj_state.specs.Readings.{listed_of}
 use Rattle.cj_state.specs.Legal.{IsLegal, state_of}
-use Rattle.cj_world_laws.specs.legal.Seats.{seat}
+use Rattle.cj_world_laws.specs.legal.InFlightSyncs.{sync}
 use Rattle.cj_history.specs.store.Written.{version, made, current_cron, current_job, job_left}
 use Rattle.cj_history.specs.store.Writes.{claimed, stepped, stepped_in, stepped_by, written_by, entry_written, with_write, writes}
 use Rattle.cj_history.specs.store.Mirrors.{fed, earliest}
@@ -38,7 +38,8 @@ use Rattle.cj_history.proofs.StoreLemmas.Stores.{store_agrees}
 use Rattle.cj_history.proofs.StoreLemmas.Followed.{mirror_agrees}
 use Rattle.cj_history.proofs.StoreLemmas.Answered.{job_keyed}
 
--- what a write does to a Job: it gives it the next uid, or leaves uid and owners alone and an end as it is
+-- what a write does to a Job: it gives it the next uid, or leaves uid and owners alone and an end
+-- as it is
 abbrev pub Fair : List Event → Event → Type 0
 Fair ws (Added (Kind.Job j)) = j.meta.uid ≡ made ws + 1
 Fair ws (Modified (Kind.Job j)) =
@@ -64,7 +65,7 @@ of_job ws k f h = by (current_job ws k) refl
     by (Some x) e = h x (ap (current_job ws) (job_keyed ws k x e) ∙ e)
 
 -- What a claim writes is fair.
-claim_fair : (ws : List Event) (o : Option Seat) (c : Option Claim) → IfSome (claimed ws o c) (Fair ws)
+claim_fair : (ws : List Event) (o : Option InFlight) (c : Option Claim) → IfSome (claimed ws o c) (Fair ws)
 claim_fair ws None c = tt
 claim_fair ws (Some s) None = tt
 claim_fair ws (Some s) (Some c) = of_cron ws _ (current_cron ws s.key) (λ x. tt)
@@ -84,13 +85,14 @@ phase_fair ws k (Seen c) = tt
 phase_fair ws k (Listed c js) = tt
 phase_fair ws k (Checked c js ks) = tt
 
--- What a caller writes by the step of its seat, if it has one, is fair.
-seat_fair : (ws : List Event) (o : Option Seat) → IfSome (stepped_by ws o) (Fair ws)
-seat_fair ws None = tt
-seat_fair ws (Some s) = phase_fair ws s.key s.phase
+-- What a caller writes by the step of its sync, if it has one, is fair.
+sync_fair : (ws : List Event) (o : Option InFlight) → IfSome (stepped_by ws o) (Fair ws)
+sync_fair ws None = tt
+sync_fair ws (Some s) = phase_fair ws s.key s.phase
 
 -- What an accepted call writes is fair.
-call_fair : (ws : List Event) (o : Option Seat) (call : Call) (r : Reply) → IfSome (written_by ws o call r) (Fair ws)
+call_fair : (ws : List Event) (o : Option InFlight) (call : Call) (r : Reply) → IfSome (written_by ws o call r)
+    (Fair ws)
 call_fair ws o (Of.CreateCron d now) r = tt
 call_fair ws o (Of.UpdateCron d) r = of_cron ws _ (current_cron ws d.key) (λ x. tt)
 call_fair ws o (Of.DeleteCron k) r = of_cron ws _ (current_cron ws k) (λ x. tt)
@@ -99,13 +101,13 @@ call_fair ws o (Of.UpdateJob d) r = of_job ws d.key _ (λ x e. (x, e, refl, refl
 call_fair ws o (Of.DeleteJob k) r = of_job ws k _ (λ x e. tt)
 call_fair ws o (Of.EndJob k u outcome now) r = of_job ws k _ (λ x e. (x, e, refl, refl, λ f. refl))
 call_fair ws o (Of.Claim p) (Is.Claimed (Some c)) = claim_fair ws o p.steps.claim
-call_fair ws o Of.DropNext (Is.Dropped (Some d)) = seat_fair ws o
-call_fair ws o Of.MakeNext r = seat_fair ws o
-call_fair ws o Of.SetStatus r = seat_fair ws o
+call_fair ws o Of.DropNext (Is.Dropped (Some d)) = sync_fair ws o
+call_fair ws o Of.MakeNext r = sync_fair ws o
+call_fair ws o Of.SetStatus r = sync_fair ws o
 call_fair ws o call r = tt
 
 -- What an entry writes, which is nothing where it was refused, is fair.
-pub entry_fair : (ws : List Event) (o : Option Seat) (call : Call) (a : Result Reply Refusal)
+pub entry_fair : (ws : List Event) (o : Option InFlight) (call : Call) (a : Result Reply Refusal)
     → IfSome (entry_written ws o call a) (Fair ws)
 entry_fair ws o call (Ok r) = call_fair ws o call r
 entry_fair ws o call (Err e) = tt
@@ -123,7 +125,7 @@ with_fair ws (Some w) h a = (h, a)
 -- The writes of any list of entries were each fair.
 pub are_fair : (h : List Told) → AreFair (writes h)
 are_fair [] = tt
-are_fair (e ∷ h) = with_fair (writes h) _ (entry_fair (writes h) (seat h e.caller.number) e.call e.answer) (are_fair h)
+are_fair (e ∷ h) = with_fair (writes h) _ (entry_fair (writes h) (sync h e.caller.number) e.call e.answer) (are_fair h)
 
 -- The earlier ones of fair writes are fair.
 pub fair_rest : (n : ℕ) (ws : List Event) → AreFair ws → AreFair (drop n ws)
@@ -176,7 +178,8 @@ fair_uid (w ∷ ws) a k j e = uid_step w ws k j a.0 (λ q i f. fair_uid ws a.1 q
 abbrev pub IsNever : List Event → Place → ℕ → Type 0
 IsNever ws q i = (x : Job) → current_job ws q ≡ Some x → x.meta.uid ≢ i
 
--- For never_with: a uid that was given out, and that the Job at a key hasn't, isn't given to one there by a write.
+-- For never_with: a uid that was given out, and that the Job at a key hasn't, isn't given to one
+-- there by a write.
 never_step : (w : Event) (ws : List Event) (q : Place) (i : ℕ) → Fair ws w → i ≤ made ws → IsNever ws q i
     → (x : Job) → job_left w q (current_job ws q) ≡ Some x → x.meta.uid ≢ i
 never_step (Added (Kind.Cron c)) ws q i f l n x e = n x e

@@ -137,7 +137,8 @@ matches_after = refl
 pub due_hour : due hourly utc 3_600 ≡ true
 due_hour =
     due-minute hourly utc 3_600 60 refl (omega arith)
-    ∙ (ap (λ (c : Civil). matches_civil hourly c) (civil_at-truncated one utc 3_600 (in_range 3_600) nanos_one) ∙ matches_one)
+    ∙ (ap (λ (c : Civil). matches_civil hourly c) (civil_at-truncated one utc 3_600 (in_range 3_600) nanos_one)
+    ∙ matches_one)
 
 -- And not a minute after.
 due_after : due hourly utc 3_660 ≡ false

@@ -15,10 +15,10 @@ use Rattle.cj_calls.specs.declared.end.End.TheVariants.{Well, Again}
 use Rattle.cj_calls.specs.declared.reply.Reply.{Reply}
 use Rattle.cj_calls.specs.declared.reply.Reply.TheVariants as Say
 use Rattle.cj_calls.specs.Rows.{Told}
-use Rattle.cj_state.specs.declared.phases.seat.Seat.{Seat}
+use Rattle.cj_state.specs.declared.phases.sync.InFlight.{InFlight}
 use Rattle.cj_state.specs.Legal.{IsLegal, state_of}
 use Rattle.cj_world_laws.specs.legal.Exclusive.{IsTake}
-use Rattle.cj_world_laws.specs.legal.Seats.{seat}
+use Rattle.cj_world_laws.specs.legal.InFlightSyncs.{sync}
 use Rattle.cj_history.specs.queue.Deeds.{Deed, adds, ticks, takes, ends, fails, shuts, nothing, accepted, deed, finish, next_of, Operation, operations}
 use Rattle.cj_history.specs.queue.LookBacks.{is_take, is_finish, is_by, is_shut, is_within, is_add, adds_in, later, later_in, waits_in, waits_more, marks, holder, held, dirty, shut, mark, failures, ready_at}
 use Rattle.cj_history.specs.queue.Laws.{IsQueue}
@@ -60,7 +60,7 @@ le_false a b e = grind (arith, nat_tests, e)
 -- ---- an entry that takes no key
 
 -- An accepted call did take a key only where it is a Take that was answered so.
-takes_by : (o : Option Seat) (call : Call) (r : Reply) (k : Place) → (is_take (accepted o call r) k ≡ false)
+takes_by : (o : Option InFlight) (call : Call) (r : Reply) (k : Place) → (is_take (accepted o call r) k ≡ false)
     ⊎ ((call ≡ Of.Take) × ((j : Place) × (r ≡ Say.Key j) × (is_take (accepted o call r) k ≡ key_eq k j)))
 takes_by o Of.Take (Say.Key j) k = inr (refl, (j, refl, refl))
 takes_by o (Of.Add j) Say.Done k = inl refl
@@ -75,7 +75,7 @@ abbrev fine : Reply → Result Reply Refusal
 fine r = Ok r
 
 -- For not_taken: an accepted entry that isn't a Take of the key did not take it.
-not_taken_by : (o : Option Seat) (e : Told) (r : Reply) (k : Place) → (IsTake k e → ⊥) → e.answer ≡ Ok r
+not_taken_by : (o : Option InFlight) (e : Told) (r : Reply) (k : Place) → (IsTake k e → ⊥) → e.answer ≡ Ok r
     → (is_take (accepted o e.call r) k ≡ false)
     ⊎ ((e.call ≡ Of.Take) × ((j : Place) × (r ≡ Say.Key j) × (is_take (accepted o e.call r) k ≡ key_eq k j)))
     → is_take (accepted o e.call r) k ≡ false
@@ -90,7 +90,7 @@ not_taken_by o e r k n g (inr (c, (j, is, same))) = by (key_eq k j) refl
     by false t = same ∙ t
 
 -- An entry that isn't a Take of the key did not take it.
-not_taken : (o : Option Seat) (e : Told) (k : Place) → (IsTake k e → ⊥) → is_take (deed o e.call e.answer) k ≡ false
+not_taken : (o : Option InFlight) (e : Told) (k : Place) → (IsTake k e → ⊥) → is_take (deed o e.call e.answer) k ≡ false
 not_taken o e k n = by e.answer refl
   where
     by : (a : Result Reply Refusal) → e.answer ≡ a → is_take (deed o e.call a) k ≡ false
@@ -100,17 +100,17 @@ not_taken o e k n = by e.answer refl
 -- ---- an entry that adds the key
 
 -- An accepted Add adds its key.
-add_deed : (o : Option Seat) (e : Told) (k : Place) → IsAdd k e → deed o e.call e.answer ≡ adds k
+add_deed : (o : Option InFlight) (e : Told) (k : Place) → IsAdd k e → deed o e.call e.answer ≡ adds k
 add_deed o e k i = ap (λ (c : Call). deed o c e.answer) i.call
     ∙ ap (λ (a : Result Reply Refusal). deed o (Of.Add k) a) i.answer
 
 -- An accepted Tick tells its moment.
-tick_deed : (o : Option Seat) (e : Told) (now : ℕ) → IsTick now e → deed o e.call e.answer ≡ ticks now
+tick_deed : (o : Option InFlight) (e : Told) (now : ℕ) → IsTick now e → deed o e.call e.answer ≡ ticks now
 tick_deed o e now i = ap (λ (c : Call). deed o c e.answer) i.call
     ∙ ap (λ (a : Result Reply Refusal). deed o (Of.Tick now) a) i.answer
 
 -- An accepted Finish ends a sync, well or to be tried again.
-end_deed : (o : Option Seat) (before : List Told) (k : Place) (end : End) (e : Told) → IsEnd before k end e
+end_deed : (o : Option InFlight) (before : List Told) (k : Place) (end : End) (e : Told) → IsEnd before k end e
     → deed o e.call e.answer ≡ finish o end
 end_deed o before k end e i = ap (λ (c : Call). deed o c e.answer) i.call
     ∙ ap (λ (a : Result Reply Refusal). deed o (Of.Finish end i.reasons) a) i.answer
@@ -137,11 +137,11 @@ adds_true : (before : List Told) (k : Place) (e : Told) → shut (operations bef
 adds_true before k e s (by_name i) =
     and_true (not (shut (operations before))) (add_test before e k) (ap not s)
     (ap (λ (d : Deed). adds_in d k (mark (operations before)) (later (operations before) (operation before e) k)
-    (ready_at (operations before) k)) (add_deed (seat before e.caller.number) e k i) ∙ eq_self k)
+    (ready_at (operations before) k)) (add_deed (sync before e.caller.number) e k i) ∙ eq_self k)
 adds_true before k e s (by_moment now at i r l) =
     and_true (not (shut (operations before))) (add_test before e k) (ap not s)
     (ap (λ (d : Deed). adds_in d k (mark (operations before)) (later (operations before) (operation before e) k)
-    (ready_at (operations before) k)) (tick_deed (seat before e.caller.number) e now i)
+    (ready_at (operations before) k)) (tick_deed (sync before e.caller.number) e now i)
     ∙ ap (λ (w : Option ℕ). is_within w now) r ∙ le_true at now l)
 adds_true before k e s (at_once at f l) =
     and_true (not (shut (operations before))) (add_test before e k) (ap not s)
@@ -161,7 +161,7 @@ still_dirty k e before (x ∷ after) a n =
     or_right (is_add (operations h) (operation h x) k)
     (not (is_take (operation h x).deed k) && dirty (operations h) k)
     (and_true (not (is_take (operation h x).deed k)) (dirty (operations h) k)
-    (ap not (not_taken (seat h x.caller.number) x k n.0)) (still_dirty k e before after a n.1))
+    (ap not (not_taken (sync h x.caller.number) x k n.0)) (still_dirty k e before after a n.1))
 
 -- A key that was added and not taken since is dirty.
 wanted_dirty : (h : List Told) (k : Place) → IsWanted h k → dirty (operations h) k ≡ true
@@ -192,10 +192,10 @@ is_its : (window : ℕ) (before : List Told) → IsLegal window before → (k : 
     → IsEnd before k end e → is_by (holder (operations before) k) e.caller.number ≡ true
 is_its window before l k end e i =
     (stands window before l).tied k e.caller.number
-    ∙ ap (λ (o : Option Seat). holds (key_of o) k) i.held ∙ ap (λ (p : Place). key_eq k p) i.key ∙ eq_self k
+    ∙ ap (λ (o : Option InFlight). holds (key_of o) k) i.held ∙ ap (λ (p : Place). key_eq k p) i.key ∙ eq_self k
 
 -- After its holder's end nobody holds a key.
-freed_by : (o : Option Seat) (end : End) (v : ℕ) (k : Place) (was : Option ℕ) → is_by was v ≡ true
+freed_by : (o : Option InFlight) (end : End) (v : ℕ) (k : Place) (was : Option ℕ) → is_by was v ≡ true
     → holder_after (finish o end) v k was ≡ None
 freed_by o Well v k was e = ap (λ b. cond b None was) e
 freed_by o (Again now) v k was e = ap (λ b. cond b None was) e
@@ -205,8 +205,8 @@ freed : (window : ℕ) (before : List Told) → IsLegal window before → (k : P
     → IsEnd before k end e → holder (operations (e ∷ before)) k ≡ None
 freed window before l k end e i =
     ap (λ (d : Deed). holder_after d e.caller.number k (holder (operations before) k))
-    (end_deed (seat before e.caller.number) before k end e i)
-    ∙ freed_by (seat before e.caller.number) end e.caller.number k (holder (operations before) k)
+    (end_deed (sync before e.caller.number) before k end e i)
+    ∙ freed_by (sync before e.caller.number) end e.caller.number k (holder (operations before) k)
     (is_its window before l k end e i)
 
 -- ---- what waits
@@ -329,7 +329,7 @@ ahead_step h a k t n c s f = record {
 
 -- After the end of its sync with a next time a key is ahead.
 ahead_end : (window : ℕ) (before : List Told) → IsLegal window before → (k : Place) (t : ℕ) (e : Told)
-    → IsEnd before k Well e → next_of (seat before e.caller.number) ≡ Some t → shut (operations before) ≡ false
+    → IsEnd before k Well e → next_of (sync before e.caller.number) ≡ Some t → shut (operations before) ≡ false
     → Ahead (operations (e ∷ before)) k (1000 * t)
 ahead_end window before l k t e i n s = record {
   free = freed window before l k Well e i;
@@ -337,11 +337,12 @@ ahead_end window before l k t e i n s = record {
 }
   where
     is : (operation before e).deed ≡ ends (Some t)
-    is = end_deed (seat before e.caller.number) before k Well e i ∙ ap (λ (o : Option ℕ). ends o) n
+    is = end_deed (sync before e.caller.number) before k Well e i ∙ ap (λ (o : Option ℕ). ends o) n
 
     late_is : later (operations before) (operation before e) k ≡ Some (1000 * t)
     late_is =
-        ap (λ (d : Deed). later_in d (is_by (holder (operations before) k) e.caller.number) (failures (operations before) k)) is
+        ap (λ (d : Deed). later_in d (is_by (holder (operations before) k) e.caller.number)
+        (failures (operations before) k)) is
         ∙ ap (λ b. later_in (ends (Some t)) b (failures (operations before) k)) (is_its window before l k Well e i)
 
     by : (b : Bool) → nat_le (1000 * t) (mark (operations before)) ≡ b
@@ -368,7 +369,7 @@ ahead_end window before l k t e i n s = record {
 
 -- From the end of its sync on, until it is taken or the queue is shut, a key is ahead.
 ahead : (window : ℕ) (before : List Told) (k : Place) (t : ℕ) (e : Told) (after : List Told)
-    → IsLegal window (after ++ e ∷ before) → IsEnd before k Well e → next_of (seat before e.caller.number) ≡ Some t
+    → IsLegal window (after ++ e ∷ before) → IsEnd before k Well e → next_of (sync before e.caller.number) ≡ Some t
     → shut (operations (after ++ e ∷ before)) ≡ false → NoneTakes k after
     → Ahead (operations (after ++ e ∷ before)) k (1000 * t)
 ahead window before k t e [] l i n s none =
@@ -377,7 +378,7 @@ ahead window before k t e [] l i n s none =
 ahead window before k t e (x ∷ after) l i n s none =
     let h : List Told = after ++ e ∷ before in
     let two = or_false (is_shut (operation h x).deed) (shut (operations h)) s in
-    ahead_step (operations h) (operation h x) k (1000 * t) (not_taken (seat h x.caller.number) x k none.0)
+    ahead_step (operations h) (operation h x) k (1000 * t) (not_taken (sync h x.caller.number) x k none.0)
     two.0 two.1 (ahead window before k t e after l.2 i n two.1 none.1)
 
 -- After a sync that ended well, with a next time, a key that wasn't taken since is ahead.
@@ -389,7 +390,8 @@ done_ahead window h l k t d =
     (sym (ap (λ (x : List Told). shut (operations x)) d.is) ∙ d.runs) d.untaken)
 
 -- A key that is ahead stands in the line, or waits for its time.
-ahead_waits : (h : List Operation) (q : Queue) (k : Place) (t : ℕ) → IsQueue h q → Ahead h k t → IsLined q k ⊎ Waits q k t
+ahead_waits : (h : List Operation) (q : Queue) (k : Place) (t : ℕ) → IsQueue h q → Ahead h k t
+    → IsLined q k ⊎ Waits q k t
 ahead_waits h q k t is f = by f.due
   where
     by : (dirty h k ≡ true) ⊎ ((at : ℕ) × (ready_at h k ≡ Some at) × (at ≤ t)) → IsLined q k ⊎ Waits q k t
@@ -402,7 +404,8 @@ ahead_waits h q k t is f = by f.due
     })
 
 -- A key that is ahead stands in the line once a moment at or past its time was told.
-ahead_lined : (h : List Operation) (q : Queue) (k : Place) (t : ℕ) → IsQueue h q → Ahead h k t → t ≤ mark h → IsLined q k
+ahead_lined : (h : List Operation) (q : Queue) (k : Place) (t : ℕ) → IsQueue h q → Ahead h k t → t ≤ mark h
+    → IsLined q k
 ahead_lined h q k t is f told = by f.due
   where
     by : (dirty h k ≡ true) ⊎ ((at : ℕ) × (ready_at h k ≡ Some at) × (at ≤ t)) → IsLined q k

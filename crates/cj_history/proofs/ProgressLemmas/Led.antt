@@ -15,13 +15,13 @@ use Rattle.cj_calls.specs.declared.reply.Reply.{Reply}
 use Rattle.cj_calls.specs.declared.reply.Reply.TheVariants as Is
 use Rattle.cj_calls.specs.Rows.{Told}
 use Rattle.cj_state.specs.phases.Steps.{Step, drops, makes as makes_job, sets, settings, all_steps}
-use Rattle.cj_state.specs.declared.phases.seat.Phase.{Phase}
-use Rattle.cj_state.specs.declared.phases.seat.Phase.TheVariants.{Seen}
-use Rattle.cj_state.specs.declared.phases.seat.Seat.{Seat}
+use Rattle.cj_state.specs.declared.phases.sync.Phase.{Phase}
+use Rattle.cj_state.specs.declared.phases.sync.Phase.TheVariants.{Seen}
+use Rattle.cj_state.specs.declared.phases.sync.InFlight.{InFlight}
 use Rattle.cj_state.specs.WorkerCalls.{works, seen_version}
 use Rattle.cj_state.specs.Legal.{IsLegal, answer_of}
 use Rattle.cj_world_laws.specs.legal.Callers.{is_of_sync}
-use Rattle.cj_world_laws.specs.legal.Seats.{accepted, going, listing, checking, seat, seat_after}
+use Rattle.cj_world_laws.specs.legal.InFlightSyncs.{accepted, going, listing, checking, sync, sync_after}
 use Rattle.cj_world_laws.specs.once.Once.{Claimed, claim_of, is_ok, makes_with, with_made, makes}
 use Rattle.cj_history.specs.progress.Undisturbed.{worker, entry, AreAside, Leads}
 use Rattle.cj_history.specs.progress.Syncs.{calls_left, works_off}
@@ -45,16 +45,16 @@ keeps_key Of.MakeNext = true
 keeps_key Of.SetStatus = true
 keeps_key call = false
 
--- a seat at the key of another
-abbrev StillAt : Option Seat → Seat → Type 0
-StillAt o x = (y : Seat) × (o ≡ Some y) × (y.key ≡ x.key)
+-- a sync at the key of another
+abbrev StillAt : Option InFlight → InFlight → Type 0
+StillAt o x = (y : InFlight) × (o ≡ Some y) × (y.key ≡ x.key)
 
--- a seat at a key
-abbrev at_key : Place → Phase → Seat
+-- a sync at a key
+abbrev at_key : Place → Phase → InFlight
 at_key k p = record { key = k; phase = p }
 
 -- Such a call, accepted, leaves its worker at its key.
-still_accepted : (x : Seat) (call : Call) (r : Reply) → keeps_key call ≡ true → StillAt (accepted (Some x) call r) x
+still_accepted : (x : InFlight) (call : Call) (r : Reply) → keeps_key call ≡ true → StillAt (accepted (Some x) call r) x
 still_accepted x Of.SeeCron (Is.SeenCron c) i = (at_key x.key (Seen c), refl, refl)
 still_accepted x Of.SeeJobs (Is.SeenJobs js) i = (at_key x.key (listing x.phase js), refl, refl)
 still_accepted x Of.SeeActive (Is.SeenActive ks) i = (at_key x.key (checking x.phase ks), refl, refl)
@@ -73,7 +73,8 @@ still_accepted x Of.SetStatus r i = (x, refl, refl)
 still_accepted x call r i = absurd (cc i)
 
 -- So does it where it is refused.
-still_there : (x : Seat) (call : Call) (a : Result Reply Refusal) → keeps_key call ≡ true → StillAt (seat_after (Some x) call a) x
+still_there : (x : InFlight) (call : Call) (a : Result Reply Refusal) → keeps_key call ≡ true
+    → StillAt (sync_after (Some x) call a) x
 still_there x call (Ok r) i = still_accepted x call r i
 still_there x call (Err e) i = (x, refl, refl)
 
@@ -85,8 +86,8 @@ holds_own window w k call h i f =
     let y = still_there f.sits call a i in
     record {
       sits = y.0;
-      held = ap (λ (b : Bool). if b then seat_after (seat h w) call a else seat h w) (same_nat w)
-          ∙ ap (λ (o : Option Seat). seat_after o call a) f.held ∙ y.1;
+      held = ap (λ (b : Bool). if b then sync_after (sync h w) call a else sync h w) (same_nat w)
+          ∙ ap (λ (o : Option InFlight). sync_after o call a) f.held ∙ y.1;
       key = y.2 ∙ f.key;
     }
 
@@ -102,15 +103,18 @@ led_earlier window w k q (call ∷ calls) h g l good =
     earlier window l.0 h (earlier window (x ∷ []) (l.0 ++ h) after)
 
 -- What calls lead to holds after them.
-pub led_to : (window w : ℕ) (k : Place) (q : Option Place) (calls : List Call) (P : List Told → Type 0) (h g : List Told)
+pub led_to : (window w : ℕ) (k : Place) (q : Option Place) (calls : List Call) (P : List Told → Type 0)
+    (h g : List Told)
     → Leads window w k q h calls P → Led window w k q h calls g → Good window g → P g
 led_to window w k q [] P h g f l good = subst P (sym l) f
 led_to window w k q (call ∷ calls) P h g f l good =
     let x = entry window (l.0 ++ h) w call in
     let after = led_earlier window w k q calls (x ∷ (l.0 ++ h)) g l.2 good in
-    led_to window w k q calls P (x ∷ (l.0 ++ h)) g (f l.0 (earlier window (x ∷ []) (l.0 ++ h) after).legal l.1).1 l.2 good
+    led_to window w k q calls P (x ∷ (l.0 ++ h)) g (f l.0 (earlier window (x ∷ []) (l.0 ++ h) after).legal l.1).1 l.2
+    good
 
--- w is the worker, k its key, q the Job's name, if one is named, and c the CronJob, but for its status and its version.
+-- w is the worker, k its key, q the Job's name, if one is named, and c the CronJob, but for its
+-- status and its version.
 module _ (window w : ℕ) (k : Place) (q : Option Place) (c : CronJob) where
   abbrev u : ℕ
   u = c.meta.uid
@@ -121,7 +125,8 @@ module _ (window w : ℕ) (k : Place) (q : Option Place) (c : CronJob) where
     pub has : Has window k c g
     pub times : made_for window u g ≡ made_for window u h
 
-  -- A call between Take and Finish that makes nothing, after what others called aside, leaves it so.
+  -- A call between Take and Finish that makes nothing, after what others called aside, leaves it
+  -- so.
   pub call_kept : (call : Call) (es h : List Told) → keeps_key call ≡ true → is_of_sync call ≡ true
       → makes_with call (answer_of window (es ++ h) (worker w) call) ≡ false
       → Good window (entry window (es ++ h) w call ∷ (es ++ h)) → AreAside w k q es h → Holds h w k → Has window k c h
@@ -194,7 +199,8 @@ module _ (window w : ℕ) (k : Place) (q : Option Place) (c : CronJob) where
         let old : Good window (es ++ h) = earlier window (e ∷ []) (es ++ h) good in
         let ms : List Claimed = makes window (es ++ h) in
         ap (λ (b : Bool). times_of u (with_made b (claim_of window (es ++ h) w) ms)) ok
-        ∙ ap (λ (o : Option Claimed). times_of u (with_made true o ms)) (claim_aside window w k q es h old.legal a ∙ claim)
+        ∙ ap (λ (o : Option Claimed). times_of u (with_made true o ms))
+        (claim_aside window w k q es h old.legal a ∙ claim)
         ∙ ap (λ (b : Bool). cond b (m.time ∷ times_of u ms) (times_of u ms)) (is_same u m.owner (sym own))
         ∙ ap (λ (l : List ℕ). m.time ∷ l) (times_aside window w k q es h c old a f x)
 
@@ -207,7 +213,8 @@ module _ (window w : ℕ) (k : Place) (q : Option Place) (c : CronJob) where
     steps_led (drops r ∷ xs) h g y l good f x claim =
         let es : List Told = l.0 in
         let e = entry window (es ++ h) w Of.DropNext in
-        let after : Good window (e ∷ (es ++ h)) = led_earlier window w k q (calls_left reasons xs) (e ∷ (es ++ h)) g l.2 good in
+        let after : Good window (e ∷ (es ++ h)) = led_earlier window w k q (calls_left reasons xs) (e ∷ (es ++ h)) g l.2
+        good in
         let old : Good window (es ++ h) = earlier window (e ∷ []) (es ++ h) after in
         let one : Kept h (e ∷ (es ++ h)) = call_kept Of.DropNext es h refl refl refl after l.1 f x in
         let rest = steps_led xs (e ∷ (es ++ h)) g (y es old.legal l.1).1 l.2 good one.holds one.has
@@ -216,7 +223,8 @@ module _ (window w : ℕ) (k : Place) (q : Option Place) (c : CronJob) where
     steps_led (makes_job d ∷ xs) h g y l good f x claim =
         let es : List Told = l.0 in
         let e = entry window (es ++ h) w Of.MakeNext in
-        let after : Good window (e ∷ (es ++ h)) = led_earlier window w k q (calls_left reasons xs) (e ∷ (es ++ h)) g l.2 good in
+        let after : Good window (e ∷ (es ++ h)) = led_earlier window w k q (calls_left reasons xs) (e ∷ (es ++ h)) g l.2
+        good in
         let old : Good window (es ++ h) = earlier window (e ∷ []) (es ++ h) after in
         let r = y es old.legal l.1 in
         let rest = steps_led xs (e ∷ (es ++ h)) g r.1 l.2 good
@@ -227,7 +235,8 @@ module _ (window w : ℕ) (k : Place) (q : Option Place) (c : CronJob) where
     steps_led (sets s ∷ xs) h g y l good f x claim =
         let es : List Told = l.0 in
         let e = entry window (es ++ h) w Of.SetStatus in
-        let after : Good window (e ∷ (es ++ h)) = led_earlier window w k q (calls_left reasons xs) (e ∷ (es ++ h)) g l.2 good in
+        let after : Good window (e ∷ (es ++ h)) = led_earlier window w k q (calls_left reasons xs) (e ∷ (es ++ h)) g l.2
+        good in
         let old : Good window (es ++ h) = earlier window (e ∷ []) (es ++ h) after in
         let one : Kept h (e ∷ (es ++ h)) = call_kept Of.SetStatus es h refl refl refl after l.1 f x in
         let rest = steps_led xs (e ∷ (es ++ h)) g (y es old.legal l.1).1 l.2 good one.holds one.has
@@ -247,14 +256,16 @@ module _ (window w : ℕ) (k : Place) (q : Option Place) (c : CronJob) where
 
   -- The claim of a plan, its steps and the end leave the times that the steps make.
   pub works_led : (m : Claimed) → m.owner ≡ u → (p : Planned) (P : List Told → Type 0) (h g : List Told)
-      → Leads window w k q h (works_off p) P → Led window w k q h (works_off p) g → Good window g → Holds h w k → Has window k c h
+      → Leads window w k q h (works_off p) P → Led window w k q h (works_off p) g → Good window g → Holds h w k
+      → Has window k c h
       → ((es : List Told) → IsLegal window (es ++ h) → AreAside w k q es h → Makes (all_steps p.steps)
       → claim_of window (entry window (es ++ h) w (Of.Claim p) ∷ (es ++ h)) w ≡ Some m)
       → Ended (after_steps m.time (all_steps p.steps) (made_for window u h)) g
   works_led m own p P h g y l good f x claim =
       let es : List Told = l.0 in
       let e = entry window (es ++ h) w (Of.Claim p) in
-      let after : Good window (e ∷ (es ++ h)) = led_earlier window w k q (calls_left p.steps.reasons (all_steps p.steps))
+      let after : Good window (e ∷ (es ++ h)) = led_earlier window w k q
+      (calls_left p.steps.reasons (all_steps p.steps))
       (e ∷ (es ++ h)) g l.2 good in
       let old : Good window (es ++ h) = earlier window (e ∷ []) (es ++ h) after in
       let one : Kept h (e ∷ (es ++ h)) = call_kept (Of.Claim p) es h refl refl refl after l.1 f x in

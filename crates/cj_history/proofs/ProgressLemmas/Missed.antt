@@ -58,7 +58,8 @@ due_counts s z lo hi t above within is_due =
       least = λ k x y. absurd (omega (arith, x, y));
     }) in
     let e = ap (λ (l : List ℕ). length l)
-    (a ∙ ap (λ (l : List ℕ). missed_times s z lo (t - 1) ++ l) (b ∙ ap (λ (l : List ℕ). l ++ missed_times s z t hi) c)) in
+    (a ∙ ap (λ (l : List ℕ). missed_times s z lo (t - 1) ++ l) (b ∙ ap (λ (l : List ℕ). l ++ missed_times s z t hi) c))
+    in
     let f = length-append (missed_times s z lo (t - 1)) (t ∷ missed_times s z t hi) in
     omega (arith, e, f)
 
@@ -78,7 +79,8 @@ policy_time Replace running t n l = refl
 
 -- By what is told of the missed times, the Job is started for the latest of them.
 missed_time : (s : Sets) (z : Zone) (lo hi t : ℕ) (m : Missed) (p : Policy) (running : List JobRef) (n : Option ℕ)
-    → IsLatestDue s z lo hi t → IsMissed s z lo hi m → IsLet p running → (by_missed m p (has_any running) n).time ≡ Some t
+    → IsLatestDue s z lo hi t → IsMissed s z lo hi m → IsLet p running
+    → (by_missed m p (has_any running) n).time ≡ Some t
 missed_time s z lo hi t Kind.None p running n d h l = let a = some_missed s z lo hi t d in absurd (omega (arith, a, h))
 missed_time s z lo hi t (Kind.Some count latest) p running n d h l =
     policy_time p running latest n l ∙ ap (λ (x : ℕ). Some x) (one_latest s z lo hi latest t h.3 d)

@@ -1,4 +1,4 @@
--- Where no stretch has more than one due time, the greatest due times of the stretches are all due times.
+-- Where no interval has more than one due time, the greatest due times of the intervals are all due times.
 use Rattle.std.proofs.Common.{◌≡◌, ◌⊎◌, inl, inr, ℕ, ◌+◌, ◌-◌, ◌%◌, ◌<◌, ◌≤◌, max, false, Option, Some, None, List, [], ◌∷◌, ◌++◌, length, length-append, refl, sym, ap, subst, ◌∙◌, arith}
 use Rattle.std.proofs.lemmas.Bool.{cases_eq}
 use Rattle.std.proofs.lemmas.List.{append-nil, reverse-append}
@@ -10,9 +10,9 @@ use Rattle.cj_due.specs.Due.{due, IsQuiet, IsLatestDue, missed_times, missed_cou
 use Rattle.cj_due.specs.Window.{deadline_start}
 use Rattle.cj_due.proofs.DueLemmas.{due-other}
 use Rattle.cj_due.proofs.MissedLemmas.{missed_times-none, missed_times-split, missed_times-one}
-use Rattle.cj_history.specs.progress.Every.{looked_upto, stretch_start, GoOn, AreLatest, made_for, AreNear, EachDueTime, AreMinutely, IsAmple, EachMinute}
+use Rattle.cj_history.specs.progress.Every.{looked_upto, interval_start, GoOn, AreLatest, made_for, AreNear, EachDueTime, AreMinutely, IsAmple, EachMinute}
 use Rattle.cj_history.proofs.ProgressLemmas.Missed.{clash}
-use Rattle.cj_history.proofs.ProgressLemmas.Stretches.{latest_or_none}
+use Rattle.cj_history.proofs.ProgressLemmas.Intervals.{latest_or_none}
 use Rattle.cj_history.proofs.ProgressLemmas.Since.{every_time_since}
 
 -- A list without a length is empty.
@@ -36,7 +36,8 @@ only_latest s z lo hi t few h =
     }) in
     let d = missed_times-none s z t hi h.latest in
     let e : missed_times s z lo hi ≡ missed_times s z lo (t - 1) ++ (t ∷ []) =
-    a ∙ ap (λ (l : List ℕ). missed_times s z lo (t - 1) ++ l) (b ∙ (ap (λ (l : List ℕ). l ++ missed_times s z t hi) c ∙ ap (λ (l : List ℕ). t ∷ l) d)) in
+    a ∙ ap (λ (l : List ℕ). missed_times s z lo (t - 1) ++ l)
+    (b ∙ (ap (λ (l : List ℕ). l ++ missed_times s z t hi) c ∙ ap (λ (l : List ℕ). t ∷ l) d)) in
     let f = ap (λ (l : List ℕ). length l) e in
     let g = length-append (missed_times s z lo (t - 1)) (t ∷ []) in
     e ∙ ap (λ (l : List ℕ). l ++ (t ∷ [])) (empty (missed_times s z lo (t - 1)) (omega (arith, few, f, g)))
@@ -50,7 +51,7 @@ low : (cron : CronJob) (ts : List ℕ) → GoOn cron ts → looked_upto cron [] 
 low cron [] on = omega arith
 low cron (t ∷ ts) on = let a = low cron ts on.1 in let b = on.0 in omega (arith, a, b)
 
--- For every_time_law: where moments are near, the greatest due times of the stretches are all that are due.
+-- For every_time_law: where moments are near, the greatest due times of the intervals are all that are due.
 pub each_due : EachDueTime
 each_due s z cron [] times on near latest =
     ap reverse latest
@@ -64,7 +65,7 @@ each_due s z cron (t ∷ ts) times on near latest = by latest (λ old rest. each
     whole : missed_times s z (looked_upto cron []) t ≡ before ++ missed_times s z (looked_upto cron ts) t
     whole = missed_times-split s z (looked_upto cron []) (looked_upto cron ts) t (low cron ts on.1) on.0
 
-    is : stretch_start cron ts t ≡ looked_upto cron ts
+    is : interval_start cron ts t ≡ looked_upto cron ts
     is = left_max (looked_upto cron ts) (deadline_start cron.spec.starting_deadline_seconds t) near.1
 
     by : AreLatest s z cron (t ∷ ts) times → ((old : List ℕ) → AreLatest s z cron ts old → reverse old ≡ before)
@@ -78,7 +79,8 @@ each_due s z cron (t ∷ ts) times on near latest = by latest (λ old rest. each
         ap reverse same ∙ (reverse-append (time ∷ []) old
         ∙ (ap (λ (l : List ℕ). l ++ (time ∷ [])) (past old rest)
         ∙ sym (whole ∙ ap (λ (l : List ℕ). before ++ l)
-        (only_latest s z (looked_upto cron ts) t time near.0 (subst (λ (n : ℕ). IsLatestDue s z n t time) is due_then)))))
+        (only_latest s z (looked_upto cron ts) t time near.0
+        (subst (λ (n : ℕ). IsLatestDue s z n t time) is due_then)))))
 
 -- ---- a sync a minute
 
@@ -99,7 +101,8 @@ one_due s z lo n l = by (latest_or_none s z lo n)
         }) in
         let rest = missed_times-none s z t (lo + n) h.latest in
         let all = missed_times-split s z lo t (lo + n) (omega (arith, above)) within in
-        let e = ap (λ (xs : List ℕ). length xs) (all ∙ ap (λ (xs : List ℕ). xs ++ missed_times s z t (lo + n)) last ∙ ap (λ (xs : List ℕ). t ∷ xs) rest) in
+        let e = ap (λ (xs : List ℕ). length xs) (all ∙ ap (λ (xs : List ℕ). xs ++ missed_times s z t (lo + n)) last
+        ∙ ap (λ (xs : List ℕ). t ∷ xs) rest) in
         omega (arith, e)
       where
         whole : (t % 60 ≡ 0) ⊎ (t % 60 ≡ 0 → ⊥) → t % 60 ≡ 0
@@ -111,7 +114,7 @@ one_due s z lo n l = by (latest_or_none s z lo n)
         before k x y (inl e) =
             let f = whole (cases_eq (t % 60) 0) in let w = h.within in absurd (omega (arith, e, f, x, y, w, l))
 
--- A deadline of a minute or more cuts no such stretch.
+-- A deadline of a minute or more cuts no such interval.
 uncut : (d : Option ℕ) (t at : ℕ) → IsAmple d → t ≤ at + 60 → deadline_start d t ≤ at
 uncut None t at a l = omega arith
 uncut (Some n) t at a l = omega (arith, a, l)

@@ -1,4 +1,5 @@
--- The Job that an undisturbed sync makes is the only one that was made for its CronJob and its time.
+-- The Job that an undisturbed sync makes is the only one that was made for its CronJob and its
+-- time.
 use Rattle.std.proofs.Common.{◌≡◌, ℕ, suc, ◌==◌, ◌&&◌, Bool, true, false, cond, List, [], ◌∷◌, ◌++◌, length, filter, map as map_list, Option, Some, None, inl, inr, refl, sym, ap, subst, ◌∙◌}
 use Rattle.std.specs.FinMap as map
 use Rattle.std.proofs.lemmas.Bool.{eqb-true}
@@ -14,15 +15,15 @@ use Rattle.cj_decide.specs.laws.Laws.{IsIn}
 use Rattle.cj_calls.specs.Rows.{Told}
 use Rattle.cj_calls.specs.declared.call.Call.{Call}
 use Rattle.cj_calls.specs.declared.call.Call.TheVariants as Of
-use Rattle.cj_state.specs.declared.phases.seat.Phase.TheVariants.{Checked}
+use Rattle.cj_state.specs.declared.phases.sync.Phase.TheVariants.{Checked}
 use Rattle.cj_state.specs.declared.state.State.{State}
 use Rattle.cj_state.specs.phases.Steps.{Step, drops, makes as makes_job, sets, makings, settings, all_steps}
-use Rattle.cj_state.specs.WorkerCalls.{Handled, seat_of}
+use Rattle.cj_state.specs.WorkerCalls.{Handled, sync_of}
 use Rattle.cj_state.specs.Legal.{IsLegal, answer_of, state_of}
 use Rattle.cj_world_laws.specs.once.Once.{Claimed, claimed_under, claimed_of, claim_after, claim_of, is_making, is_ok, with_made, makes, IsNew, Once}
 use Rattle.cj_world_laws.proofs.LegalLemmas.Callers.{idle}
 use Rattle.cj_world_laws.proofs.LegalLemmas.Inputs.{rests_exactly}
-use Rattle.cj_world_laws.proofs.LegalLemmas.Seated.{seats_agree}
+use Rattle.cj_world_laws.proofs.LegalLemmas.HeldSyncs.{syncs_agree}
 use Rattle.cj_world_laws.proofs.OnceLemmas.Whole.{both}
 use Rattle.cj_history.specs.store.Writes.{writes}
 use Rattle.cj_history.specs.progress.Undisturbed.{worker, entry, AreAside, Leads}
@@ -30,7 +31,7 @@ use Rattle.cj_history.specs.progress.Syncs.{calls_left, works_off, is_for, IsFor
 use Rattle.cj_history.proofs.StoreLemmas.Stores.{store_agrees}
 use Rattle.cj_history.proofs.StoreLemmas.Answered.{cron_keyed}
 use Rattle.cj_history.proofs.ProgressLemmas.Missed.{claims_due}
-use Rattle.cj_history.proofs.ProgressLemmas.Calls.{sat, claim_is}
+use Rattle.cj_history.proofs.ProgressLemmas.Calls.{in_flight, claim_is}
 use Rattle.cj_history.proofs.ProgressLemmas.Aside.{Same, same_aside, caller_is, ok_entered}
 use Rattle.cj_history.proofs.ProgressLemmas.Started.{IsRead, Starting, starting, plan_of, seen_in, plans_make_job}
 use Rattle.cj_history.proofs.GapsLemmas.Whole.{same_nat}
@@ -135,7 +136,8 @@ claim_aside window w k q [] h l a = refl
 claim_aside window w k q (e ∷ es) h l a = left (w == e.caller.number) refl ∙ claim_aside window w k q es h l.2 a.2
   where
     left : (b : Bool) → (w == e.caller.number) ≡ b
-        → cond b (claim_after (state_of window (es ++ h)).store e.call e.answer (claim_of window (es ++ h) w)) (claim_of window (es ++ h) w)
+        → cond b (claim_after (state_of window (es ++ h)).store e.call e.answer (claim_of window (es ++ h) w))
+        (claim_of window (es ++ h) w)
         ≡ claim_of window (es ++ h) w
     left true n =
         (idle window e (es ++ h) l (λ r. a.0 (caller_is w e.caller n r))).claims (claim_of window (es ++ h) w)
@@ -158,7 +160,8 @@ pub makes_after : (rs : List JobRef) (d : JobDraft) (xs : List Step) → Makes (
 makes_after [] d xs = tt
 makes_after (r ∷ rs) d xs = makes_after rs d xs
 
--- w is the worker, k its key, q the Job's name, m what it claims, and P what its calls are known to lead to.
+-- w is the worker, k its key, q the Job's name, m what it claims, and P what its calls are known to
+-- lead to.
 module _ (window w : ℕ) (k : Place) (q : Option Place) (m : Claimed) (P : List Told → Type 0) where
   -- A worker's accepted call after a legal history makes a legal one.
   legal_with : (h : List Told) (call : Call) → IsLegal window h → is_ok (answer_of window h (worker w) call) ≡ true
@@ -169,12 +172,14 @@ module _ (window w : ℕ) (k : Place) (q : Option Place) (m : Claimed) (P : List
   made_aside : (es h : List Told) → IsIn m (makes window h) → IsIn m (makes window (es ++ h))
   made_aside [] h i = i
   made_aside (e ∷ es) h i =
-      made_still m (is_making e) (claim_of window (es ++ h) e.caller.number) (makes window (es ++ h)) (made_aside es h i)
+      made_still m (is_making e) (claim_of window (es ++ h) e.caller.number) (makes window (es ++ h))
+      (made_aside es h i)
 
   -- Once it is made, the calls that are left lead to its being the only one.
   leads_kept : (calls : List Call) (h : List Told) → IsLegal window h → IsIn m (makes window h)
       → Leads window w k q h calls P → Leads window w k q h calls (IsOnly window m.owner m.time)
-  leads_kept [] h l i f = λ short planned. only_one m (makes window h) (distinct window h (both window h short l planned).0) i
+  leads_kept [] h l i f = λ short planned. only_one m (makes window h)
+      (distinct window h (both window h short l planned).0) i
   leads_kept (call ∷ calls) h l i f = λ es n a. (
       let r = f es n a in
       let x = entry window (es ++ h) w call in (
@@ -191,7 +196,8 @@ module _ (window w : ℕ) (k : Place) (q : Option Place) (m : Claimed) (P : List
   leads_made reasons (drops d ∷ xs) h l s c f = λ es n a. (
       let r = f es n a in (
         r.0,
-        leads_made reasons xs (entry window (es ++ h) w Of.DropNext ∷ (es ++ h)) (legal_with (es ++ h) Of.DropNext n r.0) s
+        leads_made reasons xs (entry window (es ++ h) w Of.DropNext ∷ (es ++ h))
+            (legal_with (es ++ h) Of.DropNext n r.0) s
             (either (w == w) (claim_of window (es ++ h) w) ∙ claim_aside window w k q es h n a ∙ c) r.1,
       ))
   leads_made reasons (makes_job d ∷ xs) h l s c f = λ es n a. (
@@ -205,7 +211,8 @@ module _ (window w : ℕ) (k : Place) (q : Option Place) (m : Claimed) (P : List
   leads_made reasons (sets g ∷ xs) h l s c f = λ es n a. (
       let r = f es n a in (
         r.0,
-        leads_made reasons xs (entry window (es ++ h) w Of.SetStatus ∷ (es ++ h)) (legal_with (es ++ h) Of.SetStatus n r.0) s
+        leads_made reasons xs (entry window (es ++ h) w Of.SetStatus ∷ (es ++ h))
+            (legal_with (es ++ h) Of.SetStatus n r.0) s
             (either (w == w) (claim_of window (es ++ h) w) ∙ claim_aside window w k q es h n a ∙ c) r.1,
       ))
 
@@ -230,18 +237,20 @@ pub claim_made : (window w : ℕ) (k : Place) (cron : CronJob) (h : List Told) �
     → claim_of window (entry window (es ++ h) w (Of.Claim p) ∷ (es ++ h)) w
     ≡ Some (record { owner = cron.meta.uid; time = time; policy = cron.spec.policy })
 claim_made window w k cron h l r p time f o q es n a =
-    let seat : seat_of (state_of window h) w ≡ Some (sat k (Checked p.cron p.jobs p.active)) =
-    seats_agree window h l w ∙ f.rests in
-    let seen : p.cron ≡ Some cron = sym (ap seen_in (sym r.seat ∙ seat)) in
+    let sync : sync_of (state_of window h) w ≡ Some (in_flight k (Checked p.cron p.jobs p.active)) =
+    syncs_agree window h l w ∙ f.rests in
+    let seen : p.cron ≡ Some cron = sym (ap seen_in (sym r.sync ∙ sync)) in
     let plan = plan_of p cron f.decided seen in
-    let claim = claims_due cron p.jobs p.active p.at p.zone p.steps o.zone time plan o.runs o.known o.latest o.allowed in
+    let claim = claims_due cron p.jobs p.active p.at p.zone p.steps o.zone time plan o.runs o.known o.latest o.allowed
+    in
     let key = cron_keyed (writes h) k cron (sym ((store_agrees window h l).crons k) ∙ r.stands) in
     let t : State = state_of window (es ++ h) in
     let same : Same w k q (state_of window h) t = same_aside window w k q es h n a in
-    let is = claim_is t w k p p.cron p.jobs p.active cron (claim_for cron time) (same.seat ∙ seat)
+    let is = claim_is t w k p p.cron p.jobs p.active cron (claim_for cron time) (same.sync ∙ sync)
     ((rests_exactly p p.cron p.jobs p.active).1 (refl, refl, refl)) claim seen (same.cron ∙ r.stands) in
     let was : Option Claimed = claim_of window (es ++ h) w in
-    ap (λ (b : Bool). cond b (claim_after t.store (Of.Claim p) (answer_of window (es ++ h) (worker w) (Of.Claim p)) was) was)
+    ap (λ (b : Bool). cond b (claim_after t.store (Of.Claim p) (answer_of window (es ++ h) (worker w) (Of.Claim p)) was)
+    was)
     (same_nat w)
     ∙ ap (λ (x : Handled). claim_after t.store (Of.Claim p) x.answer was) is
     ∙ ap (λ (c : Option CronJob). claimed_of t.store time c) seen
@@ -254,11 +263,12 @@ pub plans_make_one : (window w : ℕ) (k : Place) (cron : CronJob) (h : List Tol
 plans_make_one window w k cron h l r p time f o free =
     let q : Option Place = Some (made_place cron.key time) in
     let m : Claimed = record { owner = cron.meta.uid; time = time; policy = cron.spec.policy } in
-    let seat : seat_of (state_of window h) w ≡ Some (sat k (Checked p.cron p.jobs p.active)) =
-    seats_agree window h l w ∙ f.rests in
-    let seen : p.cron ≡ Some cron = sym (ap seen_in (sym r.seat ∙ seat)) in
+    let sync : sync_of (state_of window h) w ≡ Some (in_flight k (Checked p.cron p.jobs p.active)) =
+    syncs_agree window h l w ∙ f.rests in
+    let seen : p.cron ≡ Some cron = sym (ap seen_in (sym r.sync ∙ sync)) in
     let plan = plan_of p cron f.decided seen in
-    let claim = claims_due cron p.jobs p.active p.at p.zone p.steps o.zone time plan o.runs o.known o.latest o.allowed in
+    let claim = claims_due cron p.jobs p.active p.at p.zone p.steps o.zone time plan o.runs o.known o.latest o.allowed
+    in
     let start : Starting p cron (claim_for cron time) = starting p cron (claim_for cron time) f.decided seen claim in
     let later : List Step = map_list drops p.steps.cleanup ++ settings p.steps.status in
     let all : all_steps p.steps ≡ map_list drops p.steps.drop_first ++ (makes_job _ ∷ later) =

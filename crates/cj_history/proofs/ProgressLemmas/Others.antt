@@ -1,4 +1,5 @@
--- What others call leaves the times for which Jobs were made for a CronJob: during a sync of it, and between its syncs.
+-- What others call leaves the times for which Jobs were made for a CronJob: during a sync of it,
+-- and between its syncs.
 use Rattle.std.proofs.Common.{◌≡◌, ℕ, ◌<◌, ◌==◌, true, false, List, [], ◌∷◌, ◌++◌, Option, Some, None, refl, sym, ap, subst, ◌∙◌, arith}
 use Rattle.std.specs.Prelude.{IfSome}
 use Rattle.std.specs.FinMap as map
@@ -8,11 +9,11 @@ use Rattle.cj_types.specs.declared.event.Event.{Event}
 use Rattle.cj_decide.specs.laws.Fits.{upto}
 use Rattle.cj_decide.specs.laws.Laws.{IsIn}
 use Rattle.cj_calls.specs.Rows.{Told}
-use Rattle.cj_state.specs.declared.phases.seat.Seat.{Seat}
+use Rattle.cj_state.specs.declared.phases.sync.InFlight.{InFlight}
 use Rattle.cj_state.specs.Legal.{IsLegal, state_of}
-use Rattle.cj_world_laws.specs.legal.Seats.{seat}
+use Rattle.cj_world_laws.specs.legal.InFlightSyncs.{sync}
 use Rattle.cj_world_laws.specs.once.Once.{Claimed, makes}
-use Rattle.cj_world_laws.proofs.LegalLemmas.Seated.{one_holder}
+use Rattle.cj_world_laws.proofs.LegalLemmas.HeldSyncs.{one_holder}
 use Rattle.cj_world_laws.proofs.OnceLemmas.Facts.{EachTime}
 use Rattle.cj_history.specs.store.Written.{current_cron}
 use Rattle.cj_history.specs.store.Writes.{entry_written, with_write, writes}
@@ -20,7 +21,7 @@ use Rattle.cj_history.specs.progress.Undisturbed.{worker, object_of, is_of, AreA
 use Rattle.cj_history.specs.progress.Every.{AreOthers, times_of, made_for}
 use Rattle.cj_history.proofs.StoreLemmas.Stores.{store_agrees}
 use Rattle.cj_history.proofs.GapsLemmas.Whole.{same_nat}
-use Rattle.cj_history.proofs.ProgressLemmas.Aside.{caller_is, cron_aside, seat_aside, same_aside}
+use Rattle.cj_history.proofs.ProgressLemmas.Aside.{caller_is, cron_aside, sync_aside, same_aside}
 use Rattle.cj_history.proofs.ProgressLemmas.Makers.{Good, earlier, Makes, of_times, times_left}
 use Rattle.cj_history.proofs.ProgressLemmas.Restated.{Has}
 
@@ -28,8 +29,8 @@ use Rattle.cj_history.proofs.ProgressLemmas.Restated.{Has}
 
 -- the worker holds the key
 pub record Holds (h : List Told) (w : ℕ) (k : Place) : Type 0 where
-  pub sits : Seat
-  pub held : seat h w ≡ Some sits
+  pub sits : InFlight
+  pub held : sync h w ≡ Some sits
   pub key : sits.key ≡ k
 
 -- Equal numbers are equal by the test.
@@ -40,7 +41,8 @@ is_same a b e = ap (λ (x : ℕ). b == x) e ∙ same_nat b
 holder_makes : (window w : ℕ) (k : Place) (e : Told) (h : List Told) (c : CronJob) (m : Claimed) → IsLegal window h
     → Holds h w k → Makes window e h k c m → e.caller ≡ worker w
 holder_makes window w k e h c m l f x =
-    let one : e.caller.number ≡ w = one_holder window h l e.caller.number w x.sits f.sits x.held f.held (x.key ∙ sym f.key) in
+    let one : e.caller.number ≡ w = one_holder window h l e.caller.number w x.sits f.sits x.held f.held
+    (x.key ∙ sym f.key) in
     caller_is w e.caller (is_same e.caller.number w one) x.role
 
 -- What others call aside leaves the worker holding its key.
@@ -48,12 +50,13 @@ pub holds_aside : (window w : ℕ) (k : Place) (q : Option Place) (es h : List T
     → AreAside w k q es h → Holds h w k → Holds (es ++ h) w k
 holds_aside window w k q es h l a f = record {
   sits = f.sits;
-  held = seat_aside window w k q es h l a ∙ f.held;
+  held = sync_aside window w k q es h l a ∙ f.held;
   key = f.key;
 }
 
 -- It leaves the CronJob.
-pub has_aside : (window w : ℕ) (k : Place) (q : Option Place) (es h : List Told) (c : CronJob) → IsLegal window (es ++ h)
+pub has_aside : (window w : ℕ) (k : Place) (q : Option Place) (es h : List Told) (c : CronJob)
+    → IsLegal window (es ++ h)
     → AreAside w k q es h → Has window k c h → Has window k c (es ++ h)
 has_aside window w k q es h c l a f = record {
   now = f.now;
@@ -82,7 +85,8 @@ abbrev pub LastMade : ℕ → CronJob → List Told → Type 0
 LastMade window c h = IfSome c.status.last_schedule_time (λ t. IsIn t (made_for window c.meta.uid h))
 
 -- Where the last time has its Job, none is about to be made.
-none_made : (u : ℕ) (last : Option ℕ) (t : ℕ) (ms : List Claimed) → IfSome last (λ x. IsIn x (times_of u ms)) → t < upto last
+none_made : (u : ℕ) (last : Option ℕ) (t : ℕ) (ms : List Claimed) → IfSome last (λ x. IsIn x (times_of u ms))
+    → t < upto last
     → EachTime u (λ x. x < t) ms → ⊥
 none_made u None t ms f l a = absurd (omega (arith, l))
 none_made u (Some x) t ms f l a = let b = of_times u (λ y. y < t) ms x a f in absurd (omega (arith, l, b))
@@ -102,7 +106,8 @@ others_cron window k es h l m a =
     by : (xs : List Told) → AreOthers k xs h → current_cron (writes (xs ++ h)) k ≡ current_cron (writes h) k
     by [] b = refl
     by (x ∷ xs) b =
-        cron_with k (writes (xs ++ h)) (entry_written (writes (xs ++ h)) (seat (xs ++ h) x.caller.number) x.call x.answer) b.0
+        cron_with k (writes (xs ++ h)) (entry_written (writes (xs ++ h)) (sync (xs ++ h) x.caller.number) x.call
+        x.answer) b.0
         ∙ by xs b.1
 
 -- They leave the times that were made for it, where its last time has its Job.
@@ -120,6 +125,7 @@ others_times window k (e ∷ es) h c g a at f =
     ∙ rest
   where
     last_still : (o : Option ℕ) → made_for window c.meta.uid (es ++ h) ≡ made_for window c.meta.uid h
-        → IfSome o (λ t. IsIn t (made_for window c.meta.uid h)) → IfSome o (λ t. IsIn t (made_for window c.meta.uid (es ++ h)))
+        → IfSome o (λ t. IsIn t (made_for window c.meta.uid h))
+        → IfSome o (λ t. IsIn t (made_for window c.meta.uid (es ++ h)))
     last_still None e n = tt
     last_still (Some t) e n = subst (λ (l : List ℕ). IsIn t l) (sym e) n

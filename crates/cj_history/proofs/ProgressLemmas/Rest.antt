@@ -19,18 +19,18 @@ use Rattle.cj_decide.proofs.LawsLemmas.Ends.{cleans_finished}
 use Rattle.cj_calls.specs.declared.call.Call.TheVariants as Of
 use Rattle.cj_calls.specs.Rows.{Told}
 use Rattle.cj_state.specs.phases.Steps.{Step, drops, sets, makings, settings, all_steps}
-use Rattle.cj_state.specs.declared.phases.seat.Phase.TheVariants.{Checked}
+use Rattle.cj_state.specs.declared.phases.sync.Phase.TheVariants.{Checked}
 use Rattle.cj_state.specs.declared.state.State.{State}
-use Rattle.cj_state.specs.WorkerCalls.{seat_of, seated, works, seen_version}
+use Rattle.cj_state.specs.WorkerCalls.{sync_of, with_sync, works, seen_version}
 use Rattle.cj_state.specs.Legal.{IsLegal, state_of}
 use Rattle.cj_world_laws.proofs.LegalLemmas.Inputs.{rests_exactly}
-use Rattle.cj_world_laws.proofs.LegalLemmas.Seated.{seats_agree}
-use Rattle.cj_world_laws.proofs.OnceLemmas.Maps.{put_here, seat_here}
+use Rattle.cj_world_laws.proofs.LegalLemmas.HeldSyncs.{syncs_agree}
+use Rattle.cj_world_laws.proofs.OnceLemmas.Maps.{put_here, sync_here}
 use Rattle.cj_history.specs.store.Writes.{writes}
 use Rattle.cj_history.specs.progress.Syncs.{calls_left, works_off, IsUnclaimed, IsTidied, PlansRest}
 use Rattle.cj_history.proofs.StoreLemmas.Stores.{store_agrees}
 use Rattle.cj_history.proofs.StoreLemmas.Answered.{cron_keyed}
-use Rattle.cj_history.proofs.ProgressLemmas.Calls.{sat, claim_none_is, Dropped, absent, found}
+use Rattle.cj_history.proofs.ProgressLemmas.Calls.{in_flight, claim_none_is, Dropped, absent, found}
 use Rattle.cj_history.proofs.ProgressLemmas.Aside.{AreKeyed, Goes, goes, goes_leads}
 use Rattle.cj_history.proofs.ProgressLemmas.Steps.{Going, drops_go, status_goes, finish_goes}
 use Rattle.cj_history.proofs.ProgressLemmas.Tidy.{IsTidy, tidy_still, tidy_kept, tidied, still_gone}
@@ -54,8 +54,11 @@ final_rest p cron d claim f is =
     ap (λ (x : CronStatus). x.last_schedule_time) step.0
     ∙ ap (λ (o : Option Claim). (standing cron o).last_schedule_time) none
 
--- w is the worker, k its key, cron the CronJob, p the plan; so many uids were given out when the Jobs were listed.
-module _ (u w : ℕ) (k : Place) (cron : CronJob) (p : Planned) (key : cron.key ≡ k) (seen : p.cron ≡ Some cron) (rests : (f : CronStatus) → p.steps.status ≡ Some f → f.last_schedule_time ≡ cron.status.last_schedule_time) (old : (r : JobRef) → IsIn r p.steps.cleanup → r.uid ≤ u) where
+-- w is the worker, k its key, cron the CronJob, p the plan; so many uids were given out when the
+-- Jobs were listed.
+module _ (u w : ℕ) (k : Place) (cron : CronJob) (p : Planned) (key : cron.key ≡ k) (seen : p.cron ≡ Some cron)
+    (rests : (f : CronStatus) → p.steps.status ≡ Some f → f.last_schedule_time ≡ cron.status.last_schedule_time)
+    (old : (r : JobRef) → IsIn r p.steps.cleanup → r.uid ≤ u) where
   abbrev T : State → Type 0
   T t = IsUnclaimed t.store k cron × IsTidied p.steps.cleanup t.store
 
@@ -121,7 +124,7 @@ module _ (u w : ℕ) (k : Place) (cron : CronJob) (p : Planned) (key : cron.key 
       (drops_go w k None p cron.meta.version p.steps.reasons T Left
       (λ rs s a same f. (same.cron ∙ f.0, tidy_still w u k None p.steps.cleanup old rs s a same f.1))
       (λ r rs a b d f. (cron_kept k cron r a b d f.0, tidy_kept u p.steps.cleanup r rs a b d f.1)) p.steps.cleanup
-      (settings p.steps.status) [] t (record { seat = g.seat; all = all })
+      (settings p.steps.status) [] t (record { sync = g.sync; all = all })
       (at, record { uids = low; keys = keys; gone = λ r i. inl i })
       (λ a e g2 f. settle_rest p.steps.status refl e a g2 f))
 
@@ -130,8 +133,8 @@ pub plans_rest : (window w : ℕ) (k : Place) (cron : CronJob) (h : List Told) �
     → IsRead w k cron (state_of window h) → PlansRest window w k cron h
 plans_rest window w k cron h l r p f claim =
     let s : State = state_of window h in
-    let seat : seat_of s w ≡ Some (sat k (Checked p.cron p.jobs p.active)) = seats_agree window h l w ∙ f.rests in
-    let two = sym r.seat ∙ seat in
+    let sync : sync_of s w ≡ Some (in_flight k (Checked p.cron p.jobs p.active)) = syncs_agree window h l w ∙ f.rests in
+    let two = sym r.sync ∙ sync in
     let seen : p.cron ≡ Some cron = sym (ap seen_in two) in
     let listed : p.jobs ≡ r.jobs = sym (ap listed_in two) in
     let plan = plan_of p cron f.decided seen in
@@ -149,14 +152,14 @@ plans_rest window w k cron h l r p f claim =
           (goes w k None s (Of.Claim p) (calls_left p.steps.reasons (all_steps p.steps))
           (λ t. IsUnclaimed t.store k cron × IsTidied p.steps.cleanup t.store) (λ t same. record {
             handled = _;
-            is = claim_none_is t w k p p.cron p.jobs p.active (same.seat ∙ seat)
+            is = claim_none_is t w k p p.cron p.jobs p.active (same.sync ∙ sync)
                 ((rests_exactly p p.cron p.jobs p.active).1 (refl, refl, refl)) claim;
             accepted = refl;
             goes = rest_goes s.store.uids w k cron p key seen (final_rest p cron plan claim) old
-                (seated t w k (works p (seen_version p.cron) 0)) none.make none.drops
+                (with_sync t w k (works p (seen_version p.cron) 0)) none.make none.drops
                 (record {
-                  seat = seat_here t.seats w (sat k (works p (seen_version p.cron) 0))
-                      ∙ ap (λ (o : Option CronJob). Some (sat k (works p (seen_version o) 0))) seen;
+                  sync = sync_here t.syncs w (in_flight k (works p (seen_version p.cron) 0))
+                      ∙ ap (λ (o : Option CronJob). Some (in_flight k (works p (seen_version o) 0))) seen;
                   all = refl;
                 })
                 (same.cron ∙ r.stands) same.more same.keys;

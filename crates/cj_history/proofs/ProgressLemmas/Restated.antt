@@ -1,4 +1,5 @@
--- What a worker's calls, and calls that don't write it, leave of a CronJob: all but its status and its version.
+-- What a worker's calls, and calls that don't write it, leave of a CronJob: all but its status and
+-- its version.
 use Rattle.std.proofs.Common.{◌≡◌, ℕ, Bool, true, false, cond, List, ◌∷◌, Option, Some, None, option_map, refl, sym, ap, subst, ◌∙◌}
 use Rattle.std.specs.Prelude.{Result, Ok, Err}
 use Rattle.std.specs.FinMap as map
@@ -18,18 +19,19 @@ use Rattle.cj_calls.specs.declared.reply.Reply.{Reply}
 use Rattle.cj_calls.specs.declared.reply.Reply.TheVariants as Is
 use Rattle.cj_calls.specs.Rows.{Told}
 use Rattle.cj_state.specs.phases.Steps.{Step, drops, makes, sets, step_at}
-use Rattle.cj_state.specs.declared.phases.seat.Phase.{Phase}
-use Rattle.cj_state.specs.declared.phases.seat.Phase.TheVariants.{Works}
-use Rattle.cj_state.specs.declared.phases.seat.Seat.{Seat}
+use Rattle.cj_state.specs.declared.phases.sync.Phase.{Phase}
+use Rattle.cj_state.specs.declared.phases.sync.Phase.TheVariants.{Works}
+use Rattle.cj_state.specs.declared.phases.sync.InFlight.{InFlight}
 use Rattle.cj_state.specs.Legal.{IsLegal, state_of}
 use Rattle.cj_world_laws.specs.legal.Callers.{is_of_sync}
-use Rattle.cj_world_laws.specs.legal.Seats.{seat}
+use Rattle.cj_world_laws.specs.legal.InFlightSyncs.{sync}
 use Rattle.cj_history.specs.store.Written.{current_cron, current_job, written_again, status_set, job_deleted}
 use Rattle.cj_history.specs.store.Writes.{claimed, stepped, stepped_in, stepped_by, written_by, entry_written, with_write, writes}
 use Rattle.cj_history.proofs.StoreLemmas.Stores.{store_agrees}
 use Rattle.cj_history.proofs.StoreLemmas.Answered.{cron_keyed}
 
--- one CronJob is another but for its status, its version, and what of its metadata plays no part here
+-- one CronJob is another but for its status, its version, and what of its metadata plays no part
+-- here
 pub record IsRestated (old new : CronJob) : Type 0 where
   pub key : new.key ≡ old.key
   pub spec : new.spec ≡ old.spec
@@ -79,7 +81,7 @@ module _ (ws : List Event) (k : Place) (c : CronJob) (at : current_cron ws k ≡
   gone_stays (Some j) = (c, at, itself c)
 
   -- A claim leaves it so.
-  claim_stays : (o : Option Seat) (y : Option Claim) → Stays (with_write (claimed ws o y) ws) k c
+  claim_stays : (o : Option InFlight) (y : Option Claim) → Stays (with_write (claimed ws o y) ws) k c
   claim_stays None y = (c, at, itself c)
   claim_stays (Some s) None = (c, at, itself c)
   claim_stays (Some s) (Some y) = status_stays s.key y.status
@@ -91,23 +93,23 @@ module _ (ws : List Event) (k : Place) (c : CronJob) (at : current_cron ws k ≡
   step_stays i p (Some (makes d)) = (c, at, itself c)
   step_stays i p (Some (sets st)) = status_stays i st
 
-  -- For seat_stays: by the phase.
+  -- For sync_stays: by the phase.
   phase_stays : (i : Place) (p : Phase) → Stays (with_write (stepped_in ws i p) ws) k c
   phase_stays i (Works work) = step_stays i work.plan (step_at work.plan.steps work.place)
   phase_stays i p = (c, at, itself c)
 
-  -- For call_stays: by the seat.
-  seat_stays : (o : Option Seat) → Stays (with_write (stepped_by ws o) ws) k c
-  seat_stays None = (c, at, itself c)
-  seat_stays (Some s) = phase_stays s.key s.phase
+  -- For call_stays: by the sync.
+  sync_stays : (o : Option InFlight) → Stays (with_write (stepped_by ws o) ws) k c
+  sync_stays None = (c, at, itself c)
+  sync_stays (Some s) = phase_stays s.key s.phase
 
   -- So does each accepted call of a sync.
-  call_stays : (o : Option Seat) (call : Call) (r : Reply) → is_of_sync call ≡ true
+  call_stays : (o : Option InFlight) (call : Call) (r : Reply) → is_of_sync call ≡ true
       → Stays (with_write (written_by ws o call r) ws) k c
   call_stays o (Of.Claim p) (Is.Claimed (Some y)) i = claim_stays o p.steps.claim
-  call_stays o Of.DropNext (Is.Dropped (Some d)) i = seat_stays o
-  call_stays o Of.MakeNext r i = seat_stays o
-  call_stays o Of.SetStatus r i = seat_stays o
+  call_stays o Of.DropNext (Is.Dropped (Some d)) i = sync_stays o
+  call_stays o Of.MakeNext r i = sync_stays o
+  call_stays o Of.SetStatus r i = sync_stays o
   call_stays o Of.Take r i = (c, at, itself c)
   call_stays o Of.SeeCron r i = (c, at, itself c)
   call_stays o Of.SeeJobs r i = (c, at, itself c)
@@ -118,7 +120,7 @@ module _ (ws : List Event) (k : Place) (c : CronJob) (at : current_cron ws k ≡
   call_stays o call r i = absurd (cc i)
 
   -- And each call of a sync, accepted or refused.
-  entry_stays : (o : Option Seat) (call : Call) (a : Result Reply Refusal) → is_of_sync call ≡ true
+  entry_stays : (o : Option InFlight) (call : Call) (a : Result Reply Refusal) → is_of_sync call ≡ true
       → Stays (with_write (entry_written ws o call a) ws) k c
   entry_stays o call (Ok r) i = call_stays o call r i
   entry_stays o call (Err e) i = (c, at, itself c)
@@ -136,7 +138,7 @@ pub has_after : (window : ℕ) (k : Place) (c : CronJob) (e : Told) (h : List To
     → is_of_sync e.call ≡ true → Has window k c h → Has window k c (e ∷ h)
 has_after window k c e h l i f =
     let old : current_cron (writes h) k ≡ Some f.now = sym ((store_agrees window h l.2).crons k) ∙ f.stands in
-    let new = entry_stays (writes h) k f.now old (seat h e.caller.number) e.call e.answer i in
+    let new = entry_stays (writes h) k f.now old (sync h e.caller.number) e.call e.answer i in
     record {
       now = new.0;
       stands = (store_agrees window (e ∷ h) l).crons k ∙ new.1;

@@ -71,7 +71,8 @@ none_for : (n : ℕ) (ms : List Claimed) → AllByRecursion (λ x. x.owner ≤ n
 none_for n [] a = refl
 none_for n (m ∷ ms) a = by (m.owner == n + 1) refl (none_for n ms a.1)
   where
-    by : (b : Bool) → (m.owner == n + 1) ≡ b → times_of (n + 1) ms ≡ [] → cond b (m.time ∷ times_of (n + 1) ms) (times_of (n + 1) ms) ≡ []
+    by : (b : Bool) → (m.owner == n + 1) ≡ b → times_of (n + 1) ms ≡ []
+        → cond b (m.time ∷ times_of (n + 1) ms) (times_of (n + 1) ms) ≡ []
     by true e rest = let same = eqb-true m.owner (n + 1) e in let low = a.0 in absurd (omega (arith, same, low))
     by false e rest = rest
 
@@ -101,9 +102,11 @@ fresh window h k cron s n good =
     let m = created st e.caller.role e.caller.number n.draft n.now cron told in
     let uid : cron.meta.uid ≡ st.store.uids + 1 = ap (λ (c : CronJob). c.meta.uid) m.0 in
     let none : made_for window cron.meta.uid (e ∷ n.before) ≡ [] =
-    ap (λ (c : Call). times_of cron.meta.uid (with_made (makes_with c e.answer) (claim_of window n.before e.caller.number) (makes window n.before))) n.call
+    ap (λ (c : Call). times_of cron.meta.uid (with_made (makes_with c e.answer)
+    (claim_of window n.before e.caller.number) (makes window n.before))) n.call
     ∙ (ap (λ (u : ℕ). times_of u (makes window n.before)) uid
-    ∙ none_for st.store.uids (makes window n.before) (facts window n.before (earlier window (e ∷ []) n.before good)).now.inv.store.made) in
+    ∙ none_for st.store.uids (makes window n.before)
+    (facts window n.before (earlier window (e ∷ []) n.before good)).now.inv.store.made) in
     record {
       begun = record {
         stands = ap (map.get (state_of window (e ∷ n.before)).store.crons) (sym n.key)
@@ -121,7 +124,8 @@ fresh window h k cron s n good =
 pub every_time_since : EveryTimeSince
 every_time_since window start g k cron s z ts short legal planned n on y =
     let good : Good window g = record { short = short; legal = legal; planned = planned } in
-    let whole : Good window (n.creation ∷ n.before) = subst (Good window) n.is (synced_begun window k z start ts g good y) in
+    let whole : Good window (n.creation ∷ n.before)
+    = subst (Good window) n.is (synced_begun window k z start ts g good y) in
     let f = fresh window start k cron s n whole in
     let r = every_time window (n.creation ∷ n.before) g k cron s z ts short legal planned f.begun on
     (subst (λ (h : List Told). Synced window k z h ts g) n.is y) in

@@ -1,4 +1,5 @@
--- A sync whose plan claims a time makes its Job, where the name is free, whatever others call aside.
+-- A sync whose plan claims a time makes its Job, where the name is free, whatever others call
+-- aside.
 use Rattle.std.proofs.Common.{◌≡◌, ◌≢◌, ◌⊎◌, inl, inr, ℕ, ◌+◌, ◌<◌, ◌≤◌, Bool, true, false, cond, ◌&&◌, List, [], ◌∷◌, ◌++◌, map as map_list, Option, Some, None, refl, sym, ap, subst, ◌∙◌, arith}
 use Rattle.std.specs.Prelude.{if◌then◌else◌}
 use Rattle.std.proofs.lemmas.Slice.Eq.{bytes_eq-Decides}
@@ -39,16 +40,16 @@ use Rattle.cj_decide.proofs.LawsLemmas.Fitting.{decided_fits}
 use Rattle.cj_calls.specs.declared.call.Call.TheVariants as Of
 use Rattle.cj_calls.specs.Rows.{Told}
 use Rattle.cj_state.specs.phases.Steps.{Step, drops, makes, sets, makings, settings, all_steps}
-use Rattle.cj_state.specs.declared.phases.seat.Seat.{Seat}
-use Rattle.cj_state.specs.declared.phases.seat.Phase.{Phase}
-use Rattle.cj_state.specs.declared.phases.seat.Phase.TheVariants.{Held, Seen, Listed, Checked}
+use Rattle.cj_state.specs.declared.phases.sync.InFlight.{InFlight}
+use Rattle.cj_state.specs.declared.phases.sync.Phase.{Phase}
+use Rattle.cj_state.specs.declared.phases.sync.Phase.TheVariants.{Held, Seen, Listed, Checked}
 use Rattle.cj_state.specs.declared.state.State.{State}
 use Rattle.cj_state.specs.Readings.{listed_of, if_mine, active_job, active_of}
-use Rattle.cj_state.specs.WorkerCalls.{seat_of, seated, written, works}
+use Rattle.cj_state.specs.WorkerCalls.{sync_of, with_sync, written, works}
 use Rattle.cj_state.specs.Legal.{IsLegal, state_of}
 use Rattle.cj_world_laws.proofs.LegalLemmas.Inputs.{rests_exactly}
-use Rattle.cj_world_laws.proofs.LegalLemmas.Seated.{seats_agree}
-use Rattle.cj_world_laws.proofs.OnceLemmas.Maps.{put_at, put_here, removal_at, removal_other, seat_here}
+use Rattle.cj_world_laws.proofs.LegalLemmas.HeldSyncs.{syncs_agree}
+use Rattle.cj_world_laws.proofs.OnceLemmas.Maps.{put_at, put_here, removal_at, removal_other, sync_here}
 use Rattle.cj_history.specs.store.Writes.{writes}
 use Rattle.cj_history.specs.progress.Syncs.{calls_left, readings, works_off, IsStarted, IsTidied, IsReplaced, IsMade, PlansMakeJob}
 use Rattle.cj_history.proofs.StoreLemmas.Stores.{store_agrees}
@@ -56,7 +57,7 @@ use Rattle.cj_history.proofs.StoreLemmas.Answered.{cron_keyed}
 use Rattle.cj_history.proofs.ProgressLemmas.Missed.{claims_due}
 use Rattle.cj_history.proofs.ProgressLemmas.Ages.{IsSettled}
 use Rattle.cj_history.proofs.ProgressLemmas.Fair.{all_of_one}
-use Rattle.cj_history.proofs.ProgressLemmas.Calls.{sat, see_cron_is, see_jobs_is, see_active_is, claim_is, Dropped, absent, found}
+use Rattle.cj_history.proofs.ProgressLemmas.Calls.{in_flight, see_cron_is, see_jobs_is, see_active_is, claim_is, Dropped, absent, found}
 use Rattle.cj_history.proofs.ProgressLemmas.Aside.{AreKeyed, Same, Goes, goes, goes_leads}
 use Rattle.cj_history.proofs.ProgressLemmas.Tidy.{IsTidy, tidy_still, tidy_kept, tidy_made, tidied, still_gone}
 use Rattle.cj_history.proofs.ProgressLemmas.Steps.{Going, drops_go, make_goes, status_goes, finish_goes}
@@ -76,7 +77,8 @@ off_none true o e = refl
 off_none false o e = e
 
 -- A drop leaves the name free.
-free_kept : (u : ℕ) (k : Place) (c : CronJob) (q : Place) (r : JobRef) (rs : List JobRef) (a b : Content) → Dropped a r b
+free_kept : (u : ℕ) (k : Place) (c : CronJob) (q : Place) (r : JobRef) (rs : List JobRef) (a b : Content)
+    → Dropped a r b
     → IsFree u k c q (r ∷ rs) a → IsFree u k c q rs b
 free_kept u k c q r rs a b (absent e n) f =
     subst (IsFree u k c q rs) (sym e) (record { free = f.free; cron = f.cron; uids = f.uids; keys = f.keys })
@@ -101,7 +103,8 @@ free_still w u k c q rs s t same f = record {
 -- ---- after it is made
 
 -- the Job stands, which is newer than those that are still to be dropped, and its CronJob
-pub record IsThere (u : ℕ) (k : Place) (c : CronJob) (q : Place) (j : Job) (rs : List JobRef) (s : Content) : Type 0 where
+pub record IsThere (u : ℕ) (k : Place) (c : CronJob) (q : Place) (j : Job) (rs : List JobRef) (s : Content)
+    : Type 0 where
   pub old : AllByRecursion (λ r. r.uid ≤ u) rs
   pub new : u < j.meta.uid
   pub job : map.get s.jobs q ≡ Some j
@@ -203,7 +206,8 @@ starting p cron y decided seen claim =
     let latest = claims_latest cron p.jobs p.active p.at p.zone p.steps y plan claim in
     let fits : Starts p cron y = subst (FitsWith p cron) claim (subst (FitsFor p) seen (decided_fits p decided)).0 in
     let made = fits.makes (draft_of cron y.time) latest.make in
-    let last : y.status.last_schedule_time ≡ Some y.time = ap (λ (x : CronStatus). x.last_schedule_time) latest.status in
+    let last : y.status.last_schedule_time ≡ Some y.time
+    = ap (λ (x : CronStatus). x.last_schedule_time) latest.status in
     record {
       make = latest.make;
       last = last;
@@ -228,7 +232,8 @@ found_low s uid namespace (n ∷ names) f j h =
   where
     here : (x : Job) → map.get s.jobs (place namespace n) ≡ Some x → (b : Bool)
         → (IsIn j (present (map_list (active_job s uid namespace) names)) → j.meta.uid ≤ s.uids)
-        → IsIn j (present ((if b then Some x else None) ∷ map_list (active_job s uid namespace) names)) → j.meta.uid ≤ s.uids
+        → IsIn j (present ((if b then Some x else None) ∷ map_list (active_job s uid namespace) names))
+        → j.meta.uid ≤ s.uids
     here x e true rest (inl same) = subst (λ (z : Job). z.meta.uid ≤ s.uids) same (f (place namespace n) x e)
     here x e true rest (inr i) = rest i
     here x e false rest i = rest i
@@ -239,11 +244,12 @@ found_low s uid namespace (n ∷ names) f j h =
     by None e rest i = rest i
     by (Some x) e rest i = here x e (is_mine uid x) rest i
 
--- what a worker that made its readings knows: its CronJob stands, and the Jobs that were listed have uids that were given out
+-- what a worker that made its readings knows: its CronJob stands, and the Jobs that were listed
+-- have uids that were given out
 pub record IsRead (w : ℕ) (k : Place) (cron : CronJob) (s : State) : Type 0 where
   pub jobs : List Job
   pub live : List (Option Job)
-  pub seat : seat_of s w ≡ Some (sat k (Checked (Some cron) jobs live))
+  pub sync : sync_of s w ≡ Some (in_flight k (Checked (Some cron) jobs live))
   pub stands : map.get s.store.crons k ≡ Some cron
   pub old : (j : Job) → IsIn j jobs → j.meta.uid ≤ s.store.uids
   pub low : (j : Job) → IsIn j (present live) → j.meta.uid ≤ s.store.uids
@@ -252,18 +258,18 @@ pub record IsRead (w : ℕ) (k : Place) (cron : CronJob) (s : State) : Type 0 wh
 -- w is the worker, k its key, and cron the CronJob there.
 module _ (w : ℕ) (k : Place) (cron : CronJob) where
   -- A SeeActive after the listing ends the readings.
-  active_goes : (s : State) (js : List Job) → seat_of s w ≡ Some (sat k (Listed (Some cron) js))
+  active_goes : (s : State) (js : List Job) → sync_of s w ≡ Some (in_flight k (Listed (Some cron) js))
       → map.get s.store.crons k ≡ Some cron → ((j : Job) → IsIn j js → j.meta.uid ≤ s.store.uids)
       → ((j : Job) → IsIn j js → IsSettled j s.store)
       → Goes w k None s (Of.SeeActive ∷ []) (IsRead w k cron)
-  active_goes s js seat at old ends = goes w k None s Of.SeeActive [] (IsRead w k cron) (λ t same. record {
+  active_goes s js sync at old ends = goes w k None s Of.SeeActive [] (IsRead w k cron) (λ t same. record {
     handled = _;
-    is = see_active_is t w k (Some cron) js (same.seat ∙ seat);
+    is = see_active_is t w k (Some cron) js (same.sync ∙ sync);
     accepted = refl;
     goes = record {
       jobs = js;
       live = active_of t.store (Some cron);
-      seat = seat_here t.seats w (sat k (Checked (Some cron) js (active_of t.store (Some cron))));
+      sync = sync_here t.syncs w (in_flight k (Checked (Some cron) js (active_of t.store (Some cron))));
       stands = same.cron ∙ at;
       settled = λ j i. same.ages j (old j i) (ends j i);
       old = λ j i. (let a = old j i in let b = same.more in omega (arith, a, b));
@@ -272,28 +278,30 @@ module _ (w : ℕ) (k : Place) (cron : CronJob) where
   })
 
   -- A SeeJobs after the CronJob was seen, and the SeeActive after it, are answered.
-  jobs_go : (s : State) → seat_of s w ≡ Some (sat k (Seen (Some cron))) → map.get s.store.crons k ≡ Some cron
+  jobs_go : (s : State) → sync_of s w ≡ Some (in_flight k (Seen (Some cron))) → map.get s.store.crons k ≡ Some cron
       → Goes w k None s (Of.SeeJobs ∷ Of.SeeActive ∷ []) (IsRead w k cron)
-  jobs_go s seat at = goes w k None s Of.SeeJobs (Of.SeeActive ∷ []) (IsRead w k cron) (λ t same. record {
+  jobs_go s sync at = goes w k None s Of.SeeJobs (Of.SeeActive ∷ []) (IsRead w k cron) (λ t same. record {
     handled = _;
-    is = see_jobs_is t w k (Some cron) (same.seat ∙ seat);
+    is = see_jobs_is t w k (Some cron) (same.sync ∙ sync);
     accepted = refl;
-    goes = active_goes (seated t w k (Listed (Some cron) (listed_of t k))) (listed_of t k)
-        (seat_here t.seats w (sat k (Listed (Some cron) (listed_of t k)))) (same.cron ∙ at) same.given same.settled;
+    goes = active_goes (with_sync t w k (Listed (Some cron) (listed_of t k))) (listed_of t k)
+        (sync_here t.syncs w (in_flight k (Listed (Some cron) (listed_of t k))))
+        (same.cron ∙ at) same.given same.settled;
   })
 
   -- After its Take a worker's readings are answered.
-  pub readings_go : (s : State) → seat_of s w ≡ Some (sat k Held) → map.get s.store.crons k ≡ Some cron
+  pub readings_go : (s : State) → sync_of s w ≡ Some (in_flight k Held) → map.get s.store.crons k ≡ Some cron
       → Goes w k None s readings (IsRead w k cron)
-  readings_go s seat at = goes w k None s Of.SeeCron (Of.SeeJobs ∷ Of.SeeActive ∷ []) (IsRead w k cron) (λ t same. record {
-    handled = _;
-    is = see_cron_is t w k (same.seat ∙ seat);
-    accepted = refl;
-    goes = jobs_go (seated t w k (Seen (map.get t.store.crons k)))
-        (seat_here t.seats w (sat k (Seen (map.get t.store.crons k)))
-        ∙ ap (λ (o : Option CronJob). Some (sat k (Seen o))) (same.cron ∙ at))
-        (same.cron ∙ at);
-  })
+  readings_go s sync at = goes w k None s Of.SeeCron (Of.SeeJobs ∷ Of.SeeActive ∷ []) (IsRead w k cron)
+      (λ t same. record {
+        handled = _;
+        is = see_cron_is t w k (same.sync ∙ sync);
+        accepted = refl;
+        goes = jobs_go (with_sync t w k (Seen (map.get t.store.crons k)))
+            (sync_here t.syncs w (in_flight k (Seen (map.get t.store.crons k)))
+            ∙ ap (λ (o : Option CronJob). Some (in_flight k (Seen o))) (same.cron ∙ at))
+            (same.cron ∙ at);
+      })
 
 -- ---- the steps
 
@@ -306,9 +314,10 @@ in_right x (y ∷ xs) ys i = inr (in_right x xs ys i)
 abbrev pub all_dropped : Planned → List JobRef
 all_dropped p = p.steps.drop_first ++ p.steps.cleanup
 
--- s is the state at the claim, w the worker, k the key, cron its CronJob, p the plan, and y its claim; so many uids were
--- given out when the Jobs were listed.
-module _ (s : State) (u w : ℕ) (k : Place) (cron : CronJob) (p : Planned) (y : Claim) (start : Starting p cron y) (key : cron.key ≡ k) (seen : p.cron ≡ Some cron) (olds : (r : JobRef) → IsIn r (all_dropped p) → r.uid ≤ u) where
+-- s is the state at the claim, w the worker, k the key, cron its CronJob, p the plan, and y its
+-- claim; so many uids were given out when the Jobs were listed.
+module _ (s : State) (u w : ℕ) (k : Place) (cron : CronJob) (p : Planned) (y : Claim) (start : Starting p cron y)
+    (key : cron.key ≡ k) (seen : p.cron ≡ Some cron) (olds : (r : JobRef) → IsIn r (all_dropped p) → r.uid ≤ u) where
   -- the CronJob that the claim leaves
   abbrev new : CronJob
   new = with_status s.store y.status cron
@@ -362,7 +371,8 @@ module _ (s : State) (u w : ℕ) (k : Place) (cron : CronJob) (p : Planned) (y :
       → Going w k p v t e (sets st ∷ []) → Left j [] t.store
       → Goes w k (Some d.key) t (calls_left p.steps.reasons (sets st ∷ [])) Q
   settle_some st is j e t runs g f =
-      status_goes w k (Some d.key) p v p.steps.reasons Q st cron new e t g seen f.0.cron refl refl (λ a b e2 same g2 left.
+      status_goes w k (Some d.key) p v p.steps.reasons Q st cron new e t g seen f.0.cron refl refl
+      (λ a b e2 same g2 left.
       finish_goes w k (Some d.key) p v p.steps.reasons Q e2 b g2 (λ a2 z same2 left2.
       let jobs : map.get b.store.jobs d.key ≡ Some j =
       ap (λ (x : Content). map.get x.jobs d.key) left ∙ same.job ∙ f.0.job in
@@ -399,7 +409,8 @@ module _ (s : State) (u w : ℕ) (k : Place) (cron : CronJob) (p : Planned) (y :
       → Going w k p v z e (map_list drops p.steps.cleanup ++ settings p.steps.status)
       → z.store ≡ after t.store (job_added (new_job t.store d p.at)) → IsFree u k new d.key [] t.store
       → IsTidy u (all_dropped p) p.steps.cleanup t.store
-      → Goes w k (Some d.key) z (calls_left p.steps.reasons (map_list drops p.steps.cleanup ++ settings p.steps.status)) Q
+      → Goes w k (Some d.key) z (calls_left p.steps.reasons (map_list drops p.steps.cleanup ++ settings p.steps.status))
+      Q
   cleanup_goes e t z g is f tidy =
       let j : Job = new_job t.store d p.at in
       let there : IsThere u k new d.key j p.steps.cleanup (after t.store (job_added j)) =
@@ -423,7 +434,8 @@ module _ (s : State) (u w : ℕ) (k : Place) (cron : CronJob) (p : Planned) (y :
       → Goes w k (Some d.key) t
       (calls_left p.steps.reasons (makes d ∷ (map_list drops p.steps.cleanup ++ settings p.steps.status))) Q
   making_goes e t g f tidy =
-      make_goes w k (Some d.key) p v p.steps.reasons Q d (map_list drops p.steps.cleanup ++ settings p.steps.status) e t g (λ a same. same.job ∙ f.free)
+      make_goes w k (Some d.key) p v p.steps.reasons Q d (map_list drops p.steps.cleanup ++ settings p.steps.status) e t
+      g (λ a same. same.job ∙ f.free)
       (λ a z e2 same g2 is. cleanup_goes e2 a z g2 is (free_still w u k new d.key [] t a same f)
       (tidy_still w u k (Some d.key) (all_dropped p) olds p.steps.cleanup t a same tidy))
 
@@ -443,7 +455,7 @@ module _ (s : State) (u w : ℕ) (k : Place) (cron : CronJob) (p : Planned) (y :
         tidy_still w u k (Some d.key) (all_dropped p) olds (rs ++ p.steps.cleanup) a b same l.1,
       ))
       (λ r rs a b x l. (free_kept u k new d.key r rs a b x l.0, tidy_kept u (all_dropped p) r (rs ++ p.steps.cleanup) a b x l.1))
-      p.steps.drop_first (makes d ∷ later) [] t (record { seat = g.seat; all = all })
+      p.steps.drop_first (makes d ∷ later) [] t (record { sync = g.sync; all = all })
       (subst (Freed p.steps.drop_first) (sym is) (
         record {
           free = free;
@@ -462,8 +474,8 @@ abbrev pub seen_by : Phase → Option CronJob
 seen_by (Checked c js ks) = c
 seen_by p = None
 
--- the CronJob that was seen by one who has this seat
-abbrev pub seen_in : Option Seat → Option CronJob
+-- the CronJob that was seen by one who has this sync
+abbrev pub seen_in : Option InFlight → Option CronJob
 seen_in None = None
 seen_in (Some x) = seen_by x.phase
 
@@ -472,8 +484,8 @@ abbrev pub live_by : Phase → List (Option Job)
 live_by (Checked c js ks) = ks
 live_by p = []
 
--- what the live read found of one who has this seat
-abbrev pub live_in : Option Seat → List (Option Job)
+-- what the live read found of one who has this sync
+abbrev pub live_in : Option InFlight → List (Option Job)
 live_in None = []
 live_in (Some x) = live_by x.phase
 
@@ -482,36 +494,37 @@ abbrev pub listed_by : Phase → List Job
 listed_by (Checked c js ks) = js
 listed_by p = []
 
--- the Jobs that were listed by one who has this seat
-abbrev pub listed_in : Option Seat → List Job
+-- the Jobs that were listed by one who has this sync
+abbrev pub listed_in : Option InFlight → List Job
 listed_in None = []
 listed_in (Some x) = listed_by x.phase
 
 -- A plan for what its worker was answered makes the Job of its claim.
 works_off_go : (s : State) (w : ℕ) (k : Place) (cron : CronJob) (p : Planned) (y : Claim) (r : IsRead w k cron s)
     → Starting p cron y → cron.key ≡ k → p.cron ≡ Some cron → p.jobs ≡ r.jobs
-    → seat_of s w ≡ Some (sat k (Checked p.cron p.jobs p.active)) → p.steps.claim ≡ Some y
+    → sync_of s w ≡ Some (in_flight k (Checked p.cron p.jobs p.active)) → p.steps.claim ≡ Some y
     → map.get s.store.jobs (made_place cron.key y.time) ≡ None
     → ((x : JobRef) → IsIn x (all_dropped p) → x.uid ≤ s.store.uids)
     → Goes w k (Some (made_place cron.key y.time)) s (works_off p)
     (λ t. IsStarted t.store k cron y.time × IsTidied (all_dropped p) t.store)
-works_off_go s w k cron p y r start key seen listed seat claim free old =
+works_off_go s w k cron p y r start key seen listed sync claim free old =
     goes w k (Some (made_place cron.key y.time)) s (Of.Claim p) (calls_left p.steps.reasons (all_steps p.steps))
     (λ t. IsStarted t.store k cron y.time × IsTidied (all_dropped p) t.store) (λ t same.
-    let z : State = seated (written t (cron_modified (with_status t.store y.status cron))) w k
+    let z : State = with_sync (written t (cron_modified (with_status t.store y.status cron))) w k
     (works p (t.store.version + 1) 0) in
     record {
       handled = _;
-      is = claim_is t w k p p.cron p.jobs p.active cron y (same.seat ∙ seat)
+      is = claim_is t w k p p.cron p.jobs p.active cron y (same.sync ∙ sync)
           ((rests_exactly p p.cron p.jobs p.active).1 (refl, refl, refl)) claim seen (same.cron ∙ r.stands);
       accepted = refl;
       goes = steps_go t s.store.uids w k cron p y start key seen old z refl
-          (record { seat = seat_here t.seats w (sat k (works p (t.store.version + 1) 0)); all = refl })
+          (record { sync = sync_here t.syncs w (in_flight k (works p (t.store.version + 1) 0)); all = refl })
           same.keys (same.job ∙ free) same.more;
     })
 
 -- Where the uids of two lists were given out, those of both were.
-either_low : (u : ℕ) (xs ys : List JobRef) → ((x : JobRef) → IsIn x xs → x.uid ≤ u) → ((x : JobRef) → IsIn x ys → x.uid ≤ u)
+either_low : (u : ℕ) (xs ys : List JobRef) → ((x : JobRef) → IsIn x xs → x.uid ≤ u)
+    → ((x : JobRef) → IsIn x ys → x.uid ≤ u)
     → (x : JobRef) → IsIn x (xs ++ ys) → x.uid ≤ u
 either_low u xs ys f g x i = by (in_parts x xs ys i)
   where
@@ -543,18 +556,20 @@ replaced Allow running dropped s a g = tt
 replaced Forbid running dropped s a g = tt
 replaced Replace running dropped s a g = subst (λ (l : List JobRef). IsTidied l s) a g
 
--- For makes_job: after the readings, the plans for the answers make the Job of the latest time missed.
+-- For makes_job: after the readings, the plans for the answers make the Job of the latest time
+-- missed.
 pub plans_make_job : (window w : ℕ) (k : Place) (cron : CronJob) (h : List Told) → IsLegal window h
     → IsRead w k cron (state_of window h) → PlansMakeJob window w k cron h
 plans_make_job window w k cron h l r p time f o free =
-    let seat : seat_of (state_of window h) w ≡ Some (sat k (Checked p.cron p.jobs p.active)) =
-    seats_agree window h l w ∙ f.rests in
-    let two = sym r.seat ∙ seat in
+    let sync : sync_of (state_of window h) w ≡ Some (in_flight k (Checked p.cron p.jobs p.active)) =
+    syncs_agree window h l w ∙ f.rests in
+    let two = sym r.sync ∙ sync in
     let seen : p.cron ≡ Some cron = sym (ap seen_in two) in
     let listed : p.jobs ≡ r.jobs = sym (ap listed_in two) in
     let live : p.active ≡ r.live = sym (ap live_in two) in
     let plan = plan_of p cron f.decided seen in
-    let claim = claims_due cron p.jobs p.active p.at p.zone p.steps o.zone time plan o.runs o.known o.latest o.allowed in
+    let claim = claims_due cron p.jobs p.active p.at p.zone p.steps o.zone time plan o.runs o.known o.latest o.allowed
+    in
     let key = cron_keyed (writes h) k cron (sym ((store_agrees window h l).crons k) ∙ r.stands) in
     let start : Starting p cron (claim_of cron time) = starting p cron (claim_of cron time) f.decided seen claim in
     let u : ℕ = (state_of window h).store.uids in
@@ -574,6 +589,6 @@ plans_make_job window w k cron h l r p time f o free =
       replaced = replaced cron.spec.policy (running_of cron p.active) p.steps.drop_first (state_of window g).store
           start.allowed (λ q i. x.1 q (in_left q p.steps.drop_first p.steps.cleanup i));
     })
-    (works_off_go (state_of window h) w k cron p (claim_of cron time) r start key seen listed seat claim free
+    (works_off_go (state_of window h) w k cron p (claim_of cron time) r start key seen listed sync claim free
     (either_low u p.steps.drop_first p.steps.cleanup
     (first_low cron.spec.policy (running_of cron p.active) p.steps.drop_first u start.allowed runs) cleans))

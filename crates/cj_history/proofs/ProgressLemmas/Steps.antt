@@ -17,13 +17,13 @@ use Rattle.cj_decide.specs.Decision.{Planned}
 use Rattle.cj_calls.specs.declared.call.Call.TheVariants as Of
 use Rattle.cj_calls.specs.declared.end.End.TheVariants.{Well}
 use Rattle.cj_state.specs.phases.Steps.{Step, drops, makes, sets, all_steps, step_at}
-use Rattle.cj_state.specs.declared.phases.seat.Work.{Work}
-use Rattle.cj_state.specs.declared.phases.seat.Phase.TheVariants.{Works}
+use Rattle.cj_state.specs.declared.phases.sync.Work.{Work}
+use Rattle.cj_state.specs.declared.phases.sync.Phase.TheVariants.{Works}
 use Rattle.cj_state.specs.declared.state.State.{State}
-use Rattle.cj_state.specs.WorkerCalls.{Handled, seat_of, written, works, next_seat, sits, drops_it, leaves, next_ms}
-use Rattle.cj_world_laws.proofs.OnceLemmas.Maps.{seat_here}
+use Rattle.cj_state.specs.WorkerCalls.{Handled, sync_of, written, works, next_sync, sits, drops_it, leaves, next_ms}
+use Rattle.cj_world_laws.proofs.OnceLemmas.Maps.{sync_here}
 use Rattle.cj_history.specs.progress.Syncs.{calls_left}
-use Rattle.cj_history.proofs.ProgressLemmas.Calls.{sat, drop_is, make_is, status_is, finish_is, Dropped, drop_made}
+use Rattle.cj_history.proofs.ProgressLemmas.Calls.{in_flight, drop_is, make_is, status_is, finish_is, Dropped, drop_made}
 use Rattle.cj_history.proofs.ProgressLemmas.Aside.{Same, Goes, goes}
 
 abbrev pub work_at : Planned → ℕ → List Step → Work
@@ -31,7 +31,7 @@ work_at p v done = record { plan = p; version = v; place = length done }
 
 -- the worker has made these steps of its plan, and those are left
 pub record Going (w : ℕ) (k : Place) (p : Planned) (v : ℕ) (s : State) (done rest : List Step) : Type 0 where
-  pub seat : seat_of s w ≡ Some (sat k (Works (work_at p v done)))
+  pub sync : sync_of s w ≡ Some (in_flight k (Works (work_at p v done)))
   pub all : all_steps p.steps ≡ done ++ rest
 
 -- The step behind so many is the next of those that are left.
@@ -48,8 +48,8 @@ past_end (y ∷ done) = past_end done
 longer : (done : List Step) (x : Step) → length done + 1 ≡ length (done ++ x ∷ [])
 longer done x = let e = length-append done (x ∷ []) in omega (arith, e)
 
--- w is the worker, k its key, q the Job's name, if one is to be made, p the plan that it claimed, with the version v; Q
--- holds in the end.
+-- w is the worker, k its key, q the Job's name, if one is to be made, p the plan that it claimed,
+-- with the version v; Q holds in the end.
 module _ (w : ℕ) (k : Place) (q : Option Place) (p : Planned) (v : ℕ) (reasons : List Reason) (Q : State → Type 0) where
   -- The next step is the first of those that are left.
   pub step_is : (s : State) (done : List Step) (x : Step) (rest : List Step) → Going w k p v s done (x ∷ rest)
@@ -64,16 +64,16 @@ module _ (w : ℕ) (k : Place) (q : Option Place) (p : Planned) (v : ℕ) (reaso
 
   -- After the next step the rest is left.
   pub going_on : (s t : State) (done : List Step) (x : Step) (rest : List Step) → Going w k p v s done (x ∷ rest)
-      → seat_of t w ≡ Some (next_seat k (work_at p v done)) → Going w k p v t (done ++ x ∷ []) rest
+      → sync_of t w ≡ Some (next_sync k (work_at p v done)) → Going w k p v t (done ++ x ∷ []) rest
   going_on s t done x rest g e = record {
-    seat = e ∙ ap (λ n. Some (sat k (works p v n))) (longer done x);
+    sync = e ∙ ap (λ n. Some (in_flight k (works p v n))) (longer done x);
     all = g.all ∙ sym (append_assoc done (x ∷ []) rest);
   }
 
   -- What others leave doesn't change how far the worker has come.
   going_still : (s t : State) (done rest : List Step) → Same w k q s t → Going w k p v s done rest
       → Going w k p v t done rest
-  going_still s t done rest same g = record { seat = same.seat ∙ g.seat; all = g.all }
+  going_still s t done rest same g = record { sync = same.sync ∙ g.sync; all = g.all }
 
   -- Drops are all accepted, and keep what each of them and what others leave keep.
   pub drops_go : (P : List JobRef → Content → Type 0)
@@ -87,16 +87,16 @@ module _ (w : ℕ) (k : Place) (q : Option Place) (p : Planned) (v : ℕ) (reaso
   drops_go P calm keep [] more done s g i next = next s done g i
   drops_go P calm keep (r ∷ rs) more done s g i next =
       goes w k q s Of.DropNext (calls_left reasons (map_list drops rs ++ more)) Q (λ t same.
-      let seat = next_seat k (work_at p v done) in
+      let sync = next_sync k (work_at p v done) in
       let h : Going w k p v t done (drops r ∷ (map_list drops rs ++ more)) = going_still s t done _ same g in
-      let d = drop_made t w seat r in
-      let m : Handled = drops_it t w seat r.key (map_ok job_gone (job_deleted t.store r.key (Some r.uid))) in
+      let d = drop_made t w sync r in
+      let m : Handled = drops_it t w sync r.key (map_ok job_gone (job_deleted t.store r.key (Some r.uid))) in
       record {
         handled = m;
-        is = drop_is t w k (work_at p v done) r h.seat (step_is t done (drops r) (map_list drops rs ++ more) h);
+        is = drop_is t w k (work_at p v done) r h.sync (step_is t done (drops r) (map_list drops rs ++ more) h);
         accepted = d.accepted;
         goes = drops_go P calm keep rs more (done ++ drops r ∷ []) m.state
-            (going_on t m.state done (drops r) (map_list drops rs ++ more) h d.seat_is)
+            (going_on t m.state done (drops r) (map_list drops rs ++ more) h d.sync_is)
             (keep r rs t.store m.state.store d.store (calm (r ∷ rs) s t same i)) next;
       })
 
@@ -108,16 +108,16 @@ module _ (w : ℕ) (k : Place) (q : Option Place) (p : Planned) (v : ℕ) (reaso
       → Goes w k q s (calls_left reasons (makes d ∷ more)) Q
   make_goes d more done s g free next =
       goes w k q s Of.MakeNext (calls_left reasons more) Q (λ t same.
-      let seat = next_seat k (work_at p v done) in
+      let sync = next_sync k (work_at p v done) in
       let h : Going w k p v t done (makes d ∷ more) = going_still s t done _ same g in
-      let z : State = sits (written t (job_added (new_job t.store d p.at))) w seat in
+      let z : State = sits (written t (job_added (new_job t.store d p.at))) w sync in
       record {
         handled = _;
-        is = make_is t w k (work_at p v done) d h.seat (step_is t done (makes d) more h)
+        is = make_is t w k (work_at p v done) d h.sync (step_is t done (makes d) more h)
             (free t same);
         accepted = refl;
         goes = next t z (done ++ makes d ∷ []) same
-            (going_on t z done (makes d) more h (seat_here t.seats w seat)) refl;
+            (going_on t z done (makes d) more h (sync_here t.syncs w sync)) refl;
       })
 
   -- The setting of the status, on the version that is known, is accepted.
@@ -130,15 +130,15 @@ module _ (w : ℕ) (k : Place) (q : Option Place) (p : Planned) (v : ℕ) (reaso
       → Goes w k q s (calls_left reasons (sets f ∷ [])) Q
   status_goes f cron c done s g i at u n next =
       goes w k q s Of.SetStatus (calls_left reasons []) Q (λ t same.
-      let seat = next_seat k (work_at p v done) in
+      let sync = next_sync k (work_at p v done) in
       let h : Going w k p v t done (sets f ∷ []) = going_still s t done _ same g in
-      let z : State = sits (written t (cron_modified (with_status t.store f c))) w seat in
+      let z : State = sits (written t (cron_modified (with_status t.store f c))) w sync in
       record {
         handled = _;
-        is = status_is t w k (work_at p v done) f cron c h.seat (step_is t done (sets f) [] h) i (same.cron ∙ at) u n;
+        is = status_is t w k (work_at p v done) f cron c h.sync (step_is t done (sets f) [] h) i (same.cron ∙ at) u n;
         accepted = refl;
         goes = next t z (done ++ sets f ∷ []) same
-            (going_on t z done (sets f) [] h (seat_here t.seats w seat)) refl;
+            (going_on t z done (sets f) [] h (sync_here t.syncs w sync)) refl;
       })
 
   -- The end is accepted where no step is left, and leaves the store as others left it.
@@ -150,7 +150,7 @@ module _ (w : ℕ) (k : Place) (q : Option Place) (p : Planned) (v : ℕ) (reaso
       let m : Handled = leaves t w (finished_ok t.queue k (next_ms p.steps.next)) in
       record {
         handled = m;
-        is = finish_is t w k (work_at p v done) reasons h.seat (step_none t done h);
+        is = finish_is t w k (work_at p v done) reasons h.sync (step_none t done h);
         accepted = refl;
         goes = next t m.state same refl;
       })

@@ -1,4 +1,5 @@
--- A history after which a worker may begin a sync: a CronJob is created and its key added; and a call aside.
+-- A history after which a worker may begin a sync: a CronJob is created and its key added; and a
+-- call aside.
 use Rattle.std.proofs.Common.{◌≡◌, ℕ, Bool, true, false, List, [], ◌∷◌, Some, None, refl, sym, ap, subst, ◌∙◌}
 use Rattle.std.specs.Prelude.{Result, Ok, ◌||◌}
 use Rattle.cj_base.specs.declared.refusal.Refusal.{Refusal}
@@ -10,8 +11,8 @@ use Rattle.cj_decide.specs.declared.start_decision.StartDecision.{StartDecision}
 use Rattle.cj_decide.specs.StartDecisions.{rests, IsUnlessSuspended, IsStartDecision}
 use Rattle.cj_decide.specs.Decision.{Planned}
 use Rattle.cj_decide.proofs.Decided.{some_plan}
-use Rattle.cj_world_laws.proofs.LegalLemmas.Seated.{seats_agree}
-use Rattle.cj_history.proofs.ProgressLemmas.Calls.{sat, finish_is}
+use Rattle.cj_world_laws.proofs.LegalLemmas.HeldSyncs.{syncs_agree}
+use Rattle.cj_history.proofs.ProgressLemmas.Calls.{in_flight, finish_is}
 use Rattle.cj_history.proofs.ProgressLemmas.Aside.{ok_entered}
 use Rattle.cj_history.proofs.ProgressLemmas.Started.{IsRead}
 use Rattle.cj_types.specs.declared.cron.CronJobDraft.{CronJobDraft}
@@ -25,13 +26,13 @@ use Rattle.cj_calls.specs.declared.reply.Reply.{Reply}
 use Rattle.cj_calls.specs.declared.reply.Reply.TheVariants as Say
 use Rattle.cj_calls.specs.Rows.{Told}
 use Rattle.cj_state.specs.phases.Steps.{step_at}
-use Rattle.cj_state.specs.declared.phases.seat.Work.{Work}
-use Rattle.cj_state.specs.declared.phases.seat.Phase.TheVariants.{Works}
+use Rattle.cj_state.specs.declared.phases.sync.Work.{Work}
+use Rattle.cj_state.specs.declared.phases.sync.Phase.TheVariants.{Works}
 use Rattle.cj_state.specs.WorkerCalls.{Handled}
 use Rattle.cj_state.specs.Step.{step_of}
 use Rattle.cj_state.specs.Legal.{IsLegal, answer_of, state_of}
 use Rattle.cj_world_laws.specs.once.Once.{is_ok}
-use Rattle.cj_world_laws.specs.legal.Seats.{seat}
+use Rattle.cj_world_laws.specs.legal.InFlightSyncs.{sync}
 use Rattle.cj_history.specs.queue.Deeds.{deed, next_of, operations}
 use Rattle.cj_history.specs.queue.LookBacks.{is_shut, shut}
 use Rattle.cj_history.specs.progress.Kept.{IsDone}
@@ -81,8 +82,8 @@ module _ (d : CronJobDraft) where
   sees = ((makes_job 3 ready 5 a (new d 1 1) legal_ready is_ready).1 (told 5 Informer (Of.Tick 7) (Ok Say.Done) ∷ [])
       legal_tick tick_aside).0
 
--- After the readings there is a plan for the answers: at any moment, for a CronJob that isn't suspended, one whose
--- zone isn't known.
+-- After the readings there is a plan for the answers: at any moment, for a CronJob that isn't
+-- suspended, one whose zone isn't known.
 pub has_plan : (window w : ℕ) (k : Place) (cron : CronJob) (h : List Told) → IsLegal window h
     → IsRead w k cron (state_of window h) → cron.spec.suspend ≡ false → (now : ℕ)
     → (p : Planned) × IsFor h w k p × Closed cron p × (p.at ≡ now)
@@ -92,26 +93,30 @@ has_plan window w k cron h l r e now =
     λ b. subst (λ x. IsUnlessSuspended x cron None b now v) (sym e) refl in
     let d = some_plan cron r.jobs r.live now None v v (is true) (is false) in (
       record { cron = Some cron; jobs = r.jobs; active = r.live; at = now; zone = None; steps = d.0 },
-      record { decided = d.1; rests = sym (seats_agree window h l w) ∙ r.seat },
+      record { decided = d.1; rests = sym (syncs_agree window h l w) ∙ r.sync },
       zoneless e refl,
       refl,
     )
 
--- After the Finish of a worker that made all steps of a plan with a next time, its CronJob's sync ended well with it.
-pub is_done : (window : ℕ) (h : List Told) (w : ℕ) (k : Place) (work : Work) (reasons : List Reason) (t : ℕ) → IsLegal window h
-    → seat h w ≡ Some (sat k (Works work)) → step_at work.plan.steps work.place ≡ None → work.plan.steps.next ≡ Some t
+-- After the Finish of a worker that made all steps of a plan with a next time, its CronJob's sync
+-- ended well with it.
+pub is_done : (window : ℕ) (h : List Told) (w : ℕ) (k : Place) (work : Work) (reasons : List Reason) (t : ℕ)
+    → IsLegal window h
+    → sync h w ≡ Some (in_flight k (Works work)) → step_at work.plan.steps work.place ≡ None → work.plan.steps.next
+    ≡ Some t
     → shut (operations h) ≡ false → IsDone (entry window h w (Of.Finish Well reasons) ∷ h) k t
 is_done window h w k work reasons t l at over next runs =
     let answer : answer_of window h (worker w) (Of.Finish Well reasons) ≡ Ok Say.Done = ap (λ (x : Handled). x.answer)
-    (finish_is (state_of window h) w k work reasons (seats_agree window h l w ∙ at) over) in
+    (finish_is (state_of window h) w k work reasons (syncs_agree window h l w ∙ at) over) in
     record {
       after = [];
       entry = entry window h w (Of.Finish Well reasons);
       before = h;
       is = refl;
-      end = record { sits = sat k (Works work); held = at; key = refl; reasons = reasons; call = refl; answer = answer };
+      end = record { sits = in_flight k (Works work); held = at; key = refl; reasons = reasons; call = refl; answer = answer };
       next = ap next_of at ∙ next;
-      runs = ap (λ (a : Result Reply Refusal). is_shut (deed (seat h w) (Of.Finish Well reasons) a) || shut (operations h))
+      runs = ap (λ (a : Result Reply Refusal). is_shut (deed (sync h w) (Of.Finish Well reasons) a)
+          || shut (operations h))
           answer ∙ runs;
       untaken = tt;
     }

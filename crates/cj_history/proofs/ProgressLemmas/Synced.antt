@@ -1,5 +1,5 @@
--- Syncs at given moments that nobody disturbs, and nothing else that writes the CronJob, make its Jobs for the greatest due
--- time of each stretch.
+-- Syncs at given moments that nobody disturbs, and nothing else that writes the CronJob, make its
+-- Jobs for the greatest due time of each interval.
 use Rattle.std.proofs.Common.{◌≡◌, ◌≢◌, inl, inr, ℕ, ◌≤◌, max, false, List, [], ◌∷◌, ◌++◌, map as map_list, Option, Some, None, option_map, unwrap_or, refl, sym, ap, subst, ◌∙◌, arith}
 use Rattle.std.specs.Prelude.{IfSome}
 use Rattle.std.specs.FinMap as map
@@ -25,7 +25,7 @@ use Rattle.cj_calls.specs.Rows.{Told}
 use Rattle.cj_state.specs.phases.Steps.{Step, drops, makes as makes_job, makings, settings, all_steps}
 use Rattle.cj_state.specs.Legal.{state_of}
 use Rattle.cj_world_laws.specs.once.Once.{Claimed}
-use Rattle.cj_world_laws.proofs.LegalLemmas.Seated.{seats_agree}
+use Rattle.cj_world_laws.proofs.LegalLemmas.HeldSyncs.{syncs_agree}
 use Rattle.cj_history.specs.progress.Undisturbed.{entry, Leads}
 use Rattle.cj_history.specs.progress.Syncs.{readings, works_off, IsLet, IsOpen, unmissed, IsMade, IsUnclaimed, IsTidied}
 use Rattle.cj_history.specs.progress.Every.{name_of, IsSync, AreOthers, Synced, looked_upto, GoOn, AreLatest, made_for, IsBegun, EveryTime}
@@ -35,7 +35,7 @@ use Rattle.cj_history.proofs.ProgressLemmas.Only.{Makes, claim_made}
 use Rattle.cj_history.proofs.ProgressLemmas.Rest.{plans_rest}
 use Rattle.cj_history.proofs.ProgressLemmas.Closed.{plans_stay}
 use Rattle.cj_history.proofs.ProgressLemmas.Whole.{reads_on, sits_down}
-use Rattle.cj_history.proofs.ProgressLemmas.Stretches.{IsLooked, NoneOrLatest, latest_after, quiet_after, looked_quiet, looked_latest, looked_none, none_due, none_or_latest}
+use Rattle.cj_history.proofs.ProgressLemmas.Intervals.{IsLooked, NoneOrLatest, latest_after, quiet_after, looked_quiet, looked_latest, looked_none, none_due, none_or_latest}
 use Rattle.cj_history.proofs.ProgressLemmas.Makers.{Good, earlier}
 use Rattle.cj_history.proofs.ProgressLemmas.Restated.{IsRestated, itself, Has, has_after}
 use Rattle.cj_history.proofs.ProgressLemmas.Others.{others_cron, others_times}
@@ -49,7 +49,8 @@ lets Forbid running n = absurd (n refl)
 
 -- ---- one sync
 
--- what a sync at a moment did: it made the Job for the latest time missed, or left all where none was
+-- what a sync at a moment did: it made the Job for the latest time missed, or left all where none
+-- was
 pub data Does (window : ℕ) (s : Sets) (z : Zone) (t u : ℕ) (old new : CronJob) (h g : List Told) : Type 0 where
   claims : (time : ℕ) → IsLatestDue s z (window_of old t) t time → new.status.last_schedule_time ≡ Some time
       → made_for window u g ≡ time ∷ made_for window u h → Does window s z t u old new h g
@@ -57,7 +58,8 @@ pub data Does (window : ℕ) (s : Sets) (z : Zone) (t u : ℕ) (old new : CronJo
       → made_for window u g ≡ made_for window u h → Does window s z t u old new h g
 
 -- and the CronJob that it left
-pub record Did (window : ℕ) (k : Place) (c : CronJob) (s : Sets) (z : Zone) (t : ℕ) (old : CronJob) (h g : List Told) : Type 0 where
+pub record Did (window : ℕ) (k : Place) (c : CronJob) (s : Sets) (z : Zone) (t : ℕ) (old : CronJob) (h g : List Told)
+    : Type 0 where
   pub now : CronJob
   pub stands : map.get (state_of window g).store.crons k ≡ Some now
   pub same : IsRestated c now
@@ -70,7 +72,8 @@ none_makes [] (Some st) i = absurd i
 none_makes (r ∷ rs) o i = none_makes rs o i
 
 -- For sync_did: nor where they begin with other drops.
-none_first : (ds rs : List JobRef) (o : Option CronStatus) → Makes (map_list drops ds ++ (map_list drops rs ++ settings o)) → ⊥
+none_first : (ds rs : List JobRef) (o : Option CronStatus)
+    → Makes (map_list drops ds ++ (map_list drops rs ++ settings o)) → ⊥
 none_first [] rs o i = none_makes rs o i
 none_first (d ∷ ds) rs o i = none_first ds rs o i
 
@@ -83,9 +86,11 @@ sync_begun window k z t h g y good =
     (led_earlier window y.worker k None readings (take ∷ h) y.read y.reads
     (led_earlier window y.worker k (name_of y.plan) (works_off y.plan) y.read g y.works good))
 
--- y is a sync of the key k from the history h to g, whose claim is made at t in the zone z; c is the CronJob that stands
--- there, but for its status and its version, and s its schedule.
-module _ (window : ℕ) (k : Place) (z : Zone) (t : ℕ) (h g : List Told) (y : IsSync window k z t h g) (good : Good window g) (c : CronJob) (s : Sets) (runs : c.spec.suspend ≡ false) (policy : c.spec.policy ≢ Forbid) (reads : IsSchedule c.spec.schedule s) (has : Has window k c h) where
+-- y is a sync of the key k from the history h to g, whose claim is made at t in the zone z; c is
+-- the CronJob that stands there, but for its status and its version, and s its schedule.
+module _ (window : ℕ) (k : Place) (z : Zone) (t : ℕ) (h g : List Told) (y : IsSync window k z t h g)
+    (good : Good window g) (c : CronJob) (s : Sets) (runs : c.spec.suspend ≡ false) (policy : c.spec.policy ≢ Forbid)
+    (reads : IsSchedule c.spec.schedule s) (has : Has window k c h) where
   abbrev w : ℕ
   w = y.worker
 
@@ -127,7 +132,7 @@ module _ (window : ℕ) (k : Place) (z : Zone) (t : ℕ) (h g : List Told) (y : 
   same = subst (IsRestated c) is has.same
 
   seen : p.cron ≡ Some y.cron
-  seen = sym (ap seen_in (sym read.seat ∙ (seats_agree window y.read mid.legal w ∙ y.decides.rests)))
+  seen = sym (ap seen_in (sym read.sync ∙ (syncs_agree window y.read mid.legal w ∙ y.decides.rests)))
 
   runs_still : y.cron.spec.suspend ≡ false
   runs_still = ap (λ (x : CronSpec). x.suspend) same.spec ∙ runs
@@ -160,8 +165,10 @@ module _ (window : ℕ) (k : Place) (z : Zone) (t : ℕ) (h g : List Told) (y : 
       subst (λ (q : Option Place). Leads window w k q y.read (works_off p) P) name rest.1 in
       let un = (led_to window w k (name_of p) (works_off p) P y.read g lead y.works good).0 in
       let m : Claimed = record { owner = c.meta.uid; time = 0; policy = Allow } in
-      let bare : all_steps p.steps ≡ map_list drops p.steps.drop_first ++ (map_list drops p.steps.cleanup ++ settings p.steps.status) =
-      ap (λ (o : Option JobDraft). map_list drops p.steps.drop_first ++ (makings o ++ (map_list drops p.steps.cleanup ++ settings p.steps.status))) rest.0 in
+      let bare : all_steps p.steps ≡ map_list drops p.steps.drop_first
+      ++ (map_list drops p.steps.cleanup ++ settings p.steps.status) =
+      ap (λ (o : Option JobDraft). map_list drops p.steps.drop_first
+      ++ (makings o ++ (map_list drops p.steps.cleanup ++ settings p.steps.status))) rest.0 in
       let ended = works_led window w k (name_of p) c m refl p P y.read g lead y.works good kept.holds kept.has
       (λ es l a i. absurd (none_first p.steps.drop_first p.steps.cleanup p.steps.status (subst Makes bare i))) in
       let old : List ℕ = made_for window c.meta.uid y.read in
@@ -172,7 +179,8 @@ module _ (window : ℕ) (k : Place) (z : Zone) (t : ℕ) (h g : List Told) (y : 
         does = rests (none_due s z (window_of y.cron p.at) p.at none) un.last (
             ended.made
             ∙ (ap (λ (xs : List Step). after_steps window w k (name_of p) c 0 xs old) bare
-            ∙ (after_drops window w k (name_of p) c 0 p.steps.drop_first (map_list drops p.steps.cleanup ++ settings p.steps.status) old
+            ∙ (after_drops window w k (name_of p) c 0 p.steps.drop_first
+            (map_list drops p.steps.cleanup ++ settings p.steps.status) old
             ∙ (after_drops window w k (name_of p) c 0 p.steps.cleanup (settings p.steps.status) old
             ∙ (after_settings window w k (name_of p) c 0 p.steps.status old ∙ kept.times)))));
       }
@@ -188,8 +196,10 @@ module _ (window : ℕ) (k : Place) (z : Zone) (t : ℕ) (h g : List Told) (y : 
         allowed = lets y.cron.spec.policy (running_of y.cron p.active) policy_still;
       } in
       let plan = plan_of p y.cron y.decides.decided seen in
-      let claim = claims_due y.cron p.jobs p.active p.at p.zone p.steps z time plan runs_still y.zone open_now.latest open_now.allowed in
-      let start : Starting p y.cron (claim_for y.cron time) = starting p y.cron (claim_for y.cron time) y.decides.decided seen claim in
+      let claim = claims_due y.cron p.jobs p.active p.at p.zone p.steps z time plan runs_still y.zone open_now.latest
+      open_now.allowed in
+      let start : Starting p y.cron (claim_for y.cron time)
+      = starting p y.cron (claim_for y.cron time) y.decides.decided seen claim in
       let name : name_of p ≡ Some (made_place y.cron.key time) =
       ap (λ (o : Option JobDraft). option_map (λ (d : JobDraft). d.key) o) start.make in
       let free : map.get (state_of window y.read).store.jobs (made_place y.cron.key time) ≡ None =
@@ -213,7 +223,8 @@ module _ (window : ℕ) (k : Place) (z : Zone) (t : ℕ) (h g : List Told) (y : 
         does = claims time latest made.last (
             ended.made
             ∙ (ap (λ (xs : List Step). after_steps window w k (name_of p) c time xs old) all
-            ∙ (after_drops window w k (name_of p) c time p.steps.drop_first (makes_job (draft_of y.cron time) ∷ later) old
+            ∙ (after_drops window w k (name_of p) c time p.steps.drop_first (makes_job (draft_of y.cron time) ∷ later)
+            old
             ∙ (after_drops window w k (name_of p) c time p.steps.cleanup (settings p.steps.status) (time ∷ old)
             ∙ (after_settings window w k (name_of p) c time p.steps.status (time ∷ old)
             ∙ ap (λ (l : List ℕ). time ∷ l) kept.times)))));
@@ -232,8 +243,10 @@ module _ (window : ℕ) (k : Place) (z : Zone) (t : ℕ) (h g : List Told) (y : 
 
 -- ---- all syncs
 
--- what was reached after the syncs at these moments, from a history on at which the CronJob cron stood
-pub record Reached (window : ℕ) (start : List Told) (k : Place) (cron : CronJob) (s : Sets) (z : Zone) (ts : List ℕ) (g : List Told) : Type 0 where
+-- what was reached after the syncs at these moments, from a history on at which the CronJob cron
+-- stood
+pub record Reached (window : ℕ) (start : List Told) (k : Place) (cron : CronJob) (s : Sets) (z : Zone) (ts : List ℕ)
+    (g : List Told) : Type 0 where
   pub has : Has window k cron g
   pub last : IfSome has.now.status.last_schedule_time (λ t. IsIn t (made_for window cron.meta.uid g))
   pub looked : IsLooked s z cron.spec.starting_deadline_seconds
@@ -253,7 +266,8 @@ first_in None t xs ys e f = absurd (cc e)
 first_in (Some x) t xs ys e f =
     let same : x ≡ t = cc e in subst (λ (l : List ℕ). IsIn x l) (sym f) (inl (sym same))
 
-module _ (window : ℕ) (start : List Told) (k : Place) (cron : CronJob) (s : Sets) (z : Zone) (b : IsBegun window start k cron s) where
+module _ (window : ℕ) (start : List Told) (k : Place) (cron : CronJob) (s : Sets) (z : Zone)
+    (b : IsBegun window start k cron s) where
   -- What was reached stays so, whatever others call that don't write the CronJob.
   reached_still : (ts : List ℕ) (es h : List Told) → Good window (es ++ h) → AreOthers k es h
       → Reached window start k cron s z ts h → Reached window start k cron s z ts (es ++ h)
@@ -262,7 +276,8 @@ module _ (window : ℕ) (start : List Told) (k : Place) (cron : CronJob) (s : Se
       let times : made_for window cron.meta.uid (es ++ h) ≡ made_for window cron.meta.uid h =
       subst (λ (u : ℕ). made_for window u (es ++ h) ≡ made_for window u h) r.has.same.uid
       (others_times window k es h r.has.now good a r.has.stands
-      (subst (λ (u : ℕ). IfSome r.has.now.status.last_schedule_time (λ t. IsIn t (made_for window u h))) (sym r.has.same.uid) r.last)) in
+      (subst (λ (u : ℕ). IfSome r.has.now.status.last_schedule_time (λ t. IsIn t (made_for window u h)))
+      (sym r.has.same.uid) r.last)) in
       record {
         has = record {
           now = r.has.now;
@@ -293,7 +308,8 @@ module _ (window : ℕ) (start : List Told) (k : Place) (cron : CronJob) (s : Se
       → window_of now t ≡ max (unwrap_or now.status.last_schedule_time cron.meta.created)
       (deadline_start cron.spec.starting_deadline_seconds t)
   window_is now t r =
-      ap (λ (x : ℕ). max (unwrap_or now.status.last_schedule_time x) (deadline_start now.spec.starting_deadline_seconds t)) r.created
+      ap (λ (x : ℕ). max (unwrap_or now.status.last_schedule_time x)
+      (deadline_start now.spec.starting_deadline_seconds t)) r.created
       ∙ ap (λ (x : CronSpec). max (unwrap_or now.status.last_schedule_time cron.meta.created)
       (deadline_start x.starting_deadline_seconds t)) r.spec
 
@@ -348,15 +364,16 @@ module _ (window : ℕ) (start : List Told) (k : Place) (cron : CronJob) (s : Se
   reached [] g good on (es, others, is) =
       subst (Reached window start k cron s z []) (sym is)
       (reached_still [] es start (subst (Good window) is good) others reached_start)
-  reached (t ∷ ts) g good on (before, after, es, rest, sync, others, is) =
+  reached (t ∷ ts) g good on (before, after, es, rest, did, others, is) =
       let whole : Good window (es ++ after) = subst (Good window) is good in
       let last : Good window after = earlier window es after whole in
       subst (Reached window start k cron s z (t ∷ ts)) (sym is)
       (reached_still (t ∷ ts) es after whole others
       (reached_next ts t before after last on.0
-      (reached ts before (sync_begun window k z t before after sync last) on.1 rest) sync))
+      (reached ts before (sync_begun window k z t before after did last) on.1 rest) did))
 
--- For every_time_law: from such a history on, the Jobs that are made are those of the greatest due times.
+-- For every_time_law: from such a history on, the Jobs that are made are those of the greatest due
+-- times.
 pub every_time : EveryTime
 every_time window start g k cron s z ts short legal planned b on y =
     let r = reached window start k cron s z b ts g (record { short = short; legal = legal; planned = planned }) on y in

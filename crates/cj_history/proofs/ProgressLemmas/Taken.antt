@@ -1,4 +1,5 @@
--- Where the name of the Job is taken, the claim and the first drops are accepted, and the making is refused.
+-- Where the name of the Job is taken, the claim and the first drops are accepted, and the making is
+-- refused.
 use Rattle.std.proofs.Common.{◌≡◌, ◌≢◌, inl, inr, ℕ, ◌+◌, List, [], ◌∷◌, ◌++◌, length, map as map_list, Option, Some, is_some, refl, sym, ap, subst, ◌∙◌}
 use Rattle.std.specs.Prelude.{Ok, Err, if◌then◌else◌}
 use Rattle.std.specs.List.{slice_get}
@@ -21,37 +22,38 @@ use Rattle.cj_decide.specs.laws.Laws.{IsIn}
 use Rattle.cj_calls.specs.declared.call.Call.TheVariants as Of
 use Rattle.cj_calls.specs.Rows.{Told}
 use Rattle.cj_state.specs.phases.Steps.{Step, drops, makes, makings, settings, all_steps, step_at, as_make}
-use Rattle.cj_state.specs.declared.phases.seat.Seat.{Seat}
-use Rattle.cj_state.specs.declared.phases.seat.Work.{Work}
-use Rattle.cj_state.specs.declared.phases.seat.Phase.TheVariants.{Checked, Works}
+use Rattle.cj_state.specs.declared.phases.sync.InFlight.{InFlight}
+use Rattle.cj_state.specs.declared.phases.sync.Work.{Work}
+use Rattle.cj_state.specs.declared.phases.sync.Phase.TheVariants.{Checked, Works}
 use Rattle.cj_state.specs.declared.state.State.{State}
-use Rattle.cj_state.specs.WorkerCalls.{Handled, refused, seat_of, seated, written, works, drops_it, by_seat, next_seat, steps_on, event_reply, make_where, make_in, make_next}
+use Rattle.cj_state.specs.WorkerCalls.{Handled, refused, sync_of, with_sync, written, works, drops_it, by_sync, next_sync, steps_on, event_reply, make_where, make_in, make_next}
 use Rattle.cj_state.specs.Step.{step_of}
 use Rattle.cj_state.specs.Legal.{IsLegal, state_of}
 use Rattle.cj_world_laws.proofs.LegalLemmas.Inputs.{rests_exactly}
-use Rattle.cj_world_laws.proofs.LegalLemmas.Seated.{seats_agree}
-use Rattle.cj_world_laws.proofs.OnceLemmas.Maps.{removal_at, removal_other, seat_here}
+use Rattle.cj_world_laws.proofs.LegalLemmas.HeldSyncs.{syncs_agree}
+use Rattle.cj_world_laws.proofs.OnceLemmas.Maps.{removal_at, removal_other, sync_here}
 use Rattle.cj_history.specs.progress.Undisturbed.{worker}
 use Rattle.cj_history.specs.progress.Syncs.{IsRefused, PlansFindTaken}
 use Rattle.cj_history.proofs.ProgressLemmas.Missed.{claims_due}
-use Rattle.cj_history.proofs.ProgressLemmas.Calls.{sat, claim_is, drop_is, Dropped, absent, found, drop_made}
+use Rattle.cj_history.proofs.ProgressLemmas.Calls.{in_flight, claim_is, drop_is, Dropped, absent, found, drop_made}
 use Rattle.cj_history.proofs.ProgressLemmas.Aside.{AreKeyed, Same, Goes, goes, goes_leads, same_aside}
 use Rattle.cj_history.proofs.ProgressLemmas.Steps.{work_at, Going, step_is, going_on}
 use Rattle.cj_history.proofs.ProgressLemmas.Started.{IsRead, Starting, plan_of, starting, seen_in}
 
 -- A MakeNext of a Job whose name is taken is refused.
 make_refused : (s : State) (w : ℕ) (k : Place) (work : Work) (d : JobDraft) (j : Job)
-    → seat_of s w ≡ Some (sat k (Works work)) → step_at work.plan.steps work.place ≡ Some (makes d)
+    → sync_of s w ≡ Some (in_flight k (Works work)) → step_at work.plan.steps work.place ≡ Some (makes d)
     → map.get s.store.jobs d.key ≡ Some j → step_of s (worker w) Of.MakeNext ≡ refused s AlreadyExists
 unfolding step_of make_next
 make_refused s w k work d j e f taken =
-    ap (λ (o : Option Seat). by_seat s (make_in s w) o) e
+    ap (λ (o : Option InFlight). by_sync s (make_in s w) o) e
     ∙ ap (λ (o : Option Step). make_where s w k work (as_make o)) f
-    ∙ ap (λ (o : Option Job). steps_on s w (next_seat k work) event_reply
+    ∙ ap (λ (o : Option Job). steps_on s w (next_sync k work) event_reply
     (map_ok job_added (if is_some o then Err AlreadyExists else Ok (new_job s.store d work.plan.at)))) taken
 
 -- the worker claimed the plan, made its first drops, and the name is taken
-record IsClaimed (w : ℕ) (k : Place) (p : Planned) (d : JobDraft) (more : List Step) (q : Place) (j : Job) (s : State) : Type 0
+record IsClaimed (w : ℕ) (k : Place) (p : Planned) (d : JobDraft) (more : List Step) (q : Place) (j : Job) (s : State)
+    : Type 0
   where
     version : ℕ
     done : List Step
@@ -67,7 +69,8 @@ at_place (y ∷ done) x rest = at_place done x rest
 next_makes : (w : ℕ) (k : Place) (p : Planned) (v : ℕ) (s : State) (done more : List Step) (d : JobDraft)
     → Going w k p v s done (makes d ∷ more) → step_at p.steps (length done) ≡ Some (makes d)
 unfolding step_at
-next_makes w k p v s done more d g = ap (λ (l : List Step). slice_get l (length done)) g.all ∙ at_place done (makes d) more
+next_makes w k p v s done more d g = ap (λ (l : List Step). slice_get l (length done)) g.all
+    ∙ at_place done (makes d) more
 
 -- each of these is another Job than the one that has the name
 abbrev Others : Place → Job → List JobRef → Type 0
@@ -80,7 +83,8 @@ record IsTaken (q : Place) (j : Job) (rs : List JobRef) (s : Content) : Type 0 w
   taken : map.get s.jobs q ≡ Some j
 
 -- A drop of another Job leaves the name taken.
-taken_kept : (q : Place) (j : Job) (r : JobRef) (rs : List JobRef) (a b : Content) → Dropped a r b → IsTaken q j (r ∷ rs) a
+taken_kept : (q : Place) (j : Job) (r : JobRef) (rs : List JobRef) (a b : Content) → Dropped a r b
+    → IsTaken q j (r ∷ rs) a
     → IsTaken q j rs b
 taken_kept q j r rs a b (absent e n) f =
     subst (IsTaken q j rs) (sym e) (record { others = λ x i. f.others x (inr i); keys = f.keys; taken = f.taken })
@@ -102,26 +106,31 @@ taken_still : (w : ℕ) (k q : Place) (j : Job) (rs : List JobRef) (s t : State)
     → IsTaken q j rs s.store → IsTaken q j rs t.store
 taken_still w k q j rs s t same f = record { others = f.others; keys = same.keys; taken = same.job ∙ f.taken }
 
--- w is the worker, k its key, q the name, which the Job j has, p the plan, d the draft of the Job that it makes.
+-- w is the worker, k its key, q the name, which the Job j has, p the plan, d the draft of the Job
+-- that it makes.
 module _ (w : ℕ) (k q : Place) (j : Job) (p : Planned) (v : ℕ) (d : JobDraft) (more : List Step) where
   -- The drops of other Jobs are accepted, and leave the name taken.
-  drops_lead : (rs : List JobRef) (done : List Step) (s : State) → Going w k p v s done (map_list drops rs ++ (makes d ∷ more))
+  drops_lead : (rs : List JobRef) (done : List Step) (s : State)
+      → Going w k p v s done (map_list drops rs ++ (makes d ∷ more))
       → IsTaken q j rs s.store
       → Goes w k (Some q) s (map_list (λ r. Of.DropNext) rs) (IsClaimed w k p d more q j)
   drops_lead [] done s g f = record { version = v; done = done; going = g; taken = f.taken }
   drops_lead (r ∷ rs) done s g f =
       goes w k (Some q) s Of.DropNext (map_list (λ r. Of.DropNext) rs) (IsClaimed w k p d more q j) (λ t same.
-      let seat = next_seat k (work_at p v done) in
-      let h : Going w k p v t done (drops r ∷ (map_list drops rs ++ (makes d ∷ more))) = record { seat = same.seat ∙ g.seat; all = g.all } in
-      let y = drop_made t w seat r in
-      let m : Handled = drops_it t w seat r.key (map_ok job_gone (job_deleted t.store r.key (Some r.uid))) in
+      let sync = next_sync k (work_at p v done) in
+      let h : Going w k p v t done (drops r ∷ (map_list drops rs ++ (makes d ∷ more)))
+      = record { sync = same.sync ∙ g.sync; all = g.all } in
+      let y = drop_made t w sync r in
+      let m : Handled = drops_it t w sync r.key (map_ok job_gone (job_deleted t.store r.key (Some r.uid))) in
       record {
         handled = m;
-        is = drop_is t w k (work_at p v done) r h.seat
-            (step_is w k (Some q) p v p.steps.reasons (λ x. Unit {0}) t done (drops r) (map_list drops rs ++ (makes d ∷ more)) h);
+        is = drop_is t w k (work_at p v done) r h.sync
+            (step_is w k (Some q) p v p.steps.reasons (λ x. Unit {0}) t done (drops r)
+            (map_list drops rs ++ (makes d ∷ more)) h);
         accepted = y.accepted;
         goes = drops_lead rs (done ++ drops r ∷ []) m.state
-            (going_on w k (Some q) p v p.steps.reasons (λ x. Unit {0}) t m.state done (drops r) (map_list drops rs ++ (makes d ∷ more)) h y.seat_is)
+            (going_on w k (Some q) p v p.steps.reasons (λ x. Unit {0}) t m.state done (drops r)
+            (map_list drops rs ++ (makes d ∷ more)) h y.sync_is)
             (taken_kept q j r rs t.store m.state.store y.store (taken_still w k q j (r ∷ rs) s t same f));
       })
 
@@ -129,12 +138,13 @@ module _ (w : ℕ) (k q : Place) (j : Job) (p : Planned) (v : ℕ) (d : JobDraft
 pub plans_find_taken : (window w : ℕ) (k : Place) (cron : CronJob) (h : List Told) → IsLegal window h
     → IsRead w k cron (state_of window h) → PlansFindTaken window w k cron h
 plans_find_taken window w k cron h l r p time j f o others taken =
-    let seat : seat_of (state_of window h) w ≡ Some (sat k (Checked p.cron p.jobs p.active)) =
-    seats_agree window h l w ∙ f.rests in
-    let seen : p.cron ≡ Some cron = sym (ap seen_in (sym r.seat ∙ seat)) in
+    let sync : sync_of (state_of window h) w ≡ Some (in_flight k (Checked p.cron p.jobs p.active)) =
+    syncs_agree window h l w ∙ f.rests in
+    let seen : p.cron ≡ Some cron = sym (ap seen_in (sym r.sync ∙ sync)) in
     let plan = plan_of p cron f.decided seen in
     let y : Claim = claim_of cron time in
-    let claim = claims_due cron p.jobs p.active p.at p.zone p.steps o.zone time plan o.runs o.known o.latest o.allowed in
+    let claim = claims_due cron p.jobs p.active p.at p.zone p.steps o.zone time plan o.runs o.known o.latest o.allowed
+    in
     let start : Starting p cron y = starting p cron y f.decided seen claim in
     let q : Place = made_place cron.key time in
     let d : JobDraft = draft_of cron time in
@@ -146,17 +156,17 @@ plans_find_taken window w k cron h l r p time j f o others taken =
     (IsRefused window w k (Some q)) R l
     (λ g m c es n a. let same = same_aside window w k (Some q) es g n a in
     ap (λ (x : Handled). x.answer) (make_refused (state_of window (es ++ g)) w k
-    (work_at p c.version c.done) d j (same.seat ∙ c.going.seat)
+    (work_at p c.version c.done) d j (same.sync ∙ c.going.sync)
     (next_makes w k p c.version (state_of window g) c.done more d c.going) (same.job ∙ c.taken)))
     (goes w k (Some q) (state_of window h) (Of.Claim p) (map_list (λ x. Of.DropNext) p.steps.drop_first) R (λ t same.
-    let z : State = seated (written t (cron_modified (with_status t.store y.status cron))) w k
+    let z : State = with_sync (written t (cron_modified (with_status t.store y.status cron))) w k
     (works p (t.store.version + 1) 0) in
     record {
       handled = _;
-      is = claim_is t w k p p.cron p.jobs p.active cron y (same.seat ∙ seat)
+      is = claim_is t w k p p.cron p.jobs p.active cron y (same.sync ∙ sync)
           ((rests_exactly p p.cron p.jobs p.active).1 (refl, refl, refl)) claim seen (same.cron ∙ r.stands);
       accepted = refl;
       goes = drops_lead w k q j p (t.store.version + 1) d more p.steps.drop_first [] z
-          (record { seat = seat_here t.seats w (sat k (works p (t.store.version + 1) 0)); all = all })
+          (record { sync = sync_here t.syncs w (in_flight k (works p (t.store.version + 1) 0)); all = all })
           (record { others = others; keys = same.keys; taken = same.job ∙ taken });
     }))

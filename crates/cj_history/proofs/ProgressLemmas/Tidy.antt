@@ -86,7 +86,8 @@ pub still_gone : (w u : ℕ) (k : Place) (o : Option Place) (all : List JobRef) 
 still_gone w u k o all old s t same l g r i = same.never r.key r.uid (let a = old r i in omega (arith, a, l)) (g r i)
 
 -- What is gone stays so when a Job is made, whose uid is a new one.
-pub tidy_made : (u : ℕ) (all rs : List JobRef) → ((r : JobRef) → IsIn r all → r.uid ≤ u) → (s : Content) (d : JobDraft) (at : ℕ)
+pub tidy_made : (u : ℕ) (all rs : List JobRef) → ((r : JobRef) → IsIn r all → r.uid ≤ u)
+    → (s : Content) (d : JobDraft) (at : ℕ)
     → IsTidy u all rs s → IsTidy u all rs (after s (job_added (new_job s d at)))
 tidy_made u all rs old s d at f = record {
   uids = (let a = f.uids in omega (arith, a));
@@ -100,7 +101,8 @@ tidy_made u all rs old s d at f = record {
     key q x (inr e) = f.keys q x e.1
 
     one : (r : JobRef) → r.uid ≤ u → IsGone r s → (x : Job)
-        → ((r.key ≡ d.key) × (new_job s d at ≡ x)) ⊎ ((r.key ≢ d.key) × (map.get s.jobs r.key ≡ Some x)) → x.meta.uid ≢ r.uid
+        → ((r.key ≡ d.key) × (new_job s d at ≡ x)) ⊎ ((r.key ≢ d.key) × (map.get s.jobs r.key ≡ Some x))
+        → x.meta.uid ≢ r.uid
     one r l g x (inl e) n =
         let a = f.uids in let b = ap (λ (z : Job). z.meta.uid) e.1 in absurd (omega (arith, a, b, l, n))
     one r l g x (inr e) n = g x e.1 n

@@ -8,12 +8,12 @@ use Rattle.cj_queue.specs.Queue.{Queue, first}
 use Rattle.cj_queue.proofs.Sets.{eq_true, eq_turned}
 use Rattle.cj_calls.specs.declared.reply.Reply.{Reply}
 use Rattle.cj_calls.specs.Rows.{Told}
-use Rattle.cj_state.specs.declared.phases.seat.Seat.{Seat}
-use Rattle.cj_state.specs.WorkerCalls.{seat_of}
+use Rattle.cj_state.specs.declared.phases.sync.InFlight.{InFlight}
+use Rattle.cj_state.specs.WorkerCalls.{sync_of}
 use Rattle.cj_state.specs.Step.{step_of}
 use Rattle.cj_state.specs.Legal.{IsLegal, state_of}
-use Rattle.cj_world_laws.specs.legal.Seats.{seat}
-use Rattle.cj_world_laws.proofs.LegalLemmas.Seated.{seats_agree}
+use Rattle.cj_world_laws.specs.legal.InFlightSyncs.{sync}
+use Rattle.cj_world_laws.proofs.LegalLemmas.HeldSyncs.{syncs_agree}
 use Rattle.cj_history.specs.queue.Deeds.{Deed, adds, ticks, takes, ends, fails, shuts, nothing, deed, Operation, operations}
 use Rattle.cj_history.specs.queue.LookBacks.{since, IsLine}
 use Rattle.cj_history.specs.queue.Laws.{QueueLaw}
@@ -27,26 +27,27 @@ use Rattle.cj_history.proofs.QueueLemmas.Holders.{next_key}
 use Rattle.cj_history.proofs.QueueLemmas.Whole.{Stands, stands_nothing, is_queue, one_more}
 
 abbrev pub keys_of : List Told → ℕ → Option Place
-keys_of h w = key_of (seat h w)
+keys_of h w = key_of (sync h w)
 
 -- the operation of an entry of a legal history
 abbrev pub entry_deed : Told → List Told → Deed
-entry_deed e h = deed (seat h e.caller.number) e.call e.answer
+entry_deed e h = deed (sync h e.caller.number) e.call e.answer
 
 -- e is the next entry after the history h, and both together are legal.
 module _ (window : ℕ) (e : Told) (h : List Told) (l : IsLegal window (e ∷ h)) where
-  -- The caller's seat in the state is the one that its own entries say.
-  seat_same : seat_of (state_of window h) e.caller.number ≡ seat h e.caller.number
-  seat_same = seats_agree window h l.2 e.caller.number
+  -- The caller's sync in the state is the one that its own entries say.
+  sync_same : sync_of (state_of window h) e.caller.number ≡ sync h e.caller.number
+  sync_same = syncs_agree window h l.2 e.caller.number
 
-  -- The step of the entry turns the queue as its deed says, by that seat.
-  turned : Turns (seat h e.caller.number) e.call (state_of window h) (step_of (state_of window h) e.caller e.call)
-  turned = subst (λ (o : Option Seat). Turns o e.call (state_of window h) (step_of (state_of window h) e.caller e.call))
-      seat_same (turns (state_of window h) e.caller e.call)
+  -- The step of the entry turns the queue as its deed says, by that sync.
+  turned : Turns (sync h e.caller.number) e.call (state_of window h) (step_of (state_of window h) e.caller e.call)
+  turned = subst (λ (o : Option InFlight). Turns o e.call (state_of window h)
+      (step_of (state_of window h) e.caller e.call))
+      sync_same (turns (state_of window h) e.caller e.call)
 
   -- The deed by the step's answer is the deed by the entry's answer.
-  deed_same : deed (seat h e.caller.number) e.call (step_of (state_of window h) e.caller e.call).answer ≡ entry_deed e h
-  deed_same = ap (λ (a : Result Reply Refusal). deed (seat h e.caller.number) e.call a) (sym l.0)
+  deed_same : deed (sync h e.caller.number) e.call (step_of (state_of window h) e.caller e.call).answer ≡ entry_deed e h
+  deed_same = ap (λ (a : Result Reply Refusal). deed (sync h e.caller.number) e.call a) (sym l.0)
 
   -- The queue after the entry is that before it, after the call that the entry's deed says.
   queue_after : (state_of window (e ∷ h)).queue ≡ called (entry_deed e h) (keys_of h e.caller.number)
@@ -58,8 +59,9 @@ module _ (window : ℕ) (e : Told) (h : List Told) (l : IsLegal window (e ∷ h)
   may_after = subst (λ (d : Deed). May d (keys_of h e.caller.number) (state_of window h).queue.row.line) deed_same
       turned.may
 
--- After a legal history its operations, the keys of its seats and the queue of the state agree.
-pub stands : (window : ℕ) (h : List Told) → IsLegal window h → Stands (operations h) (keys_of h) (state_of window h).queue
+-- After a legal history its operations, the keys of its syncs and the queue of the state agree.
+pub stands : (window : ℕ) (h : List Told) → IsLegal window h
+    → Stands (operations h) (keys_of h) (state_of window h).queue
 stands window [] l = stands_nothing
 stands window (e ∷ h) l =
     subst (λ (q : Queue). Stands (operations (e ∷ h)) (keys_of (e ∷ h)) q) (sym (queue_after window e h l))
@@ -72,13 +74,14 @@ queue_agrees window h l = is_queue (operations h) (keys_of h) (state_of window h
 
 -- ---- by the calls that the operations stand for
 
--- the key that a caller holds by its operations is the one of its seat
+-- the key that a caller holds by its operations is the one of its sync
 same_key : (h : List Told) (w : ℕ) → key_by (operations h) w ≡ keys_of h w
 same_key [] w = refl
 same_key (e ∷ h) w = ap (λ (o : Option Place). if e.caller.number == w then sits (entry_deed e h) o else o)
     (same_key h w) ∙ sym (next_key e h w)
 
--- For call_law, clause operations: the calls that a legal history's operations stand for leave its queue.
+-- For call_law, clause operations: the calls that a legal history's operations stand for leave its
+-- queue.
 pub operations_agree : OperationLaw
 operations_agree window [] l = refl
 operations_agree window (e ∷ h) l =
@@ -124,6 +127,7 @@ fit_stands (a ∷ h) l =
     one_more h a.by a.deed (key_by h) (key_by (a ∷ h)) (queue_of h) (λ w. refl)
     (may_in a.deed (key_by h a.by) h (queue_of h) (is_queue h (key_by h) (queue_of h) s).line l.0) s
 
--- For call_law, clause fit: the calls of any fit operations leave what looking back over the operations says.
+-- For call_law, clause fit: the calls of any fit operations leave what looking back over the
+-- operations says.
 pub fits_agree : FitLaw
 fits_agree h l = is_queue h (key_by h) (queue_of h) (fit_stands h l)

@@ -1,4 +1,4 @@
--- Each answer on the queue is the one that the operations and the caller's seat give.
+-- Each answer on the queue is the one that the operations and the caller's sync give.
 use Rattle.std.proofs.Common.{◌≡◌, ℕ, Bool, true, false, List, [], ◌∷◌, Option, Some, None, refl, sym, ap, subst, ◌∙◌}
 use Rattle.std.specs.Prelude.{Ok, Err, if◌then◌else◌, ◌||◌}
 use Rattle.cj_base.specs.declared.refusal.Refusal.TheVariants as No
@@ -14,15 +14,15 @@ use Rattle.cj_calls.specs.declared.end.End.{End}
 use Rattle.cj_calls.specs.declared.end.End.TheVariants.{Well, Again}
 use Rattle.cj_calls.specs.declared.reply.Reply.TheVariants as Say
 use Rattle.cj_state.specs.phases.Steps.{step_at, is_over}
-use Rattle.cj_state.specs.declared.phases.seat.Work.{Work}
-use Rattle.cj_state.specs.declared.phases.seat.Phase.{Phase}
-use Rattle.cj_state.specs.declared.phases.seat.Phase.TheVariants.{Held, Seen, Listed, Checked, Works}
-use Rattle.cj_state.specs.declared.phases.seat.Seat.{Seat}
+use Rattle.cj_state.specs.declared.phases.sync.Work.{Work}
+use Rattle.cj_state.specs.declared.phases.sync.Phase.{Phase}
+use Rattle.cj_state.specs.declared.phases.sync.Phase.TheVariants.{Held, Seen, Listed, Checked, Works}
+use Rattle.cj_state.specs.declared.phases.sync.InFlight.{InFlight}
 use Rattle.cj_state.specs.declared.state.State.{State}
-use Rattle.cj_state.specs.WorkerCalls.{by_seat, seat_of, take, take_by, take_first, finish, finish_in, finish_work}
+use Rattle.cj_state.specs.WorkerCalls.{by_sync, sync_of, take, take_by, take_first, finish, finish_in, finish_work}
 use Rattle.cj_state.specs.Step.{step_of, by_role, by_informer, by_worker}
 use Rattle.cj_state.specs.Legal.{state_of}
-use Rattle.cj_world_laws.proofs.LegalLemmas.Seated.{seats_agree}
+use Rattle.cj_world_laws.proofs.LegalLemmas.HeldSyncs.{syncs_agree}
 use Rattle.cj_history.specs.queue.Deeds.{Operation, operations}
 use Rattle.cj_history.specs.queue.LookBacks.{queued, since, RisesBy}
 use Rattle.cj_history.specs.queue.Laws.{IsQueue}
@@ -61,13 +61,13 @@ module _ (h : List Operation) (s : State) (is : IsQueue h s.queue) where
   nothing_says true e f = (none_queued f, sym is.shut ∙ e)
   nothing_says false e f = (none_queued f, sym is.shut ∙ e)
 
-  -- A Take without a seat is answered as the operations say, has the line a first key or none.
+  -- A Take without a sync is answered as the operations say, has the line a first key or none.
   first_says : (w : ℕ) (l : List Place) → s.queue.row.line ≡ l → OnTake h (take_first s w (first l)).answer
   first_says w [] e = nothing_says s.queue.shut refl e
   first_says w (k ∷ ks) e = is_first k ks e
 
-  -- A Take is answered as the operations say, has the caller a seat or none.
-  take_says : (w : ℕ) (o : Option Seat) → TakeSays h o (take_by s w o).answer
+  -- A Take is answered as the operations say, has the caller a sync or none.
+  take_says : (w : ℕ) (o : Option InFlight) → TakeSays h o (take_by s w o).answer
   take_says w None = first_says w s.queue.row.line refl
   take_says w (Some y) = refl
 
@@ -77,7 +77,7 @@ work_says : (s : State) (w : ℕ) (k : Place) (work : Work) (b : Bool) → (fini
 work_says s w k work true = refl
 work_says s w k work false = refl
 
--- The end of a sync by one who holds a key is answered as the phase of its seat says.
+-- The end of a sync by one who holds a key is answered as the phase of its sync says.
 end_says : (s : State) (w : ℕ) (end : End) (k : Place) (p : Phase) → (finish_in s w end k p).answer ≡ on_end end p
 end_says s w (Again now) k p = refl
 end_says s w Well k Held = refl
@@ -86,45 +86,48 @@ end_says s w Well k (Listed c js) = refl
 end_says s w Well k (Checked c js ks) = refl
 end_says s w Well k (Works work) = work_says s w k work (is_over (step_at work.plan.steps work.place))
 
--- A Finish is answered as the caller's seat says; without a seat it is OutOfPhase.
-finish_says : (s : State) (w : ℕ) (end : End) (o : Option Seat) → (by_seat s (finish_in s w end) o).answer
+-- A Finish is answered as the caller's sync says; without a sync it is OutOfPhase.
+finish_says : (s : State) (w : ℕ) (end : End) (o : Option InFlight) → (by_sync s (finish_in s w end) o).answer
     ≡ on_finish end o
 finish_says s w end None = refl
 finish_says s w end (Some y) = end_says s w end y.key y.phase
 
--- A worker's Take or Finish is answered as the operations and its seat say.
+-- A worker's Take or Finish is answered as the operations and its sync say.
 worker_says : (h : List Operation) (s : State) (w : ℕ) (call : Call) → IsQueue h s.queue
-    → Says h (seat_of s w) Worker call (by_worker s w call).answer
+    → Says h (sync_of s w) Worker call (by_worker s w call).answer
 unfolding take finish
-worker_says h s w Of.Take is = take_says h s is w (seat_of s w)
-worker_says h s w (Of.Finish end rs) is = finish_says s w end (seat_of s w)
+worker_says h s w Of.Take is = take_says h s is w (sync_of s w)
+worker_says h s w (Of.Finish end rs) is = finish_says s w end (sync_of s w)
 worker_says h s w call is = tt
 
 -- An informer's add, tick and shutdown are each answered Done.
-informer_says : (h : List Operation) (s : State) (o : Option Seat) (call : Call)
+informer_says : (h : List Operation) (s : State) (o : Option InFlight) (call : Call)
     → Says h o Informer call (by_informer s call).answer
 informer_says h s o (Of.Add k) = refl
 informer_says h s o (Of.Tick now) = refl
 informer_says h s o Of.Shut = refl
 informer_says h s o call = tt
 
--- Whatever the caller's role, its call of the queue is answered as the operations and its seat say.
+-- Whatever the caller's role, its call of the queue is answered as the operations and its sync say.
 role_says : (h : List Operation) (s : State) (role : Role) (w : ℕ) (call : Call) → IsQueue h s.queue
-    → Says h (seat_of s w) role call (by_role s role w call).answer
+    → Says h (sync_of s w) role call (by_role s role w call).answer
 role_says h s Worker w call is = worker_says h s w call is
-role_says h s Informer w call is = informer_says h s (seat_of s w) call
+role_says h s Informer w call is = informer_says h s (sync_of s w) call
 role_says h s User w call is = tt
 role_says h s Runner w call is = tt
 
--- A step at a queue that is what the operations say answers as the operations and the caller's seat say.
+-- A step at a queue that is what the operations say answers as the operations and the caller's sync
+-- say.
 step_says : (h : List Operation) (s : State) (caller : Caller) (call : Call) → IsQueue h s.queue
-    → Says h (seat_of s caller.number) caller.role call (step_of s caller call).answer
+    → Says h (sync_of s caller.number) caller.role call (step_of s caller call).answer
 unfolding step_of
 step_says h s caller call is = role_says h s caller.role caller.number call is
 
--- For answer_law: after a legal history a call is answered as its operations and the caller's seat say.
+-- For answer_law: after a legal history a call is answered as its operations and the caller's sync
+-- say.
 pub answers_agree : AnswerLaw
 answers_agree window h caller call l =
-    subst (λ (o : Option Seat). Says (operations h) o caller.role call (step_of (state_of window h) caller call).answer)
-    (seats_agree window h l caller.number)
+    subst (λ (o : Option InFlight). Says (operations h) o caller.role call
+    (step_of (state_of window h) caller call).answer)
+    (syncs_agree window h l caller.number)
     (step_says (operations h) (state_of window h) caller call (queue_agrees window h l))

@@ -1,4 +1,5 @@
--- Who holds a key: the look-back of the key and that of the caller agree, so no key is in two hands.
+-- Who holds a key: the look-back of the key and that of the caller agree, so no key is in two
+-- hands.
 use Rattle.std.proofs.Common.{◌≡◌, ℕ, ◌==◌, Bool, true, false, cond, not, ◌&&◌, List, ◌∷◌, Option, Some, None, is_some, refl, sym, ap, ◌∙◌, arith}
 use Rattle.std.specs.Prelude.{Result, Ok, Err, if◌then◌else◌}
 use Rattle.std.proofs.lemmas.Bool.{eqb-true}
@@ -13,9 +14,9 @@ use Rattle.cj_calls.specs.declared.end.End.TheVariants.{Well, Again}
 use Rattle.cj_calls.specs.declared.reply.Reply.{Reply}
 use Rattle.cj_calls.specs.declared.reply.Reply.TheVariants as Is
 use Rattle.cj_calls.specs.Rows.{Told}
-use Rattle.cj_state.specs.declared.phases.seat.Phase.{Phase}
-use Rattle.cj_state.specs.declared.phases.seat.Seat.{Seat}
-use Rattle.cj_world_laws.specs.legal.Seats.{seat, seat_after, accepted, at_phase, on}
+use Rattle.cj_state.specs.declared.phases.sync.Phase.{Phase}
+use Rattle.cj_state.specs.declared.phases.sync.InFlight.{InFlight}
+use Rattle.cj_world_laws.specs.legal.InFlightSyncs.{sync, sync_after, accepted, at_phase, on}
 use Rattle.cj_history.specs.queue.Deeds.{Deed, adds, ticks, takes, ends, fails, shuts, nothing, deed}
 use Rattle.cj_history.specs.queue.LookBacks.{is_take, is_finish, is_by}
 use Rattle.cj_history.specs.queue.Calls.{sits}
@@ -77,20 +78,20 @@ free true None e = refl
 free true (Some v) e = cc (e)
 free false o e = cc (e)
 
--- ---- seats and the keys that they have
+-- ---- syncs and the keys that they have
 
--- A seat that is put at a given phase keeps its key.
-phase_key : (o : Option Seat) (p : Phase) → key_of (at_phase o p) ≡ key_of o
+-- A sync that is put at a given phase keeps its key.
+phase_key : (o : Option InFlight) (p : Phase) → key_of (at_phase o p) ≡ key_of o
 phase_key None p = refl
 phase_key (Some s) p = refl
 
--- A seat whose phase is made from the one before keeps its key.
-on_key : (f : Phase → Phase) (o : Option Seat) → key_of (on f o) ≡ key_of o
+-- A sync whose phase is made from the one before keeps its key.
+on_key : (f : Phase → Phase) (o : Option InFlight) → key_of (on f o) ≡ key_of o
 on_key f None = refl
 on_key f (Some s) = refl
 
--- An accepted call leaves its caller's seat the key that its deed says.
-claimed_key : (o : Option Seat) (call : Call) (r : Reply) → key_of (accepted o call r)
+-- An accepted call leaves its caller's sync the key that its deed says.
+claimed_key : (o : Option InFlight) (call : Call) (r : Reply) → key_of (accepted o call r)
     ≡ sits (deed o call (Ok r)) (key_of o)
 claimed_key o (Of.Add k) Is.Done = refl
 claimed_key o (Of.Tick now) Is.Done = refl
@@ -108,17 +109,17 @@ claimed_key o (Of.Finish Well rs) Is.Done = refl
 claimed_key o (Of.Finish (Again now) rs) Is.Done = refl
 claimed_key o call r = refl
 
--- Any call, accepted or refused, leaves its caller's seat the key that its deed says.
-after_key : (o : Option Seat) (call : Call) (a : Result Reply Refusal) → key_of (seat_after o call a)
+-- Any call, accepted or refused, leaves its caller's sync the key that its deed says.
+after_key : (o : Option InFlight) (call : Call) (a : Result Reply Refusal) → key_of (sync_after o call a)
     ≡ sits (deed o call a) (key_of o)
 after_key o call (Ok r) = claimed_key o call r
 after_key o call (Err e) = refl
 
 -- the key that a worker holds after an entry
 key_case : (b : Bool) (v w : ℕ) (h : List Told) (call : Call) (a : Result Reply Refusal) → (b ≡ true → v ≡ w)
-    → key_of (if b then seat_after (seat h w) call a else seat h w) ≡ cond b
-    (sits (deed (seat h v) call a) (key_of (seat h w))) (key_of (seat h w))
-key_case true v w h call a e = after_key (seat h w) call a ∙ ap (λ u. sits (deed (seat h u) call a) (key_of (seat h w)))
+    → key_of (if b then sync_after (sync h w) call a else sync h w) ≡ cond b
+    (sits (deed (sync h v) call a) (key_of (sync h w))) (key_of (sync h w))
+key_case true v w h call a e = after_key (sync h w) call a ∙ ap (λ u. sits (deed (sync h u) call a) (key_of (sync h w)))
     (sym (e refl))
 key_case false v w h call a e = refl
 
@@ -126,10 +127,10 @@ key_case false v w h call a e = refl
 same_number : (v w : ℕ) → (w == v) ≡ (v == w)
 same_number v w = grind (arith, nat_tests)
 
--- One entry more leaves the caller's seat the key that its deed says, and each other seat its own.
+-- One entry more leaves the caller's sync the key that its deed says, and each other sync its own.
 pub next_key : (e : Told) (h : List Told) (w : ℕ)
-    → key_of (seat (e ∷ h) w) ≡ cond (e.caller.number == w)
-    (sits (deed (seat h e.caller.number) e.call e.answer) (key_of (seat h w))) (key_of (seat h w))
+    → key_of (sync (e ∷ h) w) ≡ cond (e.caller.number == w)
+    (sits (deed (sync h e.caller.number) e.call e.answer) (key_of (sync h w))) (key_of (sync h w))
 next_key e h w =
-    ap (λ b. key_of (if b then seat_after (seat h w) e.call e.answer else seat h w)) (same_number e.caller.number w)
+    ap (λ b. key_of (if b then sync_after (sync h w) e.call e.answer else sync h w)) (same_number e.caller.number w)
     ∙ key_case (e.caller.number == w) e.caller.number w h e.call e.answer (eqb-true e.caller.number w)

@@ -50,7 +50,8 @@ found_first e es k h = subst (λ j. find timed_cmp (e.0.0, j) (e ∷ es) ≡ Som
 gives : (es : List ((ℕ × Place) × Unit {0})) (now : ℕ) (k : Place) → stands_in (ready_in (firsts es) now) k ≡ true
     → (t : ℕ) × (nat_le t now ≡ true) × (find timed_cmp (t, k) es ≡ Some tt)
 gives [] now k m = cc (m)
-gives (e ∷ es) now k m = by (λ n. let g = gives es now k n in (g.0, g.1, kept (eq_by_cmp timed_cmp (g.0, k) e.0) (find timed_cmp (g.0, k) es) g.2)) (nat_le e.0.0 now) refl m
+gives (e ∷ es) now k m = by (λ n. let g = gives es now k n in
+    (g.0, g.1, kept (eq_by_cmp timed_cmp (g.0, k) e.0) (find timed_cmp (g.0, k) es) g.2)) (nat_le e.0.0 now) refl m
   where
     by : (stands_in (ready_in (firsts es) now) k ≡ true → (t : ℕ) × (nat_le t now ≡ true)
         × (find timed_cmp (t, k) (e ∷ es) ≡ Some tt)) → (b : Bool) → nat_le e.0.0 now ≡ b
@@ -112,7 +113,8 @@ pub members : (m : Waiting) (now : ℕ) (k : Place) → stands_in (ready m now) 
 members m now k = same_truth _ _ there back
   where
     there : stands_in (ready m now) k ≡ true → is_within (map.get m k) now ≡ true
-    there n = let g = gives (map.entries (by_time m)) now k n in ap (λ o. is_within o now) (time_is (map.get m k) g.0 (sym (found_at m g.0 k) ∙ g.2)) ∙ g.1
+    there n = let g = gives (map.entries (by_time m)) now k n in ap (λ o. is_within o now)
+        (time_is (map.get m k) g.0 (sym (found_at m g.0 k) ∙ g.2)) ∙ g.1
 
     by : (o : Option ℕ) → map.get m k ≡ o → is_within o now ≡ true → stands_in (ready m now) k ≡ true
     by None e w = cc (w)
@@ -216,6 +218,7 @@ get_waits m u at k =
     ∙ same (key_eq k u) (λ t. ap (λ q. earlier (map.get m q) at) (sym (eq_true k u t)))
   where
     same : (b : Bool) → (b ≡ true → earlier (map.get m u) at ≡ earlier (map.get m k) at)
-        → cond b (Some (earlier (map.get m u) at)) (map.get m k) ≡ cond b (Some (earlier (map.get m k) at)) (map.get m k)
+        → cond b (Some (earlier (map.get m u) at)) (map.get m k)
+        ≡ cond b (Some (earlier (map.get m k) at)) (map.get m k)
     same true f = ap (λ x. Some x) (f refl)
     same false f = refl

@@ -13,10 +13,10 @@ use Rattle.cj_calls.specs.declared.end.End.TheVariants.{Again}
 use Rattle.cj_calls.specs.declared.reply.Reply.{Reply}
 use Rattle.cj_calls.specs.declared.reply.Reply.TheVariants as Say
 use Rattle.cj_calls.specs.Rows.{Told}
-use Rattle.cj_state.specs.declared.phases.seat.Seat.{Seat}
+use Rattle.cj_state.specs.declared.phases.sync.InFlight.{InFlight}
 use Rattle.cj_queue.specs.Queue.{has, first, new_row, row_add}
 use Rattle.cj_state.specs.declared.state.State.{State}
-use Rattle.cj_state.specs.WorkerCalls.{seat_of, take, take_by, take_first}
+use Rattle.cj_state.specs.WorkerCalls.{sync_of, take, take_by, take_first}
 use Rattle.cj_state.specs.Step.{step_of}
 use Rattle.cj_state.specs.Legal.{IsLegal, state_of}
 use Rattle.cj_history.specs.queue.Deeds.{operations}
@@ -57,9 +57,9 @@ unfolding step_of
 legal_add = (refl, refl, tt)
 
 -- A take by a worker that holds no key is answered the key a, where a is the first of the line.
-takes_it : (s : State) → seat_of s 1 ≡ None → first s.queue.row.line ≡ Some a → (take s 1).answer ≡ Ok (Say.Key a)
+takes_it : (s : State) → sync_of s 1 ≡ None → first s.queue.row.line ≡ Some a → (take s 1).answer ≡ Ok (Say.Key a)
 unfolding take
-takes_it s e f = ap (λ (o : Option Seat). (take_by s 1 o).answer) e ∙ ap
+takes_it s e f = ap (λ (o : Option InFlight). (take_by s 1 o).answer) e ∙ ap
     (λ (o : Option Place). (take_first s 1 o).answer) f
 
 -- After an add to an empty row the key is the first of the line.

@@ -66,7 +66,8 @@ same_rank false n s = refl
 
 -- In the queue q at the moment m, shut if s is true, D are dirty, H held, R ranks and W waits. The
 -- delayed adds L, which are of u at at, leave E dirty, the ranks S (N of new keys) and the waits V.
-module _ (D H E : Place → Bool) (R S N : Place → ℕ × ℕ) (W V L : Place → Option ℕ) (m : ℕ) (s : Bool) (q : Queue) (u : Place) (at : Option ℕ)
+module _ (D H E : Place → Bool) (R S N : Place → ℕ × ℕ) (W V L : Place → Option ℕ) (m : ℕ) (s : Bool) (q : Queue)
+    (u : Place) (at : Option ℕ)
     (is : Part D H R W m s q)
     (late : (k : Place) → L k ≡ cond (key_eq k u) at None)
     (more : (k : Place) → E k ≡ ((not s && is_within (L k) m) || D k))

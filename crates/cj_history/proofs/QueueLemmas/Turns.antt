@@ -1,4 +1,5 @@
--- What each call does to the queue: the queue's call that its deed says, on the key that its caller holds.
+-- What each call does to the queue: the queue's call that its deed says, on the key that its caller
+-- holds.
 use Rattle.std.proofs.Common.{◌≡◌, ℕ, Bool, true, false, List, refl, sym, ap, ◌∙◌}
 use Rattle.std.specs.Prelude.{Option, Some, None, Result, Ok, Err, if◌then◌else◌}
 use Rattle.std.specs.FinMap as map
@@ -29,18 +30,18 @@ use Rattle.cj_calls.specs.declared.end.End.TheVariants.{Well, Again}
 use Rattle.cj_calls.specs.declared.reply.Reply.{Reply}
 use Rattle.cj_state.specs.phases.Inputs.{rests_on}
 use Rattle.cj_state.specs.phases.Steps.{step_at, as_drop, as_make, as_status, is_over}
-use Rattle.cj_state.specs.declared.phases.seat.Work.{Work}
-use Rattle.cj_state.specs.declared.phases.seat.Phase.{Phase}
-use Rattle.cj_state.specs.declared.phases.seat.Phase.TheVariants.{Held, Seen, Listed, Checked, Works}
-use Rattle.cj_state.specs.declared.phases.seat.Seat.{Seat}
+use Rattle.cj_state.specs.declared.phases.sync.Work.{Work}
+use Rattle.cj_state.specs.declared.phases.sync.Phase.{Phase}
+use Rattle.cj_state.specs.declared.phases.sync.Phase.TheVariants.{Held, Seen, Listed, Checked, Works}
+use Rattle.cj_state.specs.declared.phases.sync.InFlight.{InFlight}
 use Rattle.cj_state.specs.declared.state.State.{State}
-use Rattle.cj_state.specs.WorkerCalls.{Handled, refused, by_seat, seat_of, take, take_by, take_first, see_cron, see_cron_in, see_jobs, see_jobs_in, see_active, see_active_in, claim, claim_in, claim_where, claims, wrote, drop_next, drop_in, drop_where, drops_it, make_next, make_in, make_where, steps_on, event_reply, version_reply, set_status, status_in, status_where, sets_it, finish, finish_in, finish_work}
+use Rattle.cj_state.specs.WorkerCalls.{Handled, refused, by_sync, sync_of, take, take_by, take_first, see_cron, see_cron_in, see_jobs, see_jobs_in, see_active, see_active_in, claim, claim_in, claim_where, claims, wrote, drop_next, drop_in, drop_where, drops_it, make_next, make_in, make_where, steps_on, event_reply, version_reply, set_status, status_in, status_where, sets_it, finish, finish_in, finish_work}
 use Rattle.cj_state.specs.Step.{writes, found_cron, found_job, told_events, step_of, by_role, by_reader, by_user, by_runner, by_worker, by_informer}
 use Rattle.cj_history.specs.queue.Deeds.{Deed, adds, ticks, takes, ends, fails, shuts, nothing, deed}
 use Rattle.cj_history.specs.queue.Calls.{called}
 
--- the key of a seat
-abbrev pub key_of : Option Seat → Option Place
+-- the key of a sync
+abbrev pub key_of : Option InFlight → Option Place
 key_of None = None
 key_of (Some s) = Some s.key
 
@@ -51,12 +52,12 @@ May (ends n) t line = (u : Place) × (t ≡ Some u)
 May (fails n) t line = (u : Place) × (t ≡ Some u)
 May d t line = Unit {0}
 
-pub record Turns (x : Option Seat) (call : Call) (s : State) (m : Handled) : Type 0 where
+pub record Turns (x : Option InFlight) (call : Call) (s : State) (m : Handled) : Type 0 where
   pub queue : m.state.queue ≡ called (deed x call m.answer) (key_of x) s.queue
   pub may : May (deed x call m.answer) (key_of x) s.queue.row.line
 
--- x is the caller's seat, and s is the state before the call.
-module _ {x : Option Seat} {call : Call} {s : State} where
+-- x is the caller's sync, and s is the state before the call.
+module _ {x : Option InFlight} {call : Call} {s : State} where
   -- A call that did nothing and leaves the queue as it is turns it as its deed says.
   idle : (m : Handled) → deed x call m.answer ≡ nothing → m.state.queue ≡ s.queue → Turns x call s m
   idle m e f = record {
@@ -75,14 +76,14 @@ module _ {x : Option Seat} {call : Call} {s : State} where
 
 -- a call that is none of the queue's
 abbrev IsOther : Call → Type 0
-IsOther call = (x : Option Seat) (r : Reply) → deed x call (Ok r) ≡ nothing
+IsOther call = (x : Option InFlight) (r : Reply) → deed x call (Ok r) ≡ nothing
 
 -- A refused call did nothing to the queue.
-no_deed : (x : Option Seat) (call : Call) (e : Refusal) → deed x call (Err e) ≡ nothing
+no_deed : (x : Option InFlight) (call : Call) (e : Refusal) → deed x call (Err e) ≡ nothing
 no_deed x call e = refl
 
 -- A call that is none of the queue's, and leaves the queue as it is, turns it as its deed says.
-other : (x : Option Seat) (call : Call) (s : State) (m : Handled) → IsOther call → m.state.queue ≡ s.queue
+other : (x : Option InFlight) (call : Call) (s : State) (m : Handled) → IsOther call → m.state.queue ≡ s.queue
     → Turns x call s m
 other x call s m h e = idle m (by m.answer) e
   where
@@ -91,7 +92,7 @@ other x call s m h e = idle m (by m.answer) e
     by (Err f) = no_deed x call f
 
 -- A call that is refused turns the queue as its deed says: not at all.
-no : (x : Option Seat) (call : Call) (s : State) (e : Refusal) → Turns x call s (refused s e)
+no : (x : Option InFlight) (call : Call) (s : State) (e : Refusal) → Turns x call s (refused s e)
 no x call s e = idle (refused s e) (no_deed x call e) refl
 
 -- ---- those who hold no key
@@ -117,7 +118,7 @@ told_queue s (Ok es) = refl
 told_queue s (Err e) = refl
 
 -- A call that reads, or is refused as it doesn't, turns the queue as its deed says: not at all.
-reader_turns : (x : Option Seat) (s : State) (call : Call) → Turns x call s (by_reader s call)
+reader_turns : (x : Option InFlight) (s : State) (call : Call) → Turns x call s (by_reader s call)
 reader_turns x s (Of.GetCron k) = other x (Of.GetCron k) s _ (λ y r. refl)
     (found_cron_queue s (map.get s.store.crons k))
 reader_turns x s (Of.GetJob k) = other x (Of.GetJob k) s _ (λ y r. refl) (found_job_queue s (map.get s.store.jobs k))
@@ -127,7 +128,7 @@ reader_turns x s (Of.Watch v max) = other x (Of.Watch v max) s _ (λ y r. refl) 
 reader_turns x s call = no x call s NotPermitted
 
 -- A user's call turns the queue as its deed says: not at all.
-user_turns : (x : Option Seat) (s : State) (call : Call) → Turns x call s (by_user s call)
+user_turns : (x : Option InFlight) (s : State) (call : Call) → Turns x call s (by_user s call)
 user_turns x s (Of.CreateCron d n) = other x (Of.CreateCron d n) s _ (λ y r. refl)
     (writes_queue s event_reply (map_ok cron_added (cron_created s.store d n)))
 user_turns x s (Of.UpdateCron d) = other x (Of.UpdateCron d) s _ (λ y r. refl)
@@ -143,13 +144,13 @@ user_turns x s (Of.DeleteJob k) = other x (Of.DeleteJob k) s _ (λ y r. refl)
 user_turns x s call = reader_turns x s call
 
 -- A runner's call turns the queue as its deed says: not at all.
-runner_turns : (x : Option Seat) (s : State) (call : Call) → Turns x call s (by_runner s call)
+runner_turns : (x : Option InFlight) (s : State) (call : Call) → Turns x call s (by_runner s call)
 runner_turns x s (Of.EndJob k u o n) = other x (Of.EndJob k u o n) s _ (λ y r. refl)
     (writes_queue s event_reply (map_ok job_modified (job_ended s.store k u o n)))
 runner_turns x s call = reader_turns x s call
 
 -- An informer's call, an add, a tick or the shutdown among them, turns the queue as its deed says.
-informer_turns : (x : Option Seat) (s : State) (call : Call) → Turns x call s (by_informer s call)
+informer_turns : (x : Option InFlight) (s : State) (call : Call) → Turns x call s (by_informer s call)
 informer_turns x s (Of.Add k) = record { queue = refl; may = tt }
 informer_turns x s (Of.Tick now) = record { queue = refl; may = tt }
 informer_turns x s Of.Shut = record { queue = refl; may = tt }
@@ -165,15 +166,15 @@ first_turns s w (Some k) e = record { queue = refl; may = (refl, e) }
 first_turns s w None e = no None Of.Take s _
 
 -- Any worker's Take turns the queue as its deed says; that of one who holds a key is refused.
-take_turns : (s : State) (w : ℕ) (x : Option Seat) → Turns x Of.Take s (take_by s w x)
+take_turns : (s : State) (w : ℕ) (x : Option InFlight) → Turns x Of.Take s (take_by s w x)
 take_turns s w None = first_turns s w (first s.queue.row.line) refl
 take_turns s w (Some y) = no (Some y) Of.Take s _
 
--- A call on the caller's seat leaves the queue as it is where it does so for any key and phase.
-seat_queue : (s : State) (f : Place → Phase → Handled) (x : Option Seat)
-    → ((k : Place) (p : Phase) → (f k p).state.queue ≡ s.queue) → (by_seat s f x).state.queue ≡ s.queue
-seat_queue s f None h = refl
-seat_queue s f (Some y) h = h y.key y.phase
+-- A call on the caller's sync leaves the queue as it is where it does so for any key and phase.
+sync_queue : (s : State) (f : Place → Phase → Handled) (x : Option InFlight)
+    → ((k : Place) (p : Phase) → (f k p).state.queue ≡ s.queue) → (by_sync s f x).state.queue ≡ s.queue
+sync_queue s f None h = refl
+sync_queue s f (Some y) h = h y.key y.phase
 
 -- w is a worker, and k is the key that it holds in the state s.
 module _ (s : State) (w : ℕ) (k : Place) where
@@ -232,12 +233,13 @@ module _ (s : State) (w : ℕ) (k : Place) where
   claim_queue p (Works work) = refl
 
   -- A write that is a step of a plan leaves the queue as it is, made or refused.
-  on_queue : (y : Seat) (say : Event → Reply) (r : Result Event Refusal) → (steps_on s w y say r).state.queue ≡ s.queue
+  on_queue : (y : InFlight) (say : Event → Reply) (r : Result Event Refusal) → (steps_on s w y say r).state.queue
+      ≡ s.queue
   on_queue y say (Ok e) = refl
   on_queue y say (Err e) = refl
 
   -- A drop leaves the queue as it is, was there a Job to delete or none.
-  drops_queue : (y : Seat) (name : Place) (r : Result Event Refusal) → (drops_it s w y name r).state.queue ≡ s.queue
+  drops_queue : (y : InFlight) (name : Place) (r : Result Event Refusal) → (drops_it s w y name r).state.queue ≡ s.queue
   drops_queue y name (Ok e) = refl
   drops_queue y name (Err e) = refl
 
@@ -286,7 +288,7 @@ module _ (s : State) (w : ℕ) (k : Place) where
   status_queue (Checked c js ks) = refl
   status_queue (Works work) = status_where_queue work (as_status (step_at work.plan.steps work.place))
 
-  -- a Finish by a seat of the key in this phase turns the queue as its deed says
+  -- a Finish by a sync of the key in this phase turns the queue as its deed says
   abbrev EndTurns : Phase → End → List Reason → Handled → Type 0
   EndTurns p end rs m = Turns (Some (record { key = k; phase = p })) (Of.Finish end rs) s m
 
@@ -304,41 +306,41 @@ module _ (s : State) (w : ℕ) (k : Place) where
   finish_turns Well rs (Checked c js ks) = no _ _ s _
   finish_turns Well rs (Works work) = work_turns rs work (is_over (step_at work.plan.steps work.place))
 
--- A Finish turns the queue as its deed says, on the key of the caller's seat, or is refused.
-end_turns : (s : State) (w : ℕ) (end : End) (rs : List Reason) (x : Option Seat)
-    → Turns x (Of.Finish end rs) s (by_seat s (finish_in s w end) x)
+-- A Finish turns the queue as its deed says, on the key of the caller's sync, or is refused.
+end_turns : (s : State) (w : ℕ) (end : End) (rs : List Reason) (x : Option InFlight)
+    → Turns x (Of.Finish end rs) s (by_sync s (finish_in s w end) x)
 end_turns s w end rs None = no None (Of.Finish end rs) s _
 end_turns s w end rs (Some y) = finish_turns s w y.key end rs y.phase
 
 -- A worker's call turns the queue as its deed says.
-worker_turns : (s : State) (w : ℕ) (call : Call) → Turns (seat_of s w) call s (by_worker s w call)
+worker_turns : (s : State) (w : ℕ) (call : Call) → Turns (sync_of s w) call s (by_worker s w call)
 unfolding take see_cron see_jobs see_active claim drop_next make_next set_status finish
-worker_turns s w Of.Take = take_turns s w (seat_of s w)
-worker_turns s w Of.SeeCron = other (seat_of s w) Of.SeeCron s _ (λ y r. refl)
-    (seat_queue s (see_cron_in s w) (seat_of s w) (cron_queue s w))
-worker_turns s w Of.SeeJobs = other (seat_of s w) Of.SeeJobs s _ (λ y r. refl)
-    (seat_queue s (see_jobs_in s w) (seat_of s w) (jobs_queue s w))
-worker_turns s w Of.SeeActive = other (seat_of s w) Of.SeeActive s _ (λ y r. refl)
-    (seat_queue s (see_active_in s w) (seat_of s w) (active_queue s w))
-worker_turns s w (Of.Claim p) = other (seat_of s w) (Of.Claim p) s _ (λ y r. refl)
-    (seat_queue s (claim_in s w p) (seat_of s w) (λ k. claim_queue s w k p))
-worker_turns s w Of.DropNext = other (seat_of s w) Of.DropNext s _ (λ y r. refl)
-    (seat_queue s (drop_in s w) (seat_of s w) (drop_queue s w))
-worker_turns s w Of.MakeNext = other (seat_of s w) Of.MakeNext s _ (λ y r. refl)
-    (seat_queue s (make_in s w) (seat_of s w) (make_queue s w))
-worker_turns s w Of.SetStatus = other (seat_of s w) Of.SetStatus s _ (λ y r. refl)
-    (seat_queue s (status_in s w) (seat_of s w) (status_queue s w))
-worker_turns s w (Of.Finish end rs) = end_turns s w end rs (seat_of s w)
-worker_turns s w call = no (seat_of s w) call s NotPermitted
+worker_turns s w Of.Take = take_turns s w (sync_of s w)
+worker_turns s w Of.SeeCron = other (sync_of s w) Of.SeeCron s _ (λ y r. refl)
+    (sync_queue s (see_cron_in s w) (sync_of s w) (cron_queue s w))
+worker_turns s w Of.SeeJobs = other (sync_of s w) Of.SeeJobs s _ (λ y r. refl)
+    (sync_queue s (see_jobs_in s w) (sync_of s w) (jobs_queue s w))
+worker_turns s w Of.SeeActive = other (sync_of s w) Of.SeeActive s _ (λ y r. refl)
+    (sync_queue s (see_active_in s w) (sync_of s w) (active_queue s w))
+worker_turns s w (Of.Claim p) = other (sync_of s w) (Of.Claim p) s _ (λ y r. refl)
+    (sync_queue s (claim_in s w p) (sync_of s w) (λ k. claim_queue s w k p))
+worker_turns s w Of.DropNext = other (sync_of s w) Of.DropNext s _ (λ y r. refl)
+    (sync_queue s (drop_in s w) (sync_of s w) (drop_queue s w))
+worker_turns s w Of.MakeNext = other (sync_of s w) Of.MakeNext s _ (λ y r. refl)
+    (sync_queue s (make_in s w) (sync_of s w) (make_queue s w))
+worker_turns s w Of.SetStatus = other (sync_of s w) Of.SetStatus s _ (λ y r. refl)
+    (sync_queue s (status_in s w) (sync_of s w) (status_queue s w))
+worker_turns s w (Of.Finish end rs) = end_turns s w end rs (sync_of s w)
+worker_turns s w call = no (sync_of s w) call s NotPermitted
 
 -- A call of a caller of any role turns the queue as its deed says.
-role_turns : (s : State) (r : Role) (w : ℕ) (call : Call) → Turns (seat_of s w) call s (by_role s r w call)
+role_turns : (s : State) (r : Role) (w : ℕ) (call : Call) → Turns (sync_of s w) call s (by_role s r w call)
 role_turns s Worker w call = worker_turns s w call
-role_turns s Informer w call = informer_turns (seat_of s w) s call
-role_turns s User w call = user_turns (seat_of s w) s call
-role_turns s Runner w call = runner_turns (seat_of s w) s call
+role_turns s Informer w call = informer_turns (sync_of s w) s call
+role_turns s User w call = user_turns (sync_of s w) s call
+role_turns s Runner w call = runner_turns (sync_of s w) s call
 
--- A step of the state turns the queue as the deed says, on the key that the caller's seat holds.
-pub turns : (s : State) (caller : Caller) (call : Call) → Turns (seat_of s caller.number) call s (step_of s caller call)
+-- A step of the state turns the queue as the deed says, on the key that the caller's sync holds.
+pub turns : (s : State) (caller : Caller) (call : Call) → Turns (sync_of s caller.number) call s (step_of s caller call)
 unfolding step_of
 turns s caller call = role_turns s caller.role caller.number call

@@ -59,16 +59,17 @@ module _ (ws : List Event) (s : Content) (is : IsStore ws s) where
 -- ---- one write more
 
 -- m is a map that has at each key what now says of it.
-module _ {X : Type 0} (m : map.FinMap place_cmp X) (now : Place → Option X) (is : (k : Place) → map.get m k ≡ now k) where
-  -- With a value put at k, the map has it there, and at other keys what now says.
-  put_is : (k : Place) (v : X) (q : Place) (b : Bool) → map.get (map.insert m k v) q ≡ cond b (Some v) (map.get m q)
-      → map.get (map.insert m k v) q ≡ cond b (Some v) (now q)
-  put_is k v q b e = e ∙ ap (cond b (Some v)) (is q)
+module _ {X : Type 0} (m : map.FinMap place_cmp X) (now : Place → Option X) (is : (k : Place) → map.get m k ≡ now k)
+  where
+    -- With a value put at k, the map has it there, and at other keys what now says.
+    put_is : (k : Place) (v : X) (q : Place) (b : Bool) → map.get (map.insert m k v) q ≡ cond b (Some v) (map.get m q)
+        → map.get (map.insert m k v) q ≡ cond b (Some v) (now q)
+    put_is k v q b e = e ∙ ap (cond b (Some v)) (is q)
 
-  -- With k taken out, the map has nothing there, and at other keys what now says.
-  removal_is : (k q : Place) (b : Bool) → map.get (map.remove m k) q ≡ cond b None (map.get m q)
-      → map.get (map.remove m k) q ≡ cond b None (now q)
-  removal_is k q b e = e ∙ ap (cond b None) (is q)
+    -- With k taken out, the map has nothing there, and at other keys what now says.
+    removal_is : (k q : Place) (b : Bool) → map.get (map.remove m k) q ≡ cond b None (map.get m q)
+        → map.get (map.remove m k) q ≡ cond b None (now q)
+    removal_is k q b e = e ∙ ap (cond b None) (is q)
 
 -- Before any write the empty content has what no writes leave.
 pub begins : IsStore [] nothing

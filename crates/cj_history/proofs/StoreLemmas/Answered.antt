@@ -1,4 +1,4 @@
--- Each answer on the store is the one that the writes and the caller's seat give.
+-- Each answer on the store is the one that the writes and the caller's sync give.
 use Rattle.std.proofs.Common.{◌≡◌, ℕ, Bool, true, false, List, [], ◌∷◌, map as map_list, reverse, refl, sym, ap, subst, ◌∙◌}
 use Rattle.std.specs.Prelude.{Option, Some, None, Result, Ok, Err, if◌then◌else◌}
 use Rattle.std.specs.FinMap as map
@@ -35,21 +35,21 @@ use Rattle.cj_calls.specs.declared.reply.Reply.TheVariants as Say
 use Rattle.cj_calls.specs.Rows.{Told}
 use Rattle.cj_state.specs.phases.Inputs.{rests_on}
 use Rattle.cj_state.specs.phases.Steps.{Step, drops, makes, sets, step_at, as_drop, as_make, as_status}
-use Rattle.cj_state.specs.declared.phases.seat.Work.{Work}
-use Rattle.cj_state.specs.declared.phases.seat.Phase.{Phase}
-use Rattle.cj_state.specs.declared.phases.seat.Phase.TheVariants.{Held, Seen, Listed, Checked, Works}
-use Rattle.cj_state.specs.declared.phases.seat.Seat.{Seat}
+use Rattle.cj_state.specs.declared.phases.sync.Work.{Work}
+use Rattle.cj_state.specs.declared.phases.sync.Phase.{Phase}
+use Rattle.cj_state.specs.declared.phases.sync.Phase.TheVariants.{Held, Seen, Listed, Checked, Works}
+use Rattle.cj_state.specs.declared.phases.sync.InFlight.{InFlight}
 use Rattle.cj_state.specs.declared.state.State.{State}
 use Rattle.cj_state.specs.Readings.{if_mine, active_job, active_of, listed_of, fed_up}
-use Rattle.cj_state.specs.WorkerCalls.{Handled, refused, by_seat, seat_of, see_cron, see_cron_in, see_jobs, see_jobs_in, see_active, see_active_in, claim, claim_in, claim_where, claims, wrote, works, drop_next, drop_in, drop_where, drops_it, next_seat, make_next, make_in, make_where, steps_on, event_reply, version_reply, set_status as set_status_next, status_in, status_where, sets_it}
+use Rattle.cj_state.specs.WorkerCalls.{Handled, refused, by_sync, sync_of, see_cron, see_cron_in, see_jobs, see_jobs_in, see_active, see_active_in, claim, claim_in, claim_where, claims, wrote, works, drop_next, drop_in, drop_where, drops_it, next_sync, make_next, make_in, make_where, steps_on, event_reply, version_reply, set_status as set_status_next, status_in, status_where, sets_it}
 use Rattle.cj_state.specs.Step.{writes as writes_it, found_cron, found_job, told_events, step_of, by_role, by_reader, by_user, by_runner, by_worker, by_informer}
 use Rattle.cj_state.specs.Legal.{IsLegal, state_of}
-use Rattle.cj_world_laws.proofs.LegalLemmas.Seated.{seats_agree}
+use Rattle.cj_world_laws.proofs.LegalLemmas.HeldSyncs.{syncs_agree}
 use Rattle.cj_history.specs.store.Written.{version, cron_left, job_left, current_cron, current_job}
 use Rattle.cj_history.specs.store.Lists.{IsListing}
 use Rattle.cj_history.specs.store.Mirrors.{fed, earliest, IsMirror}
 use Rattle.cj_history.specs.store.Writes.{writes}
-use Rattle.cj_history.specs.store.Answers.{Answer, Says, AnswerLaw, cron_found, job_found, active_now, actives_now, on_see_cron, on_see_active, on_claiming, on_plan, on_claim, SeesJobs, OnSeeJobs, dropped, on_drop_step, on_drop, on_make_step, on_make, on_setting, on_set, for_seat}
+use Rattle.cj_history.specs.store.Answers.{Answer, Says, AnswerLaw, cron_found, job_found, active_now, actives_now, on_see_cron, on_see_active, on_claiming, on_plan, on_claim, SeesJobs, OnSeeJobs, dropped, on_drop_step, on_drop, on_make_step, on_make, on_setting, on_set, for_sync}
 use Rattle.cj_history.specs.store.Store.{IsStore}
 use Rattle.cj_history.proofs.StoreLemmas.Planned.{create_cron_same, update_cron_same, status_same, delete_cron_same, make_same, create_job_same, update_job_same, delete_job_same, end_same}
 use Rattle.cj_history.proofs.StoreLemmas.Stores.{store_agrees}
@@ -130,8 +130,8 @@ pub record Knows (window n : ℕ) (ws : List Event) (s : State) : Type 0 where
   pub mirror : IsMirror n ws s.mirror
   pub feeds : (max : ℕ) → (fed_up s max).fed ≡ next_fed window (version ws) n max
 
--- The writes ws, of which the listing knows n, say what the state s has; o is the caller's seat.
-module _ (window n : ℕ) (ws : List Event) (o : Option Seat) (s : State) (f : Knows window n ws s) where
+-- The writes ws, of which the listing knows n, say what the state s has; o is the caller's sync.
+module _ (window n : ℕ) (ws : List Event) (o : Option InFlight) (s : State) (f : Knows window n ws s) where
   -- A GetCron is answered the CronJob that the writes left at the key, or NotFound.
   get_cron_says : (k : Place) → (by_reader s (Of.GetCron k)).answer ≡ cron_found (current_cron ws k)
   get_cron_says k = found_cron_answer s (map.get s.store.crons k) ∙ ap cron_found (f.store.crons k)
@@ -213,11 +213,11 @@ module _ (window n : ℕ) (ws : List Event) (o : Option Seat) (s : State) (f : K
 
 -- The store of the state s has what the writes ws left; w is a worker.
 module _ (ws : List Event) (s : State) (w : ℕ) (is : IsStore ws s.store) where
-  -- If f answers as g at each key and phase, a call by a seat or by none is answered as g says.
-  seat_says : (f : Place → Phase → Handled) (g : Place → Phase → Answer) (o : Option Seat)
-      → ((k : Place) (p : Phase) → (f k p).answer ≡ g k p) → (by_seat s f o).answer ≡ for_seat g o
-  seat_says f g None h = refl
-  seat_says f g (Some y) h = h y.key y.phase
+  -- If f answers as g at each key and phase, a call by a sync or by none is answered as g says.
+  sync_says : (f : Place → Phase → Handled) (g : Place → Phase → Answer) (o : Option InFlight)
+      → ((k : Place) (p : Phase) → (f k p).answer ≡ g k p) → (by_sync s f o).answer ≡ for_sync g o
+  sync_says f g None h = refl
+  sync_says f g (Some y) h = h y.key y.phase
 
   -- The active Jobs of some names are the same by the store as by the writes.
   actives_same : (u ns : List ℕ) (names : List (List ℕ)) → map_list (active_job s.store u ns) names
@@ -285,13 +285,13 @@ module _ (ws : List Event) (s : State) (w : ℕ) (is : IsStore ws s.store) where
     claim_says p (Works work) = refl
 
     -- A write that is a step of a plan is answered by its event or refusal.
-    on_answer : (y : Seat) (say : Event → Reply) (r : Result Event Refusal)
+    on_answer : (y : InFlight) (say : Event → Reply) (r : Result Event Refusal)
         → (steps_on s w y say r).answer ≡ map_ok say r
     on_answer y say (Ok e) = refl
     on_answer y say (Err e) = refl
 
     -- A drop is answered what it deleted, or that there was nothing to delete.
-    drops_answer : (y : Seat) (name : Place) (r : Result Event Refusal) → (drops_it s w y name r).answer
+    drops_answer : (y : InFlight) (name : Place) (r : Result Event Refusal) → (drops_it s w y name r).answer
         ≡ dropped name r
     drops_answer y name (Ok e) = refl
     drops_answer y name (Err e) = refl
@@ -300,7 +300,7 @@ module _ (ws : List Event) (s : State) (w : ℕ) (is : IsStore ws s.store) where
     drop_step_says : (work : Work) (o : Option Step) → (drop_where s w k work (as_drop o)).answer ≡ on_drop_step ws o
     drop_step_says work None = refl
     drop_step_says work (Some (drops r)) =
-        drops_answer (next_seat k work) r.key (map_ok job_gone (deletes_job s.store r.key (Some r.uid)))
+        drops_answer (next_sync k work) r.key (map_ok job_gone (deletes_job s.store r.key (Some r.uid)))
         ∙ ap (dropped r.key) (delete_job_same ws s.store is r.key (Some r.uid))
     drop_step_says work (Some (makes d)) = refl
     drop_step_says work (Some (sets status)) = refl
@@ -319,7 +319,7 @@ module _ (ws : List Event) (s : State) (w : ℕ) (is : IsStore ws s.store) where
     make_step_says work None = refl
     make_step_says work (Some (drops r)) = refl
     make_step_says work (Some (makes d)) =
-        on_answer (next_seat k work) event_reply (map_ok job_added (job_made s.store d work.plan.at))
+        on_answer (next_sync k work) event_reply (map_ok job_added (job_made s.store d work.plan.at))
         ∙ ap (map_ok event_reply) (make_same ws s.store is d work.plan.at)
     make_step_says work (Some (sets status)) = refl
 
@@ -336,7 +336,7 @@ module _ (ws : List Event) (s : State) (w : ℕ) (is : IsStore ws s.store) where
         → (sets_it s w k work status o).answer ≡ on_setting ws k work (Some (sets status)) o
     setting_says work status None = refl
     setting_says work status (Some cron) =
-        on_answer (next_seat k work) version_reply
+        on_answer (next_sync k work) version_reply
         (map_ok cron_modified (sets_status s.store k cron.meta.uid work.version status))
         ∙ ap (map_ok version_reply) (status_same ws s.store is k cron.meta.uid work.version status)
 
@@ -371,43 +371,43 @@ module _ (n : ℕ) (ws : List Event) (s : State) (w : ℕ) (lists : IsMirror n w
   jobs_says k (Checked c js ks) = refl
   jobs_says k (Works work) = refl
 
-  -- A SeeJobs by a seat is answered as the seat's key and phase say, by none OutOfPhase.
-  seat_lists : (o : Option Seat) → OnSeeJobs n ws o (by_seat s (see_jobs_in s w) o).answer
-  seat_lists None = refl
-  seat_lists (Some y) = jobs_says y.key y.phase
+  -- A SeeJobs by a sync is answered as the sync's key and phase say, by none OutOfPhase.
+  sync_lists : (o : Option InFlight) → OnSeeJobs n ws o (by_sync s (see_jobs_in s w) o).answer
+  sync_lists None = refl
+  sync_lists (Some y) = jobs_says y.key y.phase
 
--- A worker's call is answered as the writes, the listing and its seat say.
+-- A worker's call is answered as the writes, the listing and its sync say.
 worker_says : (window n : ℕ) (ws : List Event) (s : State) (w : ℕ) → Knows window n ws s → (call : Call)
-    → Says window n ws (seat_of s w) Worker call (by_worker s w call).answer
+    → Says window n ws (sync_of s w) Worker call (by_worker s w call).answer
 unfolding see_cron see_jobs see_active claim drop_next make_next set_status_next
-worker_says window n ws s w f Of.SeeCron = seat_says ws s w f.store (see_cron_in s w) (on_see_cron ws) (seat_of s w)
+worker_says window n ws s w f Of.SeeCron = sync_says ws s w f.store (see_cron_in s w) (on_see_cron ws) (sync_of s w)
     (cron_says ws s w f.store)
-worker_says window n ws s w f Of.SeeJobs = seat_lists n ws s w f.mirror (seat_of s w)
-worker_says window n ws s w f Of.SeeActive = seat_says ws s w f.store (see_active_in s w) (on_see_active ws)
-    (seat_of s w) (active_says ws s w f.store)
-worker_says window n ws s w f (Of.Claim p) = seat_says ws s w f.store (claim_in s w p) (λ k. on_claim ws k p)
-    (seat_of s w) (λ k. claim_says ws s w f.store k p)
-worker_says window n ws s w f Of.DropNext = seat_says ws s w f.store (drop_in s w) (on_drop ws) (seat_of s w)
+worker_says window n ws s w f Of.SeeJobs = sync_lists n ws s w f.mirror (sync_of s w)
+worker_says window n ws s w f Of.SeeActive = sync_says ws s w f.store (see_active_in s w) (on_see_active ws)
+    (sync_of s w) (active_says ws s w f.store)
+worker_says window n ws s w f (Of.Claim p) = sync_says ws s w f.store (claim_in s w p) (λ k. on_claim ws k p)
+    (sync_of s w) (λ k. claim_says ws s w f.store k p)
+worker_says window n ws s w f Of.DropNext = sync_says ws s w f.store (drop_in s w) (on_drop ws) (sync_of s w)
     (drop_says ws s w f.store)
-worker_says window n ws s w f Of.MakeNext = seat_says ws s w f.store (make_in s w) (on_make ws) (seat_of s w)
+worker_says window n ws s w f Of.MakeNext = sync_says ws s w f.store (make_in s w) (on_make ws) (sync_of s w)
     (make_says ws s w f.store)
-worker_says window n ws s w f Of.SetStatus = seat_says ws s w f.store (status_in s w) (on_set ws) (seat_of s w)
+worker_says window n ws s w f Of.SetStatus = sync_says ws s w f.store (status_in s w) (on_set ws) (sync_of s w)
     (set_says ws s w f.store)
 worker_says window n ws s w f Of.Take = tt
 worker_says window n ws s w f (Of.Finish end rs) = tt
 worker_says window n ws s w f call = refl
 
--- Whatever the caller's role, its call is answered as the writes and its seat say.
+-- Whatever the caller's role, its call is answered as the writes and its sync say.
 role_says : (window n : ℕ) (ws : List Event) (s : State) (role : Role) (w : ℕ) (call : Call) → Knows window n ws s
-    → Says window n ws (seat_of s w) role call (by_role s role w call).answer
+    → Says window n ws (sync_of s w) role call (by_role s role w call).answer
 role_says window n ws s Worker w call f = worker_says window n ws s w f call
-role_says window n ws s Informer w call f = informer_says window n ws (seat_of s w) s f call
-role_says window n ws s User w call f = user_says window n ws (seat_of s w) s f call
-role_says window n ws s Runner w call f = runner_says window n ws (seat_of s w) s f call
+role_says window n ws s Informer w call f = informer_says window n ws (sync_of s w) s f call
+role_says window n ws s User w call f = user_says window n ws (sync_of s w) s f call
+role_says window n ws s Runner w call f = runner_says window n ws (sync_of s w) s f call
 
--- A step of a state that is known by the writes answers as they and the caller's seat say.
+-- A step of a state that is known by the writes answers as they and the caller's sync say.
 step_says : (window n : ℕ) (ws : List Event) (s : State) (caller : Caller) (call : Call) → Knows window n ws s
-    → Says window n ws (seat_of s caller.number) caller.role call (step_of s caller call).answer
+    → Says window n ws (sync_of s caller.number) caller.role call (step_of s caller call).answer
 unfolding step_of
 step_says window n ws s caller call f = role_says window n ws s caller.role caller.number call f
 
@@ -424,9 +424,9 @@ known window h l =
           (numbers_law h) is f);
     }
 
--- For answer_law: after a legal history a call is answered as its writes and the caller's seat say.
+-- For answer_law: after a legal history a call is answered as its writes and the caller's sync say.
 pub answers_agree : AnswerLaw
 answers_agree window h caller call l =
-    subst (λ (o : Option Seat). Says window (fed window h) (writes h) o caller.role call
-    (step_of (state_of window h) caller call).answer) (seats_agree window h l caller.number)
+    subst (λ (o : Option InFlight). Says window (fed window h) (writes h) o caller.role call
+    (step_of (state_of window h) caller call).answer) (syncs_agree window h l caller.number)
     (step_says window (fed window h) (writes h) (state_of window h) caller call (known window h l))

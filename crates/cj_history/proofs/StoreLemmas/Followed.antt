@@ -27,7 +27,7 @@ use Rattle.cj_calls.specs.declared.call.Call.TheVariants as Of
 use Rattle.cj_calls.specs.declared.reply.Reply.{Reply}
 use Rattle.cj_calls.specs.Rows.{Told}
 use Rattle.cj_state.specs.declared.state.State.{State}
-use Rattle.cj_state.specs.WorkerCalls.{seat_of}
+use Rattle.cj_state.specs.WorkerCalls.{sync_of}
 use Rattle.cj_state.specs.Readings.{fed_up}
 use Rattle.cj_state.specs.Step.{step_of}
 use Rattle.cj_state.specs.Legal.{IsLegal, state_of}
@@ -173,9 +173,10 @@ mirror_by window ws n s call a num is f (stays e g) = (
 -- ---- every history
 
 -- e is the next entry of a legal history h, whose writes the state before it followed.
-module _ (window : ℕ) (e : Told) (h : List Told) (l : IsLegal window (e ∷ h)) (f : Follows window (writes h) (fed window h) (state_of window h)) where
+module _ (window : ℕ) (e : Told) (h : List Told) (l : IsLegal window (e ∷ h))
+    (f : Follows window (writes h) (fed window h) (state_of window h)) where
   -- The step of the entry does to store, watch and mirror what its call and its answer say.
-  kept : Keeps (writes h) (seat_of (state_of window h) e.caller.number) e.call (state_of window h)
+  kept : Keeps (writes h) (sync_of (state_of window h) e.caller.number) e.call (state_of window h)
       (step_of (state_of window h) e.caller e.call)
   kept = keeps (writes h) (state_of window h) e.caller e.call (store_agrees window h l.2)
 

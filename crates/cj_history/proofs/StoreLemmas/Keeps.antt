@@ -1,4 +1,5 @@
--- What each call does to the store, to what the watch keeps, and to the mirror: the write that its entry says.
+-- What each call does to the store, to what the watch keeps, and to the mirror: the write that its
+-- entry says.
 use Rattle.std.proofs.Common.{◌≡◌, ℕ, Bool, true, false, List, refl, sym, ap, ◌∙◌}
 use Rattle.std.specs.Prelude.{Option, Some, None, option_map, is_some, ◌==◌, Result, Ok, Err, if◌then◌else◌}
 use Rattle.std.specs.FinMap as map
@@ -37,13 +38,13 @@ use Rattle.cj_calls.specs.declared.reply.Reply.{Reply}
 use Rattle.cj_calls.specs.declared.reply.Reply.TheVariants as Say
 use Rattle.cj_state.specs.phases.Inputs.{rests_on}
 use Rattle.cj_state.specs.phases.Steps.{Step, drops, makes, sets, step_at, as_drop, as_make, as_status, is_over}
-use Rattle.cj_state.specs.declared.phases.seat.Work.{Work}
-use Rattle.cj_state.specs.declared.phases.seat.Phase.{Phase}
-use Rattle.cj_state.specs.declared.phases.seat.Phase.TheVariants.{Held, Seen, Listed, Checked, Works}
-use Rattle.cj_state.specs.declared.phases.seat.Seat.{Seat}
+use Rattle.cj_state.specs.declared.phases.sync.Work.{Work}
+use Rattle.cj_state.specs.declared.phases.sync.Phase.{Phase}
+use Rattle.cj_state.specs.declared.phases.sync.Phase.TheVariants.{Held, Seen, Listed, Checked, Works}
+use Rattle.cj_state.specs.declared.phases.sync.InFlight.{InFlight}
 use Rattle.cj_state.specs.declared.state.State.{State}
 use Rattle.cj_state.specs.Readings.{fed_up}
-use Rattle.cj_state.specs.WorkerCalls.{Handled, refused, by_seat, seat_of, take, take_by, take_first, see_cron, see_cron_in, see_jobs, see_jobs_in, see_active, see_active_in, claim, claim_in, claim_where, claims, wrote, works, drop_next, drop_in, drop_where, drops_it, next_seat, make_next, make_in, make_where, steps_on, event_reply, version_reply, set_status, status_in, status_where, sets_it, finish, finish_in, finish_work}
+use Rattle.cj_state.specs.WorkerCalls.{Handled, refused, by_sync, sync_of, take, take_by, take_first, see_cron, see_cron_in, see_jobs, see_jobs_in, see_active, see_active_in, claim, claim_in, claim_where, claims, wrote, works, drop_next, drop_in, drop_where, drops_it, next_sync, make_next, make_in, make_where, steps_on, event_reply, version_reply, set_status, status_in, status_where, sets_it, finish, finish_in, finish_work}
 use Rattle.cj_state.specs.Step.{writes, found_cron, found_job, told_events, step_of, by_role, by_reader, by_user, by_runner, by_worker, by_informer}
 use Rattle.cj_history.specs.store.Written.{current_cron, current_job, cron_updated, status_set, cron_deleted, job_created, job_updated, job_ended, job_deleted}
 use Rattle.cj_history.specs.store.Writes.{claimed, stepped, entry_written}
@@ -63,15 +64,16 @@ abbrev pub fed_by : State → Call → Result Reply Refusal → Mirror
 fed_by s (Of.Feed max) (Ok r) = fed_up s max
 fed_by s call answer = s.mirror
 
-pub record Keeps (ws : List Event) (x : Option Seat) (call : Call) (s : State) (m : Handled) : Type 0 where
+pub record Keeps (ws : List Event) (x : Option InFlight) (call : Call) (s : State) (m : Handled) : Type 0 where
   pub store : m.state.store ≡ stored (entry_written ws x call m.answer) s.store
   pub watch : m.state.watch ≡ logged (entry_written ws x call m.answer) s.watch
   pub mirror : m.state.mirror ≡ fed_by s call m.answer
 
--- ws are the writes before the call, x is its caller's seat, and s is the state before it.
-module _ {ws : List Event} {x : Option Seat} {call : Call} {s : State} where
+-- ws are the writes before the call, x is its caller's sync, and s is the state before it.
+module _ {ws : List Event} {x : Option InFlight} {call : Call} {s : State} where
   -- nothing is written
-  nothing_is : (m : Handled) → entry_written ws x call m.answer ≡ None → m.state.store ≡ s.store → m.state.watch ≡ s.watch
+  nothing_is : (m : Handled) → entry_written ws x call m.answer ≡ None → m.state.store ≡ s.store
+      → m.state.watch ≡ s.watch
       → m.state.mirror ≡ fed_by s call m.answer → Keeps ws x call s m
   nothing_is m e f g h = record {
     store = f ∙ ap (λ o. stored o s.store) (sym e);
@@ -98,8 +100,8 @@ module _ {ws : List Event} {x : Option Seat} {call : Call} {s : State} where
 
 -- ---- users and runners
 
--- The store of the state s has what the writes ws left; x is the caller's seat.
-module _ (ws : List Event) (x : Option Seat) (s : State) (is : IsStore ws s.store) where
+-- The store of the state s has what the writes ws left; x is the caller's sync.
+module _ (ws : List Event) (x : Option InFlight) (s : State) (is : IsStore ws s.store) where
   -- the call does to the store, the watch and the mirror what its entry says
   abbrev Fine : Call → Handled → Type 0
   Fine call m = Keeps ws x call s m
@@ -246,26 +248,26 @@ module _ (ws : List Event) (x : Option Seat) (s : State) (is : IsStore ws s.stor
 
 -- The store of the state s has what the writes ws left; w is a worker.
 module _ (ws : List Event) (s : State) (w : ℕ) (is : IsStore ws s.store) where
-  -- A Take without a seat writes nothing, whether the line has a first key or none.
-  take_first_is : (x : Option Seat) (o : Option Place) → Keeps ws x Of.Take s (take_first s w o)
+  -- A Take without a sync writes nothing, whether the line has a first key or none.
+  take_first_is : (x : Option InFlight) (o : Option Place) → Keeps ws x Of.Take s (take_first s w o)
   take_first_is x (Some k) = nothing_is _ refl refl refl refl
   take_first_is x None = no _
 
-  -- A Take writes nothing, whether the worker has a seat or none.
-  take_is : (x : Option Seat) → Keeps ws x Of.Take s (take_by s w x)
+  -- A Take writes nothing, whether the worker has a sync or none.
+  take_is : (x : Option InFlight) → Keeps ws x Of.Take s (take_by s w x)
   take_is None = take_first_is None (first s.queue.row.line)
   take_is (Some y) = no _
 
-  -- If f does as the entry says at each key and phase, so does a call by a seat or by none.
-  seat_is : (call : Call) (f : Place → Phase → Handled) (x : Option Seat)
+  -- If f does as the entry says at each key and phase, so does a call by a sync or by none.
+  sync_is : (call : Call) (f : Place → Phase → Handled) (x : Option InFlight)
       → ((k : Place) (p : Phase) → Keeps ws (Some (record { key = k; phase = p })) call s (f k p))
-      → Keeps ws x call s (by_seat s f x)
-  seat_is call f None h = no _
-  seat_is call f (Some y) h = h y.key y.phase
+      → Keeps ws x call s (by_sync s f x)
+  sync_is call f None h = no _
+  sync_is call f (Some y) h = h y.key y.phase
 
   -- k is the key that the worker holds.
   module _ (k : Place) where
-    -- by a seat of the key in this phase the call does what its entry says
+    -- by a sync of the key in this phase the call does what its entry says
     abbrev At : Phase → Call → Handled → Type 0
     At p call m = Keeps ws (Some (record { key = k; phase = p })) call s m
 
@@ -346,14 +348,14 @@ module _ (ws : List Event) (s : State) (w : ℕ) (is : IsStore ws s.store) where
 
     -- a step of a plan
     module _ (work : Work) where
-      -- by a seat of the key at this work the call does what its entry says
+      -- by a sync of the key at this work the call does what its entry says
       abbrev On : Call → Handled → Type 0
       On call m = At (Works work) call m
 
       -- A drop of a Job that stands does as its entry says, be it the Job that is meant or not.
       drop_case : (name : Place) (u : Option ℕ) (j : Job) (b : Bool)
           → stepped ws k work.plan (step_at work.plan.steps work.place) ≡ Some (job_deleted ws j)
-          → On Of.DropNext (drops_it s w (next_seat k work) name
+          → On Of.DropNext (drops_it s w (next_sync k work) name
           (map_ok job_gone (if b then Ok (last_job s.store j) else Err NotFound)))
       drop_case name u j true e = one_is (job_gone (last_job s.store j)) _
           (e ∙ ap (λ x. Some x) (last_job_is ws s.store is j)) refl refl refl
@@ -362,7 +364,7 @@ module _ (ws : List Event) (s : State) (w : ℕ) (is : IsStore ws s.store) where
       -- A drop does as its entry says, whether a Job stands at the name or none.
       drop_from : (name : Place) (u : Option ℕ) (o : Option Job)
           → stepped ws k work.plan (step_at work.plan.steps work.place) ≡ option_map (job_deleted ws) o
-          → On Of.DropNext (drops_it s w (next_seat k work) name (map_ok job_gone (job_deleted_from s.store u o)))
+          → On Of.DropNext (drops_it s w (next_sync k work) name (map_ok job_gone (job_deleted_from s.store u o)))
       drop_from name u None e = nothing_is _ refl refl refl refl
       drop_from name u (Some j) e = drop_case name u j (is_asked u j.meta.uid) e
 
@@ -379,7 +381,7 @@ module _ (ws : List Event) (s : State) (w : ℕ) (is : IsStore ws s.store) where
       -- A step that makes a Job does as its entry says, be the name taken or free.
       make_case : (d : JobDraft) (b : Bool) → stepped ws k work.plan (step_at work.plan.steps work.place)
           ≡ Some (job_created ws d work.plan.at)
-          → On Of.MakeNext (steps_on s w (next_seat k work) event_reply
+          → On Of.MakeNext (steps_on s w (next_sync k work) event_reply
           (map_ok job_added (if b then Err AlreadyExists else Ok (new_job s.store d work.plan.at))))
       make_case d true e = no _
       make_case d false e = one_is (job_added (new_job s.store d work.plan.at)) _
@@ -396,7 +398,7 @@ module _ (ws : List Event) (s : State) (w : ℕ) (is : IsStore ws s.store) where
       -- A step that sets a CronJob's status does as its entry says, by uid (a) and version (b).
       set_case : (status : CronStatus) (n : ℕ) (cron : CronJob) (a b : Bool)
           → stepped ws k work.plan (step_at work.plan.steps work.place) ≡ Some (status_set ws status cron)
-          → On Of.SetStatus (steps_on s w (next_seat k work) version_reply
+          → On Of.SetStatus (steps_on s w (next_sync k work) version_reply
           (map_ok cron_modified (if a then (if b then Ok (with_status s.store status cron) else Err (Conflict n))
           else Err NotFound)))
       set_case status n cron true true e = one_is (cron_modified (with_status s.store status cron)) _
@@ -407,7 +409,7 @@ module _ (ws : List Event) (s : State) (w : ℕ) (is : IsStore ws s.store) where
       -- A step that sets the status does as its entry says, if a CronJob stands there or none.
       set_from : (status : CronStatus) (u v : ℕ) (o : Option CronJob)
           → stepped ws k work.plan (step_at work.plan.steps work.place) ≡ option_map (status_set ws status) o
-          → On Of.SetStatus (steps_on s w (next_seat k work) version_reply
+          → On Of.SetStatus (steps_on s w (next_sync k work) version_reply
           (map_ok cron_modified (status_set_from s.store u v status o)))
       set_from status u v None e = no _
       set_from status u v (Some cron) e = set_case status cron.meta.version cron (cron.meta.uid == u)
@@ -467,29 +469,29 @@ module _ (ws : List Event) (s : State) (w : ℕ) (is : IsStore ws s.store) where
     finish_is Well rs (Works work) = over_is work Well rs (is_over (step_at work.plan.steps work.place))
 
   -- A worker's call does as its entry says.
-  worker_is : (call : Call) → Keeps ws (seat_of s w) call s (by_worker s w call)
+  worker_is : (call : Call) → Keeps ws (sync_of s w) call s (by_worker s w call)
   unfolding take see_cron see_jobs see_active claim drop_next make_next set_status finish
-  worker_is Of.Take = take_is (seat_of s w)
-  worker_is Of.SeeCron = seat_is Of.SeeCron _ (seat_of s w) cron_is
-  worker_is Of.SeeJobs = seat_is Of.SeeJobs _ (seat_of s w) jobs_is
-  worker_is Of.SeeActive = seat_is Of.SeeActive _ (seat_of s w) active_is
-  worker_is (Of.Claim p) = seat_is (Of.Claim p) _ (seat_of s w) (λ k. claim_is k p)
-  worker_is Of.DropNext = seat_is Of.DropNext _ (seat_of s w) drop_is
-  worker_is Of.MakeNext = seat_is Of.MakeNext _ (seat_of s w) make_is
-  worker_is Of.SetStatus = seat_is Of.SetStatus _ (seat_of s w) status_set_is
-  worker_is (Of.Finish end rs) = seat_is (Of.Finish end rs) _ (seat_of s w) (λ k. finish_is k end rs)
+  worker_is Of.Take = take_is (sync_of s w)
+  worker_is Of.SeeCron = sync_is Of.SeeCron _ (sync_of s w) cron_is
+  worker_is Of.SeeJobs = sync_is Of.SeeJobs _ (sync_of s w) jobs_is
+  worker_is Of.SeeActive = sync_is Of.SeeActive _ (sync_of s w) active_is
+  worker_is (Of.Claim p) = sync_is (Of.Claim p) _ (sync_of s w) (λ k. claim_is k p)
+  worker_is Of.DropNext = sync_is Of.DropNext _ (sync_of s w) drop_is
+  worker_is Of.MakeNext = sync_is Of.MakeNext _ (sync_of s w) make_is
+  worker_is Of.SetStatus = sync_is Of.SetStatus _ (sync_of s w) status_set_is
+  worker_is (Of.Finish end rs) = sync_is (Of.Finish end rs) _ (sync_of s w) (λ k. finish_is k end rs)
   worker_is call = no NotPermitted
 
 -- A call of any role changes the store, the watch and the mirror as its entry says.
 role_is : (ws : List Event) (s : State) (r : Role) (w : ℕ) (call : Call) → IsStore ws s.store
-    → Keeps ws (seat_of s w) call s (by_role s r w call)
+    → Keeps ws (sync_of s w) call s (by_role s r w call)
 role_is ws s Worker w call is = worker_is ws s w is call
-role_is ws s Informer w call is = informer_is ws (seat_of s w) s is call
-role_is ws s User w call is = user_is ws (seat_of s w) s is call
-role_is ws s Runner w call is = runner_is ws (seat_of s w) s is call
+role_is ws s Informer w call is = informer_is ws (sync_of s w) s is call
+role_is ws s User w call is = user_is ws (sync_of s w) s is call
+role_is ws s Runner w call is = runner_is ws (sync_of s w) s is call
 
 -- A step of the state changes the store and the watch by its entry's write, the mirror by a Feed.
 pub keeps : (ws : List Event) (s : State) (caller : Caller) (call : Call) → IsStore ws s.store
-    → Keeps ws (seat_of s caller.number) call s (step_of s caller call)
+    → Keeps ws (sync_of s caller.number) call s (step_of s caller call)
 unfolding step_of
 keeps ws s caller call is = role_is ws s caller.role caller.number call is

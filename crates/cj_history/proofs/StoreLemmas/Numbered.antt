@@ -16,15 +16,15 @@ use Rattle.cj_calls.specs.declared.reply.Reply.{Reply}
 use Rattle.cj_calls.specs.declared.reply.Reply.TheVariants as Is
 use Rattle.cj_calls.specs.Rows.{Told}
 use Rattle.cj_state.specs.phases.Steps.{Step, drops, makes, sets, step_at}
-use Rattle.cj_state.specs.declared.phases.seat.Phase.{Phase}
-use Rattle.cj_state.specs.declared.phases.seat.Phase.TheVariants.{Held, Seen, Listed, Checked, Works}
-use Rattle.cj_state.specs.declared.phases.seat.Seat.{Seat}
+use Rattle.cj_state.specs.declared.phases.sync.Phase.{Phase}
+use Rattle.cj_state.specs.declared.phases.sync.Phase.TheVariants.{Held, Seen, Listed, Checked, Works}
+use Rattle.cj_state.specs.declared.phases.sync.InFlight.{InFlight}
 use Rattle.cj_watch.specs.Numbers.{IsNumbered}
 use Rattle.cj_watch.proofs.Numbered.{numbered_snoc}
 use Rattle.cj_history.specs.store.Written.{version, made, current_cron, current_job}
 use Rattle.cj_history.specs.store.Writes.{claimed, stepped, stepped_in, stepped_by, written_by, entry_written, with_write, writes}
 use Rattle.cj_history.specs.store.Numbers.{uid_of, NumbersLaw, UidLaw}
-use Rattle.cj_world_laws.specs.legal.Seats.{seat}
+use Rattle.cj_world_laws.specs.legal.InFlightSyncs.{sync}
 
 abbrev pub Right : List Event → Event → Type 0
 Right ws (Added o) = (object_version o ≡ version ws + 1) × (uid_of o ≡ made ws + 1)
@@ -38,7 +38,7 @@ mapped ws f None h = tt
 mapped ws f (Some x) h = h x
 
 -- What a claim writes has the next version.
-claim_right : (ws : List Event) (o : Option Seat) (c : Option Claim) → IfSome (claimed ws o c) (Right ws)
+claim_right : (ws : List Event) (o : Option InFlight) (c : Option Claim) → IfSome (claimed ws o c) (Right ws)
 claim_right ws None c = tt
 claim_right ws (Some s) None = tt
 claim_right ws (Some s) (Some c) = mapped ws _ (current_cron ws s.key) (λ x. refl)
@@ -58,13 +58,14 @@ phase_right ws k (Seen c) = tt
 phase_right ws k (Listed c js) = tt
 phase_right ws k (Checked c js ks) = tt
 
--- What a caller writes by the step of its seat, if it has one, has the next numbers.
-seat_right : (ws : List Event) (o : Option Seat) → IfSome (stepped_by ws o) (Right ws)
-seat_right ws None = tt
-seat_right ws (Some s) = phase_right ws s.key s.phase
+-- What a caller writes by the step of its sync, if it has one, has the next numbers.
+sync_right : (ws : List Event) (o : Option InFlight) → IfSome (stepped_by ws o) (Right ws)
+sync_right ws None = tt
+sync_right ws (Some s) = phase_right ws s.key s.phase
 
 -- What an accepted call writes has the next version, and a new object the next uid.
-call_right : (ws : List Event) (o : Option Seat) (call : Call) (r : Reply) → IfSome (written_by ws o call r) (Right ws)
+call_right : (ws : List Event) (o : Option InFlight) (call : Call) (r : Reply) → IfSome (written_by ws o call r)
+    (Right ws)
 call_right ws o (Of.CreateCron d now) r = (refl, refl)
 call_right ws o (Of.UpdateCron d) r = mapped ws _ (current_cron ws d.key) (λ x. refl)
 call_right ws o (Of.DeleteCron k) r = mapped ws _ (current_cron ws k) (λ x. refl)
@@ -73,13 +74,13 @@ call_right ws o (Of.UpdateJob d) r = mapped ws _ (current_job ws d.key) (λ x. r
 call_right ws o (Of.DeleteJob k) r = mapped ws _ (current_job ws k) (λ x. refl)
 call_right ws o (Of.EndJob k u outcome now) r = mapped ws _ (current_job ws k) (λ x. refl)
 call_right ws o (Of.Claim p) (Is.Claimed (Some c)) = claim_right ws o p.steps.claim
-call_right ws o Of.DropNext (Is.Dropped (Some d)) = seat_right ws o
-call_right ws o Of.MakeNext r = seat_right ws o
-call_right ws o Of.SetStatus r = seat_right ws o
+call_right ws o Of.DropNext (Is.Dropped (Some d)) = sync_right ws o
+call_right ws o Of.MakeNext r = sync_right ws o
+call_right ws o Of.SetStatus r = sync_right ws o
 call_right ws o call r = tt
 
 -- What an entry writes, which is nothing where it was refused, has the next numbers.
-entry_right : (ws : List Event) (o : Option Seat) (call : Call) (a : Result Reply Refusal)
+entry_right : (ws : List Event) (o : Option InFlight) (call : Call) (a : Result Reply Refusal)
     → IfSome (entry_written ws o call a) (Right ws)
 entry_right ws o call (Ok r) = call_right ws o call r
 entry_right ws o call (Err e) = tt
@@ -97,7 +98,7 @@ with_right ws (Some w) h a = (h, a)
 -- The writes of any list of entries each had the next numbers.
 pub are_right : (h : List Told) → AreRight (writes h)
 are_right [] = tt
-are_right (e ∷ h) = with_right (writes h) _ (entry_right (writes h) (seat h e.caller.number) e.call e.answer)
+are_right (e ∷ h) = with_right (writes h) _ (entry_right (writes h) (sync h e.caller.number) e.call e.answer)
     (are_right h)
 
 -- ---- versions

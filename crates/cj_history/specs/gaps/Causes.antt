@@ -1,5 +1,5 @@
--- Why a due time got no Job: Kubernetes CronJob documentation, "Schedule suspension", "Deadline for delayed Job start",
--- "Concurrency policy" and "CronJob limitations".
+-- Why a due time got no Job: Kubernetes CronJob documentation, "Schedule suspension", "Deadline for
+-- delayed Job start", "Concurrency policy" and "CronJob limitations".
 use Rattle.std.specs.Prelude.{ℕ, Bool, true, false, nat_le, if◌then◌else◌}
 use Rattle.std.specs.List.{list_any}
 use Rattle.cj_types.specs.declared.cron.CronJob.{CronJob}
@@ -24,8 +24,9 @@ is_forbidden p = list_any is_active p.steps.reasons
 abbrev pub is_late : CronJob → Planned → ℕ → Bool
 is_late cron p t = nat_le t (deadline_start cron.spec.starting_deadline_seconds p.at)
 
--- why the first sync that came at or after the time started nothing for it: the first of these that holds; where none
--- of the three does, it passed over the time (a claim is of the latest time missed)
+-- why the first sync that came at or after the time started nothing for it: the first of these that
+-- holds; where none of the three does, it passed over the time (a claim is of the latest time
+-- missed)
 abbrev pub why_left : CronJob → Planned → ℕ → Why
 why_left cron p t =
     if cron.spec.suspend then Suspended
@@ -33,7 +34,8 @@ why_left cron p t =
     else if is_forbidden p then Forbidden
     else Earlier
 
--- a claim counts first, by whichever sync: its Job's name was taken, or its worker gave up before the making
+-- a claim counts first, by whichever sync: its Job's name was taken, or its worker gave up before
+-- the making
 -- rule: gaps
 abbrev pub cause : (Mark → Bool) → CronJob → Planned → ℕ → Why
 cause told cron p t =

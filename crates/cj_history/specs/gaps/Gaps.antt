@@ -1,5 +1,6 @@
--- The gaps of a history: the due times that got no Job, of each CronJob from its creation to its last sync (Kubernetes
--- CronJob documentation, "CronJob limitations": a CronJob "creates a Job object approximately once per execution time").
+-- The gaps of a history: the due times that got no Job, of each CronJob from its creation to its
+-- last sync (Kubernetes CronJob documentation, "CronJob limitations": a CronJob "creates a Job
+-- object approximately once per execution time").
 use Rattle.std.specs.Prelude.{◌≡◌, ◌⊎◌, ℕ, ◌<◌, ◌≤◌, Bool, true, false, List, [], ◌∷◌, Some}
 use Rattle.std.specs.List.{AllByRecursion}
 use Rattle.cj_types.specs.declared.cron.CronJob.{CronJob}
@@ -15,8 +16,8 @@ use Rattle.cj_history.specs.gaps.Marks.{is_told, has_job}
 use Rattle.cj_history.specs.gaps.Syncs.{plan_in, seen_upto}
 use Rattle.cj_history.specs.gaps.Causes.{cause}
 
--- a due time of the CronJob, at which this sync, after these entries, looked first: by the schedule and in the zone
--- that it read, after all that was looked at before, and up to its moment
+-- a due time of the CronJob, at which this sync, after these entries, looked first: by the schedule
+-- and in the zone that it read, after all that was looked at before, and up to its moment
 -- rule: gaps
 pub record IsDueIn (before : List Told) (cron : CronJob) (p : Planned) (t : ℕ) : Type 0 where
   pub schedule : Sets
@@ -27,7 +28,8 @@ pub record IsDueIn (before : List Told) (cron : CronJob) (p : Planned) (t : ℕ)
   pub above : seen_upto before cron < t
   pub within : t ≤ p.at
 
--- one that this entry looked at and that got no Job by all that is told, with the CronJob as the sync saw it
+-- one that this entry looked at and that got no Job by all that is told, with the CronJob as the
+-- sync saw it
 -- rule: gaps
 pub record IsGapAt (told : Mark → Bool) (before : List Told) (e : Told) (g : Gap) : Type 0 where
   pub plan : Planned

@@ -1,5 +1,5 @@
--- The due times of a CronJob after its last sync: at those no sync looked yet. Neither its zone nor how late it is stands
--- in the history: both are given.
+-- The due times of a CronJob after its last sync: at those no sync looked yet. Neither its zone nor
+-- how late it is stands in the history: both are given.
 use Rattle.std.specs.Prelude.{◌≡◌, ℕ, ◌<◌, ◌≤◌, true, false, List}
 use Rattle.cj_types.specs.declared.cron.CronJob.{CronJob}
 use Rattle.cj_schedule.specs.Matches.{Sets}
@@ -17,8 +17,8 @@ use Rattle.cj_history.specs.gaps.Syncs.{seen_upto}
 abbrev pub unsynced : ℕ → Why
 unsynced t = NeverSynced
 
--- a due time of the CronJob, by its schedule and in the zone, after all that its syncs looked at, or its creation, and up
--- to an instant, that got no Job
+-- a due time of the CronJob, by its schedule and in the zone, after all that its syncs looked at,
+-- or its creation, and up to an instant, that got no Job
 -- rule: gaps
 pub record IsLate (h : List Told) (cron : CronJob) (z : Zone) (upto : ℕ) (g : Gap) : Type 0 where
   pub of : g.cron ≡ cron

@@ -1,6 +1,6 @@
--- What a history says of a scheduled time of a CronJob, which is known by its uid: that a worker claimed it, that its
--- Job was made (Kubernetes CronJob documentation, "Job creation"), or that the making was refused since the name was
--- taken. A history has its newest entry first.
+-- What a history says of a scheduled time of a CronJob, which is known by its uid: that a worker
+-- claimed it, that its Job was made (Kubernetes CronJob documentation, "Job creation"), or that the
+-- making was refused since the name was taken. A history has its newest entry first.
 use Rattle.std.specs.Prelude.{ℕ, Bool, true, false, ◌==◌, ◌&&◌, ◌||◌, if◌then◌else◌, List, [], ◌∷◌, Option, Some, None, Result, Ok, Err}
 use Rattle.cj_base.specs.declared.refusal.Refusal.{Refusal}
 use Rattle.cj_base.specs.declared.refusal.Refusal.TheVariants as No
@@ -47,7 +47,8 @@ start_in call answer = None
 -- rule: gaps
 abbrev pub last_claimed : List Told → ℕ → Option Start
 last_claimed [] w = None
-last_claimed (e ∷ h) w = newer (if e.caller.number == w then start_in e.call e.answer else None) (last_claimed h w)
+last_claimed (e ∷ h) w = newer (if e.caller.number == w then start_in e.call e.answer else None)
+    (last_claimed h w)
 
 -- ---- what an entry says
 
@@ -71,7 +72,8 @@ making_mark (Some s) Of.MakeNext answer = marked s (deed_in answer)
 making_mark o call answer = None
 
 abbrev pub mark_of : List Told → Told → Option Mark
-mark_of h e = newer (claim_mark (start_in e.call e.answer)) (making_mark (last_claimed h e.caller.number) e.call e.answer)
+mark_of h e = newer (claim_mark (start_in e.call e.answer))
+    (making_mark (last_claimed h e.caller.number) e.call e.answer)
 
 abbrev pub says : Option Mark → Mark → Bool
 says None m = false

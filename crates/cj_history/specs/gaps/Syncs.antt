@@ -1,6 +1,7 @@
--- The syncs of a CronJob in a history, and how far they came: a sync reads the schedule, the zone and the moment that
--- its claim rests on, and looks at all times up to that moment (Kubernetes CronJob documentation, "CronJob
--- limitations": how many schedules it missed "in the duration from its last scheduled time until now").
+-- The syncs of a CronJob in a history, and how far they came: a sync reads the schedule, the zone
+-- and the moment that its claim rests on, and looks at all times up to that moment (Kubernetes
+-- CronJob documentation, "CronJob limitations": how many schedules it missed "in the duration from
+-- its last scheduled time until now").
 use Rattle.std.specs.Prelude.{ℕ, ◌==◌, if◌then◌else◌, max, List, [], ◌∷◌, Option, Some, None, Result, Ok}
 use Rattle.cj_base.specs.declared.refusal.Refusal.{Refusal}
 use Rattle.cj_types.specs.declared.cron.CronJob.{CronJob}
@@ -16,7 +17,8 @@ abbrev pub plan_in : Call → Result Reply Refusal → Option Planned
 plan_in (Of.Claim p) (Ok reply) = Some p
 plan_in call answer = None
 
--- the moment of a sync of the CronJob with this uid, in a known zone, where it is later than another
+-- the moment of a sync of the CronJob with this uid, in a known zone, where it is later than
+-- another
 abbrev pub moment_by : Option CronJob → Option Zone → ℕ → ℕ → ℕ → ℕ
 moment_by None z at u was = was
 moment_by (Some cron) None at u was = was

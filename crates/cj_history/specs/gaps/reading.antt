@@ -1,4 +1,5 @@
--- How far the reading of a history has come: what the code of gaps knows on its way, and no part of what a gap is.
+-- How far the reading of a history has come: what the code of gaps knows on its way, and no part of
+-- what a gap is.
 pub mod Known
 pub mod Reached
 pub mod Listed

@@ -63,4 +63,5 @@ FitLaw = (h : List Operation) → IsFit h → IsQueue h (queue_of h)
 -- and the operations of a history leave its queue
 -- rule: queued-history
 abbrev pub OperationLaw : Type 0
-OperationLaw = (window : ℕ) (h : List Told) → IsLegal window h → (state_of window h).queue ≡ queue_of (operations h)
+OperationLaw = (window : ℕ) (h : List Told) → IsLegal window h
+    → (state_of window h).queue ≡ queue_of (operations h)

@@ -8,7 +8,8 @@ use Rattle.cj_state.specs.Legal.{IsLegal, state_of}
 use Rattle.cj_history.specs.queue.Deeds.{Operation, operations}
 use Rattle.cj_history.specs.queue.LookBacks.{held, dirty, shut, mark, failures, ready_at, IsLine}
 
--- it is what the operations say; failures are counted to 18, from where on the delay is the greatest
+-- it is what the operations say; failures are counted to 18, from where on the delay is the
+-- greatest
 -- rule: queued-history
 pub record IsQueue (h : List Operation) (q : Queue) : Type 0 where
   pub line : IsLine h q.row.line
@@ -22,4 +23,5 @@ pub record IsQueue (h : List Operation) (q : Queue) : Type 0 where
 -- whoever called whatever
 -- rule: queued-history
 abbrev pub QueueLaw : Type 0
-QueueLaw = (window : ℕ) (h : List Told) → IsLegal window h → IsQueue (operations h) (state_of window h).queue
+QueueLaw = (window : ℕ) (h : List Told) → IsLegal window h
+    → IsQueue (operations h) (state_of window h).queue

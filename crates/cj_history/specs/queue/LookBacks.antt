@@ -1,5 +1,5 @@
--- What a history says of the work queue, by looking back over its operations, the newest first: client-go, package
--- workqueue ("Stingy", delayed adds, and the exponential delay of failures).
+-- What a history says of the work queue, by looking back over its operations, the newest first:
+-- client-go, package workqueue ("Stingy", delayed adds, and the exponential delay of failures).
 use Rattle.std.specs.Prelude.{◌≡◌, ℕ, ◌+◌, ◌*◌, ◌<◌, ◌⊎◌, max, nat_le, Bool, true, false, ◌&&◌, ◌||◌, not, ◌==◌, if◌then◌else◌, List, [], ◌∷◌, length, Option, Some, None, is_some}
 use Rattle.std.specs.declared.cmp.Ordering.TheVariants.{Less}
 use Rattle.cj_types.specs.Keys.{Place, place_cmp}
@@ -71,8 +71,8 @@ failures (a ∷ h) k = counts a.deed (is_holder h a k) (failures h k)
 
 -- ---- delayed adds
 
--- the time in milliseconds for which an end adds the key again, where it is the end of its sync; `f` counts
--- its failures before
+-- the time in milliseconds for which an end adds the key again, where it is the end of its sync;
+-- `f` counts its failures before
 abbrev pub later_in : Deed → Bool → ℕ → Option ℕ
 later_in (ends (Some t)) true f = Some (1000 * t)
 later_in (fails now) true f = Some (now + delay f)
@@ -96,7 +96,8 @@ waits_in shuts is_over m at was = None
 waits_in (ticks now) is_over m at was = if is_within was now then None else was
 waits_in d is_over m at was = if is_over then was else waits_more at m was
 
--- the least time for which the key waits, of the delayed adds since it last was ready; after a shutdown nothing waits
+-- the least time for which the key waits, of the delayed adds since it last was ready; after a
+-- shutdown nothing waits
 -- rule: queued-history
 abbrev pub ready_at : List Operation → Place → Option ℕ
 ready_at [] k = None
@@ -109,8 +110,8 @@ adds_in (adds j) k m at was = key_eq k j
 adds_in (ticks now) k m at was = is_within was now
 adds_in d k m at was = is_within at m
 
--- the operation after these is an add of the key: by its name, by a moment at which it is ready, or by a delayed
--- add that is due at once
+-- the operation after these is an add of the key: by its name, by a moment at which it is ready, or
+-- by a delayed add that is due at once
 abbrev pub is_add : List Operation → Operation → Place → Bool
 is_add h a k = not (shut h) && adds_in a.deed k (mark h) (later h a k) (ready_at h k)
 
@@ -133,15 +134,18 @@ abbrev pub time_in : Deed → Option ℕ → ℕ
 time_in (ticks now) was = time_of was
 time_in d was = 0
 
--- the place of the operation by which the key last became queued, and its time among those of a tick
+-- the place of the operation by which the key last became queued, and its time among those of a
+-- tick
 -- rule: queued-history
 abbrev pub since : List Operation → Place → ℕ × ℕ
 since [] k = (0, 0)
-since (a ∷ h) k = if queued (a ∷ h) k && not (queued h k) then (length (a ∷ h), time_in a.deed (ready_at h k)) else since h k
+since (a ∷ h) k = if queued (a ∷ h) k && not (queued h k) then
+    (length (a ∷ h), time_in a.deed (ready_at h k)) else since h k
 
 -- by place, then time, then key
 abbrev pub Before : ℕ × ℕ → Place → ℕ × ℕ → Place → Type 0
-Before p j q k = (p.0 < q.0) ⊎ ((p.0 ≡ q.0) × ((p.1 < q.1) ⊎ ((p.1 ≡ q.1) × (place_cmp j k ≡ Less))))
+Before p j q k = (p.0 < q.0) ⊎ ((p.0 ≡ q.0)
+    × ((p.1 < q.1) ⊎ ((p.1 ≡ q.1) × (place_cmp j k ≡ Less))))
 
 -- each stands before all that follow it
 abbrev pub RisesBy : (Place → ℕ × ℕ) → List Place → Type 0

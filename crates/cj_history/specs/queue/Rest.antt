@@ -16,4 +16,5 @@ pub record IsQuiet (h : List Operation) : Type 0 where
 -- whoever called whatever: the world is at rest exactly there
 -- rule: queued-history
 abbrev pub RestLaw : Type 0
-RestLaw = (window : ℕ) (h : List Told) → IsLegal window h → IsAtRest (state_of window h) ↔ IsQuiet (operations h)
+RestLaw = (window : ℕ) (h : List Told) → IsLegal window h
+    → IsAtRest (state_of window h) ↔ IsQuiet (operations h)

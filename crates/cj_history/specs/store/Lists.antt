@@ -17,7 +17,8 @@ Rises key (x ∷ xs) = AllByRecursion (λ y. place_cmp (key x) (key y) ≡ Less)
 
 -- just the objects that stand at some key, in the order of their keys
 -- rule: looking-back
-pub record IsListing {X : Type 0} (key : X → Place) (now : Place → Option X) (xs : List X) : Type 0 where
+pub record IsListing {X : Type 0} (key : X → Place) (now : Place → Option X) (xs : List X)
+    : Type 0 where
   pub order : Rises key xs
   pub objects : (k : Place) → found key xs k ≡ now k
 

@@ -1,6 +1,6 @@
--- The listing that lags behind, after a history: Kubernetes API concepts, "Resource versions" (a list may be
--- older than what was written), and client-go, package cache (a reflector applies events, and lists again
--- where they are gone).
+-- The listing that lags behind, after a history: Kubernetes API concepts, "Resource versions" (a
+-- list may be older than what was written), and client-go, package cache (a reflector applies
+-- events, and lists again where they are gone).
 use Rattle.std.specs.Prelude.{◌≡◌, ℕ, ◌-◌, List, [], ◌∷◌, drop, Result, Ok}
 use Rattle.std.specs.FinMap as map
 use Rattle.cj_base.specs.declared.refusal.Refusal.{Refusal}
@@ -16,8 +16,9 @@ use Rattle.cj_state.specs.Legal.{IsLegal, state_of}
 use Rattle.cj_history.specs.store.Written.{version, current_job}
 use Rattle.cj_history.specs.store.Writes.{writes}
 
--- how many writes the listing knows after a call, of `n` that were made: an accepted Feed teaches it so many
--- more, as far as there are, or all of them where some that it doesn't know are kept no more
+-- how many writes the listing knows after a call, of `n` that were made: an accepted Feed teaches
+-- it so many more, as far as there are, or all of them where some that it doesn't know are kept no
+-- more
 abbrev pub fed_after : ℕ → ℕ → ℕ → Call → Result Reply Refusal → ℕ
 fed_after window n was (Of.Feed max) (Ok r) = next_fed window n was max
 fed_after window n was call answer = was
@@ -41,4 +42,5 @@ pub record IsMirror (n : ℕ) (ws : List Event) (m : Mirror) : Type 0 where
 -- whoever called whatever
 -- rule: written-history
 abbrev pub MirrorLaw : Type 0
-MirrorLaw = (window : ℕ) (h : List Told) → IsLegal window h → IsMirror (fed window h) (writes h) (state_of window h).mirror
+MirrorLaw = (window : ℕ) (h : List Told) → IsLegal window h
+    → IsMirror (fed window h) (writes h) (state_of window h).mirror

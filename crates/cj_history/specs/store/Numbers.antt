@@ -1,5 +1,6 @@
--- The numbers that writes and objects get: Kubernetes API concepts, "Resource versions", and "Object Names
--- and IDs", "UIDs" ("every object created over the whole lifetime of a cluster has a distinct UID").
+-- The numbers that writes and objects get: Kubernetes API concepts, "Resource versions", and
+-- "Object Names and IDs", "UIDs" ("every object created over the whole lifetime of a cluster has a
+-- distinct UID").
 use Rattle.std.specs.Prelude.{◌≡◌, ℕ, ◌<◌, List, ◌∷◌, ◌++◌, reverse}
 use Rattle.cj_types.specs.declared.event.Object.{Object}
 use Rattle.cj_types.specs.declared.event.Object.TheVariants as Kind
@@ -18,8 +19,10 @@ uid_of (Kind.Job j) = j.meta.uid
 abbrev pub NumbersLaw : Type 0
 NumbersLaw = (h : List Told) → IsNumbered 0 (reverse (writes h))
 
--- of two objects that were created the later has the greater uid: no uid is given again, whatever was deleted
+-- of two objects that were created the later has the greater uid: no uid is given again, whatever
+-- was deleted
 -- rules: written-history, uid-never-returns
 abbrev pub UidLaw : Type 0
 UidLaw = (h : List Told) (after between before : List Event) (second first : Object)
-    → writes h ≡ after ++ Added second ∷ (between ++ Added first ∷ before) → uid_of first < uid_of second
+    → writes h ≡ after ++ Added second ∷ (between ++ Added first ∷ before)
+    → uid_of first < uid_of second

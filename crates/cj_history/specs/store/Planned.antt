@@ -1,5 +1,5 @@
--- Which write a call makes, with the first refusal that holds, by the writes before it: API conventions,
--- "HTTP Status codes" and "Concurrency Control and Consistency".
+-- Which write a call makes, with the first refusal that holds, by the writes before it: API
+-- conventions, "HTTP Status codes" and "Concurrency Control and Consistency".
 use Rattle.std.specs.Prelude.{ℕ, ◌==◌, List, Option, Some, None, Result, Ok, Err, is_some, if◌then◌else◌}
 use Rattle.cj_base.specs.declared.refusal.Refusal.{Refusal}
 use Rattle.cj_base.specs.declared.refusal.Refusal.TheVariants.{NotPermitted, NotFound, AlreadyExists, Conflict, AlreadyFinished}
@@ -29,7 +29,8 @@ create_cron ws d now =
 -- an update is of the current object, where it gives a version or a uid
 abbrev pub update_cron_from : List Event → CronJobDraft → Option CronJob → Result Event Refusal
 update_cron_from ws d None = Err NotFound
-update_cron_from ws d (Some c) = if is_current d.meta c.meta then Ok (cron_updated ws d c) else Err (Conflict c.meta.version)
+update_cron_from ws d (Some c) = if is_current d.meta c.meta then Ok (cron_updated ws d c) else Err
+    (Conflict c.meta.version)
 
 -- rule: looking-back
 abbrev pub update_cron : List Event → CronJobDraft → Result Event Refusal
@@ -56,7 +57,8 @@ delete_cron ws k = delete_cron_from ws (current_cron ws k)
 
 -- a worker's Job only needs a free name; a user's has no controller and gives no version
 abbrev pub make_job : List Event → JobDraft → ℕ → Result Event Refusal
-make_job ws d now = if is_some (current_job ws d.key) then Err AlreadyExists else Ok (job_created ws d now)
+make_job ws d now = if is_some (current_job ws d.key) then Err AlreadyExists else Ok
+    (job_created ws d now)
 
 abbrev pub create_job : List Event → JobDraft → ℕ → Result Event Refusal
 create_job ws d now =
@@ -78,7 +80,8 @@ update_job ws d = update_job_from ws d (current_job ws d.key)
 -- a deletion may ask for a uid
 abbrev pub delete_job_from : List Event → Option ℕ → Option Job → Result Event Refusal
 delete_job_from ws uid None = Err NotFound
-delete_job_from ws uid (Some j) = if is_asked uid j.meta.uid then Ok (job_deleted ws j) else Err NotFound
+delete_job_from ws uid (Some j) = if is_asked uid j.meta.uid then Ok (job_deleted ws j) else Err
+    NotFound
 
 -- rule: looking-back
 abbrev pub delete_job : List Event → Place → Option ℕ → Result Event Refusal

@@ -9,8 +9,8 @@ use Rattle.cj_state.specs.Legal.{IsLegal, state_of}
 use Rattle.cj_history.specs.store.Written.{version, made, current_cron, current_job}
 use Rattle.cj_history.specs.store.Writes.{writes}
 
--- its version is the number of the writes, its count of uids that of the creations, and what stands at a key
--- is what the last write about it left
+-- its version is the number of the writes, its count of uids that of the creations, and what stands
+-- at a key is what the last write about it left
 -- rule: written-history
 pub record IsStore (ws : List Event) (s : Content) : Type 0 where
   pub version : s.version ≡ version ws
@@ -21,4 +21,5 @@ pub record IsStore (ws : List Event) (s : Content) : Type 0 where
 -- whoever called whatever
 -- rule: written-history
 abbrev pub StoreLaw : Type 0
-StoreLaw = (window : ℕ) (h : List Told) → IsLegal window h → IsStore (writes h) (state_of window h).store
+StoreLaw = (window : ℕ) (h : List Told) → IsLegal window h
+    → IsStore (writes h) (state_of window h).store

@@ -1,6 +1,6 @@
--- What a write leaves, by the writes before it: Kubernetes API concepts, "Resource versions", and API
--- conventions, "Metadata". A write is told as the event that a watch gives of it. A list of writes has the
--- newest first.
+-- What a write leaves, by the writes before it: Kubernetes API concepts, "Resource versions", and
+-- API conventions, "Metadata". A write is told as the event that a watch gives of it. A list of
+-- writes has the newest first.
 use Rattle.std.specs.Prelude.{ℕ, ◌+◌, Bool, List, [], ◌∷◌, length, Option, Some, None, if◌then◌else◌}
 use Rattle.cj_types.specs.Keys.{Place}
 use Rattle.cj_types.specs.declared.meta.Meta.{Meta}
@@ -59,7 +59,8 @@ current_job (w ∷ ws) k = job_left w k (current_job ws k)
 
 -- ---- the next write
 
--- a new object: its version is the number of the write, its uid that of the creation, so that no uid is given twice
+-- a new object: its version is the number of the write, its uid that of the creation, so that no
+-- uid is given twice
 -- rule: written-history
 abbrev pub new_meta : List Event → DraftMeta → ℕ → Meta
 new_meta ws d now = record {
@@ -75,7 +76,8 @@ new_meta ws d now = record {
 abbrev pub written_again : List Event → Meta → Meta
 written_again ws m = record m { version = version ws + 1 }
 
--- one that is replaced: the draft's labels and annotations, and a generation more unless the spec is the same
+-- one that is replaced: the draft's labels and annotations, and a generation more unless the spec
+-- is the same
 abbrev pub replaced : List Event → DraftMeta → Bool → Meta → Meta
 replaced ws d is_same m = record m {
   version = version ws + 1;
@@ -95,11 +97,13 @@ cron_created ws d now = Added (Kind.Cron (record {
 
 -- an update leaves uid, creation time and status alone
 abbrev pub cron_updated : List Event → CronJobDraft → CronJob → Event
-cron_updated ws d c = Modified (Kind.Cron (record c { meta = replaced ws d.meta (same_cron_spec d.spec c.spec) c.meta; spec = d.spec }))
+cron_updated ws d c = Modified (Kind.Cron
+    (record c { meta = replaced ws d.meta (same_cron_spec d.spec c.spec) c.meta; spec = d.spec }))
 
 -- an update of the status leaves the rest alone
 abbrev pub status_set : List Event → CronStatus → CronJob → Event
-status_set ws status c = Modified (Kind.Cron (record c { meta = written_again ws c.meta; status = status }))
+status_set ws status c = Modified (Kind.Cron
+    (record c { meta = written_again ws c.meta; status = status }))
 
 -- a deletion is told with the last object, with its own version
 abbrev pub cron_deleted : List Event → CronJob → Event
@@ -110,11 +114,13 @@ abbrev pub job_created : List Event → JobDraft → ℕ → Event
 job_created ws d now = Added (Kind.Job (record { key = d.key; meta = new_meta ws d.meta now; owners = d.owners; spec = d.spec; outcome = None }))
 
 abbrev pub job_updated : List Event → JobDraft → Job → Event
-job_updated ws d j = Modified (Kind.Job (record j { meta = replaced ws d.meta (same_job_spec d.spec j.spec) j.meta; spec = d.spec }))
+job_updated ws d j = Modified (Kind.Job (record j
+    { meta = replaced ws d.meta (same_job_spec d.spec j.spec) j.meta; spec = d.spec }))
 
 -- the end sets the outcome alone
 abbrev pub job_ended : List Event → Outcome → ℕ → Job → Event
-job_ended ws outcome now j = Modified (Kind.Job (record j { meta = written_again ws j.meta; outcome = Some (ended_at now outcome) }))
+job_ended ws outcome now j = Modified (Kind.Job
+    (record j { meta = written_again ws j.meta; outcome = Some (ended_at now outcome) }))
 
 abbrev pub job_deleted : List Event → Job → Event
 job_deleted ws j = Deleted (Kind.Job (record j { meta = written_again ws j.meta }))

@@ -210,13 +210,15 @@ fn note_entry(
     moments.note(plan)
 }
 
-/// The due times of the history that got no Job, each with its cause: of each CronJob, by its uid, those from its
-/// creation to the greatest moment of its syncs. A time is due by the schedule and in the zone that the first sync that
-/// looked at it read, and got its Job where an accepted making rests on a claim of it. The entries come with the oldest
-/// first; the gaps come in the order of those syncs, and of each CronJob in the order of time.
+/// The due times of the history that got no Job, each with its cause: of each CronJob, by its uid,
+/// those from its creation to the greatest moment of its syncs. A time is due by the schedule and
+/// in the zone that the first sync that looked at it read, and got its Job where an accepted making
+/// rests on a claim of it. The entries come with the oldest first; the gaps come in the order of
+/// those syncs, and of each CronJob in the order of time.
 ///
-/// A sync counts once its claim was accepted, also where it claimed nothing, and where its zone was known. Times after
-/// the last one aren't looked at; `late_of` tells those. Takes memory in proportion to the claims and the gaps.
+/// A sync counts once its claim was accepted, also where it claimed nothing, and where its zone was
+/// known. Times after the last one aren't looked at; `late_of` tells those. Takes memory in
+/// proportion to the claims and the gaps.
 ///
 /// # Errors
 ///

@@ -9,7 +9,8 @@ pub enum Why {
     TooLate,
     /// That sync told `JobAlreadyActive`: the policy is Forbid, and a Job of the CronJob ran.
     Forbidden,
-    /// None of these: a sync that claims starts the latest time missed, and passes over those before it.
+    /// None of these: a sync that claims starts the latest time missed, and passes over those
+    /// before it.
     Earlier,
     /// It was claimed, and the name of its Job was taken.
     NameTaken,
@@ -22,7 +23,8 @@ pub enum Why {
 /// A due time of a CronJob that got no Job.
 #[derive(Drop)]
 pub struct Gap {
-    /// The CronJob, as the first sync that looked at the time saw it, or as it stands where none did.
+    /// The CronJob, as the first sync that looked at the time saw it, or as it stands where none
+    /// did.
     pub cron: Shared<CronJob>,
     /// The due time.
     pub time: Seconds,

@@ -67,12 +67,13 @@ fn note_all_late(
     Ok(())
 }
 
-/// The due times of a CronJob that no sync in the history looked at, and that got no Job: those after the greatest
-/// moment of its syncs, or after its creation where there was none, and up to an instant, by its schedule and in the
-/// zone. The entries come with the oldest first; the gaps come in the order of time.
+/// The due times of a CronJob that no sync in the history looked at, and that got no Job: those
+/// after the greatest moment of its syncs, or after its creation where there was none, and up to an
+/// instant, by its schedule and in the zone. The entries come with the oldest first; the gaps come
+/// in the order of time.
 ///
-/// A history doesn't know the zone of a CronJob that no sync looked at, nor how late it is: who asks says both. Takes
-/// memory in proportion to the claims and the gaps.
+/// A history doesn't know the zone of a CronJob that no sync looked at, nor how late it is: who
+/// asks says both. Takes memory in proportion to the claims and the gaps.
 ///
 /// # Errors
 ///

@@ -2,39 +2,44 @@ ghost use Rattle.cj_history.specs.progress.Every.{EachDueTime, EachMinute, Every
 ghost use Rattle.cj_history.specs.progress.Kept.{NoKeyIsLost};
 ghost use Rattle.cj_history.specs.progress.Syncs.{MakesJob};
 
-/// After any history a key that was added, and not taken since, stands in the line, or somebody holds it and it
-/// goes there after the end of his sync. A CronJob whose sync ended well, with a next time, stands in the line or
-/// waits for that time or an earlier one until it is taken, and stands there once a moment at or past that time was
-/// told. Adds and delayed adds after a shutdown are none.
+/// After any history a key that was added, and not taken since, stands in the line, or somebody
+/// holds it and it goes there after the end of his sync. A CronJob whose sync ended well, with a
+/// next time, stands in the line or waits for that time or an earlier one until it is taken, and
+/// stands there once a moment at or past that time was told. Adds and delayed adds after a shutdown
+/// are none.
 pub fn no_key_is_lost_law()
     ensures { NoKeyIsLost }
 {}
 
-/// A worker that holds no key takes the first of the line, whose CronJob stands, and calls its sync, while others
-/// call what they like, but write neither that CronJob nor, from the claim on, the Job of the name that is to be
-/// made. Each of its calls is accepted. Where a time was missed, and neither the CronJob nor its policy keeps a Job
-/// from being started, the Job for the latest one stands in the end, unfinished, and the CronJob's status names it;
-/// of all Jobs that were made it is the only one for that CronJob, by its uid, and that time, as long as there are
-/// uids; what the plan cleans up is gone, and under Replace what ran. Where the name of that Job is taken, by one that
-/// isn't dropped first, the claim and the drops before the making are accepted and the making refused. Where the CronJob
-/// is suspended, its zone isn't known, nothing was missed, or Forbid keeps a Job from being started, nothing is claimed,
-/// no Job is made, the last time that was scheduled stays, and the plan is worked off likewise. What a plan cleans up is
-/// never an unfinished Job of the CronJob, whatever others call.
+/// A worker that holds no key takes the first of the line, whose CronJob stands, and calls its
+/// sync, while others call what they like, but write neither that CronJob nor, from the claim on,
+/// the Job of the name that is to be made. Each of its calls is accepted. Where a time was missed,
+/// and neither the CronJob nor its policy keeps a Job from being started, the Job for the latest
+/// one stands in the end, unfinished, and the CronJob's status names it; of all Jobs that were made
+/// it is the only one for that CronJob, by its uid, and that time, as long as there are uids; what
+/// the plan cleans up is gone, and under Replace what ran. Where the name of that Job is taken, by
+/// one that isn't dropped first, the claim and the drops before the making are accepted and the
+/// making refused. Where the CronJob is suspended, its zone isn't known, nothing was missed, or
+/// Forbid keeps a Job from being started, nothing is claimed, no Job is made, the last time that
+/// was scheduled stays, and the plan is worked off likewise. What a plan cleans up is never an
+/// unfinished Job of the CronJob, whatever others call.
 pub fn progress_law()
     ensures { MakesJob }
 {}
 
-/// A CronJob stands, isn't suspended, has a schedule, and isn't kept from starting a Job beside another; and the last
-/// time that was scheduled for it, if there is one, has its Job. From then on a sync of it that nobody disturbs takes
-/// place at each of some moments, none before the one before it, in one zone, and finds the name of its Job free; and
-/// nothing else writes the CronJob. Then the Jobs that are made for it, by its uid, are one for the greatest due time of
-/// each stretch from the one moment to the next, where one is due in it, and no others. The first stretch begins at the
-/// last time that was scheduled, or at the creation where there was none; and none begins before the starting deadline
-/// of its own moment.
+/// A CronJob stands, isn't suspended, has a schedule, and isn't kept from starting a Job beside
+/// another; and the last time that was scheduled for it, if there is one, has its Job. From then on
+/// a sync of it that nobody disturbs takes place at each of some moments, none before the one
+/// before it, in one zone, and finds the name of its Job free; and nothing else writes the CronJob.
+/// Then the Jobs that are made for it, by its uid, are one for the greatest due time of each
+/// interval from the one moment to the next, where one is due in it, and no others. The first
+/// interval begins at the last time that was scheduled, or at the creation where there was none;
+/// and none begins before the starting deadline of its own moment.
 ///
-/// From its creation on these are all Jobs that are ever made for it. Where of no stretch more than one time is due, and
-/// none begins at the deadline, they are for just the times that are due up to the last moment: so with a sync a minute
-/// from the creation on, where the deadline, if there is one, is a minute or more.
+/// From its creation on these are all Jobs that are ever made for it. Where of no interval more
+/// than one time is due, and none begins at the deadline, they are for just the times that are due
+/// up to the last moment: so with a sync a minute from the creation on, where the deadline, if
+/// there is one, is a minute or more.
 pub fn every_time_law()
     ensures from_then { EveryTime }
     ensures since_creation { EveryTimeSince }

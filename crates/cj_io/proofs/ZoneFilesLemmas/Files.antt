@@ -21,4 +21,5 @@ pub leads_at : (from zones more : List Zone) (files : List ZoneFile) (i : ℕ) (
 leads_at from zones more files i file lt is leads h =
     let begins : drop i files ≡ file ∷ drop (i + 1) files =
     drop_more files i file lt ∙ ap (λ f. f ∷ drop (i + 1) files) (sym is) in
-    leads_file from zones more files (drop (i + 1) files) file (subst (λ rest. Leads from files zones rest) begins leads) h
+    leads_file from zones more files (drop (i + 1) files) file
+    (subst (λ rest. Leads from files zones rest) begins leads) h

@@ -1,5 +1,6 @@
--- The names of zones that may be looked up in a folder: of the characters that names in the tz database have ("Theory and
--- pragmatics of the tz code and data", "Names of timezones"), but without `.`.
+-- The names of zones that may be looked up in a folder: of the characters that names in the tz
+-- database have ("Theory and pragmatics of the tz code and data", "Names of timezones"), but
+-- without `.`.
 use Rattle.std.specs.Prelude.{◌≡◌, ◌≢◌, ℕ, Bool, true, ◌&&◌, ◌||◌, ◌==◌, nat_le, List, [], length, codes}
 use Rattle.std.specs.List.{All, list_all, slice_split}
 
@@ -28,13 +29,16 @@ has_parts_alone name = list_all is_part (slice_split (λ b. b == 47) name)
 abbrev pub is_file_name : List ℕ → Bool
 is_file_name name = nat_le 1 (length name) && nat_le (length name) 255 && has_parts_alone name
 
--- a part of a path leads on into a folder: it isn't empty, and doesn't stand for the folder itself or the one above
+-- a part of a path leads on into a folder: it isn't empty, and doesn't stand for the folder itself
+-- or the one above
 pub record LeadsIn (part : List ℕ) : Type 0 where
   pub some : part ≢ []
   pub here : part ≢ codes "."
   pub above : part ≢ codes ".."
 
--- each part of a name that may be looked up leads on into a folder, so none begins at the root, and none goes up
+-- each part of a name that may be looked up leads on into a folder, so none begins at the root, and
+-- none goes up
 -- rule: zoneinfo
 abbrev pub StayBelow : Type 0
-StayBelow = (name : List ℕ) → is_file_name name ≡ true → All LeadsIn (slice_split (λ b. b == 47) name)
+StayBelow = (name : List ℕ) → is_file_name name ≡ true
+    → All LeadsIn (slice_split (λ b. b == 47) name)

@@ -21,12 +21,14 @@ AddsFile zones file more =
 -- rule: zoneinfo
 abbrev pub AddsFiles : List Zone → List ZoneFile → List Zone → Type 0
 AddsFiles zones [] all = all ≡ zones
-AddsFiles zones (file ∷ files) all = (more : List Zone) × AddsFile zones file more × AddsFiles more files all
+AddsFiles zones (file ∷ files) all = (more : List Zone) × AddsFile zones file more
+    × AddsFiles more files all
 
--- UTC, the zones of the rules, then those of the files: a rule that is refused leaves no table, a file
--- never wins over a rule
+-- UTC, the zones of the rules, then those of the files: a rule that is refused leaves no table, a
+-- file never wins over a rule
 -- rules: zoneinfo, zone-refused
-pub record IsTableWith (rules : List (List ℕ)) (files : List ZoneFile) (zones : List Zone) : Type 0 where
+pub record IsTableWith (rules : List (List ℕ)) (files : List ZoneFile) (zones : List Zone)
+    : Type 0 where
   pub of_rules : List Zone
   pub rules_add : AddsRules utc_zones rules of_rules
   pub files_add : AddsFiles of_rules files zones

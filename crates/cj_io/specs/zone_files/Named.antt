@@ -1,4 +1,5 @@
--- The names of zones in a JSON value (RFC 8259): so in a manifest, a scenario, a script and a list of a cluster alike.
+-- The names of zones in a JSON value (RFC 8259): so in a manifest, a scenario, a script and a list
+-- of a cluster alike.
 use Rattle.std.specs.Prelude.{◌≡◌, ◌⊎◌, ℕ, List, [], ◌++◌, codes, bytes_eq, if◌then◌else◌, Some, IsUtf8}
 use Rattle.std.specs.Option.{option_to_list}
 use Rattle.serde_json.specs.Data.{Data, null, boolean, number, string, array, object, Items, no_items, item, Members, no_members, member}

@@ -17,7 +17,8 @@ abbrev pub utc_zones : List Zone
 utc_zones = utc_zone (codes "UTC") ∷ utc_zone (codes "Etc/UTC") ∷ []
 
 -- a zone of that name, which is free, and of that source, of which `jiff` makes a clock
-pub record AddsSource (zones : List Zone) (name : List ℕ) (source : Source) (more : List Zone) : Type 0 where
+pub record AddsSource (zones : List Zone) (name : List ℕ) (source : Source) (more : List Zone)
+    : Type 0 where
   pub free : is_refused_name zones name ≡ false
   pub clock : IsMade source
   pub more_are : more ≡ zones ++ record { name = name; source = source } ∷ []
@@ -55,13 +56,15 @@ pub record AddsRule (zones : List Zone) (pair : List ℕ) (more : List Zone) : T
 -- rule: zone-refused
 abbrev pub AddsRules : List Zone → List (List ℕ) → List Zone → Type 0
 AddsRules zones [] all = all ≡ zones
-AddsRules zones (pair ∷ pairs) all = (more : List Zone) × AddsRule zones pair more × AddsRules more pairs all
+AddsRules zones (pair ∷ pairs) all = (more : List Zone) × AddsRule zones pair more
+    × AddsRules more pairs all
 
 -- there is no `=`, or the name isn't free, or `jiff` refuses the rule
 -- rule: zone-refused
 abbrev pub IsNoRule : List Zone → List ℕ → Type 0
 IsNoRule zones pair =
-    HasNoSign pair ⊎ (is_refused_name zones (name_in pair) ≡ true) ⊎ IsNone (read_whole (rule_in pair))
+    HasNoSign pair ⊎ (is_refused_name zones (name_in pair) ≡ true)
+    ⊎ IsNone (read_whole (rule_in pair))
 
 -- want of memory, or a rule that is refused for that reason
 abbrev pub Refuses : Refused → Type 0 → Type 0

@@ -30,7 +30,8 @@ fn has_parts_alone(name: &str) -> bool
 }
 
 /// Whether a zone's name may be looked up in a folder: it has 1 to 255 bytes, and its parts between
-/// slashes are each one or more letters, digits, `_`, `+` or `-`. So no name leads out of the folder.
+/// slashes are each one or more letters, digits, `_`, `+` or `-`. So no name leads out of the
+/// folder.
 ///
 /// The tz database, "Theory and pragmatics of the tz code and data", "Names of timezones".
 pub fn is_file_name(name: &str) -> bool

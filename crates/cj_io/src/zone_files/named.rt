@@ -67,8 +67,8 @@ fn push_in_members(
     Ok(())
 }
 
-/// The texts of the members named `timeZone`, wherever they stand in the JSON value that the bytes are, in
-/// their order there; none where the bytes are no JSON. The only error is want of memory.
+/// The texts of the members named `timeZone`, wherever they stand in the JSON value that the bytes
+/// are, in their order there; none where the bytes are no JSON. The only error is want of memory.
 pub fn zones_named(alloc: Global, bytes: &[u8]) -> Result<ZoneNames, Refusal>
     ensures named { IfOk result (λ names. AreZonesNamed bytes.now names) }
     ensures memory { IfErr result (λ e. e ≡ OutOfMemory) }

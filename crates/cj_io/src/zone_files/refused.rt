@@ -12,7 +12,7 @@ pub enum Refused {
     Memory,
 }
 
-// The calls that go by this refuse nothing but memory.
+// The calls that convert by this are refused for want of memory alone, as their clauses say.
 impl From<Refusal> for Refused {
     ghost use Rattle.std.specs.Prelude.{◌≡◌};
     ghost use Rattle.cj_io.specs.declared.zone_files.refused.Refused.TheVariants.{Memory};

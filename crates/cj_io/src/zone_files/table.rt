@@ -56,7 +56,8 @@ fn add_file(table: &mut ZoneTable, file: &ZoneFile) -> Result<(), Refusal>
     }
 }
 
-/// The zones of the files more, one after another: one whose name is refused, or that is no zone file, is passed over.
+/// The zones of the files more, one after another: one whose name is refused, or that is no zone
+/// file, is passed over.
 pub fn add_files(table: &mut ZoneTable, files: &[ZoneFile]) -> Result<(), Refusal>
     ensures ok { OnOk result (AddsFiles (zones_of table.old) files.now (zones_of table.new)) }
     ensures local { OnOk result (local_zone table.new ≡ local_zone table.old) }
@@ -68,12 +69,12 @@ pub fn add_files(table: &mut ZoneTable, files: &[ZoneFile]) -> Result<(), Refusa
     Ok(())
 }
 
-/// UTC, the zones of the rules, each NAME=RULE split at its first `=`, and those of the files. UTC is the
-/// local zone.
+/// UTC, the zones of the rules, each NAME=RULE split at its first `=`, and those of the files. UTC
+/// is the local zone.
 ///
-/// `Zone` where a rule has no `=`, or its name is empty, `Local` or there already, or `jiff` refuses it. A file
-/// whose name is refused so, or that is no zone file, is passed over: a rule wins over a file, the first file
-/// over a later one.
+/// `Zone` where a rule has no `=`, or its name is empty, `Local` or there already, or `jiff`
+/// refuses it. A file whose name is refused so, or that is no zone file, is passed over: a rule
+/// wins over a file, the first file over a later one.
 pub fn table_with(alloc: Global, rules: &[&str], files: &[ZoneFile]) -> Result<ZoneTable, Refused>
     ensures ok { IfOk result (λ t. IsTableWith (map (λ r. r.now) rules.entry.now) files.now
         (zones_of t)) }

@@ -18,7 +18,6 @@ pub(crate) struct Member {
     run: Run,
 }
 
-// A function of its own, so that whoever gives one up makes one call and not one for each part.
 impl Drop for Member {
     fn drop(self) {
         let Member { lane: _, run } = self;

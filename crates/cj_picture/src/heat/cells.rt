@@ -63,7 +63,8 @@ fn names_of(
     Ok(names)
 }
 
-// How strong its colour is, in hundredths: a minute with one start can be seen, the fullest is full.
+// How strong its colour is, in hundredths: a minute with one start can be seen, the fullest is
+// full.
 fn strength(most: u64, count: u64) -> u64 {
     let part = count.saturating_mul(80).checked_div(most).unwrap_or(0);
     part.saturating_add(20).min(100)

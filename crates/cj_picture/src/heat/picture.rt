@@ -62,10 +62,10 @@ fn push_all(
     push_cells(alloc, text, grid, crons, starts, minutes)
 }
 
-/// A picture of what starts in a window, as SVG: a row an hour, a column a minute, by UTC, and a cell for each minute in
-/// which something starts, the stronger the more, with its time, its count and the names of the CronJobs as its title. The
-/// sum of an hour stands at its right, and these words, line by line, stand below. The starts are in order, and name
-/// these CronJobs by their places.
+/// A picture of what starts in a window, as SVG: a row an hour, a column a minute, by UTC, and a
+/// cell for each minute in which something starts, the stronger the more, with its time, its count
+/// and the names of the CronJobs as its title. The sum of an hour is at its right, and these words,
+/// line by line, are below. The starts are in order, and name these CronJobs by their places.
 ///
 /// No more than 400 hours are drawn; that there are more is said.
 ///

@@ -1,4 +1,4 @@
-// What stands around the cells: the minutes above, the hours at the left, the sums at the right.
+// What is around the cells: the minutes above, the hours at the left, the sums at the right.
 ghost use Rattle.std.specs.Prelude.{◌≡◌, IfErr};
 ghost use Rattle.cj_base.specs.declared.refusal.Refusal.TheVariants.{OutOfMemory};
 

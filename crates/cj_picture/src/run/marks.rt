@@ -10,7 +10,7 @@ use cj_types::{Key, Reason, Refusal, Seconds};
 use cj_zone::time_text;
 use std::alloc::Global;
 
-// Whether a sync that told this started none; that many times were missed keeps none from it.
+// Whether a sync with this reason started none; that many times were missed keeps none from it.
 fn keeps_from_starting(reason: Reason) -> bool {
     match reason {
         Reason::TooManyMissedTimes => false,
@@ -20,7 +20,7 @@ fn keeps_from_starting(reason: Reason) -> bool {
     }
 }
 
-// Whether no sync told this of a due time as a reason.
+// Whether no sync gave this as a reason for a due time.
 fn is_untold(why: Why) -> bool {
     match why {
         Why::Forbidden => false,

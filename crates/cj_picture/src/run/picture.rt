@@ -81,13 +81,14 @@ fn page_of(alloc: Global, entries: &[Entry]) -> Result<Page, Refusal>
     })
 }
 
-/// A picture of the history, whose oldest entry comes first, as SVG: a lane for each CronJob that a user wrote, by key,
-/// with its name, policy and schedule; a bar for each Job that a worker made for one of them, from its making to the end
-/// of its run, open at the right where it still runs, with a tick at the time that it was due; and a cross where a sync
-/// told why it started none, or a due time got none, with the reason as its title.
+/// A picture of the history, whose oldest entry comes first, as SVG: a lane for each CronJob that a
+/// user wrote, by key, with its name, policy and schedule; a bar for each Job that a worker made
+/// for one of them, from its making to the end of its run, open at the right where it still runs,
+/// with a tick at the time that it was due; and a cross where a sync said why it started none, or a
+/// due time got none, with the reason as its title.
 ///
-/// Of more than forty CronJobs each gets one line, and those with nothing to show are counted. It has no font or script
-/// from elsewhere, and colours for light pages and for dark ones.
+/// Of more than forty CronJobs each gets one line, and those with nothing to show are counted. It
+/// has no font or script from elsewhere, and colours for light pages and for dark ones.
 ///
 /// # Errors
 ///

@@ -34,12 +34,13 @@ job_object cron due end made name namespace = object (
     member (codes "name") (string name) (
     member (codes "namespace") (string namespace) no_members))))))
 
--- a Job that a worker made: the name of its CronJob, the time that it is for, as its annotation says it, its end, its making,
--- and its key
+-- a Job that a worker made: the name of its CronJob, the time that it is for, as its annotation
+-- says it, its end, its making, and its key
 -- rule: run-json
 abbrev pub bar_data : Bar → Data
 bar_data b =
-    job_object (text_or_null (cron_of b.job)) (due_word b.job) (end_data b.end) (time_data b.job.meta.created)
+    job_object (text_or_null (cron_of b.job)) (due_word b.job) (end_data b.end)
+    (time_data b.job.meta.created)
     b.job.key.name b.job.key.namespace
 
 -- rule: run-json

@@ -1,4 +1,4 @@
--- The reasons that a run's syncs told, as JSON.
+-- The reasons of a run's syncs, as JSON.
 use Rattle.std.specs.Prelude.{ℕ, List, codes, map}
 use Rattle.serde_json.specs.Data.{Data, string, array, object, member, no_members}
 use Rattle.serde_json.specs.View.{items_of}
@@ -13,7 +13,7 @@ reason_object cron namespace reason at = object (
     member (codes "reason") (string reason) (
     member (codes "time") at no_members))))
 
--- the CronJob's key, the reason, and when it was told
+-- the CronJob's key, the reason, and the moment of its sync
 -- rule: run-json
 abbrev pub mark_data : Mark → Data
 mark_data m = reason_object m.key.name m.key.namespace (reason_name m.reason) (time_or_null m.at)

@@ -19,8 +19,8 @@ run_object gaps jobs reasons = object (
     member (codes "jobs") jobs (
     member (codes "reasons") reasons no_members)))
 
--- just the due times that got no Job, in their order; the Jobs that workers made; and the reasons that syncs told: of a
--- history, its oldest entry first
+-- just the due times that got no Job, in their order; the Jobs that workers made; and the reasons
+-- of syncs: of a history, its oldest entry first
 -- rule: run-json
 pub record IsRunData (entries : List Told) (d : Data) : Type 0 where
   pub gaps : List Gap

@@ -63,6 +63,7 @@ tally_with (Some was) t = record { count = was.count + 1; first = was.first; las
 abbrev pub IsCounted : Families → List Gap → Type 0
 IsCounted f gs = (k : Kind) → tally_at f k ≡ tally_of (family k gs)
 
--- that tally stands at the kind, and the others stay
+-- the kind gets that tally, and the others keep theirs
 abbrev pub Stands : Kind → Tally → Families → Families → Type 0
-Stands k t before after = (other : Kind) → tally_at after other ≡ (if is_kind k other then Some t else tally_at before other)
+Stands k t before after = (other : Kind)
+    → tally_at after other ≡ (if is_kind k other then Some t else tally_at before other)

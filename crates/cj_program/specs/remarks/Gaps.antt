@@ -1,4 +1,4 @@
--- What people are told of the due times that got no Job.
+-- What is said to people of the due times that got no Job.
 use Rattle.std.specs.Prelude.{ℕ, ◌==◌, nat_le, List, [], ◌∷◌, ◌++◌, codes, decimal, Option, Some, None, if◌then◌else◌}
 use Rattle.cj_types.specs.declared.cron.CronJob.{CronJob}
 use Rattle.cj_zone.specs.TimeText.{time_text_of}
@@ -22,7 +22,8 @@ why_words NeverSynced = codes "no sync looked at it"
 -- rule: explain-gaps
 unfoldable pub gap_line : CronJob → ℕ → Why → List ℕ
 gap_line cron time why =
-    cron.key.namespace ++ (codes "/" ++ (cron.key.name ++ (codes ": no Job for " ++ (time_text_of time
+    cron.key.namespace ++ (codes "/" ++ (cron.key.name
+    ++ (codes ": no Job for " ++ (time_text_of time
     ++ (codes ", since " ++ (why_words why ++ codes "\n"))))))
 
 -- `NAMESPACE/NAME: no Job for COUNT due times from TIME to TIME, since WHY`
@@ -33,7 +34,8 @@ count_line cron t why =
     ++ (codes " due times from " ++ (time_text_of t.first ++ (codes " to " ++ (time_text_of t.last
     ++ (codes ", since " ++ (why_words why ++ codes "\n"))))))))))
 
--- of a gap of such a family: a line of its own, or, where the family has more than so many, one for all with the first
+-- the line of a gap of such a family: its own, or, where the family has more than that many, one
+-- for all with the first
 -- rule: explain-gaps
 abbrev pub line_among : ℕ → Option Tally → Gap → List ℕ
 line_among most None g = []
@@ -45,7 +47,8 @@ line_among most (Some t) g =
 -- of each of these, among all
 abbrev pub lines_among : ℕ → List Gap → List Gap → List ℕ
 lines_among most all [] = []
-lines_among most all (g ∷ gs) = line_among most (tally_of (family (kind_of g) all)) g ++ lines_among most all gs
+lines_among most all (g ∷ gs) = line_among most (tally_of (family (kind_of g) all)) g
+    ++ lines_among most all gs
 
 -- rule: explain-gaps
 abbrev pub gap_lines : ℕ → List Gap → List ℕ

@@ -1,4 +1,4 @@
--- What people are told of a run in which nothing started.
+-- What is said to people of a run in which nothing started.
 use Rattle.std.specs.Prelude.{ℕ, Bool, true, false, not, if◌then◌else◌, List, [], ◌∷◌, ◌++◌, codes, Result, Ok}
 use Rattle.std.specs.List.{list_any}
 use Rattle.cj_base.specs.declared.refusal.Refusal.{Refusal}
@@ -40,12 +40,13 @@ abbrev pub gaps_or_none : SpanView → List Gap → List ℕ
 gaps_or_none s [] = none_due_line s
 gaps_or_none s (g ∷ gs) = codes "No Job was started; why each due time got none:\n"
 
--- the first of these that holds: there was no CronJob; each one was suspended all the time; no sync found a time due;
--- else the gaps say why
+-- the first of these that holds: there was no CronJob; each one was suspended all the time; no sync
+-- found a time due; else the gaps say why
 -- rule: explain-idle
 abbrev pub idle_words : SpanView → List Told → List Gap → List ℕ
 idle_words s entries gs =
     if any_entry makes entries then []
     else if not (any_entry creates entries) then codes "No Job was started: there was no CronJob\n"
-    else if not (any_entry wakes entries) then codes "No Job was started: spec.suspend was true of each CronJob all the time\n"
+    else if not (any_entry wakes entries) then codes
+    "No Job was started: spec.suspend was true of each CronJob all the time\n"
     else gaps_or_none s gs

@@ -1,4 +1,5 @@
--- The order in which people are told of gaps: by the CronJob's namespace and name, then by its uid, then by time.
+-- The order of the lines on gaps: by the CronJob's namespace and name, then by its uid, then by
+-- time.
 use Rattle.std.specs.Prelude.{Bool}
 use Rattle.std.specs.declared.cmp.Ordering.{Ordering}
 use Rattle.std.specs.Ordering.{nat_cmp, is_lt, on, then_cmp}
@@ -6,7 +7,8 @@ use Rattle.cj_types.specs.Keys.{place_cmp}
 use Rattle.cj_history.specs.declared.gaps.gap.Gap.{Gap}
 
 abbrev pub gap_cmp : Gap → Gap → Ordering
-gap_cmp = then_cmp (then_cmp (on (λ g. g.cron.key) place_cmp) (on (λ g. g.cron.meta.uid) nat_cmp)) (on (λ g. g.time) nat_cmp)
+gap_cmp = then_cmp (then_cmp (on (λ g. g.cron.key) place_cmp) (on (λ g. g.cron.meta.uid) nat_cmp))
+    (on (λ g. g.time) nat_cmp)
 
 -- rule: explain-gaps
 abbrev pub comes_before : Gap → Gap → Bool

@@ -9,7 +9,8 @@ use Rattle.cj_calls.specs.declared.reply.Reply.{Reply}
 use Rattle.cj_script.specs.simulation.Spans.{SpanView, instant}
 use Rattle.cj_zone.specs.TimeText.{time_text_of}
 use Rattle.cj_run.specs.Turns.{turn}
-use Rattle.cj_program.specs.remarks.Calls.{call_word, place_in, place_text, refusal_words}
+use Rattle.cj_report.specs.Called.{call_word}
+use Rattle.cj_program.specs.remarks.Calls.{place_in, place_text, refusal_words}
 
 -- `At TIME DO NAMESPACE/NAME was refused: WHY`
 -- rule: explain-refused
@@ -18,7 +19,8 @@ refused_line at call refusal =
     codes "At " ++ (time_text_of at ++ (codes " " ++ (call_word call ++ (place_text (place_in call)
     ++ (codes " was refused: " ++ (refusal_words refusal ++ codes "\n"))))))
 
--- the instant that begins where so many have begun; of a clock that has no more, which no run gets to, its start
+-- the instant that begins where that many have begun; of a clock that has no more, which no run
+-- gets to, its start
 abbrev pub moment : SpanView → ℕ → ℕ
 moment s n = if nat_le (instant s n) s.end then instant s n else s.start
 
@@ -31,4 +33,5 @@ line_if at role call answer = []
 -- rule: explain-refused
 abbrev pub refused_lines : SpanView → List Told → List ℕ
 refused_lines s [] = []
-refused_lines s (e ∷ h) = refused_lines s h ++ line_if (moment s (turn s h)) e.caller.role e.call e.answer
+refused_lines s (e ∷ h) = refused_lines s h
+    ++ line_if (moment s (turn s h)) e.caller.role e.call e.answer

@@ -1,5 +1,5 @@
--- What people are told of a run: the edits that were refused, that nothing started, the due times that got no Job,
--- and the CronJobs that are suspended in the end.
+-- What is said to people of a run: the edits that were refused, that nothing started, the due times
+-- that got no Job, and the CronJobs that are suspended in the end.
 use Rattle.std.specs.Prelude.{◌≡◌, ◌↔◌, ℕ, Bool, true, false, List, [], ◌++◌}
 use Rattle.std.specs.FinMap as map
 use mathlib.Core.List.{reverse}
@@ -26,7 +26,7 @@ pub record AreGaps (h : List Told) (gs : List Gap) : Type 0 where
 abbrev pub most_lines : ℕ
 most_lines = 20
 
--- with these gaps in order, of which so many get a line each
+-- with these gaps in order, of which at most that many of a kind get a line each
 abbrev pub remark_words : ℕ → SpanView → WorldLog → List Gap → List ℕ
 remark_words most s w gaps =
     refused_lines s w.history ++ (idle_words s (reverse w.history) gaps ++ (gap_lines most gaps

@@ -1,5 +1,5 @@
--- What people are told of CronJobs that are suspended in the end: a sync of one of those names no next time to be looked
--- at (Kubernetes CronJob documentation, "Schedule suspension").
+-- What is said to people of CronJobs that are suspended in the end: a sync of one of those names no
+-- next time to be looked at (Kubernetes CronJob documentation, "Schedule suspension").
 use Rattle.std.specs.Prelude.{ℕ, List, [], ◌∷◌, ◌++◌, codes, if◌then◌else◌}
 use Rattle.cj_types.specs.declared.cron.CronJob.{CronJob}
 
@@ -13,4 +13,5 @@ suspended_line cron =
 -- rule: explain-suspended
 abbrev pub suspended_lines : List CronJob → List ℕ
 suspended_lines [] = []
-suspended_lines (cron ∷ crons) = (if cron.spec.suspend then suspended_line cron else []) ++ suspended_lines crons
+suspended_lines (cron ∷ crons) = (if cron.spec.suspend then suspended_line cron else [])
+    ++ suspended_lines crons

@@ -110,7 +110,8 @@ fn bar_values(alloc: Global, bars: &[Bar]) -> Result<Vec<Value>, Refusal>
     Ok(values)
 }
 
-/// The Jobs that workers made, each with the name of its CronJob, the time that it is for, its making and its end.
+/// The Jobs that workers made, each with the name of its CronJob, the time that it is for, its
+/// making and its end.
 pub(crate) fn bars_value(alloc: Global, bars: &[Bar]) -> Result<Value, Refusal>
     ensures ok { IfOk result (λ v. view v ≡ json.bars_data bars.now) }
     ensures err { IfErr result (λ e. e ≡ OutOfMemory) }

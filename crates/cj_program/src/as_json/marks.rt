@@ -1,4 +1,4 @@
-// The reasons that a run's syncs told, as JSON.
+// The reasons of a run's syncs, as JSON.
 ghost use Rattle.std.specs.Prelude.{◌≡◌, IfOk, IfErr, map};
 ghost use Rattle.cj_base.specs.declared.refusal.Refusal.TheVariants.{OutOfMemory};
 ghost use Rattle.serde_json.specs.View.{view};
@@ -43,7 +43,7 @@ fn mark_values(alloc: Global, marks: &[Mark]) -> Result<Vec<Value>, Refusal>
     Ok(values)
 }
 
-/// The reasons that syncs told, each with the key of its CronJob, and when.
+/// The reasons of syncs, each with the key of its CronJob, and when.
 pub(crate) fn marks_value(alloc: Global, marks: &[Mark]) -> Result<Value, Refusal>
     ensures ok { IfOk result (λ v. view v ≡ json.marks_data marks.now) }
     ensures err { IfErr result (λ e. e ≡ OutOfMemory) }

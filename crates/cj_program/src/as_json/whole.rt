@@ -45,7 +45,8 @@ fn run_object(alloc: Global, gaps: Value, jobs: Value, reasons: Value) -> Result
     })
 }
 
-// A run as one value: the due times that got no Job, the Jobs that workers made, and the reasons that syncs told.
+// A run as one value: the due times that got no Job, the Jobs that workers made, and the reasons of
+// syncs.
 fn run_value(alloc: Global, entries: &[Entry]) -> Result<Value, Refusal>
     ensures ok { IfOk result (λ v. IsRunData entries.now (view v)) }
     ensures err { IfErr result (λ e. e ≡ OutOfMemory) }
@@ -57,8 +58,8 @@ fn run_value(alloc: Global, entries: &[Entry]) -> Result<Value, Refusal>
     Ok(run_object(alloc, left, jobs, reasons)?)
 }
 
-/// A run, whose history's oldest entry comes first, as one JSON value on a line: the due times that got no Job, the Jobs
-/// that workers made, and the reasons that syncs told.
+/// A run, whose history's oldest entry comes first, as one JSON value on a line: the due times that
+/// got no Job, the Jobs that workers made, and the reasons of syncs.
 pub(crate) fn run_json(alloc: Global, entries: &[Entry]) -> Result<String, Refusal>
     ensures ok { IfOk result (λ s. IsRunJson entries.now (string_bytes s)) }
     ensures err { IfErr result (λ e. e ≡ OutOfMemory) }

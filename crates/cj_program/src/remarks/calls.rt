@@ -1,4 +1,4 @@
-// How people are told of a call.
+// How a call is described to people.
 ghost use Rattle.std.specs.Prelude.{◌≡◌, IfOk, option_copied, string_bytes};
 ghost use Rattle.cj_program.specs.remarks.Calls as said;
 
@@ -6,41 +6,7 @@ use cj_calls::Call;
 use cj_types::{Key, Refusal};
 use std::alloc::{AllocError, Global};
 
-/// The word that an edit has for the call.
-#[tactic(auto, unfolding(crate::specs::remarks::Calls::call_word))]
-pub(crate) fn call_word(call: &Call) -> &'static str
-    ensures { result.now ≡ said.call_word call.now }
-{
-    match call {
-        Call::CreateCron(_, _) => "createCron",
-        Call::UpdateCron(_) => "updateCron",
-        Call::DeleteCron(_) => "deleteCron",
-        Call::CreateJob(_, _) => "createJob",
-        Call::UpdateJob(_) => "updateJob",
-        Call::DeleteJob(_) => "deleteJob",
-        Call::EndJob(_, _, _, _) => "endJob",
-        Call::GetCron(_) => "getCron",
-        Call::GetJob(_) => "getJob",
-        Call::ListCrons => "listCrons",
-        Call::ListJobs => "listJobs",
-        Call::Watch(_, _) => "watch",
-        Call::Add(_) => "add",
-        Call::Tick(_) => "tick",
-        Call::Shut => "shut",
-        Call::Feed(_) => "feed",
-        Call::Take => "take",
-        Call::SeeCron => "seeCron",
-        Call::SeeJobs => "seeJobs",
-        Call::SeeActive => "seeActive",
-        Call::Claim(_) => "claim",
-        Call::DropNext => "drop",
-        Call::MakeNext => "make",
-        Call::SetStatus => "setStatus",
-        Call::Finish(_, _) => "finish",
-    }
-}
-
-// The object that it is about.
+// The object that a call names.
 fn key_in(call: &Call) -> Option<&Key>
     ensures { option_copied result ≡ said.place_in call.now }
 {

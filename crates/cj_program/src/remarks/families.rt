@@ -41,7 +41,7 @@ pub(crate) fn kind_of(gap: &Gap) -> Kind
     }
 }
 
-// With a gap more, at this time.
+// The count after another gap, at this time.
 fn tally_with(was: Option<Tally>, time: Seconds) -> Tally
     requires { count_in was + 1 < 2 ^ 64 }
     ensures { result ≡ said.tally_with was time }
@@ -61,7 +61,7 @@ fn tally_with(was: Option<Tally>, time: Seconds) -> Tally
 }
 
 impl Families {
-    // Of no gap.
+    // No gap is counted yet.
     fn new(alloc: Global) -> Families
         ensures { IsCounted result [] }
     {
@@ -77,7 +77,7 @@ impl Families {
         self.tallies.get(kind).copied()
     }
 
-    // That tally stands at the kind.
+    // Puts the tally at the kind.
     fn put(&mut self, kind: Kind, tally: Tally) -> Result<(), Refusal>
         ensures ok { OnOk result (Stands kind tally self.old self.new) }
         ensures err { IfErr result (λ e. e ≡ OutOfMemory) }
@@ -88,7 +88,7 @@ impl Families {
         }
     }
 
-    // A gap more, which follows those that were counted.
+    // Counts the gap that follows those that were counted.
     fn note(&mut self, gap: &Gap) -> Result<(), Refusal>
         requires { count_in (tally_at self.old (said.kind_of gap.now)) + 1 < 2 ^ 64 }
         ensures ok { OnOk result ((gs : List Gap) → IsCounted self.old gs →
@@ -100,7 +100,7 @@ impl Families {
         self.put(kind, tally)
     }
 
-    /// The gaps counted.
+    /// The tallies of all gaps.
     pub(crate) fn of(alloc: Global, gaps: &[Gap]) -> Result<Families, Refusal>
         ensures ok { IfOk result (λ f. IsCounted f gaps.now) }
         ensures err { IfErr result (λ e. e ≡ OutOfMemory) }

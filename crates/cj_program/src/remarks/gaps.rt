@@ -1,4 +1,4 @@
-// What people are told of the due times that got no Job.
+// What is said to people of the due times that got no Job.
 ghost use Rattle.std.specs.Prelude.{◌≡◌, IfOk, IfErr, string_bytes};
 ghost use Rattle.cj_base.specs.declared.refusal.Refusal.TheVariants.{OutOfMemory};
 ghost use Rattle.cj_program.specs.remarks.Gaps as said;
@@ -57,7 +57,8 @@ fn count_line(alloc: Global, gap: &Gap, tally: &Tally) -> Result<String, Refusal
     )?)
 }
 
-// A line of its own, or, where there are more of its kind than so many, one for all with the first.
+// The line of a gap. Where there are more than `most` of its kind, the first has a line for all,
+// and the others none.
 fn line_among(alloc: Global, most: u64, tally: Option<Tally>, gap: &Gap) -> Result<String, Refusal>
     ensures ok { IfOk result (λ s. string_bytes s ≡ said.line_among most tally gap.now) }
     ensures err { IfErr result (λ e. e ≡ OutOfMemory) }
@@ -74,8 +75,8 @@ fn line_among(alloc: Global, most: u64, tally: Option<Tally>, gap: &Gap) -> Resu
     }
 }
 
-/// What is told of the gaps: a line for each, or, where there are more than so many of one CronJob and one cause, a line
-/// that counts them, with the first and the last.
+/// What is said of the gaps: a line for each, or, where there are more than `most` of one CronJob
+/// and one cause, a line that counts them, with the first and the last.
 pub(crate) fn gap_text(alloc: Global, most: u64, gaps: &[Gap]) -> Result<String, Refusal>
     ensures ok { IfOk result (λ s. string_bytes s ≡ said.gap_lines most gaps.now) }
     ensures err { IfErr result (λ e. e ≡ OutOfMemory) }

@@ -1,4 +1,4 @@
-// What people are told of a run in which nothing started.
+// What is said to people of a run in which nothing started.
 ghost use Rattle.std.specs.Prelude.{◌≡◌, IfOk, IfErr, string_bytes};
 ghost use Rattle.cj_base.specs.declared.refusal.Refusal.TheVariants.{OutOfMemory};
 ghost use Rattle.cj_program.specs.remarks.Idle as said;

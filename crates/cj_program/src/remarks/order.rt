@@ -1,4 +1,4 @@
-// The order in which people are told of gaps.
+// The order of the lines on gaps.
 ghost use Rattle.std.specs.Prelude.{◌≡◌, IfErr, OnOk};
 ghost use Rattle.cj_base.specs.declared.refusal.Refusal.TheVariants.{OutOfMemory};
 ghost use Rattle.cj_status.specs.Order.{in_order};
@@ -8,7 +8,7 @@ use cj_history::Gap;
 use cj_types::Refusal;
 use std::cmp::Ordering;
 
-// How two stand: by the CronJob's namespace and name, then by its uid, then by time.
+// The order of two gaps: by the CronJob's namespace and name, then by its uid, then by time.
 fn compare(a: &Gap, b: &Gap) -> Ordering
     ensures { result ≡ gap_cmp a.now b.now }
 {

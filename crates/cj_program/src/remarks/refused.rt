@@ -5,8 +5,9 @@ ghost use Rattle.cj_base.specs.declared.refusal.Refusal.TheVariants.{OutOfMemory
 ghost use Rattle.cj_run.specs.Turns.{progress_after};
 ghost use Rattle.cj_program.specs.remarks.Refused.{line_if, moment, refused_line, refused_lines};
 
-use crate::remarks::calls::{call_word, place_text, refusal_words};
+use crate::remarks::calls::{place_text, refusal_words};
 use cj_calls::{Call, Entry, Role};
+use cj_report::call_word;
 use cj_run::Progress;
 use cj_script::Span;
 use cj_types::{Refusal, Seconds};
@@ -32,7 +33,7 @@ fn refused_line(
     Ok(format!(in alloc; "At {time} {word}{place} was refused: {why}\n")?)
 }
 
-// The instant that begins where so many have begun.
+// The instant that begins where `begun` instants have begun.
 fn moment(span: &Span, begun: u64) -> Seconds
     ensures { result ≡ moment span.now begun }
 {
@@ -54,7 +55,7 @@ fn line_if(alloc: Global, at: Seconds, entry: &Entry) -> Result<String, Refusal>
     }
 }
 
-// An entry more: how far the run is, and what was refused.
+// Takes in an entry: how far the run is, and what was refused.
 fn read_entry(
     alloc: Global,
     span: &Span,
@@ -77,8 +78,8 @@ fn read_entry(
     Ok(())
 }
 
-/// A line for each call of a user that was refused, with the instant of the clock, in the order of the entries, of which
-/// the oldest is the first.
+/// A line for each call of a user that was refused, with the instant of the clock, in the order of
+/// the entries, of which the oldest is the first.
 pub(crate) fn refused_text(alloc: Global, span: &Span, entries: &[Entry]) -> Result<String, Refusal>
     ensures ok { IfOk result (λ s. string_bytes s ≡ refused_lines span.now (reverse entries.now)) }
     ensures err { IfErr result (λ e. e ≡ OutOfMemory) }

@@ -1,4 +1,4 @@
-// What people are told of CronJobs that are suspended in the end.
+// What is said to people of CronJobs that are suspended in the end.
 ghost use Rattle.std.specs.Prelude.{◌≡◌, [], if◌then◌else◌, IfOk, IfErr, string_bytes};
 ghost use Rattle.cj_base.specs.declared.refusal.Refusal.TheVariants.{OutOfMemory};
 ghost use Rattle.cj_program.specs.remarks.Suspended as said;

@@ -1,4 +1,4 @@
-// All that people are told of a run.
+// All that is said to people of a run.
 ghost use Rattle.std.specs.Prelude.{◌≡◌, IfOk, string_bytes};
 ghost use Rattle.std.specs.FinMap as map;
 ghost use mathlib.Core.List.{reverse};
@@ -19,7 +19,7 @@ use cj_script::Span;
 use cj_types::Refusal;
 use std::alloc::Global;
 
-// What is told of the CronJobs that stand at the end.
+// What is said of the CronJobs that are there at the end.
 fn end_text(alloc: Global, closed: &Closed) -> Result<String, Refusal>
     ensures { IfOk result (λ s. string_bytes s
         ≡ suspended_lines (map.values (state_in closed.now).store.crons)) }
@@ -36,7 +36,7 @@ pub(crate) fn entries_of(closed: &Closed) -> &[Entry]
     closed.history()
 }
 
-// What is told of a history with these gaps, which are in order.
+// What is said of a history with these gaps, which are in order.
 fn text_of(
     alloc: Global,
     most: u64,
@@ -57,7 +57,7 @@ fn text_of(
     Ok(text)
 }
 
-// What is told of a closed history.
+// What is said of a closed history.
 fn remark(alloc: Global, most: u64, span: &Span, closed: &Closed) -> Result<String, Refusal>
     ensures { IfOk result (λ s. IsRemark most span.now closed.now (string_bytes s)) }
 {
@@ -66,8 +66,8 @@ fn remark(alloc: Global, most: u64, span: &Span, closed: &Closed) -> Result<Stri
     text_of(alloc, most, span, closed, gaps.as_slice())
 }
 
-/// What people are told of a run under this clock, where they ask for it: of so many gaps of one CronJob and one cause a
-/// line each, and of more one line.
+/// What is said to people of a run under this clock, where they ask for it. At most `most` gaps of
+/// one CronJob and one cause get a line each, and more get one line together.
 pub(crate) fn asked_remark(
     alloc: Global,
     explain: bool,

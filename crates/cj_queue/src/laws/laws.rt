@@ -1,14 +1,14 @@
 ghost use Rattle.cj_queue.specs.laws.Queues.{QueuesAreStingy};
 ghost use Rattle.cj_queue.specs.laws.Rows.{RowsStayStingy};
 
-/// The law of the line and its two sets: each call keeps that a key of the line wants work, is not being
-/// worked on and stands there once, and that a key that wants work stands in the line unless it is being
-/// worked on.
+/// The law of the line and its two sets, kept by each call. A key of the line is in it once, is
+/// dirty, and is not being worked on. A dirty key is in the line, unless it is being worked on.
 pub fn row_laws()
     ensures { RowsStayStingy }
 {}
 
-/// The law of the queue: whatever was called on it, its row is so; and after `shut` no key waits for a time.
+/// The law of the queue after any calls: `row_laws` hold of its line and its sets, and after `shut`
+/// no key waits.
 pub fn queue_laws()
     ensures { QueuesAreStingy }
 {}

@@ -28,25 +28,26 @@ module _ (m : FinMap nat_cmp Snapshot) (h : List Told) (r : Remembers m h) (call
   pub refused_remembered : (e : Refusal) → Remembers m (record { caller = caller; call = call; answer = Err e } ∷ h)
   refused_remembered e = record { each = λ w. r.each w ∙ same_by (caller.number == w) (seen_of w h) }
 
-  module _ (reply : Reply) (s : Snapshot) (is : s ≡ with_reply (snapshot_or_none (get m caller.number)) call reply) where
-    -- For reply_remembered: the caller has seen the reply too, and any other worker what it had
-    -- seen.
-    found_by : (w : ℕ) (b : Bool) → (caller.number == w) ≡ b → snapshot_or_none (cond b (Some s) (get m w))
-        ≡ cond b (with_reply (seen_of w h) call reply) (seen_of w h)
-    found_by w true e =
-        let own : caller.number ≡ w = eqb-true caller.number w e in
-        is ∙ ap (λ (x : Snapshot). with_reply x call reply) (r.each caller.number)
-        ∙ ap (λ (n : ℕ). with_reply (seen_of n h) call reply) own
-    found_by w false e = r.each w
+  module _ (reply : Reply) (s : Snapshot) (is : s ≡ with_reply (snapshot_or_none (get m caller.number)) call reply)
+    where
+      -- For reply_remembered: the caller has seen the reply too, and any other worker what it had
+      -- seen.
+      found_by : (w : ℕ) (b : Bool) → (caller.number == w) ≡ b → snapshot_or_none (cond b (Some s) (get m w))
+          ≡ cond b (with_reply (seen_of w h) call reply) (seen_of w h)
+      found_by w true e =
+          let own : caller.number ≡ w = eqb-true caller.number w e in
+          is ∙ ap (λ (x : Snapshot). with_reply x call reply) (r.each caller.number)
+          ∙ ap (λ (n : ℕ). with_reply (seen_of n h) call reply) own
+      found_by w false e = r.each w
 
-    -- A number ties with the caller's in their order just where it is the caller's.
-    tied : (w : ℕ) → eq_by_cmp nat_cmp w caller.number ≡ (caller.number == w)
-    tied w = (eq_by_cmp_equiv nat_cmp_total).symm w caller.number ∙ unsigned_tied caller.number w
+      -- A number ties with the caller's in their order just where it is the caller's.
+      tied : (w : ℕ) → eq_by_cmp nat_cmp w caller.number ≡ (caller.number == w)
+      tied w = (eq_by_cmp_equiv nat_cmp_total).symm w caller.number ∙ unsigned_tied caller.number w
 
-    -- For Snapshots::note: with the caller's new snapshot, the map remembers the accepted call as well.
-    pub reply_remembered : Remembers (insert m caller.number s)
-        (record { caller = caller; call = call; answer = Ok reply } ∷ h)
-    reply_remembered = record {
-      each = λ w. ap snapshot_or_none (get-insert nat_cmp_total m caller.number s w
-          ∙ ap (λ (b : Bool). cond b (Some s) (get m w)) (tied w)) ∙ found_by w (caller.number == w) refl;
-    }
+      -- For Snapshots::note: with the caller's new snapshot, the map remembers the accepted call as well.
+      pub reply_remembered : Remembers (insert m caller.number s)
+          (record { caller = caller; call = call; answer = Ok reply } ∷ h)
+      reply_remembered = record {
+        each = λ w. ap snapshot_or_none (get-insert nat_cmp_total m caller.number s w
+            ∙ ap (λ (b : Bool). cond b (Some s) (get m w)) (tied w)) ∙ found_by w (caller.number == w) refl;
+      }

@@ -11,6 +11,6 @@ abbrev pub snapshot_or_none : Option Snapshot → Snapshot
 snapshot_or_none None = unseen
 snapshot_or_none (Some snapshot) = snapshot
 
--- the map has of every worker what the history tells
+-- the map has for every worker what it has seen by the history
 pub record Remembers (snapshots : FinMap nat_cmp Snapshot) (h : List Told) : Type 0 where
   pub each : (number : ℕ) → snapshot_or_none (get snapshots number) ≡ seen_of number h

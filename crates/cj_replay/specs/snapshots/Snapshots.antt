@@ -1,6 +1,6 @@
--- What a worker has seen in its sync so far, by looking back over a history: its own accepted answers since
--- it took the key. Histories have the newest entry first. (A controller's sync reads before it writes:
--- Kubernetes, "Controllers".)
+-- What a worker has seen in its sync so far, by looking back over a history: its own accepted
+-- answers since it took the key. Histories have the newest entry first. (A controller's sync reads
+-- before it writes: Kubernetes, "Controllers".)
 use Rattle.std.specs.Prelude.{ℕ, ◌==◌, List, [], ◌∷◌, if◌then◌else◌, Option, Some, None, Result, Ok, Err}
 use Rattle.cj_base.specs.declared.refusal.Refusal.{Refusal}
 use Rattle.cj_decide.specs.Decision.{Planned}
@@ -17,7 +17,8 @@ abbrev pub plan_in : Call → Option Planned
 plan_in (Of.Claim p) = Some p
 plan_in other = None
 
--- with one reply more: a Take begins a sync and a Finish ends it; what was read is kept, and the plan that was claimed
+-- with one reply more: a Take begins a sync and a Finish ends it; what was read is kept, and the
+-- plan that was claimed
 -- rule: claim-step
 unfoldable pub with_reply : Snapshot → Call → Reply → Snapshot
 with_reply s call (Is.Key key) = unseen
@@ -33,9 +34,10 @@ abbrev pub with_answer : Snapshot → Call → Result Reply Refusal → Snapshot
 with_answer s call (Ok reply) = with_reply s call reply
 with_answer s call (Err refusal) = s
 
--- what the worker has seen after the history, of which others' entries tell nothing
+-- what the worker has seen after the history; entries of others show it nothing
 -- rule: claim-step
 abbrev pub seen_of : ℕ → List Told → Snapshot
 seen_of number [] = unseen
 seen_of number (t ∷ h) =
-    if t.caller.number == number then with_answer (seen_of number h) t.call t.answer else seen_of number h
+    if t.caller.number == number then with_answer (seen_of number h) t.call t.answer else seen_of
+    number h

@@ -13,7 +13,8 @@ use std::alloc::Global;
 use std::collections::BTreeMap;
 use std::marker::Model;
 
-/// What each worker has seen in its sync so far, by the worker's number. Contracts see a finite map.
+/// What each worker has seen in its sync so far, by the worker's number. Contracts see a finite
+/// map.
 pub struct Snapshots {
     rows: BTreeMap<u64, Snapshot>,
 }
@@ -32,14 +33,13 @@ impl Model for Snapshots {
     ghost view = { λ s. map.from_entries s.rows.entries };
 }
 
-// A function of its own, so that whoever gives up the snapshots makes one call and not one for each part.
 impl Drop for Snapshots {
     fn drop(self) {
         let Snapshots { rows: _ } = self;
     }
 }
 
-// What a worker has seen with one reply more; of one that isn't known nothing was seen.
+// What a worker has seen after another reply. A worker that isn't known had seen nothing.
 fn next_snapshot(
     alloc: Global,
     snapshot: Option<&Snapshot>,
@@ -88,7 +88,8 @@ impl Snapshots {
         }
     }
 
-    /// Remembers what an entry more says that its caller has seen. Where there is no memory all is as it was.
+    /// Remembers what the caller of another entry has seen by it. Where memory is wanting all is as
+    /// it was.
     #[tactic(auto, using(crate::proofs::SnapshotsLemmas::Notes::refused_remembered, crate::proofs::SnapshotsLemmas::Notes::reply_remembered))]
     pub fn note(
         &mut self,

@@ -1,4 +1,4 @@
-// What a worker has seen with one reply more.
+// What a worker has seen after another reply.
 ghost use Rattle.std.specs.Prelude.{◌≡◌, Some, IfOk, IfErr};
 ghost use Rattle.cj_base.specs.declared.refusal.Refusal.TheVariants.{OutOfMemory};
 ghost use Rattle.cj_replay.specs.snapshots.Snapshots as told;
@@ -106,7 +106,7 @@ fn with_plan(alloc: Global, snapshot: &Snapshot, call: &Call) -> Result<Snapshot
     })
 }
 
-/// What a worker has seen with one reply more.
+/// What a worker has seen after another reply.
 #[tactic(auto, unfolding(crate::specs::snapshots::Snapshots::with_reply))]
 pub(crate) fn with_reply(
     alloc: Global,

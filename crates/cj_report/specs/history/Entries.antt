@@ -27,23 +27,28 @@ abbrev pub answer_fields : Result Reply Refusal → List ℕ
 answer_fields (Ok reply) = listed reply
 answer_fields (Err refusal) = []
 
--- `NUMBER ROLE TIME NAMESPACE/NAME`: who called, the moment that the call tells, and the object that it is about
+-- `NUMBER ROLE TIME NAMESPACE/NAME`: who called, the moment in the call, and the object that it is
+-- about
 -- rule: history-lines
 unfoldable pub asked_words : Caller → Call → Result Reply Refusal → List ℕ
 asked_words caller call answer =
-    decimal caller.number ++ (codes " " ++ (role_word caller.role ++ (codes " " ++ (moment_text (told_moment call) ++ (codes " " ++ key_word (about call answer))))))
+    decimal caller.number ++ (codes " " ++
+    (role_word caller.role ++ (codes " "
+    ++ (moment_text (told_moment call) ++ (codes " " ++ key_word (about call answer))))))
 
 -- `DO ANSWER`, as the line of a step has them, and what else call and answer say
 -- rule: history-lines
 unfoldable pub answered_words : Call → Result Reply Refusal → List ℕ
 answered_words call answer =
-    call_word call ++ (codes " " ++ (answer_text (answers_as call) answer ++ (asked call ++ answer_fields answer)))
+    call_word call ++ (codes " " ++ (answer_text (answers_as call) answer
+    ++ (asked call ++ answer_fields answer)))
 
 -- the place of the entry, counted from 1, and what it says
 -- rule: history-lines
 abbrev pub entry_line : ℕ → Told → List ℕ
 entry_line place e =
-    decimal place ++ (codes " " ++ (asked_words e.caller e.call e.answer ++ (codes " " ++ (answered_words e.call e.answer ++ codes "\n"))))
+    decimal place ++ (codes " " ++ (asked_words e.caller e.call e.answer
+    ++ (codes " " ++ (answered_words e.call e.answer ++ codes "\n"))))
 
 abbrev pub entry_lines : ℕ → List Told → List ℕ
 entry_lines place [] = []

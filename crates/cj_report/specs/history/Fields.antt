@@ -1,4 +1,5 @@
--- What is said of an object, of a plan and of a call, as words `NAME=VALUE`, each after a blank. No value has a blank.
+-- What is said of an object, of a plan and of a call, as words `NAME=VALUE`, each after a blank. No
+-- value has a blank.
 use Rattle.std.specs.Prelude.{ℕ, Bool, true, false, ◌||◌, nat_le, List, [], ◌∷◌, ◌++◌, codes, if◌then◌else◌, is_some, Option, Some, None}
 use Rattle.std.specs.Fmt.{decimal}
 use Rattle.cj_types.specs.LabelMap.{label_of}
@@ -79,20 +80,24 @@ due_word job = word_or_none (label_of scheduled_annotation job.meta.annotations)
 
 abbrev pub owner_words : Option OwnerRef → List ℕ
 owner_words None = codes " owner=- owner-uid=-"
-owner_words (Some owner) = codes " owner=" ++ (word owner.name ++ (codes " owner-uid=" ++ word owner.uid))
+owner_words (Some owner) = codes " owner="
+    ++ (word owner.name ++ (codes " owner-uid=" ++ word owner.uid))
 
 -- rule: history-lines
 unfoldable pub cron_fields : CronJob → List ℕ
 cron_fields cron =
     codes " uid=" ++ (uid_text cron.meta.uid ++ (codes " policy=" ++ (policy_name cron.spec.policy
-    ++ (codes " suspend=" ++ (yes_or_no cron.spec.suspend ++ (codes " last=" ++ (moment_text cron.status.last_schedule_time
+    ++ (codes " suspend=" ++ (yes_or_no cron.spec.suspend
+    ++ (codes " last=" ++ (moment_text cron.status.last_schedule_time
     ++ (codes " active=" ++ names_word cron.status.active))))))))
 
 -- rule: history-lines
 unfoldable pub job_fields : Job → List ℕ
 job_fields job =
-    codes " uid=" ++ (uid_text job.meta.uid ++ (owner_words (controller_of job.owners) ++ (codes " due=" ++ (due_word job
-    ++ (codes " created=" ++ (time_text_of job.meta.created ++ (codes " state=" ++ state_text job.outcome)))))))
+    codes " uid=" ++ (uid_text job.meta.uid
+    ++ (owner_words (controller_of job.owners) ++ (codes " due=" ++ (due_word job
+    ++ (codes " created=" ++ (time_text_of job.meta.created
+    ++ (codes " state=" ++ state_text job.outcome)))))))
 
 -- ---- calls
 
@@ -107,7 +112,9 @@ draft_fields meta = given (codes " if-uid=") meta.uid ++ given (codes " if-versi
 abbrev pub seen_words : Option CronJob → List ℕ
 seen_words None = codes " of=- seen=- policy=-"
 seen_words (Some cron) =
-    codes " of=" ++ (uid_text cron.meta.uid ++ (codes " seen=" ++ (decimal cron.meta.version ++ (codes " policy=" ++ policy_name cron.spec.policy))))
+    codes " of=" ++ (uid_text cron.meta.uid
+    ++ (codes " seen=" ++ (decimal cron.meta.version
+    ++ (codes " policy=" ++ policy_name cron.spec.policy))))
 
 abbrev pub make_word : Option JobDraft → List ℕ
 make_word None = codes "-"
@@ -117,8 +124,10 @@ make_word (Some draft) = draft.key.name
 -- rule: history-lines
 unfoldable pub plan_fields : Planned → List ℕ
 plan_fields p =
-    seen_words p.cron ++ (codes " drop=" ++ (refs_word p.steps.drop_first ++ (codes " make=" ++ (make_word p.steps.make
-    ++ (codes " cleanup=" ++ (refs_word p.steps.cleanup ++ (codes " status=" ++ (yes_or_no (is_some p.steps.status)
+    seen_words p.cron ++ (codes " drop=" ++
+    (refs_word p.steps.drop_first ++ (codes " make=" ++ (make_word p.steps.make
+    ++ (codes " cleanup=" ++ (refs_word p.steps.cleanup
+    ++ (codes " status=" ++ (yes_or_no (is_some p.steps.status)
     ++ (codes " next=" ++ moment_text p.steps.next)))))))))
 
 abbrev pub end_words : End → List ℕ
@@ -126,7 +135,8 @@ end_words Well = codes " well"
 end_words (Again millis) = codes " again ms=" ++ decimal millis
 
 abbrev pub ending : ℕ → Outcome → List ℕ
-ending uid outcome = codes " of=" ++ (uid_text uid ++ (codes " outcome=" ++ state_text (Some outcome)))
+ending uid outcome = codes " of=" ++ (uid_text uid
+    ++ (codes " outcome=" ++ state_text (Some outcome)))
 
 abbrev pub watching : ℕ → ℕ → List ℕ
 watching version max = codes " after=" ++ (decimal version ++ (codes " max=" ++ decimal max))
@@ -140,7 +150,7 @@ feeding max = codes " max=" ++ decimal max
 abbrev pub finishing : End → List Reason → List ℕ
 finishing end reasons = end_words end ++ (codes " reasons=" ++ reasons_word reasons)
 
--- what a call says beside the object that it is about
+-- what a call says beyond the object that it is about
 -- rule: history-lines
 unfoldable pub asked : Call → List ℕ
 asked (Of.CreateCron draft at) = draft_fields draft.meta

@@ -25,7 +25,7 @@ abbrev pub job_items : List Job → List ℕ
 job_items [] = []
 job_items (job ∷ jobs) = (codes " " ++ item job.key job.meta.version) ++ job_items jobs
 
--- a name under which no Job of the CronJob stands
+-- a name that no Job of the CronJob has
 abbrev pub active_item : Option Job → List ℕ
 active_item None = codes "-"
 active_item (Some job) = item job.key job.meta.version
@@ -48,7 +48,7 @@ abbrev pub event_items : List Event → List ℕ
 event_items [] = []
 event_items (event ∷ events) = (codes " " ++ event_item event) ++ event_items events
 
--- what stands at a version
+-- an object with its version
 abbrev pub at_version : ℕ → List ℕ → List ℕ
 at_version version what = codes " v=" ++ (decimal version ++ what)
 
@@ -56,7 +56,7 @@ abbrev pub seen_fields : Option CronJob → List ℕ
 seen_fields None = []
 seen_fields (Some cron) = at_version cron.meta.version (cron_fields cron)
 
--- what an answer says beside its line's
+-- what an answer says beyond the line of its step
 -- rule: history-lines
 unfoldable pub listed : Reply → List ℕ
 listed (Is.Cron cron) = cron_fields cron

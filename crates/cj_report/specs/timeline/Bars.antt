@@ -1,4 +1,5 @@
--- A bar for each Job that a worker made: from its making to the end of its run, or without an end where it still runs.
+-- A bar for each Job that a worker made: from its making to the end of its run, or without an end
+-- where it still runs.
 use Rattle.std.specs.Prelude.{List, [], ◌∷◌, ◌++◌, map, Option, Some, None}
 use Rattle.std.specs.FinMap as table
 use Rattle.cj_types.specs.declared.job.Job.{Job}

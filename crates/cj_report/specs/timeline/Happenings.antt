@@ -1,5 +1,6 @@
--- Which entries of a history are worth a line of its time line, and in which words: what was done to a CronJob or a Job,
--- and what a sync told. The words are those of `kubectl get events`, with a small first letter.
+-- Which entries of a history are worth a line of its time line, and in which words: what was done
+-- to a CronJob or a Job, and what a sync reported. The words are those of `kubectl get events`,
+-- with a small first letter.
 use Rattle.std.specs.Prelude.{ℕ, ◌||◌, List, [], ◌∷◌, ◌++◌, codes, if◌then◌else◌, is_some, Option, Some, None, Result, Ok, Err}
 use Rattle.std.specs.FinMap as map
 use Rattle.cj_base.specs.declared.refusal.Refusal.{Refusal}
@@ -34,13 +35,15 @@ abbrev pub dropped_what : Option Place → Option What
 dropped_what None = None
 dropped_what (Some key) = Some What.Dropped
 
--- what a sync told: that the Job's name was taken, that no Job was started, or that many times were missed
+-- what a sync reported: that the Job's name was taken, that no Job was started, or that many times
+-- were missed
 -- rule: timeline
 abbrev pub told_what : List Reason → Option What
 told_what [] = None
 told_what (r ∷ rs) =
     if is_told Why.FailedCreate (r ∷ rs) then Some What.NotMade
-    else if is_told Why.JobAlreadyActive (r ∷ rs) || is_told Why.UnknownTimeZone (r ∷ rs) then Some What.Skipped
+    else if is_told Why.JobAlreadyActive (r ∷ rs)
+    || is_told Why.UnknownTimeZone (r ∷ rs) then Some What.Skipped
     else Some What.Behind
 
 -- what an accepted call did
@@ -85,7 +88,8 @@ what_word What.Behind = codes "behind"
 
 -- a CronJob with its policy and its schedule
 abbrev pub cron_how : CronJob → List ℕ
-cron_how cron = codes "CronJob, " ++ (policy_name cron.spec.policy ++ (codes ", " ++ cron.spec.schedule))
+cron_how cron = codes "CronJob, " ++ (policy_name cron.spec.policy
+    ++ (codes ", " ++ cron.spec.schedule))
 
 abbrev pub written_how : Reply → List ℕ
 written_how (Is.Cron cron) = cron_how cron
@@ -107,7 +111,8 @@ ended_how reply = []
 -- a Job goes while it runs, or once it has ended
 abbrev pub dropped_how : Jobs → Option Place → List ℕ
 dropped_how jobs None = []
-dropped_how jobs (Some key) = if is_some (map.get jobs key) then codes "while it ran" else codes "after its end"
+dropped_how jobs (Some key) = if is_some (map.get jobs key) then codes "while it ran" else codes
+    "after its end"
 
 -- rule: timeline
 unfoldable pub done_how : Jobs → Call → Reply → List ℕ

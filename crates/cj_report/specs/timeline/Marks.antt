@@ -1,4 +1,5 @@
--- A mark for each sync that told why it started no Job, or that many times were missed: at the key that its worker held.
+-- A mark for each reason of a sync, why it started no Job, or that many times were missed: at the
+-- key that its worker held.
 use Rattle.std.specs.Prelude.{ℕ, List, [], ◌∷◌, ◌++◌, map, Option, Some, None}
 use Rattle.cj_types.specs.declared.policy.Reason.{Reason}
 use Rattle.cj_types.specs.Keys.{Place}
@@ -16,10 +17,11 @@ abbrev pub marks_of : Option Place → Option ℕ → List Reason → List Mark
 marks_of None at reasons = []
 marks_of (Some key) at reasons = map (mark_of key at) reasons
 
--- one for each reason that the entry tells
+-- one for each reason in the entry
 -- rule: job-marks
 abbrev pub marks_at : List Told → Told → List Told → List Mark
-marks_at before e after = marks_of (held e.caller.number before) (moment before e after) (reasons_told e.call e.answer)
+marks_at before e after = marks_of (held e.caller.number before) (moment before e after)
+    (reasons_told e.call e.answer)
 
 -- rule: job-marks
 abbrev pub marks_after : List Told → List Told → List Mark

@@ -1,5 +1,6 @@
--- When a call of a history is made. Some calls tell a moment of their own. Another is made at the moment that was told
--- last; but what a user does, who does it before the clock's next instant begins, at the one that is told next.
+-- When a call of a history is made. Some calls have a moment of their own. Another call is made at
+-- the last moment before it. A user acts before the clock's next instant begins, so a user's call
+-- is made at the next moment after it.
 use Rattle.std.specs.Prelude.{ℕ, ◌/◌, List, [], ◌∷◌, Option, Some, None}
 use Rattle.cj_calls.specs.Rows.{Told}
 use Rattle.cj_calls.specs.declared.caller.Role.{Role}
@@ -12,7 +13,7 @@ abbrev pub or_else : {A : Type 0} → Option A → Option A → Option A
 or_else None other = other
 or_else (Some x) other = Some x
 
--- the moment that a call tells, in seconds
+-- the moment in a call, in seconds
 -- rule: call-moments
 abbrev pub told_moment : Call → Option ℕ
 told_moment (Of.CreateCron draft at) = Some at
@@ -23,13 +24,13 @@ told_moment (Of.Claim plan) = Some plan.at
 told_moment (Of.Finish (Again millis) reasons) = Some (millis / 1000)
 told_moment call = None
 
--- the first moment that these calls tell
+-- the first moment in these calls
 -- rule: call-moments
 abbrev pub first_told : List Told → Option ℕ
 first_told [] = None
 first_told (e ∷ es) = or_else (told_moment e.call) (first_told es)
 
--- by the moment that was told last, and the one that is told next
+-- by the last moment before, and the next one after
 abbrev pub moment_by : Role → Option ℕ → Option ℕ → Option ℕ
 moment_by User last next = or_else next last
 moment_by other last next = last
@@ -37,4 +38,5 @@ moment_by other last next = last
 -- of an entry, after those before it, the newest first, and before those after it, the oldest first
 -- rule: call-moments
 abbrev pub moment : List Told → Told → List Told → Option ℕ
-moment before e after = or_else (told_moment e.call) (moment_by e.caller.role (first_told before) (first_told after))
+moment before e after = or_else (told_moment e.call)
+    (moment_by e.caller.role (first_told before) (first_told after))

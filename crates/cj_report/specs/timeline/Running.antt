@@ -1,5 +1,6 @@
--- The Jobs that workers made and that run. A Job's run begins with its making, and ends with its end by a runner, with its
--- drop by a worker, or with its deletion by a user, whichever comes first. Histories have their newest entry first.
+-- The Jobs that workers made and that run. A Job's run begins with its making, and ends with its
+-- end by a runner, with its drop by a worker, or with its deletion by a user, whichever comes
+-- first. Histories have their newest entry first.
 use Rattle.std.specs.Prelude.{List, [], ◌∷◌, Option, Some, None, Result, Ok}
 use Rattle.std.specs.FinMap as map
 use Rattle.cj_base.specs.declared.refusal.Refusal.{Refusal}
@@ -68,4 +69,5 @@ with_made (Some job) jobs = map.insert jobs job.key job
 -- rule: job-bars
 abbrev pub running : List Told → Jobs
 running [] = map.empty
-running (e ∷ h) = with_made (made_by e.call e.answer) (without (ended_by e.call e.answer) (running h))
+running (e ∷ h) = with_made (made_by e.call e.answer)
+    (without (ended_by e.call e.answer) (running h))

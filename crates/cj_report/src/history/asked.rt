@@ -1,4 +1,4 @@
-// What a call says beside the object that it is about.
+// What a call says beyond the object that it is about.
 ghost use Rattle.std.specs.Prelude.{◌≡◌, Some, IfOk, IfErr, string_bytes};
 ghost use Rattle.cj_base.specs.declared.refusal.Refusal.TheVariants.{OutOfMemory};
 ghost use Rattle.cj_report.specs.history.Fields as said;
@@ -92,7 +92,7 @@ fn finishing(alloc: Global, end: End, reasons: &[Reason]) -> Result<String, Refu
     Ok(format!(in alloc; "{end} reasons={reasons}")?)
 }
 
-/// What a call says beside the object that it is about.
+/// What a call says beyond the object that it is about.
 #[tactic(auto, unfolding(crate::specs::history::Fields::asked))]
 pub(crate) fn asked(alloc: Global, call: &Call) -> Result<String, Refusal>
     ensures ok { IfOk result (λ s. string_bytes s ≡ said.asked call.now) }

@@ -1,4 +1,4 @@
-// The lines of a history.
+// A line for each entry of a history.
 ghost use Rattle.std.specs.Prelude.{◌≡◌, IfOk, IfErr, string_bytes};
 ghost use Rattle.cj_base.specs.declared.refusal.Refusal.TheVariants.{OutOfMemory};
 ghost use Rattle.cj_report.specs.history.Entries as said;
@@ -15,7 +15,7 @@ use cj_script::{Plain, Verb};
 use cj_types::Refusal;
 use std::alloc::Global;
 
-// Only of a Job that is made an answer has the name.
+// Only the answer to a MakeNext has the Job's name.
 fn answers_as(call: &Call) -> Verb
     ensures { result ≡ said.answers_as call.now }
 {
@@ -35,7 +35,7 @@ fn answer_fields(alloc: Global, answer: &Answer) -> Result<String, Refusal>
     }
 }
 
-// Who called, the moment that the call tells, and the object that it is about.
+// The columns for who called, the moment in the call, and the object that it is about.
 #[tactic(auto, unfolding(crate::specs::history::Entries::asked_words))]
 fn asked_words(
     alloc: Global,
@@ -55,7 +55,7 @@ fn asked_words(
     Ok(format!(in alloc; "{number} {role} {time} {key}")?)
 }
 
-// What was called and answered, and what else both say.
+// The columns for what was called and answered, and what else both say.
 #[tactic(auto, unfolding(crate::specs::history::Entries::answered_words))]
 fn answered_words(alloc: Global, call: &Call, answer: &Answer) -> Result<String, Refusal>
     ensures ok { IfOk result (λ s. string_bytes s ≡ said.answered_words call.now answer.now) }
@@ -82,10 +82,11 @@ fn entry_line(alloc: Global, place: usize, entry: &Entry) -> Result<String, Refu
     Ok(format!(in alloc; "{place} {asked} {answered}\n")?)
 }
 
-/// A line for each entry of a history, the oldest first: `PLACE NUMBER ROLE TIME NAMESPACE/NAME DO ANSWER`, that is its
-/// place, counted from 1; who called; the moment that the call tells and the object that it is about, or `-`; what was
-/// called and what that was answered, as the line of a step has it. Behind that stand, as words `NAME=VALUE`, what else
-/// the call says, and the objects of the answer.
+/// A line for each entry of a history, the oldest first: `PLACE NUMBER ROLE TIME NAMESPACE/NAME DO
+/// ANSWER`, that is its place, counted from 1; who called; the moment that the call tells and the
+/// object that it is about, or `-`; what was called and what that was answered, as the line of a
+/// step has it. Behind that stand, as words `NAME=VALUE`, what else the call says, and the objects
+/// of the answer.
 ///
 /// # Errors
 ///

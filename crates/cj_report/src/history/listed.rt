@@ -1,4 +1,4 @@
-// What is said of listed objects, and what an answer says beside its line's.
+// What is said of listed objects, and what an answer says beyond the line of its step.
 ghost use Rattle.std.specs.Prelude.{◌≡◌, ◌++◌, codes, IfOk, IfErr, OnOk, string_bytes};
 ghost use Rattle.cj_base.specs.declared.refusal.Refusal.TheVariants.{OutOfMemory};
 ghost use Rattle.cj_report.specs.history.Listed as said;
@@ -19,7 +19,7 @@ fn item(alloc: Global, key: &Key, version: Version) -> Result<String, Refusal>
     Ok(format!(in alloc; "{namespace}/{name}@{version}")?)
 }
 
-// One more, after a blank.
+// Adds an object after a blank.
 fn push_item(text: &mut String, item: &str) -> Result<(), Refusal>
     ensures ok { OnOk result (string_bytes text.new
         ≡ string_bytes text.old ++ (codes " " ++ item.now)) }
@@ -135,7 +135,7 @@ fn event_items(alloc: Global, events: &[Event]) -> Result<String, Refusal>
     Ok(text)
 }
 
-// What stands at a version.
+// An object with its version.
 fn at_version(alloc: Global, version: Version, what: &str) -> Result<String, Refusal>
     ensures ok { IfOk result (λ s. string_bytes s ≡ said.at_version version what.now) }
     ensures err { IfErr result (λ e. e ≡ OutOfMemory) }
@@ -173,7 +173,7 @@ fn seen_fields(alloc: Global, cron: &Option<Shared<CronJob>>) -> Result<String, 
     at_version(alloc, cron.get().meta.version, fields.as_str())
 }
 
-/// What an answer says beside its line's.
+/// What an answer says beyond the line of its step.
 #[tactic(auto, unfolding(crate::specs::history::Listed::listed))]
 pub(crate) fn listed(alloc: Global, reply: &Reply) -> Result<String, Refusal>
     ensures ok { IfOk result (λ s. string_bytes s ≡ said.listed reply.now) }

@@ -3,13 +3,13 @@ use cj_types::{Job, Seconds, Shared};
 /// How the run of a Job ends.
 #[derive(Clone, Copy, Debug, PartialEq, Eq)]
 pub enum How {
-    /// A runner ended it, with success.
+    /// A runner ended the Job, with success.
     Complete,
-    /// A runner ended it, without.
+    /// A runner ended the Job, without success.
     Failed,
-    /// A worker dropped it: to make room for another, or since its CronJob is gone.
+    /// A worker dropped the Job: to make room for another, or since its CronJob is gone.
     Dropped,
-    /// A user deleted it.
+    /// A user deleted the Job.
     Deleted,
 }
 
@@ -17,7 +17,7 @@ pub enum How {
 #[derive(Clone, Copy, Debug)]
 pub struct BarEnd {
     pub how: How,
-    /// When; none where the history tells no moment.
+    /// When it ended; none where the history has no moment.
     pub at: Option<Seconds>,
 }
 

@@ -72,8 +72,9 @@ fn push_open(bars: &mut Vec<Bar>, jobs: Vec<Shared<Job>>) -> Result<(), Refusal>
     Ok(())
 }
 
-/// A bar for each Job that a worker made: first those that ended, in the order of their ends, then those that still run,
-/// by key. The entries come with the oldest first. Takes memory in proportion to the Jobs.
+/// A bar for each Job that a worker made: first those that ended, in the order of their ends, then
+/// those that still run, by key. The entries come with the oldest first. Takes memory in proportion
+/// to the Jobs.
 ///
 /// # Errors
 ///

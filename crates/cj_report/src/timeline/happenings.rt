@@ -24,7 +24,7 @@ fn dropped_what(key: Option<&Key>) -> Option<What>
     }
 }
 
-// What a sync told.
+// What a sync reported.
 fn told_what(reasons: &[Reason]) -> Option<What>
     ensures { result ≡ said.told_what reasons.now }
 {
@@ -185,7 +185,7 @@ fn refused_how(alloc: Global, call: &Call, refusal: &Refusal) -> Result<String, 
     Ok(format!(in alloc; "{word} {name}")?)
 }
 
-/// How it happened, where these Jobs ran.
+/// How it happened, by which Jobs ran then.
 pub(crate) fn how_text(
     alloc: Global,
     running: &Table<Shared<Job>>,

@@ -15,7 +15,7 @@ use cj_calls::Entry;
 use cj_types::{Key, Refusal};
 use std::alloc::{AllocError, Global};
 
-// So many blanks stand at least between two columns.
+// The least number of blanks between two columns.
 const GAP: usize = 3;
 
 fn wider(width: usize, key: Option<&Key>) -> usize {
@@ -67,7 +67,7 @@ fn object_at<'a>(reading: &'a Reading, entry: &'a Entry) -> Option<&'a Key>
     }
 }
 
-// The line of an entry in which that happened.
+// The line of an entry in which this happened.
 fn push_what(
     alloc: Global,
     text: &mut String,
@@ -125,9 +125,10 @@ fn push_lines(
     Ok(())
 }
 
-/// The time line of a history, whose oldest entry comes first: under a heading a line for each entry that a user, a
-/// CronJob or a Job has to do with, with its moment, what happened, to which object, and how. So a Job that a worker made,
-/// its end, its drop; what a user did, or was refused; and what a sync told where it started none.
+/// The time line of a history, whose oldest entry comes first: a heading, and a line for each entry
+/// that concerns a user, a CronJob or a Job, with its moment, what happened, to which object, and
+/// how. Such are a Job that a worker made, its end and its drop; what a user did, or was refused;
+/// and why a sync started no Job.
 ///
 /// # Errors
 ///

@@ -1,4 +1,4 @@
-// A mark for each sync that told why it started no Job.
+// A mark for each reason of a sync.
 ghost use Rattle.std.specs.Prelude.{◌≡◌, ◌++◌, List, [], ◌∷◌, IfOk, IfErr, OnOk, map, option_copied};
 ghost use Rattle.cj_base.specs.declared.refusal.Refusal.TheVariants.{OutOfMemory};
 ghost use Rattle.cj_calls.specs.Rows.{Told};
@@ -49,7 +49,7 @@ fn push_each(
     Ok(())
 }
 
-// One for each of the reasons, at the key, if there is one.
+// Adds a mark for each of the reasons, at the key, if there is one.
 fn push_marks(
     alloc: Global,
     marks: &mut Vec<Mark>,
@@ -67,7 +67,7 @@ fn push_marks(
     }
 }
 
-// Those of the entry.
+// Adds the marks of an entry.
 fn push_told(
     alloc: Global,
     marks: &mut Vec<Mark>,
@@ -84,8 +84,8 @@ fn push_told(
     push_marks(alloc, marks, key, at, reasons_told(entry))
 }
 
-/// A mark for each reason that a sync told: why it started no Job, or that many times were missed. The entries come with
-/// the oldest first, and so do the marks.
+/// A mark for each reason of a sync: why it started no Job, or that many times were missed. The
+/// entries come with the oldest first, and so do the marks.
 ///
 /// # Errors
 ///

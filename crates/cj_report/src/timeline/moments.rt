@@ -11,7 +11,7 @@ fn whole_seconds(millis: Millis) -> Option<Seconds>
     Seconds::new(millis.get() / 1000)
 }
 
-/// The moment that a call tells, in seconds.
+/// The moment in a call, in seconds.
 pub fn told_moment(call: &Call) -> Option<Seconds>
     ensures { result ≡ said.told_moment call.now }
 {
@@ -26,7 +26,7 @@ pub fn told_moment(call: &Call) -> Option<Seconds>
     }
 }
 
-/// The first moment that the calls of these entries tell.
+/// The first moment in the calls of these entries.
 pub(crate) fn first_told(entries: &[Entry]) -> Option<Seconds>
     ensures { result ≡ said.first_told entries.now }
 {
@@ -47,7 +47,7 @@ fn moment_by(role: Role, last: Option<Seconds>, after: &[Entry]) -> Option<Secon
     }
 }
 
-/// The moment of an entry, by the one that was told last, and the entries after it.
+/// The moment of an entry, by the last moment before it and the entries after it.
 pub(crate) fn moment(entry: &Entry, last: Option<Seconds>, after: &[Entry]) -> Option<Seconds>
     ensures { result ≡ said.or_else (said.told_moment entry.now.call)
         (said.moment_by entry.now.caller.role last (said.first_told after.now)) }

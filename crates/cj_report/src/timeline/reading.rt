@@ -1,4 +1,4 @@
-// What is known of a history that is read from its oldest entry on.
+// What is known of a history while it is read from its oldest entry on.
 ghost use Rattle.std.specs.Prelude.{◌≡◌, List, [], ◌∷◌, IfErr, OnOk, option_copied};
 ghost use Rattle.cj_base.specs.declared.refusal.Refusal.TheVariants.{OutOfMemory};
 ghost use Rattle.cj_calls.specs.Rows.{Told};
@@ -19,14 +19,14 @@ use std::alloc::Global;
 #[derive(Drop)]
 pub(crate) struct Reading {
     tellings: Tellings,
-    // The moment that was told last.
+    // The last moment in a call.
     last: Option<Seconds>,
     // The Jobs that run.
     running: Table<Shared<Job>>,
 }
 
 impl Reading {
-    /// Of no entry.
+    /// Nothing is known yet.
     pub(crate) fn new(alloc: Global) -> Reading
         ensures { IsRead result [] }
     {
@@ -44,7 +44,7 @@ impl Reading {
         self.tellings.held(number)
     }
 
-    /// The moment of the next entry, which those follow.
+    /// The moment of the next entry, which is followed by those.
     pub(crate) fn moment(&self, entry: &Entry, after: &[Entry]) -> Option<Seconds>
         ensures { (h : List Told) → IsRead self.now h →
             result ≡ said.moment h entry.now after.now }
@@ -59,7 +59,7 @@ impl Reading {
         &self.running
     }
 
-    // The Job doesn't run any more.
+    // Records that the Job doesn't run any more.
     fn end(&mut self, key: Option<&Key>)
         ensures running { self.new.running
             ≡ runs.without (option_copied key.entry) self.old.running }
@@ -71,7 +71,7 @@ impl Reading {
         }
     }
 
-    // The Job runs.
+    // Records that the Job runs.
     fn make(&mut self, alloc: Global, job: Option<&Shared<Job>>) -> Result<(), Refusal>
         ensures running { OnOk result (self.new.running
             ≡ runs.with_made (option_copied job.entry) self.old.running) }
@@ -86,7 +86,7 @@ impl Reading {
         self.running.insert(key, job.try_copy(alloc)?)
     }
 
-    // A moment is told.
+    // Records the moment of a call.
     fn tell(&mut self, at: Option<Seconds>)
         ensures last { self.new.last ≡ said.or_else at self.old.last }
         ensures running { self.new.running ≡ self.old.running }
@@ -95,7 +95,7 @@ impl Reading {
         self.last = at.or(self.last);
     }
 
-    /// An entry more, which follows those that were read.
+    /// Takes in the entry that follows those that were read.
     pub(crate) fn note(&mut self, alloc: Global, entry: &Entry) -> Result<(), Refusal>
         ensures ok { OnOk result ((h : List Told) → IsRead self.old h →
             IsRead self.new (entry.now ∷ h)) }

@@ -1,7 +1,7 @@
 ghost use Rattle.std.specs.Prelude.{◌≡◌};
 ghost use Rattle.cj_report.specs.timeline.Happenings as said;
 
-/// What happened.
+/// What happened in an entry that is worth a line.
 #[derive(Clone, Copy, Debug, PartialEq, Eq)]
 pub(crate) enum What {
     /// A user created a CronJob or a Job.
@@ -20,12 +20,12 @@ pub(crate) enum What {
     Skipped,
     /// A sync claimed a time, and made no Job.
     NotMade,
-    /// A sync told that many times were missed.
+    /// A sync reported that many times were missed.
     Behind,
 }
 
 impl What {
-    /// The word for it.
+    /// The word for what happened.
     pub(crate) fn word(self) -> &'static str
         ensures { result.now ≡ said.what_word self }
     {

@@ -25,7 +25,8 @@ ignored_line key = key ++ codes ": no member that is known here, so it is ignore
 -- rule: explain-ignored
 abbrev pub ignored_in : Form → Members → List ℕ
 ignored_in form no_members = []
-ignored_in form (member k d ms) = if knows form k then ignored_in form ms else ignored_line k ++ ignored_in form ms
+ignored_in form (member k d ms) = if knows form k then ignored_in form ms else ignored_line k
+    ++ ignored_in form ms
 
 abbrev pub ignored_of : Form → Option Members → List ℕ
 ignored_of form (Some ms) = ignored_in form ms

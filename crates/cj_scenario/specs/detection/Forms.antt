@@ -1,5 +1,5 @@
--- What a text of JSON is: an object of Kubernetes by its `kind`, else an input of this program by a member
--- that only it has.
+-- What a text of JSON is: an object of Kubernetes by its `kind`, else an input of this program by a
+-- member that only it has.
 use Rattle.std.specs.Prelude.{ℕ, List, [], codes, bytes_eq, Bool, true, ◌||◌, Option, Some, None, is_some, option_and_then, if◌then◌else◌}
 use Rattle.serde_json.specs.Data.{Data}
 use Rattle.serde_json.specs.Find.{as_str, get}
@@ -7,7 +7,8 @@ use Rattle.cj_scenario.specs.declared.detection.form.Form.{Form}
 use Rattle.cj_scenario.specs.declared.detection.form.Form.TheVariants as A
 
 abbrev pub is_list : List ℕ → Bool
-is_list kind = bytes_eq kind (codes "List") || bytes_eq kind (codes "CronJobList") || bytes_eq kind (codes "JobList")
+is_list kind = bytes_eq kind (codes "List") || bytes_eq kind (codes "CronJobList")
+    || bytes_eq kind (codes "JobList")
 
 abbrev pub is_object : List ℕ → Bool
 is_object kind = bytes_eq kind (codes "CronJob") || bytes_eq kind (codes "Job")
@@ -68,5 +69,6 @@ knows A.Script k =
     || bytes_eq k (codes "history") || bytes_eq k (codes "window")
 knows A.Simulation k =
     bytes_eq k (codes "start") || bytes_eq k (codes "end") || bytes_eq k (codes "stepSeconds")
-    || bytes_eq k (codes "cronJobs") || bytes_eq k (codes "runs") || bytes_eq k (codes "edits") || bytes_eq k (codes "zones")
+    || bytes_eq k (codes "cronJobs") || bytes_eq k (codes "runs") || bytes_eq k (codes "edits")
+    || bytes_eq k (codes "zones")
 knows A.Other k = true

@@ -1,5 +1,5 @@
--- Where the first number with a fraction stands in a value, or one that neither 64 bits with a sign nor 64
--- without can hold.
+-- Where the first number with a fraction is in a value, or one that neither 64 bits with a sign nor
+-- 64 without can hold.
 use Rattle.std.specs.Prelude.{ℕ, List, [], ◌++◌, codes, if◌then◌else◌}
 use Rattle.serde_json.specs.Data.{Data, null, boolean, number, string, array, object, Items, no_items, item, Members, no_members, member}
 use Rattle.serde_json.specs.Written.{has_float}
@@ -23,9 +23,11 @@ abbrev mutual
 
   pub members_path : Members → List ℕ
   members_path no_members = []
-  members_path (member k d ms) = if has_float d then member_step k ++ fraction_path d else members_path ms
+  members_path (member k d ms) = if has_float d then member_step k
+      ++ fraction_path d else members_path ms
 
 -- rule: explain-fraction
 abbrev pub fraction_words : Data → List ℕ
 fraction_words d =
-    if has_float d then codes "$" ++ (fraction_path d ++ codes ": a number with a fraction, or of more than 64 bits\n") else []
+    if has_float d then codes "$" ++ (fraction_path d
+    ++ codes ": a number with a fraction, or of more than 64 bits\n") else []

@@ -1,11 +1,11 @@
-// What a text of JSON is.
+// What a JSON text is.
 ghost use Rattle.std.specs.Prelude.{◌≡◌, option_map};
 ghost use Rattle.serde_json.specs.View.{view};
 ghost use Rattle.cj_scenario.specs.detection.Forms.{form_by_kind, form_by_member, form_of, form_words, is_list, is_object, kind_in, knows, wanted_words};
 
 use serde_json::Value;
 
-/// What a text of JSON is, by what only such a text has.
+/// What a JSON text is, by what only such a text has.
 #[derive(Clone, Copy, Debug, PartialEq, Eq)]
 pub enum Form {
     /// Several objects, as `kubectl get` prints them.
@@ -117,8 +117,8 @@ impl Form {
         }
     }
 
-    /// Whether what takes such a text reads its member of that name; of what is no scenario and no script,
-    /// all count as read.
+    /// Whether what takes such a text reads its member of that name; of what is no scenario and no
+    /// script, all count as read.
     pub(crate) fn knows(self, key: &str) -> bool
         ensures { result ≡ knows self key.now }
     {

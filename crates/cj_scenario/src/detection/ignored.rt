@@ -1,4 +1,4 @@
-// Members that nobody reads.
+// Members that no command reads.
 ghost use Rattle.std.specs.Prelude.{◌≡◌, ◌++◌, OnOk, IfOk, IfErr, string_bytes};
 ghost use Rattle.cj_base.specs.declared.refusal.Refusal.TheVariants.{OutOfMemory};
 ghost use Rattle.serde_json.specs.Find.{as_object};
@@ -33,7 +33,7 @@ fn push_ignored(
     Ok(())
 }
 
-/// A line for each member of an object that isn't one of a text of that form.
+/// A line for each member of an object that no text of that form has.
 pub(crate) fn ignored_words(alloc: Global, form: Form, value: &Value) -> Result<String, Refusal>
     ensures ok { IfOk result (λ s. string_bytes s ≡ ignored_of form (as_object (view value.now))) }
     ensures err { IfErr result (λ e. e ≡ OutOfMemory) }

@@ -1,4 +1,4 @@
-// What is said of a text of JSON where one of a certain form is wanted.
+// What is said of a JSON text where a text of a certain form is wanted.
 ghost use Rattle.std.specs.Prelude.{◌≡◌, IfOk, IfErr, string_bytes};
 ghost use Rattle.cj_base.specs.declared.refusal.Refusal.TheVariants.{OutOfMemory};
 ghost use Rattle.serde_json.specs.View.{view};
@@ -20,7 +20,8 @@ fn form_line(wanted: Form, found: Form) -> &'static str
     if found == wanted { "" } else { found.words() }
 }
 
-// Of a manifest where its first number with a fraction stands, else the members that nobody reads.
+// Of a manifest, where its first number with a fraction is; of any other text, the members that no
+// command reads.
 fn rest_words(alloc: Global, wanted: Form, value: &Value) -> Result<String, Refusal>
     ensures ok { IfOk result (λ s. string_bytes s ≡ rest_words wanted (view value.now)) }
     ensures err { IfErr result (λ e. e ≡ OutOfMemory) }
@@ -31,8 +32,9 @@ fn rest_words(alloc: Global, wanted: Form, value: &Value) -> Result<String, Refu
     }
 }
 
-/// Lines on a value where one of a certain form is wanted: what it is, where it is of another; else of a manifest where
-/// its first number with a fraction stands, of the others the members that nobody reads.
+/// Lines on a value where one of a certain form is wanted. A value of another form: what it is. Of
+/// a manifest: where its first number with a fraction is. Of any other value: the members that no
+/// command reads.
 pub fn detect_at(alloc: Global, wanted: Form, value: &Value) -> Result<String, Refusal>
     ensures ok { IfOk result (λ s. string_bytes s ≡ detection_words wanted (view value.now)) }
     ensures err { IfErr result (λ e. e ≡ OutOfMemory) }
@@ -45,7 +47,8 @@ pub fn detect_at(alloc: Global, wanted: Form, value: &Value) -> Result<String, R
     }
 }
 
-/// The same of bytes; of those that are no JSON nothing is said. The only error is want of memory.
+/// Lines on the value that bytes are, where one of a certain form is wanted. Of bytes that are no
+/// JSON nothing is said. The only error is want of memory.
 pub fn detect(alloc: Global, wanted: Form, bytes: &[u8]) -> Result<String, Refusal>
     ensures ok { IfOk result (λ s. IsDetection wanted bytes.now (string_bytes s)) }
     ensures err { IfErr result (λ e. e ≡ OutOfMemory) }

@@ -93,7 +93,8 @@ base_read kind text base h = elim (base_cases kind base) [
   | inl starred ↦
       let e = star_is kind base starred in
       let r = star_read kind text (star_form kind text base e h) in (r.0 ∙ e, r.1)
-  | inr (inl e) ↦ let r = single_read kind text (base_first kind base) (single_form kind text (base_first kind base) base e h) in (r.0 ∙ e, r.1)
+  | inr (inl e) ↦ let r = single_read kind text (base_first kind base)
+      (single_form kind text (base_first kind base) base e h) in (r.0 ∙ e, r.1)
   | inr (inr e) ↦
       let r = between_read kind text (base_first kind base) (last_by kind base None)
       (between_form kind text (base_first kind base) (last_by kind base None) base e h) in

@@ -7,8 +7,8 @@ ghost use Rattle.cj_schedule.specs.one_fault.OneFault.{IsFaultOf, NoTwoFaults, F
 use crate::schedule::Schedule;
 use cj_base::ScheduleFault;
 
-/// No text has two faults, a text that has one is no schedule, and the fault by which a text is refused is
-/// the one that it has.
+/// No text has two faults; a text with a fault is no schedule; a text is refused with the fault
+/// that it has.
 pub fn fault_laws()
     ensures one { NoTwoFaults }
     ensures faulty { FaultyIsNoSchedule }

@@ -9,11 +9,11 @@ use Rattle.cj_manifest.specs.Members.{present, unless_null}
 use Rattle.cj_scenario.specs.Scenes.{AreZones, Refuses}
 use Rattle.cj_scenario.specs.declared.fault.SceneFault.{SceneFault}
 use Rattle.cj_scenario.specs.declared.fault.SceneFault.TheVariants.{Form, Manifest, Memory, Syntax}
-use Rattle.cj_script.specs.declared.step.Deed.{Deed}
+use Rattle.cj_script.specs.declared.step.Action.{Action}
 use Rattle.cj_script.specs.Drafts.{cron_said, needed, then}
 use Rattle.cj_script.specs.Lists.{all_of}
-use Rattle.cj_script.specs.Steps.{deed_in}
-use Rattle.cj_script.proofs.Never.{IsOther, lost, other_after, other_all, other_cron, other_deed, other_fine, other_form, other_memory, other_needed, other_then}
+use Rattle.cj_script.specs.Steps.{action_in}
+use Rattle.cj_script.proofs.Never.{IsOther, lost, other_after, other_all, other_cron, other_action, other_fine, other_form, other_memory, other_needed, other_then}
 use Rattle.cj_script.specs.declared.simulation.scenario.Edit.{Edit}
 use Rattle.cj_script.specs.simulation.Simulations.{IsRefusedValue, Told, beside, lists_in, told, told_in}
 use Rattle.cj_script.specs.simulation.Edits.{edit_of, edits_in, instant_in, items_in}
@@ -39,11 +39,12 @@ other_crons zones d =
 other_edit : (zones : List Zone) (span : SpanView) (d : Data) → IsOther (edit_of zones span d)
 unfolding edit_of
 other_edit zones span d =
-    let made : ℕ → Deed → Result Edit SceneFault = λ at deed. Ok (record { at = at; operation = deed.operation }) in
-    let timed : ℕ → Result Edit SceneFault = λ at. then (deed_in zones d) (made at) in
+    let made : ℕ → Action
+    → Result Edit SceneFault = λ at action. Ok (record { at = at; operation = action.operation }) in
+    let timed : ℕ → Result Edit SceneFault = λ at. then (action_in zones d) (made at) in
     other_then (needed (instant_in span d)) timed (other_needed (instant_in span d))
-    (λ at. other_then (deed_in zones d) (made at) (other_deed zones d)
-    (λ deed. record { differs = λ e. absurd (cc e) }))
+    (λ at. other_then (action_in zones d) (made at) (other_action zones d)
+    (λ action. record { differs = λ e. absurd (cc e) }))
 
 -- Nor is the list of the edits.
 other_edits : (zones : List Zone) (span : SpanView) (d : Data) → IsOther (edits_in zones span d)
@@ -80,7 +81,8 @@ other_told zones d =
     (λ lists. other_fine (told span runs lists))))
 
 -- why a value is refused that has these zones
-pub refused_under : (given : GivenZones) (d : Data) (zones : List Zone) (e : SceneFault) → AreZones given (present (codes "zones") d) zones
+pub refused_under : (given : GivenZones) (d : Data) (zones : List Zone) (e : SceneFault)
+    → AreZones given (present (codes "zones") d) zones
     → (e ≢ Memory → told_in zones d ≡ Err e) → IsRefusedValue given d e
 refused_under given d zones Syntax are h = absurd ((other_told zones d).differs (h (λ q. absurd (cc q))))
 refused_under given d zones Form are h = inr (record { zones = zones; are = are; told = h (λ q. absurd (cc q)) })

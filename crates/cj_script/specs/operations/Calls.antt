@@ -12,14 +12,15 @@ use Rattle.cj_script.specs.declared.operations.operation.Operation.TheVariants.{
 use Rattle.cj_script.specs.declared.operations.snapshot.Snapshot.{Snapshot}
 use Rattle.cj_script.specs.operations.Plans.{Inputs, IsPlanFor, inputs_of, reasons_of, unseen}
 
--- the uid of the Job that stands; any where there is none
+-- the uid of the Job that is there; any uid where there is none
 abbrev pub IsUidOf : Option Job → ℕ → Type 0
 IsUidOf None uid = Unit {0}
 IsUidOf (Some job) uid = uid ≡ job.meta.uid
 
 -- the end of that Job
 -- rule: end-step
-pub record IsEnd (job : Option Job) (key : Place) (outcome : Outcome) (at : ℕ) (call : Call) : Type 0 where
+pub record IsEnd (job : Option Job) (key : Place) (outcome : Outcome) (at : ℕ) (call : Call)
+    : Type 0 where
   pub uid : ℕ
   pub whose : IsUidOf job uid
   pub is : call ≡ Of.EndJob key uid outcome at

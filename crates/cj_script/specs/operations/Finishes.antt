@@ -1,4 +1,5 @@
--- How a sync ends: well, or to be tried again, which `retry` says; and why no Job was started, where `reasons` says it.
+-- How a sync ends: well, or to be tried again, which `retry` says; and why no Job was started,
+-- where `reasons` says it.
 use Rattle.std.specs.Prelude.{ℕ, ◌*◌, List, [], ◌∷◌, ◌++◌, codes, bytes_eq, Bool, true, false, if◌then◌else◌, Option, Some, None, option_map, option_and_then}
 use Rattle.serde_json.specs.Data.{Data, Items, no_items, item}
 use Rattle.serde_json.specs.Find.{as_array, as_bool, as_str}
@@ -26,7 +27,8 @@ reason_in d = option_and_then reason_named (as_str d)
 -- the reasons with those of the items, one after another
 abbrev pub with_reasons : List Reason → Items → Option (List Reason)
 with_reasons reasons no_items = Some reasons
-with_reasons reasons (item d ds) = option_and_then (λ reason. with_reasons (reasons ++ reason ∷ []) ds) (reason_in d)
+with_reasons reasons (item d ds) = option_and_then
+    (λ reason. with_reasons (reasons ++ reason ∷ []) ds) (reason_in d)
 
 -- false where it is absent
 abbrev pub retry_in : Option Data → Option Bool
@@ -43,7 +45,8 @@ end_in d = option_and_then (λ again. end_of again d) (retry_in (present (codes 
 
 abbrev pub finished : End → Data → Option Operation
 finished end list =
-    option_map (λ reasons. Calls (Of.Finish end reasons)) (option_and_then (with_reasons []) (as_array list))
+    option_map (λ reasons. Calls (Of.Finish end reasons))
+    (option_and_then (with_reasons []) (as_array list))
 
 -- the reasons that are given, or else those of the plan
 abbrev pub finish_with : End → Option Data → Option Operation

@@ -8,7 +8,8 @@ use Rattle.cj_zone.specs.TimeText.{time_text_of}
 -- the instant that is printed so, of those up to n
 unfoldable pub printed_by : ℕ → List ℕ → Option ℕ
 printed_by zero text = if bytes_eq text (time_text_of 0) then Some 0 else None
-printed_by (suc n) text = if bytes_eq text (time_text_of (suc n)) then Some (suc n) else printed_by n text
+printed_by (suc n) text = if bytes_eq text (time_text_of (suc n)) then Some (suc n) else printed_by
+    n text
 
 -- the instant that is printed so
 -- rule: step-form

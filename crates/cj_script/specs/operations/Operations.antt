@@ -1,5 +1,6 @@
--- What a step does whose verb takes no manifest, by the members that it needs; none where one of these is
--- missing or has the wrong form. Members that are null are missing, and others aren't looked at.
+-- What a step does whose verb takes no manifest, by the members that it needs; none where one of
+-- these is missing or has the wrong form. Members that are null are missing, and others aren't
+-- looked at.
 use Rattle.std.specs.Prelude.{ℕ, ◌*◌, ◌==◌, ◌&&◌, nat_le, length, Bool, List, codes, bytes_eq, if◌then◌else◌, Option, Some, None, option_map, option_and_then}
 use Rattle.std.specs.List.{before_first, after_first, position_or_len}
 use Rattle.std.specs.Result.{result_ok}
@@ -56,7 +57,8 @@ outcome_named at word =
     else None)
 
 abbrev pub outcome_in : ℕ → Data → Option Outcome
-outcome_in at d = option_and_then (outcome_named at) (option_and_then as_str (present (codes "outcome") d))
+outcome_in at d = option_and_then (outcome_named at)
+    (option_and_then as_str (present (codes "outcome") d))
 
 -- ---- operations
 

@@ -23,8 +23,10 @@ abbrev pub no_inputs : Inputs
 no_inputs = record { cron = None; jobs = []; active = [] }
 
 -- all three, or nothing where one of them is lacking
-abbrev pub gathered : Option (Option CronJob) → Option (List Job) → Option (List (Option Job)) → Inputs
-gathered (Some cron) (Some jobs) (Some active) = record { cron = cron; jobs = jobs; active = active }
+abbrev pub gathered : Option (Option CronJob) → Option (List Job) → Option (List (Option Job))
+    → Inputs
+gathered (Some cron) (Some jobs) (Some active)
+    = record { cron = cron; jobs = jobs; active = active }
 gathered (Some cron) (Some jobs) None = no_inputs
 gathered (Some cron) None active = no_inputs
 gathered None jobs active = no_inputs

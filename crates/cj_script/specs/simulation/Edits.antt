@@ -1,4 +1,4 @@
--- What is done beside: steps with no caller, each at an instant of the clock.
+-- What a user does in a run: steps with no caller, each at an instant of the clock.
 use Rattle.std.specs.Prelude.{ℕ, List, codes, Option, Some, None, option_and_then, Result, Ok}
 use Rattle.serde_json.specs.Data.{Data, Items, no_items}
 use Rattle.serde_json.specs.Find.{as_array}
@@ -8,7 +8,7 @@ use Rattle.cj_scenario.specs.declared.fault.SceneFault.{SceneFault}
 use Rattle.cj_script.specs.operations.Operations.{moment_in}
 use Rattle.cj_script.specs.Drafts.{needed, then}
 use Rattle.cj_script.specs.Lists.{all_of}
-use Rattle.cj_script.specs.Steps.{deed_in}
+use Rattle.cj_script.specs.Steps.{action_in}
 use Rattle.cj_script.specs.declared.simulation.scenario.Edit.{Edit}
 use Rattle.cj_script.specs.simulation.Spans.{SpanView, clocked}
 
@@ -21,7 +21,7 @@ instant_in span d = option_and_then (clocked span) (moment_in d)
 unfoldable pub edit_of : List Zone → SpanView → Data → Result Edit SceneFault
 edit_of zones span d =
     then (needed (instant_in span d)) (λ at.
-    then (deed_in zones d) (λ deed. Ok (record { at = at; operation = deed.operation })))
+    then (action_in zones d) (λ action. Ok (record { at = at; operation = action.operation })))
 
 -- a list, where it is there
 abbrev pub items_in : Option Data → Option Items
@@ -30,4 +30,5 @@ items_in (Some d) = as_array d
 
 -- rule: run-form
 abbrev pub edits_in : List Zone → SpanView → Data → Result (List Edit) SceneFault
-edits_in zones span d = then (needed (items_in (present (codes "edits") d))) (all_of (edit_of zones span))
+edits_in zones span d = then (needed (items_in (present (codes "edits") d)))
+    (all_of (edit_of zones span))

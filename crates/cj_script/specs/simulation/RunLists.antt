@@ -50,12 +50,14 @@ run_list_of name d =
 -- the table with what a member says
 abbrev pub with_run_list : RunTable → List ℕ → Option Data → Option RunTable
 with_run_list table name None = Some table
-with_run_list table name (Some d) = option_map (λ (key, runs). map.insert table key runs) (run_list_of name d)
+with_run_list table name (Some d) = option_map (λ (key, runs). map.insert table key runs)
+    (run_list_of name d)
 
 -- and with what the members say, one after another
 abbrev pub with_run_lists : RunTable → Members → Option RunTable
 with_run_lists table no_members = Some table
-with_run_lists table (member name d ms) = option_and_then (λ more. with_run_lists more ms) (with_run_list table name (unless_null d))
+with_run_lists table (member name d ms) = option_and_then (λ more. with_run_lists more ms)
+    (with_run_list table name (unless_null d))
 
 abbrev pub run_lists_of : Option Data → Option RunTable
 run_lists_of None = Some map.empty

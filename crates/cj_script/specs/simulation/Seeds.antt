@@ -17,4 +17,5 @@ seed_of zones d = then (needed (unless_null d)) (cron_said zones)
 -- a list that must be there
 -- rule: run-form
 abbrev pub crons_in : List Zone → Data → Result (List CronJobDraft) SceneFault
-crons_in zones d = then (needed (option_and_then as_array (present (codes "cronJobs") d))) (all_of (seed_of zones))
+crons_in zones d = then (needed (option_and_then as_array (present (codes "cronJobs") d)))
+    (all_of (seed_of zones))

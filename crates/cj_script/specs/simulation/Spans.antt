@@ -18,7 +18,8 @@ last_step = 3_600
 -- a clock doesn't end before its start, and its step is 1 to 3,600 seconds
 -- rule: run-clock
 abbrev pub span_of : ℕ → ℕ → ℕ → Option SpanView
-span_of start end step = if nat_le start end && nat_le 1 step && nat_le step last_step then Some (span start end step) else None
+span_of start end step = if nat_le start end && nat_le 1 step
+    && nat_le step last_step then Some (span start end step) else None
 
 -- the instant of a number, from 0 on
 -- rule: run-clock

@@ -13,4 +13,5 @@ span_in d =
     option_and_then (λ start.
     option_and_then (λ end.
     option_and_then (span_of start end)
-    (number_or 60 (present (codes "stepSeconds") d))) (time_in (present (codes "end") d))) (time_in (present (codes "start") d))
+    (number_or 60 (present (codes "stepSeconds") d))) (time_in (present (codes "end") d)))
+    (time_in (present (codes "start") d))

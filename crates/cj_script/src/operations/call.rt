@@ -26,7 +26,7 @@ fn uid_of(job: Option<&Shared<Job>>) -> Uid
     }
 }
 
-// The end of the Job, which stands at the key, or of any where none does.
+// The end of the Job at the key, or of any Job where there is none.
 fn end_call(
     alloc: Global,
     job: Option<&Shared<Job>>,
@@ -61,8 +61,8 @@ fn finish_call(alloc: Global, snapshot: &Snapshot, end: End) -> Result<Call, Ref
     Ok(Call::Finish(end, reasons_for(alloc, snapshot)?))
 }
 
-/// The call of an operation of a caller that has seen so much, where the Job is the one that stands at the key
-/// of an end, or none is known.
+/// The call of an operation of a caller that has seen what the snapshot says. The Job is the one at
+/// the key of an end; none where there is no such Job.
 pub fn call_of(
     alloc: Global,
     zones: &ZoneTable,
@@ -82,7 +82,7 @@ pub fn call_of(
     }
 }
 
-/// The call of an operation of a caller that has seen nothing, where no Job is known.
+/// The call of an operation of a caller that has seen nothing and knows of no Job.
 pub fn unseen_call(alloc: Global, zones: &ZoneTable, operation: &Operation) -> Result<Call, Refusal>
     ensures ok { IfOk result (IsUnseenCall zones.now operation.now) }
     ensures err { IfErr result (λ e. e ≡ OutOfMemory) }

@@ -17,7 +17,7 @@ pub fn instant_of(text: &str) -> Option<Seconds>
 }
 
 /// A time that must be there.
-pub fn time_at(value: &Value, name: &str) -> Option<Seconds>
+pub(crate) fn time_at(value: &Value, name: &str) -> Option<Seconds>
     ensures { result ≡ said.time_in (member_at name.now (view value.now)) }
 {
     instant_of(present(value, name)?.as_str()?)

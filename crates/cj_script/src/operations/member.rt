@@ -19,7 +19,7 @@ pub fn present<'v>(value: &'v Value, name: &str) -> Option<&'v Value>
 }
 
 /// A number that must be there.
-pub fn number_at(value: &Value, name: &str) -> Option<u64>
+pub(crate) fn number_at(value: &Value, name: &str) -> Option<u64>
     ensures { result ≡ said.number_in (member_at name.now (view value.now)) }
 {
     present(value, name)?.as_u64()

@@ -1,4 +1,4 @@
-// One function for each kind of step that takes no manifest.
+// What a step does whose verb takes no manifest: one function for each verb.
 ghost use Rattle.std.specs.Prelude.{◌≡◌, IfOk, IfErr};
 ghost use Rattle.serde_json.specs.View.{view};
 ghost use Rattle.cj_base.specs.declared.refusal.Refusal.TheVariants.{OutOfMemory};
@@ -105,9 +105,9 @@ fn claim(value: &Value) -> Option<Operation>
     Some(Operation::Claims(time_at(value, "at")?))
 }
 
-/// What a step with this verb does, or none where a member that it needs is missing or has the wrong form.
-/// Members that it doesn't need aren't looked at.
-pub fn plain_operation(
+/// What a step with this verb does, or none where a member that it needs is missing or has the
+/// wrong form. Members that it doesn't need aren't looked at.
+pub(crate) fn plain_operation(
     alloc: Global,
     verb: Plain,
     value: &Value,

@@ -72,7 +72,7 @@ fn plan_of(
     decide(alloc, cron, jobs, active, at, zone)
 }
 
-// The plan of nothing seen.
+// The plan of a worker that has seen nothing.
 fn empty_plan(alloc: Global, zones: &ZoneTable, at: Seconds) -> Result<Plan, Refusal>
     ensures ok { IfOk result (IsPlanFor zones.now no_inputs at) }
     ensures err { IfErr result (λ e. e ≡ OutOfMemory) }
@@ -84,9 +84,9 @@ fn empty_plan(alloc: Global, zones: &ZoneTable, at: Seconds) -> Result<Plan, Ref
     plan_of(alloc, zones, &None, &jobs, &active, at)
 }
 
-/// The plan of what a worker has seen, at the moment and in the CronJob's zone; of nothing where it lacks one
-/// of the three readings.
-pub fn plan_for(
+/// The plan of what a worker has seen, at the moment and in the CronJob's zone. A worker that lacks
+/// one of the three readings counts as one that has seen nothing.
+pub(crate) fn plan_for(
     alloc: Global,
     zones: &ZoneTable,
     snapshot: &Snapshot,
@@ -102,7 +102,7 @@ pub fn plan_for(
 }
 
 /// The reasons of the plan that the worker claimed; none where it claimed none.
-pub fn reasons_for(alloc: Global, snapshot: &Snapshot) -> Result<Reasons, Refusal>
+pub(crate) fn reasons_for(alloc: Global, snapshot: &Snapshot) -> Result<Reasons, Refusal>
     ensures ok { IfOk result (λ r. r ≡ reasons_of snapshot.now.plan) }
     ensures err { IfErr result (λ e. e ≡ OutOfMemory) }
 {

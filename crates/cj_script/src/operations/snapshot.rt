@@ -18,7 +18,6 @@ pub struct Snapshot {
     pub plan: Option<Shared<Plan>>,
 }
 
-// A function of its own, so that whoever gives up a snapshot makes one call and not one for each part.
 impl Drop for Snapshot {
     fn drop(self) {
         let Snapshot {
@@ -48,7 +47,7 @@ impl TryCopy for Snapshot {
 }
 
 impl Snapshot {
-    /// Nothing was seen.
+    /// The snapshot of a worker that has seen nothing.
     pub fn unseen() -> Snapshot
         ensures { result ≡ unseen }
     {

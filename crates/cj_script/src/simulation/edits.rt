@@ -1,4 +1,4 @@
-// What is done beside, at instants of the clock.
+// What a user does in a run, at instants of its clock.
 ghost use Rattle.std.specs.Prelude.{◌≡◌, ◌≢◌, ◌≤◌, Ok, Err, IfOk, IfErr};
 ghost use Rattle.serde_json.specs.Data.{depth};
 ghost use Rattle.serde_json.specs.Read.{max_depth};
@@ -11,7 +11,7 @@ use crate::lists::{Reads, list_of};
 use crate::operations::{present, time_at};
 use crate::simulation::scenario::Edit;
 use crate::simulation::span::Span;
-use crate::step::{Deed, deed_of};
+use crate::step::{Action, action_of};
 use cj_scenario::SceneFault;
 use cj_types::Seconds;
 use cj_zone::ZoneTable;
@@ -37,7 +37,7 @@ fn edit_of(alloc: Global, zones: &ZoneTable, span: &Span, value: &Value) -> Resu
     let Some(at) = instant_at(span, value) else {
         return Err(SceneFault::Form);
     };
-    let Deed { verb: _, operation } = deed_of(alloc, zones, value)?;
+    let Action { verb: _, operation } = action_of(alloc, zones, value)?;
     Ok(Edit { at, operation })
 }
 
@@ -58,8 +58,8 @@ impl Reads for Edits<'_> {
     }
 }
 
-/// The edits of a scenario, none where their list is missing: `Form` where one of them has another form, else the first
-/// fault of a manifest.
+/// The edits of a scenario, none where their list is missing: `Form` where one of them has another
+/// form, else the first fault of a manifest.
 pub(crate) fn edits_at(
     alloc: Global,
     zones: &ZoneTable,

@@ -1,4 +1,4 @@
-// Reading a scenario's bytes.
+// Reading the scenario of a run.
 ghost use Rattle.std.specs.Prelude.{◌≡◌, ◌≢◌, ◌≤◌, Ok, Err, IfOk, IfErr};
 ghost use Rattle.serde_json.specs.Data.{depth};
 ghost use Rattle.serde_json.specs.Read.{max_depth};
@@ -31,7 +31,7 @@ struct Lists {
     edits: Vec<Edit>,
 }
 
-// What a scenario says beside its zones.
+// What a scenario says, but for its zones.
 #[derive(Drop)]
 struct Content {
     span: Span,
@@ -39,7 +39,7 @@ struct Content {
     lists: Lists,
 }
 
-// Why a scenario is refused whose first fault in a CronJob's manifest is this one.
+// Why a scenario is refused of whose CronJobs this is the first fault in a manifest.
 fn fault_of(
     alloc: Global,
     zones: &ZoneTable,
@@ -97,7 +97,7 @@ fn content_of(alloc: Global, zones: &ZoneTable, value: &Value) -> Result<Content
     Ok(Content { span, runs, lists })
 }
 
-// What the value says.
+// The scenario that the value says.
 fn simulation_of(
     alloc: Global,
     given: GivenZones<'_>,
@@ -119,17 +119,18 @@ fn simulation_of(
     })
 }
 
-/// Reads the scenario of a run under the zones that are given: a JSON object with the times `start` and `end`, from which to which its clock
-/// goes; `stepSeconds`, from one instant of it to the next, 1 to 3,600, by default 60; `cronJobs`, the
-/// manifests of the CronJobs that are there from the start; and, where wanted, `runs`, an object from
-/// CronJobs' keys to lists of objects with `seconds` and `outcome`, `Complete` or `Failed`, which say how
-/// their Jobs go; `edits`, a list of objects that each say what is done, `do`, with what that needs, and
-/// when, `at`, which is an instant of the clock; and `zones`, an object from names to POSIX rules. Members of
-/// other names, or that are null, are ignored.
+/// Reads the scenario of a run under the zones that are given. It is a JSON object with the times
+/// `start` and `end` of its clock; `stepSeconds`, from one instant of the clock to the next, 1 to
+/// 3,600, by default 60; and `cronJobs`, the manifests of the CronJobs that are there from the
+/// start. It may have `runs`, an object from CronJobs' keys to lists of objects with `seconds` and
+/// `outcome`, `Complete` or `Failed`, which say how their Jobs run; `edits`, a list of objects that
+/// each say what a user does, `do`, with what that needs, and when, `at`, an instant of the clock;
+/// and `zones`, an object from names to POSIX rules. Members of other names, or that are null, are
+/// ignored.
 ///
-/// Refused in this order: `Syntax` for bytes that aren't JSON, `Form` for a value of another form or with a
-/// zone that is refused, and `Manifest` with the first fault of the first manifest that has one, those of
-/// `cronJobs` before those of `edits`.
+/// Refused in this order: `Syntax` for bytes that aren't JSON, `Form` for a value of another form
+/// or with a zone that is refused, and `Manifest` with the first fault of the first manifest that
+/// has one, those of `cronJobs` before those of `edits`.
 pub fn read_simulation(
     alloc: Global,
     given: GivenZones<'_>,

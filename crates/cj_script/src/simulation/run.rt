@@ -5,7 +5,7 @@ pub enum RunEnd {
     Failed,
 }
 
-/// How a Job goes: it runs for so many seconds, and then ends so.
+/// How a Job runs: for how many seconds, and how it ends then.
 #[derive(Clone, Copy, Debug, PartialEq, Eq)]
 pub struct Run {
     pub seconds: u64,

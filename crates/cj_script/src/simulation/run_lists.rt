@@ -38,7 +38,7 @@ fn run_in(value: &Value) -> Option<Run>
     Some(Run { seconds, end })
 }
 
-// The runs of a list, or none where one has another form.
+// The runs of a list, or none where one of them has another form.
 fn runs_of(alloc: Global, items: &Vec<Value>) -> Result<Option<Vec<Run>>, Refusal>
     ensures ok { IfOk result (λ rs. option_map (λ v. v.items) rs
         ≡ said.with_runs [] (items_view items.now.items)) }
@@ -75,7 +75,8 @@ fn run_list_of(
     }
 }
 
-// The runs with those of a member, or no answer where it has another form; one that is null has none.
+// Adds the runs of a member, or answers none where it has another form. A member that is null has
+// no runs.
 fn add_run_list(
     alloc: Global,
     runs: &mut Runs,

@@ -10,13 +10,12 @@ use cj_types::{Key, Listing, Refusal};
 use std::alloc::Global;
 use std::marker::Model;
 
-/// The runs of CronJobs' Jobs by the CronJob's key, in the order in which Jobs take them. Contracts see the
-/// list of each key.
+/// The runs of CronJobs' Jobs by the CronJob's key, in the order in which Jobs take them. Contracts
+/// see the list of each key.
 pub struct Runs {
     lists: Table<Listing<Run>>,
 }
 
-// A function of its own, so that whoever gives one up makes one call and not one for each part.
 impl Drop for Runs {
     fn drop(self) {
         let Runs { lists } = self;
@@ -65,8 +64,9 @@ impl Runs {
         self.lists.insert(key, runs)
     }
 
-    /// The run that a Job of the CronJob with this key takes, before which so many took one: that of this number in the
-    /// key's list, and after the last one this again. None where the key has no run.
+    /// The run that a Job of the CronJob with this key takes, where `number` of its Jobs took one
+    /// before: the run of that number in the key's list, or the last run after that. None where the
+    /// key has no run.
     pub fn of(&self, key: &Key, n: u64) -> Option<Run>
         ensures { result ≡ run_of self.now key.now n }
     {

@@ -4,13 +4,12 @@ use crate::simulation::span::Span;
 use cj_types::{CronJobDraft, Seconds, Shared};
 use cj_zone::ZoneTable;
 
-/// What is done at an instant of the clock.
+/// What a user does at an instant of the clock.
 pub struct Edit {
     pub at: Seconds,
     pub operation: Operation,
 }
 
-// A function of its own, so that whoever gives one up makes one call and not one for each part.
 impl Drop for Edit {
     fn drop(self) {
         let Edit { at: _, operation } = self;
@@ -18,8 +17,9 @@ impl Drop for Edit {
     }
 }
 
-/// What a run's scenario says: the zones that its CronJobs may name, the instants of its clock, the CronJobs
-/// that are there from the start, how their Jobs go, and what is done beside in its order.
+/// What the scenario of a run says: the zones that its CronJobs may name, the instants of its
+/// clock, the CronJobs that are there from the start, how their Jobs run, and what a user does, in
+/// order.
 pub struct Simulation {
     pub zones: ZoneTable,
     pub span: Span,
@@ -28,7 +28,6 @@ pub struct Simulation {
     pub edits: Vec<Edit>,
 }
 
-// A function of its own, so that whoever gives one up makes one call and not one for each part.
 impl Drop for Simulation {
     fn drop(self) {
         let Simulation {

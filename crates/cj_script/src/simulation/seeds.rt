@@ -35,8 +35,8 @@ impl Reads for Seeds<'_> {
     }
 }
 
-/// The CronJobs of a scenario: `Form` where their list is missing, or one of them is null, else the first fault of a
-/// manifest.
+/// The CronJobs of a scenario: `Form` where their list is missing, or one of them is null, else the
+/// first fault of a manifest.
 pub(crate) fn crons_at(
     alloc: Global,
     zones: &ZoneTable,

@@ -7,7 +7,8 @@ ghost use Rattle.cj_script.specs.simulation.Spans.{IsInstant};
 use cj_types::Seconds;
 use std::marker::Model;
 
-/// The clock of a run: its first instant is the start, each next one is a step later, and none is after the end.
+/// The clock of a run: its first instant is the start, each next one is a step later, and none is
+/// after the end.
 ///
 /// Contracts see the start, the end and the step.
 #[derive(Clone, Copy, Debug, PartialEq, Eq)]

@@ -20,7 +20,8 @@ module _ {X : Type 0} where
   pub get_is : (q : ℕ) (es : List (ℕ × X)) → get (from_entries {R = nat_cmp} es) q ≡ lookup (is_at (nat_cmp q)) es
   get_is q es = get-from_entries nat_cmp_total es q ∙ find_is q es
 
-  -- For Seats::replace: where a look-up finds v at k and else what it did, v is inserted at k.
+  -- For InFlightSyncs::replace: where a look-up finds v at k and else what it did, v is inserted at
+  -- k.
   pub inserted : (es fs : List (ℕ × X)) (k : ℕ) (v : X)
       → ((q : ℕ) → lookup (is_at (nat_cmp q)) fs ≡ cond (is_at (nat_cmp k) q) (Some v) (lookup (is_at (nat_cmp q)) es))
       → from_entries {R = nat_cmp} fs ≡ insert (from_entries es) k v

@@ -22,7 +22,8 @@ settings (Some s) = sets s ∷ []
 -- the drops, the making, the cleanup, the final status
 -- rule: plan-steps
 abbrev pub all_steps : Steps → List Step
-all_steps s = map drops s.drop_first ++ (makings s.make ++ (map drops s.cleanup ++ settings s.status))
+all_steps s = map drops s.drop_first ++ (makings s.make
+    ++ (map drops s.cleanup ++ settings s.status))
 
 -- the step after so many, if there is one
 -- rule: plan-steps
@@ -55,4 +56,5 @@ count (Some x) = 1
 
 -- what is left begins with the next step, and after that step the rest is left
 abbrev pub NextIsLeft : Type 0
-NextIsLeft = (s : Steps) (place : ℕ) (x : Step) → step_at s place ≡ Some x → left s place ≡ x ∷ left s (place + 1)
+NextIsLeft = (s : Steps) (place : ℕ) (x : Step) → step_at s place ≡ Some x
+    → left s place ≡ x ∷ left s (place + 1)

@@ -163,10 +163,12 @@ plans_sound s sound = record {
   cron_deleted = λ k e h. mapped cron_gone (cron_deleted s k) e (IsNext s) h (λ x is. deleted_for s k x sound is);
   job_created = λ draft now e h. mapped job_added (job_created s draft now) e (IsNext s) h
       (λ x is. made_for s draft now x ((job_answers s).created draft now x is).1);
-  job_made = λ draft now e h. mapped job_added (job_made s draft now) e (IsNext s) h (λ x is. made_for s draft now x is);
+  job_made = λ draft now e h. mapped job_added (job_made s draft now) e (IsNext s) h
+      (λ x is. made_for s draft now x is);
   job_updated = λ draft e h. mapped job_modified (job_updated s draft) e (IsNext s) h
       (λ x is. job_updated_for s draft x sound is);
-  job_deleted = λ k u e h. mapped job_gone (job_deleted s k u) e (IsNext s) h (λ x is. job_deleted_for s k u x sound is);
+  job_deleted = λ k u e h. mapped job_gone (job_deleted s k u) e (IsNext s) h
+      (λ x is. job_deleted_for s k u x sound is);
   job_ended = λ k u out now e h. mapped job_modified (job_ended s k u out now) e (IsNext s) h
       (λ x is. ended_for s k u out now x sound is);
 }

@@ -59,7 +59,8 @@ others s (Modified (Of.Cron c)) (CronAt q) apart = put_other (λ (x : CronJob). 
 others s (Modified (Of.Cron c)) (JobAt q) apart = refl
 others s (Modified (Of.Job j)) (CronAt q) apart = refl
 others s (Modified (Of.Job j)) (JobAt q) apart = put_other (λ (x : Job). Of.Job x) JobAt s.jobs j.key q j apart
-others s (Deleted (Of.Cron c)) (CronAt q) apart = removal_other (λ (x : CronJob). Of.Cron x) CronAt s.crons c.key q apart
+others s (Deleted (Of.Cron c)) (CronAt q) apart = removal_other (λ (x : CronJob). Of.Cron x) CronAt s.crons c.key q
+    apart
 others s (Deleted (Of.Cron c)) (JobAt q) apart = refl
 others s (Deleted (Of.Job j)) (CronAt q) apart = refl
 others s (Deleted (Of.Job j)) (JobAt q) apart = removal_other (λ (x : Job). Of.Job x) JobAt s.jobs j.key q apart

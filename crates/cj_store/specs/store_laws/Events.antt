@@ -1,4 +1,4 @@
--- What the event of a write does to the content.
+-- How the event of a write changes the content.
 use Rattle.std.specs.Prelude.{◌≡◌, ◌≢◌, ℕ, ◌+◌, Option, Some, None}
 use Rattle.std.specs.Option.{option_map}
 use Rattle.std.specs.FinMap as map
@@ -19,19 +19,19 @@ abbrev pub place_of : Object → Home
 place_of (Of.Cron c) = CronAt c.key
 place_of (Of.Job j) = JobAt j.key
 
--- the place that an event speaks of
+-- the place of an event's object
 abbrev pub home_of : Event → Home
 home_of (Added object) = place_of object
 home_of (Modified object) = place_of object
 home_of (Deleted object) = place_of object
 
--- what the write leaves there
+-- the object that the write leaves at its place, if any
 abbrev pub left_by : Event → Option Object
 left_by (Added object) = Some object
 left_by (Modified object) = Some object
 left_by (Deleted object) = None
 
--- how many objects it creates
+-- how many objects the write creates
 abbrev pub made_by : Event → ℕ
 made_by (Added object) = 1
 made_by (Modified object) = 0

@@ -1,8 +1,8 @@
 ghost use Rattle.cj_store.specs.store_laws.Answers.{CronAnswers, JobAnswers};
 
-/// What each call's answer is, where it is accepted: of a create the new object, at whose key nothing stood;
-/// of any other call the object that stood at the key, changed as the call says, with the uid and the version
-/// that were asked for.
+/// The answer of each accepted call. A create answers the new object, whose key was free. Any other
+/// call answers the object at the key, changed as the call says; its uid and version are those that
+/// the call asked for.
 pub fn answer_laws()
     ensures crons { CronAnswers }
     ensures jobs { JobAnswers }

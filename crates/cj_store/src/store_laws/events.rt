@@ -1,8 +1,8 @@
 ghost use Rattle.cj_store.specs.store_laws.Events.{EventsWrite};
 
-/// What the event of a write does to the content: at its place the object that it tells of stands, or none
-/// after a deletion; at any other place what stood there; the version is one more, and the count of uids one
-/// more after a creation.
+/// How the event of a write changes the content. The event's object takes its place, or leaves it
+/// after a deletion; every other place is unchanged. The version grows by 1, and the count of uids
+/// by 1 after a creation.
 pub fn event_laws()
     ensures { EventsWrite }
 {}

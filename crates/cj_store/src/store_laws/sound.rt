@@ -1,8 +1,9 @@
 ghost use Rattle.cj_store.specs.store_laws.Sound.{BeginsSound, StaysSound, PlansSound};
 
-/// The content keeps that each object stands at its own key, that uids and versions of the current objects
-/// are within the counts, and that no uid stands twice: so it begins, and so it stays after each write that
-/// was planned on it; and what any call plans on such a content is for that content.
+/// A content is sound where each object is at its own key, uids and versions of the objects are
+/// within the counts, and no two objects have one uid. The first content is sound, and so is each
+/// one after a write that was planned on a sound one. Each call's plan holds for the content that
+/// it was made on.
 pub fn sound_laws()
     ensures begins { BeginsSound }
     ensures stays { StaysSound }

@@ -5,7 +5,7 @@ use crate::store::Store;
 use cj_types::{Heap, JobDraft, Refusal, Seconds};
 use std::alloc::Global;
 
-// Makes a Job by a plan.
+// Creates a Job by a plan.
 fn make(
     store: &mut Store,
     alloc: Global,
@@ -28,8 +28,8 @@ fn update(store: &mut Store, alloc: Global, draft: Heap<JobDraft>) -> Result<(),
     store.commit(alloc, change)
 }
 
-/// Makes two Jobs, each by a plan. The second is planned once the first is made: a plan is for the content
-/// that it was made on, and no other.
+/// Creates two Jobs, each by a plan. The second is planned after the first is created: a plan holds
+/// only for the content that it was made on.
 pub fn make_both(
     store: &mut Store,
     alloc: Global,
@@ -46,7 +46,7 @@ pub fn make_both(
     make(store, alloc, other, now)
 }
 
-/// Updates two Jobs, or one twice, each by a plan.
+/// Makes two updates of Jobs, each by a plan.
 pub fn update_both(
     store: &mut Store,
     alloc: Global,

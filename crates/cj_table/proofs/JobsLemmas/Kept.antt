@@ -18,7 +18,8 @@ abbrev pub Same : Slots → Slots → Type 0
 Same s t = (l : ℕ) → job_at t l ≡ job_at s l
 
 -- For same_after: where nothing stood a put and a removal leave nothing.
-nothing : (b : Bool) (job : Job) (old : Option Job) → (b ≡ true → old ≡ None) → cond b None (cond b (Some job) old) ≡ old
+nothing : (b : Bool) (job : Job) (old : Option Job) → (b ≡ true → old ≡ None)
+    → cond b None (cond b (Some job) old) ≡ old
 nothing true job old none = sym (none refl)
 nothing false job old none = refl
 

@@ -99,7 +99,8 @@ sets_put s t owner key w slot e f = λ o k.
 
 -- For taken_kept and taken_last: each owner but this one has what it had, and this one not the key.
 sets_taken : (s t : Index) (owner key : Place) (w : Table) → w ≡ map.remove (own_slots s owner) key
-    → ((o : Place) → own_slots t o ≡ cond (is_at (place_cmp owner) o) w (own_slots s o)) → Sets None s t (Some owner) key
+    → ((o : Place) → own_slots t o ≡ cond (is_at (place_cmp owner) o) w (own_slots s o))
+    → Sets None s t (Some owner) key
 sets_taken s t owner key w f h = λ o k.
     ap (λ (m : Table). map.get m k) (h o)
     ∙ ap (λ (m : Table). map.get (cond (is_at (place_cmp owner) o) m (own_slots s o)) k) f

@@ -94,7 +94,8 @@ module _ (slots : Slots) where
       (λ t. none_found k e.0 es t (first _ _ h)) (found_row k es (second _ _ h)) refl
 
   -- The Jobs of the entries that have one are those at the slots of all.
-  row_values : (es : List (Place × ℕ)) → map_list (λ e. e.1) (rows es) ≡ filter_map (job_at slots) (map_list (λ e. e.1) es)
+  row_values : (es : List (Place × ℕ))
+      → map_list (λ e. e.1) (rows es) ≡ filter_map (job_at slots) (map_list (λ e. e.1) es)
   row_values [] = refl
   row_values (e ∷ es) =
       let rest = row_values es in

@@ -19,7 +19,8 @@ index_of es = map.from_entries {R = place_cmp} es
 
 -- the entries fs have this or nothing at the owner, and else what the entries es have
 abbrev pub Changes : Entries → Entries → Place → Option Table → Type 0
-Changes es fs o w = (q : Place) → lookup (is_at (place_cmp q)) fs ≡ cond (is_at (place_cmp o) q) w (lookup (is_at (place_cmp q)) es)
+Changes es fs o w = (q : Place)
+    → lookup (is_at (place_cmp q)) fs ≡ cond (is_at (place_cmp o) q) w (lookup (is_at (place_cmp q)) es)
 
 -- What a look-up of the owner finds is what the index has under it.
 pub own_found : (s : Index) (es : Entries) (o : Place) (own : Option Table) → index_of es ≡ s
@@ -53,8 +54,10 @@ put_in (Ok x) s es fs named o own w k key slot is name found writes at put =
 put_in (Err e) s es fs named o own w k key slot is name found writes at put = tt
 
 -- For ByOwner::put: where the owner's slots stay as they were, so does the index.
-pub kept_in : {A E : Type 0} (r : Result A E) (s : Index) (es fs : Entries) (o : Place) (own w : Table) → index_of es ≡ s
-    → Some own ≡ lookup (is_at (place_cmp o)) es → Changes es fs o (Some w) → OnErr r (w ≡ own) → OnErr r (index_of fs ≡ s)
+pub kept_in : {A E : Type 0} (r : Result A E) (s : Index) (es fs : Entries) (o : Place) (own w : Table)
+    → index_of es ≡ s
+    → Some own ≡ lookup (is_at (place_cmp o)) es → Changes es fs o (Some w) → OnErr r (w ≡ own)
+    → OnErr r (index_of fs ≡ s)
 kept_in (Ok x) s es fs o own w is found writes kept = tt
 kept_in (Err e) s es fs o own w is found writes kept =
     put_row s es fs o w is writes

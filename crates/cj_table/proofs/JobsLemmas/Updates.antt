@@ -74,7 +74,8 @@ jobs_put m n s t slot job turns writes alone = alike _ _ (λ k.
     ∙ ap (λ o. cond (is_at (place_cmp job.key) k) o (map.get (jobs_of m s) k)) (written (Some job) s t slot writes)
     ∙ sym (get_put (jobs_of m s) job.key job k))
 
--- For a Job that is added and one that is put in place of another: the key of the slot that the Job is put in is the Job's.
+-- For a Job that is added and one that is put in place of another: the key of the slot that the Job is put in is the
+-- Job's.
 key_put : (s t : Slots) (slot : ℕ) (job : Job) → Writes (Some job) s t slot → (l : ℕ) → Some slot ≡ Some l
     → key_at t l ≡ Some job.key
 key_put s t slot job writes l e =
@@ -90,7 +91,8 @@ held_put m n slot job turns k e =
     turns k ∙ ap (λ b. cond b (Some slot) (map.get m k)) (tied job.key k same)
 
 -- For owned_put: what is chosen where the test fails is nothing.
-chosen : (b : Bool) (slot : ℕ) (old : Option ℕ) → (b ≡ false → old ≡ None) → cond b (Some slot) old ≡ cond b (Some slot) None
+chosen : (b : Bool) (slot : ℕ) (old : Option ℕ) → (b ≡ false → old ≡ None)
+    → cond b (Some slot) old ≡ cond b (Some slot) None
 chosen true slot old none = refl
 chosen false slot old none = none refl
 

@@ -38,7 +38,8 @@ with_false false x y = refl
 
 -- a table and slots before and after a write of this slot or none at a key and of this Job or none in a slot that no
 -- other key has
-module _ (m n : Table) (s t : Slots) (key : Place) (slot : ℕ) (w : Option ℕ) (j : Option Job) (turns : Turns w m n key) (writes : Writes j s t slot) (alone : IsAlone m key slot) where
+module _ (m n : Table) (s t : Slots) (key : Place) (slot : ℕ) (w : Option ℕ) (j : Option Job) (turns : Turns w m n key)
+    (writes : Writes j s t slot) (alone : IsAlone m key slot) where
   -- At another key's slot stands what stood there before.
   kept_at : (k : Place) (l : ℕ) → map.get m k ≡ Some l → is_at (place_cmp key) k ≡ false → job_at t l ≡ job_at s l
   kept_at k l is apart = writes l ∙ ap (λ b. cond b j (job_at s l))
@@ -72,7 +73,10 @@ module _ (m n : Table) (s t : Slots) (key : Place) (slot : ℕ) (w : Option ℕ)
       ∙ written_at k (is_at (place_cmp key) k) refl
       ∙ ap (cond (is_at (place_cmp key) k) (option_and_then (job_at t) w)) (sym (get_jobs m s k))
 
-  module _ (x y : Index) (owner : Option Place) (index : IsIndex m s x) (sets : Sets w x y owner key) (keyed : (l : ℕ) → w ≡ Some l → key_at t l ≡ Some key) (own : (l : ℕ) → map.get m key ≡ Some l → l ≡ slot) (held : (k : Place) → option_map (λ (job : Job). job.key) j ≡ Some k → map.get n k ≡ Some slot) (here : (q : Place) → cond (is_owner owner q) w (owned_slot s q (map.get m key)) ≡ owned_slot t q w) where
+  module _ (x y : Index) (owner : Option Place) (index : IsIndex m s x) (sets : Sets w x y owner key)
+      (keyed : (l : ℕ) → w ≡ Some l → key_at t l ≡ Some key) (own : (l : ℕ) → map.get m key ≡ Some l → l ≡ slot)
+      (held : (k : Place) → option_map (λ (job : Job). job.key) j ≡ Some k → map.get n k ≡ Some slot)
+      (here : (q : Place) → cond (is_owner owner q) w (owned_slot s q (map.get m key)) ≡ owned_slot t q w) where
     -- For index_written: at a key's slot stands a Job of that key, by whether it is the key that is written.
     keyed_at : (k : Place) (l : ℕ) (b : Bool) → is_at (place_cmp key) k ≡ b → cond b w (map.get m k) ≡ Some l
         → key_at t l ≡ Some k

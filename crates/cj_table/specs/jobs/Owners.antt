@@ -13,12 +13,13 @@ abbrev pub names : List ℕ → Option (List ℕ) → Bool
 names name None = false
 names name (Some named) = bytes_eq named name
 
--- a Job of the key's namespace whose controller reference names a CronJob of the key's name, whatever its uid
+-- a Job of the key's namespace whose controller reference names a CronJob of the key's name,
+-- whatever its uid
 -- rule: jobs-of
 abbrev pub is_job_of : Place → Job → Bool
 is_job_of key job = bytes_eq job.key.namespace key.namespace && names key.name (cron_of job)
 
--- of Jobs by key those of a CronJob's key, in order of name
+-- of Jobs by key the Jobs of the CronJob at the key, in order of name
 -- rule: jobs-of
 abbrev pub owned_by : map.FinMap place_cmp Job → Place → List Job
 owned_by jobs key = filter (is_job_of key) (map.values jobs)

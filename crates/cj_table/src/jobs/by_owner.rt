@@ -14,7 +14,7 @@ use std::alloc::Global;
 use std::collections::BTreeMap;
 use std::marker::Model;
 
-// For each owner that has Jobs, the slots of these.
+// For each owner that has Jobs, the slots of its Jobs.
 #[derive(Drop)]
 pub(crate) struct ByOwner {
     rows: BTreeMap<Owner, OwnJobs>,
@@ -34,7 +34,7 @@ impl Model for ByOwner {
 }
 
 impl ByOwner {
-    // No owner.
+    // An empty index.
     pub(crate) fn new(alloc: Global) -> ByOwner
         ensures { result ≡ map.empty }
     {
@@ -60,8 +60,8 @@ impl ByOwner {
         }
     }
 
-    // Puts the slot under the owner, if there is one, at the key in place of the one that stood there. Where there is
-    // no memory all is as it was.
+    // Sets the slot of the key under the owner, if one is given, replacing any earlier one.
+    // Unchanged where there is no memory.
     pub(crate) fn put(
         &mut self,
         alloc: Global,
@@ -88,7 +88,8 @@ impl ByOwner {
         }
     }
 
-    // Takes the key and its slot out from under the owner, if there is one, and the owner with its last Job.
+    // Removes the key and its slot from under the owner, if one is given, and the owner with its
+    // last Job.
     pub(crate) fn take(&mut self, owner: Option<Owner>, key: &Key)
         ensures { Sets None self.old self.new owner key.now }
     {

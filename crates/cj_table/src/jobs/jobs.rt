@@ -21,8 +21,8 @@ fn key_of(alloc: Global, job: &Shared<Job>) -> Result<Key, Refusal>
     job.key.try_copy(alloc)
 }
 
-/// Jobs by key, each at its own, with an index that has under each CronJob the Jobs that it owns. Contracts see the
-/// Jobs by key alone.
+/// Jobs by key, each at its own, with an index that has under each CronJob the Jobs that it owns.
+/// Contracts see the Jobs by key alone.
 pub struct Jobs {
     // The Jobs themselves.
     slots: Slots,
@@ -48,7 +48,6 @@ impl Model for Jobs {
     ghost invariant = { λ s. IsIndex s.table s.slots s.index };
 }
 
-// A function of its own, so that whoever gives up Jobs makes one call and not one for each part.
 impl Drop for Jobs {
     fn drop(self) {
         let Jobs {
@@ -63,7 +62,7 @@ impl Drop for Jobs {
 }
 
 impl Jobs {
-    /// No Job.
+    /// An empty map.
     pub fn new(alloc: Global) -> Jobs
         ensures { result ≡ map.empty }
     {
@@ -95,8 +94,9 @@ impl Jobs {
         Listing::new(alloc, jobs)
     }
 
-    /// The Jobs of the key's namespace whose controller reference names a CronJob of `batch/v1` of the key's
-    /// name, whatever its uid, in order of name. Only these are walked, and none is copied.
+    /// The Jobs of the key's namespace whose controller reference names a CronJob of `batch/v1` of
+    /// the key's name, whatever its uid, in order of name. Only these are walked, and none is
+    /// copied.
     pub fn owned_by(&self, alloc: Global, key: &Key) -> Result<Listing<Shared<Job>>, Refusal>
         ensures ok { IfOk result (λ l. l ≡ owned_by self.now key.now) }
         ensures memory { IfErr result (λ e. e ≡ OutOfMemory) }
@@ -105,7 +105,7 @@ impl Jobs {
         self.index.list(alloc, &self.slots, &owner)
     }
 
-    /// Puts a Job at its key, where none stands. Where there is no memory the Jobs are as they were.
+    /// Adds a Job at its key, which is free. Unchanged where there is no memory.
     pub fn add(&mut self, alloc: Global, job: Shared<Job>) -> Result<(), Refusal>
         requires { map.get self.old job.key ≡ None }
         ensures ok { OnOk result (self.new ≡ map.insert self.old job.key job) }
@@ -130,7 +130,7 @@ impl Jobs {
         Ok(())
     }
 
-    /// Puts a Job in place of the one at its key, which has the same owner references. This takes no memory.
+    /// Replaces the Job at its key by one with the same owner references. This takes no memory.
     pub fn replace(&mut self, job: Shared<Job>)
         requires { owners_of self.old job.key ≡ Some job.owners }
         ensures { self.new ≡ map.insert self.old job.key job }
@@ -142,7 +142,7 @@ impl Jobs {
         }
     }
 
-    /// Takes the Job at the key out, if there is one. Where there is no memory the Jobs are as they were.
+    /// Removes the Job at the key, if there is one. Unchanged where there is no memory.
     #[tactic(auto, using(crate::proofs::JobsLemmas::Updates::stands, crate::proofs::JobsLemmas::Updates::jobs_removed))]
     pub fn remove(&mut self, alloc: Global, key: &Key) -> Result<(), Refusal>
         ensures ok { OnOk result (self.new ≡ map.remove self.old key.now) }

@@ -31,7 +31,7 @@ impl Model for OwnJobs {
 }
 
 impl OwnJobs {
-    // No Job.
+    // An empty map.
     pub(crate) fn new(alloc: Global) -> OwnJobs
         ensures { result ≡ map.empty }
     {
@@ -48,7 +48,7 @@ impl OwnJobs {
         self.rows.is_empty()
     }
 
-    // Puts the slot at the key, in place of the one that stood there.
+    // Sets the slot of the key, replacing any earlier one.
     #[tactic(auto, using(crate::proofs::Rows::inserted_at))]
     pub(crate) fn insert(&mut self, key: Key, slot: Slot) -> Result<(), Refusal>
         ensures ok { OnOk result (self.new ≡ map.insert self.old key slot) }
@@ -61,7 +61,7 @@ impl OwnJobs {
         }
     }
 
-    // Takes the key and its slot out, if they are there.
+    // Removes the key and its slot, if they are there.
     #[tactic(auto, using(crate::proofs::Rows::removed_at))]
     pub(crate) fn remove(&mut self, key: &Key)
         ensures { self.new ≡ map.remove self.old key.now }

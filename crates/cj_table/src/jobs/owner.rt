@@ -17,7 +17,8 @@ use std::alloc::Global;
 use std::cmp::Ordering;
 use std::marker::Model;
 
-// Namespace and name of a CronJob that a Job's controller reference names, which need not be well formed.
+// Namespace and name of a CronJob that a Job's controller reference names, which need not be well
+// formed.
 #[derive(Drop)]
 pub(crate) struct Owner {
     namespace: Text,
@@ -47,7 +48,7 @@ impl Owner {
         Ok(Some(Owner { namespace, name }))
     }
 
-    // The CronJob that the Job at the slot names, if one stands there and names one.
+    // The CronJob that the Job in the slot names, if there is a Job and it names one.
     pub(crate) fn standing(
         alloc: Global,
         slots: &Slots,

@@ -4,7 +4,7 @@ use cj_types::{Refusal, TryCopy};
 use std::alloc::Global;
 use std::marker::Model;
 
-// The number of a place where a Job may stand. Contracts see the number.
+// The number of a place that may hold a Job. Contracts see the number.
 #[derive(Clone, Copy)]
 pub(crate) struct Slot {
     number: usize,
@@ -26,7 +26,7 @@ impl Slot {
         Slot { number }
     }
 
-    // Its number.
+    // The number of the slot.
     pub(crate) fn number(self) -> usize
         ensures { result ≡ self }
     {

@@ -8,7 +8,7 @@ use slab::Slab;
 use std::alloc::Global;
 use std::marker::Model;
 
-// Jobs by the number of their slot. Contracts see slot by slot the Job that stands there, if one does.
+// Jobs by the number of their slot. Contracts see a map from slots to Jobs.
 pub(crate) struct Slots {
     jobs: Slab<Shared<Job>>,
 }
@@ -26,7 +26,6 @@ impl Model for Slots {
     ghost view = { λ s. s.jobs.slots };
 }
 
-// A function of its own, so that whoever gives up slots makes one call and not one for each part.
 impl Drop for Slots {
     fn drop(self) {
         let Slots { jobs } = self;
@@ -35,7 +34,7 @@ impl Drop for Slots {
 }
 
 impl Slots {
-    // No slot.
+    // An empty map.
     pub(crate) fn new(alloc: Global) -> Slots
         ensures { result ≡ [] }
     {
@@ -44,14 +43,14 @@ impl Slots {
         }
     }
 
-    // The Job at the slot, if one stands there.
+    // The Job in the slot, if there is one.
     pub(crate) fn get(&self, slot: Slot) -> Option<&Shared<Job>>
         ensures { option_copied result ≡ job_at self.now slot }
     {
         self.jobs.get(slot.number())
     }
 
-    // The Job at the slot once more, if one stands there, behind those that were found before.
+    // Appends the Job in the slot, if there is one, to those already found.
     pub(crate) fn push_shared(&self, jobs: &mut Vec<Shared<Job>>, slot: Slot) -> Result<(), Refusal>
         ensures ok { OnOk result (
             jobs.new.items ≡ jobs.old.items ++ option_to_list (job_at self.now slot)) }
@@ -63,7 +62,7 @@ impl Slots {
         }
     }
 
-    // Puts the Job in a free slot. Where there is no memory all is as it was.
+    // Puts the Job in a free slot. Unchanged where there is no memory.
     pub(crate) fn put(&mut self, job: Shared<Job>) -> Result<Slot, Refusal>
         ensures free { IfOk result (λ slot. job_at self.old slot ≡ None) }
         ensures ok { IfOk result (Writes (Some job) self.old self.new) }
@@ -76,7 +75,7 @@ impl Slots {
         }
     }
 
-    // Puts the Job in the slot, in place of the one that stands there. This needs no memory.
+    // Replaces the Job in the slot. This needs no memory.
     pub(crate) fn set(&mut self, slot: Slot, job: Shared<Job>)
         requires { IsSome (job_at self.old slot) }
         ensures { Writes (Some job) self.old self.new slot }
@@ -86,7 +85,7 @@ impl Slots {
         }
     }
 
-    // Takes the Job out of the slot where it stands, which is free then. This needs no memory.
+    // Removes the Job from its slot, which is free then. This needs no memory.
     pub(crate) fn clear(&mut self, slot: Slot)
         requires { IsSome (job_at self.old slot) }
         ensures { Writes None self.old self.new slot }

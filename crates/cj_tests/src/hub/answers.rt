@@ -36,8 +36,8 @@ pub fn word(answered: Result<Receipt, Refusal>) -> &'static str {
     word
 }
 
-/// Makes the call of the pass. Answers the word of its refusal, by the hub or by the world, `Key` where it
-/// took one, else `entered`.
+/// Makes the call of the pass. Answers the word of its refusal, by the hub or by the world, `Key`
+/// where it took one, else `entered`.
 pub fn called(rt: &impl Wait, hub: &Hub, pass: &mut Pass, call: Call) -> &'static str {
     word(hub.call(rt, pass, call))
 }

@@ -43,7 +43,8 @@ fn ended(
     word
 }
 
-// The same of a pass that finds the history full and a pass of another hub, in this order or in the other.
+// The same of a pass that finds the history full and a pass of another hub, in this order or in the
+// other.
 fn told(
     rt: &(impl Threads + Wait + Abort + Sync),
     alloc: Global,
@@ -66,8 +67,8 @@ fn told(
     word
 }
 
-// One of two runners finds the history full, the other is a pass of another hub: the round is refused as the first of the two
-// passes was, whichever that is.
+// One of two runners finds the history full, the other is a pass of another hub: the round is
+// refused as the first of the two passes was, whichever that is.
 // rule: runner-ends
 #[test]
 fn a_round_is_refused_as_its_first_pass(rt: HostRuntime) {

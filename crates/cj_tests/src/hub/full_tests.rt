@@ -18,7 +18,8 @@ fn answers(rt: &impl Wait, hub: &Hub, user: &mut Pass, worker: &mut Pass) -> [&'
     ]
 }
 
-// What the two are answered, how many receipts they have then, and what the hub has once it is closed.
+// What the two are answered, how many receipts they have then, and what the hub has once it is
+// closed.
 type Told = ([&'static str; 5], [usize; 2], Counts);
 
 fn told(rt: &(impl Wait + Abort), alloc: Global) -> Told {
@@ -39,9 +40,9 @@ const ANSWERS: [&str; 5] = [
     "HistoryFull",
 ];
 
-// A full history refuses a reading, and a Take, be it one that waits, before it is said that there is nothing
-// to take. No pass gains a receipt by a refusal and the history no entry: the hub closes with the one that
-// was entered.
+// A full history refuses a reading, and a Take, be it one that waits, before it is said that there
+// is nothing to take. No pass gains a receipt by a refusal and the history no entry: the hub closes
+// with the one that was entered.
 // rule: hub-call
 #[test]
 fn a_full_history(rt: HostRuntime) {

@@ -13,7 +13,8 @@ fn state(rt: &impl Wait, hub: &Hub, seen: u64) -> HubState {
     hub.state(rt, Version::new(seen))
 }
 
-// How far the work is before and after a CronJob is created, for one who has seen nothing and for one who has seen it.
+// How far the work is before and after a CronJob is created, for one who has seen nothing and for
+// one who has seen it.
 fn while_created(
     rt: &(impl Wait + Abort),
     alloc: Global,
@@ -25,8 +26,8 @@ fn while_created(
     [before, state(rt, hub, 0), state(rt, hub, 1)]
 }
 
-// The same for one who has seen it, once the listings know of it, once its key is in the line, and once work
-// was given up.
+// The same for one who has seen it, once the listings know of it, once its key is in the line, and
+// once work was given up.
 fn while_worked(
     rt: &(impl Wait + Abort),
     alloc: Global,
@@ -56,8 +57,9 @@ const CREATED: [HubState; 3] = [HubState::Quiet, HubState::Behind, HubState::Beh
 
 const WORKED: [HubState; 3] = [HubState::Quiet, HubState::Busy, HubState::Broken];
 
-// An empty hub is Quiet. A CronJob that is created leaves it Behind for one who hasn't seen it, and until the
-// listings know of it; then it is Quiet, Busy with the key in the line, and Broken once work was given up.
+// An empty hub is Quiet. A CronJob that is created leaves it Behind for one who hasn't seen it, and
+// until the listings know of it; then it is Quiet, Busy with the key in the line, and Broken once
+// work was given up.
 // rule: hub-state
 #[test]
 fn how_far_the_work_is(rt: HostRuntime) {

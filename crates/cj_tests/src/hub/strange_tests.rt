@@ -19,8 +19,8 @@ fn stranger(rt: &(impl Wait + Abort), alloc: Global) -> Pass {
     pass
 }
 
-// What refused a closing, the receipts of the last pass that came back, whether each of the others has 200,
-// and the counts of the book once it is closed without that pass.
+// What refused a closing, the receipts of the last pass that came back, whether each of the others
+// has 200, and the counts of the book once it is closed without that pass.
 type Refused = (&'static str, usize, bool, Counts);
 
 fn close_again(rt: &impl Abort, refused: NotClosed, receipts: &[Receipt]) -> Refused {
@@ -36,7 +36,8 @@ fn close_again(rt: &impl Abort, refused: NotClosed, receipts: &[Receipt]) -> Ref
     (word_of(&refusal), last_count, is_counted, counts)
 }
 
-// The answer of a hub to a pass of another, and the closing with that pass beside those of four users.
+// The answer of a hub to a pass of another, and the closing with that pass beside those of four
+// users.
 fn closing(rt: &(impl Threads + Wait + Abort + Sync), alloc: Global) -> (&'static str, Refused) {
     let hub = hub_of(rt, alloc, 10_000);
     let (mut passes, receipts) = four_users(rt, alloc, &hub);
@@ -47,9 +48,9 @@ fn closing(rt: &(impl Threads + Wait + Abort + Sync), alloc: Global) -> (&'stati
     (answer, close_again(rt, refused, receipts.as_slice()))
 }
 
-// A pass of another hub is answered Estranged. With it beside the four right ones the hub isn't closed, for
-// the same reason, and book and passes come back with all receipts: the book closes without it, with all that
-// was entered.
+// A pass of another hub is answered Estranged. With it beside the four right ones the hub isn't
+// closed, for the same reason, and book and passes come back with all receipts: the book closes
+// without it, with all that was entered.
 // rules: hub-call, closing, passes
 #[test]
 fn a_pass_of_another_hub(rt: HostRuntime) {

@@ -17,8 +17,9 @@ fn closing(rt: &(impl Threads + Wait + Abort + Sync), alloc: Global) -> (bool, C
     (is_counted, counts)
 }
 
-// Four users on threads create 100 CronJobs each and read each back, the same at a later place: every pass
-// counts 200 receipts, the hub closes with 800 entries, and all 800 receipts stand in its history.
+// Four users on threads create 100 CronJobs each and read each back, the same at a later place:
+// every pass counts 200 receipts, the hub closes with 800 entries, and all 800 receipts stand in
+// its history.
 // rules: receipts, closing, passes
 #[test]
 fn four_users_on_threads(rt: HostRuntime) {

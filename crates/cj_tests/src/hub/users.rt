@@ -34,8 +34,8 @@ fn create_and_read(
     is_read_back
 }
 
-// Creates a hundred CronJobs under names of its own, each of which is read back, and keeps the receipts with
-// those of the others.
+// Creates a hundred CronJobs under names of its own, each of which is read back, and keeps the
+// receipts with those of the others.
 fn work(
     rt: &(impl Wait + Abort),
     alloc: Global,
@@ -65,7 +65,8 @@ fn four_passes(rt: &(impl Wait + Abort), alloc: Global, hub: &Hub) -> Vec<Pass> 
     vec![in alloc; one, two, three, four].expect(rt, "memory")
 }
 
-/// The passes of four users who worked at once, each on a thread of its own, and the receipts that they got.
+/// The passes of four users who worked at once, each on a thread of its own, and the receipts that
+/// they got.
 pub fn four_users(
     rt: &(impl Threads + Wait + Abort + Sync),
     alloc: Global,

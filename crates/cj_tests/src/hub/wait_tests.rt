@@ -8,8 +8,8 @@ use std::process::Abort;
 use std::sync::Wait;
 use std::thread::{self, Threads};
 
-// What a worker is told that waits for a key while another makes a call, the other's answer, and the worker's
-// receipts then.
+// What a worker is told that waits for a key while another makes a call, the other's answer, and
+// the worker's receipts then.
 type Told = (&'static str, &'static str, usize);
 
 fn told(
@@ -37,8 +37,8 @@ const ENDS: [Told; 3] = [
     ("Key", "entered", 1),
 ];
 
-// A Take that waits is refused, and not entered, once another's call fills the history; it is answered
-// ShutDown, as an entry, once the queue is shut; and it takes a key that is added.
+// A Take that waits is refused, and not entered, once another's call fills the history; it is
+// answered ShutDown, as an entry, once the queue is shut; and it takes a key that is added.
 // rule: waiting-take
 #[test]
 fn what_ends_a_waiting_take(rt: HostRuntime) {

@@ -73,9 +73,8 @@ fn add_held(
     }
 }
 
-// Adds one to three keys in each round, in one hold of the lock or in several, and waits for rest, when they were taken and
-// given back; then shuts the queue.
-// Tells in how many rounds they were.
+// Adds one to three keys in each round, in one hold of the lock or in several, and waits for rest,
+// when they were taken and given back; then shuts the queue. Tells in how many rounds they were.
 fn add_in_rounds(
     rt: &(impl Wait + Abort),
     alloc: Global,
@@ -137,8 +136,8 @@ fn rounds(rt: &(impl Threads + Wait + Abort + Sync), alloc: Global) -> u64 {
     rounds
 }
 
-// Six workers, three keys and ten thousand rounds with pauses: no key that is added stands in the line while all workers
-// sleep.
+// Six workers, three keys and ten thousand rounds with pauses: no key that is added stands in the
+// line while all workers sleep.
 // rules: waiting-take, waiting-rest
 #[test]
 fn no_wake_is_lost(rt: HostRuntime) {

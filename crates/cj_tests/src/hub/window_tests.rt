@@ -38,7 +38,8 @@ fn told(rt: &(impl Wait + Abort), alloc: Global) -> [&'static str; 4] {
     answers
 }
 
-// A hub that keeps two events has three writes: a watch from before the first is Expired, one from later is answered.
+// A hub that keeps two events has three writes: a watch from before the first is Expired, one from
+// later is answered.
 // rules: watch-window, world-limits
 #[test]
 fn a_watch_below_the_hubs_window(rt: HostRuntime) {

@@ -45,8 +45,8 @@ fn added(
     have_come
 }
 
-// Whether there came as many answers as keys before the queue was shut, and what two workers are answered that wait, the
-// greater word first.
+// Whether there came as many answers as keys before the queue was shut, and what two workers are
+// answered that wait, the greater word first.
 type Told = (bool, [&'static str; 2]);
 
 fn told(rt: &(impl Threads + Wait + Abort + Sync), alloc: Global, keys: &[&str]) -> Told {
@@ -75,8 +75,8 @@ fn told(rt: &(impl Threads + Wait + Abort + Sync), alloc: Global, keys: &[&str])
     (have_come, words)
 }
 
-// Two workers wait. One key wakes one of them, which takes it; the other waits on until the queue is shut. Two keys, the second
-// of which may be added before the first is taken, wake both.
+// Two workers wait. One key wakes one of them, which takes it; the other waits on until the queue
+// is shut. Two keys, the second of which may be added before the first is taken, wake both.
 // rule: waiting-take
 #[test]
 fn a_key_is_taken_by_one_of_two_that_wait(rt: HostRuntime) {

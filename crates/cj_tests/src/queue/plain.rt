@@ -65,7 +65,8 @@ impl Plain {
         Ok(())
     }
 
-    // The earliest of those that wait, where its time isn't above the moment; of several the first key.
+    // The earliest of those that wait, where its time isn't above the moment; of several the first
+    // key.
     fn next_ready(&self, now: u64) -> Option<usize> {
         let mut earliest = now.saturating_add(1);
         let mut first = None;

@@ -86,7 +86,8 @@ const TAKEN: [(&str, &str); 10] = [
     // A time that isn't above the greatest tick.
     ("t0@50 t0@40 w3@50 < -3 w3@51 < t0@50 < t0@51 <", "3..3"),
     ("+1 +0 t0@50 w2@40 < < <", "102"),
-    // The end of a sync: with a further time, with a retry after 5, then after 10 ms, and with none.
+    // The end of a sync: with a further time, with a retry after 5, then after 10 ms, and with
+    // none.
     ("+3 < n3@10 t0@9 < t0@10 <", "3.3"),
     ("+3 < r3@10 t0@14 < t0@15 < r3@15 t0@24 < t0@25 <", "3.3.3"),
     (
@@ -136,7 +137,8 @@ const DELAYS: [(u64, u64); 6] = [
     (40, 1_000_000),
 ];
 
-// The first number of failures after which the delay is another, or after which `forget` leaves one.
+// The first number of failures after which the delay is another, or after which `forget` leaves
+// one.
 fn first_other(queue: &mut Queue, key: &Key) -> Result<Option<u64>, Refusal> {
     for (failures, wanted) in DELAYS {
         if delays_of(queue, key, failures)? != [wanted, 5] {

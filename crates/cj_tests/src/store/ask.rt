@@ -7,7 +7,8 @@ pub struct Ask {
     pub spec: usize,
     pub version: Option<u64>,
     pub uid: Option<u64>,
-    // 0 for no owner, 1 for one that is no controller, 2 and above for the CronJob of the name at that place less 2.
+    // 0 for no owner, 1 for one that is no controller, 2 and above for the CronJob of the name at
+    // that place less 2.
     pub owner: usize,
     pub is_complete: bool,
     pub is_planned: bool,

@@ -97,7 +97,8 @@ fn read<T: Told>(found: Option<&Shared<T>>) -> Option<Plain> {
     }
 }
 
-// Whether the objects at the key of that place, and the Jobs of the CronJob at that key, are those of the model.
+// Whether the objects at the key of that place, and the Jobs of the CronJob at that key, are those
+// of the model.
 fn agrees_at(store: &Store, alloc: Global, model: &Model, place: usize, key: &Key) -> bool {
     let cron = read(store.get_cron(key)) == model.find(false, place);
     let job = read(store.get_job(key)) == model.find(true, place);
@@ -105,7 +106,8 @@ fn agrees_at(store: &Store, alloc: Global, model: &Model, place: usize, key: &Ke
     cron && job && lists(model, store.jobs_of(alloc, key), count)
 }
 
-// Whether the store lists just the objects of the model, and agrees with it at the key of that place.
+// Whether the store lists just the objects of the model, and agrees with it at the key of that
+// place.
 fn agrees(store: &Store, alloc: Global, model: &Model, place: usize) -> bool {
     let crons = lists(model, store.list_crons(alloc), model.count(false, None));
     let jobs = lists(model, store.list_jobs(alloc), model.count(true, None));

@@ -23,8 +23,9 @@ const KATHMANDU: &[u8] =
 const APIA: &[u8] =
     b"TZif2\0\0\0\0\0\0\0\0\0\0\0\0\0\0\0\0\0\0\0\0\0\0\0\0\0\0\0\0\0\0\0\0\0\0\x01\0\0\0\x01\0\0\0\0\0\0\0TZif2\0\0\0\0\0\0\0\0\0\0\0\0\0\0\0\0\0\0\0\0\0\0\0\0\0\0\0\0\0\0\x1a\0\0\0\x07\0\0\0\x1a\xff\xff\xff\xffn=\xc9\0\xff\xff\xff\xff\x91\x05\xfc\0\xff\xff\xff\xff\xdab\x048\0\0\0\0L\x9f'\xb0\0\0\0\0M\x97+\xe0\0\0\0\0N}\xe2`\0\0\0\0N\xfd\x8b\xa0\0\0\0\0Ow\x0d\xe0\0\0\0\0Pf\xfe\xe0\0\0\0\0Q`*`\0\0\0\0RF\xe0\xe0\0\0\0\0S@\x0c`\0\0\0\0T&\xc2\xe0\0\0\0\0U\x1f\xee`\0\0\0\0V\x06\xa4\xe0\0\0\0\0V\xff\xd0`\0\0\0\0W\xe6\x86\xe0\0\0\0\0X\xdf\xb2`\0\0\0\0Y\xc6h\xe0\0\0\0\0Z\xbf\x94`\0\0\0\0[\xaf\x85`\0\0\0\0\\\xa8\xb0\xe0\0\0\0\0]\x8fg`\0\0\0\0^\x88\x92\xe0\0\0\0\0_oI`\0\0\0\0`ht\xe0\x01\x02\x04\x03\x04\x03\x06\x05\x06\x05\x06\x05\x06\x05\x06\x05\x06\x05\x06\x05\x06\x05\x06\x05\x06\x05\0\0\xb0\x80\0\0\xff\xff_\0\0\0\xff\xff^H\0\x04\xff\xffs`\x01\n\xff\xffeP\0\x0e\0\0\xb6\xd0\0\x12\0\0\xc4\xe0\x01\x16LMT\0-1130\0-10\0-11\0+13\0+14\0\n<+13>-13\n";
 
-// Zone, schedule, start, and the next due times, by a scan of minutes over Python's zoneinfo: round a gap, a fold, a
-// change of half an hour, of a quarter, at midnight, of a whole day, and of the rules themselves.
+// Zone, schedule, start, and the next due times, by a scan of minutes over Python's zoneinfo: round
+// a gap, a fold, a change of half an hour, of a quarter, at midnight, of a whole day, and of the
+// rules themselves.
 const DUE_TIMES: &str = "\
 America/New_York|30 2 * * *|2024-03-09T00:00:00Z|2024-03-09T07:30:00Z 2024-03-11T06:30:00Z
 America/New_York|30 1 * * *|2024-11-02T12:00:00Z|2024-11-03T05:30:00Z 2024-11-03T06:30:00Z 2024-11-04T06:30:00Z

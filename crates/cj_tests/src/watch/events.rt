@@ -1,5 +1,5 @@
 ghost use Rattle.std.specs.Prelude.{◌≡◌, IfOk};
-ghost use Rattle.cj_watch.specs.Numbers.{version_of};
+ghost use Rattle.cj_types.specs.Events.{version_of};
 
 use cj_types::{
     Event, Heap, Job, Key, Labels, Meta, Object, OwnerRef, OwnerRefs, Refusal, Seconds, Shared,

@@ -102,8 +102,8 @@ impl Stood {
     }
 }
 
-// Makes a write by the random number, and now and then lets the mirror catch up. Whether it then has what
-// stood when it was fed.
+// Makes a write by the random number, and now and then lets the mirror catch up. Whether it then
+// has what stood when it was fed.
 fn step(
     alloc: Global,
     log: &mut WatchLog,

@@ -1,6 +1,6 @@
 use crate::watch::events::{event, tag_of};
 use cj_types::{Event, Max, Refusal, Version};
-use cj_watch::{WatchLog, Window, version_of};
+use cj_watch::{WatchLog, Window};
 use std::alloc::Global;
 
 // One write more, with the next version.
@@ -45,7 +45,7 @@ fn refused(refusal: &Refusal) -> Told {
 fn rise(events: &[Event], first: u64) -> bool {
     let mut number = first;
     for event in events {
-        if version_of(event).get() != number {
+        if event.version().get() != number {
             return false;
         }
         number = number.saturating_add(1);
@@ -57,7 +57,7 @@ fn told_of(events: &[Event]) -> Told {
     let Some(event) = events.first() else {
         return Told::Events(0, 0);
     };
-    let first = version_of(event).get();
+    let first = event.version().get();
     if rise(events, first) {
         Told::Events(first, events.len())
     } else {
@@ -147,7 +147,8 @@ fn are_tagged(events: &[Event], tags: &[u8], version: u64) -> bool {
     true
 }
 
-// Whether the log answers with the events after the version, at most so many, of a list with the tags of all writes.
+// Whether the log answers with the events after the version, at most so many, of a list with the
+// tags of all writes.
 fn is_part(alloc: Global, log: &WatchLog, tags: &[u8], version: u64, max: Max) -> bool {
     match log.since(alloc, Version::new(version), max) {
         Ok(events) => are_tagged(events.as_slice(), tags, version),
@@ -180,7 +181,8 @@ fn agrees(alloc: Global, log: &WatchLog, tags: &[u8], version: u64) -> Result<bo
     Ok(is_told && is_part(alloc, log, tags, version, max))
 }
 
-// Makes a write by the random number, and asks for what came after a version about the oldest served.
+// Makes a write by the random number, and asks for what came after a version about the oldest
+// served.
 fn step(
     alloc: Global,
     log: &mut WatchLog,

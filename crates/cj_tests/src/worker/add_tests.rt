@@ -27,8 +27,8 @@ fn three_adds(rt: &impl Abort, alloc: Global) -> [Call; 5] {
     [first, tick_one, second, tick_two, third]
 }
 
-// How the worker's sync ends during which the informer makes the calls, and the other worker tries to take after
-// each; how often that found nothing; and both passes.
+// How the worker's sync ends during which the informer makes the calls, and the other worker tries
+// to take after each; how often that found nothing; and both passes.
 type Held = (&'static str, u64, Pass, Pass);
 
 fn while_held(
@@ -58,9 +58,9 @@ fn while_held(
     (end, count, informer.into_inner(), other.into_inner())
 }
 
-// How the syncs ended, and how often it was tried in vain to take meanwhile; the answer to a Take after the second
-// sync; and how often the history tells that the key was added, that each worker took it, and that the Job of two
-// minutes later was made.
+// How the syncs ended, and how often it was tried in vain to take meanwhile; the answer to a Take
+// after the second sync; and how often the history tells that the key was added, that each worker
+// took it, and that the Job of two minutes later was made.
 type Told = ([&'static str; 2], u64, &'static str, [usize; 4]);
 
 fn told(rt: &(impl Wait + Abort), alloc: Global) -> Told {
@@ -92,9 +92,9 @@ fn told(rt: &(impl Wait + Abort), alloc: Global) -> Told {
     ([first, second], tries, third, counts)
 }
 
-// A key is added three times, and the clocks move on by two minutes, while a worker holds it. After each of that
-// another worker tries to take, and finds nothing. After the Finish it takes the key once, and makes the Job of two
-// minutes later; then there is nothing to take.
+// A key is added three times, and the clocks move on by two minutes, while a worker holds it. After
+// each of that another worker tries to take, and finds nothing. After the Finish it takes the key
+// once, and makes the Job of two minutes later; then there is nothing to take.
 // rules: queue-done, queue-line, add-while-held
 #[test]
 fn added_while_it_is_held(rt: HostRuntime) {

@@ -32,7 +32,8 @@ fn moved(
     word(&end)
 }
 
-// How the sync ended, and how often the history tells that it took, that it claimed, and of each minute that its Job was made.
+// How the sync ended, and how often the history tells that it took, that it claimed, and of each
+// minute that its Job was made.
 type Told = (&'static str, [usize; 4]);
 
 fn told(rt: &(impl Wait + Abort), alloc: Global) -> Told {
@@ -55,8 +56,8 @@ fn told(rt: &(impl Wait + Abort), alloc: Global) -> Told {
     (end, counts(rt, hub, passes, sought))
 }
 
-// The clock goes from the first minute to the second once SeeActive is answered, the last of the three readings: the Job is of
-// the second minute, so the clock was read after them.
+// The clock goes from the first minute to the second once SeeActive is answered, the last of the
+// three readings: the Job is of the second minute, so the clock was read after them.
 // rule: sync-moments
 #[test]
 fn the_clock_is_read_after_the_answers(rt: HostRuntime) {

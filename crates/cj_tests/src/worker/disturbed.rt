@@ -9,8 +9,8 @@ use std::alloc::Global;
 use std::process::Abort;
 use std::sync::{Mutex, Wait};
 
-/// How the worker's sync in the first minute ends at whose point the other makes these calls, and the other's
-/// pass then.
+/// How the worker's sync in the first minute ends at whose point the other makes these calls, and
+/// the other's pass then.
 pub fn disturbed(
     rt: &(impl Wait + Abort),
     alloc: Global,

@@ -11,8 +11,9 @@ use std::mem;
 use std::process::Abort;
 use std::sync::Wait;
 
-// How a sync ended at whose point a user edits the CronJob, and the next one; and how often the history tells
-// of the edit, of claims of a time, of syncs that ended well, and of the Job of the first minute.
+// How a sync ended at whose point a user edits the CronJob, and the next one; and how often the
+// history tells of the edit, of claims of a time, of syncs that ended well, and of the Job of the
+// first minute.
 type Row = ([&'static str; 2], [usize; 4]);
 
 fn edited_at(rt: &(impl Wait + Abort), alloc: Global, point: Point) -> Row {
@@ -44,9 +45,10 @@ const RETRIED: Row = (["Conflict", "Done"], [1, 1, 1, 1]);
 
 const ROWS: [Row; 5] = [DONE, RETRIED, RETRIED, DONE, DONE];
 
-// A user edits the CronJob at one of the five points of a sync. At Taken, which is before the CronJob is
-// seen, and at Claimed and Made, which are after the claim, the sync is done; at Seen and Listed its claim is
-// refused, and the next sync makes the Job. Each time the minute's Job is made just once.
+// A user edits the CronJob at one of the five points of a sync. At Taken, which is before the
+// CronJob is seen, and at Claimed and Made, which are after the claim, the sync is done; at Seen
+// and Listed its claim is refused, and the next sync makes the Job. Each time the minute's Job is
+// made just once.
 // rules: sync-calls, sync-ends, sync-inputs
 #[test]
 fn edited_at_each_point(rt: HostRuntime) {

@@ -26,7 +26,8 @@ pub fn made(rt: &(impl Wait + Abort), hub: &Hub, pass: &mut Pass, call: Call) {
     assert!(rt; is_accepted);
 }
 
-/// A hub with a CronJob of every minute by each of the names, whose keys are in the queue in this order.
+/// A hub with a CronJob of every minute by each of the names, whose keys are in the queue in this
+/// order.
 pub fn fixture_of(rt: &(impl Wait + Abort), alloc: Global, names: &[&str]) -> Fixture {
     let hub = hub_of(rt, alloc, 1_000);
     let mut user = pass_of(rt, &hub, Role::User);

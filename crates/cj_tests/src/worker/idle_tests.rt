@@ -17,7 +17,8 @@ fn pass_at(rt: &impl Abort, desk: &mut PlainDesk, role: Role) -> Pass {
     desk.enroll(role).expect(rt, "memory")
 }
 
-// How a sync ended before the queue was shut, and one after it, and how many receipts the worker had after each.
+// How a sync ended before the queue was shut, and one after it, and how many receipts the worker
+// had after each.
 type Told = ([&'static str; 2], [usize; 2]);
 
 fn told(rt: &impl Abort, alloc: Global) -> Told {
@@ -33,8 +34,8 @@ fn told(rt: &impl Abort, alloc: Global) -> Told {
     ([first, second], [calls, all_calls])
 }
 
-// At a book of one's own that has nothing to take a sync is Idle and enters nothing; once the queue is shut
-// it is ShutDown, as its one receipt says.
+// At a book of one's own that has nothing to take a sync is Idle and enters nothing; once the queue
+// is shut it is ShutDown, as its one receipt says.
 // rule: sync-ends
 #[test]
 fn nothing_to_take(rt: HostRuntime) {

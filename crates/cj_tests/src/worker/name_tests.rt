@@ -10,8 +10,8 @@ use std::alloc::Global;
 use std::process::Abort;
 use std::sync::Wait;
 
-// The ends of a worker's three syncs: the second one is the other try, 5 ms later, and before the third the
-// queue is shut.
+// The ends of a worker's three syncs: the second one is the other try, 5 ms later, and before the
+// third the queue is shut.
 fn three_ends(
     rt: &(impl Wait + Abort),
     alloc: Global,
@@ -27,8 +27,8 @@ fn three_ends(
     [first, second, third]
 }
 
-// How the syncs ended, and how often the history tells that the worker claimed a time, was refused the
-// making, and put the key off with FailedCreate; and that the Job was made.
+// How the syncs ended, and how often the history tells that the worker claimed a time, was refused
+// the making, and put the key off with FailedCreate; and that the Job was made.
 type Told = ([&'static str; 3], [usize; 4]);
 
 fn told(rt: &(impl Wait + Abort), alloc: Global) -> Told {
@@ -51,9 +51,9 @@ fn told(rt: &(impl Wait + Abort), alloc: Global) -> Told {
     (ends, counts(rt, hub, passes, sought))
 }
 
-// Somebody else's Job has the name of the one to be made: the making is refused AlreadyExists, and the sync's
-// Finish asks for another try, with FailedCreate as its one reason. The key comes again after 5 ms; its time
-// is claimed, so nothing is made.
+// Somebody else's Job has the name of the one to be made: the making is refused AlreadyExists, and
+// the sync's Finish asks for another try, with FailedCreate as its one reason. The key comes again
+// after 5 ms; its time is claimed, so nothing is made.
 // rules: sync-reasons, sync-ends
 #[test]
 fn a_name_is_taken(rt: HostRuntime) {

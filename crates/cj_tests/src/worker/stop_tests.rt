@@ -14,8 +14,8 @@ use std::process::Abort;
 use std::sync::Wait;
 use std::thread::{self, Threads};
 
-// Moves the workers' clock to the second minute and adds both keys again, once `a` is stopped and `b` has a Job; shuts the
-// queue once `b` has two. Answers whether it came to both.
+// Moves the workers' clock to the second minute and adds both keys again, once `a` is stopped and
+// `b` has a Job; shuts the queue once `b` has two. Answers whether it came to both.
 fn is_led(
     rt: &(impl Wait + Abort),
     alloc: Global,
@@ -68,8 +68,8 @@ fn left(rt: &impl Abort, closed: &Closed) -> Left {
     (time, counts)
 }
 
-// Whether it went on within the polls; how one of the workers ended and with which call, and then the other, which found the
-// queue shut; and what is left.
+// Whether it went on within the polls; how one of the workers ended and with which call, and then
+// the other, which found the queue shut; and what is left.
 type Row = (bool, [&'static str; 2], [&'static str; 2], Left);
 
 fn stopped_at(rt: &(impl Threads + Wait + Abort + Sync), alloc: Global, point: Point) -> Row {
@@ -115,10 +115,11 @@ const ROWS: [Row; 5] = [
     (true, ["Made", "MakeNext"], OTHER, (FIRST, [1, 2])),
 ];
 
-// Two workers on threads, in the first minute and then in the second. The sync of `a` that is stopped at one of the five
-// points makes no further call, and its worker none at all: it ends there, with that call as its last. `a` has no last time
-// and no Job up to Listed, the first minute and no Job at Claimed, one Job at Made. Its key stays held: the other worker never
-// gets it, though it is added again, makes both Jobs of `b`, and ends once the queue is shut.
+// Two workers on threads, in the first minute and then in the second. The sync of `a` that is
+// stopped at one of the five points makes no further call, and its worker none at all: it ends
+// there, with that call as its last. `a` has no last time and no Job up to Listed, the first minute
+// and no Job at Claimed, one Job at Made. Its key stays held: the other worker never gets it,
+// though it is added again, makes both Jobs of `b`, and ends once the queue is shut.
 // rules: stopped-sync, worker-ends
 #[test]
 fn stopped_at_each_point(rt: HostRuntime) {

@@ -21,7 +21,8 @@ impl StopsAt {
         }
     }
 
-    /// Waits until `a` is stopped and so many Jobs of `b` are made, or for a million polls. Answers whether it came to that.
+    /// Waits until `a` is stopped and so many Jobs of `b` are made, or for a million polls. Answers
+    /// whether it came to that.
     pub fn waits_for(&self, made: u64) -> bool {
         for _ in 0..1_000_000u32 {
             if self.stopped.load(Ordering::SeqCst) && self.made.load(Ordering::SeqCst) >= made {

@@ -19,7 +19,8 @@ fn point_word(point: Point) -> &'static str {
     }
 }
 
-/// How a sync ended, in a word: of one that was stopped the point, of one that is to be tried again the refusal.
+/// How a sync ended, in a word: of one that was stopped the point, of one that is to be tried again
+/// the refusal.
 pub fn word(end: &SyncEnd) -> &'static str {
     match end {
         SyncEnd::Done => "Done",

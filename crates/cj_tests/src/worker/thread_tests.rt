@@ -11,8 +11,8 @@ use std::process::Abort;
 use std::sync::Wait;
 use std::thread::Threads;
 
-// Whether the polls ran out, how each worker ended, and how often the history tells of each that it ended a
-// sync well, and of each key that its Job was made.
+// Whether the polls ran out, how each worker ended, and how often the history tells of each that it
+// ended a sync well, and of each key that its Job was made.
 type Told = (bool, [&'static str; 2], [usize; 4]);
 
 fn told(rt: &(impl Threads + Wait + Abort + Sync), alloc: Global) -> Told {
@@ -39,9 +39,10 @@ fn told(rt: &(impl Threads + Wait + Abort + Sync), alloc: Global) -> Told {
     (gate.has_given_up(), ends, counts(rt, hub, passes, sought))
 }
 
-// Two workers on threads, of which the one that took `a` is held at Listed until the other has made the Job
-// of `b`: the calls of the two lie between each other, no sync keeps the other from going on, and each worker
-// ends one sync well and then finds the queue shut. The passes come back: with them the hub closes.
+// Two workers on threads, of which the one that took `a` is held at Listed until the other has made
+// the Job of `b`: the calls of the two lie between each other, no sync keeps the other from going
+// on, and each worker ends one sync well and then finds the queue shut. The passes come back: with
+// them the hub closes.
 // rules: worker-passes, worker-ends
 #[test]
 fn gate_two_keys(rt: HostRuntime) {

@@ -10,8 +10,8 @@ use std::process::Abort;
 use std::sync::atomic::{AtomicU64, Ordering};
 use std::sync::{Mutex, Wait};
 
-/// When the time is claimed, the informer makes each of the calls, which is accepted, and after each the other
-/// worker tries to take. It is counted how often that found nothing.
+/// When the time is claimed, the informer makes each of the calls, which is accepted, and after
+/// each the other worker tries to take. It is counted how often that found nothing.
 #[derive(Drop)]
 pub struct Tries<'a, R: Wait + Abort> {
     pub rt: &'a R,

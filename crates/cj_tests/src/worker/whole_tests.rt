@@ -9,8 +9,8 @@ use std::alloc::Global;
 use std::process::Abort;
 use std::sync::Wait;
 
-// How two syncs ended, how many receipts the worker had after each, and how often the history tells that a
-// key was taken, that a time was claimed, that a sync ended well, and that the Job was made.
+// How two syncs ended, how many receipts the worker had after each, and how often the history tells
+// that a key was taken, that a time was claimed, that a sync ended well, and that the Job was made.
 type Told = ([&'static str; 2], [usize; 2], [usize; 4]);
 
 fn told(rt: &(impl Wait + Abort), alloc: Global) -> Told {
@@ -40,8 +40,8 @@ fn told(rt: &(impl Wait + Abort), alloc: Global) -> Told {
     )
 }
 
-// A sync that makes a Job makes seven calls: Take, SeeCron, SeeJobs, SeeActive, Claim, MakeNext and Finish.
-// The next one makes a Take alone, which is answered that the queue is shut.
+// A sync that makes a Job makes seven calls: Take, SeeCron, SeeJobs, SeeActive, Claim, MakeNext and
+// Finish. The next one makes a Take alone, which is answered that the queue is shut.
 // rules: sync-calls, sync-ends
 #[test]
 fn a_job_is_made(rt: HostRuntime) {

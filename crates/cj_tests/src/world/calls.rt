@@ -18,8 +18,8 @@ fn end(alloc: Global, key: &Key, outcome: Outcome, at: Seconds) -> Result<Call, 
     Ok(Call::EndJob(key.try_copy(alloc)?, uid, outcome, at))
 }
 
-/// The call of a step. A claim is of the plan for nothing seen, and a Job that ends is the second object that
-/// was created.
+/// The call of a step. A claim is of the plan for nothing seen, and a Job that ends is the second
+/// object that was created.
 pub fn call_of(alloc: Global, operation: &Operation) -> Result<Call, Refusal> {
     match operation {
         Operation::Calls(call) => call.try_copy(alloc),

@@ -1,5 +1,5 @@
-// What is promised of the calls, kept by plain lists of what was answered: who holds which key, which
-// CronJobs stand, which Jobs run, and which were made.
+// What is promised of the calls, kept by plain lists of what was answered: who holds which key,
+// which CronJobs stand, which Jobs run, and which were made.
 use crate::world::ask::{Ask, Kind, START};
 use crate::world::told::Told;
 use cj_types::Policy;
@@ -147,8 +147,8 @@ impl Checker {
         }
     }
 
-    /// Looks at a call, at its answer, and at the place of its entry. A broken promise stays in `fault`.
-    /// `job` is the number of the Job that the call names.
+    /// Looks at a call, at its answer, and at the place of its entry. A broken promise stays in
+    /// `fault`. `job` is the number of the Job that the call names.
     pub fn look(
         &mut self,
         ask: &Ask,

@@ -1,4 +1,5 @@
-// What users give for their CronJobs: each name under each policy and each schedule, by its manifest.
+// What users give for their CronJobs: each name under each policy and each schedule, by its
+// manifest.
 use crate::world::boxed::boxed;
 use crate::world::checker::{NAMES, POLICIES};
 use cj_manifest::read_cronjob;

@@ -5,7 +5,8 @@ use std::alloc::{AllocError, Global};
 
 #[derive(Drop)]
 pub struct Hands {
-    // The place in the order of a sync, from 0 for a worker that holds nothing to 5 for one that works on a claim.
+    // The place in the order of a sync, from 0 for a worker that holds nothing to 5 for one that
+    // works on a claim.
     pub stands: [usize; 3],
     // The places of the last SeeCron, SeeJobs and SeeActive of each.
     pub seen: [[usize; 3]; 3],

@@ -60,7 +60,8 @@ fn plan_of(
     Shared::new(alloc, decide(alloc, cron, jobs, active, now, Some(zone))?)
 }
 
-/// The plan at the moment for the CronJob, the Jobs and the active Jobs that the entries at these three places tell.
+/// The plan at the moment for the CronJob, the Jobs and the active Jobs that the entries at these
+/// three places tell.
 pub fn plan(
     alloc: Global,
     entries: &[Entry],

@@ -1,6 +1,6 @@
-// Calls at random: of users, who create, change and delete CronJobs and delete Jobs; an informer, whose feeds
-// lag; a runner; and three workers, who mostly make the next call of a sync and now and then any other, with
-// plans of their own, of others, and of old.
+// Calls at random: of users, who create, change and delete CronJobs and delete Jobs; an informer,
+// whose feeds lag; a runner; and three workers, who mostly make the next call of a sync and now and
+// then any other, with plans of their own, of others, and of old.
 use crate::world::ask::{Ask, Kind};
 use cj_calls::{Caller, Role};
 
@@ -79,8 +79,8 @@ impl Random {
         Caller { number, role }
     }
 
-    // The place in `WORKER` of the next call of a sync that has come so far. A refused claim is given up
-    // sooner or later.
+    // The place in `WORKER` of the next call of a sync that has come so far. A refused claim is
+    // given up sooner or later.
     fn next_of_sync(&mut self, stand: usize) -> usize {
         match stand {
             0..4 => stand,

@@ -82,7 +82,8 @@ fn is_line(
     Ok(line.as_str() == wanted)
 }
 
-// Makes the call on two worlds, by `apply` and by `enter`. Whether they do the same, and the line is the wanted one.
+// Makes the call on two worlds, by `apply` and by `enter`. Whether they do the same, and the line
+// is the wanted one.
 fn is_made(
     alloc: Global,
     one: &mut World,

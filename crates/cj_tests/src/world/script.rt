@@ -30,8 +30,8 @@ pub const SCRIPT: &str =
 {"who":"w","do":"finish","retry":true,"at":"2024-01-01T00:01:00Z"},
 {"who":"u","do":"deleteCron","key":"default/hello"}]}"#;
 
-// The line of each step, and what the world tells then: the version, the writes that the lists know of, 1
-// where it is at rest, and how many CronJobs and Jobs there are.
+// The line of each step, and what the world tells then: the version, the writes that the lists know
+// of, 1 where it is at rest, and how many CronJobs and Jobs there are.
 pub const WANTED: [(&str, [u64; 5]); 26] = [
     ("1 u createCron ok v=1\n", [1, 0, 1, 1, 0]),
     ("2 u createCron AlreadyExists\n", [1, 0, 1, 1, 0]),

@@ -19,7 +19,8 @@ pub enum Told {
     Made(u64, u64),
 }
 
-/// A number for the text. Of short texts, and of texts that differ in their last eight bytes alone, no two have one.
+/// A number for the text. Of short texts, and of texts that differ in their last eight bytes alone,
+/// no two have one.
 pub fn number_of(text: &str) -> u64 {
     let mut number = 0u64;
     for byte in text.bytes() {

@@ -18,11 +18,13 @@ change_object word zone from to time = object (
     member (codes "timeZone") (string zone) (
     member (codes "to") to no_members)))))
 
--- whether it skips or repeats local times, what the clock shows just before and then, and when that is
+-- whether it skips or repeats local times, what the clock shows just before and then, and when that
+-- is
 -- rule: upcoming-json
 abbrev pub change_data : Zone → ℕ → Data
 change_data z t =
-    change_object (change_word z t) z.name (string (civil_text (civil_at z (t - 1)))) (string (civil_text (civil_at z t)))
+    change_object (change_word z t) z.name (string (civil_text (civil_at z (t - 1))))
+    (string (civil_text (civil_at z t)))
     (string (time_text_of t))
 
 abbrev pub changes_data : Zone → List ℕ → List Data

@@ -14,7 +14,8 @@ use Rattle.cj_upcoming.specs.Clocks.{civil_text, offset_text}
 use Rattle.cj_upcoming.specs.json.Changes.{changes_data}
 
 -- the least due instant after one is the first of the times, and the rest goes on from it
-pub record LeadsOn (s : Sets) (z : Zone) (after : ℕ) (times : List ℕ) (Rest : ℕ → List ℕ → Type 0) : Type 0 where
+pub record LeadsOn (s : Sets) (z : Zone) (after : ℕ) (times : List ℕ) (Rest : ℕ → List ℕ → Type 0)
+    : Type 0 where
   pub t : ℕ
   pub rest : List ℕ
   pub least : IsLeastDue s z after (after + reach) t
@@ -26,11 +27,13 @@ pub record Stops (s : Sets) (z : Zone) (after : ℕ) (times : List ℕ) : Type 0
   pub quiet : IsQuiet s z after (after + reach)
   pub none : times ≡ []
 
--- so many due instants, each the least one after the one before, or fewer where there is none
--- rule: describe-json
+-- that number of due instants, each the least one after the one before, or fewer where there is
+-- none
+-- rules: describe-json, next-json
 abbrev pub AreTimes : Sets → Zone → ℕ → ℕ → List ℕ → Type 0
 AreTimes s z after zero times = times ≡ []
-AreTimes s z after (suc n) times = LeadsOn s z after times (λ t rest. AreTimes s z t n rest) ⊎ Stops s z after times
+AreTimes s z after (suc n) times =
+    LeadsOn s z after times (λ t rest. AreTimes s z t n rest) ⊎ Stops s z after times
 
 abbrev pub time_object : ℕ → List ℕ → Data → Data → Data → Data
 time_object span day shown ahead utc = object (
@@ -40,7 +43,8 @@ time_object span day shown ahead utc = object (
     member (codes "utc") utc (
     member (codes "weekday") (string day) no_members)))))
 
--- how far off a time is, what the zone's clock shows then, how far that is ahead of UTC, the time in UTC, and its day
+-- how far off a time is, what the zone's clock shows then, how far that is ahead of UTC, the time
+-- in UTC, and its day
 -- rule: describe-json
 abbrev pub coming_data : Zone → ℕ → ℕ → Data
 coming_data z start t =

@@ -1,4 +1,5 @@
--- What starts in a window, as JSON (RFC 8259). The members of an object are in the order of their names.
+-- What starts in a window, as JSON (RFC 8259). The members of an object are in the order of their
+-- names.
 use Rattle.std.specs.Prelude.{ℕ, List, [], ◌∷◌, ◌++◌, map, Option, Some, None, codes, slice_get}
 use Rattle.serde_json.specs.Data.{Data, number, unsigned, string, array, object, member, no_members}
 use Rattle.serde_json.specs.View.{items_of}
@@ -34,7 +35,8 @@ minute_object count crons time = object (
 -- rule: upcoming-json
 abbrev pub minute_data : List ClusterCron → List Start → Minute → Data
 minute_data crons starts m =
-    minute_object m.count (array (items_of (crons_in crons (starts_in starts m)))) (string (time_text_of m.time))
+    minute_object m.count (array (items_of (crons_in crons (starts_in starts m))))
+    (string (time_text_of m.time))
 
 -- the minutes in their order
 -- rule: upcoming-json

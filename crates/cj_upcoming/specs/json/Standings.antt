@@ -23,8 +23,9 @@ standing_data Suspended key = idle_data (codes "suspended") key ∷ []
 standing_data Never key = idle_data (codes "never") key ∷ []
 standing_data Unread key = idle_data (codes "unread") key ∷ []
 
--- what is told of one CronJob, and of those behind it
-pub record Stands (zones : List Zone) (from : ℕ) (c : ClusterCron) (ds : List Data) (Rest : List Data → Type 0) : Type 0 where
+-- the values of one CronJob, and of those behind it
+pub record Stands (zones : List Zone) (from : ℕ) (c : ClusterCron) (ds : List Data)
+    (Rest : List Data → Type 0) : Type 0 where
   pub standing : Standing
   pub is : IsStanding zones from c.cron.spec standing
   pub rest : List Data

@@ -69,7 +69,7 @@ fn push_each(
     Ok(())
 }
 
-/// The same of the instants after one and up to another at which the zone's clock is put.
+/// The changes at the instants after one and up to another at which the zone's clock is put.
 pub(crate) fn push_changes(
     alloc: Global,
     values: &mut Vec<Value>,
@@ -118,8 +118,8 @@ fn zone_values(
     Ok(values)
 }
 
-/// Of each zone that a CronJob names, each instant in the window, after its first, at which the zone's clock is put
-/// forward or back.
+/// Of each zone that a CronJob names, each instant in the window, after its first, at which the
+/// zone's clock is put forward or back.
 pub fn zone_changes_value(
     alloc: Global,
     zones: &ZoneTable,

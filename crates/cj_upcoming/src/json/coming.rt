@@ -24,8 +24,8 @@ fn push_time(times: &mut Vec<Seconds>, time: Seconds) -> Result<(), Refusal>
     Ok(())
 }
 
-/// The next times of a schedule on a zone's clock, so many, each the least one after the one before; fewer where nothing
-/// is due within 3,000 days.
+/// The next `count` times of a schedule on a zone's clock, each the least one after the one before;
+/// fewer where nothing is due within 3,000 days.
 pub fn coming_times(
     alloc: Global,
     schedule: &Schedule,
@@ -100,8 +100,8 @@ fn time_values(
     Ok(values)
 }
 
-/// These times: how far off each is, the local time, how far the clock is ahead of UTC, the time in UTC, and its day of
-/// the week.
+/// These times: how far off each is, the local time, how far the clock is ahead of UTC, the time in
+/// UTC, and its day of the week.
 pub fn coming_value(
     alloc: Global,
     zone: &Zone,

@@ -122,7 +122,8 @@ fn minute_values(
     Ok(values)
 }
 
-/// Each minute in which something starts, in their order: its time, how many CronJobs start then, and which.
+/// Each minute in which something starts, in their order: its time, how many CronJobs start then,
+/// and which.
 pub fn starts_value(
     alloc: Global,
     crons: &[Shared<ClusterCron>],
@@ -136,7 +137,8 @@ pub fn starts_value(
     Ok(Value::Array(minute_values(alloc, crons, starts, minutes.as_slice())?))
 }
 
-/// The fullest minutes, at most so many, the fullest first. Of two that are as full the earlier comes first.
+/// The fullest minutes, at most `most`, the fullest first. Of two that are as full the earlier
+/// comes first.
 pub fn peaks_value(
     alloc: Global,
     crons: &[Shared<ClusterCron>],

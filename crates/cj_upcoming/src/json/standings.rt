@@ -48,8 +48,8 @@ fn push_standing(
     }
 }
 
-/// Each CronJob that starts nothing from an instant on, and why: one that is suspended, whose schedule comes at no time
-/// within 3,000 days, or that names no zone that is given.
+/// Each CronJob that starts nothing from an instant on, and why: one that is suspended, whose
+/// schedule comes at no time within 3,000 days, or that names no zone that is given.
 pub fn standing_values(
     alloc: Global,
     zones: &ZoneTable,

@@ -136,7 +136,8 @@ listed_again m h =
 take_first : {X : Type 0} (n m : ℕ) (xs : List X) → take n (take (n + m) xs) ≡ take n xs
 take_first zero m xs = refl
 take_first (suc n) m [] = ap (take (suc n)) (take-nil (suc n + m)) ∙ refl
-take_first (suc n) m (x ∷ xs) = let e : suc n + m ≡ suc (n + m) = omega arith in ap (λ k. take (suc n) (take k (x ∷ xs))) e ∙ ap (λ (ys : List _). x ∷ ys) (take_first n m xs)
+take_first (suc n) m (x ∷ xs) = let e : suc n + m ≡ suc (n + m)
+    = omega arith in ap (λ k. take (suc n) (take k (x ∷ xs))) e ∙ ap (λ (ys : List _). x ∷ ys) (take_first n m xs)
 
 -- The first n and the m after them are together the first n and m, as far as there are so many.
 take_two : {X : Type 0} (xs : List X) (n m : ℕ) → take n xs ++ take m (drop n xs) ≡ take (min (length xs) (n + m)) xs

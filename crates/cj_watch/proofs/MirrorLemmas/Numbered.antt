@@ -1,7 +1,8 @@
 -- The last of some numbered events.
 use Rattle.std.proofs.Common.{◌≡◌, ℕ, ◌+◌, ◌-◌, suc, zero, List, [], ◌∷◌, length, slice_get, Some, arith}
 use Rattle.cj_types.specs.declared.event.Event.{Event}
-use Rattle.cj_watch.specs.Numbers.{version_of, IsNumbered}
+use Rattle.cj_types.specs.Events.{version_of}
+use Rattle.cj_watch.specs.Numbers.{IsNumbered}
 
 -- For last_is, with the last place given as a number: the same of the event that stands there.
 last_by : (n : ℕ) (es : List Event) (e : Event) (i : ℕ) → suc i ≡ length es → slice_get es i ≡ Some e → IsNumbered n es

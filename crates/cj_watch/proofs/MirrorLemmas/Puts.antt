@@ -13,7 +13,8 @@ over true v o = refl
 over false v o = refl
 
 -- For put: a Job that is put after its key was taken out is as if put at once.
-pub put_removal : (m : map.FinMap place_cmp Job) (k : Place) (v : Job) → map.insert (map.remove m k) k v ≡ map.insert m k v
+pub put_removal : (m : map.FinMap place_cmp Job) (k : Place) (v : Job)
+    → map.insert (map.remove m k) k v ≡ map.insert m k v
 put_removal m k v = alike _ _ (λ q.
     map.get-insert places_total (map.remove m k) k v q
     ∙ ap (cond (eq_by_cmp place_cmp q k) (Some v)) (map.get-remove places_total m k q)

@@ -1,6 +1,6 @@
--- Jobs that are known by events: Kubernetes API concepts, "Efficient detection of changes", by which a client
--- lists what there is and then applies what a watch tells of it, as the reflector of client-go's package
--- cache does.
+-- Jobs that are known by events: Kubernetes API concepts, "Efficient detection of changes". A
+-- client lists the objects and then applies the events of a watch, as the reflector of client-go's
+-- package cache does.
 use Rattle.std.specs.Prelude.{ℕ, ◌+◌, List, [], ◌∷◌, length, fold, refl}
 use Rattle.std.specs.FinMap.{FinMap, empty, insert, remove, code}
 use Rattle.std.specs.Coded.{Coded, code_by, coded×, coded_ℕ}
@@ -15,11 +15,12 @@ use Rattle.cj_types.specs.contracts.job.Job.{the_row as job}
 abbrev pub Jobs : Type 0
 Jobs = FinMap place_cmp Job
 
--- with this Job at its key
+-- the Jobs with this Job at its key
 abbrev pub with_job : Jobs → Job → Jobs
 with_job jobs j = insert jobs j.key j
 
--- where an object stands, and where it stands no more; an object of the other kind changes nothing
+-- the Jobs after an object was created or changed, and after it was deleted; a CronJob changes
+-- nothing
 abbrev pub standing : Jobs → Object → Jobs
 standing jobs (Kind.Cron cron) = jobs
 standing jobs (Kind.Job j) = with_job jobs j
@@ -34,17 +35,17 @@ told jobs (Added object) = standing jobs object
 told jobs (Modified object) = standing jobs object
 told jobs (Deleted object) = gone jobs object
 
--- and after several, one after the other
+-- the Jobs after several events, one after the other
 -- rule: mirror
 abbrev pub told_all : Jobs → List Event → Jobs
 told_all jobs events = fold told jobs events
 
--- the Jobs of a list, of two with one key the first
+-- the map of the Jobs in a list; of two with one key it has the first
 abbrev pub listed : List Job → Jobs
 listed [] = empty
 listed (j ∷ js) = with_job (listed js) j
 
--- the Jobs, and how many writes they are those of
+-- the Jobs by key, and the number of writes that the mirror is fed with
 pub record Mirror : Type 0 where
   pub jobs : Jobs
   pub fed : ℕ
@@ -53,18 +54,19 @@ abbrev pub mirror_of : Jobs → ℕ → Mirror
 mirror_of jobs fed = record { jobs = jobs; fed = fed }
 
 abbrev pub mirror_code : Coded Mirror
-mirror_code = code_by (Jobs × ℕ) (coded× (code coded_place job.coded) coded_ℕ) (λ m. (m.jobs, m.fed)) (λ p. mirror_of p.0 p.1) (λ _. refl)
+mirror_code = code_by (Jobs × ℕ) (coded× (code coded_place job.coded) coded_ℕ)
+    (λ m. (m.jobs, m.fed)) (λ p. mirror_of p.0 p.1) (λ _. refl)
 
--- before the first write
+-- the mirror before the first write
 abbrev pub new_mirror : Mirror
 new_mirror = mirror_of empty 0
 
--- after the events of the next writes
+-- the mirror after the events of the next writes
 -- rule: mirror
 abbrev pub fed_with : Mirror → List Event → Mirror
 fed_with m events = mirror_of (told_all m.jobs events) (m.fed + length events)
 
--- with the Jobs that a list has after so many writes
+-- the mirror that was reset to a list of the Jobs at a version
 -- rule: mirror
 abbrev pub reset_to : List Job → ℕ → Mirror
 reset_to jobs version = mirror_of (listed jobs) version

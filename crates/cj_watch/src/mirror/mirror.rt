@@ -5,25 +5,24 @@ ghost use Rattle.cj_watch.specs.Numbers.{IsNumbered};
 ghost use Rattle.cj_watch.specs.mirror.Lagging.{new_mirror, fed_with, reset_to};
 
 use crate::mirror::telling::{list_jobs, tell_all};
-use crate::number::version_of;
 use cj_table::Jobs;
 use cj_types::{Event, Job, Key, Listing, Refusal, Shared, Version, copy_all};
 use std::alloc::Global;
 use std::marker::Model;
 
-/// The Jobs after the first so many writes, as a list that lags behind the store has them.
+/// A listing of the Jobs that lags behind the store: the Jobs after the first `fed` writes. It is
+/// the controller's informer cache.
 ///
-/// Contracts see the Jobs by key, and how many writes they are those of.
+/// Contracts see the Jobs by key, and the number of writes that it is fed with.
 pub struct Mirror {
     alloc: Global,
     jobs: Jobs,
-    // Events that were fed, of which the Jobs were told of the first `done`.
+    // Events that were fed; `jobs` has the first `done` of them.
     events: Vec<Event>,
     done: usize,
     fed: Version,
 }
 
-// A function of its own, so that whoever gives one up makes one call and not one for each part.
 impl Drop for Mirror {
     fn drop(self) {
         let Mirror {
@@ -50,19 +49,19 @@ impl Model for Mirror {
     ghost invariant = { λ m. m.done ≤ length m.events.items };
 }
 
-// The version of the last of these events, or the one before the first.
+// The version of the last event, or `before` where there is none.
 fn last_version(before: Version, events: &[Event]) -> Version
     requires { IsNumbered before events.now }
     ensures { result ≡ before + length events.now }
 {
     match events.last() {
-        Some(event) => version_of(event),
+        Some(event) => event.version(),
         None => before,
     }
 }
 
 impl Mirror {
-    /// The Jobs before the first write: none. It takes its memory from `alloc`.
+    /// The mirror before the first write, with no Job. It takes its memory from `alloc`.
     pub fn new(alloc: Global) -> Mirror
         ensures { result ≡ new_mirror }
     {
@@ -75,14 +74,14 @@ impl Mirror {
         }
     }
 
-    /// How many writes the Jobs are those of: the version of the last event that was fed, or to which it was reset.
+    /// The version of the last event that was fed, or of the list to which the mirror was reset.
     pub fn version(&self) -> Version
         ensures { result ≡ self.now.fed }
     {
         self.fed
     }
 
-    /// How many writes the Jobs will be those of, once these events of the next writes are fed.
+    /// The version after these events of the next writes, once they are fed.
     pub fn version_with(&self, events: &[Event]) -> Version
         requires next { IsNumbered self.now.fed events.now }
         ensures { result ≡ (fed_with self.now events.now).fed }
@@ -90,8 +89,8 @@ impl Mirror {
         last_version(self.fed, events)
     }
 
-    /// Feeds the events of the next writes, whose versions follow on the one so far. No object is copied.
-    /// Where there is no memory the mirror is as it was.
+    /// Feeds the events of the next writes, whose versions follow the present one. Unchanged where
+    /// there is no memory.
     pub fn feed(&mut self, events: &[Event]) -> Result<(), Refusal>
         requires next { IsNumbered self.old.fed events.now }
         ensures ok { OnOk result (self.new ≡ fed_with self.old events.now) }
@@ -108,7 +107,7 @@ impl Mirror {
         self.fed = last_version(self.fed, events);
         self.events = next;
         self.done = 0;
-        // Events for which there is no memory now are told of later.
+        // Events for which there is no memory now are applied later.
         let _ = tell_all(
             &mut self.jobs,
             self.alloc,
@@ -118,8 +117,7 @@ impl Mirror {
         Ok(())
     }
 
-    /// Takes a list of the Jobs as they stand after so many writes, in place of those so far. No Job is
-    /// copied. Where there is no memory the mirror is as it was.
+    /// Resets the mirror to a list of the Jobs at the version. Unchanged where there is no memory.
     pub fn reset(&mut self, jobs: &[Shared<Job>], version: Version) -> Result<(), Refusal>
         ensures ok { OnOk result (self.new ≡ reset_to jobs.now version) }
         ensures err { OnErr result (self.new ≡ self.old) }
@@ -132,9 +130,9 @@ impl Mirror {
         Ok(())
     }
 
-    /// The Jobs of the key's namespace whose controller reference names a CronJob of `batch/v1` of the key's
-    /// name, whatever its uid, in order of name; none is copied. The mirror stays as it is: within, what was
-    /// fed is put in its place.
+    /// The Jobs of the key's namespace whose controller reference names a CronJob of `batch/v1`
+    /// with the key's name, whatever its uid, in order of name. Contracts see no change of the
+    /// mirror: only events that were fed are applied.
     pub fn owned(&mut self, key: &Key) -> Result<Listing<Shared<Job>>, Refusal>
         ensures ok { IfOk result (λ l. l ≡ owned_by self.old.jobs key.now) }
         ensures same { self.new ≡ self.old }

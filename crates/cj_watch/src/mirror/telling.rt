@@ -1,4 +1,4 @@
-// What events and lists make of the Jobs.
+// How events and lists change the Jobs of a mirror.
 ghost use Rattle.std.specs.Prelude.{◌≡◌, ◌≤◌, IfOk, IfErr, OnOk, OnErr, length, drop};
 ghost use Rattle.cj_base.specs.declared.refusal.Refusal.TheVariants.{OutOfMemory};
 ghost use Rattle.cj_watch.specs.mirror.Lagging as jobs_are;
@@ -7,8 +7,8 @@ use cj_table::Jobs;
 use cj_types::{Event, Job, Object, Refusal, Shared};
 use std::alloc::Global;
 
-// Puts the Job at its key, whatever stands there, and copies none. Where there is no memory nothing may stand
-// there, until it is put again.
+// Sets the Job at its key. Where there is no memory the key may be left free, until the Job is set
+// again.
 #[tactic(auto, using(crate::proofs::MirrorLemmas::Puts::put_removal, crate::proofs::MirrorLemmas::Puts::gone_at))]
 fn put(jobs: &mut Jobs, alloc: Global, job: &Shared<Job>) -> Result<(), Refusal>
     ensures ok { OnOk result (jobs.new ≡ jobs_are.with_job jobs.old job.now) }
@@ -20,7 +20,7 @@ fn put(jobs: &mut Jobs, alloc: Global, job: &Shared<Job>) -> Result<(), Refusal>
     jobs.add(alloc, job.share()?)
 }
 
-// The object stands after a write.
+// Applies an object that a write created or changed.
 fn stand(jobs: &mut Jobs, alloc: Global, object: &Object) -> Result<(), Refusal>
     ensures ok { OnOk result (jobs.new ≡ jobs_are.standing jobs.old object.now) }
     ensures err { OnErr result (jobs_are.standing jobs.new object.now
@@ -33,7 +33,7 @@ fn stand(jobs: &mut Jobs, alloc: Global, object: &Object) -> Result<(), Refusal>
     }
 }
 
-// The object stands no more after a write.
+// Applies an object that a write deleted.
 fn go(jobs: &mut Jobs, alloc: Global, object: &Object) -> Result<(), Refusal>
     ensures ok { OnOk result (jobs.new ≡ jobs_are.gone jobs.old object.now) }
     ensures err { OnErr result (jobs_are.gone jobs.new object.now
@@ -46,7 +46,7 @@ fn go(jobs: &mut Jobs, alloc: Global, object: &Object) -> Result<(), Refusal>
     }
 }
 
-// Tells the Jobs of an event. Where there is no memory this can be done once more, as if it hadn't been tried.
+// Applies an event. Where there is no memory it can be applied again, as if it hadn't been tried.
 fn tell(jobs: &mut Jobs, alloc: Global, event: &Event) -> Result<(), Refusal>
     ensures ok { OnOk result (jobs.new ≡ jobs_are.told jobs.old event.now) }
     ensures err { OnErr result (jobs_are.told jobs.new event.now
@@ -60,8 +60,8 @@ fn tell(jobs: &mut Jobs, alloc: Global, event: &Event) -> Result<(), Refusal>
     }
 }
 
-/// Tells the Jobs of the events from the place `done` on, one after the other, and counts them. What they are after all
-/// events stays what it was, also where there is no memory to go on.
+/// Applies the events from the place `done` on, one after the other, and counts them in `done`. The
+/// Jobs after all events stay the same, also where there is no memory to go on.
 pub(crate) fn tell_all(
     jobs: &mut Jobs,
     alloc: Global,
@@ -82,7 +82,7 @@ pub(crate) fn tell_all(
     Ok(())
 }
 
-/// The Jobs of a list, none of which is copied.
+/// The map of the Jobs in a list.
 pub(crate) fn list_jobs(alloc: Global, jobs: &[Shared<Job>]) -> Result<Jobs, Refusal>
     ensures ok { IfOk result (λ all. all ≡ jobs_are.listed jobs.now) }
     ensures memory { IfErr result (λ e. e ≡ OutOfMemory) }

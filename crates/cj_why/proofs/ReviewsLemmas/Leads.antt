@@ -19,17 +19,21 @@ module _ (explain : Bool) (zones : List Zone) (content : Content) (now : ℕ) (c
   leads_start = record { whole = λ lines words h. h }
 
   -- With one CronJob more, what was printed and said has its lines and words.
-  pub leads_one : (c : ClusterCron) (rest : List ClusterCron) (printed said one told : List ℕ) → Leads (c ∷ rest) printed said
+  pub leads_one : (c : ClusterCron) (rest : List ClusterCron) (printed said one told : List ℕ)
+      → Leads (c ∷ rest) printed said
       → IsOne explain zones content now c one told → Leads rest (printed ++ one) (said ++ told)
   leads_one c rest printed said one told h is = record {
     whole = λ lines words k.
-        subst (λ p. IsReview explain zones content now crons p ((said ++ told) ++ words)) (sym (append_assoc printed one lines))
-        (subst (λ w. IsReview explain zones content now crons (printed ++ (one ++ lines)) w) (sym (append_assoc said told words))
+        subst (λ p. IsReview explain zones content now crons p ((said ++ told)
+        ++ words)) (sym (append_assoc printed one lines))
+        (subst (λ w. IsReview explain zones content now crons (printed
+        ++ (one ++ lines)) w) (sym (append_assoc said told words))
         (h.whole (one ++ lines) (told ++ words) (one, told, lines, words, is, k, refl, refl)));
   }
 
   -- Behind the last CronJob the whole was printed and said.
-  pub leads_end : (printed said : List ℕ) → Leads [] printed said → IsReview explain zones content now crons printed said
+  pub leads_end : (printed said : List ℕ) → Leads [] printed said
+      → IsReview explain zones content now crons printed said
   leads_end printed said h =
       subst (λ p. IsReview explain zones content now crons p said) (append-nil printed)
       (subst (λ w. IsReview explain zones content now crons (printed ++ []) w) (append-nil said)

@@ -16,7 +16,8 @@ pub why_moved : (cron other : CronJob) (zones : List Zone) (found live : List (O
     → IsWhy cron (zone_for cron.spec.time_zone zones) (running_of cron found) lacking now words
 why_moved cron other zones found live lacking hidden now words e f g h =
     subst (λ (n : List (List ℕ)). IsWhy cron (zone_for cron.spec.time_zone zones) (running_of cron found) n now words) g
-    (subst (λ (l : List (Option Job)). IsWhy cron (zone_for cron.spec.time_zone zones) (running_of cron l) hidden now words) f
+    (subst (λ (l : List (Option Job)). IsWhy cron (zone_for cron.spec.time_zone zones)
+    (running_of cron l) hidden now words) f
     (subst (λ (c : CronJob). IsWhy c (zone_for c.spec.time_zone zones) (running_of c live) hidden now words) e h))
 
 -- For cron_words: the line of the same CronJob, with the same words behind it.

@@ -20,7 +20,8 @@ module _ (problems explain : Bool) (zones : List Zone) (content : Content) (now 
   grows_start = record { whole = λ more h. h }
 
   -- With one CronJob more, the rows have its row, where it is shown.
-  pub grows_one : (c : ClusterCron) (rest : List ClusterCron) (rows : List CronRow) (row : CronRow) → Grows (c ∷ rest) rows
+  pub grows_one : (c : ClusterCron) (rest : List ClusterCron) (rows : List CronRow) (row : CronRow)
+      → Grows (c ∷ rest) rows
       → IsRow explain zones content now c row → Grows rest (rows ++ shown_if (is_shown problems row) row)
   grows_one c rest rows row h is = record {
     whole = λ more k.

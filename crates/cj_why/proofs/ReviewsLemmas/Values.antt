@@ -12,7 +12,8 @@ use Rattle.cj_why.specs.reviews.CronJson.{AreCronJson, IsCronJson}
 module _ (zones : List Zone) (content : Content) (now : ℕ) (crons : List ClusterCron) where
   -- what the rest makes of what there is so far
   pub record Fills (rest : List ClusterCron) (ds : List Data) : Type 0 where
-    pub whole : (more : List Data) → AreCronJson zones content now rest more → AreCronJson zones content now crons (ds ++ more)
+    pub whole : (more : List Data) → AreCronJson zones content now rest more
+        → AreCronJson zones content now crons (ds ++ more)
 
   -- Before the first CronJob there is nothing.
   pub fills_start : Fills crons []
@@ -35,7 +36,8 @@ module _ (zones : List Zone) (content : Content) (now : ℕ) (crons : List Clust
 
   -- The same at a place in the list, whose CronJob is the next.
   pub fills_rest : (i : ℕ) (c : ClusterCron) (ds more : List Data) (d : Data) → i < length crons → c ≡ get_or crons i c
-      → Fills (drop i crons) ds → IsCronJson zones content now c d → more ≡ ds ++ (d ∷ []) → Fills (drop (i + 1) crons) more
+      → Fills (drop i crons) ds → IsCronJson zones content now c d → more ≡ ds ++ (d ∷ [])
+      → Fills (drop (i + 1) crons) more
   fills_rest i c ds more d inside at h is m =
       subst (λ r. Fills (drop (i + 1) crons) r) (sym m)
       (fills_one c (drop (i + 1) crons) ds d (subst (λ r. Fills r ds) (rest_at i c inside at) h) is)

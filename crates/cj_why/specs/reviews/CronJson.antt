@@ -1,4 +1,5 @@
--- The CronJobs of a cluster at a moment as JSON (RFC 8259). The members of an object are in the order of their names.
+-- The CronJobs of a cluster at a moment as JSON (RFC 8259). The members of an object are in the
+-- order of their names.
 use Rattle.std.specs.Prelude.{◌≡◌, ℕ, List, [], ◌∷◌, ◌||◌, not, codes, Bool, true, false, Some, is_some}
 use Rattle.serde_json.specs.Data.{Data, null, boolean, number, unsigned, string, object, member, no_members}
 use Rattle.cj_types.specs.Keys.{Place}
@@ -22,7 +23,8 @@ use Rattle.cj_why.specs.reviews.Verdict.{verdict_of, verdict_text}
 use Rattle.cj_why.specs.reviews.Words.{IsCronWords}
 use Rattle.cj_why.specs.reviews.ZoneFor.{zone_for}
 
--- how many times were missed, whether it is just so many or at least, the latest of them, and since when they count
+-- how many times were missed, whether that is the exact number, the latest of them, and since when
+-- they count
 abbrev pub count_data : ℕ → Bool → Data → Data → Data
 count_data count exact latest since = object (
     member (codes "count") (number (unsigned count)) (
@@ -34,7 +36,8 @@ count_data count exact latest since = object (
 -- rule: why-json
 abbrev pub missed_data : Missed → ℕ → Data
 missed_data Kind.None since = count_data 0 true null (time_data since)
-missed_data (Kind.Some count latest) since = count_data count true (time_data latest) (time_data since)
+missed_data (Kind.Some count latest) since =
+    count_data count true (time_data latest) (time_data since)
 missed_data (Kind.Many latest) since = count_data 101 false (time_data latest) (time_data since)
 
 -- null where the plan rests on Jobs that the list lacks
@@ -46,8 +49,8 @@ plan_where false p = null
 abbrev pub plan_for : List (List ℕ) → Policy → Steps → Data
 plan_for lacking policy p = plan_where (not (lacks_any lacking) || is_sure policy p.claim) p
 
--- of a CronJob, by its key: the Jobs that the list lacks and those that run, the times it missed, its plan, when to look
--- again, its verdict in a word, and why in full
+-- of a CronJob, by its key: the Jobs that the list lacks and those that run, the times it missed,
+-- its plan, when to look again, its verdict in a word, and why in full
 -- rule: why-json
 abbrev pub cron_data : Place → Data → Data → Data → Data → Data → Verdict → List ℕ → Data
 cron_data key lacks running missed plan next verdict why = object (
@@ -63,22 +66,28 @@ cron_data key lacks running missed plan next verdict why = object (
 
 -- what is known of a CronJob at a moment: the times it missed, its one plan, and why, in words
 -- rules: why-json, why-verdict, why-explained
-pub record IsCronJson (zones : List Zone) (content : Content) (now : ℕ) (c : ClusterCron) (d : Data) : Type 0 where
+pub record IsCronJson (zones : List Zone) (content : Content) (now : ℕ) (c : ClusterCron) (d : Data)
+    : Type 0 where
   pub missed : Missed
   pub counted : IsMissedOf c.cron (zone_for c.cron.spec.time_zone zones) now missed
   pub steps : Steps
-  pub planned : IsPlan (Some c.cron) (listed content c) (found content c) now (zone_for c.cron.spec.time_zone zones) steps
+  pub planned : IsPlan (Some c.cron) (listed content c) (found content c) now
+      (zone_for c.cron.spec.time_zone zones) steps
   pub why : List ℕ
   pub words : IsCronWords zones content now c why
-  pub are : d ≡ cron_data c.cron.key (texts_data (lacking content c)) (jobs_data (running_of c.cron (found content c)))
-      (missed_data missed (window_of c.cron now)) (plan_for (lacking content c) c.cron.spec.policy steps)
+  pub are : d ≡ cron_data c.cron.key (texts_data (lacking content c))
+      (jobs_data (running_of c.cron (found content c)))
+      (missed_data missed (window_of c.cron now))
+      (plan_for (lacking content c) c.cron.spec.policy steps)
       (time_or_null steps.next)
-      (verdict_of c.cron.spec (is_some (zone_for c.cron.spec.time_zone zones)) (lacking content c) content steps) why
+      (verdict_of c.cron.spec (is_some (zone_for c.cron.spec.time_zone zones))
+      (lacking content c) content steps) why
 
 -- of each CronJob, in their order
 -- rule: why-json
 abbrev pub AreCronJson : List Zone → Content → ℕ → List ClusterCron → List Data → Type 0
 AreCronJson zones content now [] ds = ds ≡ []
 AreCronJson zones content now (c ∷ cs) ds =
-    (d : Data) × (rest : List Data) × IsCronJson zones content now c d × AreCronJson zones content now cs rest
+    (d : Data) × (rest : List Data) × IsCronJson zones content now c d
+    × AreCronJson zones content now cs rest
     × (ds ≡ d ∷ rest)

@@ -1,6 +1,6 @@
--- What is printed of a plan where the list lacks Jobs that `status.active` names, and what keeps a CronJob from ever
--- starting a Job: Kubernetes CronJob documentation, "Concurrency policy", "Schedule suspension" and "Deadline for delayed
--- Job start".
+-- What is printed of a plan where the list lacks Jobs that `status.active` names, and what keeps a
+-- CronJob from ever starting a Job: Kubernetes CronJob documentation, "Concurrency policy",
+-- "Schedule suspension" and "Deadline for delayed Job start".
 use Rattle.std.specs.Prelude.{ℕ, List, [], ◌∷◌, ◌++◌, ◌||◌, not, codes, Bool, true, false, Option, None, Some}
 use Rattle.cj_types.specs.declared.cron.CronSpec.{CronSpec}
 use Rattle.cj_types.specs.declared.policy.Policy.{Policy}
@@ -17,8 +17,8 @@ abbrev pub lack_lines : List (List ℕ) → List ℕ
 lack_lines [] = []
 lack_lines (name ∷ names) = word_line (codes "lacks") name ++ lack_lines names
 
--- the plan that takes them for gone is that of those that run too: it starts nothing, and more Jobs that run let no Job
--- start; or the policy looks at none that run
+-- the plan that takes them for gone is that of those that run too: it starts nothing, and more Jobs
+-- that run let no Job start; or the policy looks at none that run
 -- rule: why-lacks
 abbrev pub is_sure : Policy → Option Claim → Bool
 is_sure Allow claim = true
@@ -27,14 +27,15 @@ is_sure Forbid (Some claim) = false
 is_sure Replace None = true
 is_sure Replace (Some claim) = false
 
--- a plan that isn't sure is not told; when to look again rests on the schedule alone
+-- a plan that isn't sure is not shown; when to look again rests on the schedule alone
 abbrev pub sure_lines : Bool → Steps → List ℕ
 sure_lines true p = plan_lines p
 sure_lines false p = word_line (codes "next") (time_value p.next)
 
 -- rule: why-lacks
 abbrev pub lines_for : List (List ℕ) → Policy → Steps → List ℕ
-lines_for lacking policy p = lack_lines lacking ++ sure_lines (not (lacks_any lacking) || is_sure policy p.claim) p
+lines_for lacking policy p =
+    lack_lines lacking ++ sure_lines (not (lacks_any lacking) || is_sure policy p.claim) p
 
 -- ---- what never starts a Job
 
@@ -48,7 +49,8 @@ abbrev pub never_unless : Bool → CronSpec → Option ℕ → List ℕ
 never_unless true spec next = codes "never spec.suspend\n"
 never_unless false spec next = never_by (is_never spec.starting_deadline_seconds) next
 
--- `never FIELD`: the first of these fields that keeps the CronJob from starting a Job at any moment as it stands
+-- `never FIELD`: the first of these fields that keeps the CronJob from starting a Job at any moment
+-- as it stands
 -- rule: why-never
 abbrev pub never_line : CronSpec → Option ℕ → List ℕ
 never_line spec next = never_unless spec.suspend spec next

@@ -1,5 +1,5 @@
--- What Kubernetes' own controller does otherwise than the one of this project: Kubernetes CronJob documentation, "Time
--- zones" and "CronJob limitations".
+-- What Kubernetes' own controller does otherwise than the one of this project: Kubernetes CronJob
+-- documentation, "Time zones" and "CronJob limitations".
 use Rattle.std.specs.Prelude.{ℕ, nat_lt, List, [], ◌++◌, Bool, true, false, if◌then◌else◌, Option, None, Some, codes}
 use Rattle.cj_types.specs.declared.cron.CronJob.{CronJob}
 use Rattle.cj_zone.specs.declared.zone.Zone.{Zone}
@@ -8,7 +8,8 @@ use Rattle.cj_zone.specs.declared.zone.Zone.{Zone}
 -- rule: why-otherwise
 abbrev pub clock_words : Option (List ℕ) → Option Zone → List ℕ
 clock_words None z = codes "Kubernetes: without spec.timeZone its controller goes by the clock of its machine, not by UTC\n"
-clock_words (Some name) None = codes "Kubernetes: its controller looks for the zone in a database of its own\n"
+clock_words (Some name) None =
+    codes "Kubernetes: its controller looks for the zone in a database of its own\n"
 clock_words (Some name) (Some z) = []
 
 -- whether it comes in time
@@ -34,4 +35,5 @@ unless_suspended false words = words
 abbrev pub otherwise_words : CronJob → Option Zone → List ℕ
 otherwise_words cron z =
     unless_suspended cron.spec.suspend
-    ((clock_words cron.spec.time_zone z ++ deadline_words cron.spec.starting_deadline_seconds) ++ count_words)
+    ((clock_words cron.spec.time_zone z ++ deadline_words cron.spec.starting_deadline_seconds)
+    ++ count_words)

@@ -42,7 +42,8 @@ status_object active scheduled successful = object (
 abbrev pub status_data : Option CronStatus → Data
 status_data None = null
 status_data (Some s) =
-    status_object (texts_data s.active) (time_or_null s.last_schedule_time) (time_or_null s.last_successful_time)
+    status_object (texts_data s.active) (time_or_null s.last_schedule_time)
+    (time_or_null s.last_successful_time)
 
 abbrev pub plan_object : Data → Data → Data → Data → Data → Data → Data → Data
 plan_object claim clean drop make next reasons status = object (
@@ -54,10 +55,11 @@ plan_object claim clean drop make next reasons status = object (
     member (codes "reasons") reasons (
     member (codes "status") status no_members)))))))
 
--- the claimed time, the Jobs that go after the one that is made and before it, that one, when to look again, the reasons,
--- and the status at the end
+-- the claimed time, the Jobs that go after the one that is made and before it, that one, when to
+-- look again, the reasons, and the status at the end
 -- rule: plan-json
 abbrev pub plan_data : Steps → Data
 plan_data p =
-    plan_object (claim_data p.claim) (jobs_data p.cleanup) (jobs_data p.drop_first) (make_data p.make) (time_or_null p.next)
+    plan_object (claim_data p.claim) (jobs_data p.cleanup) (jobs_data p.drop_first)
+    (make_data p.make) (time_or_null p.next)
     (reasons_data p.reasons) (status_data p.status)

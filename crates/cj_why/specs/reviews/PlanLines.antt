@@ -28,7 +28,8 @@ job_lines word (job ∷ jobs) = word_line word job.key.name ++ job_lines word jo
 
 abbrev pub reason_lines : List Reason → List ℕ
 reason_lines [] = []
-reason_lines (reason ∷ reasons) = word_line (codes "reason") (reason_name reason) ++ reason_lines reasons
+reason_lines (reason ∷ reasons) =
+    word_line (codes "reason") (reason_name reason) ++ reason_lines reasons
 
 -- the steps of a plan in their order, then its reasons and when to look again
 -- rule: plan-lines

@@ -1,5 +1,5 @@
--- The CronJobs of a cluster at a moment, a row each: how many times each missed, what its next sync does, in a word, and
--- when to look again.
+-- The CronJobs of a cluster at a moment, a row each: how many times each missed, what its next sync
+-- does, in a word, and when to look again.
 use Rattle.std.specs.Prelude.{◌≡◌, ℕ, List, [], ◌∷◌, ◌++◌, ◌||◌, map, not, Bool, true, false, Option, Some, is_some, string_bytes}
 use Rattle.cj_zone.specs.declared.zone.Zone.{Zone}
 use Rattle.cj_decide.specs.declared.steps.Steps.{Steps}
@@ -13,14 +13,18 @@ use Rattle.cj_why.specs.reviews.Verdict.{is_problem, verdict_of}
 use Rattle.cj_why.specs.reviews.Words.{IsAskedWords}
 use Rattle.cj_why.specs.reviews.ZoneFor.{zone_for}
 
--- of one CronJob: the times it missed, the verdict and the next time of its one plan, and why, where people ask for it
+-- of one CronJob: the times it missed, the verdict and the next time of its one plan, and why,
+-- where people ask for it
 -- rules: why-table, why-verdict
-pub record IsRow (explain : Bool) (zones : List Zone) (content : Content) (now : ℕ) (c : ClusterCron) (row : CronRow) : Type 0 where
+pub record IsRow (explain : Bool) (zones : List Zone) (content : Content) (now : ℕ)
+    (c : ClusterCron) (row : CronRow) : Type 0 where
   pub cron : row.cron ≡ c
   pub missed : IsMissedOf c.cron (zone_for c.cron.spec.time_zone zones) now row.missed
   pub steps : Steps
-  pub planned : IsPlan (Some c.cron) (listed content c) (found content c) now (zone_for c.cron.spec.time_zone zones) steps
-  pub verdict : row.verdict ≡ verdict_of c.cron.spec (is_some (zone_for c.cron.spec.time_zone zones)) (lacking content c)
+  pub planned : IsPlan (Some c.cron) (listed content c) (found content c) now
+      (zone_for c.cron.spec.time_zone zones) steps
+  pub verdict : row.verdict ≡ verdict_of c.cron.spec
+      (is_some (zone_for c.cron.spec.time_zone zones)) (lacking content c)
       content steps
   pub next : row.next ≡ steps.next
   pub words : IsAskedWords explain zones content now c (string_bytes row.words)
@@ -36,11 +40,13 @@ shown_if false row = []
 
 -- of CronJobs one after the other, the rows that are shown
 -- rules: why-table, why-problems
-abbrev pub AreRows : Bool → Bool → List Zone → Content → ℕ → List ClusterCron → List CronRow → Type 0
+abbrev pub AreRows : Bool → Bool → List Zone → Content → ℕ → List ClusterCron → List CronRow
+    → Type 0
 AreRows problems explain zones content now [] rows = rows ≡ []
 AreRows problems explain zones content now (c ∷ cs) rows =
     (row : CronRow) × (rest : List CronRow) × IsRow explain zones content now c row
-    × AreRows problems explain zones content now cs rest × (rows ≡ shown_if (is_shown problems row) row ++ rest)
+    × AreRows problems explain zones content now cs rest
+    × (rows ≡ shown_if (is_shown problems row) row ++ rest)
 
 abbrev pub crons_of : List CronRow → List ClusterCron
 crons_of rows = map (λ row. row.cron) rows
@@ -50,4 +56,5 @@ crons_of rows = map (λ row. row.cron) rows
 abbrev pub AreLined : Bool → List Zone → Content → ℕ → List ClusterCron → List ClusterCron → Type 0
 AreLined false zones content now crons lined = lined ≡ crons
 AreLined true zones content now crons lined =
-    (rows : List CronRow) × AreRows true false zones content now crons rows × (lined ≡ crons_of rows)
+    (rows : List CronRow) × AreRows true false zones content now crons rows
+    × (lined ≡ crons_of rows)

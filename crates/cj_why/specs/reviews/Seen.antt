@@ -1,4 +1,5 @@
--- What a sync of a cluster's CronJob sees. A server's uid is any text; in the decision a number stands for it.
+-- What a sync of a cluster's CronJob sees. A server's uid is any text; the decision takes a number
+-- in its place.
 use Rattle.std.specs.Prelude.{ℕ, List, map, filter, codes, Bool, bytes_eq, is_none, if◌then◌else◌, Option}
 use Rattle.std.specs.Option.{option_map}
 use Rattle.std.specs.FinMap as maps
@@ -10,7 +11,8 @@ use Rattle.cj_table.specs.jobs.Owners.{owned_by}
 use Rattle.cj_cluster.specs.Content.{Content}
 use Rattle.cj_cluster.specs.declared.cron.ClusterCron.{ClusterCron}
 
--- the text of the CronJob's number for the CronJob's own uid, and one that is no number's for any other
+-- the text of the CronJob's number for the CronJob's own uid, and one that is no number's for any
+-- other
 -- rule: why-numbered
 abbrev pub number_of : ClusterCron → List ℕ → List ℕ
 number_of c uid = if bytes_eq uid c.uid then uid_text c.cron.meta.uid else codes "another"
@@ -43,7 +45,8 @@ listed content c = map (numbered c) (owned_by content.jobs c.cron.key)
 
 -- the Job of that name in the CronJob's namespace
 abbrev pub found_at : Content → ClusterCron → List ℕ → Option Job
-found_at content c name = option_map (numbered c) (maps.get content.jobs (place c.cron.key.namespace name))
+found_at content c name =
+    option_map (numbered c) (maps.get content.jobs (place c.cron.key.namespace name))
 
 -- what a live read finds for each name in `status.active`
 -- rule: why-seen
@@ -53,7 +56,8 @@ found content c = map (found_at content c) c.cron.status.active
 abbrev pub is_lacking : Content → ClusterCron → List ℕ → Bool
 is_lacking content c name = is_none (maps.get content.jobs (place c.cron.key.namespace name))
 
--- the names in `status.active` of which the list has no Job: such a Job may run, be gone, or only not be listed
+-- the names in `status.active` of which the list has no Job: such a Job may run, be gone, or only
+-- not be listed
 -- rule: why-lacks
 abbrev pub lacking : Content → ClusterCron → List (List ℕ)
 lacking content c = filter (is_lacking content c) c.cron.status.active

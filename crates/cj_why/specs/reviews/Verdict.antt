@@ -1,5 +1,6 @@
--- In a word, why a CronJob starts a Job at a moment, or why not, and which CronJobs want a look: Kubernetes CronJob
--- documentation, "Schedule suspension", "Deadline for delayed Job start", "Time zones" and "Concurrency policy".
+-- In a word, why a CronJob starts a Job at a moment, or why not, and which CronJobs want a look:
+-- Kubernetes CronJob documentation, "Schedule suspension", "Deadline for delayed Job start", "Time
+-- zones" and "Concurrency policy".
 use Rattle.std.specs.Prelude.{ℕ, ◌<◌, nat_lt, List, [], ◌∷◌, ◌&&◌, not, Bool, true, false, Option, None, Some, codes, is_some}
 use Rattle.std.specs.List.{list_any}
 use Rattle.std.specs.FinMap as maps
@@ -30,8 +31,8 @@ is_skipped Cause.UnknownTimeZone = false
 is_skipped Cause.TooManyMissedTimes = false
 is_skipped Cause.FailedCreate = false
 
--- a time was missed: whether the plan rests on Jobs that the list lacks, whether the name is taken, and whether those that
--- run go first
+-- a time was missed: whether the plan rests on Jobs that the list lacks, whether the name is taken,
+-- and whether those that run go first
 abbrev pub starting : Bool → Bool → Bool → Verdict
 starting true taken replaces = LacksJobs
 starting false true replaces = NameTaken

@@ -1,4 +1,4 @@
--- What people are told of each CronJob of a cluster: why it starts a Job, or why not.
+-- What `why` says of each CronJob of a cluster: why it starts a Job, or why not.
 use Rattle.std.specs.Prelude.{◌≡◌, ℕ, List, [], ◌∷◌, ◌++◌, codes, Bool, true, false, Option, None, Some}
 use Rattle.cj_types.specs.Keys.{Place}
 use Rattle.cj_zone.specs.declared.zone.Zone.{Zone}
@@ -14,7 +14,8 @@ use Rattle.cj_why.specs.reviews.ZoneFor.{zone_for}
 -- `NAMESPACE/NAME, by the clock of ZONE:`
 -- rule: why-explained
 abbrev pub title_line : Place → List ℕ → List ℕ
-title_line key zone = key.namespace ++ (codes "/" ++ (key.name ++ (codes ", by the clock of " ++ (zone ++ codes ":\n"))))
+title_line key zone = key.namespace
+    ++ (codes "/" ++ (key.name ++ (codes ", by the clock of " ++ (zone ++ codes ":\n"))))
 
 -- the name of the zone, UTC where none is named
 abbrev pub zone_title : Option (List ℕ) → List ℕ
@@ -23,9 +24,11 @@ zone_title (Some name) = name
 
 -- that line, why, and what Kubernetes' own controller does otherwise
 -- rules: why-explained, why-otherwise
-pub record IsCronWords (zones : List Zone) (content : Content) (now : ℕ) (c : ClusterCron) (text : List ℕ) : Type 0 where
+pub record IsCronWords (zones : List Zone) (content : Content) (now : ℕ) (c : ClusterCron)
+    (text : List ℕ) : Type 0 where
   pub why : List ℕ
-  pub reason : IsWhy c.cron (zone_for c.cron.spec.time_zone zones) (running_of c.cron (found content c))
+  pub reason : IsWhy c.cron (zone_for c.cron.spec.time_zone zones)
+      (running_of c.cron (found content c))
       (lacking content c) now why
   pub are : text ≡ (title_line c.cron.key (zone_title c.cron.spec.time_zone) ++ why)
       ++ otherwise_words c.cron (zone_for c.cron.spec.time_zone zones)
@@ -36,7 +39,8 @@ IsAskedWords true zones content now c text = IsCronWords zones content now c tex
 IsAskedWords false zones content now c text = text ≡ []
 
 -- of one CronJob
-pub record IsOne (explain : Bool) (zones : List Zone) (content : Content) (now : ℕ) (c : ClusterCron) (printed said : List ℕ) : Type 0 where
+pub record IsOne (explain : Bool) (zones : List Zone) (content : Content) (now : ℕ)
+    (c : ClusterCron) (printed said : List ℕ) : Type 0 where
   pub lines : IsCronReview zones content now c printed
   pub words : IsAskedWords explain zones content now c said
 

@@ -36,7 +36,7 @@ use cj_zone::ZoneTable;
 use serde_json::{Value, json};
 use std::alloc::{AllocError, Global};
 
-// How many times were missed, whether just so many, the latest of them, and since when.
+// How many times were missed, whether that is the exact number, the latest of them, and since when.
 fn count_value(
     alloc: Global,
     count: u64,
@@ -54,7 +54,7 @@ fn count_value(
     })
 }
 
-// So many times, just so many or at least, of which this is the latest.
+// A number of times, exact or a lower bound, of which this is the latest.
 fn some_missed(
     alloc: Global,
     count: u64,
@@ -215,8 +215,9 @@ fn cron_value(
     Ok(cron_object(alloc, cron.cron.key.key(), jobs, times, verdict, why)?)
 }
 
-/// A value for each of these CronJobs of a cluster, in their order: how many times it missed by this moment, what runs,
-/// what its next sync does, in a word and step by step, and why, in words. The only error is want of memory.
+/// A value for each of these CronJobs of a cluster, in their order: how many times it missed by
+/// this moment, what runs, what its next sync does, in a word and step by step, and why, in words.
+/// The only error is want of memory.
 pub fn cron_values(
     alloc: Global,
     zones: &ZoneTable,

@@ -162,8 +162,8 @@ fn plan_object(
     })
 }
 
-/// A plan: the claimed time, the Jobs that go before the one that is made and after it, that one, the reasons, the
-/// status at the end, and when to look again.
+/// A plan: the claimed time, the Jobs that go before the one that is made and after it, that one,
+/// the reasons, the status at the end, and when to look again.
 pub fn plan_value(alloc: Global, steps: &Steps) -> Result<Value, Refusal>
     ensures ok { IfOk result (λ v. view v ≡ json.plan_data steps.now) }
     ensures err { IfErr result (λ e. e ≡ OutOfMemory) }

@@ -120,9 +120,9 @@ fn push(whole: &mut Reviewed, one: &Reviewed) -> Result<(), Refusal>
     Ok(())
 }
 
-/// What is printed of these CronJobs of a cluster, one after the other: how many times each missed by this
-/// moment, since when, and the plan of its next sync; and where people ask for it, why. The only error is want
-/// of memory.
+/// What is printed of these CronJobs of a cluster, one after the other: how many times each missed
+/// by this moment, since when, and the plan of its next sync; and where people ask for it, why. The
+/// only error is want of memory.
 pub fn review(
     alloc: Global,
     explain: bool,

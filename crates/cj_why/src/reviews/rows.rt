@@ -99,9 +99,9 @@ fn push_shown(rows: &mut Vec<CronRow>, problems: bool, row: CronRow) -> Result<(
     Ok(())
 }
 
-/// A row for each of these CronJobs of a cluster, or for those of them that want a look: how many times it missed by
-/// this moment, what its next sync does, in a word, when to look again, and where people ask for it, why. The only error
-/// is want of memory.
+/// A row for each of these CronJobs of a cluster, or for those of them that want a look: how many
+/// times it missed by this moment, what its next sync does, in a word, when to look again, and
+/// where people ask for it, why. The only error is want of memory.
 pub fn cron_rows(
     alloc: Global,
     problems: bool,
@@ -137,7 +137,8 @@ fn crons_of(alloc: Global, rows: &[CronRow]) -> Result<Vec<Shared<ClusterCron>>,
     Ok(crons)
 }
 
-/// Those of these CronJobs of a cluster that want a look, in their order. The only error is want of memory.
+/// Those of these CronJobs of a cluster that want a look, in their order. The only error is want of
+/// memory.
 pub fn problems(
     alloc: Global,
     zones: &ZoneTable,

@@ -19,7 +19,7 @@ pub(crate) fn push_line(text: &mut String, word: &str, value: &str) -> Result<()
     text.push_str("\n")
 }
 
-/// The same with a time, or `none`.
+/// A line with that word and a time, or `none`.
 pub(crate) fn push_time(
     text: &mut String,
     alloc: Global,
@@ -78,8 +78,8 @@ fn made(make: &Option<JobDraft>) -> &str
     }
 }
 
-/// The lines of a plan: the claimed time, the Jobs that go first, the Job that is made, those that go after
-/// it, the reasons, and when to look again.
+/// The lines of a plan: the claimed time, the Jobs that go first, the Job that is made, those that
+/// go after it, the reasons, and when to look again.
 pub fn plan_text(alloc: Global, steps: &Steps) -> Result<String, Refusal>
     ensures ok { IfOk result (λ s. string_bytes s ≡ plan_lines steps.now) }
     ensures err { IfErr result (λ e. e ≡ OutOfMemory) }

@@ -19,7 +19,7 @@ pub(crate) struct Widths {
     pub(crate) next: usize,
 }
 
-// So many blanks stand at least between two columns.
+// The least number of blanks between two columns.
 const GAP: usize = 3;
 
 fn wider(width: usize, text: &str) -> usize {
@@ -200,7 +200,8 @@ fn caption(alloc: Global, now: Seconds, shown: usize, all: usize) -> Result<Stri
     Ok(format!(in alloc; "At {time} (all times in UTC), CronJobs shown: {shown} of {all}\n")?)
 }
 
-/// The rows below each other, under the moment and how many they are of all, and, where people ask for it, why, of each.
+/// The rows below each other, under the moment and how many they are of all, and, where people ask
+/// for it, why, of each.
 pub fn table_text(
     alloc: Global,
     explain: bool,

@@ -164,7 +164,7 @@ fn is_behind(missed: Missed) -> bool
     }
 }
 
-/// Whether a CronJob of that verdict, which missed so many times, wants a look.
+/// Whether a CronJob of that verdict, which missed that number of times, wants a look.
 pub(crate) fn is_problem(verdict: Verdict, missed: Missed) -> bool
     ensures { result ≡ is_problem verdict missed }
 {

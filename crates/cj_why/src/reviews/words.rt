@@ -1,4 +1,4 @@
-// What people are told of a CronJob of a cluster.
+// What `why` says of a CronJob of a cluster.
 ghost use Rattle.std.specs.Prelude.{◌≡◌, ◌++◌, codes, Some, IfOk, IfErr, string_bytes};
 ghost use Rattle.cj_decide.specs.Decision.{running_of};
 ghost use Rattle.cj_why.specs.Why.{IsWhy};
@@ -80,7 +80,8 @@ fn titled(alloc: Global, cron: &CronJob, why: &str, otherwise: &str) -> Result<S
     Ok(text)
 }
 
-/// Why the CronJob starts a Job at this moment, or why not, and what Kubernetes' own controller does otherwise.
+/// Why the CronJob starts a Job at this moment, or why not, and what Kubernetes' own controller
+/// does otherwise.
 pub(crate) fn cron_words(
     alloc: Global,
     zones: &ZoneTable,
@@ -107,8 +108,8 @@ pub(crate) fn cron_words(
     titled(alloc, cron.cron.get(), why.as_str(), otherwise.as_str())
 }
 
-/// Why the CronJob starts a Job at this moment, or why not, and what Kubernetes' own controller does otherwise, where
-/// people ask for it.
+/// Why the CronJob starts a Job at this moment, or why not, and what Kubernetes' own controller
+/// does otherwise, where people ask for it.
 pub(crate) fn asked_words(
     alloc: Global,
     explain: bool,

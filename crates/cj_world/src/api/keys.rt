@@ -89,8 +89,8 @@ fn reset(alloc: Global, mirror: &mut Mirror, store: &Store) -> Result<Answered, 
     Ok(answer)
 }
 
-// The mirror learns what the watch tells, or all current Jobs where events are gone. The answer, of how many
-// writes it knows then, is made before.
+// The mirror learns what the watch tells, or all current Jobs where events are gone. The answer, of
+// how many writes it knows then, is made before.
 fn catch_up(
     alloc: Global,
     mirror: &mut Mirror,

@@ -2,14 +2,14 @@ ghost use Rattle.std.specs.Prelude.{◌≡◌, IfOk, IfErr, OnErr, IsSome, Some}
 ghost use Rattle.std.specs.FinMap as map;
 ghost use Rattle.cj_store.specs.Content.{HasRoom};
 ghost use Rattle.cj_base.specs.declared.refusal.Refusal.TheVariants.{OutOfMemory};
-ghost use Rattle.cj_state.specs.declared.phases.seat.Phase.TheVariants.{Works};
+ghost use Rattle.cj_state.specs.declared.phases.sync.Phase.TheVariants.{Works};
 ghost use Rattle.cj_state.specs.Sound.{IsSound};
 ghost use Rattle.cj_state.specs.WorkerCalls.{claim, claims, claim_where, seen_version, handled};
 
 use cj_base::both;
 use cj_calls::{Answered, Reply};
 use cj_decide::{Claim, Plan};
-use cj_state::{Phase, Seat, State, Work, refused, rests_on, seat_in};
+use cj_state::{InFlight, Phase, State, Work, refused, rests_on, sync_in};
 use cj_types::{CronJob, Heap, Key, Refusal, Shared, TryCopy, Version};
 use std::alloc::Global;
 
@@ -27,7 +27,7 @@ fn at_work(
     key: &Key,
     plan: &Shared<Plan>,
     version: Version,
-) -> Result<Heap<Seat>, Refusal>
+) -> Result<Heap<InFlight>, Refusal>
     ensures ok { IfOk result (λ s. s ≡ record {
       key = key.now;
       phase = Works (record { plan = plan.now; version = version; place = 0 });
@@ -39,7 +39,7 @@ fn at_work(
         version,
         place: 0,
     };
-    seat_in(alloc, key, Phase::Works(work))
+    sync_in(alloc, key, Phase::Works(work))
 }
 
 // The conditional update of the status of the CronJob that the plan rests on.
@@ -55,7 +55,7 @@ fn claim_time(
 ) -> Result<Answered, Refusal>
     requires room { HasRoom state.old.store }
     requires sound { IsSound state.old }
-    requires there { IsSome (map.get state.old.seats worker) }
+    requires there { IsSome (map.get state.old.syncs worker) }
     ensures ok { IfOk result (λ t. claims state.old worker key.now plan.now claim.now
         (Some cron.now) ≡ handled t state.new) }
     ensures err { OnErr result (state.new ≡ state.old) }
@@ -70,11 +70,11 @@ fn claim_time(
         Ok(change) => {
             let version = change.event().version();
             let reply = Reply::Claimed(Some((claim.time, version)));
-            let (seat, answer) = both(
+            let (sync, answer) = both(
                 at_work(alloc, key, plan, version),
                 Answered::new(alloc, Ok(reply)),
             )?;
-            state.write_seated(alloc, worker, change, answer, seat)
+            state.write_with_sync(alloc, worker, change, answer, sync)
         }
         Err(refusal) => refused(alloc, refusal),
     }
@@ -90,7 +90,7 @@ fn claim_where(
 ) -> Result<Answered, Refusal>
     requires room { HasRoom state.old.store }
     requires sound { IsSound state.old }
-    requires there { IsSome (map.get state.old.seats worker) }
+    requires there { IsSome (map.get state.old.syncs worker) }
     ensures ok { IfOk result (λ t. claim_where state.old worker key.now plan.now
         plan.now.steps.claim ≡ handled t state.new) }
     ensures err { OnErr result (state.new ≡ state.old) }
@@ -100,11 +100,11 @@ fn claim_where(
         (Some(claim), Some(cron)) => claim_time(alloc, state, worker, key, plan, claim, cron.get()),
         (Some(_), None) => refused(alloc, Refusal::Stale),
         (None, cron) => {
-            let (seat, answer) = both(
+            let (sync, answer) = both(
                 at_work(alloc, key, plan, seen_version(cron)),
                 Answered::new(alloc, Ok(Reply::Claimed(None))),
             )?;
-            state.put_seat(worker, seat);
+            state.put_sync(worker, sync);
             Ok(answer)
         }
     }
@@ -124,15 +124,15 @@ pub fn claim(
     ensures err { OnErr result (state.new ≡ state.old) }
     ensures memory { IfErr result (λ e. e ≡ OutOfMemory) }
 {
-    let Some(seat) = state.seats.get(worker) else {
+    let Some(sync) = state.syncs.get(worker) else {
         return refused(alloc, Refusal::OutOfPhase);
     };
-    let Phase::Checked(cron, jobs, active) = &seat.phase else {
+    let Phase::Checked(cron, jobs, active) = &sync.phase else {
         return refused(alloc, Refusal::OutOfPhase);
     };
     if !rests_on(plan.get(), cron, jobs.as_slice(), active.as_slice()) {
         return refused(alloc, Refusal::Stale);
     }
-    let key = seat.key.try_copy(alloc)?;
+    let key = sync.key.try_copy(alloc)?;
     claim_where(alloc, state, worker, &key, plan)
 }

@@ -33,7 +33,7 @@ fn leave_well(
 {
     let answer = Answered::new(alloc, Ok(Reply::Done))?;
     state.queue.finish_ok(key, at)?;
-    state.seats.remove(worker);
+    state.syncs.remove(worker);
     Ok(answer)
 }
 
@@ -52,7 +52,7 @@ fn leave_badly(
 {
     let answer = Answered::new(alloc, Ok(Reply::Done))?;
     state.queue.finish_retry(key, now)?;
-    state.seats.remove(worker);
+    state.syncs.remove(worker);
     Ok(answer)
 }
 
@@ -64,16 +64,16 @@ pub fn finish(alloc: Global, state: &mut State, worker: u64, end: End) -> Result
     ensures err { OnErr result (state.new ≡ state.old) }
     ensures memory { IfErr result (λ e. e ≡ OutOfMemory) }
 {
-    let Some(seat) = state.seats.get(worker) else {
+    let Some(sync) = state.syncs.get(worker) else {
         return refused(alloc, Refusal::OutOfPhase);
     };
     match end {
         End::Again(now) => {
-            let key = seat.key.try_copy(alloc)?;
+            let key = sync.key.try_copy(alloc)?;
             leave_badly(alloc, state, worker, &key, now)
         }
         End::Well => {
-            let Phase::Works(work) = &seat.phase else {
+            let Phase::Works(work) = &sync.phase else {
                 return refused(alloc, Refusal::OutOfPhase);
             };
             let steps = work.plan.get().steps();
@@ -81,7 +81,7 @@ pub fn finish(alloc: Global, state: &mut State, worker: u64, end: End) -> Result
                 return refused(alloc, Refusal::OutOfPhase);
             }
             let at = next_ms(steps.next);
-            let key = seat.key.try_copy(alloc)?;
+            let key = sync.key.try_copy(alloc)?;
             leave_well(alloc, state, worker, &key, at)
         }
     }

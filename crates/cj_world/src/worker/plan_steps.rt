@@ -6,20 +6,20 @@ ghost use Rattle.cj_store.specs.Change.{map_ok, cron_modified, job_added, job_go
 ghost use Rattle.cj_store.specs.Crons.{status_set};
 ghost use Rattle.cj_store.specs.Jobs.{job_made, job_deleted};
 ghost use Rattle.cj_state.specs.Sound.{IsSound};
-ghost use Rattle.cj_state.specs.WorkerCalls.{drop_next, drops_it, make_next, set_status, steps_on, event_reply, version_reply, next_seat, handled};
+ghost use Rattle.cj_state.specs.WorkerCalls.{drop_next, drops_it, make_next, set_status, steps_on, event_reply, version_reply, next_sync, handled};
 
 use cj_base::both;
 use cj_calls::{Answered, Reply};
 use cj_state::{
-    Phase, Seat, State, Work, drop_at, event_answer, make_at, refused, seat_in, status_at,
+    InFlight, Phase, State, Work, drop_at, event_answer, make_at, refused, status_at, sync_in,
 };
 use cj_types::{CronStatus, Heap, JobDraft, Key, Refusal, Seconds, TryCopy, Uid, Version};
 use std::alloc::Global;
 
-// The seat after one step more of the plan.
-fn further(alloc: Global, key: &Key, work: &Work) -> Result<Heap<Seat>, Refusal>
+// The sync after one step more of the plan.
+fn further(alloc: Global, key: &Key, work: &Work) -> Result<Heap<InFlight>, Refusal>
     requires { work.now.place + 1 < 2 ^ 64 }
-    ensures ok { IfOk result (λ s. s ≡ next_seat key.now work.now) }
+    ensures ok { IfOk result (λ s. s ≡ next_sync key.now work.now) }
     ensures err { IfErr result (λ e. e ≡ OutOfMemory) }
 {
     let work = Work {
@@ -27,7 +27,7 @@ fn further(alloc: Global, key: &Key, work: &Work) -> Result<Heap<Seat>, Refusal>
         version: work.version,
         place: work.place + 1,
     };
-    seat_in(alloc, key, Phase::Works(work))
+    sync_in(alloc, key, Phase::Works(work))
 }
 
 #[tactic(auto, using(cj_state::proofs::Numbers::gone_numbered))]
@@ -37,12 +37,12 @@ fn drop_job(
     worker: u64,
     name: Key,
     uid: Uid,
-    seat: Heap<Seat>,
+    sync: Heap<InFlight>,
 ) -> Result<Answered, Refusal>
     requires room { HasRoom state.old.store }
     requires sound { IsSound state.old }
-    requires there { IsSome (map.get state.old.seats worker) }
-    ensures ok { IfOk result (λ t. drops_it state.old worker seat name
+    requires there { IsSome (map.get state.old.syncs worker) }
+    ensures ok { IfOk result (λ t. drops_it state.old worker sync name
         (map_ok job_gone (job_deleted state.old.store name (Some uid))) ≡ handled t state.new) }
     ensures err { OnErr result (state.new ≡ state.old) }
     ensures memory { IfErr result (λ e. e ≡ OutOfMemory) }
@@ -51,12 +51,12 @@ fn drop_job(
         Ok(change) => {
             let reply = Reply::Dropped(Some((name, change.event().version())));
             let answer = Answered::new(alloc, Ok(reply))?;
-            state.write_seated(alloc, worker, change, answer, seat)
+            state.write_with_sync(alloc, worker, change, answer, sync)
         }
         Err(Refusal::OutOfMemory) => Err(Refusal::OutOfMemory),
         Err(_) => {
             let answer = Answered::new(alloc, Ok(Reply::Dropped(None)))?;
-            state.put_seat(worker, seat);
+            state.put_sync(worker, sync);
             Ok(answer)
         }
     }
@@ -69,12 +69,12 @@ fn make_job(
     worker: u64,
     draft: JobDraft,
     now: Seconds,
-    seat: Heap<Seat>,
+    sync: Heap<InFlight>,
 ) -> Result<Answered, Refusal>
     requires room { HasRoom state.old.store }
     requires sound { IsSound state.old }
-    requires there { IsSome (map.get state.old.seats worker) }
-    ensures ok { IfOk result (λ t. steps_on state.old worker seat event_reply
+    requires there { IsSome (map.get state.old.syncs worker) }
+    ensures ok { IfOk result (λ t. steps_on state.old worker sync event_reply
         (map_ok job_added (job_made state.old.store draft now)) ≡ handled t state.new) }
     ensures err { OnErr result (state.new ≡ state.old) }
     ensures memory { IfErr result (λ e. e ≡ OutOfMemory) }
@@ -82,7 +82,7 @@ fn make_job(
     match state.store.plan_make_job(alloc, draft, now) {
         Ok(change) => {
             let answer = event_answer(alloc, change.event())?;
-            state.write_seated(alloc, worker, change, answer, seat)
+            state.write_with_sync(alloc, worker, change, answer, sync)
         }
         Err(refusal) => refused(alloc, refusal),
     }
@@ -96,25 +96,25 @@ fn put_status(
     uid: Uid,
     version: Version,
     status: CronStatus,
-    seat: Heap<Seat>,
+    sync: Heap<InFlight>,
 ) -> Result<Answered, Refusal>
     requires room { HasRoom state.old.store }
     requires sound { IsSound state.old }
-    requires there { IsSome (map.get state.old.seats worker) }
-    ensures ok { IfOk result (λ t. steps_on state.old worker seat version_reply
-        (map_ok cron_modified (status_set state.old.store seat.key uid version status))
+    requires there { IsSome (map.get state.old.syncs worker) }
+    ensures ok { IfOk result (λ t. steps_on state.old worker sync version_reply
+        (map_ok cron_modified (status_set state.old.store sync.key uid version status))
         ≡ handled t state.new) }
     ensures err { OnErr result (state.new ≡ state.old) }
     ensures memory { IfErr result (λ e. e ≡ OutOfMemory) }
 {
     match state
         .store
-        .plan_set_status(alloc, &seat.get().key, uid, version, status)
+        .plan_set_status(alloc, &sync.get().key, uid, version, status)
     {
         Ok(change) => {
             let reply = Reply::Version(change.event().version());
             let answer = Answered::new(alloc, Ok(reply))?;
-            state.write_seated(alloc, worker, change, answer, seat)
+            state.write_with_sync(alloc, worker, change, answer, sync)
         }
         Err(refusal) => refused(alloc, refusal),
     }
@@ -129,16 +129,16 @@ pub fn drop_next(alloc: Global, state: &mut State, worker: u64) -> Result<Answer
     ensures err { OnErr result (state.new ≡ state.old) }
     ensures memory { IfErr result (λ e. e ≡ OutOfMemory) }
 {
-    let Some(seat) = state.seats.get(worker) else {
+    let Some(sync) = state.syncs.get(worker) else {
         return refused(alloc, Refusal::OutOfPhase);
     };
-    let Phase::Works(work) = &seat.phase else {
+    let Phase::Works(work) = &sync.phase else {
         return refused(alloc, Refusal::OutOfPhase);
     };
     let Some(job) = drop_at(work.plan.get().steps(), work.place) else {
         return refused(alloc, Refusal::OutOfPhase);
     };
-    let (next, name) = both(further(alloc, &seat.key, work), job.key.try_copy(alloc))?;
+    let (next, name) = both(further(alloc, &sync.key, work), job.key.try_copy(alloc))?;
     let uid = job.uid;
     drop_job(alloc, state, worker, name, uid, next)
 }
@@ -152,16 +152,16 @@ pub fn make_next(alloc: Global, state: &mut State, worker: u64) -> Result<Answer
     ensures err { OnErr result (state.new ≡ state.old) }
     ensures memory { IfErr result (λ e. e ≡ OutOfMemory) }
 {
-    let Some(seat) = state.seats.get(worker) else {
+    let Some(sync) = state.syncs.get(worker) else {
         return refused(alloc, Refusal::OutOfPhase);
     };
-    let Phase::Works(work) = &seat.phase else {
+    let Phase::Works(work) = &sync.phase else {
         return refused(alloc, Refusal::OutOfPhase);
     };
     let Some(draft) = make_at(work.plan.get().steps(), work.place) else {
         return refused(alloc, Refusal::OutOfPhase);
     };
-    let (next, draft) = both(further(alloc, &seat.key, work), draft.try_copy(alloc))?;
+    let (next, draft) = both(further(alloc, &sync.key, work), draft.try_copy(alloc))?;
     let now = work.plan.get().moment();
     make_job(alloc, state, worker, draft, now, next)
 }
@@ -175,10 +175,10 @@ pub fn set_status(alloc: Global, state: &mut State, worker: u64) -> Result<Answe
     ensures err { OnErr result (state.new ≡ state.old) }
     ensures memory { IfErr result (λ e. e ≡ OutOfMemory) }
 {
-    let Some(seat) = state.seats.get(worker) else {
+    let Some(sync) = state.syncs.get(worker) else {
         return refused(alloc, Refusal::OutOfPhase);
     };
-    let Phase::Works(work) = &seat.phase else {
+    let Phase::Works(work) = &sync.phase else {
         return refused(alloc, Refusal::OutOfPhase);
     };
     let Some(status) = status_at(work.plan.get().steps(), work.place) else {
@@ -187,7 +187,7 @@ pub fn set_status(alloc: Global, state: &mut State, worker: u64) -> Result<Answe
     let Some(cron) = work.plan.get().cron() else {
         return refused(alloc, Refusal::OutOfPhase);
     };
-    let (next, status) = both(further(alloc, &seat.key, work), status.try_copy(alloc))?;
+    let (next, status) = both(further(alloc, &sync.key, work), status.try_copy(alloc))?;
     let uid = cron.get().meta.uid;
     let version = work.version;
     put_status(alloc, state, worker, uid, version, status, next)

@@ -2,14 +2,14 @@ ghost use Rattle.std.specs.Prelude.{◌≡◌, IfOk, IfErr, OnErr, Ok};
 ghost use Rattle.std.specs.FinMap as map;
 ghost use Rattle.cj_base.specs.declared.refusal.Refusal.TheVariants.{OutOfMemory};
 ghost use Rattle.cj_table.specs.jobs.Owners.{owned_by};
-ghost use Rattle.cj_state.specs.declared.phases.seat.Phase.TheVariants.{Seen, Listed, Checked};
+ghost use Rattle.cj_state.specs.declared.phases.sync.Phase.TheVariants.{Seen, Listed, Checked};
 ghost use Rattle.cj_state.specs.Readings.{active_of};
 ghost use Rattle.cj_state.specs.WorkerCalls.{see_cron, see_jobs, see_active, handled};
 
 use crate::worker::active::active_of;
 use cj_base::{all_three, both};
 use cj_calls::{Answered, Reply};
-use cj_state::{Phase, Seat, State, refused, seat_in};
+use cj_state::{InFlight, Phase, State, refused, sync_in};
 use cj_store::Store;
 use cj_types::{CronJob, Heap, Job, Key, Listing, Refusal, Shared, TryCopy};
 use cj_watch::Mirror;
@@ -25,22 +25,26 @@ fn cron_at(alloc: Global, store: &Store, key: &Key) -> Result<Option<Shared<Cron
     }
 }
 
-// The seat in the phase, and the answer.
+// The sync in the phase, and the answer.
 fn shown(
     alloc: Global,
     key: &Key,
     phase: Phase,
     reply: Reply,
-) -> Result<(Heap<Seat>, Answered), Refusal>
-    ensures seat { IfOk result (λ p. p.0 ≡ record { key = key.now; phase = phase }) }
+) -> Result<(Heap<InFlight>, Answered), Refusal>
+    ensures sync { IfOk result (λ p. p.0 ≡ record { key = key.now; phase = phase }) }
     ensures answer { IfOk result (λ p. p.1 ≡ Ok reply) }
     ensures err { IfErr result (λ e. e ≡ OutOfMemory) }
 {
-    both(seat_in(alloc, key, phase), Answered::new(alloc, Ok(reply)))
+    both(sync_in(alloc, key, phase), Answered::new(alloc, Ok(reply)))
 }
 
-fn shown_cron(alloc: Global, store: &Store, key: &Key) -> Result<(Heap<Seat>, Answered), Refusal>
-    ensures seat { IfOk result (λ p. p.0 ≡ record {
+fn shown_cron(
+    alloc: Global,
+    store: &Store,
+    key: &Key,
+) -> Result<(Heap<InFlight>, Answered), Refusal>
+    ensures sync { IfOk result (λ p. p.0 ≡ record {
       key = key.now;
       phase = Seen (map.get store.now.crons key.now);
     }) }
@@ -58,8 +62,8 @@ fn shown_jobs(
     mirror: &mut Mirror,
     key: &Key,
     cron: &Option<Shared<CronJob>>,
-) -> Result<(Heap<Seat>, Answered), Refusal>
-    ensures seat { IfOk result (λ p. p.0 ≡ record {
+) -> Result<(Heap<InFlight>, Answered), Refusal>
+    ensures sync { IfOk result (λ p. p.0 ≡ record {
       key = key.now;
       phase = Listed cron.now (owned_by mirror.old.jobs key.now);
     }) }
@@ -80,8 +84,8 @@ fn shown_active(
     key: &Key,
     cron: &Option<Shared<CronJob>>,
     jobs: &Listing<Shared<Job>>,
-) -> Result<(Heap<Seat>, Answered), Refusal>
-    ensures seat { IfOk result (λ p. p.0 ≡ record {
+) -> Result<(Heap<InFlight>, Answered), Refusal>
+    ensures sync { IfOk result (λ p. p.0 ≡ record {
       key = key.now;
       phase = Checked cron.now jobs.now (active_of store.now cron.now);
     }) }
@@ -105,14 +109,14 @@ pub fn see_cron(alloc: Global, state: &mut State, worker: u64) -> Result<Answere
     ensures err { OnErr result (state.new ≡ state.old) }
     ensures memory { IfErr result (λ e. e ≡ OutOfMemory) }
 {
-    let Some(seat) = state.seats.get(worker) else {
+    let Some(sync) = state.syncs.get(worker) else {
         return refused(alloc, Refusal::OutOfPhase);
     };
-    let Phase::Held = &seat.phase else {
+    let Phase::Held = &sync.phase else {
         return refused(alloc, Refusal::OutOfPhase);
     };
-    let (next, answer) = shown_cron(alloc, &state.store, &seat.key)?;
-    state.put_seat(worker, next);
+    let (next, answer) = shown_cron(alloc, &state.store, &sync.key)?;
+    state.put_sync(worker, next);
     Ok(answer)
 }
 
@@ -123,14 +127,14 @@ pub fn see_jobs(alloc: Global, state: &mut State, worker: u64) -> Result<Answere
     ensures err { OnErr result (state.new ≡ state.old) }
     ensures memory { IfErr result (λ e. e ≡ OutOfMemory) }
 {
-    let Some(seat) = state.seats.get(worker) else {
+    let Some(sync) = state.syncs.get(worker) else {
         return refused(alloc, Refusal::OutOfPhase);
     };
-    let Phase::Seen(cron) = &seat.phase else {
+    let Phase::Seen(cron) = &sync.phase else {
         return refused(alloc, Refusal::OutOfPhase);
     };
-    let (next, answer) = shown_jobs(alloc, &mut state.mirror, &seat.key, cron)?;
-    state.put_seat(worker, next);
+    let (next, answer) = shown_jobs(alloc, &mut state.mirror, &sync.key, cron)?;
+    state.put_sync(worker, next);
     Ok(answer)
 }
 
@@ -141,13 +145,13 @@ pub fn see_active(alloc: Global, state: &mut State, worker: u64) -> Result<Answe
     ensures err { OnErr result (state.new ≡ state.old) }
     ensures memory { IfErr result (λ e. e ≡ OutOfMemory) }
 {
-    let Some(seat) = state.seats.get(worker) else {
+    let Some(sync) = state.syncs.get(worker) else {
         return refused(alloc, Refusal::OutOfPhase);
     };
-    let Phase::Listed(cron, jobs) = &seat.phase else {
+    let Phase::Listed(cron, jobs) = &sync.phase else {
         return refused(alloc, Refusal::OutOfPhase);
     };
-    let (next, answer) = shown_active(alloc, &state.store, &seat.key, cron, jobs)?;
-    state.put_seat(worker, next);
+    let (next, answer) = shown_active(alloc, &state.store, &sync.key, cron, jobs)?;
+    state.put_sync(worker, next);
     Ok(answer)
 }

@@ -2,11 +2,11 @@ ghost use Rattle.std.specs.Prelude.{◌≡◌, IfOk, IfErr, OnOk, OnErr, Ok, Som
 ghost use Rattle.std.specs.FinMap as map;
 ghost use Rattle.cj_base.specs.declared.refusal.Refusal.TheVariants.{OutOfMemory};
 ghost use Rattle.cj_queue.specs.Queue.{taken};
-ghost use Rattle.cj_state.specs.declared.phases.seat.Phase.TheVariants.{Held};
-ghost use Rattle.cj_state.specs.WorkerCalls.{take, handled, seated};
+ghost use Rattle.cj_state.specs.declared.phases.sync.Phase.TheVariants.{Held};
+ghost use Rattle.cj_state.specs.WorkerCalls.{take, handled, with_sync};
 
 use cj_calls::{Answered, Reply};
-use cj_state::{Phase, Seat, State, refused};
+use cj_state::{InFlight, Phase, State, refused};
 use cj_types::{Key, Refusal, TryCopy};
 use std::alloc::Global;
 
@@ -31,22 +31,22 @@ fn key_answer(alloc: Global, key: &Key) -> Result<Answered, Refusal>
 
 #[tactic(auto, using(crate::proofs::WorkerLemmas::Undone::undone))]
 fn take_key(alloc: Global, state: &mut State, worker: u64, key: Key) -> Result<Answered, Refusal>
-    requires free { map.get state.old.seats worker ≡ None }
+    requires free { map.get state.old.syncs worker ≡ None }
     ensures answer { IfOk result (λ t. t ≡ Ok (Reply.Key key)) }
-    ensures ok { OnOk result (state.new ≡ seated (record state.old {
+    ensures ok { OnOk result (state.new ≡ with_sync (record state.old {
       queue = taken state.old.queue;
     }) worker key Held) }
     ensures err { OnErr result (state.new ≡ state.old) }
     ensures memory { IfErr result (λ e. e ≡ OutOfMemory) }
 {
     let answer = key_answer(alloc, &key)?;
-    let seat = Seat {
+    let sync = InFlight {
         key,
         phase: Phase::Held,
     };
-    state.seats.insert(worker, seat)?;
+    state.syncs.insert(worker, sync)?;
     if state.queue.take().is_err() {
-        state.seats.remove(worker);
+        state.syncs.remove(worker);
         return Err(Refusal::OutOfMemory);
     }
     Ok(answer)
@@ -59,7 +59,7 @@ pub fn take(alloc: Global, state: &mut State, worker: u64) -> Result<Answered, R
     ensures err { OnErr result (state.new ≡ state.old) }
     ensures memory { IfErr result (λ e. e ≡ OutOfMemory) }
 {
-    if state.seats.get(worker).is_some() {
+    if state.syncs.get(worker).is_some() {
         return refused(alloc, Refusal::OutOfPhase);
     }
     let Some(key) = state.queue.front() else {

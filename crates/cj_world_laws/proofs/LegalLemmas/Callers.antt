@@ -10,12 +10,12 @@ use Rattle.cj_calls.specs.declared.call.Call.{Call}
 use Rattle.cj_calls.specs.declared.call.Call.TheVariants as Of
 use Rattle.cj_calls.specs.declared.reply.Reply.{Reply}
 use Rattle.cj_calls.specs.Rows.{Told}
-use Rattle.cj_state.specs.declared.phases.seat.Seat.{Seat}
+use Rattle.cj_state.specs.declared.phases.sync.InFlight.{InFlight}
 use Rattle.cj_state.specs.declared.state.State.{State}
 use Rattle.cj_state.specs.Step.{step_of, by_role, by_user, by_runner, by_informer}
 use Rattle.cj_state.specs.Legal.{IsLegal, answer_of, state_of}
-use Rattle.cj_world_laws.specs.legal.Seats.{accepted, seat, seat_after}
-use Rattle.cj_world_laws.specs.legal.Callers.{is_of_sync, WorkersAlone, same_role, same_caller, seat_by, claim_by, worker, AreOfCallers, CallerLaw}
+use Rattle.cj_world_laws.specs.legal.InFlightSyncs.{accepted, sync, sync_after}
+use Rattle.cj_world_laws.specs.legal.Callers.{is_of_sync, WorkersAlone, same_role, same_caller, sync_by, claim_by, worker, AreOfCallers, CallerLaw}
 use Rattle.cj_world_laws.specs.once.Once.{Claimed, claim_after, claim_of, is_ok}
 
 -- ---- who makes the calls of a sync
@@ -83,18 +83,18 @@ workers_alone window (e ∷ h) l = (
 
 -- ---- what other calls leave
 
--- An answer to a call that is none of a sync says nothing of a seat.
-seat_kept : (o : Option Seat) (call : Call) (r : Reply) → is_of_sync call ≡ false → accepted o call r ≡ o
-seat_kept o Of.Take r i = absurd (cc i)
-seat_kept o Of.SeeCron r i = absurd (cc i)
-seat_kept o Of.SeeJobs r i = absurd (cc i)
-seat_kept o Of.SeeActive r i = absurd (cc i)
-seat_kept o (Of.Claim p) r i = absurd (cc i)
-seat_kept o Of.DropNext r i = absurd (cc i)
-seat_kept o Of.MakeNext r i = absurd (cc i)
-seat_kept o Of.SetStatus r i = absurd (cc i)
-seat_kept o (Of.Finish end rs) r i = absurd (cc i)
-seat_kept o call r i = refl
+-- An answer to a call that is none of a sync says nothing of a sync.
+sync_kept : (o : Option InFlight) (call : Call) (r : Reply) → is_of_sync call ≡ false → accepted o call r ≡ o
+sync_kept o Of.Take r i = absurd (cc i)
+sync_kept o Of.SeeCron r i = absurd (cc i)
+sync_kept o Of.SeeJobs r i = absurd (cc i)
+sync_kept o Of.SeeActive r i = absurd (cc i)
+sync_kept o (Of.Claim p) r i = absurd (cc i)
+sync_kept o Of.DropNext r i = absurd (cc i)
+sync_kept o Of.MakeNext r i = absurd (cc i)
+sync_kept o Of.SetStatus r i = absurd (cc i)
+sync_kept o (Of.Finish end rs) r i = absurd (cc i)
+sync_kept o call r i = refl
 
 -- A refused call leaves the claim as it was.
 claim_refused : (s : Content) (call : Call) (x : Refusal) (b : Option Claimed) → claim_after s call (Err x) b ≡ b
@@ -107,22 +107,23 @@ claim_kept : (s : Content) (call : Call) (a : Result Reply Refusal) (b : Option 
 claim_kept s (Of.Claim p) a b i = absurd (cc i)
 claim_kept s call a b i = refl
 
--- an entry that leaves each seat and each claim as it was
+-- an entry that leaves each sync and each claim as it was
 pub record Idle (s : Content) (call : Call) (a : Result Reply Refusal) : Type 0 where
-  pub seats : (o : Option Seat) → seat_after o call a ≡ o
+  pub syncs : (o : Option InFlight) → sync_after o call a ≡ o
   pub claims : (b : Option Claimed) → claim_after s call a b ≡ b
 
--- For idle: an entry whose caller is no worker, by whether its call is one of a sync and its answer.
+-- For idle: an entry whose caller is no worker, by whether its call is one of a sync and its
+-- answer.
 idle_by : (s : Content) (call : Call) (a : Result Reply Refusal) (b : Bool) → is_of_sync call ≡ b
     → (b ≡ true → is_ok a ≡ true → ⊥) → Idle s call a
-idle_by s call (Err x) b i other = record { seats = λ o. refl; claims = claim_refused s call x }
+idle_by s call (Err x) b i other = record { syncs = λ o. refl; claims = claim_refused s call x }
 idle_by s call (Ok r) true i other = absurd (other refl refl)
 idle_by s call (Ok r) false i other = record {
-  seats = λ o. seat_kept o call r i;
+  syncs = λ o. sync_kept o call r i;
   claims = λ c. claim_kept s call (Ok r) c i;
 }
 
--- An entry of a legal history whose caller is no worker leaves each seat and each claim as it was.
+-- An entry of a legal history whose caller is no worker leaves each sync and each claim as it was.
 pub idle : (window : ℕ) (e : Told) (h : List Told) → IsLegal window (e ∷ h) → e.caller.role ≢ Worker
     → Idle (state_of window h).store e.call e.answer
 idle window e h l other = idle_by (state_of window h).store e.call e.answer (is_of_sync e.call) refl
@@ -160,43 +161,49 @@ module _ {X : Type 0} (f : X → X) where
 
 -- A caller of the same role as one that is no worker is none.
 none_either : (c d : Caller) → c.role ≢ Worker → same_caller c d ≡ true → d.role ≢ Worker
-none_either c d other same is = other (role_is c.role d.role (second (c.number == d.number) (same_role c.role d.role) same) ∙ is)
+none_either c d other same is = other (role_is c.role d.role
+    (second (c.number == d.number) (same_role c.role d.role) same) ∙ is)
 
--- A worker's seat by its caller is the one by its number.
-seats_by : (window : ℕ) (h : List Told) → IsLegal window h → (w : ℕ) → seat_by h (worker w) ≡ seat h w
-seats_by window [] l w = refl
-seats_by window (e ∷ h) l w =
-    as_numbered (λ (o : Option Seat). seat_after o e.call e.answer) (w == e.caller.number) e.caller.role (seat_by h (worker w)) (seat h w)
-    (seats_by window h l.2 w) (λ other. (idle window e h l other).seats)
+-- A worker's sync by its caller is the one by its number.
+syncs_by : (window : ℕ) (h : List Told) → IsLegal window h → (w : ℕ) → sync_by h (worker w) ≡ sync h w
+syncs_by window [] l w = refl
+syncs_by window (e ∷ h) l w =
+    as_numbered (λ (o : Option InFlight). sync_after o e.call e.answer) (w == e.caller.number) e.caller.role
+    (sync_by h (worker w)) (sync h w)
+    (syncs_by window h l.2 w) (λ other. (idle window e h l other).syncs)
 
 -- A worker's claim by its caller is the one by its number.
-claims_by : (window : ℕ) (h : List Told) → IsLegal window h → (w : ℕ) → claim_by window h (worker w) ≡ claim_of window h w
+claims_by : (window : ℕ) (h : List Told) → IsLegal window h → (w : ℕ)
+    → claim_by window h (worker w) ≡ claim_of window h w
 claims_by window [] l w = refl
 claims_by window (e ∷ h) l w =
     as_numbered (claim_after (state_of window h).store e.call e.answer) (w == e.caller.number) e.caller.role
     (claim_by window h (worker w)) (claim_of window h w)
     (claims_by window h l.2 w) (λ other. (idle window e h l other).claims)
 
--- A caller that is no worker has no seat.
-no_seat : (window : ℕ) (h : List Told) → IsLegal window h → (c : Caller) → c.role ≢ Worker → seat_by h c ≡ None
-no_seat window [] l c other = refl
-no_seat window (e ∷ h) l c other =
-    as_before (λ (o : Option Seat). seat_after o e.call e.answer) (same_caller c e.caller) (seat_by h c) None (no_seat window h l.2 c other)
-    (λ same. (idle window e h l (none_either c e.caller other same)).seats)
+-- A caller that is no worker has no sync.
+no_sync : (window : ℕ) (h : List Told) → IsLegal window h → (c : Caller) → c.role ≢ Worker → sync_by h c ≡ None
+no_sync window [] l c other = refl
+no_sync window (e ∷ h) l c other =
+    as_before (λ (o : Option InFlight). sync_after o e.call e.answer) (same_caller c e.caller) (sync_by h c) None
+    (no_sync window h l.2 c other)
+    (λ same. (idle window e h l (none_either c e.caller other same)).syncs)
 
 -- A caller that is no worker has no claim.
 no_claim : (window : ℕ) (h : List Told) → IsLegal window h → (c : Caller) → c.role ≢ Worker → claim_by window h c ≡ None
 no_claim window [] l c other = refl
 no_claim window (e ∷ h) l c other =
-    as_before (claim_after (state_of window h).store e.call e.answer) (same_caller c e.caller) (claim_by window h c) None
+    as_before (claim_after (state_of window h).store e.call e.answer) (same_caller c e.caller) (claim_by window h c)
+    None
     (no_claim window h l.2 c other) (λ same. (idle window e h l (none_either c e.caller other same)).claims)
 
--- For caller_law: in a legal history a worker's seat and claim are those of its number, and nobody else has any.
+-- For caller_law: in a legal history a worker's sync and claim are those of its number, and nobody
+-- else has any.
 pub callers_apart : CallerLaw
 callers_apart window h l = record {
   alone = workers_alone window h l;
-  seats = seats_by window h l;
+  syncs = syncs_by window h l;
   claims = claims_by window h l;
-  seatless = no_seat window h l;
+  none_in_flight = no_sync window h l;
   claimless = no_claim window h l;
 }

@@ -33,31 +33,32 @@ use Rattle.cj_types.specs.Events.{version_of}
 use Rattle.cj_calls.specs.Rows.{is_in_row}
 use Rattle.cj_state.specs.phases.Inputs.{rests_on}
 use Rattle.cj_state.specs.phases.Steps.{step_at, as_drop, as_make, as_status, is_over}
-use Rattle.cj_state.specs.declared.phases.seat.Work.{Work}
-use Rattle.cj_state.specs.declared.phases.seat.Phase.{Phase}
-use Rattle.cj_state.specs.declared.phases.seat.Phase.TheVariants.{Held, Seen, Listed, Checked, Works}
-use Rattle.cj_state.specs.declared.phases.seat.Seat.{Seat}
+use Rattle.cj_state.specs.declared.phases.sync.Work.{Work}
+use Rattle.cj_state.specs.declared.phases.sync.Phase.{Phase}
+use Rattle.cj_state.specs.declared.phases.sync.Phase.TheVariants.{Held, Seen, Listed, Checked, Works}
+use Rattle.cj_state.specs.declared.phases.sync.InFlight.{InFlight}
 use Rattle.cj_state.specs.declared.state.State.{State}
-use Rattle.cj_state.specs.WorkerCalls.{Handled, refused, by_seat, seat_of, take, take_by, take_first, see_cron, see_cron_in, see_jobs, see_jobs_in, see_active, see_active_in, claim, claim_in, claim_where, claims, wrote, works, drop_next, drop_in, drop_where, drops_it, make_next, make_in, make_where, steps_on, event_reply, version_reply, set_status, status_in, status_where, sets_it, finish, finish_in, finish_work}
+use Rattle.cj_state.specs.WorkerCalls.{Handled, refused, by_sync, sync_of, take, take_by, take_first, see_cron, see_cron_in, see_jobs, see_jobs_in, see_active, see_active_in, claim, claim_in, claim_where, claims, wrote, works, drop_next, drop_in, drop_where, drops_it, make_next, make_in, make_where, steps_on, event_reply, version_reply, set_status, status_in, status_where, sets_it, finish, finish_in, finish_work}
 use Rattle.cj_state.specs.Step.{writes, found_cron, found_job, told_events, step_of, by_role, by_reader, by_user, by_runner, by_worker, by_informer}
 use Rattle.cj_world_laws.specs.legal.Answers.{Fine}
 
--- in every phase and without a seat
-seat_fine : (s : State) (call : Call) (f : Place → Phase → Handled) (o : Option Seat) → Fine s call (by_seat s f None)
-    → ((k : Place) (p : Phase) → Fine s call (f k p)) → Fine s call (by_seat s f o)
-seat_fine s call f None n h = n
-seat_fine s call f (Some seat) n h = h seat.key seat.phase
+-- in every phase and without a sync
+sync_fine : (s : State) (call : Call) (f : Place → Phase → Handled) (o : Option InFlight) → Fine s call
+    (by_sync s f None)
+    → ((k : Place) (p : Phase) → Fine s call (f k p)) → Fine s call (by_sync s f o)
+sync_fine s call f None n h = n
+sync_fine s call f (Some sync) n h = h sync.key sync.phase
 
--- The answer of a Take by a worker without a seat fits: a key, ShutDown or Empty.
+-- The answer of a Take by a worker without a sync fits: a key, ShutDown or Empty.
 first_fine : (s : State) (w : ℕ) (o : Option Place) (b : Bool) → s.queue.shut ≡ b → Fine s Of.Take (take_first s w o)
 first_fine s w (Some k) b e = inr (refl, refl, refl)
 first_fine s w None true e = inr (rw e refl, rw e refl, rw e refl)
 first_fine s w None false e = inl (rw e refl, refl)
 
--- The answer of a Take fits, whether or not its worker has a seat.
-take_fine : (s : State) (w : ℕ) (o : Option Seat) → Fine s Of.Take (take_by s w o)
+-- The answer of a Take fits, whether or not its worker has a sync.
+take_fine : (s : State) (w : ℕ) (o : Option InFlight) → Fine s Of.Take (take_by s w o)
 take_fine s w None = first_fine s w _ _ refl
-take_fine s w (Some seat) = inr (refl, refl, refl)
+take_fine s w (Some sync) = inr (refl, refl, refl)
 
 -- In each phase the answer of a SeeCron fits: the CronJob of the key, if any, or OutOfPhase.
 cron_fine : (s : State) (w : ℕ) (k : Place) (p : Phase) → Fine s Of.SeeCron (see_cron_in s w k p)
@@ -147,10 +148,10 @@ claim_fine s w p k (Checked c js ks) = rests_fine s w p k (rests_on p c js ks)
 claim_fine s w p k (Works work) = inr (refl, refl, refl)
 
 -- The answer of a DropNext at a drop fits, whether the Job was deleted or wasn't there.
-drops_fine : (s : State) (w : ℕ) (seat : Seat) (name : Place) (r : Result Event Refusal)
-    → Fine s Of.DropNext (drops_it s w seat name r)
-drops_fine s w seat name (Ok e) = inr (refl, refl, refl)
-drops_fine s w seat name (Err e) = inr (refl, refl, refl)
+drops_fine : (s : State) (w : ℕ) (sync : InFlight) (name : Place) (r : Result Event Refusal)
+    → Fine s Of.DropNext (drops_it s w sync name r)
+drops_fine s w sync name (Ok e) = inr (refl, refl, refl)
+drops_fine s w sync name (Err e) = inr (refl, refl, refl)
 
 -- The answer of a DropNext with a plan fits, whether the next step is a drop or another.
 drop_where_fine : (s : State) (w : ℕ) (k : Place) (work : Work) (o : Option JobRef)
@@ -167,11 +168,11 @@ drop_fine s w k (Checked c js ks) = inr (refl, refl, refl)
 drop_fine s w k (Works work) = drop_where_fine s w k work (as_drop (step_at work.plan.steps work.place))
 
 -- The answer of a MakeNext that makes a Job fits, whether the Job's name is taken or free.
-made_fine : (s : State) (w : ℕ) (seat : Seat) (draft : JobDraft) (now : ℕ) (b : Bool)
-    → Fine s Of.MakeNext (steps_on s w seat event_reply
+made_fine : (s : State) (w : ℕ) (sync : InFlight) (draft : JobDraft) (now : ℕ) (b : Bool)
+    → Fine s Of.MakeNext (steps_on s w sync event_reply
     (map_ok job_added (if b then Err AlreadyExists else Ok (new_job s.store draft now))))
-made_fine s w seat draft now true = inr (refl, refl, refl)
-made_fine s w seat draft now false = inr (refl, refl, refl)
+made_fine s w sync draft now true = inr (refl, refl, refl)
+made_fine s w sync draft now false = inr (refl, refl, refl)
 
 -- The answer of a MakeNext with a plan fits, whether the next step makes a Job or not.
 make_where_fine : (s : State) (w : ℕ) (k : Place) (work : Work) (o : Option JobDraft)
@@ -188,13 +189,13 @@ make_fine s w k (Checked c js ks) = inr (refl, refl, refl)
 make_fine s w k (Works work) = make_where_fine s w k work (as_make (step_at work.plan.steps work.place))
 
 -- Where the write of its status has one of these answers, the answer of a SetStatus fits.
-set_given : (s : State) (w : ℕ) (seat : Seat) (r : Result Event Refusal) → Given r
-    → Fine s Of.SetStatus (steps_on s w seat version_reply r)
-set_given s w seat r (makes e i) = subst (λ x. Fine s Of.SetStatus (steps_on s w seat version_reply x)) (sym i)
+set_given : (s : State) (w : ℕ) (sync : InFlight) (r : Result Event Refusal) → Given r
+    → Fine s Of.SetStatus (steps_on s w sync version_reply r)
+set_given s w sync r (makes e i) = subst (λ x. Fine s Of.SetStatus (steps_on s w sync version_reply x)) (sym i)
     (inr (refl, refl, refl))
-set_given s w seat r (lacks i) = subst (λ x. Fine s Of.SetStatus (steps_on s w seat version_reply x)) (sym i)
+set_given s w sync r (lacks i) = subst (λ x. Fine s Of.SetStatus (steps_on s w sync version_reply x)) (sym i)
     (inr (refl, refl, refl))
-set_given s w seat r (differs v i) = subst (λ x. Fine s Of.SetStatus (steps_on s w seat version_reply x)) (sym i)
+set_given s w sync r (differs v i) = subst (λ x. Fine s Of.SetStatus (steps_on s w sync version_reply x)) (sym i)
     (inr (refl, refl, refl))
 
 -- The answer of a SetStatus at its step fits, whether its plan has a CronJob or none.
@@ -240,15 +241,15 @@ none_fine s call e = inr (refl, refl, e)
 -- Whatever call a worker makes, the answer fits.
 worker_fine : (s : State) (w : ℕ) (call : Call) → Fine s call (by_worker s w call)
 unfolding take see_cron see_jobs see_active claim drop_next make_next set_status finish
-worker_fine s w Of.Take = take_fine s w (seat_of s w)
-worker_fine s w Of.SeeCron = seat_fine s Of.SeeCron _ (seat_of s w) (inr (refl, refl, refl)) (cron_fine s w)
-worker_fine s w Of.SeeJobs = seat_fine s Of.SeeJobs _ (seat_of s w) (inr (refl, refl, refl)) (jobs_fine s w)
-worker_fine s w Of.SeeActive = seat_fine s Of.SeeActive _ (seat_of s w) (inr (refl, refl, refl)) (active_fine s w)
-worker_fine s w (Of.Claim p) = seat_fine s (Of.Claim p) _ (seat_of s w) (inr (refl, refl, refl)) (claim_fine s w p)
-worker_fine s w Of.DropNext = seat_fine s Of.DropNext _ (seat_of s w) (inr (refl, refl, refl)) (drop_fine s w)
-worker_fine s w Of.MakeNext = seat_fine s Of.MakeNext _ (seat_of s w) (inr (refl, refl, refl)) (make_fine s w)
-worker_fine s w Of.SetStatus = seat_fine s Of.SetStatus _ (seat_of s w) (inr (refl, refl, refl)) (status_fine s w)
-worker_fine s w (Of.Finish end rs) = seat_fine s (Of.Finish end rs) _ (seat_of s w) (inr (refl, refl, refl))
+worker_fine s w Of.Take = take_fine s w (sync_of s w)
+worker_fine s w Of.SeeCron = sync_fine s Of.SeeCron _ (sync_of s w) (inr (refl, refl, refl)) (cron_fine s w)
+worker_fine s w Of.SeeJobs = sync_fine s Of.SeeJobs _ (sync_of s w) (inr (refl, refl, refl)) (jobs_fine s w)
+worker_fine s w Of.SeeActive = sync_fine s Of.SeeActive _ (sync_of s w) (inr (refl, refl, refl)) (active_fine s w)
+worker_fine s w (Of.Claim p) = sync_fine s (Of.Claim p) _ (sync_of s w) (inr (refl, refl, refl)) (claim_fine s w p)
+worker_fine s w Of.DropNext = sync_fine s Of.DropNext _ (sync_of s w) (inr (refl, refl, refl)) (drop_fine s w)
+worker_fine s w Of.MakeNext = sync_fine s Of.MakeNext _ (sync_of s w) (inr (refl, refl, refl)) (make_fine s w)
+worker_fine s w Of.SetStatus = sync_fine s Of.SetStatus _ (sync_of s w) (inr (refl, refl, refl)) (status_fine s w)
+worker_fine s w (Of.Finish end rs) = sync_fine s (Of.Finish end rs) _ (sync_of s w) (inr (refl, refl, refl))
     (finish_fine s w end rs)
 worker_fine s w (Of.CreateCron d n) = inr (refl, refl, refl)
 worker_fine s w (Of.UpdateCron d) = inr (refl, refl, refl)

@@ -1,5 +1,5 @@
--- Some list of events has led to what is stored, to what the watch keeps, and, as far as the lists know of
--- it, to the Jobs in them.
+-- Some list of events has led to what is stored, to what the watch keeps, and, as far as the lists
+-- know of it, to the Jobs in them.
 use Rattle.std.proofs.Common.{◌≡◌, ℕ, zero, suc, ◌+◌, ◌≤◌, min, nat_lt, Bool, true, false, List, [], ◌∷◌, ◌++◌, length, take, refl, sym, ap, subst, ◌∙◌, arith, length-append}
 use Rattle.std.specs.Prelude.{if◌then◌else◌, Ok}
 use Rattle.std.specs.FinMap as map
@@ -149,11 +149,11 @@ learn window s max f = record {
 -- Where some events have led to a state, some have led to the state after a call of any shape.
 pub follows_shape : (window : ℕ) (s s' : State) (w : ℕ) → Follows window s → Shape s w s' → Follows window s'
 follows_shape window s s' w f (same e) = subst (Follows window) (sym e) f
-follows_shape window s s' w f (sat seat p at e) = subst (Follows window) (sym e) (alike window s _ refl refl refl f)
-follows_shape window s s' w f (wrote_it seat p ev at n e) = subst (Follows window) (sym e)
+follows_shape window s s' w f (sat sync p at e) = subst (Follows window) (sym e) (alike window s _ refl refl refl f)
+follows_shape window s s' w f (wrote_it sync p ev at n e) = subst (Follows window) (sym e)
     (alike window (written s ev) _ refl refl refl (one_more window s ev n f))
 follows_shape window s s' w f (took k n g e) = subst (Follows window) (sym e) (alike window s _ refl refl refl f)
-follows_shape window s s' w f (left_it seat q at ends e) = subst (Follows window) (sym e)
+follows_shape window s s' w f (left_it sync q at ends e) = subst (Follows window) (sym e)
     (alike window s _ refl refl refl f)
 follows_shape window s s' w f (stored ev n e) = subst (Follows window) (sym e) (one_more window s ev n f)
 follows_shape window s s' w f (listed max e) = subst (Follows window) (sym e) (learn window s max f)

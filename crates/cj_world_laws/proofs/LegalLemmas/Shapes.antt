@@ -1,4 +1,5 @@
--- What a call can do to the state: nothing, another seat, a write, a take, an end, adds, other lists.
+-- What a call can do to the state: nothing, another sync, a write, a take, an end, adds, other
+-- lists.
 use Rattle.std.proofs.Common.{◌≡◌, ◌⊎◌, inl, inr, ℕ, ◌+◌, Bool, true, false, List, [], ◌∷◌, refl}
 use Rattle.std.specs.Prelude.{Option, Some, None, Result, Ok, Err, if◌then◌else◌, nat_le}
 use Rattle.std.specs.FinMap as map
@@ -25,12 +26,12 @@ use Rattle.cj_calls.specs.declared.end.End.TheVariants.{Well, Again}
 use Rattle.cj_calls.specs.declared.reply.Reply.{Reply}
 use Rattle.cj_state.specs.phases.Inputs.{rests_on}
 use Rattle.cj_state.specs.phases.Steps.{step_at, as_drop, as_make, as_status, is_over}
-use Rattle.cj_state.specs.declared.phases.seat.Work.{Work}
-use Rattle.cj_state.specs.declared.phases.seat.Phase.{Phase}
-use Rattle.cj_state.specs.declared.phases.seat.Phase.TheVariants.{Held, Seen, Listed, Checked, Works}
-use Rattle.cj_state.specs.declared.phases.seat.Seat.{Seat}
+use Rattle.cj_state.specs.declared.phases.sync.Work.{Work}
+use Rattle.cj_state.specs.declared.phases.sync.Phase.{Phase}
+use Rattle.cj_state.specs.declared.phases.sync.Phase.TheVariants.{Held, Seen, Listed, Checked, Works}
+use Rattle.cj_state.specs.declared.phases.sync.InFlight.{InFlight}
 use Rattle.cj_state.specs.declared.state.State.{State}
-use Rattle.cj_state.specs.WorkerCalls.{Handled, refused, by_seat, seat_of, seated, written, take, take_by, take_first, see_cron, see_cron_in, see_jobs, see_jobs_in, see_active, see_active_in, claim, claim_in, claim_where, claims, wrote, drop_next, drop_in, drop_where, drops_it, next_seat, make_next, make_in, make_where, steps_on, set_status, status_in, status_where, sets_it, finish, finish_in, finish_work, next_ms}
+use Rattle.cj_state.specs.WorkerCalls.{Handled, refused, by_sync, sync_of, with_sync, written, take, take_by, take_first, see_cron, see_cron_in, see_jobs, see_jobs_in, see_active, see_active_in, claim, claim_in, claim_where, claims, wrote, drop_next, drop_in, drop_where, drops_it, next_sync, make_next, make_in, make_where, steps_on, set_status, status_in, status_where, sets_it, finish, finish_in, finish_work, next_ms}
 use Rattle.cj_store.specs.Change.{map_ok, cron_added, cron_modified, cron_gone, job_added, job_modified, job_gone}
 use Rattle.cj_store.specs.Crons.{cron_created, cron_updated, cron_deleted}
 use Rattle.cj_store.specs.Jobs.{job_created, job_updated, job_deleted, job_ended}
@@ -46,13 +47,13 @@ Ends q k p = (p.row ≡ row_end q.row k) ⊎ (p.row ≡ row_add (row_end q.row k
 
 pub data Shape (s : State) (w : ℕ) (s' : State) : Type 0 where
   same : s' ≡ s → Shape s w s'
-  sat : (seat : Seat) (p : Phase) → seat_of s w ≡ Some seat → s' ≡ seated s w seat.key p → Shape s w s'
-  wrote_it : (seat : Seat) (p : Phase) (e : Event) → seat_of s w ≡ Some seat → version_of e ≡ s.store.version + 1
-      → s' ≡ seated (written s e) w seat.key p → Shape s w s'
-  took : (k : Place) → seat_of s w ≡ None → first s.queue.row.line ≡ Some k
-      → s' ≡ seated (record s { queue = taken s.queue }) w k Held → Shape s w s'
-  left_it : (seat : Seat) (q : Queue) → seat_of s w ≡ Some seat → Ends s.queue seat.key q
-      → s' ≡ record s { queue = q; seats = map.remove s.seats w } → Shape s w s'
+  sat : (sync : InFlight) (p : Phase) → sync_of s w ≡ Some sync → s' ≡ with_sync s w sync.key p → Shape s w s'
+  wrote_it : (sync : InFlight) (p : Phase) (e : Event) → sync_of s w ≡ Some sync → version_of e ≡ s.store.version + 1
+      → s' ≡ with_sync (written s e) w sync.key p → Shape s w s'
+  took : (k : Place) → sync_of s w ≡ None → first s.queue.row.line ≡ Some k
+      → s' ≡ with_sync (record s { queue = taken s.queue }) w k Held → Shape s w s'
+  left_it : (sync : InFlight) (q : Queue) → sync_of s w ≡ Some sync → Ends s.queue sync.key q
+      → s' ≡ record s { queue = q; syncs = map.remove s.syncs w } → Shape s w s'
   stored : (e : Event) → version_of e ≡ s.store.version + 1 → s' ≡ written s e → Shape s w s'
   listed : (max : ℕ) → s' ≡ record s { mirror = fed_up s max } → Shape s w s'
   queued : (q : Queue) (ks : List Place) → q.row ≡ row_adds s.queue.row ks → s' ≡ record s { queue = q } → Shape s w s'
@@ -94,103 +95,103 @@ tick_shape s w now false e = queued (ticked s.queue now) (ready s.queue.waiting 
 
 -- ---- a worker that holds no key
 
--- A Take by a worker without a seat has the shape of a take, or of no change.
-first_shape : (s : State) (w : ℕ) (o : Option Place) → seat_of s w ≡ None → first s.queue.row.line ≡ o
+-- A Take by a worker without a sync has the shape of a take, or of no change.
+first_shape : (s : State) (w : ℕ) (o : Option Place) → sync_of s w ≡ None → first s.queue.row.line ≡ o
     → Shape s w (take_first s w o).state
 first_shape s w (Some k) n e = took k n e refl
 first_shape s w None n e = same refl
 
--- A Take has one of the shapes, whether or not the worker has a seat.
-take_shape : (s : State) (w : ℕ) (o : Option Seat) → seat_of s w ≡ o → Shape s w (take_by s w o).state
+-- A Take has one of the shapes, whether or not the worker has a sync.
+take_shape : (s : State) (w : ℕ) (o : Option InFlight) → sync_of s w ≡ o → Shape s w (take_by s w o).state
 take_shape s w None e = first_shape s w (first s.queue.row.line) e refl
-take_shape s w (Some seat) e = same refl
+take_shape s w (Some sync) e = same refl
 
 -- ---- one that holds one
 
--- A call that needs a seat changes nothing without one, and has a shape if it has one with one.
-seat_shape : (s : State) (w : ℕ) (f : Place → Phase → Handled) (o : Option Seat) → seat_of s w ≡ o
-    → ((seat : Seat) → seat_of s w ≡ Some seat → Shape s w (f seat.key seat.phase).state)
-    → Shape s w (by_seat s f o).state
-seat_shape s w f None e h = same refl
-seat_shape s w f (Some seat) e h = h seat e
+-- A call that needs a sync changes nothing without one, and has a shape if it has one with one.
+sync_shape : (s : State) (w : ℕ) (f : Place → Phase → Handled) (o : Option InFlight) → sync_of s w ≡ o
+    → ((sync : InFlight) → sync_of s w ≡ Some sync → Shape s w (f sync.key sync.phase).state)
+    → Shape s w (by_sync s f o).state
+sync_shape s w f None e h = same refl
+sync_shape s w f (Some sync) e h = h sync e
 
-module _ (s : State) (w : ℕ) (seat : Seat) (at : seat_of s w ≡ Some seat) where
-  -- A SeeCron brings the seat from Held to its next phase, and else changes nothing.
-  cron_shape : (p : Phase) → Shape s w (see_cron_in s w seat.key p).state
-  cron_shape Held = sat seat _ at refl
+module _ (s : State) (w : ℕ) (sync : InFlight) (at : sync_of s w ≡ Some sync) where
+  -- A SeeCron brings the sync from Held to its next phase, and else changes nothing.
+  cron_shape : (p : Phase) → Shape s w (see_cron_in s w sync.key p).state
+  cron_shape Held = sat sync _ at refl
   cron_shape (Seen c) = same refl
   cron_shape (Listed c js) = same refl
   cron_shape (Checked c js ks) = same refl
   cron_shape (Works work) = same refl
 
-  -- A SeeJobs brings the seat from Seen to its next phase, and else changes nothing.
-  jobs_shape : (p : Phase) → Shape s w (see_jobs_in s w seat.key p).state
+  -- A SeeJobs brings the sync from Seen to its next phase, and else changes nothing.
+  jobs_shape : (p : Phase) → Shape s w (see_jobs_in s w sync.key p).state
   jobs_shape Held = same refl
-  jobs_shape (Seen c) = sat seat _ at refl
+  jobs_shape (Seen c) = sat sync _ at refl
   jobs_shape (Listed c js) = same refl
   jobs_shape (Checked c js ks) = same refl
   jobs_shape (Works work) = same refl
 
-  -- A SeeActive brings the seat from Listed to its next phase, and else changes nothing.
-  active_shape : (p : Phase) → Shape s w (see_active_in s w seat.key p).state
+  -- A SeeActive brings the sync from Listed to its next phase, and else changes nothing.
+  active_shape : (p : Phase) → Shape s w (see_active_in s w sync.key p).state
   active_shape Held = same refl
   active_shape (Seen c) = same refl
-  active_shape (Listed c js) = sat seat _ at refl
+  active_shape (Listed c js) = sat sync _ at refl
   active_shape (Checked c js ks) = same refl
   active_shape (Works work) = same refl
 
-  -- For claims_shape: a write stores one event and moves the seat on, or nothing changes.
+  -- For claims_shape: a write stores one event and moves the sync on, or nothing changes.
   wrote_shape : (say : Event → Reply) (p : Event → Phase) (r : Result Event Refusal)
-      → ((e : Event) → r ≡ Ok e → version_of e ≡ s.store.version + 1) → Shape s w (wrote s w seat.key say p r).state
-  wrote_shape say p (Ok e) n = wrote_it seat (p e) e at (n e refl) refl
+      → ((e : Event) → r ≡ Ok e → version_of e ≡ s.store.version + 1) → Shape s w (wrote s w sync.key say p r).state
+  wrote_shape say p (Ok e) n = wrote_it sync (p e) e at (n e refl) refl
   wrote_shape say p (Err e) n = same refl
 
   -- For claim_where_shape: a Claim of a time has a shape, whether or not the plan has a CronJob.
-  claims_shape : (p : Planned) (c : Claim) (o : Option CronJob) → Shape s w (claims s w seat.key p c o).state
+  claims_shape : (p : Planned) (c : Claim) (o : Option CronJob) → Shape s w (claims s w sync.key p c o).state
   claims_shape p c None = same refl
   claims_shape p c (Some cron) = wrote_shape _ _ _
-      (status_version s.store seat.key cron.meta.uid cron.meta.version c.status)
+      (status_version s.store sync.key cron.meta.uid cron.meta.version c.status)
 
   -- For rests_shape: a Claim has one of the shapes, whether of a time or of none.
-  claim_where_shape : (p : Planned) (o : Option Claim) → Shape s w (claim_where s w seat.key p o).state
-  claim_where_shape p None = sat seat _ at refl
+  claim_where_shape : (p : Planned) (o : Option Claim) → Shape s w (claim_where s w sync.key p o).state
+  claim_where_shape p None = sat sync _ at refl
   claim_where_shape p (Some c) = claims_shape p c p.cron
 
   -- For claim_shape: a Claim has a shape, whether or not its plan rests on what the worker saw.
-  rests_shape : (p : Planned) (b : Bool) → Shape s w (if b then claim_where s w seat.key p p.steps.claim
+  rests_shape : (p : Planned) (b : Bool) → Shape s w (if b then claim_where s w sync.key p p.steps.claim
       else refused s Stale).state
   rests_shape p true = claim_where_shape p p.steps.claim
   rests_shape p false = same refl
 
   -- A Claim has one of the shapes, in each phase; it changes nothing in all but Checked.
-  claim_shape : (p : Planned) (q : Phase) → Shape s w (claim_in s w p seat.key q).state
+  claim_shape : (p : Planned) (q : Phase) → Shape s w (claim_in s w p sync.key q).state
   claim_shape p Held = same refl
   claim_shape p (Seen c) = same refl
   claim_shape p (Listed c js) = same refl
   claim_shape p (Checked c js ks) = rests_shape p (rests_on p c js ks)
   claim_shape p (Works work) = same refl
 
-  -- A step's write stores one event and brings the seat one step further, or changes nothing.
+  -- A step's write stores one event and brings the sync one step further, or changes nothing.
   on_shape : (p : Work) (say : Event → Reply) (r : Result Event Refusal)
       → ((e : Event) → r ≡ Ok e → version_of e ≡ s.store.version + 1)
-      → Shape s w (steps_on s w (next_seat seat.key p) say r).state
-  on_shape p say (Ok e) n = wrote_it seat _ e at (n e refl) refl
+      → Shape s w (steps_on s w (next_sync sync.key p) say r).state
+  on_shape p say (Ok e) n = wrote_it sync _ e at (n e refl) refl
   on_shape p say (Err e) n = same refl
 
-  -- A drop brings the seat one step further, with an event stored if the Job was there.
+  -- A drop brings the sync one step further, with an event stored if the Job was there.
   drops_shape : (p : Work) (name : Place) (r : Result Event Refusal)
       → ((e : Event) → r ≡ Ok e → version_of e ≡ s.store.version + 1)
-      → Shape s w (drops_it s w (next_seat seat.key p) name r).state
-  drops_shape p name (Ok e) n = wrote_it seat _ e at (n e refl) refl
-  drops_shape p name (Err e) n = sat seat _ at refl
+      → Shape s w (drops_it s w (next_sync sync.key p) name r).state
+  drops_shape p name (Ok e) n = wrote_it sync _ e at (n e refl) refl
+  drops_shape p name (Err e) n = sat sync _ at refl
 
   -- For drop_shape: a DropNext has a shape, whether or not the next step is a drop.
-  drop_where_shape : (work : Work) (o : Option JobRef) → Shape s w (drop_where s w seat.key work o).state
+  drop_where_shape : (work : Work) (o : Option JobRef) → Shape s w (drop_where s w sync.key work o).state
   drop_where_shape work None = same refl
   drop_where_shape work (Some r) = drops_shape work r.key _ (gone_version s.store r.key (Some r.uid))
 
   -- A DropNext has one of the shapes, in each phase; it changes nothing in all but Works.
-  drop_shape : (p : Phase) → Shape s w (drop_in s w seat.key p).state
+  drop_shape : (p : Phase) → Shape s w (drop_in s w sync.key p).state
   drop_shape Held = same refl
   drop_shape (Seen c) = same refl
   drop_shape (Listed c js) = same refl
@@ -198,12 +199,12 @@ module _ (s : State) (w : ℕ) (seat : Seat) (at : seat_of s w ≡ Some seat) wh
   drop_shape (Works work) = drop_where_shape work (as_drop (step_at work.plan.steps work.place))
 
   -- For make_shape: a MakeNext has a shape, whether or not the next step is a making.
-  make_where_shape : (work : Work) (o : Option JobDraft) → Shape s w (make_where s w seat.key work o).state
+  make_where_shape : (work : Work) (o : Option JobDraft) → Shape s w (make_where s w sync.key work o).state
   make_where_shape work None = same refl
   make_where_shape work (Some d) = on_shape work _ _ (made_version s.store d work.plan.at)
 
   -- A MakeNext has one of the shapes, in each phase; it changes nothing in all but Works.
-  make_shape : (p : Phase) → Shape s w (make_in s w seat.key p).state
+  make_shape : (p : Phase) → Shape s w (make_in s w sync.key p).state
   make_shape Held = same refl
   make_shape (Seen c) = same refl
   make_shape (Listed c js) = same refl
@@ -212,32 +213,32 @@ module _ (s : State) (w : ℕ) (seat : Seat) (at : seat_of s w ≡ Some seat) wh
 
   -- For status_where_shape: a status is set by a shape, whether or not the plan has a CronJob.
   sets_shape : (work : Work) (status : CronStatus) (o : Option CronJob) →
-      Shape s w (sets_it s w seat.key work status o).state
+      Shape s w (sets_it s w sync.key work status o).state
   sets_shape work status None = same refl
   sets_shape work status (Some cron) = on_shape work _ _
-      (status_version s.store seat.key cron.meta.uid work.version status)
+      (status_version s.store sync.key cron.meta.uid work.version status)
 
   -- For status_shape: a SetStatus has a shape, whether or not the next step sets a status.
-  status_where_shape : (work : Work) (o : Option CronStatus) → Shape s w (status_where s w seat.key work o).state
+  status_where_shape : (work : Work) (o : Option CronStatus) → Shape s w (status_where s w sync.key work o).state
   status_where_shape work None = same refl
   status_where_shape work (Some status) = sets_shape work status work.plan.cron
 
   -- A SetStatus has one of the shapes, in each phase; it changes nothing in all but Works.
-  status_shape : (p : Phase) → Shape s w (status_in s w seat.key p).state
+  status_shape : (p : Phase) → Shape s w (status_in s w sync.key p).state
   status_shape Held = same refl
   status_shape (Seen c) = same refl
   status_shape (Listed c js) = same refl
   status_shape (Checked c js ks) = same refl
   status_shape (Works work) = status_where_shape work (as_status (step_at work.plan.steps work.place))
 
-  -- For finish_shape: a Finish in the phase Works ends the seat if no step is left, or is refused.
-  work_shape : (work : Work) (b : Bool) → Shape s w (finish_work s w seat.key work b).state
-  work_shape work true = left_it seat _ at (ok_ends s.queue seat.key (next_ms work.plan.steps.next)) refl
+  -- For finish_shape: a Finish in the phase Works ends the sync if no step is left, or is refused.
+  work_shape : (work : Work) (b : Bool) → Shape s w (finish_work s w sync.key work b).state
+  work_shape work true = left_it sync _ at (ok_ends s.queue sync.key (next_ms work.plan.steps.next)) refl
   work_shape work false = same refl
 
-  -- A Finish has one of the shapes, in each phase: it ends the seat or changes nothing.
-  finish_shape : (end : End) (p : Phase) → Shape s w (finish_in s w end seat.key p).state
-  finish_shape (Again now) p = left_it seat _ at (retry_ends s.queue seat.key now) refl
+  -- A Finish has one of the shapes, in each phase: it ends the sync or changes nothing.
+  finish_shape : (end : End) (p : Phase) → Shape s w (finish_in s w end sync.key p).state
+  finish_shape (Again now) p = left_it sync _ at (retry_ends s.queue sync.key now) refl
   finish_shape Well Held = same refl
   finish_shape Well (Seen c) = same refl
   finish_shape Well (Listed c js) = same refl
@@ -247,16 +248,16 @@ module _ (s : State) (w : ℕ) (seat : Seat) (at : seat_of s w ≡ Some seat) wh
 -- Whatever call a worker makes, the call has one of the shapes.
 worker_shape : (s : State) (w : ℕ) (call : Call) → Shape s w (by_worker s w call).state
 unfolding take see_cron see_jobs see_active claim drop_next make_next set_status finish
-worker_shape s w Of.Take = take_shape s w (seat_of s w) refl
-worker_shape s w Of.SeeCron = seat_shape s w _ (seat_of s w) refl (λ seat at. cron_shape s w seat at seat.phase)
-worker_shape s w Of.SeeJobs = seat_shape s w _ (seat_of s w) refl (λ seat at. jobs_shape s w seat at seat.phase)
-worker_shape s w Of.SeeActive = seat_shape s w _ (seat_of s w) refl (λ seat at. active_shape s w seat at seat.phase)
-worker_shape s w (Of.Claim p) = seat_shape s w _ (seat_of s w) refl (λ seat at. claim_shape s w seat at p seat.phase)
-worker_shape s w Of.DropNext = seat_shape s w _ (seat_of s w) refl (λ seat at. drop_shape s w seat at seat.phase)
-worker_shape s w Of.MakeNext = seat_shape s w _ (seat_of s w) refl (λ seat at. make_shape s w seat at seat.phase)
-worker_shape s w Of.SetStatus = seat_shape s w _ (seat_of s w) refl (λ seat at. status_shape s w seat at seat.phase)
-worker_shape s w (Of.Finish end rs) = seat_shape s w _ (seat_of s w) refl
-    (λ seat at. finish_shape s w seat at end seat.phase)
+worker_shape s w Of.Take = take_shape s w (sync_of s w) refl
+worker_shape s w Of.SeeCron = sync_shape s w _ (sync_of s w) refl (λ sync at. cron_shape s w sync at sync.phase)
+worker_shape s w Of.SeeJobs = sync_shape s w _ (sync_of s w) refl (λ sync at. jobs_shape s w sync at sync.phase)
+worker_shape s w Of.SeeActive = sync_shape s w _ (sync_of s w) refl (λ sync at. active_shape s w sync at sync.phase)
+worker_shape s w (Of.Claim p) = sync_shape s w _ (sync_of s w) refl (λ sync at. claim_shape s w sync at p sync.phase)
+worker_shape s w Of.DropNext = sync_shape s w _ (sync_of s w) refl (λ sync at. drop_shape s w sync at sync.phase)
+worker_shape s w Of.MakeNext = sync_shape s w _ (sync_of s w) refl (λ sync at. make_shape s w sync at sync.phase)
+worker_shape s w Of.SetStatus = sync_shape s w _ (sync_of s w) refl (λ sync at. status_shape s w sync at sync.phase)
+worker_shape s w (Of.Finish end rs) = sync_shape s w _ (sync_of s w) refl
+    (λ sync at. finish_shape s w sync at end sync.phase)
 worker_shape s w call = same refl
 
 -- A write by one who holds no key stores its event, which has the next version, or changes nothing.

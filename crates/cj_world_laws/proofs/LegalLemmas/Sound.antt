@@ -13,9 +13,9 @@ use Rattle.cj_store.specs.Content.{Content}
 use Rattle.cj_store.specs.Change.{after}
 use Rattle.cj_queue.specs.Queue.{Keys, has, Row, row_add, row_end}
 use Rattle.cj_calls.specs.Rows.{Told}
-use Rattle.cj_state.specs.declared.phases.seat.Phase.{Phase}
-use Rattle.cj_state.specs.declared.phases.seat.Phase.TheVariants.{Held}
-use Rattle.cj_state.specs.declared.phases.seat.Seat.{Seat}
+use Rattle.cj_state.specs.declared.phases.sync.Phase.{Phase}
+use Rattle.cj_state.specs.declared.phases.sync.Phase.TheVariants.{Held}
+use Rattle.cj_state.specs.declared.phases.sync.InFlight.{InFlight}
 use Rattle.cj_state.specs.declared.state.State.{State}
 use Rattle.cj_state.specs.Sound.{IsSound}
 use Rattle.cj_state.specs.Legal.{state_of}
@@ -23,98 +23,100 @@ use Rattle.cj_world_laws.proofs.LegalLemmas.Shapes.{Shape, same, sat, wrote_it, 
 use Rattle.cj_world_laws.proofs.LegalLemmas.Follows.{Follows, told_of, follows_start, follows_shape}
 use Rattle.cj_world_laws.proofs.LegalLemmas.Rows.{RowOk, put_has, put_keeps, removal_other, add_ok, adds_ok, end_ok, take_ok, add_works, adds_works, take_works, first_free}
 
--- ---- seats by number
+-- ---- syncs by number
 
 -- Numbers that the order's test takes for equal are equal.
 one_number : (q k : ℕ) → eq_by_cmp nat_cmp q k ≡ true → q ≡ k
 one_number q k e = grind (arith, nat_tests)
 
--- For put_seat: by the test of the numbers, a seat is the one put or the one there before.
-put_case : (t : Bool) (q k : ℕ) (v : Seat) (old : Option Seat) → (t ≡ true → q ≡ k)
+-- For put_sync: by the test of the numbers, a sync is the one put or the one there before.
+put_case : (t : Bool) (q k : ℕ) (v : InFlight) (old : Option InFlight) → (t ≡ true → q ≡ k)
     → ((q ≡ k) × (cond t (Some v) old ≡ Some v)) ⊎ (cond t (Some v) old ≡ old)
 put_case true q k v old h = inl (h refl, refl)
 put_case false q k v old h = inr refl
 
--- For removal_seat: by the test of the numbers, a seat is gone or the one there before.
-removal_case : (t : Bool) (q k : ℕ) (old : Option Seat) → (t ≡ true → q ≡ k)
+-- For removal_sync: by the test of the numbers, a sync is gone or the one there before.
+removal_case : (t : Bool) (q k : ℕ) (old : Option InFlight) → (t ≡ true → q ≡ k)
     → ((q ≡ k) × (cond t None old ≡ None)) ⊎ (cond t None old ≡ old)
 removal_case true q k old h = inl (h refl, refl)
 removal_case false q k old h = inr refl
 
-module _ (m : map.FinMap nat_cmp Seat) (k : ℕ) where
-  -- After a seat is put at a number, a number is that one and has the seat, or has what it had.
-  put_seat : (v : Seat) (q : ℕ) → ((q ≡ k) × (map.get (map.insert m k v) q ≡ Some v))
+module _ (m : map.FinMap nat_cmp InFlight) (k : ℕ) where
+  -- After a sync is put at a number, a number is that one and has the sync, or has what it had.
+  put_sync : (v : InFlight) (q : ℕ) → ((q ≡ k) × (map.get (map.insert m k v) q ≡ Some v))
       ⊎ (map.get (map.insert m k v) q ≡ map.get m q)
-  put_seat v q = rw (map.get-insert nat_cmp_total m k v q)
+  put_sync v q = rw (map.get-insert nat_cmp_total m k v q)
       (put_case (eq_by_cmp nat_cmp q k) q k v (map.get m q) (one_number q k))
 
-  -- After a seat is removed, a number is the one it was at and has none, or has what it had.
-  removal_seat : (q : ℕ) → ((q ≡ k) × (map.get (map.remove m k) q ≡ None)) ⊎ (map.get (map.remove m k) q ≡ map.get m q)
-  removal_seat q = rw (map.get-remove nat_cmp_total m k q)
+  -- After a sync is removed, a number is the one it was at and has none, or has what it had.
+  removal_sync : (q : ℕ) → ((q ≡ k) × (map.get (map.remove m k) q ≡ None)) ⊎ (map.get (map.remove m k) q ≡ map.get m q)
+  removal_sync q = rw (map.get-remove nat_cmp_total m k q)
       (removal_case (eq_by_cmp nat_cmp q k) q k (map.get m q) (one_number q k))
 
 -- Two values that equal options have are equal.
 the_same : {X : Type 0} (a b : X) (o p : Option X) → o ≡ Some a → p ≡ Some b → o ≡ p → a ≡ b
 the_same a b o p e f g = cc
 
--- ---- who works on what: each seat's key is worked on, and no two seats have one key
-pub record Sat (m : map.FinMap nat_cmp Seat) (works : Keys) : Type 0 where
-  pub held : (w : ℕ) (a : Seat) → map.get m w ≡ Some a → has works a.key ≡ true
-  pub single : (v w : ℕ) (a b : Seat) → map.get m v ≡ Some a → map.get m w ≡ Some b → a.key ≡ b.key → v ≡ w
+-- ---- who works on what: each sync's key is worked on, and no two syncs have one key
+pub record Sat (m : map.FinMap nat_cmp InFlight) (works : Keys) : Type 0 where
+  pub held : (w : ℕ) (a : InFlight) → map.get m w ≡ Some a → has works a.key ≡ true
+  pub single : (v w : ℕ) (a b : InFlight) → map.get m v ≡ Some a → map.get m w ≡ Some b → a.key ≡ b.key → v ≡ w
 
--- each seat of the one has a seat of the other under its number, with its key
-abbrev Within : map.FinMap nat_cmp Seat → map.FinMap nat_cmp Seat → Type 0
-Within m n = (w : ℕ) (a : Seat) → map.get n w ≡ Some a → (b : Seat) × (map.get m w ≡ Some b) × (a.key ≡ b.key)
+-- each sync of the one has a sync of the other under its number, with its key
+abbrev Within : map.FinMap nat_cmp InFlight → map.FinMap nat_cmp InFlight → Type 0
+Within m n = (w : ℕ) (a : InFlight) → map.get n w ≡ Some a → (b : InFlight) × (map.get m w ≡ Some b) × (a.key ≡ b.key)
 
--- Where each seat has its number and key from seats as Sat says, the seats are as Sat says too.
-within_sat : (m n : map.FinMap nat_cmp Seat) (works : Keys) → Within m n → Sat m works → Sat n works
+-- Where each sync has its number and key from syncs as Sat says, the syncs are as Sat says too.
+within_sat : (m n : map.FinMap nat_cmp InFlight) (works : Keys) → Within m n → Sat m works → Sat n works
 within_sat m n works h s = record {
   held = λ w a e. let f = h w a e in ap (has works) f.2 ∙ s.held w f.0 f.1;
   single = λ v w a b e f k. let g = h v a e in let i = h w b f in s.single v w g.0 i.0 g.1 i.1 (sym g.2 ∙ k ∙ i.2);
 }
 
--- A seat with another phase has its number and key still, and the other seats stay.
-again : (m : map.FinMap nat_cmp Seat) (w : ℕ) (seat : Seat) (p : Phase) → map.get m w ≡ Some seat
-    → Within m (map.insert m w (record { key = seat.key; phase = p }))
-again m w seat p at v a e =
+-- A sync with another phase has its number and key still, and the other syncs stay.
+again : (m : map.FinMap nat_cmp InFlight) (w : ℕ) (sync : InFlight) (p : Phase) → map.get m w ≡ Some sync
+    → Within m (map.insert m w (record { key = sync.key; phase = p }))
+again m w sync p at v a e =
     ⊎_elim
-    (λ (i : (v ≡ w) × (map.get (map.insert m w (record { key = seat.key; phase = p })) v
-    ≡ Some (record { key = seat.key; phase = p }))).
-    (seat, ap (map.get m) i.0 ∙ at, ap (λ x. x.key) (the_same a (record { key = seat.key; phase = p }) _ _ e i.1 refl)))
-    (λ (i : map.get (map.insert m w (record { key = seat.key; phase = p })) v ≡ map.get m v). (a, sym i ∙ e, refl))
-    (put_seat m w (record { key = seat.key; phase = p }) v)
+    (λ (i : (v ≡ w) × (map.get (map.insert m w (record { key = sync.key; phase = p })) v
+    ≡ Some (record { key = sync.key; phase = p }))).
+    (sync, ap (map.get m) i.0 ∙ at, ap (λ x. x.key) (the_same a (record { key = sync.key; phase = p }) _ _ e i.1 refl)))
+    (λ (i : map.get (map.insert m w (record { key = sync.key; phase = p })) v ≡ map.get m v). (a, sym i ∙ e, refl))
+    (put_sync m w (record { key = sync.key; phase = p }) v)
 
--- With another phase of a seat, each key held is still worked on, and held by one worker.
-sat_again : (m : map.FinMap nat_cmp Seat) (works : Keys) (w : ℕ) (seat : Seat) (p : Phase) → map.get m w ≡ Some seat
-    → Sat m works → Sat (map.insert m w (record { key = seat.key; phase = p })) works
-sat_again m works w seat p at s = within_sat m _ works (again m w seat p at) s
+-- With another phase of a sync, each key held is still worked on, and held by one worker.
+sat_again : (m : map.FinMap nat_cmp InFlight) (works : Keys) (w : ℕ) (sync : InFlight) (p : Phase) → map.get m w
+    ≡ Some sync
+    → Sat m works → Sat (map.insert m w (record { key = sync.key; phase = p })) works
+sat_again m works w sync p at s = within_sat m _ works (again m w sync p at) s
 
 -- a take
-module _ (m : map.FinMap nat_cmp Seat) (works : Keys) (w : ℕ) (k : Place) (free : has works k ≡ false) (s : Sat m works) where
-  -- The seats after the take.
-  New : map.FinMap nat_cmp Seat
+module _ (m : map.FinMap nat_cmp InFlight) (works : Keys) (w : ℕ) (k : Place) (free : has works k ≡ false)
+    (s : Sat m works) where
+  -- The syncs after the take.
+  New : map.FinMap nat_cmp InFlight
   New = map.insert m w (record { key = k; phase = Held })
 
-  abbrev Is : ℕ → Seat → Type 0
+  abbrev Is : ℕ → InFlight → Type 0
   Is v a = ((v ≡ w) × (a.key ≡ k)) ⊎ (map.get m v ≡ Some a)
 
-  -- After the take each seat is the taker's, with the key taken, or was there before.
-  who : (v : ℕ) (a : Seat) → map.get (map.insert m w (record { key = k; phase = Held })) v ≡ Some a → Is v a
+  -- After the take each sync is the taker's, with the key taken, or was there before.
+  who : (v : ℕ) (a : InFlight) → map.get (map.insert m w (record { key = k; phase = Held })) v ≡ Some a → Is v a
   who v a e =
       ⊎_elim
       (λ (i : (v ≡ w) × (map.get (map.insert m w (record { key = k; phase = Held })) v
       ≡ Some (record { key = k; phase = Held }))).
       inl (i.0, ap (λ x. x.key) (the_same a (record { key = k; phase = Held }) _ _ e i.1 refl)))
       (λ (i : map.get (map.insert m w (record { key = k; phase = Held })) v ≡ map.get m v). inr (sym i ∙ e))
-      (put_seat m w (record { key = k; phase = Held }) v)
+      (put_sync m w (record { key = k; phase = Held }) v)
 
-  -- For sat_take: each such seat's key is worked on, with the key taken among those worked on.
-  held_new : (v : ℕ) (a : Seat) → Is v a → has (map.insert works k tt) a.key ≡ true
+  -- For sat_take: each such sync's key is worked on, with the key taken among those worked on.
+  held_new : (v : ℕ) (a : InFlight) → Is v a → has (map.insert works k tt) a.key ≡ true
   held_new v a (inl i) = ap (has (map.insert works k tt)) i.1 ∙ put_has works k
   held_new v a (inr i) = put_keeps works k a.key (s.held v a i)
 
-  -- For sat_take: no two such seats have one key, as nobody worked on the key taken.
-  single_new : (u v : ℕ) (a b : Seat) → Is u a → Is v b → a.key ≡ b.key → u ≡ v
+  -- For sat_take: no two such syncs have one key, as nobody worked on the key taken.
+  single_new : (u v : ℕ) (a b : InFlight) → Is u a → Is v b → a.key ≡ b.key → u ≡ v
   single_new u v a b (inl i) (inl j) e = i.0 ∙ sym j.0
   single_new u v a b (inl i) (inr j) e = absurd (cc (s.held v b j, free, ap (has works) (sym e ∙ i.1)))
   single_new u v a b (inr i) (inl j) e = absurd (cc (s.held u a i, free, ap (has works) (e ∙ j.1)))
@@ -128,31 +130,32 @@ module _ (m : map.FinMap nat_cmp Seat) (works : Keys) (w : ℕ) (k : Place) (fre
   }
 
 -- an end
-module _ (m : map.FinMap nat_cmp Seat) (works : Keys) (w : ℕ) (seat : Seat) (at : map.get m w ≡ Some seat) (s : Sat m works) where
-  -- After the end its worker has no seat.
+module _ (m : map.FinMap nat_cmp InFlight) (works : Keys) (w : ℕ) (sync : InFlight) (at : map.get m w ≡ Some sync)
+    (s : Sat m works) where
+  -- After the end its worker has no sync.
   none_left : map.get (map.remove m w) w ≡ None
   none_left = map.get-remove nat_cmp_total m w w ∙ ap (λ t. cond t None (map.get m w))
       ((eq_by_cmp_equiv nat_cmp_total).refl w)
 
-  -- Each seat that is there after the end was there before.
-  stays : (v : ℕ) (a : Seat) → map.get (map.remove m w) v ≡ Some a → map.get m v ≡ Some a
+  -- Each sync that is there after the end was there before.
+  stays : (v : ℕ) (a : InFlight) → map.get (map.remove m w) v ≡ Some a → map.get m v ≡ Some a
   stays v a e =
       ⊎_elim
       (λ (i : (v ≡ w) × (map.get (map.remove m w) v ≡ None)). absurd (cc (e, i.1)))
       (λ (i : map.get (map.remove m w) v ≡ map.get m v). sym i ∙ e)
-      (removal_seat m w v)
+      (removal_sync m w v)
 
-  -- Each seat that is there after the end has another key than the one that was left.
-  other : (v : ℕ) (a : Seat) → map.get (map.remove m w) v ≡ Some a → a.key ≢ seat.key
+  -- Each sync that is there after the end has another key than the one that was left.
+  other : (v : ℕ) (a : InFlight) → map.get (map.remove m w) v ≡ Some a → a.key ≢ sync.key
   other v a e j =
-      let n : v ≡ w = s.single v w a seat (stays v a e) at j in
+      let n : v ≡ w = s.single v w a sync (stays v a e) at j in
       let o : map.get (map.remove m w) v ≡ None = ap (map.get (map.remove m w)) n ∙ none_left in
       cc (e, o)
 
   -- After the end each key held is worked on, and held by one worker.
-  sat_end : Sat (map.remove m w) (map.remove works seat.key)
+  sat_end : Sat (map.remove m w) (map.remove works sync.key)
   sat_end = record {
-    held = λ v a e. removal_other works seat.key a.key (other v a e) ∙ s.held v a (stays v a e);
+    held = λ v a e. removal_other works sync.key a.key (other v a e) ∙ s.held v a (stays v a e);
     single = λ u v a b e f i. s.single u v a b (stays u a e) (stays v b f) i;
   }
 
@@ -160,7 +163,7 @@ module _ (m : map.FinMap nat_cmp Seat) (works : Keys) (w : ℕ) (seat : Seat) (a
 pub record Whole (s : State) : Type 0 where
   pub counted : s.watch.count ≡ s.store.version
   pub row : RowOk s.queue.row
-  pub sat : Sat s.seats s.queue.row.processing
+  pub sat : Sat s.syncs s.queue.row.processing
 
 -- A write adds one to the store's version.
 after_version : (s : Content) (e : Event) → (after s e).version ≡ s.version + 1
@@ -186,28 +189,28 @@ end_works r k p (inr i) = ap (λ x. x.processing) i ∙ add_works (row_end r k) 
 -- A call of any shape keeps what Whole says: the watch's count, the row and who works on what.
 pub whole_shape : (s s' : State) (w : ℕ) → Whole s → Shape s w s' → Whole s'
 whole_shape s s' w h (same e) = subst Whole (sym e) h
-whole_shape s s' w h (sat seat p at e) = subst Whole (sym e) (record {
+whole_shape s s' w h (sat sync p at e) = subst Whole (sym e) (record {
   counted = h.counted;
   row = h.row;
-  sat = sat_again s.seats s.queue.row.processing w seat p at h.sat;
+  sat = sat_again s.syncs s.queue.row.processing w sync p at h.sat;
 })
-whole_shape s s' w h (wrote_it seat p ev at n e) = subst Whole (sym e) (record {
+whole_shape s s' w h (wrote_it sync p ev at n e) = subst Whole (sym e) (record {
   counted = ap (λ n. n + 1) h.counted ∙ sym (after_version s.store ev);
   row = h.row;
-  sat = sat_again s.seats s.queue.row.processing w seat p at h.sat;
+  sat = sat_again s.syncs s.queue.row.processing w sync p at h.sat;
 })
 whole_shape s s' w h (took k n f e) = subst Whole (sym e) (record {
   counted = h.counted;
   row = take_ok s.queue.row h.row;
-  sat = subst (λ (x : Keys). Sat (map.insert s.seats w (record { key = k; phase = Held })) x)
+  sat = subst (λ (x : Keys). Sat (map.insert s.syncs w (record { key = k; phase = Held })) x)
       (sym (take_works s.queue.row k f))
-      (sat_take s.seats s.queue.row.processing w k (first_free s.queue.row k h.row f) h.sat);
+      (sat_take s.syncs s.queue.row.processing w k (first_free s.queue.row k h.row f) h.sat);
 })
-whole_shape s s' w h (left_it seat q at ends e) = subst Whole (sym e) (record {
+whole_shape s s' w h (left_it sync q at ends e) = subst Whole (sym e) (record {
   counted = h.counted;
-  row = end_row s.queue.row seat.key q.row (h.sat.held w seat at) h.row ends;
-  sat = subst (λ (x : Keys). Sat (map.remove s.seats w) x) (sym (end_works s.queue.row seat.key q.row ends))
-      (sat_end s.seats s.queue.row.processing w seat at h.sat);
+  row = end_row s.queue.row sync.key q.row (h.sat.held w sync at) h.row ends;
+  sat = subst (λ (x : Keys). Sat (map.remove s.syncs w) x) (sym (end_works s.queue.row sync.key q.row ends))
+      (sat_end s.syncs s.queue.row.processing w sync at h.sat);
 })
 whole_shape s s' w h (stored ev n e) = subst Whole (sym e) (record {
   counted = ap (λ n. n + 1) h.counted ∙ sym (after_version s.store ev);
@@ -218,17 +221,17 @@ whole_shape s s' w h (listed max e) = subst Whole (sym e) (record { counted = h.
 whole_shape s s' w h (queued q ks i e) = subst Whole (sym e) (record {
   counted = h.counted;
   row = subst RowOk (sym i) (adds_ok s.queue.row ks h.row);
-  sat = subst (λ (x : Keys). Sat s.seats x) (sym (ap (λ (r : Row). r.processing) i ∙ adds_works s.queue.row ks)) h.sat;
+  sat = subst (λ (x : Keys). Sat s.syncs x) (sym (ap (λ (r : Row). r.processing) i ∙ adds_works s.queue.row ks)) h.sat;
 })
 
 -- A call of any shape adds at most one to the store's version.
 pub more_by_one : (s s' : State) (w : ℕ) → Shape s w s' → s'.store.version ≤ s.store.version + 1
 more_by_one s s' w (same e) = let i = ap (λ (x : State). x.store.version) e in omega arith
-more_by_one s s' w (sat seat p at e) = let i = ap (λ (x : State). x.store.version) e in omega arith
-more_by_one s s' w (wrote_it seat p ev at n e) =
+more_by_one s s' w (sat sync p at e) = let i = ap (λ (x : State). x.store.version) e in omega arith
+more_by_one s s' w (wrote_it sync p ev at n e) =
     let i = ap (λ (x : State). x.store.version) e ∙ after_version s.store ev in omega arith
 more_by_one s s' w (took k n f e) = let i = ap (λ (x : State). x.store.version) e in omega arith
-more_by_one s s' w (left_it seat q at ends e) = let i = ap (λ (x : State). x.store.version) e in omega arith
+more_by_one s s' w (left_it sync q at ends e) = let i = ap (λ (x : State). x.store.version) e in omega arith
 more_by_one s s' w (stored ev n e) =
     let i = ap (λ (x : State). x.store.version) e ∙ after_version s.store ev in omega arith
 more_by_one s s' w (listed max e) = let i = ap (λ (x : State). x.store.version) e in omega arith
@@ -237,26 +240,26 @@ more_by_one s s' w (queued q ks i e) = let j = ap (λ (x : State). x.store.versi
 -- A call of any shape leaves the watch's window as it is.
 pub same_window : (s s' : State) (w : ℕ) → Shape s w s' → s'.watch.window ≡ s.watch.window
 same_window s s' w (same e) = ap (λ (x : State). x.watch.window) e
-same_window s s' w (sat seat p at e) = ap (λ (x : State). x.watch.window) e
-same_window s s' w (wrote_it seat p ev at n e) = ap (λ (x : State). x.watch.window) e
+same_window s s' w (sat sync p at e) = ap (λ (x : State). x.watch.window) e
+same_window s s' w (wrote_it sync p ev at n e) = ap (λ (x : State). x.watch.window) e
 same_window s s' w (took k n f e) = ap (λ (x : State). x.watch.window) e
-same_window s s' w (left_it seat q at ends e) = ap (λ (x : State). x.watch.window) e
+same_window s s' w (left_it sync q at ends e) = ap (λ (x : State). x.watch.window) e
 same_window s s' w (stored ev n e) = ap (λ (x : State). x.watch.window) e
 same_window s s' w (listed max e) = ap (λ (x : State). x.watch.window) e
 same_window s s' w (queued q ks i e) = ap (λ (x : State). x.watch.window) e
 
 -- ---- histories
 
--- Among no seats no worker has one.
-no_seat : (w : ℕ) (a : Seat) → map.get {R = nat_cmp} map.empty w ≡ Some a → ⊥
-no_seat w a e = let n = map.get-empty {X = Seat} nat_cmp w in cc (e, n)
+-- Among no syncs no worker has one.
+no_sync : (w : ℕ) (a : InFlight) → map.get {R = nat_cmp} map.empty w ≡ Some a → ⊥
+no_sync w a e = let n = map.get-empty {X = InFlight} nat_cmp w in cc (e, n)
 
 -- After any history the state is as Whole says.
 pub whole_of : (window : ℕ) (h : List Told) → Whole (state_of window h)
 whole_of window [] = record {
   counted = refl;
   row = record { free = tt; wanted = tt; once = tt };
-  sat = record { held = λ w a e. absurd (no_seat w a e); single = λ v w a b e f i. absurd (no_seat v a e) };
+  sat = record { held = λ w a e. absurd (no_sync w a e); single = λ v w a b e f i. absurd (no_sync v a e) };
 }
 whole_of window (e ∷ h) = whole_shape _ _ e.caller.number (whole_of window h)
     (shape (state_of window h) e.caller e.call)

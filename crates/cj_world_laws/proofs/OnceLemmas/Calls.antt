@@ -21,28 +21,28 @@ use Rattle.cj_calls.specs.declared.call.Call.TheVariants as Of
 use Rattle.cj_calls.specs.declared.reply.Reply.{Reply}
 use Rattle.cj_calls.specs.declared.reply.Reply.TheVariants as Say
 use Rattle.cj_state.specs.phases.Steps.{step_at, is_over}
-use Rattle.cj_state.specs.declared.phases.seat.Work.{Work}
-use Rattle.cj_state.specs.declared.phases.seat.Seat.{Seat}
-use Rattle.cj_state.specs.declared.phases.seat.Phase.{Phase}
-use Rattle.cj_state.specs.declared.phases.seat.Phase.TheVariants.{Held, Seen, Listed, Checked, Works}
+use Rattle.cj_state.specs.declared.phases.sync.Work.{Work}
+use Rattle.cj_state.specs.declared.phases.sync.InFlight.{InFlight}
+use Rattle.cj_state.specs.declared.phases.sync.Phase.{Phase}
+use Rattle.cj_state.specs.declared.phases.sync.Phase.TheVariants.{Held, Seen, Listed, Checked, Works}
 use Rattle.cj_state.specs.declared.state.State.{State}
 use Rattle.cj_state.specs.Readings.{listed_of, if_mine, active_job, active_of}
-use Rattle.cj_state.specs.WorkerCalls.{Handled, handled, seat_of, seated, by_seat, take_first, take_by, take, see_cron_in, see_cron, see_jobs_in, see_jobs, see_active_in, see_active, leaves, next_ms, finish_work, finish_in, finish}
+use Rattle.cj_state.specs.WorkerCalls.{Handled, handled, sync_of, with_sync, by_sync, take_first, take_by, take, see_cron_in, see_cron, see_jobs_in, see_jobs, see_active_in, see_active, leaves, next_ms, finish_work, finish_in, finish}
 use Rattle.cj_state.specs.Step.{writes, found_cron, found_job, told_events, by_reader, by_user, by_runner, by_informer}
 use Rattle.cj_decide.specs.laws.Fits.{IsAt, IsHere, IsFoundIn, runs}
 use Rattle.cj_world_laws.specs.once.Once.{Claimed}
 use Rattle.cj_world_laws.proofs.OnceLemmas.Lists.{runs_mine}
-use Rattle.cj_world_laws.proofs.OnceLemmas.Facts.{Homes, SeenFact, CheckedFact, SeatFact, IsLine, Inv}
+use Rattle.cj_world_laws.proofs.OnceLemmas.Facts.{Homes, SeenFact, CheckedFact, SyncFact, IsLine, Inv}
 use Rattle.cj_world_laws.proofs.OnceLemmas.Writes.{Grown, grows_same, create_grows, update_grows, delete_grows, create_job_grows, update_job_grows, delete_job_grows, end_job_grows}
 use Rattle.cj_world_laws.proofs.OnceLemmas.Rows.{Lined, lined_same, lined_added, lined_ticked, lined_ok, lined_retry}
-use Rattle.cj_world_laws.proofs.OnceLemmas.Frames.{Claims, seat, all_grown, row_changed, seat_changed, taken_by, ended_by}
+use Rattle.cj_world_laws.proofs.OnceLemmas.Frames.{Claims, sync, all_grown, row_changed, sync_changed, taken_by, ended_by}
 
 pub record Now (s : State) (ms : List Claimed) (cl : Claims) (home : Homes) : Type 0 where
-  pub inv : Inv home s.store s.queue.row s.seats ms cl
+  pub inv : Inv home s.store s.queue.row s.syncs ms cl
 
 -- a call that claims nothing and makes nothing
 abbrev pub Plain : State → List Claimed → Claims → Handled → Type 0
-Plain s ms cl r = (home : Homes) × Inv home r.state.store r.state.queue.row r.state.seats ms cl
+Plain s ms cl r = (home : Homes) × Inv home r.state.store r.state.queue.row r.state.syncs ms cl
     × (r.state.store.uids ≤ s.store.uids + 1)
 
 module _ {s : State} {ms : List Claimed} {cl : Claims} {home : Homes} where
@@ -56,7 +56,7 @@ module _ {s : State} {ms : List Claimed} {cl : Claims} {home : Homes} where
   write_plain : Now s ms cl home → (say : Event → Reply) (res : Result Event Refusal)
       → ((e : Event) → res ≡ Ok e → Grown home s.store e) → Plain s ms cl (writes s say res)
   write_plain f say (Ok e) g =
-      let h = g e refl in (h.0, all_grown home h.0 s.store (after s.store e) s.queue.row s.seats ms cl f.inv h.1, h.2)
+      let h = g e refl in (h.0, all_grown home h.0 s.store (after s.store e) s.queue.row s.syncs ms cl f.inv h.1, h.2)
   write_plain f say (Err e) g = stays f (Err e)
 
   -- A GetCron keeps the facts, whether the CronJob is there or not.
@@ -101,7 +101,7 @@ module _ {s : State} {ms : List Claimed} {cl : Claims} {home : Homes} where
   -- A call of the queue alone keeps the facts, if the line's facts and what is worked on stay.
   row_plain : Now s ms cl home → (q : Queue) → Lined s.queue.row q.row →
       Plain s ms cl (handled (Ok Say.Done) (record s { queue = q }))
-  row_plain f q l = (home, row_changed home s.store s.queue.row q.row s.seats ms cl f.inv l, omega arith)
+  row_plain f q l = (home, row_changed home s.store s.queue.row q.row s.syncs ms cl f.inv l, omega arith)
 
   -- Whatever call an informer makes, it keeps the facts.
   pub informer_plain : Now s ms cl home → (call : Call) → Plain s ms cl (by_informer s call)
@@ -112,49 +112,50 @@ module _ {s : State} {ms : List Claimed} {cl : Claims} {home : Homes} where
 
   -- ---- Take, Finish
 
-  -- For take_at: who has no seat gets the first key of the line or is refused; the facts stay.
-  take_line : Now s ms cl home → (w : ℕ) → seat_of s w ≡ None → (l : List Place) → s.queue.row.line ≡ l
+  -- For take_at: who has no sync gets the first key of the line or is refused; the facts stay.
+  take_line : Now s ms cl home → (w : ℕ) → sync_of s w ≡ None → (l : List Place) → s.queue.row.line ≡ l
       → Plain s ms cl (take_first s w (first l))
   take_line f w none [] e = stays f (Err OutOfPhase)
   take_line f w none (k ∷ ks) e = (
     home,
-    subst (λ (l : List Place). Inv home s.store (take_in s.queue.row l) (map.insert s.seats w (seat k Held)) ms cl)
+    subst (λ (l : List Place). Inv home s.store (take_in s.queue.row l) (map.insert s.syncs w (sync k Held)) ms cl)
         (sym e)
-        (taken_by home s.store s.queue.row s.seats ms cl w k ks f.inv (subst (IsLine s.queue.row) e f.inv.line) none),
+        (taken_by home s.store s.queue.row s.syncs ms cl w k ks f.inv (subst (IsLine s.queue.row) e f.inv.line) none),
     omega arith,
   )
 
-  -- For take_plain: a Take keeps the facts, whether or not the worker has a seat.
-  take_at : Now s ms cl home → (w : ℕ) (o : Option Seat) → seat_of s w ≡ o → Plain s ms cl (take_by s w o)
+  -- For take_plain: a Take keeps the facts, whether or not the worker has a sync.
+  take_at : Now s ms cl home → (w : ℕ) (o : Option InFlight) → sync_of s w ≡ o → Plain s ms cl (take_by s w o)
   take_at f w None e = take_line f w e s.queue.row.line refl
   take_at f w (Some x) e = stays f (Err OutOfPhase)
 
   -- A Take keeps the facts.
   pub take_plain : Now s ms cl home → (w : ℕ) → Plain s ms cl (take s w)
   unfolding take
-  take_plain f w = take_at f w (seat_of s w) refl
+  take_plain f w = take_at f w (sync_of s w) refl
 
   -- a call of a worker that holds a key
-  pub by_seat_plain : Now s ms cl home → (w : ℕ) (g : Place → Phase → Handled)
-      → ((x : Seat) → seat_of s w ≡ Some x → (p : Phase) → x.phase ≡ p → Plain s ms cl (g x.key p)) → (o : Option Seat)
-      → seat_of s w ≡ o → Plain s ms cl (by_seat s g o)
-  by_seat_plain f w g h None e = stays f (Err OutOfPhase)
-  by_seat_plain f w g h (Some x) e = h x e x.phase refl
+  pub by_sync_plain : Now s ms cl home → (w : ℕ) (g : Place → Phase → Handled)
+      → ((x : InFlight) → sync_of s w ≡ Some x → (p : Phase) → x.phase ≡ p → Plain s ms cl (g x.key p)) →
+      (o : Option InFlight)
+      → sync_of s w ≡ o → Plain s ms cl (by_sync s g o)
+  by_sync_plain f w g h None e = stays f (Err OutOfPhase)
+  by_sync_plain f w g h (Some x) e = h x e x.phase refl
 
-  -- A worker that leaves its seat, with the work on its key ended in the row, keeps the facts.
-  leaves_plain : Now s ms cl home → (w : ℕ) (x : Seat) → seat_of s w ≡ Some x → (q : Queue)
+  -- A worker that leaves its sync, with the work on its key ended in the row, keeps the facts.
+  leaves_plain : Now s ms cl home → (w : ℕ) (x : InFlight) → sync_of s w ≡ Some x → (q : Queue)
       → Lined (row_end s.queue.row x.key) q.row → Plain s ms cl (leaves s w q)
-  leaves_plain f w x at q l = (home, ended_by home s.store s.queue.row q.row s.seats ms cl w x f.inv at l, omega arith)
+  leaves_plain f w x at q l = (home, ended_by home s.store s.queue.row q.row s.syncs ms cl w x f.inv at l, omega arith)
 
   -- For finish_at: a Finish in the phase Works keeps the facts, whether or not all steps are done.
-  finish_work_plain : Now s ms cl home → (w : ℕ) (x : Seat) → seat_of s w ≡ Some x → (work : Work) (b : Bool)
+  finish_work_plain : Now s ms cl home → (w : ℕ) (x : InFlight) → sync_of s w ≡ Some x → (work : Work) (b : Bool)
       → Plain s ms cl (finish_work s w x.key work b)
   finish_work_plain f w x at work true = leaves_plain f w x at
       (finished_ok s.queue x.key (next_ms work.plan.steps.next)) (lined_ok s.queue x.key (next_ms work.plan.steps.next))
   finish_work_plain f w x at work false = stays f (Err OutOfPhase)
 
-  -- For finish_plain: a Finish by a worker with a seat keeps the facts, in each phase.
-  finish_at : Now s ms cl home → (w : ℕ) (end : End) (x : Seat) → seat_of s w ≡ Some x → (p : Phase)
+  -- For finish_plain: a Finish by a worker with a sync keeps the facts, in each phase.
+  finish_at : Now s ms cl home → (w : ℕ) (end : End) (x : InFlight) → sync_of s w ≡ Some x → (p : Phase)
       → Plain s ms cl (finish_in s w end x.key p)
   finish_at f w (Again now) x at p = leaves_plain f w x at (finished_retry s.queue x.key now)
       (lined_retry s.queue x.key now)
@@ -164,24 +165,25 @@ module _ {s : State} {ms : List Claimed} {cl : Claims} {home : Homes} where
   -- A Finish keeps the facts, whether the sync went well or is to be tried again.
   pub finish_plain : Now s ms cl home → (w : ℕ) (end : End) → Plain s ms cl (finish s w end)
   unfolding finish
-  finish_plain f w end = by_seat_plain f w (finish_in s w end) (λ x at p e. finish_at f w end x at p) (seat_of s w) refl
+  finish_plain f w end = by_sync_plain f w (finish_in s w end) (λ x at p e. finish_at f w end x at p) (sync_of s w) refl
 
   -- ---- the three readings
 
   -- A worker that comes to another phase keeps the facts, if those of the new phase hold.
-  pub phased : Now s ms cl home → s.store.uids + 1 ≤ last_uid → (w : ℕ) (x : Seat) → seat_of s w ≡ Some x → (p : Phase)
-      → SeatFact home s.store ms (cl w) x.key p → Plain s ms cl (handled (Ok Say.Done) (seated s w x.key p))
+  pub phased : Now s ms cl home → s.store.uids + 1 ≤ last_uid → (w : ℕ) (x : InFlight) → sync_of s w ≡ Some x →
+      (p : Phase)
+      → SyncFact home s.store ms (cl w) x.key p → Plain s ms cl (handled (Ok Say.Done) (with_sync s w x.key p))
   phased f b w x at p fact = (
     home,
-    seat_changed None home home s.store s.store s.queue.row s.seats ms cl cl w x p f.inv
+    sync_changed None home home s.store s.store s.queue.row s.syncs ms cl cl w x p f.inv
         at (grows_same f.inv.store (omega arith)) (inl refl) (λ v n. refl) fact,
     omega arith,
   )
 
-  -- The facts of a phase hold of each worker whose seat has this phase.
-  pub fact_of : Now s ms cl home → (w : ℕ) (x : Seat) → seat_of s w ≡ Some x → (p : Phase) → x.phase ≡ p
-      → SeatFact home s.store ms (cl w) x.key p
-  fact_of f w x at p e = subst (λ (z : Phase). SeatFact home s.store ms (cl w) x.key z) e (f.inv.facts w x at)
+  -- The facts of a phase hold of each worker whose sync has this phase.
+  pub fact_of : Now s ms cl home → (w : ℕ) (x : InFlight) → sync_of s w ≡ Some x → (p : Phase) → x.phase ≡ p
+      → SyncFact home s.store ms (cl w) x.key p
+  fact_of f w x at p e = subst (λ (z : Phase). SyncFact home s.store ms (cl w) x.key z) e (f.inv.facts w x at)
 
   -- Of the CronJob that stands at a key, if any, the facts of a CronJob seen hold.
   seen_now : Now s ms cl home → (k : Place) (o : Option CronJob) → map.get s.store.crons k ≡ o
@@ -190,7 +192,8 @@ module _ {s : State} {ms : List Claimed} {cl : Claims} {home : Homes} where
   seen_now f k (Some c) e = let g = f.inv.store.crons k c e in record { key = g.key; home_is = g.home_is; uid = g.uid; version = g.version; same = λ d at v. cc (sym at ∙ e); named = g.named }
 
   -- For see_cron_plain: who holds a key sees the CronJob, others are refused; facts stay.
-  see_cron_at : Now s ms cl home → s.store.uids + 1 ≤ last_uid → (w : ℕ) (x : Seat) → seat_of s w ≡ Some x → (p : Phase)
+  see_cron_at : Now s ms cl home → s.store.uids + 1 ≤ last_uid → (w : ℕ) (x : InFlight) → sync_of s w ≡ Some x →
+      (p : Phase)
       → x.phase ≡ p → Plain s ms cl (see_cron_in s w x.key p)
   see_cron_at f b w x at Held e = phased f b w x at (Seen (map.get s.store.crons x.key))
       (seen_now f x.key (map.get s.store.crons x.key) refl)
@@ -199,10 +202,11 @@ module _ {s : State} {ms : List Claimed} {cl : Claims} {home : Homes} where
   -- A SeeCron keeps the facts.
   pub see_cron_plain : Now s ms cl home → s.store.uids + 1 ≤ last_uid → (w : ℕ) → Plain s ms cl (see_cron s w)
   unfolding see_cron
-  see_cron_plain f b w = by_seat_plain f w (see_cron_in s w) (see_cron_at f b w) (seat_of s w) refl
+  see_cron_plain f b w = by_sync_plain f w (see_cron_in s w) (see_cron_at f b w) (sync_of s w) refl
 
   -- For see_jobs_plain: who saw the CronJob sees the Jobs, others are refused; facts stay.
-  see_jobs_at : Now s ms cl home → s.store.uids + 1 ≤ last_uid → (w : ℕ) (x : Seat) → seat_of s w ≡ Some x → (p : Phase)
+  see_jobs_at : Now s ms cl home → s.store.uids + 1 ≤ last_uid → (w : ℕ) (x : InFlight) → sync_of s w ≡ Some x →
+      (p : Phase)
       → x.phase ≡ p → Plain s ms cl (see_jobs_in s w x.key p)
   see_jobs_at f b w x at (Seen c) e = phased f b w x at (Listed c (listed_of s x.key)) (fact_of f w x at (Seen c) e)
   see_jobs_at f b w x at p e = stays f (Err OutOfPhase)
@@ -210,7 +214,7 @@ module _ {s : State} {ms : List Claimed} {cl : Claims} {home : Homes} where
   -- A SeeJobs keeps the facts.
   pub see_jobs_plain : Now s ms cl home → s.store.uids + 1 ≤ last_uid → (w : ℕ) → Plain s ms cl (see_jobs s w)
   unfolding see_jobs
-  see_jobs_plain f b w = by_seat_plain f w (see_jobs_in s w) (see_jobs_at f b w) (seat_of s w) refl
+  see_jobs_plain f b w = by_sync_plain f w (see_jobs_in s w) (see_jobs_at f b w) (sync_of s w) refl
 
 -- the live read finds each unfinished Job that is named
 mine_if : (uid : List ℕ) (j : Job) → is_mine uid j ≡ true → if_mine uid (Some j) ≡ Some j
@@ -258,7 +262,7 @@ module _ {s : State} {ms : List Claimed} {cl : Claims} {home : Homes} where
   }
 
   -- For see_active_plain: who saw the Jobs reads live, others are refused; facts stay.
-  see_active_at : Now s ms cl home → s.store.uids + 1 ≤ last_uid → (w : ℕ) (x : Seat) → seat_of s w ≡ Some x
+  see_active_at : Now s ms cl home → s.store.uids + 1 ≤ last_uid → (w : ℕ) (x : InFlight) → sync_of s w ≡ Some x
       → (p : Phase) → x.phase ≡ p → Plain s ms cl (see_active_in s w x.key p)
   see_active_at f b w x at (Listed c js) e = phased f b w x at (Checked c js (active_of s.store c))
       (checked_now f x.key c (fact_of f w x at (Listed c js) e))
@@ -267,4 +271,4 @@ module _ {s : State} {ms : List Claimed} {cl : Claims} {home : Homes} where
   -- A SeeActive keeps the facts.
   pub see_active_plain : Now s ms cl home → s.store.uids + 1 ≤ last_uid → (w : ℕ) → Plain s ms cl (see_active s w)
   unfolding see_active
-  see_active_plain f b w = by_seat_plain f w (see_active_in s w) (see_active_at f b w) (seat_of s w) refl
+  see_active_plain f b w = by_sync_plain f w (see_active_in s w) (see_active_at f b w) (sync_of s w) refl

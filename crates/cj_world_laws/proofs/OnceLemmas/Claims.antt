@@ -1,5 +1,5 @@
--- The time of each accepted claim is the greatest one missed by the CronJob that is current then: the claim
--- is conditional on the version that its worker saw, so that what it saw is what stands.
+-- The time of each accepted claim is the greatest one missed by the CronJob that is current then:
+-- the claim is conditional on the version that its worker saw, so that what it saw is what stands.
 use Rattle.std.proofs.Common.{◌≡◌, ℕ, ◌≤◌, Bool, true, false, List, [], ◌∷◌, length, Option, None, Some, refl, ap, sym, subst, ◌∙◌, arith}
 use Rattle.std.specs.Prelude.{IfSome, Result, Ok, Err, if◌then◌else◌}
 use Rattle.std.specs.FinMap as map
@@ -26,11 +26,11 @@ use Rattle.cj_calls.specs.declared.call.Call.TheVariants as Of
 use Rattle.cj_calls.specs.declared.reply.Reply.{Reply}
 use Rattle.cj_calls.specs.declared.reply.Reply.TheVariants as Say
 use Rattle.cj_state.specs.phases.Inputs.{rests_on}
-use Rattle.cj_state.specs.declared.phases.seat.Seat.{Seat}
-use Rattle.cj_state.specs.declared.phases.seat.Phase.{Phase}
-use Rattle.cj_state.specs.declared.phases.seat.Phase.TheVariants.{Checked}
+use Rattle.cj_state.specs.declared.phases.sync.InFlight.{InFlight}
+use Rattle.cj_state.specs.declared.phases.sync.Phase.{Phase}
+use Rattle.cj_state.specs.declared.phases.sync.Phase.TheVariants.{Checked}
 use Rattle.cj_state.specs.declared.state.State.{State}
-use Rattle.cj_state.specs.WorkerCalls.{refused, seat_of, by_seat, works, wrote, claims, claim_where, claim_in, claim}
+use Rattle.cj_state.specs.WorkerCalls.{refused, sync_of, by_sync, works, wrote, claims, claim_where, claim_in, claim}
 use Rattle.cj_state.specs.Step.{by_role, step_of}
 use Rattle.cj_state.specs.Legal.{state_of, IsLegal, IsPlanned, ArePlanned}
 use Rattle.cj_world_laws.specs.once.Once.{Claimed}
@@ -105,8 +105,9 @@ seen_of home s k ks None f = tt
 seen_of home s k ks (Some c) f = f.seen
 
 module _ {s : State} {ms : List Claimed} {cl : Claims} {home : Homes} where
-  -- For seat_timely: a time is only claimed in the phase Checked, and is the greatest one missed.
-  phase_timely : Now s ms cl home → (w : ℕ) (p : Planned) (t v : ℕ) → IsDecided p → (x : Seat) → seat_of s w ≡ Some x
+  -- For sync_timely: a time is only claimed in the phase Checked, and is the greatest one missed.
+  phase_timely : Now s ms cl home → (w : ℕ) (p : Planned) (t v : ℕ) → IsDecided p → (x : InFlight) → sync_of s w
+      ≡ Some x
       → (ph : Phase) → x.phase ≡ ph → Says (claim_in s w p x.key ph).answer t v → IsLatestMissed s.store x.key p t
   phase_timely f w p t v d x at (Checked c js ks) e ok = by (rests_on p c js ks) refl ok
     where
@@ -123,17 +124,18 @@ module _ {s : State} {ms : List Claimed} {cl : Claims} {home : Homes} where
           where_timely home s w x.key p t v d mine p.steps.claim refl h
   phase_timely f w p t v d x at ph e ok = not_refused OutOfPhase t v ok
 
-  -- For claim_timely: who claims a time has a seat, and the time is the greatest missed at its key.
-  seat_timely : Now s ms cl home → (w : ℕ) (p : Planned) (t v : ℕ) → IsDecided p → (o : Option Seat) → seat_of s w ≡ o
-      → Says (by_seat s (claim_in s w p) o).answer t v → IsTimely s w p t
-  seat_timely f w p t v d None at ok = not_refused OutOfPhase t v ok
-  seat_timely f w p t v d (Some x) at ok = (x, at, phase_timely f w p t v d x at x.phase refl ok)
+  -- For claim_timely: who claims a time has a sync, and the time is the greatest missed at its key.
+  sync_timely : Now s ms cl home → (w : ℕ) (p : Planned) (t v : ℕ) → IsDecided p → (o : Option InFlight) → sync_of s w
+      ≡ o
+      → Says (by_sync s (claim_in s w p) o).answer t v → IsTimely s w p t
+  sync_timely f w p t v d None at ok = not_refused OutOfPhase t v ok
+  sync_timely f w p t v d (Some x) at ok = (x, at, phase_timely f w p t v d x at x.phase refl ok)
 
   -- A worker's Claim that is answered with a time is of the greatest time missed.
   claim_timely : Now s ms cl home → (w : ℕ) (p : Planned) (t v : ℕ) → IsDecided p → Says (claim s w p).answer t v
       → IsTimely s w p t
   unfolding claim
-  claim_timely f w p t v d ok = seat_timely f w p t v d (seat_of s w) refl ok
+  claim_timely f w p t v d ok = sync_timely f w p t v d (sync_of s w) refl ok
 
   -- For step_timely: so it is for a caller of whatever role, as all but workers are refused.
   role_timely : Now s ms cl home → (role : Role) (w : ℕ) (p : Planned) (t v : ℕ) → IsDecided p

@@ -1,4 +1,4 @@
--- What holds of the store, the queue's row and all seats at once.
+-- What holds of the store, the queue's row and all syncs at once.
 use Rattle.std.proofs.Common.{◌≡◌, ◌⊎◌, ℕ, ◌<◌, ◌≤◌, true, false, List, [], ◌∷◌, Option, Some}
 use Rattle.std.specs.Prelude.{IfSome}
 use Rattle.std.specs.List.{AllByRecursion}
@@ -15,9 +15,9 @@ use Rattle.cj_types.specs.declared.job.JobDraft.{JobDraft}
 use Rattle.cj_store.specs.Content.{Content}
 use Rattle.cj_queue.specs.Queue.{Row, has}
 use Rattle.cj_state.specs.phases.Steps.{Step, makes, sets, left}
-use Rattle.cj_state.specs.declared.phases.seat.Seat.{Seat}
-use Rattle.cj_state.specs.declared.phases.seat.Phase.{Phase}
-use Rattle.cj_state.specs.declared.phases.seat.Phase.TheVariants.{Held, Seen, Listed, Checked, Works}
+use Rattle.cj_state.specs.declared.phases.sync.InFlight.{InFlight}
+use Rattle.cj_state.specs.declared.phases.sync.Phase.{Phase}
+use Rattle.cj_state.specs.declared.phases.sync.Phase.TheVariants.{Held, Seen, Listed, Checked, Works}
 use Rattle.cj_decide.specs.laws.Fits.{IsAt, IsFound, is_strict, upto}
 use Rattle.cj_world_laws.specs.once.Once.{Claimed}
 use Rattle.cj_world_laws.proofs.OnceLemmas.Lists.{IsIn, Before, Ordered, Rest}
@@ -55,7 +55,7 @@ pub record StoreFact (home : Homes) (s : Content) (ms : List Claimed) : Type 0 w
       → IsOwned s o
   pub made : AllByRecursion (λ x. x.owner ≤ s.uids) ms
 
--- of a CronJob that a seat saw
+-- of a CronJob that a sync saw
 pub record SeenFact (home : Homes) (s : Content) (k : Place) (c : CronJob) : Type 0 where
   pub key : c.key ≡ k
   pub home_is : home c.meta.uid ≡ k
@@ -103,12 +103,12 @@ pub record PlanFact (home : Homes) (s : Content) (ms : List Claimed) (claim : Op
   pub status : (c : CronJob) (f : CronStatus) → cron ≡ Some c → IsIn (sets f) rs → StatusFact home s k rs c.meta.uid v f
   pub names : (d : JobDraft) (f : CronStatus) → IsIn (makes d) rs → IsIn (sets f) rs → IsAt k.namespace f.active d.key
 
-abbrev pub SeatFact : Homes → Content → List Claimed → Option Claimed → Place → Phase → Type 0
-SeatFact home s ms claim k Held = Unit {0}
-SeatFact home s ms claim k (Seen c) = IfSome c (SeenFact home s k)
-SeatFact home s ms claim k (Listed c js) = IfSome c (SeenFact home s k)
-SeatFact home s ms claim k (Checked c js fs) = IfSome c (CheckedFact home s k fs)
-SeatFact home s ms claim k (Works work) = PlanFact home s ms claim k work.plan.cron work.version
+abbrev pub SyncFact : Homes → Content → List Claimed → Option Claimed → Place → Phase → Type 0
+SyncFact home s ms claim k Held = Unit {0}
+SyncFact home s ms claim k (Seen c) = IfSome c (SeenFact home s k)
+SyncFact home s ms claim k (Listed c js) = IfSome c (SeenFact home s k)
+SyncFact home s ms claim k (Checked c js fs) = IfSome c (CheckedFact home s k fs)
+SyncFact home s ms claim k (Works work) = PlanFact home s ms claim k work.plan.cron work.version
     (left work.plan.steps work.place)
 
 -- a key of the line is dirty, isn't worked on, and stands there once
@@ -116,10 +116,11 @@ abbrev pub IsLine : Row → List Place → Type 0
 IsLine r [] = Unit {0}
 IsLine r (k ∷ ks) = (has r.dirty k ≡ true) × (has r.processing k ≡ false) × (IsIn k ks → ⊥) × IsLine r ks
 
-pub record Inv (home : Homes) (s : Content) (row : Row) (seats : map.FinMap nat_cmp Seat) (ms : List
+pub record Inv (home : Homes) (s : Content) (row : Row) (syncs : map.FinMap nat_cmp InFlight) (ms : List
     Claimed) (claims : ℕ → Option Claimed) : Type 0 where
   pub store : StoreFact home s ms
   pub line : IsLine row row.line
-  pub held : (w : ℕ) (seat : Seat) → map.get seats w ≡ Some seat → has row.processing seat.key ≡ true
-  pub apart : (v w : ℕ) (a b : Seat) → map.get seats v ≡ Some a → map.get seats w ≡ Some b → a.key ≡ b.key → v ≡ w
-  pub facts : (w : ℕ) (seat : Seat) → map.get seats w ≡ Some seat → SeatFact home s ms (claims w) seat.key seat.phase
+  pub held : (w : ℕ) (sync : InFlight) → map.get syncs w ≡ Some sync → has row.processing sync.key ≡ true
+  pub apart : (v w : ℕ) (a b : InFlight) → map.get syncs v ≡ Some a → map.get syncs w ≡ Some b → a.key ≡ b.key → v ≡ w
+  pub facts : (w : ℕ) (sync : InFlight) → map.get syncs w ≡ Some sync → SyncFact home s ms
+      (claims w) sync.key sync.phase

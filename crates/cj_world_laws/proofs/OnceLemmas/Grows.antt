@@ -13,17 +13,18 @@ use Rattle.cj_types.specs.declared.job.Job.{Job}
 use Rattle.cj_types.specs.declared.job.JobDraft.{JobDraft}
 use Rattle.cj_store.specs.Content.{Content}
 use Rattle.cj_state.specs.phases.Steps.{Step, left}
-use Rattle.cj_state.specs.declared.phases.seat.Phase.{Phase}
-use Rattle.cj_state.specs.declared.phases.seat.Phase.TheVariants.{Held, Seen, Listed, Checked, Works}
+use Rattle.cj_state.specs.declared.phases.sync.Phase.{Phase}
+use Rattle.cj_state.specs.declared.phases.sync.Phase.TheVariants.{Held, Seen, Listed, Checked, Works}
 use Rattle.cj_decide.specs.laws.Fits.{IsAt, runs, upto}
 use Rattle.cj_world_laws.specs.once.Once.{Claimed}
 use Rattle.cj_world_laws.proofs.OnceLemmas.Lists.{Rest, weaker, runs_was, runs_free, runs_owned}
-use Rattle.cj_world_laws.proofs.OnceLemmas.Facts.{Homes, Named, CronFact, IsOwned, StoreFact, SeenFact, CheckedFact, MakeFact, StatusFact, PlanFact, SeatFact}
+use Rattle.cj_world_laws.proofs.OnceLemmas.Facts.{Homes, Named, CronFact, IsOwned, StoreFact, SeenFact, CheckedFact, MakeFact, StatusFact, PlanFact, SyncFact}
 
 abbrev pub last_of : CronJob → ℕ
 last_of c = upto c.status.last_schedule_time
 
--- a CronJob that stood before, of a time that is not later; only at the caller's own key its active names may differ
+-- a CronJob that stood before, of a time that is not later; only at the caller's own key its active
+-- names may differ
 pub record IsOlder (own : Option Place) (s t : Content) (k : Place) (d c : CronJob) : Type 0 where
   pub was : map.get s.crons k ≡ Some c
   pub key : d.key ≡ c.key
@@ -185,15 +186,15 @@ module _ {own : Option Place} {home home' : Homes} {s t : Content} where
     names = f.names;
   }
 
-  -- The facts of a seat hold in each phase when the store has grown by a call not of its key.
-  pub seat_kept : Grows own home home' s t → (ms : List Claimed) (cl : Option Claimed) (k : Place) → own ≢ Some k
-      → (p : Phase) → SeatFact home s ms cl k p → SeatFact home' t ms cl k p
-  seat_kept g ms cl k n Held f = tt
-  seat_kept g ms cl k n (Seen c) f = if_kept (SeenFact home s k) (SeenFact home' t k) (seen_kept g k) c f
-  seat_kept g ms cl k n (Listed c js) f = if_kept (SeenFact home s k) (SeenFact home' t k) (seen_kept g k) c f
-  seat_kept g ms cl k n (Checked c js fs) f = if_kept (CheckedFact home s k fs) (CheckedFact home' t k fs)
+  -- The facts of a sync hold in each phase when the store has grown by a call not of its key.
+  pub sync_kept : Grows own home home' s t → (ms : List Claimed) (cl : Option Claimed) (k : Place) → own ≢ Some k
+      → (p : Phase) → SyncFact home s ms cl k p → SyncFact home' t ms cl k p
+  sync_kept g ms cl k n Held f = tt
+  sync_kept g ms cl k n (Seen c) f = if_kept (SeenFact home s k) (SeenFact home' t k) (seen_kept g k) c f
+  sync_kept g ms cl k n (Listed c js) f = if_kept (SeenFact home s k) (SeenFact home' t k) (seen_kept g k) c f
+  sync_kept g ms cl k n (Checked c js fs) f = if_kept (CheckedFact home s k fs) (CheckedFact home' t k fs)
       (checked_kept g k fs) c f
-  seat_kept g ms cl k n (Works work) f = plan_kept g ms cl k n work.plan.cron work.version
+  sync_kept g ms cl k n (Works work) f = plan_kept g ms cl k n work.plan.cron work.version
       (left work.plan.steps work.place) f
 
   -- the store's facts
@@ -211,7 +212,8 @@ module _ {own : Option Place} {home home' : Homes} {s t : Content} where
       }
     where
       top : (d ≡ o.0) ⊎ ((s.version < d.meta.version) × (d.meta.version ≤ t.version)) → d.meta.version ≤ t.version
-      top (inl same) = let x = (f.crons k o.0 o.1.was).version in let y = g.version in let z = ap (λ (x : CronJob). x.meta.version) same in omega arith
+      top (inl same) = let x = (f.crons k o.0 o.1.was).version in let y = g.version in let z
+          = ap (λ (x : CronJob). x.meta.version) same in omega arith
       top (inr v) = v.1
   cron_at g ms f k d (inr n) = record {
     key = n.key;

@@ -19,17 +19,17 @@ use Rattle.cj_store.specs.Content.{Content}
 use Rattle.cj_store.specs.Change.{after, map_ok, job_added}
 use Rattle.cj_store.specs.Jobs.{job_made, new_job}
 use Rattle.cj_state.specs.phases.Steps.{Step, drops, makes, sets, step_at, left, as_make}
-use Rattle.cj_state.specs.declared.phases.seat.Work.{Work}
-use Rattle.cj_state.specs.declared.phases.seat.Seat.{Seat}
-use Rattle.cj_state.specs.declared.phases.seat.Phase.{Phase}
-use Rattle.cj_state.specs.declared.phases.seat.Phase.TheVariants.{Held, Seen, Listed, Checked, Works}
+use Rattle.cj_state.specs.declared.phases.sync.Work.{Work}
+use Rattle.cj_state.specs.declared.phases.sync.InFlight.{InFlight}
+use Rattle.cj_state.specs.declared.phases.sync.Phase.{Phase}
+use Rattle.cj_state.specs.declared.phases.sync.Phase.TheVariants.{Held, Seen, Listed, Checked, Works}
 use Rattle.cj_state.specs.declared.state.State.{State}
-use Rattle.cj_state.specs.WorkerCalls.{Handled, refused, seat_of, by_seat, next_seat, steps_on, event_reply, make_where, make_in, make_next}
+use Rattle.cj_state.specs.WorkerCalls.{Handled, refused, sync_of, by_sync, next_sync, steps_on, event_reply, make_where, make_in, make_next}
 use Rattle.cj_decide.specs.laws.Fits.{IsAt, runs, upto, is_strict}
 use Rattle.cj_world_laws.specs.once.Once.{Claimed, is_ok, with_made}
-use Rattle.cj_world_laws.proofs.OnceLemmas.Maps.{put_at, seat_put}
+use Rattle.cj_world_laws.proofs.OnceLemmas.Maps.{put_at, sync_put}
 use Rattle.cj_world_laws.proofs.OnceLemmas.Lists.{none_made, Rest, runs_owned, weaker}
-use Rattle.cj_world_laws.proofs.OnceLemmas.Facts.{Homes, CronFact, IsOwned, StoreFact, SeenFact, CheckedFact, MakeFact, StatusFact, SeatFact, Inv}
+use Rattle.cj_world_laws.proofs.OnceLemmas.Facts.{Homes, CronFact, IsOwned, StoreFact, SeenFact, CheckedFact, MakeFact, StatusFact, SyncFact, Inv}
 use Rattle.cj_world_laws.proofs.OnceLemmas.Grows.{if_kept}
 use Rattle.cj_world_laws.proofs.OnceLemmas.Writes.{mapped, made_is}
 use Rattle.cj_world_laws.proofs.OnceLemmas.Frames.{Claims}
@@ -121,20 +121,21 @@ module _ {home : Homes} {s : Content} {k : Place} {m : Claimed} {j : Job} where
         text = f.text;
       }
 
-  -- The facts of a seat with another key stay, in each phase, when a Job is made.
-  seat_other : Making home s k m j → (ms : List Claimed) (cl : Option Claimed) (i : Place) (p : Phase) → i ≢ k
-      → SeatFact home s ms cl i p → SeatFact home (after s (job_added j)) (m ∷ ms) cl i p
-  seat_other g ms cl i Held n f = tt
-  seat_other g ms cl i (Seen c) n f = if_kept (SeenFact home s i) (SeenFact home (after s (job_added j)) i)
+  -- The facts of a sync with another key stay, in each phase, when a Job is made.
+  sync_other : Making home s k m j → (ms : List Claimed) (cl : Option Claimed) (i : Place) (p : Phase) → i ≢ k
+      → SyncFact home s ms cl i p → SyncFact home (after s (job_added j)) (m ∷ ms) cl i p
+  sync_other g ms cl i Held n f = tt
+  sync_other g ms cl i (Seen c) n f = if_kept (SeenFact home s i) (SeenFact home (after s (job_added j)) i)
       (λ d. seen_other g i d n) c f
-  seat_other g ms cl i (Listed c js) n f = if_kept (SeenFact home s i) (SeenFact home (after s (job_added j)) i)
+  sync_other g ms cl i (Listed c js) n f = if_kept (SeenFact home s i) (SeenFact home (after s (job_added j)) i)
       (λ d. seen_other g i d n) c f
-  seat_other g ms cl i (Checked c js fs) n f = if_kept (CheckedFact home s i fs)
+  sync_other g ms cl i (Checked c js fs) n f = if_kept (CheckedFact home s i fs)
       (CheckedFact home (after s (job_added j)) i fs) (λ d. checked_other g i fs d n) c f
-  seat_other g ms cl i (Works work) n f = record {
+  sync_other g ms cl i (Works work) n f = record {
     ordered = f.ordered;
     make = λ d h. make_other g ms cl i (left work.plan.steps work.place) d n (f.make d h);
-    status = λ c x e h. let y = f.status c x e h in status_made g i (left work.plan.steps work.place) c.meta.uid work.version x (λ o. absurd (apart g c.meta.uid i y.home_is n o)) y;
+    status = λ c x e h. let y = f.status c x e h in status_made g i (left work.plan.steps work.place) c.meta.uid
+        work.version x (λ o. absurd (apart g c.meta.uid i y.home_is n o)) y;
     names = f.names;
   }
 
@@ -181,7 +182,8 @@ module _ {home : Homes} {s : Content} {k : Place} {m : Claimed} {j : Job} where
             known = (let l = g.uid in omega arith);
             text = ap (λ (z : OwnerRef). z.uid) (sym same) ∙ g.text;
           }
-      owned q i o e (inr h) = let is = f.owned q i o h.1 e in record { owner = is.owner; known = (let l = is.known in omega arith); text = is.text }
+      owned q i o e (inr h) = let is = f.owned q i o h.1 e in record
+          { owner = is.owner; known = (let l = is.known in omega arith); text = is.text }
 
 -- A next step that makes a draft is the making of this draft.
 make_is : (o : Option Step) (d : JobDraft) → as_make o ≡ Some d → o ≡ Some (makes d)
@@ -191,7 +193,7 @@ make_is (Some (makes x)) d e = let h : x ≡ d = cc e in ap (λ z. Some (makes z
 make_is (Some (sets x)) d e = absurd (cc e)
 
 abbrev pub MakeKept : State → List Claimed → Claims → ℕ → Handled → Type 0
-MakeKept s ms cl w r = (home : Homes) × Inv home r.state.store r.state.queue.row r.state.seats
+MakeKept s ms cl w r = (home : Homes) × Inv home r.state.store r.state.queue.row r.state.syncs
     (with_made (is_ok r.answer) (cl w) ms) cl × (r.state.store.uids ≤ s.store.uids + 1)
 
 -- what is made rests on a claim of a later time, and is alone
@@ -234,60 +236,63 @@ module _ {s : State} {ms : List Claimed} {cl : Claims} {home : Homes} where
   make_refused f w e = (home, f.inv, omega arith)
 
   -- For make_result: with the Job made and its worker one step further, all facts hold.
-  make_seats : Now s ms cl home → (w : ℕ) (x : Seat) → seat_of s w ≡ Some x
+  make_syncs : Now s ms cl home → (w : ℕ) (x : InFlight) → sync_of s w ≡ Some x
       → (work : Work) (d : JobDraft) (g : MakeFact home s.store ms (cl w) x.key
       (makes d ∷ left work.plan.steps (work.place + 1)) d) (j : Job) → j.key ≡ d.key → Making home s.store x.key g.m j
       → LeftFact home s.store ms (cl w) x.key work (makes d ∷ left work.plan.steps (work.place + 1))
-      → Inv home (after s.store (job_added j)) s.queue.row (map.insert s.seats w (next_seat x.key work)) (g.m ∷ ms) cl
-  make_seats f w x at work d g j key mk fact = record {
+      → Inv home (after s.store (job_added j)) s.queue.row (map.insert s.syncs w (next_sync x.key work)) (g.m ∷ ms) cl
+  make_syncs f w x at work d g j key mk fact = record {
     store = store_made mk ms g.last (λ c e u. subst (IsAt x.key.namespace c.status.active) (sym key) (g.named c e u))
         f.inv.store;
     line = f.inv.line;
-    held = λ v y is. held_at v y (seat_put s.seats w v (next_seat x.key work) y is);
-    apart = λ v u a b i n e. apart_at v u a b e (seat_put s.seats w v (next_seat x.key work) a i)
-        (seat_put s.seats w u (next_seat x.key work) b n);
-    facts = λ v y is. fact_at v y (seat_put s.seats w v (next_seat x.key work) y is);
+    held = λ v y is. held_at v y (sync_put s.syncs w v (next_sync x.key work) y is);
+    apart = λ v u a b i n e. apart_at v u a b e (sync_put s.syncs w v (next_sync x.key work) a i)
+        (sync_put s.syncs w u (next_sync x.key work) b n);
+    facts = λ v y is. fact_at v y (sync_put s.syncs w v (next_sync x.key work) y is);
   }
     where
-      held_at : (v : ℕ) (y : Seat) → ((v ≡ w) × (next_seat x.key work ≡ y)) ⊎ ((v ≢ w) × (map.get s.seats v ≡ Some y))
+      held_at : (v : ℕ) (y : InFlight) → ((v ≡ w) × (next_sync x.key work ≡ y)) ⊎
+          ((v ≢ w) × (map.get s.syncs v ≡ Some y))
           → has s.queue.row.processing y.key ≡ true
-      held_at v y (inl e) = ap (λ (z : Seat). has s.queue.row.processing z.key) (sym e.1) ∙ f.inv.held w x at
+      held_at v y (inl e) = ap (λ (z : InFlight). has s.queue.row.processing z.key) (sym e.1) ∙ f.inv.held w x at
       held_at v y (inr e) = f.inv.held v y e.1
 
-      apart_at : (v u : ℕ) (a b : Seat) → a.key ≡ b.key → ((v ≡ w) × (next_seat x.key work ≡ a))
-          ⊎ ((v ≢ w) × (map.get s.seats v ≡ Some a)) → ((u ≡ w) × (next_seat x.key work ≡ b))
-          ⊎ ((u ≢ w) × (map.get s.seats u ≡ Some b)) → v ≡ u
+      apart_at : (v u : ℕ) (a b : InFlight) → a.key ≡ b.key → ((v ≡ w) × (next_sync x.key work ≡ a))
+          ⊎ ((v ≢ w) × (map.get s.syncs v ≡ Some a)) → ((u ≡ w) × (next_sync x.key work ≡ b))
+          ⊎ ((u ≢ w) × (map.get s.syncs u ≡ Some b)) → v ≡ u
       apart_at v u a b e (inl i) (inl n) = i.0 ∙ sym n.0
-      apart_at v u a b e (inl i) (inr n) = i.0 ∙ f.inv.apart w u x b at n.1 (ap (λ (z : Seat). z.key) i.1 ∙ e)
-      apart_at v u a b e (inr i) (inl n) = f.inv.apart v w a x i.1 at (e ∙ sym (ap (λ (z : Seat). z.key) n.1)) ∙ sym n.0
+      apart_at v u a b e (inl i) (inr n) = i.0 ∙ f.inv.apart w u x b at n.1 (ap (λ (z : InFlight). z.key) i.1 ∙ e)
+      apart_at v u a b e (inr i) (inl n) = f.inv.apart v w a x i.1 at (e ∙ sym (ap (λ (z : InFlight). z.key) n.1))
+          ∙ sym n.0
       apart_at v u a b e (inr i) (inr n) = f.inv.apart v u a b i.1 n.1 e
 
-      fact_at : (v : ℕ) (y : Seat) → ((v ≡ w) × (next_seat x.key work ≡ y)) ⊎ ((v ≢ w) × (map.get s.seats v ≡ Some y))
-          → SeatFact home (after s.store (job_added j)) (g.m ∷ ms) (cl v) y.key y.phase
-      fact_at v y (inl e) = subst (λ (n : ℕ). SeatFact home (after s.store (job_added j)) (g.m ∷ ms)
+      fact_at : (v : ℕ) (y : InFlight) → ((v ≡ w) × (next_sync x.key work ≡ y)) ⊎
+          ((v ≢ w) × (map.get s.syncs v ≡ Some y))
+          → SyncFact home (after s.store (job_added j)) (g.m ∷ ms) (cl v) y.key y.phase
+      fact_at v y (inl e) = subst (λ (n : ℕ). SyncFact home (after s.store (job_added j)) (g.m ∷ ms)
           (cl n) y.key y.phase) (sym e.0)
-          (subst (λ (z : Seat). SeatFact home (after s.store (job_added j)) (g.m ∷ ms) (cl w) z.key z.phase) e.1
+          (subst (λ (z : InFlight). SyncFact home (after s.store (job_added j)) (g.m ∷ ms) (cl w) z.key z.phase) e.1
           (left_made home s.store ms (cl w) x.key work d g.m j (left work.plan.steps (work.place + 1)) key mk fact))
-      fact_at v y (inr e) = seat_other mk ms (cl v) y.key y.phase (λ k. e.0 (f.inv.apart v w y x e.1 at k))
+      fact_at v y (inr e) = sync_other mk ms (cl v) y.key y.phase (λ k. e.0 (f.inv.apart v w y x e.1 at k))
           (f.inv.facts v y e.1)
 
   -- For make_at: a making keeps the facts, whether the store takes the Job or refuses it.
-  make_result : Now s ms cl home → s.store.uids + 1 ≤ last_uid → (w : ℕ) (x : Seat) → seat_of s w ≡ Some x
+  make_result : Now s ms cl home → s.store.uids + 1 ≤ last_uid → (w : ℕ) (x : InFlight) → sync_of s w ≡ Some x
       → (work : Work) (d : JobDraft) → LeftFact home s.store ms (cl w) x.key work
       (makes d ∷ left work.plan.steps (work.place + 1))
       → (res : Result Event Refusal) → map_ok job_added (job_made s.store d work.plan.at) ≡ res
-      → MakeKept s ms cl w (steps_on s w (next_seat x.key work) event_reply res)
+      → MakeKept s ms cl w (steps_on s w (next_sync x.key work) event_reply res)
   make_result f b w x at work d fact (Err e) r = make_refused f w e
   make_result f b w x at work d fact (Ok e) r =
       let a = mapped job_added (job_made s.store d work.plan.at) e r in
       let n = made_is s.store d work.plan.at a.0 a.1 in
       let g = fact.make d (inl refl) in
-      subst (λ (c : Event). MakeKept s ms cl w (steps_on s w (next_seat x.key work) event_reply (Ok c)))
+      subst (λ (c : Event). MakeKept s ms cl w (steps_on s w (next_sync x.key work) event_reply (Ok c)))
       (ap job_added n.1 ∙ a.2) (
         home,
         subst (λ (o : Option Claimed). Inv home (after s.store (job_added (new_job s.store d work.plan.at))) s.queue.row
-            (map.insert s.seats w (next_seat x.key work)) (with_made true o ms) cl) (sym g.claimed)
-            (make_seats f w x at work d g (new_job s.store d work.plan.at) refl
+            (map.insert s.syncs w (next_sync x.key work)) (with_made true o ms) cl) (sym g.claimed)
+            (make_syncs f w x at work d g (new_job s.store d work.plan.at) refl
             (record {
               home_is = g.home_is;
               uid = g.uid;
@@ -300,7 +305,8 @@ module _ {s : State} {ms : List Claimed} {cl : Claims} {home : Homes} where
       )
 
   -- For make_phase: the next step makes a Job, or the call is refused; the facts stay.
-  make_at : Now s ms cl home → s.store.uids + 1 ≤ last_uid → (w : ℕ) (x : Seat) → seat_of s w ≡ Some x → (work : Work)
+  make_at : Now s ms cl home → s.store.uids + 1 ≤ last_uid → (w : ℕ) (x : InFlight) → sync_of s w ≡ Some x →
+      (work : Work)
       → x.phase ≡ Works work → (o : Option JobDraft) → as_make (step_at work.plan.steps work.place) ≡ o
       → MakeKept s ms cl w (make_where s w x.key work o)
   make_at f b w x at work e None is = make_refused f w OutOfPhase
@@ -308,27 +314,28 @@ module _ {s : State} {ms : List Claimed} {cl : Claims} {home : Homes} where
       (work_fact f w x at work e (makes d) (make_is (step_at work.plan.steps work.place) d is))
       (map_ok job_added (job_made s.store d work.plan.at)) refl
 
-  -- For make_seat: a MakeNext by a worker with a seat keeps the facts, in each phase.
-  make_phase : Now s ms cl home → s.store.uids + 1 ≤ last_uid → (w : ℕ) (x : Seat) → seat_of s w ≡ Some x → (p : Phase)
+  -- For make_sync: a MakeNext by a worker with a sync keeps the facts, in each phase.
+  make_phase : Now s ms cl home → s.store.uids + 1 ≤ last_uid → (w : ℕ) (x : InFlight) → sync_of s w ≡ Some x →
+      (p : Phase)
       → x.phase ≡ p → MakeKept s ms cl w (make_in s w x.key p)
   make_phase f b w x at (Works work) e = make_at f b w x at work e (as_make (step_at work.plan.steps work.place)) refl
   make_phase f b w x at p e = make_refused f w OutOfPhase
 
-  -- For make_kept: a MakeNext keeps the facts, whether or not the worker has a seat.
-  make_seat : Now s ms cl home → s.store.uids + 1 ≤ last_uid → (w : ℕ) (o : Option Seat) → seat_of s w ≡ o
-      → MakeKept s ms cl w (by_seat s (make_in s w) o)
-  make_seat f b w None e = make_refused f w OutOfPhase
-  make_seat f b w (Some x) e = make_phase f b w x e x.phase refl
+  -- For make_kept: a MakeNext keeps the facts, whether or not the worker has a sync.
+  make_sync : Now s ms cl home → s.store.uids + 1 ≤ last_uid → (w : ℕ) (o : Option InFlight) → sync_of s w ≡ o
+      → MakeKept s ms cl w (by_sync s (make_in s w) o)
+  make_sync f b w None e = make_refused f w OutOfPhase
+  make_sync f b w (Some x) e = make_phase f b w x e x.phase refl
 
   -- A MakeNext keeps the facts, with the claim of the Job that it makes, if any, put to those made.
   pub make_kept : Now s ms cl home → s.store.uids + 1 ≤ last_uid → (w : ℕ) → MakeKept s ms cl w (make_next s w)
   unfolding make_next
-  make_kept f b w = make_seat f b w (seat_of s w) refl
+  make_kept f b w = make_sync f b w (sync_of s w) refl
 
   -- ---- an accepted making
 
   -- For rests_phase: a making that is accepted has a draft as its next step, and rests on a claim.
-  rests_at : Now s ms cl home → (w : ℕ) (x : Seat) → seat_of s w ≡ Some x → (work : Work) → x.phase ≡ Works work
+  rests_at : Now s ms cl home → (w : ℕ) (x : InFlight) → sync_of s w ≡ Some x → (work : Work) → x.phase ≡ Works work
       → (o : Option JobDraft) → as_make (step_at work.plan.steps work.place) ≡ o
       → is_ok (make_where s w x.key work o).answer ≡ true → Rests s ms (cl w)
   rests_at f w x at work e None is ok = absurd (cc ok)
@@ -337,20 +344,20 @@ module _ {s : State} {ms : List Claimed} {cl : Claims} {home : Homes} where
       let g = fact.make d (inl refl) in
       record { m = g.m; claimed = g.claimed; above = g.above; alone = g.alone }
 
-  -- For rests_seat: a making that is accepted is in the phase Works, and rests on a claim.
-  rests_phase : Now s ms cl home → (w : ℕ) (x : Seat) → seat_of s w ≡ Some x → (p : Phase) → x.phase ≡ p
+  -- For rests_sync: a making that is accepted is in the phase Works, and rests on a claim.
+  rests_phase : Now s ms cl home → (w : ℕ) (x : InFlight) → sync_of s w ≡ Some x → (p : Phase) → x.phase ≡ p
       → is_ok (make_in s w x.key p).answer ≡ true → Rests s ms (cl w)
   rests_phase f w x at (Works work) e ok = rests_at f w x at work e (as_make (step_at work.plan.steps work.place)) refl
       ok
   rests_phase f w x at p e ok = absurd (cc ok)
 
-  -- For make_rests: a making that is accepted is by a worker with a seat, and rests on a claim.
-  rests_seat : Now s ms cl home → (w : ℕ) (o : Option Seat) → seat_of s w ≡ o
-      → is_ok (by_seat s (make_in s w) o).answer ≡ true → Rests s ms (cl w)
-  rests_seat f w None e ok = absurd (cc ok)
-  rests_seat f w (Some x) e ok = rests_phase f w x e x.phase refl ok
+  -- For make_rests: a making that is accepted is by a worker with a sync, and rests on a claim.
+  rests_sync : Now s ms cl home → (w : ℕ) (o : Option InFlight) → sync_of s w ≡ o
+      → is_ok (by_sync s (make_in s w) o).answer ≡ true → Rests s ms (cl w)
+  rests_sync f w None e ok = absurd (cc ok)
+  rests_sync f w (Some x) e ok = rests_phase f w x e x.phase refl ok
 
   -- An accepted MakeNext rests on a claim after all made for its owner, and alone if strict.
   pub make_rests : Now s ms cl home → (w : ℕ) → is_ok (make_next s w).answer ≡ true → Rests s ms (cl w)
   unfolding make_next
-  make_rests f w ok = rests_seat f w (seat_of s w) refl ok
+  make_rests f w ok = rests_sync f w (sync_of s w) refl ok

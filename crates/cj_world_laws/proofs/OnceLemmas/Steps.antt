@@ -25,21 +25,21 @@ use Rattle.cj_calls.specs.declared.reply.Reply.TheVariants as Say
 use Rattle.cj_state.specs.phases.Inputs.{rests_on, same_cron, same_jobs, same_active}
 use Rattle.cj_state.specs.phases.Steps.{Step, drops, makes, sets, step_at, left, all_steps, as_drop, as_status}
 use Rattle.cj_state.proofs.PhasesLemmas.Places.{steps_left}
-use Rattle.cj_state.specs.declared.phases.seat.Work.{Work}
-use Rattle.cj_state.specs.declared.phases.seat.Seat.{Seat}
-use Rattle.cj_state.specs.declared.phases.seat.Phase.{Phase}
-use Rattle.cj_state.specs.declared.phases.seat.Phase.TheVariants.{Checked, Works}
+use Rattle.cj_state.specs.declared.phases.sync.Work.{Work}
+use Rattle.cj_state.specs.declared.phases.sync.InFlight.{InFlight}
+use Rattle.cj_state.specs.declared.phases.sync.Phase.{Phase}
+use Rattle.cj_state.specs.declared.phases.sync.Phase.TheVariants.{Checked, Works}
 use Rattle.cj_state.specs.declared.state.State.{State}
-use Rattle.cj_state.specs.WorkerCalls.{Handled, refused, seat_of, by_seat, works, seen_version, wrote, claims, claim_where, claim_in, claim, further, next_seat, steps_on, drops_it, drop_where, drop_in, drop_next, sets_it, status_where, status_in, set_status, version_reply}
+use Rattle.cj_state.specs.WorkerCalls.{Handled, refused, sync_of, by_sync, works, seen_version, wrote, claims, claim_where, claim_in, claim, further, next_sync, steps_on, drops_it, drop_where, drop_in, drop_next, sets_it, status_where, status_in, set_status, version_reply}
 use Rattle.cj_decide.specs.laws.Fits.{IsAt, IsAmong, IsFound, upto, Starts, Waits, FitsWith, FitsFor, Fits, Keeps}
 use Rattle.cj_world_laws.specs.once.Once.{Claimed, claimed_under, claimed_of, claim_answered}
 use Rattle.cj_world_laws.proofs.OnceLemmas.Maps.{removal_at, put_at}
 use Rattle.cj_world_laws.proofs.OnceLemmas.Lists.{Before, Rest, before_all, in_all_makes, in_all_sets, all_ordered, both_true, weaker}
-use Rattle.cj_world_laws.proofs.OnceLemmas.Facts.{Homes, Named, StoreFact, CheckedFact, StatusFact, PlanFact, SeatFact, Inv}
+use Rattle.cj_world_laws.proofs.OnceLemmas.Facts.{Homes, Named, StoreFact, CheckedFact, StatusFact, PlanFact, SyncFact, Inv}
 use Rattle.cj_world_laws.proofs.OnceLemmas.Grows.{Grows, plan_kept, last_of}
 use Rattle.cj_world_laws.proofs.OnceLemmas.Writes.{mapped, set_is, not_deleted, deleted_key, grows_same, grows_put, grows_removal_job}
-use Rattle.cj_world_laws.proofs.OnceLemmas.Frames.{Claims, seat_changed, same_claims}
-use Rattle.cj_world_laws.proofs.OnceLemmas.Calls.{Now, Plain, stays, by_seat_plain, fact_of}
+use Rattle.cj_world_laws.proofs.OnceLemmas.Frames.{Claims, sync_changed, same_claims}
+use Rattle.cj_world_laws.proofs.OnceLemmas.Calls.{Now, Plain, stays, by_sync_plain, fact_of}
 
 -- ---- DropNext
 
@@ -105,32 +105,33 @@ LeftFact home s ms cl k work rs = PlanFact home s ms cl k work.plan.cron work.ve
 
 module _ {s : State} {ms : List Claimed} {cl : Claims} {home : Homes} where
   -- Of a worker that has a next step, the plan's facts hold of this step and those behind it.
-  pub work_fact : Now s ms cl home → (w : ℕ) (x : Seat) → seat_of s w ≡ Some x → (work : Work) → x.phase ≡ Works work
+  pub work_fact : Now s ms cl home → (w : ℕ) (x : InFlight) → sync_of s w ≡ Some x → (work : Work) → x.phase
+      ≡ Works work
       → (y : Step) → step_at work.plan.steps work.place ≡ Some y
       → LeftFact home s.store ms (cl w) x.key work (y ∷ left work.plan.steps (work.place + 1))
   work_fact f w x at work e y is = subst (LeftFact home s.store ms (cl w) x.key work)
       (steps_left work.plan.steps work.place y is) (fact_of f w x at (Works work) e)
 
   -- the store may grow, and what is left is the plan's
-  stepped : Now s ms cl home → (own : Option Place) (t : Content) (w : ℕ) (x : Seat) → seat_of s w ≡ Some x
+  stepped : Now s ms cl home → (own : Option Place) (t : Content) (w : ℕ) (x : InFlight) → sync_of s w ≡ Some x
       → (work : Work) → Grows own home home s.store t → (own ≡ None) ⊎ (own ≡ Some x.key)
       → LeftFact home t ms (cl w) x.key work (left work.plan.steps (work.place + 1))
-      → Inv home t s.queue.row (map.insert s.seats w (next_seat x.key work)) ms cl
-  stepped f own t w x at work g mine fact = seat_changed own home home s.store t s.queue.row s.seats ms cl cl w x
+      → Inv home t s.queue.row (map.insert s.syncs w (next_sync x.key work)) ms cl
+  stepped f own t w x at work g mine fact = sync_changed own home home s.store t s.queue.row s.syncs ms cl cl w x
       (further work) f.inv at g mine (λ v n. refl) fact
 
   -- For drop_at: a drop keeps the facts, whether the Job is deleted or no such Job is there.
-  drop_result : Now s ms cl home → s.store.uids + 1 ≤ last_uid → (w : ℕ) (x : Seat) → seat_of s w ≡ Some x
+  drop_result : Now s ms cl home → s.store.uids + 1 ≤ last_uid → (w : ℕ) (x : InFlight) → sync_of s w ≡ Some x
       → (work : Work) (r : JobRef) → LeftFact home s.store ms (cl w) x.key work
       (drops r ∷ left work.plan.steps (work.place + 1))
       → (res : Result Event Refusal) → map_ok job_gone (job_deleted s.store r.key (Some r.uid)) ≡ res
-      → Plain s ms cl (drops_it s w (next_seat x.key work) r.key res)
+      → Plain s ms cl (drops_it s w (next_sync x.key work) r.key res)
   drop_result f b w x at work r fact (Ok e) is =
       let a = mapped job_gone (job_deleted s.store r.key (Some r.uid)) e is in
       let g : Grows None home home s.store (after s.store (job_gone a.0)) =
       grows_removal_job a.0 f.inv.store (omega arith) in
       let key : a.0.key ≡ r.key = deleted_key f.inv.store r.key (Some r.uid) a.0 a.1 in
-      subst (λ (c : Event). Plain s ms cl (drops_it s w (next_seat x.key work) r.key (Ok c))) a.2 (
+      subst (λ (c : Event). Plain s ms cl (drops_it s w (next_sync x.key work) r.key (Ok c))) a.2 (
         home,
         stepped f None (after s.store (job_gone a.0)) w x at work g (inl refl)
             (dropped_fact home (after s.store (job_gone a.0)) ms (cl w) x.key work.plan.cron work.version r
@@ -151,7 +152,8 @@ module _ {s : State} {ms : List Claimed} {cl : Claims} {home : Homes} where
   )
 
   -- For drop_phase: the next step drops a Job, or the call is refused; the facts stay.
-  drop_at : Now s ms cl home → s.store.uids + 1 ≤ last_uid → (w : ℕ) (x : Seat) → seat_of s w ≡ Some x → (work : Work)
+  drop_at : Now s ms cl home → s.store.uids + 1 ≤ last_uid → (w : ℕ) (x : InFlight) → sync_of s w ≡ Some x →
+      (work : Work)
       → x.phase ≡ Works work → (o : Option JobRef) → as_drop (step_at work.plan.steps work.place) ≡ o
       → Plain s ms cl (drop_where s w x.key work o)
   drop_at f b w x at work e None is = stays f (Err OutOfPhase)
@@ -159,8 +161,9 @@ module _ {s : State} {ms : List Claimed} {cl : Claims} {home : Homes} where
       (work_fact f w x at work e (drops r) (drop_is (step_at work.plan.steps work.place) r is))
       (map_ok job_gone (job_deleted s.store r.key (Some r.uid))) refl
 
-  -- For drop_plain: a DropNext by a worker with a seat keeps the facts, in each phase.
-  drop_phase : Now s ms cl home → s.store.uids + 1 ≤ last_uid → (w : ℕ) (x : Seat) → seat_of s w ≡ Some x → (p : Phase)
+  -- For drop_plain: a DropNext by a worker with a sync keeps the facts, in each phase.
+  drop_phase : Now s ms cl home → s.store.uids + 1 ≤ last_uid → (w : ℕ) (x : InFlight) → sync_of s w ≡ Some x →
+      (p : Phase)
       → x.phase ≡ p → Plain s ms cl (drop_in s w x.key p)
   drop_phase f b w x at (Works work) e = drop_at f b w x at work e (as_drop (step_at work.plan.steps work.place)) refl
   drop_phase f b w x at p e = stays f (Err OutOfPhase)
@@ -168,7 +171,7 @@ module _ {s : State} {ms : List Claimed} {cl : Claims} {home : Homes} where
   -- A DropNext keeps the facts.
   pub drop_plain : Now s ms cl home → s.store.uids + 1 ≤ last_uid → (w : ℕ) → Plain s ms cl (drop_next s w)
   unfolding drop_next
-  drop_plain f b w = by_seat_plain f w (drop_in s w) (drop_phase f b w) (seat_of s w) refl
+  drop_plain f b w = by_sync_plain f w (drop_in s w) (drop_phase f b w) (sync_of s w) refl
 
 -- ---- SetStatus
 
@@ -185,11 +188,11 @@ the_rest (inr b) = absurd b
 
 module _ {s : State} {ms : List Claimed} {cl : Claims} {home : Homes} where
   -- For status_cron: the setting of a status keeps the facts, whether it is written or refused.
-  status_result : Now s ms cl home → s.store.uids + 1 ≤ last_uid → (w : ℕ) (x : Seat) → seat_of s w ≡ Some x
+  status_result : Now s ms cl home → s.store.uids + 1 ≤ last_uid → (w : ℕ) (x : InFlight) → sync_of s w ≡ Some x
       → (work : Work) (f : CronStatus) (c : CronJob) → work.plan.cron ≡ Some c
       → LeftFact home s.store ms (cl w) x.key work (sets f ∷ left work.plan.steps (work.place + 1))
       → (res : Result Event Refusal) → map_ok cron_modified (status_set s.store x.key c.meta.uid work.version f) ≡ res
-      → Plain s ms cl (steps_on s w (next_seat x.key work) version_reply res)
+      → Plain s ms cl (steps_on s w (next_sync x.key work) version_reply res)
   status_result i b w x at work f c is fact (Ok e) r =
       let a = mapped cron_modified (status_set s.store x.key c.meta.uid work.version f) e r in
       let z = set_is s.store c.meta.uid work.version f (map.get s.store.crons x.key) a.0 a.1 in
@@ -197,7 +200,7 @@ module _ {s : State} {ms : List Claimed} {cl : Claims} {home : Homes} where
       f = fact.status c f is (inl refl) in
       let named : Named x.key z.old.meta.uid f.active s.store.jobs = subst
       (λ (u : ℕ). Named x.key u f.active s.store.jobs) (sym z.uid) (λ q j h t. the_rest (st.spoken q j h t)) in
-      subst (λ (d : Event). Plain s ms cl (steps_on s w (next_seat x.key work) version_reply (Ok d)))
+      subst (λ (d : Event). Plain s ms cl (steps_on s w (next_sync x.key work) version_reply (Ok d)))
       (ap cron_modified z.is ∙ a.2) (
         home,
         stepped i (Some x.key) (after s.store (cron_modified (with_status s.store f z.old))) w x at work
@@ -211,7 +214,7 @@ module _ {s : State} {ms : List Claimed} {cl : Claims} {home : Homes} where
   status_result i b w x at work f c is fact (Err e) r = stays i (Err OutOfPhase)
 
   -- For status_at: a status of the plan's CronJob is set, or refused without one; the facts stay.
-  status_cron : Now s ms cl home → s.store.uids + 1 ≤ last_uid → (w : ℕ) (x : Seat) → seat_of s w ≡ Some x
+  status_cron : Now s ms cl home → s.store.uids + 1 ≤ last_uid → (w : ℕ) (x : InFlight) → sync_of s w ≡ Some x
       → (work : Work) (f : CronStatus) → LeftFact home s.store ms (cl w) x.key work
       (sets f ∷ left work.plan.steps (work.place + 1)) → (o : Option CronJob) → work.plan.cron ≡ o
       → Plain s ms cl (sets_it s w x.key work f o)
@@ -220,15 +223,16 @@ module _ {s : State} {ms : List Claimed} {cl : Claims} {home : Homes} where
       (map_ok cron_modified (status_set s.store x.key c.meta.uid work.version f)) refl
 
   -- For status_phase: the next step sets a status, or the call is refused; the facts stay.
-  status_at : Now s ms cl home → s.store.uids + 1 ≤ last_uid → (w : ℕ) (x : Seat) → seat_of s w ≡ Some x → (work : Work)
+  status_at : Now s ms cl home → s.store.uids + 1 ≤ last_uid → (w : ℕ) (x : InFlight) → sync_of s w ≡ Some x →
+      (work : Work)
       → x.phase ≡ Works work → (o : Option CronStatus) → as_status (step_at work.plan.steps work.place) ≡ o
       → Plain s ms cl (status_where s w x.key work o)
   status_at i b w x at work e None is = stays i (Err OutOfPhase)
   status_at i b w x at work e (Some f) is = status_cron i b w x at work f
       (work_fact i w x at work e (sets f) (status_is (step_at work.plan.steps work.place) f is)) work.plan.cron refl
 
-  -- For status_plain: a SetStatus by a worker with a seat keeps the facts, in each phase.
-  status_phase : Now s ms cl home → s.store.uids + 1 ≤ last_uid → (w : ℕ) (x : Seat) → seat_of s w ≡ Some x
+  -- For status_plain: a SetStatus by a worker with a sync keeps the facts, in each phase.
+  status_phase : Now s ms cl home → s.store.uids + 1 ≤ last_uid → (w : ℕ) (x : InFlight) → sync_of s w ≡ Some x
       → (p : Phase) → x.phase ≡ p → Plain s ms cl (status_in s w x.key p)
   status_phase f b w x at (Works work) e = status_at f b w x at work e (as_status (step_at work.plan.steps work.place))
       refl
@@ -237,7 +241,7 @@ module _ {s : State} {ms : List Claimed} {cl : Claims} {home : Homes} where
   -- A SetStatus keeps the facts.
   pub status_plain : Now s ms cl home → s.store.uids + 1 ≤ last_uid → (w : ℕ) → Plain s ms cl (set_status s w)
   unfolding set_status
-  status_plain f b w = by_seat_plain f w (status_in s w) (status_phase f b w) (seat_of s w) refl
+  status_plain f b w = by_sync_plain f w (status_in s w) (status_phase f b w) (sync_of s w) refl
 
 -- ---- Claim
 
@@ -308,7 +312,8 @@ start_fact home s ms k p c y d f is g st keeps at same = record {
         ∙ ap (λ (z : CronJob). Some (record { owner = c.meta.uid; time = y.time; policy = z.spec.policy })) same;
     home_is = g.seen.home_is;
     uid = g.seen.uid;
-    above = weaker _ _ (λ z h e. let a = h (e ∙ ap (λ (x : CronJob). x.meta.uid) (sym same)) in let l = ap last_of same in let b = st.later in omega arith) ms (f.crons k d at).made;
+    above = weaker _ _ (λ z h e. let a = h (e ∙ ap (λ (x : CronJob). x.meta.uid) (sym same)) in let l
+        = ap last_of same in let b = st.later in omega arith) ms (f.crons k d at).made;
     last = λ z e u. let h = ap last_of (written z e) in let l = ap upto st.says in omega arith;
     named = λ z e u. subst (λ (n : List (List ℕ)). IsAt k.namespace n x.key)
         (ap (λ (q : CronJob). q.status.active) (written z e))
@@ -360,7 +365,7 @@ abbrev pub ClaimsAfter : State → Planned → Result Reply Refusal → Claims �
 ClaimsAfter s p a cl w v = cond (v == w) (claim_answered s.store p a (cl v)) (cl v)
 
 abbrev pub ClaimKept : State → List Claimed → Claims → ℕ → Planned → Handled → Type 0
-ClaimKept s ms cl w p r = (home : Homes) × Inv home r.state.store r.state.queue.row r.state.seats ms
+ClaimKept s ms cl w p r = (home : Homes) × Inv home r.state.store r.state.queue.row r.state.syncs ms
     (ClaimsAfter s p r.answer cl w) × (r.state.store.uids ≤ s.store.uids + 1)
 
 -- The answer to a claim leaves what other workers last claimed.
@@ -382,27 +387,27 @@ module _ {s : State} {ms : List Claimed} {cl : Claims} {home : Homes} where
   claim_refused : Now s ms cl home → (w : ℕ) (p : Planned) (e : Refusal) → ClaimKept s ms cl w p (refused s e)
   claim_refused f w p e = (
     home,
-    same_claims home s.store s.queue.row s.seats ms cl (ClaimsAfter s p (Err e) cl w)
+    same_claims home s.store s.queue.row s.syncs ms cl (ClaimsAfter s p (Err e) cl w)
         (λ v. same_branches (v == w) (cl v)) f.inv,
     omega arith,
   )
 
   -- For claim_go: a Claim of no time keeps the facts, if those of the plan's steps hold.
-  claim_waits : Now s ms cl home → s.store.uids + 1 ≤ last_uid → (w : ℕ) (x : Seat) → seat_of s w ≡ Some x
+  claim_waits : Now s ms cl home → s.store.uids + 1 ≤ last_uid → (w : ℕ) (x : InFlight) → sync_of s w ≡ Some x
       → (p : Planned) → PlanFact home s.store ms None x.key p.cron (seen_version p.cron) (all_steps p.steps)
       → ClaimKept s ms cl w p (claim_where s w x.key p None)
   claim_waits f b w x at p fact = (
     home,
-    seat_changed None home home s.store s.store s.queue.row s.seats ms cl
+    sync_changed None home home s.store s.store s.queue.row s.syncs ms cl
         (ClaimsAfter s p (Ok (Say.Claimed None)) cl w) w x (works p (seen_version p.cron) 0) f.inv at
         (grows_same f.inv.store (omega arith)) (inl refl) (other_claims s p (Ok (Say.Claimed None)) cl w)
-        (subst (λ (o : Option Claimed). SeatFact home s.store ms o x.key (works p (seen_version p.cron) 0))
+        (subst (λ (o : Option Claimed). SyncFact home s.store ms o x.key (works p (seen_version p.cron) 0))
         (own_claim s p (Ok (Say.Claimed None)) cl w) fact),
     omega arith,
   )
 
   -- For claim_go: a Claim of a time keeps the facts, whether its status is written or refused.
-  claim_result : Now s ms cl home → s.store.uids + 1 ≤ last_uid → (w : ℕ) (x : Seat) → seat_of s w ≡ Some x
+  claim_result : Now s ms cl home → s.store.uids + 1 ≤ last_uid → (w : ℕ) (x : InFlight) → sync_of s w ≡ Some x
       → (p : Planned) (c : CronJob) (y : Claim) → p.cron ≡ Some c → CheckedFact home s.store x.key p.active c
       → Starts p c y → Keeps p c
       → (res : Result Event Refusal) → map_ok cron_modified
@@ -423,12 +428,12 @@ module _ {s : State} {ms : List Claimed} {cl : Claims} {home : Homes} where
       (wrote s w x.key (λ e. Say.Claimed (Some (y.time, version_of e))) (λ e. works p (version_of e) 0) (Ok d)))
       (ap cron_modified z.is ∙ a.2) (
         home,
-        seat_changed (Some x.key) home home s.store (after s.store (cron_modified (with_status s.store y.status z.old)))
-            s.queue.row s.seats ms cl (ClaimsAfter s p answer cl w) w x (works p (s.store.version + 1) 0) f.inv at
+        sync_changed (Some x.key) home home s.store (after s.store (cron_modified (with_status s.store y.status z.old)))
+            s.queue.row s.syncs ms cl (ClaimsAfter s p answer cl w) w x (works p (s.store.version + 1) 0) f.inv at
             (grows_put (Some x.key) x.key z.old (with_status s.store y.status z.old) f.inv.store
             (omega arith) z.there refl refl refl later (inr refl) named)
             (inr refl) (other_claims s p answer cl w)
-            (subst (λ (o : Option Claimed). SeatFact home
+            (subst (λ (o : Option Claimed). SyncFact home
             (after s.store (cron_modified (with_status s.store y.status z.old))) ms o x.key
             (works p (s.store.version + 1) 0)) (own_claim s p answer cl w)
             (start_fact home s.store ms x.key p c y z.old f.inv.store is g st keeps z.there same)),
@@ -438,16 +443,19 @@ module _ {s : State} {ms : List Claimed} {cl : Claims} {home : Homes} where
       more : CheckedFact home s.store x.key p.active c → Starts p c y
           → Named x.key c.meta.uid y.status.active s.store.jobs
       more g st q j h t = subst (λ (n : Place). IsAt n.namespace y.status.active q) g.seen.key
-          (st.more q (subst (λ (n : Place). IsAt n.namespace c.status.active q) (sym g.seen.key) (g.seen.named q j h t)))
+          (st.more q (subst (λ (n : Place). IsAt n.namespace c.status.active q) (sym g.seen.key)
+          (g.seen.named q j h t)))
 
   -- For claim_phase: a Claim that passed the test keeps the facts, whether of a time or of none.
-  claim_go : Now s ms cl home → s.store.uids + 1 ≤ last_uid → (w : ℕ) (x : Seat) → seat_of s w ≡ Some x
-      → (p : Planned) (o : Option CronJob) → p.cron ≡ o → FitsFor p o → IfSome o (CheckedFact home s.store x.key p.active)
+  claim_go : Now s ms cl home → s.store.uids + 1 ≤ last_uid → (w : ℕ) (x : InFlight) → sync_of s w ≡ Some x
+      → (p : Planned) (o : Option CronJob) → p.cron ≡ o → FitsFor p o
+      → IfSome o (CheckedFact home s.store x.key p.active)
       → (y : Option Claim) → p.steps.claim ≡ y → ClaimKept s ms cl w p (claim_where s w x.key p y)
   claim_go f b w x at p None is fits g None e = claim_waits f b w x at p
       (none_fact home s.store ms None x.key p (seen_version p.cron) is fits.makes)
   claim_go f b w x at p None is fits g (Some y) e =
-      subst (λ (o : Option CronJob). ClaimKept s ms cl w p (claims s w x.key p y o)) (sym is) (claim_refused f w p Stale)
+      subst (λ (o : Option CronJob). ClaimKept s ms cl w p (claims s w x.key p y o)) (sym is)
+      (claim_refused f w p Stale)
   claim_go f b w x at p (Some c) is fits g None e =
       claim_waits f b w x at p (subst (λ (v : ℕ). PlanFact home s.store ms None x.key p.cron v (all_steps p.steps))
       (ap seen_version (sym is)) (wait_fact home s.store ms None x.key p c is g
@@ -457,9 +465,9 @@ module _ {s : State} {ms : List Claimed} {cl : Claims} {home : Homes} where
       (claim_result f b w x at p c y is g (subst (FitsWith p c) e fits.0) fits.1
       (map_ok cron_modified (status_set s.store x.key c.meta.uid c.meta.version y.status)) refl)
 
-  -- For claim_seat: a Claim by a worker with a seat keeps the facts, in each phase.
-  claim_phase : Now s ms cl home → s.store.uids + 1 ≤ last_uid → (w : ℕ) (p : Planned) → Fits p → (x : Seat)
-      → seat_of s w ≡ Some x → (ph : Phase) → x.phase ≡ ph → ClaimKept s ms cl w p (claim_in s w p x.key ph)
+  -- For claim_sync: a Claim by a worker with a sync keeps the facts, in each phase.
+  claim_phase : Now s ms cl home → s.store.uids + 1 ≤ last_uid → (w : ℕ) (p : Planned) → Fits p → (x : InFlight)
+      → sync_of s w ≡ Some x → (ph : Phase) → x.phase ≡ ph → ClaimKept s ms cl w p (claim_in s w p x.key ph)
   claim_phase f b w p fits x at (Checked c js ks) e = by (rests_on p c js ks) refl
     where
       by : (t : Bool) → rests_on p c js ks ≡ t →
@@ -474,14 +482,14 @@ module _ {s : State} {ms : List Claimed} {cl : Claims} {home : Homes} where
           claim_go f b w x at p p.cron refl fits mine p.steps.claim refl
   claim_phase f b w p fits x at ph e = claim_refused f w p OutOfPhase
 
-  -- For claim_kept: a Claim keeps the facts, whether or not the worker has a seat.
-  claim_seat : Now s ms cl home → s.store.uids + 1 ≤ last_uid → (w : ℕ) (p : Planned) → Fits p → (o : Option Seat)
-      → seat_of s w ≡ o → ClaimKept s ms cl w p (by_seat s (claim_in s w p) o)
-  claim_seat f b w p fits None e = claim_refused f w p OutOfPhase
-  claim_seat f b w p fits (Some x) e = claim_phase f b w p fits x e x.phase refl
+  -- For claim_kept: a Claim keeps the facts, whether or not the worker has a sync.
+  claim_sync : Now s ms cl home → s.store.uids + 1 ≤ last_uid → (w : ℕ) (p : Planned) → Fits p → (o : Option InFlight)
+      → sync_of s w ≡ o → ClaimKept s ms cl w p (by_sync s (claim_in s w p) o)
+  claim_sync f b w p fits None e = claim_refused f w p OutOfPhase
+  claim_sync f b w p fits (Some x) e = claim_phase f b w p fits x e x.phase refl
 
   -- A Claim by a plan such as the laws ask for keeps the facts, with its claim as the last one.
   pub claim_kept : Now s ms cl home → s.store.uids + 1 ≤ last_uid → (w : ℕ) (p : Planned) → Fits p
       → ClaimKept s ms cl w p (claim s w p)
   unfolding claim
-  claim_kept f b w p fits = claim_seat f b w p fits (seat_of s w) refl
+  claim_kept f b w p fits = claim_sync f b w p fits (sync_of s w) refl

@@ -1,4 +1,5 @@
--- Each legal history has each time once, and what was claimed under Forbid or Replace is made alone.
+-- Each legal history has each time once, and what was claimed under Forbid or Replace is made
+-- alone.
 use Rattle.std.proofs.Common.{◌≡◌, ℕ, ◌+◌, ◌≤◌, ◌==◌, Bool, true, false, cond, List, [], ◌∷◌, length, Option, None, refl, ap, sym, subst, ◌∙◌, arith}
 use Rattle.std.specs.Prelude.{Result, Err}
 use Rattle.std.specs.FinMap as map
@@ -50,7 +51,7 @@ do_fit (e ∷ h) a = (does_fit e.call a.0, do_fit h a.1)
 -- what holds after an entry
 abbrev Kept : State → List Claimed → Claims → ℕ → Call → Handled → Type 0
 Kept s ms cl n call r =
-    (home : Homes) × Inv home r.state.store r.state.queue.row r.state.seats
+    (home : Homes) × Inv home r.state.store r.state.queue.row r.state.syncs
     (with_made (makes_with call r.answer) (cl n) ms)
     (λ v. cond (v == n) (claim_after s.store call r.answer (cl v)) (cl v))
     × (r.state.store.uids ≤ s.store.uids + 1)
@@ -61,9 +62,9 @@ module _ {s : State} {ms : List Claimed} {cl : Claims} {home : Homes} where
       → ((o : Option Claimed) → o ≡ claim_after s.store call r.answer o) → Plain s ms cl r → Kept s ms cl n call r
   plain now n call r e c f = (
     f.0,
-    subst (λ (b : Bool). Inv f.0 r.state.store r.state.queue.row r.state.seats (with_made b (cl n) ms)
+    subst (λ (b : Bool). Inv f.0 r.state.store r.state.queue.row r.state.syncs (with_made b (cl n) ms)
         (λ v. cond (v == n) (claim_after s.store call r.answer (cl v)) (cl v))) (sym e)
-        (same_claims f.0 r.state.store r.state.queue.row r.state.seats ms cl _
+        (same_claims f.0 r.state.store r.state.queue.row r.state.syncs ms cl _
         (λ v. same_branches (v == n) (cl v) ∙ ap (λ o. cond (v == n) o (cl v)) (c (cl v))) f.1),
     f.2,
   )
@@ -72,7 +73,7 @@ module _ {s : State} {ms : List Claimed} {cl : Claims} {home : Homes} where
   made : Now s ms cl home → (n : ℕ) (r : Handled) → MakeKept s ms cl n r → Kept s ms cl n Of.MakeNext r
   made now n r f = (
     f.0,
-    same_claims f.0 r.state.store r.state.queue.row r.state.seats (with_made (is_ok r.answer) (cl n) ms) cl _
+    same_claims f.0 r.state.store r.state.queue.row r.state.syncs (with_made (is_ok r.answer) (cl n) ms) cl _
         (λ v. same_branches (v == n) (cl v)) f.1,
     f.2,
   )
@@ -142,9 +143,9 @@ module _ {s : State} {ms : List Claimed} {cl : Claims} {home : Homes} where
 
 -- ---- every legal history
 
--- Before the first call all facts hold, as there is no object, no key in the line and no seat.
+-- Before the first call all facts hold, as there is no object, no key in the line and no sync.
 at_start : (window : ℕ) → Inv (λ u. record { namespace = []; name = [] }) (start window).store (start window).queue.row
-    (start window).seats [] (λ w. None)
+    (start window).syncs [] (λ w. None)
 at_start window = record {
   store = record {
     crons = λ k c at. absurd (cc (sym (map.get-empty place_cmp k) ∙ at));
@@ -163,7 +164,7 @@ pub record Always (window : ℕ) (h : List Told) : Type 0 where
   pub now : Now (state_of window h) (makes window h) (claim_of window h) home
   pub few : (state_of window h).store.uids ≤ length h
 
--- After each legal history of such plans all facts hold, of the store, the row and the seats.
+-- After each legal history of such plans all facts hold, of the store, the row and the syncs.
 pub always : (window : ℕ) (h : List Told) → length h ≤ last_uid → IsLegal window h → DoFit h → Always window h
 always window [] short legal fit = record {
   home = λ u. record { namespace = []; name = [] };
@@ -178,7 +179,7 @@ always window (e ∷ h) short legal fit =
       home = k.0;
       now = record {
         inv = subst (λ (a : Result Reply Refusal). Inv k.0 (state_of window (e ∷ h)).store
-            (state_of window (e ∷ h)).queue.row (state_of window (e ∷ h)).seats
+            (state_of window (e ∷ h)).queue.row (state_of window (e ∷ h)).syncs
             (with_made (makes_with e.call a) (claim_of window h e.caller.number) (makes window h))
             (λ v. cond (v == e.caller.number) (claim_after (state_of window h).store e.call a (claim_of window h v))
             (claim_of window h v))) (sym legal.0) k.1;
@@ -245,7 +246,8 @@ none_runs false f = refl
 once : (window : ℕ) (h : List Told) → length h ≤ last_uid → IsLegal window h → DoFit h → Once window h
 once window [] short legal fit = tt
 once window (e ∷ h) short legal fit = (
-  λ ok. let g = entry_rests window h e short legal fit ok in (g.m, g.claimed, weaker _ _ (λ x f o t. let l = f o in absurd (omega arith)) (makes window h) g.above),
+  λ ok. let g = entry_rests window h e short legal fit ok in
+      (g.m, g.claimed, weaker _ _ (λ x f o t. let l = f o in absurd (omega arith)) (makes window h) g.above),
   once window h (omega arith) legal.2 fit.1,
 )
 

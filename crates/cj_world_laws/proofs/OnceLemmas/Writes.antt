@@ -182,7 +182,8 @@ not_deleted s u (Some i) e h j is same = by (i.meta.uid == u) refl h
     by : (b : Bool) → (i.meta.uid == u) ≡ b → map_ok job_gone (if b then Ok (last_job s i) else Err NotFound) ≡ Err e
         → ⊥
     by true t h = absurd (cc h)
-    by false t h = let x : i ≡ j = cc in let y : i.meta.uid ≡ j.meta.uid = ap (λ (z : Job). z.meta.uid) x in absurd (grind (arith, nat_tests, t, y, same))
+    by false t h = let x : i ≡ j = cc in let y : i.meta.uid ≡ j.meta.uid
+        = ap (λ (z : Job). z.meta.uid) x in absurd (grind (arith, nat_tests, t, y, same))
 
 -- the home of the uid that comes next
 abbrev with_home : Homes → Content → Place → Homes
@@ -280,7 +281,8 @@ module _ {home : Homes} {s : Content} {ms : List Claimed} where
       by i x (inr e) = cron_same own home (after s (cron_modified d)) f i x e.1
 
   -- The deletion of a CronJob counts as a growth of the store.
-  grows_removal : (d : CronJob) → StoreFact home s ms → s.uids ≤ last_uid → Grows None home home s (after s (cron_gone d))
+  grows_removal : (d : CronJob) → StoreFact home s ms → s.uids ≤ last_uid
+      → Grows None home home s (after s (cron_gone d))
   grows_removal d f b = record {
     uids = omega arith;
     bound = b;
@@ -292,7 +294,8 @@ module _ {home : Homes} {s : Content} {ms : List Claimed} where
 
   -- a Job is written
   grows_put_job : (q : Place) (i j : Job) → StoreFact home s ms → s.uids ≤ last_uid → map.get s.jobs q ≡ Some i
-      → j.key ≡ i.key → j.meta.uid ≡ i.meta.uid → j.owners ≡ i.owners → (is_unfinished j ≡ true → is_unfinished i ≡ true)
+      → j.key ≡ i.key → j.meta.uid ≡ i.meta.uid → j.owners ≡ i.owners
+      → (is_unfinished j ≡ true → is_unfinished i ≡ true)
       → Grows None home home s (after s (job_modified j))
   grows_put_job q i j f b at key uid owners finished = record {
     uids = omega arith;

@@ -15,9 +15,12 @@ abbrev pub is_empty : Result Reply Refusal → Bool
 is_empty (Err Empty) = true
 is_empty _ = false
 
--- nothing was there to take, and all is as it was; or the answer is entered, and is one of the call's
+-- nothing was there to take, and all is as it was; or the answer is entered, and is one of the
+-- call's
 abbrev pub Fine : State → Call → Handled → Type 0
-Fine s call m = ((is_empty m.answer ≡ true) × (m.state ≡ s)) ⊎ ((is_empty m.answer ≡ false) × (is_entered m.answer ≡ true) × (is_in_row call m.answer ≡ true))
+Fine s call m = ((is_empty m.answer ≡ true) × (m.state ≡ s))
+    ⊎ ((is_empty m.answer ≡ false) × (is_entered m.answer ≡ true)
+    × (is_in_row call m.answer ≡ true))
 
 -- whoever calls whatever
 -- rule: legal

@@ -1,5 +1,6 @@
--- Callers are told apart by their number and their role. A look-back may compare numbers alone where it looks at
--- accepted calls of a sync: these are a worker's, so that there one number is one caller.
+-- Callers are told apart by their number and their role. A look-back may compare numbers alone
+-- where it looks at accepted calls of a sync: these are a worker's, so that there one number is one
+-- caller.
 use Rattle.std.specs.Prelude.{◌≡◌, ◌≢◌, ℕ, ◌==◌, Bool, true, false, ◌&&◌, if◌then◌else◌, List, [], ◌∷◌, Option, None}
 use Rattle.std.specs.List.{AllByRecursion}
 use Rattle.cj_calls.specs.declared.caller.Caller.{Caller}
@@ -8,9 +9,9 @@ use Rattle.cj_calls.specs.declared.caller.Role.TheVariants.{User, Runner, Inform
 use Rattle.cj_calls.specs.declared.call.Call.{Call}
 use Rattle.cj_calls.specs.declared.call.Call.TheVariants as Of
 use Rattle.cj_calls.specs.Rows.{Told}
-use Rattle.cj_state.specs.declared.phases.seat.Seat.{Seat}
+use Rattle.cj_state.specs.declared.phases.sync.InFlight.{InFlight}
 use Rattle.cj_state.specs.Legal.{IsLegal, state_of}
-use Rattle.cj_world_laws.specs.legal.Seats.{seat, seat_after}
+use Rattle.cj_world_laws.specs.legal.InFlightSyncs.{sync, sync_after}
 use Rattle.cj_world_laws.specs.once.Once.{Claimed, claim_after, claim_of, is_ok}
 
 -- the calls of a sync
@@ -30,7 +31,8 @@ is_of_sync call = false
 -- each accepted call of a sync is a worker's
 -- rule: roles
 abbrev pub WorkersAlone : List Told → Type 0
-WorkersAlone h = AllByRecursion (λ e. is_of_sync e.call ≡ true → is_ok e.answer ≡ true → e.caller.role ≡ Worker) h
+WorkersAlone h = AllByRecursion (λ e. is_of_sync e.call ≡ true → is_ok e.answer ≡ true
+    → e.caller.role ≡ Worker) h
 
 abbrev pub same_role : Role → Role → Bool
 same_role User User = true
@@ -43,28 +45,30 @@ same_role _ _ = false
 abbrev pub same_caller : Caller → Caller → Bool
 same_caller a b = (a.number == b.number) && same_role a.role b.role
 
--- a caller's seat, by the entries of its number and role alone
+-- a caller's sync, by the entries of its number and role alone
 -- rule: phases
-abbrev pub seat_by : List Told → Caller → Option Seat
-seat_by [] c = None
-seat_by (e ∷ h) c = if same_caller c e.caller then seat_after (seat_by h c) e.call e.answer else seat_by h c
+abbrev pub sync_by : List Told → Caller → Option InFlight
+sync_by [] c = None
+sync_by (e ∷ h) c = if same_caller c e.caller then sync_after (sync_by h c) e.call e.answer else
+    sync_by h c
 
 -- a caller's last accepted claim, by the entries of its number and role alone
 -- rule: once
 abbrev pub claim_by : ℕ → List Told → Caller → Option Claimed
 claim_by window [] c = None
-claim_by window (e ∷ h) c = if same_caller c e.caller then claim_after (state_of window h).store e.call e.answer (claim_by window h c) else claim_by window h c
+claim_by window (e ∷ h) c = if same_caller c e.caller then claim_after (state_of window h).store
+    e.call e.answer (claim_by window h c) else claim_by window h c
 
 abbrev pub worker : ℕ → Caller
 worker w = record { number = w; role = Worker }
 
--- a worker's seat and its claim are those of its number; nobody else has any
+-- a worker's sync and its claim are those of its number; nobody else has any
 -- rule: phases
 pub record AreOfCallers (window : ℕ) (h : List Told) : Type 0 where
   pub alone : WorkersAlone h
-  pub seats : (w : ℕ) → seat_by h (worker w) ≡ seat h w
+  pub syncs : (w : ℕ) → sync_by h (worker w) ≡ sync h w
   pub claims : (w : ℕ) → claim_by window h (worker w) ≡ claim_of window h w
-  pub seatless : (c : Caller) → c.role ≢ Worker → seat_by h c ≡ None
+  pub none_in_flight : (c : Caller) → c.role ≢ Worker → sync_by h c ≡ None
   pub claimless : (c : Caller) → c.role ≢ Worker → claim_by window h c ≡ None
 
 -- whoever calls whatever

@@ -1,5 +1,5 @@
--- A key is in one worker's hands at a time: client-go, package workqueue ("a single item will not be
--- processed multiple times concurrently").
+-- A key is in one worker's hands at a time: client-go, package workqueue ("a single item will not
+-- be processed multiple times concurrently").
 use Rattle.std.specs.Prelude.{◌≡◌, ℕ, List, ◌∷◌, ◌++◌, Ok}
 use Rattle.cj_types.specs.Keys.{Place}
 use Rattle.cj_types.specs.declared.policy.Reason.{Reason}
@@ -28,10 +28,12 @@ pub data SomeFinish (caller : Caller) : List Told → Type 0 where
   here : (e : Told) (h : List Told) → IsFinish caller e → SomeFinish caller (e ∷ h)
   later : (e : Told) (h : List Told) → SomeFinish caller h → SomeFinish caller (e ∷ h)
 
--- between two Takes of a key its first taker has ended its sync; a history has its newest entry first
+-- between two Takes of a key its first taker has ended its sync; a history has its newest entry
+-- first
 -- rule: exclusive
 abbrev pub Exclusive : List Told → Type 0
-Exclusive h = (k : Place) (after between before : List Told) (second first : Told) → h ≡ after ++ second ∷ (between ++ first ∷ before)
+Exclusive h = (k : Place) (after between before : List Told) (second first : Told)
+    → h ≡ after ++ second ∷ (between ++ first ∷ before)
     → IsTake k second → IsTake k first → SomeFinish first.caller between
 
 -- whoever calls whatever

@@ -1,6 +1,6 @@
--- At most one Job for a scheduled time, and under Forbid and Replace none beside another: Kubernetes CronJob
--- documentation, "Concurrency policy" and "CronJob limitations", where these are wishes ("approximately once
--- per execution time").
+-- At most one Job for a scheduled time, and under Forbid and Replace none beside another:
+-- Kubernetes CronJob documentation, "Concurrency policy" and "CronJob limitations", where these are
+-- wishes ("approximately once per execution time").
 use Rattle.std.specs.Prelude.{◌≡◌, ℕ, ◌≤◌, ◌==◌, Bool, true, false, cond, List, [], ◌∷◌, length, Option, Some, None, Result, Ok, Err}
 use Rattle.std.specs.List.{AllByRecursion}
 use Rattle.std.specs.FinMap as map
@@ -35,7 +35,8 @@ claimed_of s t None = None
 claimed_of s t (Some cron) = claimed_under cron.meta.uid t (map.get s.crons cron.key)
 
 -- after an answer to a claim of the plan, where another was claimed before
-abbrev pub claim_answered : Content → Planned → Result Reply Refusal → Option Claimed → Option Claimed
+abbrev pub claim_answered : Content → Planned → Result Reply Refusal → Option Claimed
+    → Option Claimed
 claim_answered s p (Ok (Say.Claimed (Some (t, v)))) before = claimed_of s t p.cron
 claim_answered s p (Ok reply) before = None
 claim_answered s p (Err e) before = before
@@ -44,11 +45,14 @@ abbrev pub claim_after : Content → Call → Result Reply Refusal → Option Cl
 claim_after s (Of.Claim p) answer before = claim_answered s p answer before
 claim_after s call answer before = before
 
--- the caller's last accepted claim, by its number: only a worker's entries change it (legal/Callers)
+-- the caller's last accepted claim, by its number: only a worker's entries change it
+-- (legal/Callers)
 -- rule: once
 abbrev pub claim_of : ℕ → List Told → ℕ → Option Claimed
 claim_of window [] w = None
-claim_of window (e ∷ h) w = cond (w == e.caller.number) (claim_after (state_of window h).store e.call e.answer (claim_of window h w)) (claim_of window h w)
+claim_of window (e ∷ h) w = cond (w == e.caller.number)
+    (claim_after (state_of window h).store e.call e.answer (claim_of window h w))
+    (claim_of window h w)
 
 abbrev pub is_ok : Result Reply Refusal → Bool
 is_ok (Ok reply) = true
@@ -79,7 +83,9 @@ IsNew m ms = AllByRecursion (λ x. x.owner ≡ m.owner → x.time ≡ m.time →
 -- rule: once
 abbrev pub Once : ℕ → List Told → Type 0
 Once window [] = Unit {0}
-Once window (e ∷ h) = (is_making e ≡ true → (m : Claimed) × (claim_of window h e.caller.number ≡ Some m) × IsNew m (makes window h)) × Once window h
+Once window (e ∷ h) = (is_making e ≡ true
+    → (m : Claimed) × (claim_of window h e.caller.number ≡ Some m) × IsNew m (makes window h))
+    × Once window h
 
 -- rule: alone
 abbrev pub NoneRuns : ℕ → map.FinMap place_cmp Job → Type 0
@@ -90,9 +96,11 @@ NoneRuns u jobs = (q : Place) (j : Job) → map.get jobs q ≡ Some j → runs u
 abbrev pub Alone : ℕ → List Told → Type 0
 Alone window [] = Unit {0}
 Alone window (e ∷ h) =
-    (is_making e ≡ true → (m : Claimed) → claim_of window h e.caller.number ≡ Some m → is_strict m.policy ≡ true → NoneRuns m.owner (state_of window h).store.jobs)
+    (is_making e ≡ true → (m : Claimed) → claim_of window h e.caller.number ≡ Some m
+    → is_strict m.policy ≡ true → NoneRuns m.owner (state_of window h).store.jobs)
     × Alone window h
 
 -- whoever calls whatever in any order, as often as there are uids
 abbrev pub OnceAndAlone : Type 0
-OnceAndAlone = (window : ℕ) (h : List Told) → length h ≤ last_uid → IsLegal window h → ArePlanned h → Once window h × Alone window h
+OnceAndAlone = (window : ℕ) (h : List Told) → length h ≤ last_uid → IsLegal window h → ArePlanned h
+    → Once window h × Alone window h

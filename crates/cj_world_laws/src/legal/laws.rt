@@ -8,11 +8,11 @@ ghost use Rattle.cj_state.specs.Sound.{IsSound};
 ghost use Rattle.cj_state.specs.Legal.{state_of};
 ghost use Rattle.cj_world_laws.specs.legal.Answers.{AnswersFit};
 ghost use Rattle.cj_world_laws.specs.legal.Callers.{CallerLaw};
-ghost use Rattle.cj_world_laws.specs.legal.Seats.{SeatLaw, HeldLaw};
+ghost use Rattle.cj_world_laws.specs.legal.InFlightSyncs.{SyncLaw, HeldLaw};
 ghost use Rattle.cj_world_laws.specs.legal.Exclusive.{AlwaysExclusive};
 
-/// The state that any history leaves is sound, has not more writes than the history entries, and the window
-/// it began with.
+/// The state that any history leaves is sound, has not more writes than the history entries, and
+/// the window it began with.
 pub fn sound_law()
     ensures sound { (window : ℕ) (h : List Told) → IsSound (state_of window h) }
     ensures few { (window : ℕ) (h : List Told) → (state_of window h).store.version ≤ length h }
@@ -30,16 +30,17 @@ pub fn answer_law()
     ensures { AnswersFit }
 {}
 
-/// What the world keeps of a worker is what the worker's own accepted calls since its last accepted Take say:
-/// the key, the phase, and the answers that it got. No two workers hold one key.
-pub fn seat_law()
-    ensures seats { SeatLaw }
+/// What the world keeps of a worker is what the worker's own accepted calls since its last accepted
+/// Take say: the key, the phase, and the answers that it got. No two workers hold one key.
+pub fn sync_law()
+    ensures syncs { SyncLaw }
     ensures held { HeldLaw }
 {}
 
-/// Callers are told apart by number and role, and for the calls of a sync the number is enough: who is answered one
-/// that is accepted is a worker. A worker's seat and its claim by the entries of its number and role are those by the
-/// entries of its number, and a caller of another role has neither.
+/// Callers are told apart by number and role, and for the calls of a sync the number is enough: who
+/// is answered one that is accepted is a worker. A worker's sync and its claim by the entries of
+/// its number and role are those by the entries of its number, and a caller of another role has
+/// neither.
 pub fn caller_law()
     ensures { CallerLaw }
 {}

@@ -1,4 +1,5 @@
--- zones_of_rule: its clause ok, that the local zone is the one made of the rule, and its clause err, since that one is found.
+-- zones_of_rule: its clause ok, that the local zone is the one made of the rule, and its clause err, since that one is
+-- found.
 use Rattle.std.proofs.Common.{◌≡◌, ◌∙◌, ap, sym}
 use Rattle.cj_zone.specs.declared.zone.Zone.{Zone}
 use Rattle.cj_zone.specs.Zones.{zone_named}

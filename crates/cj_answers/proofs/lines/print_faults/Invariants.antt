@@ -1,6 +1,6 @@
 -- print_faults, its loop: text and the lines of the faults left are those of all faults.
 use Rattle.std.proofs.Common.{◌≡◌, ◌++◌, drop, string_bytes}
-use Rattle.cj_answers.specs.Check.{fault_lines}
+use Rattle.cj_answers.specs.Lines.{fault_lines}
 use Rattle.cj_answers.proofs.lines.print_faults.Given as goal
 
 abbrev pub invariant-loop-fault : goal.invariant-loop-fault

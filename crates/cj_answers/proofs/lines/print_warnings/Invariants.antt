@@ -1,6 +1,6 @@
 -- print_warnings, its loop: text and the lines of the warnings left are those of all warnings.
 use Rattle.std.proofs.Common.{◌≡◌, ◌++◌, drop, string_bytes}
-use Rattle.cj_answers.specs.Check.{warning_lines}
+use Rattle.cj_answers.specs.Lines.{warning_lines}
 use Rattle.cj_answers.proofs.lines.print_warnings.Given as goal
 
 abbrev pub invariant-loop-warning : goal.invariant-loop-warning

@@ -6,5 +6,6 @@ use Rattle.cj_answers.proofs.nearest.meant.Given as goal
 
 abbrev pub invariant-loop-name : goal.invariant-loop-name
 invariant-loop-name l =
-    below l.text l.above (option_map (λ n. n.now) l.found) (nearest l.text (map (λ n. n.now) (drop l.name-index l.names)))
+    below l.text l.above (option_map (λ n. n.now) l.found)
+    (nearest l.text (map (λ n. n.now) (drop l.name-index l.names)))
     ≡ meant l.text (map (λ n. n.now) l.names)

@@ -7,6 +7,7 @@ use Rattle.cj_args.proofs.arguments.count_arg.Goals as goal
 pub returns : goal.returns
 returns c =
     let given = c.value_parser.ensures.given in
-    let parsed = parser_is _ c.option_arg.result c.value_parser.result (Unsigned 1 1_000) given.0 c.value_parser.ensures.others
+    let parsed = parser_is _ c.option_arg.result c.value_parser.result
+    (Unsigned 1 1_000) given.0 c.value_parser.ensures.others
     given.1 (given.2 ∙ c.unsigned.ensures) c.option_arg.ensures in
     default_is _ c.value_parser.result c.default_value.result _ c.default_value.ensures parsed

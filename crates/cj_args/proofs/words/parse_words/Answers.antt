@@ -19,11 +19,12 @@ returns-clause-stated c =
     stated_of c.request_of.result (subcommand_rows_of c.in_ok-matches.matches) (subcommand_of cronsim_app words)
     (simple_rows (app_of c.in_ok-command.command) cronsim_app words c.in_ok-matches.matches
     c.in_ok-command.ensures simple_cronsim c.in_ok-matches.ensures.matches)
-    c.request_of.ensures.stated
+    c.request_of.ensures.0
 
 pub returns-clause-refused : goal.returns-clause-refused
 returns-clause-refused c =
     by_values (map (λ w. w.now) c.args.words.now) (subcommand_rows_of c.in_ok-matches.matches) c.request_of.result
-    c.request_of.ensures.refused c.request_of.ensures.only
-    (simple_rows (app_of c.in_ok-command.command) cronsim_app (map (λ w. w.now) c.args.words.now) c.in_ok-matches.matches
+    c.request_of.ensures.1 c.request_of.ensures.2
+    (simple_rows (app_of c.in_ok-command.command) cronsim_app
+    (map (λ w. w.now) c.args.words.now) c.in_ok-matches.matches
     c.in_ok-command.ensures simple_cronsim c.in_ok-matches.ensures.matches)

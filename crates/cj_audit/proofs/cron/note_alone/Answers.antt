@@ -19,10 +19,12 @@ returns-clause-ok c =
     let cron = c.args.cron.now in
     let runs = c.args.runs.now in
     let start = c.args.notes.now in
-    let spec : c.get-spec.result.now ≡ cron.cron.spec = c.get-spec.ensures ∙ ap (λ (x : CronJob). x.spec) c.deref.ensures in
+    let spec : c.get-spec.result.now ≡ cron.cron.spec = c.get-spec.ensures
+    ∙ ap (λ (x : CronJob). x.spec) c.deref.ensures in
     let read : IsRead cron.cron.spec.schedule c.schedule_of-schedule.result = record {
       found = λ s h. subst (λ (x : CronSpec). IsSchedule x.schedule s) spec (c.schedule_of-schedule.ensures.found s h);
-      only = λ s h. c.schedule_of-schedule.ensures.only s (subst (λ (x : CronSpec). IsSchedule x.schedule s) (sym spec) h);
+      only =
+          λ s h. c.schedule_of-schedule.ensures.only s (subst (λ (x : CronSpec). IsSchedule x.schedule s) (sym spec) h);
     } in
     let zone : option_copied c.zone_for-zone.result ≡ zone_for cron.cron.spec.time_zone zones = c.zone_for-zone.ensures
     ∙ ap (λ (x : CronSpec). zone_for x.time_zone zones) spec in

@@ -44,7 +44,8 @@ returns-clause-ok c =
           let beside = pairs_of (SideBySide e) content cron moved again c.note_pairs.new.notes last
           w.in_ok-note_pairs-2.ensures.ok in
           subst (λ s. Notes (IsFindingOf zones content cron) start s) (sym w.notes-is)
-          (noted_all zones content cron e is start c.note_alone.new.notes c.note_pairs.new.notes last single twice beside)
+          (noted_all zones content cron e is start c.note_alone.new.notes c.note_pairs.new.notes last single twice
+          beside)
       | in_default w ↦
           let is : exclusive_of cron.cron.spec.policy ≡ None = policy ∙ sym c.of.ensures ∙ w.in_default.is in
           subst (λ s. Notes (IsFindingOf zones content cron) start s) (sym w.notes-is)

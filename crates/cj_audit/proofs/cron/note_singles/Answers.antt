@@ -15,7 +15,8 @@ loop-run-preserved c =
     let E = λ (run : Run) (f : Finding). IsEarlyRun c.args.cron.now run f in
     let S = IsSingleNote (option_copied c.args.schedule) (option_copied c.args.zone) c.args.cron.now in
     leads_step (AnyOf S) (S c.run-item.result) c.args.runs.now
-    c.loop-run.run-index c.run-item.result c.args.notes.now c.loop-run.notes c.note_early.new.notes (λ f h. h) (λ f h. h)
+    c.loop-run.run-index c.run-item.result c.args.notes.now c.loop-run.notes c.note_early.new.notes (λ f h. h)
+    (λ f h. h)
     (omega arith) c.run-item.is c.loop-run.invariant
     (notes_then (U c.run-item.result) (E c.run-item.result) c.loop-run.notes c.note_undue.new.notes
     c.note_early.new.notes c.in_ok-note_undue.ensures.ok c.in_ok-note_early.ensures.ok)

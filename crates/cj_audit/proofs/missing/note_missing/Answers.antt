@@ -19,11 +19,14 @@ returns-clause-ok c =
     let awake : cron.cron.spec.suspend ≡ false = subst (λ (x : CronSpec). x.suspend ≡ false) spec c.if-get.false in
     let key : c.key.result.now ≡ cron.cron.key = c.key.ensures.value ∙ ap (λ (x : CronJob). x.key) c.deref-2.ensures in
     let are : AreMarks cron runs jobs marks = subst (λ xs. AreMarks cron runs xs marks)
-    (c.as_slice.ensures ∙ c.in_ok-jobs.ensures.ok ∙ ap (owned_by c.args.cluster.now.jobs) key) c.in_ok-marks.ensures.ok in
-    let schedule : Some c.in-Some-Some.schedule.now ≡ option_copied c.args.schedule = sym (ap option_copied c.in-Some-Some.is-0) in
+    (c.as_slice.ensures ∙ c.in_ok-jobs.ensures.ok
+    ∙ ap (owned_by c.args.cluster.now.jobs) key) c.in_ok-marks.ensures.ok in
+    let schedule : Some c.in-Some-Some.schedule.now ≡ option_copied c.args.schedule = sym
+    (ap option_copied c.in-Some-Some.is-0) in
     let zone : Some c.in-Some-Some.zone.now ≡ option_copied c.args.zone = sym (ap option_copied c.in-Some-Some.is-1) in
     on_ok_weaker c.note_gaps.result
-    (λ h. subst (λ x. Notes (IsMissingIn x (option_copied c.args.zone) cron runs jobs) c.args.notes.now c.note_gaps.new.notes)
+    (λ h. subst (λ x. Notes (IsMissingIn x (option_copied c.args.zone) cron runs jobs) c.args.notes.now
+    c.note_gaps.new.notes)
     schedule (subst (λ y. Notes (IsMissingIn (Some c.in-Some-Some.schedule.now) y cron runs jobs) c.args.notes.now
     c.note_gaps.new.notes) zone
     (all_gaps c.in-Some-Some.schedule.now c.in-Some-Some.zone.now cron runs jobs marks are awake c.args.notes.now

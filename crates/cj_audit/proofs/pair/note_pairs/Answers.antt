@@ -13,7 +13,8 @@ returns-clause-ok c =
     let cron = c.args.cron.now in
     let xs = c.args.runs.now.items in
     let ys = c.as_slice.result.now in
-    let moved : IsPermutation xs ys = subst (λ zs. IsPermutation xs zs) (sym c.as_slice.ensures.value) c.sort.ensures.same in
+    let moved : IsPermutation xs ys = subst (λ zs. IsPermutation xs zs)
+    (sym c.as_slice.ensures.value) c.sort.ensures.same in
     on_ok_weaker c.note_sorted.result
     (λ h. notes_as (IsPairIn p cron ys) (IsPairIn p cron xs) c.args.notes.now c.note_sorted.new.notes
     (λ f g. pairs_moved_back p cron xs ys f moved g)

@@ -1,5 +1,5 @@
--- note_sorted: what stands behind a Job of a rising list rises with it; its clause ok, as the pairs of each Job with those
--- behind it are all pairs.
+-- note_sorted: what stands behind a Job of a rising list rises with it; its clause ok, as the pairs of each Job with
+-- those behind it are all pairs.
 use Rattle.std.proofs.Common.{◌∷◌, ◌+◌, drop, sym, subst, arith}
 use Rattle.cj_status.specs.Order.{IsRising}
 use Rattle.cj_audit.specs.Pairs.{comes_before, IsPairNote}
@@ -14,7 +14,8 @@ note_behind-requires c =
     let xs = c.args.runs.now in
     let i = c.loop-i.i in
     let x = c.index-runs-i.result in
-    let rising = subst (λ ys. IsRising (comes_before c.args.pairing) ys) (rest_at xs i x (omega arith) c.index-runs-i.is)
+    let rising = subst (λ ys. IsRising (comes_before c.args.pairing) ys)
+    (rest_at xs i x (omega arith) c.index-runs-i.is)
     (rising_drop (comes_before c.args.pairing) xs i c.requires) in
     subst (λ ys. IsRising (comes_before c.args.pairing) (x ∷ ys)) (sym (from_place xs (i + 1))) rising
 
@@ -27,7 +28,8 @@ loop-i-preserved c =
     let gained = subst (λ ys. Notes (AnyOf P ys) c.loop-i.notes c.note_behind.new.notes) (from_place xs (i + 1))
     c.in_ok-note_behind.ensures.ok in
     leads_step (PairsFrom c.args.pairing c.args.cron.now) (AnyOf P (drop (i + 1) xs)) xs i x c.args.notes.now
-    c.loop-i.notes c.note_behind.new.notes (λ f h. h) (λ f h. h) (omega arith) c.index-runs-i.is c.loop-i.invariant gained
+    c.loop-i.notes c.note_behind.new.notes (λ f h. h) (λ f h. h)
+    (omega arith) c.index-runs-i.is c.loop-i.invariant gained
 
 pub returns-clause-ok : goal.returns-clause-ok
 returns-clause-ok c =

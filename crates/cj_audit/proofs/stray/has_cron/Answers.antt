@@ -17,7 +17,8 @@ returns-in-Some-cron-clause-ok c =
     c.in_ok-key.field-0 c.in-Some.is c.in_ok-key.ensures.ok c.namespace.ensures c.as_str.ensures in
     let found : map.get c.args.cluster.now.crons c.in-Some.key ≡ Some c.in-Some-cron.cron.now = search rules in
     let there : map.get c.args.cluster.now.crons (place c.args.job.now.key.namespace c.args.name.now)
-    ≡ Some c.in-Some-cron.cron.now = subst (λ k. map.get c.args.cluster.now.crons k ≡ Some c.in-Some-cron.cron.now) key found in
+    ≡ Some c.in-Some-cron.cron.now =
+    subst (λ k. map.get c.args.cluster.now.crons k ≡ Some c.in-Some-cron.cron.now) key found in
     c.controls.ensures ∙ ap (λ x. is_of x c.args.job.now) c.deref.ensures
     ∙ sym (one_there c.args.cluster.now c.in-Some-cron.cron.now c.args.job.now c.args.name.now c.cron.ensures.sound
     c.requires.named there)

@@ -19,7 +19,8 @@ loop-cron-preserved c =
       leads = leads_step (AnyOf P) (P x) xs i x c.args.notes.now c.loop-cron.notes c.note_cron.new.notes (λ f h. h)
           (λ f h. h) (omega arith) c.cron-item.is c.loop-cron.invariant.leads
           (subst (λ y. Notes (P y) c.loop-cron.notes c.note_cron.new.notes) c.get.ensures c.in_ok-note_cron.ensures.ok);
-      short = each_step IsShort xs i x (omega arith) c.cron-item.is (subst IsShort c.get.ensures c.note_cron.ensures.short)
+      short =
+          each_step IsShort xs i x (omega arith) c.cron-item.is (subst IsShort c.get.ensures c.note_cron.ensures.short)
           c.loop-cron.invariant.short;
     }
 

@@ -1,5 +1,5 @@
--- note_crons: its loop; at each turn what is wrong with the rest is still to be noted, and only the keys of the rest may
--- still be no keys.
+-- note_crons: its loop; at each turn what is wrong with the rest is still to be noted, and only the keys of the rest
+-- may still be no keys.
 use Rattle.std.proofs.Common.{drop}
 use Rattle.std.specs.List.{AllByRecursion}
 use Rattle.cj_zone.specs.Table.{zones_of}

@@ -26,7 +26,8 @@ returns-clause-ok c =
     IfOk-weaker c.steps_of.result _ _
     (λ s h. record {
       start = c.decide_start-start.result;
-      decided = subst (λ b. IsStartDecision c.args.cron.now (option_copied c.args.zone) b c.args.now c.decide_start-start.result)
+      decided = subst (λ b. IsStartDecision c.args.cron.now (option_copied c.args.zone) b c.args.now
+          c.decide_start-start.result)
           any c.decide_start-start.ensures;
       meant = h;
     })

@@ -8,6 +8,7 @@ use Rattle.cj_history.specs.gaps.reading.Listed.{AreGaps}
 use Rattle.cj_history.specs.gaps.reading.Reached.{Knows}
 
 -- the syncs of these entries are known, and their gaps are listed
-pub record Goes (told : Mark → Bool) (h : List Told) (moments : Moments) (gs : List Gap) : Type 0 where
+pub record Goes (told : Mark → Bool) (h : List Told) (moments : Moments) (gs : List Gap)
+    : Type 0 where
   pub syncs : Knows moments h
   pub gaps : AreGaps told h gs

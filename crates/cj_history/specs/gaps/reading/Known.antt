@@ -27,7 +27,8 @@ has t m = has_in t.marks m
 
 -- the worker has that claim, if it is one, and the others keep theirs
 abbrev pub Claims : ℕ → Option Start → tree.BTreeMap ℕ Start → tree.BTreeMap ℕ Start → Type 0
-Claims number start before after = (other : ℕ) → claim_by after other ≡ newer (if number == other then start else None) (claim_by before other)
+Claims number start before after = (other : ℕ)
+    → claim_by after other ≡ newer (if number == other then start else None) (claim_by before other)
 
 -- that is told, if it is anything
 abbrev pub Tells : Option Mark → set.BTreeSet Mark → set.BTreeSet Mark → Type 0

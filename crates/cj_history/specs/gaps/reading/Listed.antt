@@ -36,10 +36,12 @@ gaps_among told cron p ts = gaps_with told cron (cause told cron p) ts
 -- of the times after an instant; a text that isn't a schedule has none
 abbrev pub GapsFrom : (Mark → Bool) → CronJob → Planned → Zone → ℕ → List Gap → Type 0
 GapsFrom told cron p z lo gs =
-    ((s : Sets) × IsSchedule cron.spec.schedule s × (gs ≡ gaps_among told cron p (missed_times s z lo p.at)))
+    ((s : Sets) × IsSchedule cron.spec.schedule s
+    × (gs ≡ gaps_among told cron p (missed_times s z lo p.at)))
     ⊎ (((s : Sets) → IsSchedule cron.spec.schedule s → ⊥) × (gs ≡ []))
 
-abbrev pub GapsBy : (Mark → Bool) → (CronJob → ℕ) → Planned → Option CronJob → Option Zone → List Gap → Type 0
+abbrev pub GapsBy : (Mark → Bool) → (CronJob → ℕ) → Planned → Option CronJob → Option Zone
+    → List Gap → Type 0
 GapsBy told from p None z gs = gs ≡ []
 GapsBy told from p (Some cron) None gs = gs ≡ []
 GapsBy told from p (Some cron) (Some z) gs = GapsFrom told cron p z (from cron) gs
@@ -51,7 +53,8 @@ GapsOf told from (Some p) gs = GapsBy told from p p.cron p.zone gs
 abbrev pub AreGaps : (Mark → Bool) → List Told → List Gap → Type 0
 AreGaps told [] gs = gs ≡ []
 AreGaps told (e ∷ h) gs =
-    (old new : List Gap) × AreGaps told h old × GapsOf told (seen_upto h) (plan_in e.call e.answer) new
+    (old new : List Gap) × AreGaps told h old
+    × GapsOf told (seen_upto h) (plan_in e.call e.answer) new
     × (gs ≡ old ++ new)
 
 -- some such gaps were put after those that were there

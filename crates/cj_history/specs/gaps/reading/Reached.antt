@@ -13,10 +13,13 @@ moment_of t u = unwrap_or (tree.get nat_cmp t.moments u) 0
 
 -- that of this one is no less than the moment, the others stay
 abbrev pub Comes : ℕ → ℕ → Moments → Moments → Type 0
-Comes u at before after = (other : ℕ) → moment_of after other ≡ (if u == other then max (moment_of before other) at else moment_of before other)
+Comes u at before after = (other : ℕ)
+    → moment_of after other ≡ (if u == other then max (moment_of before other) at else moment_of
+    before other)
 
 abbrev pub ComesBy : Planned → Moments → Moments → Type 0
-ComesBy p before after = (other : ℕ) → moment_of after other ≡ moment_by p.cron p.zone p.at other (moment_of before other)
+ComesBy p before after = (other : ℕ)
+    → moment_of after other ≡ moment_by p.cron p.zone p.at other (moment_of before other)
 
 -- what is known is what the history says
 abbrev pub Knows : Moments → List Told → Type 0

@@ -1,4 +1,5 @@
--- watch: its clause adds, where the Watch tells events, is refused as expired, or is refused else.
+-- watch: its clause adds, where the Watch answers with events, is refused as expired, or is refused
+-- else.
 use Rattle.std.proofs.Common.{arith}
 use Rattle.cj_calls.specs.declared.call.Call.TheVariants as Of
 use Rattle.cj_calls.specs.declared.reply.Reply.TheVariants as Is

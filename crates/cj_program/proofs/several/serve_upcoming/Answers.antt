@@ -2,6 +2,8 @@
 use Rattle.cj_program.proofs.GivenFiles.{given_one}
 use Rattle.cj_program.proofs.several.serve_upcoming.Goals as goal
 
-pub returns-clause-given : goal.returns-clause-given
-returns-clause-given g c = λ lt. given_one c.upcoming_files_answer.result _ _ _ _ _ _ c.upcoming_files_answer.ensures
-    (c.give_answer.ensures.given lt)
+pub returns : goal.returns
+returns g c = record {
+  given = λ lt. given_one c.upcoming_files_answer.result _ _ _ _ _ _ c.upcoming_files_answer.ensures
+      (c.give_answer.ensures.given lt);
+}

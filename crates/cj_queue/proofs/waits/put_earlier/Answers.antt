@@ -14,7 +14,8 @@ returns-clause-agree c =
     there in
     let sets = subst (λ k. SetsTime c.args.times.now c.insert-2.new.self k c.args.at) c.in_ok-first.ensures.one
     (ok_of c.insert-2.result _ e c.insert-2.ensures.updates).0 in
-    let adds = subst (λ k. SetsOrder c.args.order.now c.insert.new.self c.args.at k (Some tt)) c.in_ok-first.ensures.other
+    let adds = subst (λ k. SetsOrder c.args.order.now c.insert.new.self c.args.at k (Some tt))
+    c.in_ok-first.ensures.other
     (ok_of c.insert.result _ h c.insert.ensures.updates).0 in
     let drops = subst (λ k. SetsOrder c.insert.new.self c.remove.new.self c.args.before k None)
     c.in_ok-try_copy.ensures.ok c.remove.ensures.updates.0 in

@@ -1,7 +1,7 @@
 -- create_all, its loop over the drafts: the user created the CronJobs of those gone through.
 use Rattle.std.proofs.Common.{take}
 use Rattle.cj_run.specs.Simulations.{creations}
-use Rattle.cj_run.specs.Deeds.{Does}
+use Rattle.cj_run.specs.Actions.{Does}
 use Rattle.cj_run.proofs.user.create_all.Given as goal
 
 abbrev pub invariant-loop-draft : goal.invariant-loop-draft

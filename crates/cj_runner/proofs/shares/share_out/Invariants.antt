@@ -1,4 +1,5 @@
--- share_out: its loop; at each turn each pass gone through has a share, and shares and rest are the list.
+-- share_out: its loop; at each turn each pass gone through has a share, and shares and rest are the
+-- list.
 use Rattle.std.proofs.Common.{◌≡◌, ◌++◌, map}
 use Rattle.std.specs.List.{flat_map}
 use Rattle.cj_runner.proofs.shares.share_out.Given as goal

@@ -52,7 +52,8 @@ says given d s p draft cron jobs formed sound drafted local c j z sc sj sa = rec
 
 pub returns-clause-said : goal.returns-clause-said
 returns-clause-said c =
-    says c.args.given (view c.args.value.now) c.in_ok-scene.scene c.in_ok-parts.parts c.in_ok-draft.draft c.scene_cron-cron.result
+    says c.args.given (view c.args.value.now) c.in_ok-scene.scene c.in_ok-parts.parts c.in_ok-draft.draft
+    c.scene_cron-cron.result
     c.in_ok-jobs.jobs.items
     c.in_ok-parts.ensures.ok c.in_ok-draft.ensures.sound c.in_ok-draft.ensures.said c.in_ok-parts.ensures.local
     c.scene_cron-cron.ensures

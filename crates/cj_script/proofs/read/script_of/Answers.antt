@@ -12,7 +12,8 @@ use Rattle.cj_script.proofs.read.script_of.Goals as goal
 pub returns-in_err-limits-clause-refused : goal.returns-in_err-limits-clause-refused
 returns-in_err-limits-clause-refused c =
     let zones = zones_of c.in_ok-zones.zones in
-    moved c.from_residual-in_err-limits.result c.in_err-limits.field-0.0 (IsRefusedValue c.args.given (view c.args.value.now))
+    moved c.from_residual-in_err-limits.result c.in_err-limits.field-0.0
+    (IsRefusedValue c.args.given (view c.args.value.now))
     c.from_residual-in_err-limits.ensures.1
     (refused_under c.args.given (view c.args.value.now) zones c.in_err-limits.field-0.0
     (subst (λ o. AreZones c.args.given o zones) c.present.ensures c.in_ok-zones.ensures.ok) c.in_err-limits.ensures.err)

@@ -4,4 +4,5 @@ use Rattle.cj_upcoming.specs.Changes.{change_lines}
 use Rattle.cj_upcoming.proofs.changes.change_lines.Given as goal
 
 abbrev pub invariant-loop-at : goal.invariant-loop-at
-invariant-loop-at l = string_bytes l.text ++ change_lines l.zone (drop l.at-index l.changes) ≡ change_lines l.zone l.changes
+invariant-loop-at l =
+    string_bytes l.text ++ change_lines l.zone (drop l.at-index l.changes) ≡ change_lines l.zone l.changes

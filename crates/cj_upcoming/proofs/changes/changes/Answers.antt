@@ -1,4 +1,4 @@
--- changes: its loop and its ensures, stretch by stretch.
+-- changes: its loop and its ensures, interval by interval.
 use Rattle.std.proofs.Common.{◌≡◌, ◌≤◌, ◌++◌, ◌∷◌, ◌+◌, ℕ, [], cond, ap, sym, subst, ◌∙◌, arith, append-nil}
 use Rattle.cj_zone.specs.Offset.{zone_offset}
 use Rattle.cj_upcoming.specs.Changes.{changes, is_change}

@@ -19,4 +19,5 @@ loop-preserved c =
 
 pub returns-clause-ok : goal.returns-clause-ok
 returns-clause-ok c =
-    continues_done _ _ _ _ c.loop.at (c.args.count - c.loop.counter) _ (omega (arith, c.loop-test.false)) c.loop.invariant
+    continues_done _ _ _ _ c.loop.at (c.args.count - c.loop.counter) _
+    (omega (arith, c.loop-test.false)) c.loop.invariant

@@ -13,4 +13,5 @@ returns-in-Some c =
 
 pub returns-in-None : goal.returns-in-None
 returns-in-None c =
-    IfOk-weaker c.no_time.result _ _ (λ s h. h ∙ words_none c.args.schedule.now c.in-None.ensures.value) c.no_time.ensures
+    IfOk-weaker c.no_time.result _ _ (λ s h. h
+    ∙ words_none c.args.schedule.now c.in-None.ensures.value) c.no_time.ensures

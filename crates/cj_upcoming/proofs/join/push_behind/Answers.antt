@@ -13,5 +13,7 @@ loop-i-preserved c =
     let piece = link (length xs - (i + 1) == 0) ++ string_bytes x in
     let whole = string_bytes c.args.text.now ++ behind (map string_bytes xs) in
     grows (string_bytes c.loop-i.text) (string_bytes c.push_linked.new.text) piece rest whole
-    (c.in_ok-push_linked.ensures ∙ ap (λ y. string_bytes c.loop-i.text ++ (link (length xs - (i + 1) == 0) ++ y)) c.as_str.ensures.value)
-    (ap (λ y. string_bytes c.loop-i.text ++ y) (sym (behind_step string_bytes xs i x (omega arith) c.index-items-i.is)) ∙ c.loop-i.invariant)
+    (c.in_ok-push_linked.ensures
+    ∙ ap (λ y. string_bytes c.loop-i.text ++ (link (length xs - (i + 1) == 0) ++ y)) c.as_str.ensures.value)
+    (ap (λ y. string_bytes c.loop-i.text
+    ++ y) (sym (behind_step string_bytes xs i x (omega arith) c.index-items-i.is)) ∙ c.loop-i.invariant)

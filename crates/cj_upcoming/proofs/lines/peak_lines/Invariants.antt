@@ -4,4 +4,5 @@ use Rattle.cj_upcoming.specs.Lines.{peak_lines}
 use Rattle.cj_upcoming.proofs.lines.peak_lines.Given as goal
 
 abbrev pub invariant-loop-minute : goal.invariant-loop-minute
-invariant-loop-minute l = string_bytes l.text ++ peak_lines l.crons l.starts (drop l.minute-index l.minutes) ≡ peak_lines l.crons l.starts l.minutes
+invariant-loop-minute l = string_bytes l.text
+    ++ peak_lines l.crons l.starts (drop l.minute-index l.minutes) ≡ peak_lines l.crons l.starts l.minutes

@@ -4,4 +4,5 @@ use Rattle.cj_upcoming.specs.Lines.{start_lines}
 use Rattle.cj_upcoming.proofs.lines.start_lines.Given as goal
 
 abbrev pub invariant-loop-minute : goal.invariant-loop-minute
-invariant-loop-minute l = string_bytes l.text ++ start_lines l.crons l.starts (drop l.minute-index l.minutes) ≡ start_lines l.crons l.starts l.minutes
+invariant-loop-minute l = string_bytes l.text
+    ++ start_lines l.crons l.starts (drop l.minute-index l.minutes) ≡ start_lines l.crons l.starts l.minutes

@@ -9,4 +9,5 @@ use Rattle.cj_upcoming.proofs.minutes.minutes_of.Goals as goal
 pub returns-clause-within : goal.returns-clause-within
 returns-clause-within c =
     IfOk-weaker c.grouped.result _ _
-    (λ v e. subst (λ ms. All (IsWithin c.args.starts.now) ms) (sym e) (minutes_within c.args.starts.now)) c.grouped.ensures
+    (λ v e. subst (λ ms. All (IsWithin c.args.starts.now) ms) (sym e) (minutes_within c.args.starts.now))
+    c.grouped.ensures

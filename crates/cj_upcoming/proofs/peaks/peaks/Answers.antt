@@ -22,4 +22,5 @@ returns-clause-within c =
     let P = IsWithin c.args.starts.now in
     let all = c.sort.new.minutes.items in
     subst (λ xs. All P xs) (sym c.truncate.ensures.items)
-    (All-take P c.args.most all (All-permutation P c.in_ok-all.all.items all c.sort.ensures.same c.in_ok-all.ensures.within))
+    (All-take P c.args.most all (All-permutation P c.in_ok-all.all.items all c.sort.ensures.same
+    c.in_ok-all.ensures.within))

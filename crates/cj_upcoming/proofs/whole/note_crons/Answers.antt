@@ -23,7 +23,8 @@ loop-place-preserved c =
     c.spec_of-spec.ensures ∙ ap (λ (d : ClusterCron). d.cron.spec) c.get.ensures in
     starts_step zones w xs i x c.args.starts.now c.loop-place.starts c.note_cron.new.starts
     (slice_get_read xs (length xs) i x refl (omega arith) c.index-crons-place.is) c.loop-place.invariant
-    (subst (λ s. Notes (IsStartOf zones w i s) c.loop-place.starts c.note_cron.new.starts) spec c.in_ok-note_cron.ensures.ok)
+    (subst (λ s. Notes (IsStartOf zones w i s) c.loop-place.starts c.note_cron.new.starts) spec
+    c.in_ok-note_cron.ensures.ok)
 
 pub returns-in_err-note_cron-clause-many : goal.returns-in_err-note_cron-clause-many
 returns-in_err-note_cron-clause-many c =

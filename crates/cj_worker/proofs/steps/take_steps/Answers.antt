@@ -24,4 +24,4 @@ pub returns-in-Err-clause-adds : goal.returns-in-Err-clause-adds
 returns-in-Err-clause-adds g c =
     adds-then c.loop-step.invariant c.in-Err.ensures.adds
     (λ es fs h k. step_last (g.G.Gate.may_stop c.args.gate.now Made c.args.key.now) c.args.steps.now
-    c.loop-step.step-index es fs (Err c.in-Err.hitch) (omega arith) (λ is. cc) h k)
+    c.loop-step.step-index es fs (Err c.in-Err.error) (omega arith) (λ is. cc) h k)

@@ -1,4 +1,5 @@
--- sync_on: its clauses longer, synced and ended, from what sync_once ensures of the pass and of its end.
+-- sync_on: its clauses longer, synced and ended, from what sync_once ensures of the pass and of its
+-- end.
 use Rattle.cj_worker.proofs.Passes.{ended, longer}
 use Rattle.cj_worker.proofs.Synced.{synced}
 use Rattle.cj_worker.specs.Syncs.{IsSync}

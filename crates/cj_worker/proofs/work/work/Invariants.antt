@@ -1,5 +1,5 @@
--- work, its loop: it can go on, the pass is the one given with new receipts behind, and these are of whole
--- syncs.
+-- work, its loop: it can go on, the pass is the one given with new receipts behind, and these are
+-- of whole syncs.
 use Rattle.cj_worker.specs.Syncs.{IsSync}
 use Rattle.cj_worker.specs.Workers.{Extends, Gets}
 use Rattle.cj_worker.proofs.Synced.{SoFar}

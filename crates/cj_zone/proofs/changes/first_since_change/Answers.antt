@@ -11,7 +11,8 @@ use Rattle.cj_zone.proofs.changes.first_since_change.Goals as goal
 pub since-requires : goal.since-requires
 since-requires c =
     let z = c.args.tables.now in
-    let found = ap change_of (sym c.in-Some.is) ∙ previous_in c.next.result c.args.tables c.from_plain-instant.result.nanosecond _ _ c.next.ensures.steps
+    let found = ap change_of (sym c.in-Some.is) ∙ previous_in c.next.result c.args.tables
+    c.from_plain-instant.result.nanosecond _ _ c.next.ensures.steps
     (c.preceding.ensures ∙ rw c.tzif.ensures refl) in
     let is = floor_previous z c.args.at c.from_plain-instant.result.nanosecond c.as_second.result
     (transition_view (plain_transition c.in-Some.change)) c.requires
@@ -23,7 +24,8 @@ since-requires c =
 pub returns-in-Some-clause-same : goal.returns-in-Some-clause-same
 returns-in-Some-clause-same c = λ t above within.
     let z = c.args.tables.now in
-    let found = ap change_of (sym c.in-Some.is) ∙ previous_in c.next.result c.args.tables c.from_plain-instant.result.nanosecond _ _ c.next.ensures.steps
+    let found = ap change_of (sym c.in-Some.is) ∙ previous_in c.next.result c.args.tables
+    c.from_plain-instant.result.nanosecond _ _ c.next.ensures.steps
     (c.preceding.ensures ∙ rw c.tzif.ensures refl) in
     let is = floor_previous z c.args.at c.from_plain-instant.result.nanosecond c.as_second.result
     (transition_view (plain_transition c.in-Some.change)) c.requires

@@ -1,5 +1,5 @@
--- from_rules: its clause offsets, a stretch whose two offsets are the same.
-use Rattle.cj_zone.proofs.StretchLemmas.{back_offset}
+-- from_rules: its clause offsets, an interval whose two offsets are the same.
+use Rattle.cj_zone.proofs.IntervalLemmas.{back_offset}
 use Rattle.cj_zone.proofs.SteadyLemmas.{one_clock}
 use Rattle.cj_zone.proofs.steady.from_rules.Goals as goal
 

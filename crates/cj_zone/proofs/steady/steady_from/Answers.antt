@@ -1,6 +1,6 @@
 -- steady_from: its clause offsets, since the zone's clock is that of its rules.
 use Rattle.cj_zone.proofs.ClockLemmas.{zone_offset-clock}
-use Rattle.cj_zone.proofs.StretchLemmas.{same_clock}
+use Rattle.cj_zone.proofs.IntervalLemmas.{same_clock}
 use Rattle.cj_zone.proofs.steady.steady_from.Goals as goal
 
 pub returns-clause-offsets : goal.returns-clause-offsets

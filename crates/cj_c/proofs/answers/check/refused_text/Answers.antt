@@ -5,7 +5,7 @@ use Rattle.cj_base.specs.declared.faults.FieldFault.{FieldFault}
 use Rattle.cj_base.specs.declared.refusal.Refusal.{Refusal}
 use Rattle.cj_manifest.specs.Either as either
 use Rattle.cj_manifest.specs.Reading.{IsRefused}
-use Rattle.cj_c.specs.answers.FaultsJson.{faults_data}
+use Rattle.cj_views.specs.Faults.{faults_data}
 use Rattle.cj_c.specs.answers.Texts.{IsJsonText}
 use Rattle.cj_c.proofs.answers.check.refused_text.Goals as goal
 
@@ -18,5 +18,7 @@ returns-in-Invalid-clause-ok c = λ bytes zones_text zones are refused.
       value = faulty.0;
       reads = faulty.1;
       any = subst (λ (fs : List FieldFault). fs ≢ []) faulty.2 faulty.3;
-      printed = subst (λ (fs : List FieldFault). IsJsonText (faults_data fs) (string_bytes s)) (c.as_slice.ensures ∙ faulty.2) text;
+      printed =
+          subst (λ (fs : List FieldFault). IsJsonText (faults_data fs) (string_bytes s)) (c.as_slice.ensures
+          ∙ faulty.2) text;
     }))) c.faulty_text.ensures.ok

@@ -12,5 +12,12 @@ returns-clause-ok c = IfOk-weaker c.table_of.result _ _
 
 pub returns-clause-err : goal.returns-clause-err
 returns-clause-err c = IfErr-weaker c.table_of.result _ _
-    (λ e why. none_for [] _ e (λ none. record { given = c.args.given; bare = c.requires; object = None; is_object = refl; none = none }) why)
+    (λ e why. none_for [] _ e (λ none. record {
+      given = c.args.given;
+      bare = c.requires;
+      object = None;
+      is_object =
+          refl;
+      none = none;
+    }) why)
     c.table_of.ensures.refused

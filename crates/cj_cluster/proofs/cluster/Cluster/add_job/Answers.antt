@@ -1,5 +1,5 @@
--- add_job: the invariant of the cluster with the Job or without it; its clause err, as the times that were put are taken
--- out again.
+-- add_job: the invariant of the cluster with the Job or without it; its clause err, as the times that were put are
+-- taken out again.
 use Rattle.std.proofs.Common.{rules, ◌∙◌, sym, subst}
 use Rattle.cj_cluster.specs.Content.{IsSound}
 use Rattle.cj_cluster.proofs.Sound.{parts_undone, parts_with_job}

@@ -1,5 +1,5 @@
--- texts_of: its loop; at each turn the texts so far, with those of the items to come, are those of all, and the items to
--- come nest no deeper than JSON is read.
+-- texts_of: its loop; at each turn the texts so far, with those of the items to come, are those of all, and the items
+-- to come nest no deeper than JSON is read.
 use Rattle.std.proofs.Common.{◌≤◌, drop, option_map}
 use Rattle.serde_json.specs.Data.{items_depth}
 use Rattle.serde_json.specs.Read.{max_depth}

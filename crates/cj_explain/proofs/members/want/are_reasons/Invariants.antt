@@ -5,4 +5,5 @@ use Rattle.cj_explain.specs.members.Wants.{all_reasons}
 use Rattle.cj_explain.proofs.members.want.are_reasons.Given as goal
 
 abbrev pub invariant-loop-item : goal.invariant-loop-item
-invariant-loop-item l = all_reasons (items_view (drop l.item-index l.item-items)) ≡ all_reasons (items_view l.item-items)
+invariant-loop-item l = all_reasons (items_view (drop l.item-index l.item-items))
+    ≡ all_reasons (items_view l.item-items)

@@ -14,11 +14,13 @@ returns-clause-exact c =
     let a = hour_is_gap in let b = started_is_none in let marks = c.in_ok-marks.marks in
     let goes = subst (λ (es : List Told). Goes (has marks) (reverse es) c.loop-entry.moments c.loop-entry.gaps.items)
     (take_all c.loop-entry.entry-index c.args.entries.now (omega arith)) c.loop-entry.invariant in
-    (just_gaps marks (reverse c.args.entries.now) c.loop-entry.moments c.loop-entry.gaps.items c.in_ok-marks.ensures.ok goes).0
+    (just_gaps marks (reverse c.args.entries.now) c.loop-entry.moments c.loop-entry.gaps.items c.in_ok-marks.ensures.ok
+    goes).0
 
 pub returns-clause-rise : goal.returns-clause-rise
 returns-clause-rise c =
     let marks = c.in_ok-marks.marks in
     let goes = subst (λ (es : List Told). Goes (has marks) (reverse es) c.loop-entry.moments c.loop-entry.gaps.items)
     (take_all c.loop-entry.entry-index c.args.entries.now (omega arith)) c.loop-entry.invariant in
-    (just_gaps marks (reverse c.args.entries.now) c.loop-entry.moments c.loop-entry.gaps.items c.in_ok-marks.ensures.ok goes).1
+    (just_gaps marks (reverse c.args.entries.now) c.loop-entry.moments c.loop-entry.gaps.items c.in_ok-marks.ensures.ok
+    goes).1

@@ -15,5 +15,6 @@ returns-in-Some-clause-ok c =
 
 pub returns-in-None-clause-ok : goal.returns-in-None-clause-ok
 returns-in-None-clause-ok c =
-    adds_none (has c.args.marks.now) c.args.plan.now c.args.gaps.now.items c.get.result.now c.args.cron.now c.args.zone.now
+    adds_none (has c.args.marks.now) c.args.plan.now c.args.gaps.now.items c.get.result.now c.args.cron.now
+    c.args.zone.now
     c.args.lo c.get.ensures (λ s h. let e = c.in-None.ensures.only s h in absurd (cc e))

@@ -6,5 +6,6 @@ use Rattle.cj_history.proofs.progress.laws.no_key_is_lost_law.Goals as goal
 
 pub returns : goal.returns
 returns c =
-    let a = legal_again in let b = wanted_again in let d = kept_again in let e = legal_due in let f = wanted_due in let g =
+    let a = legal_again in let b = wanted_again in let d = kept_again in let e = legal_due in let f
+    = wanted_due in let g =
     lined_due in let i = is_done in none_lost

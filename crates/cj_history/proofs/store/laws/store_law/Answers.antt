@@ -4,4 +4,5 @@ use Rattle.cj_history.proofs.StoreLemmas.Sample.{legal_again, none_then, another
 use Rattle.cj_history.proofs.store.laws.store_law.Goals as goal
 
 pub returns : goal.returns
-returns c = let a = legal_again in let b = none_then in let d = another in let e = three_writes in let f = two_objects in let g = knows_two in store_agrees
+returns c = let a = legal_again in let b = none_then in let d = another in let e = three_writes in let f
+    = two_objects in let g = knows_two in store_agrees

@@ -1,4 +1,5 @@
--- Book::close: its clauses ok and exact, by what all_fit answers, and exclusive, which holds of the world's history.
+-- Book::close: its clauses ok and exact, by what all_fit answers, and exclusive, which holds of the
+-- world's history.
 use Rattle.std.proofs.Common.{ap, subst, sym, List, refl}
 use Rattle.std.specs.Prelude.{All}
 use Rattle.cj_calls.specs.Rows.{Told}
@@ -31,4 +32,4 @@ returns-else-all_fit-clause-ok c = (
 
 pub returns-then-all_fit-clause-exclusive : goal.returns-then-all_fit-clause-exclusive
 returns-then-all_fit-clause-exclusive c = subst (λ (h : List Told). Exclusive h)
-    (ap (λ b. b.history) c.self.view_is) c.history.ensures.exclusive
+    (ap (λ b. b.history) c.self.view_is) c.shows_promise.ensures.exclusive

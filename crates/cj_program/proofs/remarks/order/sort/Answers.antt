@@ -11,7 +11,8 @@ use Rattle.cj_program.proofs.remarks.order.sort.Goals as goal
 -- To stand before another is an order that gaps can be sorted by.
 ranked : IsStrictWeakOrder comes_before
 ranked = ranks_by {R = gap_cmp} (then_total (then_total
-    (on_total (λ g. g.cron.key) (then_total (on_total (λ k. k.namespace) nat_list_cmp_total) (on_total (λ k. k.name) nat_list_cmp_total)))
+    (on_total (λ g. g.cron.key) (then_total (on_total (λ k. k.namespace) nat_list_cmp_total)
+    (on_total (λ k. k.name) nat_list_cmp_total)))
     (on_total (λ g. g.cron.meta.uid) nat_cmp_total)) (on_total (λ g. g.time) nat_cmp_total)) (λ g. g)
 
 pub returns-clause-ok : goal.returns-clause-ok

@@ -20,5 +20,6 @@ loop-entry-preserved c =
       progress = went_more s e past next more c.loop-entry.progress c.read_entry.new.progress was.progress
           c.in_ok-read_entry.ensures.progress;
       text = refused_more s e past next more c.loop-entry.progress c.read_entry.new.progress was.progress
-          (string_bytes c.loop-entry.text) (string_bytes c.read_entry.new.text) c.in_ok-read_entry.ensures.text was.text;
+          (string_bytes c.loop-entry.text) (string_bytes c.read_entry.new.text) c.in_ok-read_entry.ensures.text
+          was.text;
     }

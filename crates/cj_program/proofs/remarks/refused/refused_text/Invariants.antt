@@ -1,4 +1,5 @@
--- refused_text, its loop: how far the run is with the entries gone through, with the newest first, and what was refused.
+-- refused_text, its loop: how far the run is with the entries gone through, with the newest first, and what was
+-- refused.
 use Rattle.std.proofs.Common.{◌≡◌, ◌≤◌, take, string_bytes}
 use mathlib.Core.List.{reverse}
 use Rattle.cj_run.specs.Turns.{progress_of}

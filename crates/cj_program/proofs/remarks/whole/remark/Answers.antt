@@ -19,6 +19,7 @@ returns c =
             c.in_ok-gaps.ensures.exact;
         rise = c.in_ok-gaps.ensures.rise;
       };
-      said = is ∙ ap (remark_words c.args.most c.args.span.now c.args.closed.now) (c.as_slice.ensures.value ∙ c.in_ok-sort.ensures.ok);
+      said = is ∙ ap (remark_words c.args.most c.args.span.now c.args.closed.now)
+          (c.as_slice.ensures.value ∙ c.in_ok-sort.ensures.ok);
     })
     c.text_of.ensures

@@ -9,7 +9,8 @@ pub invariant_of-self-2 : goal.invariant_of-self-2
 invariant_of-self-2 c =
     let head : first c.self.inside.line.keys ≡ Some c.in_ok-copy.copy = cc (c.in-Some.ensures, c.in_ok-copy.ensures.ok)
     in
-    let sets : Sets c.self.inside.processing.keys c.put.new.set.keys c.in_ok-copy.copy true = λ q. c.put.ensures.updates.0 q
+    let sets : Sets c.self.inside.processing.keys c.put.new.set.keys c.in_ok-copy.copy true
+    = λ q. c.put.ensures.updates.0 q
     ∙ ap (cond (key_eq c.in_ok-copy.copy q) true) (c.make_room.ensures.same q) in
     record {
       lined = lined_take c.self.inside.line.keys c.pop_first.new.self.keys c.self.inside.again.keys
@@ -24,8 +25,10 @@ pub returns-clause-ok : goal.returns-clause-ok
 returns-clause-ok c =
     let head : first c.self.inside.line.keys ≡ Some c.in_ok-copy.copy = cc (c.in-Some.ensures, c.in_ok-copy.ensures.ok)
     in
-    let sets : Sets c.self.inside.processing.keys c.put.new.set.keys c.in_ok-copy.copy true = λ q. c.put.ensures.updates.0 q
+    let sets : Sets c.self.inside.processing.keys c.put.new.set.keys c.in_ok-copy.copy true
+    = λ q. c.put.ensures.updates.0 q
     ∙ ap (cond (key_eq c.in_ok-copy.copy q) true) (c.make_room.ensures.same q) in
-    sym (take_is c.self.inside.line.keys c.pop_first.new.self.keys c.self.inside.again.keys c.self.inside.processing.keys
+    sym (take_is c.self.inside.line.keys c.pop_first.new.self.keys c.self.inside.again.keys
+    c.self.inside.processing.keys
     c.put.new.set.keys c.in_ok-copy.copy c.self.invariant.lined head c.pop_first.ensures.keys sets)
     ∙ ap (λ v. row_take v.row) c.self.view_is

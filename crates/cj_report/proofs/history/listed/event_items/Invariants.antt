@@ -4,4 +4,5 @@ use Rattle.cj_report.specs.history.Listed as said
 use Rattle.cj_report.proofs.history.listed.event_items.Given as goal
 
 abbrev pub invariant-loop-event : goal.invariant-loop-event
-invariant-loop-event l = string_bytes l.text ++ said.event_items (drop l.event-index l.events) ≡ said.event_items l.events
+invariant-loop-event l = string_bytes l.text ++ said.event_items (drop l.event-index l.events)
+    ≡ said.event_items l.events

@@ -5,4 +5,5 @@ use Rattle.cj_report.proofs.history.names.push_names.Given as goal
 
 abbrev pub invariant-loop-name : goal.invariant-loop-name
 invariant-loop-name l =
-    string_bytes l.text ++ said.more_names (drop l.name-index l.names) ≡ string_bytes l.initial.text ++ said.more_names l.names
+    string_bytes l.text ++ said.more_names (drop l.name-index l.names) ≡ string_bytes l.initial.text
+    ++ said.more_names l.names

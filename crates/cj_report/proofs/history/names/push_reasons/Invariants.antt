@@ -5,4 +5,5 @@ use Rattle.cj_report.proofs.history.names.push_reasons.Given as goal
 
 abbrev pub invariant-loop-reason : goal.invariant-loop-reason
 invariant-loop-reason l =
-    string_bytes l.text ++ said.more_reasons (drop l.reason-index l.reasons) ≡ string_bytes l.initial.text ++ said.more_reasons l.reasons
+    string_bytes l.text ++ said.more_reasons (drop l.reason-index l.reasons) ≡ string_bytes l.initial.text
+    ++ said.more_reasons l.reasons

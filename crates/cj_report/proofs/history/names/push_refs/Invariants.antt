@@ -5,4 +5,5 @@ use Rattle.cj_report.proofs.history.names.push_refs.Given as goal
 
 abbrev pub invariant-loop-job : goal.invariant-loop-job
 invariant-loop-job l =
-    string_bytes l.text ++ said.more_refs (drop l.job-index l.jobs) ≡ string_bytes l.initial.text ++ said.more_refs l.jobs
+    string_bytes l.text ++ said.more_refs (drop l.job-index l.jobs) ≡ string_bytes l.initial.text
+    ++ said.more_refs l.jobs

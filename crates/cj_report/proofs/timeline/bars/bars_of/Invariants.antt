@@ -1,4 +1,5 @@
--- bars_of, its loop over the entries: those gone through are read, and their bars with those of the entries left are all.
+-- bars_of, its loop over the entries: those gone through are read, and their bars with those of the entries left are
+-- all.
 use Rattle.std.proofs.Common.{◌≡◌, ◌++◌, drop, take}
 use mathlib.Core.List.{reverse}
 use Rattle.cj_report.specs.timeline.Bars.{bars, bars_after}

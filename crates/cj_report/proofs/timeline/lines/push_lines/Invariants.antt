@@ -1,5 +1,5 @@
--- push_lines, its loop over the entries: those gone through are read, and their lines with those of the entries left are
--- all, behind the text at first.
+-- push_lines, its loop over the entries: those gone through are read, and their lines with those of the entries left
+-- are all, behind the text at first.
 use Rattle.std.proofs.Common.{◌≡◌, ◌++◌, [], drop, take, string_bytes}
 use mathlib.Core.List.{reverse}
 use Rattle.cj_report.specs.timeline.Lines.{lines_after}

@@ -1,4 +1,5 @@
--- marks_of, its loop over the entries: those gone through are read, and their marks with those of the entries left are all.
+-- marks_of, its loop over the entries: those gone through are read, and their marks with those of the entries left are
+-- all.
 use Rattle.std.proofs.Common.{◌≡◌, ◌++◌, drop, take}
 use mathlib.Core.List.{reverse}
 use Rattle.cj_report.specs.timeline.Marks.{marks, marks_after}

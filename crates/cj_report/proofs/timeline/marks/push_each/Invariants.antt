@@ -1,5 +1,5 @@
--- push_each, its loop over the reasons: the marks so far and those of the reasons left are the marks at first and those of
--- all.
+-- push_each, its loop over the reasons: the marks so far and those of the reasons left are the marks at first and those
+-- of all.
 use Rattle.std.proofs.Common.{◌≡◌, ◌++◌, drop, map}
 use Rattle.cj_report.specs.timeline.Marks.{mark_of}
 use Rattle.cj_report.proofs.timeline.marks.push_each.Given as goal

@@ -9,5 +9,6 @@ abbrev pub invariant-loop-event : goal.invariant-loop-event
 invariant-loop-event l =
     noted_all l.runs l.now l.noted_before (filter_map job_added (drop l.event-index l.events))
     (notes l.self.last l.self.counts l.self.running.items)
-    ≡ noted_all l.runs l.now l.noted_before (filter_map job_added l.events) (notes l.initial.self.last l.initial.self.counts
+    ≡ noted_all l.runs l.now l.noted_before (filter_map job_added l.events)
+    (notes l.initial.self.last l.initial.self.counts
     l.initial.self.running.items)

@@ -12,7 +12,8 @@ use Rattle.cj_script.proofs.simulation.read.simulation_of.Goals as goal
 pub returns-in_err-span-clause-refused : goal.returns-in_err-span-clause-refused
 returns-in_err-span-clause-refused c =
     let zones = zones_of c.in_ok-zones.zones in
-    moved c.from_residual-in_err-span.result c.in_err-span.field-0.0 (IsRefusedValue c.args.given (view c.args.value.now))
+    moved c.from_residual-in_err-span.result c.in_err-span.field-0.0
+    (IsRefusedValue c.args.given (view c.args.value.now))
     c.from_residual-in_err-span.ensures.1
     (refused_under c.args.given (view c.args.value.now) zones c.in_err-span.field-0.0
     (subst (λ o. AreZones c.args.given o zones) c.present.ensures c.in_ok-zones.ensures.ok) c.in_err-span.ensures.err)

@@ -5,4 +5,5 @@ use Rattle.cj_upcoming.specs.json.Changes.{changes_data}
 use Rattle.cj_upcoming.proofs.json.changes.push_each.Given as goal
 
 abbrev pub invariant-loop-at : goal.invariant-loop-at
-invariant-loop-at l = map view l.values.items ≡ map view l.fn.values.items ++ changes_data l.zone (take l.at-index l.changes)
+invariant-loop-at l =
+    map view l.values.items ≡ map view l.fn.values.items ++ changes_data l.zone (take l.at-index l.changes)

@@ -5,4 +5,5 @@ use Rattle.cj_upcoming.specs.json.Coming.{changes_along}
 use Rattle.cj_upcoming.proofs.json.coming.coming_changes.Given as goal
 
 abbrev pub invariant-loop-time : goal.invariant-loop-time
-invariant-loop-time l = map view l.values.items ++ changes_along l.zone l.after (drop l.time-index l.times) ≡ changes_along l.zone l.fn.start l.times
+invariant-loop-time l = map view l.values.items
+    ++ changes_along l.zone l.after (drop l.time-index l.times) ≡ changes_along l.zone l.fn.start l.times

@@ -18,7 +18,8 @@ loop-cron-preserved c =
     c.spec_of.ensures ∙ ap (λ (d : ClusterCron). d.cron.spec) c.get-cron.ensures in
     let key : c.key.result.now ≡ cron.cron.key = c.key.ensures.value ∙ ap (λ (d : CronJob). d.key) c.get.ensures
     ∙ ap (λ (d : ClusterCron). d.cron.key) c.get-cron.ensures in
-    tells_step zones c.args.from c.args.crons.now c.loop-cron.cron-index cron standing (map view c.loop-cron.values.items)
+    tells_step zones c.args.from c.args.crons.now c.loop-cron.cron-index cron standing
+    (map view c.loop-cron.values.items)
     (map view c.push_standing.new.values.items) c.loop-cron-test.true c.cron-item.is
     (subst (λ s. IsStanding zones c.args.from s standing) spec c.standing_of-standing.ensures)
     (c.in_ok-push_standing.ensures.ok ∙ ap (λ k. map view c.loop-cron.values.items ++ standing_data standing k) key)

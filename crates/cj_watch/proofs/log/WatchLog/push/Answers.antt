@@ -13,4 +13,4 @@ invariant_of-self c =
     } in
     let next = c.requires.next ∙ ap (λ (l : Log). l.count + 1) (sym c.self.view_is) in
     put_keeps log c.args.event c.put_last.new.ring c.get-self-inside.result c.self.invariant next c.put_last.ensures
-    (c.get-self-inside.ensures ∙ c.version_of.ensures)
+    (c.get-self-inside.ensures ∙ c.version.ensures)

@@ -9,4 +9,4 @@ returns-in-Some c =
     let events = c.args.events.now in
     let item : slice_get events (length events - 1) ≡ Some c.in-Some.event.now =
     sym c.last.ensures.value ∙ ap option_copied c.in-Some.is in
-    c.version_of.ensures ∙ last_is c.args.before events c.in-Some.event.now item c.requires
+    c.version.ensures ∙ last_is c.args.before events c.in-Some.event.now item c.requires

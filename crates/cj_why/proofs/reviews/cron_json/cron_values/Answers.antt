@@ -11,9 +11,11 @@ use Rattle.cj_why.proofs.reviews.cron_json.cron_values.Goals as goal
 pub loop-cron-preserved : goal.loop-cron-preserved
 loop-cron-preserved c =
     fills_rest (zones_of c.args.zones.now) c.args.cluster.now c.args.now c.args.crons.now
-    c.loop-cron.cron-index c.cron-item.result (map view c.loop-cron.values.items) (map view c.push_value.new.values.items)
+    c.loop-cron.cron-index c.cron-item.result (map view c.loop-cron.values.items)
+    (map view c.push_value.new.values.items)
     (view c.in_ok-value.value) c.loop-cron-test.true c.cron-item.is c.loop-cron.invariant
-    (subst (λ (d : ClusterCron). IsCronJson (zones_of c.args.zones.now) c.args.cluster.now c.args.now d (view c.in_ok-value.value))
+    (subst (λ (d : ClusterCron). IsCronJson (zones_of c.args.zones.now) c.args.cluster.now c.args.now d
+    (view c.in_ok-value.value))
     c.get.ensures c.in_ok-value.ensures.ok)
     (ap (map view) c.in_ok-push_value.ensures.ok ∙ map-append view c.loop-cron.values.items (c.in_ok-value.value ∷ []))
 

@@ -6,4 +6,5 @@ use Rattle.cj_types.specs.Printed.{reason_name}
 use Rattle.cj_why.proofs.reviews.plan_json.reason_values.Given as goal
 
 abbrev pub invariant-loop-reason : goal.invariant-loop-reason
-invariant-loop-reason l = map view l.values.items ≡ map (λ reason. string (reason_name reason)) (take l.reason-index l.reasons)
+invariant-loop-reason l =
+    map view l.values.items ≡ map (λ reason. string (reason_name reason)) (take l.reason-index l.reasons)

@@ -11,7 +11,8 @@ loop-cron-preserved c =
     (string_bytes c.loop-cron.whole.printed) (string_bytes c.loop-cron.whole.said)
     (string_bytes c.in_ok-one.one.printed) (string_bytes c.in_ok-one.one.said)
     (string_bytes c.push.new.whole.printed) (string_bytes c.push.new.whole.said)
-    c.loop-cron-test.true c.cron-item.is c.loop-cron.invariant (search rules) c.in_ok-push.ensures.printed c.in_ok-push.ensures.said
+    c.loop-cron-test.true c.cron-item.is c.loop-cron.invariant
+    (search rules) c.in_ok-push.ensures.printed c.in_ok-push.ensures.said
 
 pub returns-clause-ok : goal.returns-clause-ok
 returns-clause-ok c =

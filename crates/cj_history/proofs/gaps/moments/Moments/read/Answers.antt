@@ -8,5 +8,6 @@ use Rattle.cj_history.proofs.gaps.moments.Moments.read.Goals as goal
 pub loop-entry-preserved : goal.loop-entry-preserved
 loop-entry-preserved c =
     let past = reverse (take c.loop-entry.entry-index c.args.entries.now) in
-    let more : c.entry-item.result ∷ past ≡ reverse (take (c.loop-entry.entry-index + 1) c.args.entries.now) = grind (arith, common_steps) in
+    let more : c.entry-item.result ∷ past ≡ reverse (take (c.loop-entry.entry-index + 1) c.args.entries.now)
+    = grind (arith, common_steps) in
     subst (Knows c.note_entry.new.self) more (c.in_ok-note_entry.ensures.ok past c.loop-entry.invariant)

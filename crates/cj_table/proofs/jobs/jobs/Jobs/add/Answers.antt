@@ -1,5 +1,5 @@
--- Jobs::add: its clause err where the table or the index can't grow, that the index agrees with the table and the slots,
--- and its clause ok.
+-- Jobs::add: its clause err where the table or the index can't grow, that the index agrees with the table and the
+-- slots, and its clause ok.
 use Rattle.std.proofs.Common.{◌≡◌, Some, None, ap, ◌∙◌, subst}
 use Rattle.std.specs.FinMap as map
 use Rattle.std.proofs.lemmas.Result.{IfOk-at_ok}

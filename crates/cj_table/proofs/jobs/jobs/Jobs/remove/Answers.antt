@@ -1,5 +1,5 @@
--- Jobs::remove: its clause ok of a key that has no slot, and the type's invariant, that the index without the slot agrees
--- with the table and the slots.
+-- Jobs::remove: its clause ok of a key that has no slot, and the type's invariant, that the index without the slot
+-- agrees with the table and the slots.
 use Rattle.std.proofs.Common.{rules, sym, ap, ◌∙◌}
 use Rattle.std.specs.FinMap as map
 use Rattle.std.specs.Option.{option_and_then}

@@ -12,7 +12,8 @@ use Rattle.cj_table.proofs.jobs.jobs.Jobs.replace.Goals as goal
 pub set-requires : goal.set-requires
 set-requires c =
     let is = c.in-Some.ensures ∙ ap (λ (j : Job). map.get c.self.inside.table j.key) c.deref.ensures in
-    stands c.self.inside.table c.self.inside.slots c.self.inside.index c.args.job.key c.in-Some.slot.now c.self.invariant is
+    stands c.self.inside.table c.self.inside.slots c.self.inside.index c.args.job.key c.in-Some.slot.now
+    c.self.invariant is
 
 pub invariant_of-self : goal.invariant_of-self
 invariant_of-self c =

@@ -1,5 +1,5 @@
--- run_scoped: the scope's clause, and its two loops: where a thread is started, where it can't be and its
--- pass is lost, and where one is joined.
+-- run_scoped: the scope's clause, and its two loops: where a thread is started, where it can't be
+-- and its pass is lost, and where one is joined.
 use Rattle.std.proofs.Common.{◌≡◌, ap, ◌∙◌}
 use Rattle.cj_worker.proofs.Passes.{part_lost, kept_more}
 use Rattle.cj_worker.proofs.Threads.{all_more, all_yielded, went_some, zip_more}

@@ -1,6 +1,6 @@
 -- run_scoped, the loops of its scope: the passes of the started threads are part of those gone
--- through, and each thread was given the gate, the clock and the zones; and the ends are those of the
--- threads joined so far, in their order.
+-- through, and each thread was given the gate, the clock and the zones; and the ends are those of
+-- the threads joined so far, in their order.
 use Rattle.std.proofs.Common.{◌≡◌, map}
 use Rattle.std.specs.List.{AllByRecursion, AllZip}
 use Rattle.cj_worker.specs.Workers.{IsPart, Went}

@@ -1,9 +1,0 @@
--- fine_count: its loop; count, at most answer-index, is how many of the items so far are fine.
-use Rattle.std.proofs.Common.{◌≡◌, ◌≤◌, take}
-use Rattle.std.specs.List.{count_by}
-use Rattle.cj_answers.specs.CheckList.{is_fine}
-use Rattle.cj_answers.proofs.check_list.fine_count.Given as goal
-
-abbrev pub invariant-loop-answer : goal.invariant-loop-answer
-invariant-loop-answer l =
-    (l.count ≡ count_by is_fine (take l.answer-index l.answers)) × (l.count ≤ l.answer-index)

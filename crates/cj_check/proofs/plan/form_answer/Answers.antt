@@ -1,0 +1,26 @@
+-- form_answer: its ensures where the moment and the rules are taken, from what the scenario is answered under the
+-- zones.
+use Rattle.std.proofs.Common.{◌≡◌, inr, ℕ, List, ◌≤◌, rules, subst, sym}
+use Rattle.std.proofs.lemmas.Result.{IfOk-weaker}
+use Rattle.std.specs.Prelude.{IfSome, MatchOption, []}
+use Rattle.cj_answers.specs.Given.{IsNoneGiven, IsReadUnder}
+use Rattle.cj_check.proofs.plan.form_answer.Goals as goal
+
+pub returns : goal.returns
+returns g c =
+    let r = c.args.plan.now in
+    let under : IsReadUnder r.zones c.args.files.now c.in-Some-2.given =
+    subst (λ o. MatchOption o (IsNoneGiven r.zones []) (IsReadUnder r.zones c.args.files.now)) c.in-Some-2.is
+    c.in_ok-given.ensures in
+    IfOk-weaker c.scene_answer.result _ _ (λ a planned. inr (inr (record {
+      now = c.in-Some.now;
+      moment = search rules;
+      given = c.in-Some-2.given;
+      zones = under;
+      bytes = c.as_slice.result.now;
+      bytes_are = subst (λ (bs : List ℕ). IfSome (g.R.Read.remaining c.args.input.now) (λ xs. bs ≡ xs))
+          (sym c.as_slice.ensures.value) c.in_ok-bytes.ensures.all;
+      fits = subst (λ (n : ℕ). n ≤ 16_777_216) (sym c.as_slice.ensures.len) c.in_ok-bytes.ensures.fits;
+      planned = planned;
+    })))
+    c.scene_answer.ensures

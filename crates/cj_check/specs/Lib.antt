@@ -1,0 +1,11 @@
+pub mod AsJson
+pub mod Check
+pub mod CheckList
+pub mod CheckOutcome
+pub mod Dropped
+pub mod FaultWords
+pub mod Plan
+pub mod Reports
+pub mod Seen
+pub mod Several
+pub mod Strays

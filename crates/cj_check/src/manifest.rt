@@ -1,0 +1,218 @@
+// What `check` answers of one manifest, in lines.
+ghost use Rattle.std.specs.Prelude.{◌≡◌, ◌++◌, ℕ, List, IfOk, codes, string_bytes};
+ghost use Rattle.cj_base.specs.declared.refusal.Refusal.TheVariants.{Invalid};
+ghost use Rattle.cj_manifest.specs.Either.{key_of, kind_of, manifest_draft, manifest_faults, manifest_warnings};
+ghost use Rattle.cj_manifest.specs.Reading.{IsReading, IsRefused};
+ghost use Rattle.cj_manifest.specs.declared.manifest.Manifest.{Manifest as Said};
+ghost use Rattle.cj_zone.specs.Table.{zones_of};
+ghost use Rattle.cj_answers.specs.Advice.{dropped_words_all};
+ghost use Rattle.cj_answers.specs.Lines.{fault_lines, ok_line, warning_lines};
+ghost use Rattle.cj_answers.specs.Outcome.{explained, outcome_of};
+ghost use Rattle.cj_check.specs.Check.{IsChecked, IsNoJson, ended, faulty, fine_ending, is_alone, pod_words};
+
+use crate::fault_words::fault_words;
+use cj_answers::{
+    Answer, Ending, all_dropped_words, asked_moment, json_words, manifest_advice, print_faults,
+    print_ok, print_warnings, yaml_words,
+};
+use cj_args::CheckRequest;
+use cj_base::{FieldFault, Refusal};
+use cj_io::Failure;
+use cj_manifest::{Manifest, Warning};
+use cj_scenario::{Form, detect};
+use cj_zone::ZoneTable;
+use std::alloc::{AllocError, Global};
+
+// The lines of a manifest without a fault.
+fn fine_lines(
+    alloc: Global,
+    manifest: &Manifest,
+    warnings: &[Warning],
+) -> Result<String, AllocError>
+    ensures { IfOk result (λ s. string_bytes s
+        ≡ ok_line (kind_of manifest.now) (key_of manifest.now) ++ warning_lines warnings.now) }
+{
+    let mut printed = print_ok(alloc, manifest.kind(), manifest.key())?;
+    let lines = print_warnings(alloc, warnings)?;
+    printed.push_str(lines.as_str())?;
+    Ok(printed)
+}
+
+// The ending for a manifest with these warnings: `--strict` refuses any.
+fn fine_ending(strict: bool, warnings: &[Warning]) -> Ending
+    ensures { result ≡ fine_ending strict warnings.now }
+{
+    if strict && !warnings.is_empty() {
+        Ending::Refused
+    } else {
+        Ending::Done
+    }
+}
+
+/// Whether one file alone is checked.
+pub(crate) fn is_alone(check: &CheckRequest<'_>) -> bool
+    ensures { result ≡ is_alone check.now }
+{
+    check.files.len() == 1
+}
+
+// A note on what isn't looked at, where one manifest alone is checked.
+fn pod_words(alone: bool) -> &'static str
+    ensures { result.now ≡ pod_words alone }
+{
+    if alone {
+        "FILE: of the Pod only its restartPolicy was looked at; kubectl apply --dry-run=server -f FILE checks the rest\n"
+    } else {
+        ""
+    }
+}
+
+// What `--explain` adds for a manifest without a fault.
+fn fine_words(
+    alloc: Global,
+    alone: bool,
+    warnings: &[Warning],
+    advice: &str,
+) -> Result<String, AllocError>
+    ensures { IfOk result (λ s. string_bytes s
+        ≡ dropped_words_all warnings.now ++ (advice.now ++ pod_words alone)) }
+{
+    let mut words = all_dropped_words(alloc, warnings)?;
+    words.push_str(advice)?;
+    words.push_str(pod_words(alone))?;
+    Ok(words)
+}
+
+// The answer for a manifest without a fault.
+fn fine(
+    alloc: Global,
+    check: &CheckRequest<'_>,
+    alone: bool,
+    manifest: &Manifest,
+    warnings: &[Warning],
+    advice: &str,
+) -> Result<Answer, Failure>
+    ensures { IfOk result (λ a. outcome_of a ≡ explained check.now.explain
+        (dropped_words_all warnings.now ++ (advice.now ++ pod_words alone))
+        (ended (fine_ending check.now.strict warnings.now)
+        (ok_line (kind_of manifest.now) (key_of manifest.now) ++ warning_lines warnings.now))) }
+{
+    let words = fine_words(alloc, alone, warnings, advice)?;
+    let answer = Answer {
+        ending: fine_ending(check.strict, warnings),
+        printed: fine_lines(alloc, manifest, warnings)?,
+        said: String::new(alloc),
+    };
+    Ok(answer.explained(check.explain, words.as_str())?)
+}
+
+/// The answer for a refused manifest, with these lines.
+pub(crate) fn faulty(alloc: Global, printed: String) -> Answer
+    ensures { outcome_of result ≡ faulty (string_bytes printed) }
+{
+    Answer {
+        ending: Ending::Refused,
+        printed,
+        said: String::new(alloc),
+    }
+}
+
+// The answer for bytes that are no JSON, with these words behind `--explain`.
+fn syntax_refusal(alloc: Global, explain: bool, words: &str) -> Result<Answer, AllocError>
+    ensures { IfOk result (λ a. outcome_of a ≡ explained explain words.now
+        (faulty (codes "refused 1 Syntax\n"))) }
+{
+    let printed = String::from_str(alloc, "refused 1 Syntax\n")?;
+    faulty(alloc, printed).explained(explain, words)
+}
+
+// The answer for bytes that are no JSON: where the text goes wrong, and whether it looks like YAML.
+fn no_json(alloc: Global, explain: bool, bytes: &[u8]) -> Result<Answer, Failure>
+    ensures { IfOk result (λ a. IsNoJson explain bytes.now (outcome_of a)) }
+{
+    let mut words = json_words(alloc, bytes)?;
+    words.push_str(yaml_words(bytes))?;
+    Ok(syntax_refusal(alloc, explain, words.as_str())?)
+}
+
+// The answer for a manifest with faults: `words` explain them, `beside` says what else the text may
+// be.
+fn with_faults(
+    alloc: Global,
+    explain: bool,
+    faults: &[FieldFault],
+    words: &str,
+    beside: &str,
+) -> Result<Answer, AllocError>
+    ensures { IfOk result (λ a. outcome_of a ≡ explained explain (words.now ++ beside.now)
+        (faulty (fault_lines faults.now))) }
+{
+    let printed = print_faults(alloc, faults)?;
+    let mut said = String::from_str(alloc, words)?;
+    said.push_str(beside)?;
+    faulty(alloc, printed).explained(explain, said.as_str())
+}
+
+// The answer for a manifest with faults.
+fn refused_manifest(
+    alloc: Global,
+    check: &CheckRequest<'_>,
+    alone: bool,
+    zones: &ZoneTable,
+    bytes: &[u8],
+    faults: &[FieldFault],
+) -> Result<Answer, Failure>
+    requires { IsRefused (manifest_faults (zones_of zones.now)) bytes.now (Invalid faults.now) }
+    ensures { IfOk result (λ a. IsChecked check.now alone (zones_of zones.now) bytes.now
+        (outcome_of a)) }
+{
+    let words = fault_words(alloc, bytes, faults)?;
+    let beside = detect(alloc, Form::Manifest, bytes)?;
+    Ok(with_faults(
+        alloc,
+        check.explain,
+        faults,
+        words.as_str(),
+        beside.as_str(),
+    )?)
+}
+
+/// The answer for a manifest without a fault, alone or among others.
+pub(crate) fn fine_answer(
+    alloc: Global,
+    check: &CheckRequest<'_>,
+    alone: bool,
+    zones: &ZoneTable,
+    manifest: &Manifest,
+    warnings: &[Warning],
+) -> Result<Answer, Failure>
+    ensures { (bytes : List ℕ) → IsReading Said (manifest_faults (zones_of zones.now))
+        manifest_draft manifest_warnings bytes manifest.now warnings.now →
+        IfOk result (λ a. IsChecked check.now alone (zones_of zones.now) bytes (outcome_of a)) }
+{
+    let moment = asked_moment(alloc, check.moment)?;
+    let words = manifest_advice(alloc, zones, manifest, moment)?;
+    fine(alloc, check, alone, manifest, warnings, words.as_str())
+}
+
+/// The answer for bytes that are refused, alone or among others.
+pub(crate) fn refused_answer(
+    alloc: Global,
+    check: &CheckRequest<'_>,
+    alone: bool,
+    zones: &ZoneTable,
+    bytes: &[u8],
+    refusal: &Refusal,
+) -> Result<Answer, Failure>
+    requires { IsRefused (manifest_faults (zones_of zones.now)) bytes.now refusal.now }
+    ensures { IfOk result (λ a. IsChecked check.now alone (zones_of zones.now) bytes.now
+        (outcome_of a)) }
+{
+    match refusal {
+        Refusal::Syntax => no_json(alloc, check.explain, bytes),
+        Refusal::Invalid(faults) => {
+            refused_manifest(alloc, check, alone, zones, bytes, faults.as_slice())
+        }
+        other => Err(Failure::of(other)),
+    }
+}

@@ -1,0 +1,2 @@
+pub mod AskedForms
+pub mod FilesLemmas

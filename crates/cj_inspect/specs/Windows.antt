@@ -1,0 +1,26 @@
+-- The lines of a window, with how many starts it has.
+use Rattle.std.specs.Prelude.{◌≡◌, ℕ, List, ◌++◌, length, codes, decimal}
+use Rattle.cj_zone.specs.declared.zone.Zone.{Zone}
+use Rattle.cj_zone.specs.TimeText.{time_text_of}
+use Rattle.cj_cluster.specs.declared.cron.ClusterCron.{ClusterCron}
+use Rattle.cj_upcoming.specs.declared.start.Start.{Start}
+use Rattle.cj_upcoming.specs.Report.{IsTextOf}
+use Rattle.cj_upcoming.specs.Upcoming.{IsUpcoming}
+use Rattle.cj_upcoming.specs.Window.{Span}
+
+-- `from TIME to TIME: N cron jobs, M starts`
+-- rule: upcoming-total
+abbrev pub total_line : Span → ℕ → ℕ → List ℕ
+total_line w crons starts =
+    codes "from " ++ (time_text_of w.from ++ (codes " to " ++ (time_text_of w.end ++ (codes ": "
+    ++ (decimal crons ++ (codes " cron jobs, " ++ (decimal starts ++ codes " starts\n")))))))
+
+-- the lines of the starts of the window, and last how many they are
+-- rules: upcoming-lines, upcoming-total
+pub record IsCounted (zones : List Zone) (w : Span) (crons : List ClusterCron) (most : ℕ)
+    (text : List ℕ) : Type 0 where
+  pub starts : List Start
+  pub upcoming : IsUpcoming zones w crons starts
+  pub lines : List ℕ
+  pub told : IsTextOf zones w crons most starts lines
+  pub are : text ≡ lines ++ total_line w (length crons) (length starts)

@@ -1,0 +1,4 @@
+// The answers as JSON.
+pub(crate) mod audit;
+pub(crate) mod clusters;
+pub(crate) mod upcoming;

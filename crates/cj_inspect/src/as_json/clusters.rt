@@ -1,0 +1,133 @@
+// What `why` prints as JSON.
+ghost use Rattle.std.specs.Prelude.{◌≡◌, IfOk, IfErr, Some, codes, map, string_bytes};
+ghost use Rattle.cj_base.specs.declared.refusal.Refusal.TheVariants.{OutOfMemory};
+ghost use Rattle.serde_json.specs.View.{view};
+ghost use Rattle.cj_zone.specs.Table.{local_zone, zones_of};
+ghost use Rattle.cj_zone.specs.Zones.{utc_zone};
+ghost use Rattle.cj_why.specs.reviews.Rows.{AreLined};
+ghost use Rattle.cj_answers.specs.Clusters as told;
+ghost use Rattle.cj_answers.specs.Outcome.{explained, outcome_of};
+ghost use Rattle.cj_inspect.specs.Why.{IsWhyJson, PrintsJson, meant_of, valued};
+ghost use Rattle.cj_inspect.specs.as_json.Why.{why_data, why_object};
+
+use cj_answers::{Answer, ending_by, is_read, note_words, value_line};
+use cj_args::WhyRequest;
+use cj_base::{Refusal, both};
+use cj_cluster::{ClusterCron, ClusterList, ItemNote};
+use cj_io::Failure;
+use cj_types::{Seconds, Shared};
+use cj_views::{others_value, refused_value};
+use cj_why::{cron_values, problems};
+use cj_zone::{ZoneTable, time_text};
+use serde_json::{Value, json};
+use std::alloc::{AllocError, Global};
+
+fn why_object(
+    alloc: Global,
+    crons: Value,
+    now: Value,
+    others: Value,
+    refused: Value,
+) -> Result<Value, AllocError>
+    ensures { IfOk result (λ v. view v
+        ≡ why_object (view crons) (view now) (view others) (view refused)) }
+{
+    json!(in alloc; {
+        "cronJobs": crons,
+        "now": now,
+        "others": others,
+        "refused": refused
+    })
+}
+
+fn why_value(
+    alloc: Global,
+    now: Seconds,
+    crons: Vec<Value>,
+    notes: &[ItemNote],
+) -> Result<Value, Refusal>
+    ensures ok { IfOk result (λ v. view v ≡ why_data now (map view crons.items) notes.now) }
+    ensures err { IfErr result (λ e. e ≡ OutOfMemory) }
+{
+    let crons = Value::Array(crons);
+    let now = Value::String(time_text(alloc, now)?);
+    let (others, refused) = both(others_value(alloc, notes), refused_value(alloc, notes))?;
+    Ok(why_object(alloc, crons, now, others, refused)?)
+}
+
+// What is known of these CronJobs, on a line.
+fn why_line(
+    alloc: Global,
+    zones: &ZoneTable,
+    list: &ClusterList,
+    lined: &[Shared<ClusterCron>],
+    now: Seconds,
+) -> Result<String, Refusal>
+    requires { local_zone zones.now ≡ Some (utc_zone (codes "UTC")) }
+    ensures ok { IfOk result (λ s. IsWhyJson (zones_of zones.now) now list.now lined.now
+        (string_bytes s)) }
+    ensures err { IfErr result (λ e. e ≡ OutOfMemory) }
+{
+    let crons = cron_values(alloc, zones, &list.cluster, lined, now)?;
+    let value = why_value(alloc, now, crons, list.notes.as_slice())?;
+    Ok(value_line(alloc, &value)?)
+}
+
+fn valued(
+    alloc: Global,
+    explain: bool,
+    notes: &[ItemNote],
+    printed: String,
+) -> Result<Answer, AllocError>
+    ensures { IfOk result (λ a. outcome_of a ≡ explained explain (told.note_words notes.now)
+        (valued notes.now (string_bytes printed))) }
+{
+    let said = note_words(alloc, notes)?;
+    let answer = Answer {
+        ending: ending_by(is_read(notes)),
+        printed,
+        said: String::new(alloc),
+    };
+    answer.explained(explain, said.as_str())
+}
+
+// What is printed of these.
+fn all_valued(
+    alloc: Global,
+    why: &WhyRequest<'_>,
+    zones: &ZoneTable,
+    list: &ClusterList,
+    lined: &[Shared<ClusterCron>],
+    now: Seconds,
+) -> Result<Answer, Failure>
+    requires local { local_zone zones.now ≡ Some (utc_zone (codes "UTC")) }
+    requires are { AreLined why.now.problems (zones_of zones.now) list.now.cluster now
+        (meant_of why.now list.now) lined.now }
+    ensures { IfOk result (λ a. PrintsJson why.now (zones_of zones.now) now list.now
+        (outcome_of a)) }
+{
+    let line = why_line(alloc, zones, list, lined, now)?;
+    Ok(valued(alloc, why.explain, list.notes.as_slice(), line)?)
+}
+
+/// What is printed of CronJobs as one JSON value, of all or of those that want a look.
+pub(crate) fn json_reviewed(
+    alloc: Global,
+    why: &WhyRequest<'_>,
+    zones: &ZoneTable,
+    list: &ClusterList,
+    crons: &[Shared<ClusterCron>],
+    now: Seconds,
+) -> Result<Answer, Failure>
+    requires local { local_zone zones.now ≡ Some (utc_zone (codes "UTC")) }
+    requires meant { crons.now ≡ meant_of why.now list.now }
+    ensures { IfOk result (λ a. PrintsJson why.now (zones_of zones.now) now list.now
+        (outcome_of a)) }
+{
+    if why.problems {
+        let lined = problems(alloc, zones, &list.cluster, crons, now)?;
+        all_valued(alloc, why, zones, list, lined.as_slice(), now)
+    } else {
+        all_valued(alloc, why, zones, list, crons, now)
+    }
+}

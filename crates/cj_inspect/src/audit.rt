@@ -1,0 +1,239 @@
+// What `audit` answers of a cluster.
+ghost use Rattle.std.specs.Prelude.{◌≡◌, ◌++◌, IfOk, IfErr, false, length, string_bytes};
+ghost use Rattle.std.specs.FinMap as map;
+ghost use Rattle.cj_base.specs.declared.refusal.Refusal.TheVariants.{OutOfMemory};
+ghost use Rattle.cj_zone.specs.Table.{zones_of};
+ghost use Rattle.cj_audit.specs.Lines.{audit_lines};
+ghost use Rattle.cj_audit.specs.Manual.{manual_lines};
+ghost use Rattle.cj_audit.specs.Words.{audit_words};
+ghost use Rattle.cj_cluster.specs.kubectl.Reading.{IsClusterList};
+ghost use Rattle.cj_inspect.specs.Audit.{AuditsList, IsAuditAnswer, IsAuditOutcome, IsAuditedOf, audited, is_clean, manual_words, words_of};
+ghost use Rattle.cj_answers.specs.Clusters as told;
+ghost use Rattle.cj_answers.specs.Outcome.{explained, outcome_of};
+ghost use Rattle.cj_inspect.specs.as_json.Audit.{IsAuditPrinted, IsAuditShown};
+ghost use Rattle.cj_answers.specs.as_json.Forms.{is_json};
+
+use crate::as_json::audit::audit_json;
+use crate::why::{MOST_LIST_BYTES, MOST_LIST_READS, joined};
+use cj_answers::{
+    Answer, ending_by, given_zones, is_form, is_json, is_read, note_lines, note_words,
+    refused_form, refused_list, refused_pair,
+};
+use cj_args::AuditRequest;
+use cj_audit::{Finding, Findings, audit, audit_text, audit_words, manual_text};
+use cj_base::{Refusal, both};
+use cj_cluster::{ClusterList, read_cluster};
+use cj_io::{Failure, ZoneFile, read_input};
+use cj_picture::cluster_picture;
+use cj_zone::ZoneTable;
+use std::alloc::Global;
+use std::io::Read;
+
+fn is_clean(findings: &[Finding]) -> bool
+    ensures { result ≡ is_clean findings.now }
+{
+    findings.is_empty()
+}
+
+// The findings and how many there are, and of how many CronJobs and Jobs.
+fn counted_text(alloc: Global, list: &ClusterList, findings: &Findings) -> Result<String, Refusal>
+    ensures ok { IfOk result (λ s. string_bytes s
+        ≡ audit_lines (length (map.values list.now.cluster.crons))
+        (length (map.values list.now.cluster.jobs)) findings.now) }
+    ensures err { IfErr result (λ e. e ≡ OutOfMemory) }
+{
+    let (crons, jobs) = both(list.cluster.crons(alloc), list.cluster.jobs(alloc))?;
+    let (crons, jobs) = (crons.as_slice().len(), jobs.as_slice().len());
+    audit_text(alloc, crons, jobs, findings)
+}
+
+// The Jobs that somebody made by hand, then the findings and how many there are.
+fn found_text(alloc: Global, list: &ClusterList, findings: &Findings) -> Result<String, Refusal>
+    ensures ok { IfOk result (λ s. string_bytes s
+        ≡ manual_lines list.now.cluster.times (map.values list.now.cluster.jobs)
+        ++ audit_lines (length (map.values list.now.cluster.crons))
+        (length (map.values list.now.cluster.jobs)) findings.now) }
+    ensures err { IfErr result (λ e. e ≡ OutOfMemory) }
+{
+    let mut text = manual_text(alloc, &list.cluster)?;
+    let found = counted_text(alloc, list, findings)?;
+    text.push_str(found.as_str())?;
+    Ok(text)
+}
+
+// The items that can't be used, then those.
+fn lines(alloc: Global, list: &ClusterList, findings: &Findings) -> Result<String, Refusal>
+    ensures ok { IfOk result (λ s. IsAuditPrinted false list.now findings.now (string_bytes s)) }
+    ensures err { IfErr result (λ e. e ≡ OutOfMemory) }
+{
+    let lines = note_lines(alloc, list.notes.as_slice())?;
+    let found = found_text(alloc, list, findings)?;
+    Ok(joined(alloc, lines.as_str(), found.as_str())?)
+}
+
+// A picture, with the items that can't be used below it.
+fn drawn(alloc: Global, list: &ClusterList, findings: &Findings) -> Result<String, Refusal>
+    ensures err { IfErr result (λ e. e ≡ OutOfMemory) }
+{
+    let lines = note_lines(alloc, list.notes.as_slice())?;
+    cluster_picture(alloc, &list.cluster, findings.as_slice(), lines.as_str())
+}
+
+// What is printed: a picture, or else JSON or lines.
+fn printed(
+    alloc: Global,
+    svg: bool,
+    output: &str,
+    list: &ClusterList,
+    findings: &Findings,
+) -> Result<String, Refusal>
+    ensures ok { IfOk result (λ s. IsAuditShown svg (is_json output.now) list.now findings.now
+        (string_bytes s)) }
+    ensures err { IfErr result (λ e. e ≡ OutOfMemory) }
+{
+    if svg {
+        drawn(alloc, list, findings)
+    } else if is_json(output) {
+        audit_json(alloc, list, findings)
+    } else {
+        lines(alloc, list, findings)
+    }
+}
+
+// With how it ends.
+fn ended(alloc: Global, list: &ClusterList, findings: &Findings, printed: String) -> Answer
+    ensures { outcome_of result ≡ audited list.now findings.now (string_bytes printed) }
+{
+    let is_clean = is_clean(findings.as_slice());
+    let is_read = is_read(list.notes.as_slice());
+    Answer {
+        ending: ending_by(is_clean && is_read),
+        printed,
+        said: String::new(alloc),
+    }
+}
+
+// What such a line means, where there is one.
+fn manual_words(lines: &str) -> &'static str
+    ensures { result.now ≡ manual_words lines.now }
+{
+    if lines.is_empty() {
+        ""
+    } else {
+        "manual: somebody made such a Job, as kubectl create job --from does; no controller did, so no finding is of it\n"
+    }
+}
+
+// What those lines and the findings mean.
+fn found_words(alloc: Global, list: &ClusterList, findings: &Findings) -> Result<String, Refusal>
+    ensures ok { IfOk result (λ s. string_bytes s
+        ≡ manual_words (manual_lines list.now.cluster.times (map.values list.now.cluster.jobs))
+        ++ audit_words findings.now) }
+    ensures err { IfErr result (λ e. e ≡ OutOfMemory) }
+{
+    let lines = manual_text(alloc, &list.cluster)?;
+    let found = audit_words(alloc, findings)?;
+    Ok(joined(alloc, manual_words(lines.as_str()), found.as_str())?)
+}
+
+fn words(alloc: Global, list: &ClusterList, findings: &Findings) -> Result<String, Failure>
+    ensures { IfOk result (λ s. string_bytes s ≡ words_of list.now findings.now) }
+{
+    let notes = note_words(alloc, list.notes.as_slice())?;
+    let found = found_words(alloc, list, findings)?;
+    Ok(joined(alloc, notes.as_str(), found.as_str())?)
+}
+
+fn told_of(
+    alloc: Global,
+    explain: bool,
+    list: &ClusterList,
+    findings: &Findings,
+    printed: String,
+    words: &str,
+) -> Result<Answer, Failure>
+    ensures { IfOk result (λ a. outcome_of a ≡ explained explain words.now
+        (audited list.now findings.now (string_bytes printed))) }
+{
+    let answer = ended(alloc, list, findings, printed);
+    Ok(answer.explained(explain, words)?)
+}
+
+fn list_audited(
+    alloc: Global,
+    explain: bool,
+    svg: bool,
+    output: &str,
+    zones: &ZoneTable,
+    bytes: &[u8],
+    list: &ClusterList,
+) -> Result<Answer, Failure>
+    requires { IsClusterList (zones_of zones.now) bytes.now list.now }
+    ensures { IfOk result (λ a. AuditsList explain svg (is_json output.now) (zones_of zones.now)
+        bytes.now (outcome_of a)) }
+{
+    let findings = audit(alloc, zones, &list.cluster, list.notes.as_slice())?;
+    let words = words(alloc, list, &findings)?;
+    let printed = printed(alloc, svg, output, list, &findings)?;
+    told_of(alloc, explain, list, &findings, printed, words.as_str())
+}
+
+// What the bytes of a list are answered.
+fn bytes_audited(
+    alloc: Global,
+    explain: bool,
+    svg: bool,
+    output: &str,
+    zones: &ZoneTable,
+    bytes: &[u8],
+) -> Result<Answer, Failure>
+    ensures { IfOk result (λ a. IsAuditedOf explain svg (is_json output.now) (zones_of zones.now)
+        bytes.now (outcome_of a)) }
+{
+    match read_cluster(alloc, bytes, zones) {
+        Ok(list) => list_audited(alloc, explain, svg, output, zones, bytes, &list),
+        Err(fault) => refused_list(alloc, explain, bytes, fault),
+    }
+}
+
+// What is answered in a form that there is.
+fn form_answer<R: Read>(
+    alloc: Global,
+    audit: &AuditRequest<'_>,
+    files: &[ZoneFile],
+    input: &mut R,
+) -> Result<Answer, Failure>
+    ensures { IfOk result (λ a. IsAuditAnswer audit.now files.now (R.remaining input.old)
+        (outcome_of a)) }
+{
+    let Some(zones) = given_zones(alloc, &audit.zones, files)? else {
+        return refused_pair(alloc, audit.explain);
+    };
+    let bytes = read_input(alloc, input, MOST_LIST_BYTES, MOST_LIST_READS)?;
+    bytes_audited(
+        alloc,
+        audit.explain,
+        audit.svg,
+        audit.output,
+        &zones,
+        bytes.as_slice(),
+    )
+}
+
+/// What the command `audit` answers: the form of what is printed is looked at first, then the
+/// zones, then all of the input is read.
+pub fn audit_answer<R: Read>(
+    alloc: Global,
+    audit: &AuditRequest<'_>,
+    files: &[ZoneFile],
+    input: &mut R,
+) -> Result<Answer, Failure>
+    ensures { IfOk result (λ a. IsAuditOutcome audit.now files.now (R.remaining input.old)
+        (outcome_of a)) }
+{
+    if is_form(audit.output) {
+        form_answer(alloc, audit, files, input)
+    } else {
+        refused_form(alloc, audit.explain)
+    }
+}

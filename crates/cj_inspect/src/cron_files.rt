@@ -1,0 +1,206 @@
+// What is read of files with CronJobs.
+ghost use Rattle.std.specs.Prelude.{◌≡◌, ◌∷◌, ◌++◌, [], IfErr, IfOk, MatchOption, OnOk};
+ghost use Rattle.cj_base.specs.declared.refusal.Refusal.TheVariants.{OutOfMemory};
+ghost use Rattle.cj_cluster.specs.declared.kubectl.fault.ListFault.TheVariants.{Memory};
+ghost use Rattle.cj_cluster.specs.kubectl.Reading.{IsRefusedList};
+ghost use Rattle.cj_zone.specs.Table.{zones_of};
+ghost use Rattle.cj_inspect.specs.CronFiles.{AddsFile, AreFiles, Drafts, DraftsNone, IsCron, IsDrafted, IsFile, IsListed, Stops};
+
+use cj_cluster::{Cluster, ClusterCron, ClusterList, ItemNote, ItemNotes, ListFault, read_cluster};
+use cj_manifest::read_cronjob;
+use cj_types::{
+    CronJob, CronJobDraft, CronStatus, DraftMeta, Listing, Meta, Names, Refusal, Seconds, Shared,
+    Text, Uid, Version,
+};
+use cj_zone::ZoneTable;
+use std::alloc::Global;
+
+/// A file with CronJobs, as it was read.
+#[derive(Clone, Copy)]
+pub struct CronFile<'a> {
+    /// The file's name, as the words give it.
+    pub name: &'a str,
+    /// All of its bytes.
+    pub bytes: &'a [u8],
+}
+
+/// What is read of a file.
+#[derive(Drop)]
+pub(crate) struct FileCrons {
+    /// The file's name.
+    pub name: Text,
+    /// Its CronJobs, in the order of their keys.
+    pub crons: Listing<Shared<ClusterCron>>,
+    /// What else it has, with a note of each item that can't be used.
+    pub list: ClusterList,
+}
+
+impl FileCrons {
+    /// The notes of the items that can't be used.
+    pub(crate) fn notes(&self) -> &[ItemNote]
+        ensures { result.now ≡ self.now.list.notes }
+    {
+        self.list.notes.as_slice()
+    }
+}
+
+/// The first file that is refused.
+#[derive(Clone, Copy)]
+pub(crate) struct BadFile<'a> {
+    pub file: CronFile<'a>,
+    pub fault: ListFault,
+}
+
+// What a server writes into the metadata of the first object that it creates.
+fn first_meta(alloc: Global, meta: DraftMeta) -> Result<(Text, Meta), Refusal>
+    ensures { IfErr result (λ e. e ≡ OutOfMemory) }
+{
+    let DraftMeta {
+        uid,
+        version: _,
+        labels,
+        annotations,
+    } = meta;
+    let uid = match uid {
+        Some(uid) => uid,
+        None => Text::new(alloc, "")?,
+    };
+    let (Some(place), Some(created)) = (Uid::new(1), Seconds::new(0)) else {
+        return Err(Refusal::OutOfMemory);
+    };
+    let meta = Meta {
+        uid: place,
+        version: Version::new(1),
+        generation: 1,
+        created,
+        labels,
+        annotations,
+    };
+    Ok((uid, meta))
+}
+
+// The CronJob of a draft, as one that never ran.
+fn cron(alloc: Global, draft: CronJobDraft) -> Result<ClusterCron, Refusal>
+    ensures ok { IfOk result (IsCron draft) }
+    ensures err { IfErr result (λ e. e ≡ OutOfMemory) }
+{
+    let CronJobDraft { key, meta, spec } = draft;
+    let (uid, meta) = first_meta(alloc, meta)?;
+    let status = CronStatus {
+        active: Names::new(alloc),
+        last_schedule_time: None,
+        last_successful_time: None,
+    };
+    let cron = CronJob {
+        key,
+        meta,
+        spec,
+        status,
+    };
+    let cron = Shared::new(alloc, cron)?;
+    Ok(ClusterCron { uid, cron })
+}
+
+// The file of one draft.
+fn drafted(alloc: Global, name: Text, draft: CronJobDraft) -> Result<FileCrons, Refusal>
+    ensures ok { IfOk result (IsDrafted name draft) }
+    ensures err { IfErr result (λ e. e ≡ OutOfMemory) }
+{
+    let cron = Shared::new(alloc, cron(alloc, draft)?)?;
+    let mut crons = Vec::new(alloc);
+    crons.push(cron).map_err(|_| Refusal::OutOfMemory)?;
+    let crons = Listing::new(alloc, crons)?;
+    let list = ClusterList {
+        cluster: Cluster::new(alloc),
+        notes: ItemNotes::new(alloc),
+    };
+    Ok(FileCrons { name, crons, list })
+}
+
+// The file of what a client prints.
+fn listed(alloc: Global, name: Text, list: ClusterList) -> Result<FileCrons, Refusal>
+    ensures ok { IfOk result (IsListed name list) }
+    ensures err { IfErr result (λ e. e ≡ OutOfMemory) }
+{
+    let crons = list.cluster.crons(alloc)?;
+    Ok(FileCrons { name, crons, list })
+}
+
+// What a manifest without a fault says; none where the bytes are no such manifest.
+fn draft_of(
+    alloc: Global,
+    bytes: &[u8],
+    zones: &ZoneTable,
+) -> Result<Option<CronJobDraft>, ListFault>
+    ensures read { IfOk result (λ draft. MatchOption draft
+        (DraftsNone (zones_of zones.now) bytes.now) (Drafts (zones_of zones.now) bytes.now)) }
+    ensures refused { IfErr result (λ e. e ≡ Memory) }
+{
+    match read_cronjob(alloc, bytes, zones) {
+        Ok((draft, _warnings)) => Ok(Some(draft)),
+        Err(Refusal::Syntax) => Ok(None),
+        Err(Refusal::Invalid(_)) => Ok(None),
+        Err(_) => Err(ListFault::Memory),
+    }
+}
+
+// What is read of a file: the manifest of a CronJob without a fault, else what a client prints.
+fn read_file(alloc: Global, file: &CronFile<'_>, zones: &ZoneTable) -> Result<FileCrons, ListFault>
+    ensures read { IfOk result (IsFile (zones_of zones.now) file.now) }
+    ensures refused { IfErr result (IsRefusedList file.now.bytes.now) }
+{
+    let name = Text::new(alloc, file.name)?;
+    match draft_of(alloc, file.bytes, zones)? {
+        Some(draft) => {
+            let read = drafted(alloc, name, draft)?;
+            Ok(read)
+        }
+        None => {
+            let list = read_cluster(alloc, file.bytes, zones)?;
+            let read = listed(alloc, name, list)?;
+            Ok(read)
+        }
+    }
+}
+
+fn push_read(found: &mut Vec<FileCrons>, read: FileCrons) -> Result<(), ListFault>
+    ensures ok { OnOk result (found.new.items ≡ found.old.items ++ read ∷ []) }
+    ensures err { IfErr result (λ e. e ≡ Memory) }
+{
+    found.push(read).map_err(|_| ListFault::Memory)
+}
+
+// What is read of one file more, at the end.
+fn add_file(
+    alloc: Global,
+    found: &mut Vec<FileCrons>,
+    file: &CronFile<'_>,
+    zones: &ZoneTable,
+) -> Result<(), ListFault>
+    ensures read { OnOk result (AddsFile (zones_of zones.now) file.now found.old.items
+        found.new.items) }
+    ensures refused { IfErr result (IsRefusedList file.now.bytes.now) }
+{
+    let read = read_file(alloc, file, zones)?;
+    push_read(found, read)?;
+    Ok(())
+}
+
+/// What is read of each of the files, in their order, or the first that is refused.
+pub(crate) fn read_files<'a>(
+    alloc: Global,
+    files: &[CronFile<'a>],
+    zones: &ZoneTable,
+) -> Result<Vec<FileCrons>, BadFile<'a>>
+    ensures read { IfOk result (λ v. AreFiles (zones_of zones.now) files.now v.items) }
+    ensures refused { IfErr result (λ b. Stops (zones_of zones.now) files.now b.file b.fault) }
+{
+    let mut found = Vec::new(alloc);
+    for file in files {
+        match add_file(alloc, &mut found, file, zones) {
+            Ok(()) => {}
+            Err(fault) => return Err(BadFile { file: *file, fault }),
+        }
+    }
+    Ok(found)
+}

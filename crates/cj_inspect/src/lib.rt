@@ -1,0 +1,19 @@
+//! What `why`, `audit` and `upcoming` answer: of a cluster's objects, and of a window of time.
+//!
+//! Here belongs what is printed and said for one request, as a function of the request and of what
+//! was read. Findings, reviews and starts belong to the crates below, the form of an answer to
+//! `cj_answers`. The crate above rests on the one clause of each `.._answer`: the answer is that of
+//! the rules for these words and this text.
+#![tactic(auto)]
+
+mod as_json;
+mod audit;
+mod cron_files;
+mod upcoming;
+mod why;
+mod windows;
+
+pub use audit::audit_answer;
+pub use cron_files::CronFile;
+pub use upcoming::{upcoming_answer, upcoming_files_answer};
+pub use why::{MOST_LIST_BYTES, MOST_LIST_READS, why_answer};

@@ -1,0 +1,116 @@
+// The lines and the picture of a window.
+ghost use Rattle.std.specs.Prelude.{◌≡◌, IfErr, IfOk, length, string_bytes};
+ghost use Rattle.cj_base.specs.declared.refusal.Refusal.TheVariants.{OutOfMemory};
+ghost use Rattle.cj_zone.specs.Table.{zones_of};
+ghost use Rattle.cj_upcoming.specs.Report.{IsTextOf};
+ghost use Rattle.cj_upcoming.specs.Upcoming.{HasMore};
+ghost use Rattle.cj_upcoming.specs.declared.fault.StartsFault.TheVariants.{TooMany};
+ghost use Rattle.cj_inspect.specs.Windows.{IsCounted, total_line};
+
+use cj_cluster::ClusterCron;
+use cj_picture::heat_picture;
+use cj_types::{Refusal, Shared};
+use cj_upcoming::{
+    Start, StartsFault, Window, standings_text, upcoming, window_lines, zone_changes_text,
+};
+use cj_zone::{ZoneTable, time_text};
+use std::alloc::Global;
+
+// How many starts of how many CronJobs.
+fn total_line(
+    alloc: Global,
+    window: &Window,
+    crons: usize,
+    starts: usize,
+) -> Result<String, Refusal>
+    ensures ok { IfOk result (λ s. string_bytes s ≡ total_line window.now crons starts) }
+    ensures memory { IfErr result (λ e. e ≡ OutOfMemory) }
+{
+    let from = time_text(alloc, window.from())?;
+    let end = time_text(alloc, window.end())?;
+    let (from, end) = (from.as_str(), end.as_str());
+    Ok(format!(in alloc; "from {from} to {end}: {crons} cron jobs, {starts} starts\n")?)
+}
+
+// The lines of these starts, and last how many they are.
+fn counted(
+    alloc: Global,
+    zones: &ZoneTable,
+    window: &Window,
+    crons: &[Shared<ClusterCron>],
+    starts: &[Start],
+    peaks: usize,
+) -> Result<(String, String), Refusal>
+    ensures lines { IfOk result (λ s. IsTextOf (zones_of zones.now) window.now crons.now peaks
+        starts.now (string_bytes s.0)) }
+    ensures last { IfOk result (λ s. string_bytes s.1
+        ≡ total_line window.now (length crons.now) (length starts.now)) }
+    ensures memory { IfErr result (λ e. e ≡ OutOfMemory) }
+{
+    let lines = window_lines(alloc, zones, window, crons, starts, peaks)?;
+    let last = total_line(alloc, window, crons.len(), starts.len())?;
+    Ok((lines, last))
+}
+
+/// What is told of a window, of CronJobs: a line for each minute in which something starts, for
+/// each CronJob that starts nothing, for each instant at which the clock of a zone that one of them
+/// names is put, for each of the fullest minutes, at most `peaks`, and last how many starts there
+/// are.
+///
+/// `TooMany` where there are more than `most` starts, `Memory` where memory is wanting.
+pub(crate) fn counted_text(
+    alloc: Global,
+    zones: &ZoneTable,
+    window: &Window,
+    crons: &[Shared<ClusterCron>],
+    most: usize,
+    peaks: usize,
+) -> Result<String, StartsFault>
+    ensures ok { IfOk result (λ s. IsCounted (zones_of zones.now) window.now crons.now peaks
+        (string_bytes s)) }
+    ensures many { IfErr result (λ e. e ≡ TooMany →
+        HasMore (zones_of zones.now) window.now crons.now most) }
+{
+    let starts = upcoming(alloc, zones, window, crons, most)?;
+    let (mut text, last) = counted(alloc, zones, window, crons, starts.as_slice(), peaks)?;
+    text.push_str(last.as_str())?;
+    Ok(text)
+}
+
+// The words below a picture: these lines, a line for each CronJob that starts nothing, and for each
+// instant at which a clock is put.
+fn below(
+    alloc: Global,
+    zones: &ZoneTable,
+    window: &Window,
+    crons: &[Shared<ClusterCron>],
+    items: &str,
+) -> Result<String, Refusal>
+    ensures memory { IfErr result (λ e. e ≡ OutOfMemory) }
+{
+    let standings = standings_text(alloc, zones, window.from(), crons)?;
+    let standings = standings.as_str();
+    let changes = zone_changes_text(alloc, zones, window, crons)?;
+    let changes = changes.as_str();
+    Ok(format!(in alloc; "{items}{standings}{changes}")?)
+}
+
+/// A picture of what starts in a window, of CronJobs, with these lines below it.
+///
+/// `TooMany` where there are more than `most` starts, `Memory` where memory is wanting.
+pub(crate) fn window_drawn(
+    alloc: Global,
+    zones: &ZoneTable,
+    window: &Window,
+    crons: &[Shared<ClusterCron>],
+    most: usize,
+    items: &str,
+) -> Result<String, StartsFault>
+    ensures many { IfErr result (λ e. e ≡ TooMany →
+        HasMore (zones_of zones.now) window.now crons.now most) }
+{
+    let starts = upcoming(alloc, zones, window, crons, most)?;
+    let words = below(alloc, zones, window, crons, items)?;
+    let text = heat_picture(alloc, window, crons, starts.as_slice(), words.as_str())?;
+    Ok(text)
+}

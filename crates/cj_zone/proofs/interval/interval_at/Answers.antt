@@ -1,0 +1,8 @@
+-- interval_at: its clause offsets, since the zone's clock is that of its rules.
+use Rattle.cj_zone.proofs.ClockLemmas.{zone_offset-clock}
+use Rattle.cj_zone.proofs.IntervalLemmas.{same_clock}
+use Rattle.cj_zone.proofs.interval.interval_at.Goals as goal
+
+pub returns-clause-offsets : goal.returns-clause-offsets
+returns-clause-offsets c = same_clock _ _ _ _ _ _
+    (λ t. zone_offset-clock c.args.zone.now _ t c.rules.ensures) c.of_rules.ensures.offsets
