@@ -1,5 +1,5 @@
-// How many due times a second libcronsim finds, of a schedule that is read once: the words are a schedule, the rule of its
-// zone, and how many searches are made.
+// How many due times a second libcronsim finds, of a schedule that is read once: the words are a
+// schedule, the rule of its zone, and how many searches are made.
 #define _POSIX_C_SOURCE 199309L
 #include "cronsim.h"
 #include <stdio.h>
@@ -18,12 +18,15 @@ int main(int count, char **words) {
     cronsim_fault fault = {0, 0, 0};
     if (count != 4) return 2;
     const uint8_t *schedule = (const uint8_t *)words[1], *rule = (const uint8_t *)words[2];
-    if (cronsim_open_rule(&cron, schedule, strlen(words[1]), rule, strlen(words[2]), &fault) != CRONSIM_DONE) return 1;
+    if (cronsim_open_rule(&cron, schedule, strlen(words[1]), rule, strlen(words[2]), &fault) !=
+        CRONSIM_DONE)
+        return 1;
     const uint64_t start = 1704067200;
     uint64_t at = start, due = 0;
     long searches = atol(words[3]);
     double began = seconds();
-    for (long made = 0; made < searches; made++) at = cronsim_next(&cron, at, &due) == CRONSIM_DONE ? due : start;
+    for (long made = 0; made < searches; made++)
+        at = cronsim_next(&cron, at, &due) == CRONSIM_DONE ? due : start;
     double took = seconds() - began;
     cronsim_close(&cron);
     printf("%.0f\n", (double)searches / (took > 1e-9 ? took : 1e-9));

@@ -1,5 +1,5 @@
-// The same by robfig/cron, the library by which Kubernetes reads schedules: the words are a schedule, the name of its zone,
-// and how many searches are made.
+// The same by robfig/cron, the library by which Kubernetes reads schedules: the words are a
+// schedule, the name of its zone, and how many searches are made.
 package main
 
 import (

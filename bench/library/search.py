@@ -1,4 +1,5 @@
-"""The same by croniter: the words are a schedule, the name of its zone, and how many searches are made."""
+"""The same by croniter: the words are a schedule, the name of its zone, and how many searches are
+made."""
 import datetime
 import sys
 import time

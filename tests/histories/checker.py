@@ -1,23 +1,58 @@
-"""Whether a history that `cronsim run --history` printed keeps what docs/RULES.md promises. It is written from that page alone, and
-shares nothing with the program: a store, a watch window, a listing that lags, a work queue and the seats of workers, each a few
-lines of Python; every line of the history is looked at in turn, and its answer must be the one that the lines before it give.
+"""Whether a history that `cronsim run --history` printed keeps what docs/RULES.md promises. It is
+written from that page alone, and shares nothing with the program: a store, a watch window, a
+listing that lags, a work queue and the seats of workers, each a few lines of Python; every line of
+the history is looked at in turn, and its answer must be the one that the lines before it give.
 
-`faults(text)` gives a list of (place, rule, words), empty where all is well. After a fault it goes on with what the line says.
+`faults(text)` gives a list of (place, rule, words), empty where all is well. After a fault it goes
+on with what the line says.
 """
 import re
 
 WINDOW = 1000
 ROLES = {
-    "User": {"createCron", "updateCron", "deleteCron", "getCron", "getJob", "listCrons", "listJobs", "createJob", "updateJob", "deleteJob", "watch"},
+    "User": {
+        "createCron",
+        "updateCron",
+        "deleteCron",
+        "getCron",
+        "getJob",
+        "listCrons",
+        "listJobs",
+        "createJob",
+        "updateJob",
+        "deleteJob",
+        "watch",
+    },
     "Runner": {"getCron", "getJob", "listCrons", "listJobs", "endJob", "watch"},
-    "Informer": {"getCron", "getJob", "listCrons", "listJobs", "watch", "add", "tick", "shut", "feed"},
-    "Worker": {"take", "seeCron", "seeJobs", "seeActive", "claim", "drop", "make", "setStatus", "finish"},
+    "Informer": {
+        "getCron",
+        "getJob",
+        "listCrons",
+        "listJobs",
+        "watch",
+        "add",
+        "tick",
+        "shut",
+        "feed",
+    },
+    "Worker": {
+        "take",
+        "seeCron",
+        "seeJobs",
+        "seeActive",
+        "claim",
+        "drop",
+        "make",
+        "setStatus",
+        "finish",
+    },
 }
 LINE = re.compile(r"(\d+) (\d+) (User|Runner|Informer|Worker) (\S+) (\S+) (\w+) (.*)")
 
 
 class Line:
-    """One entry as it is printed: PLACE NUMBER ROLE TIME KEY DO ANSWER, then words, of which some are NAME=VALUE."""
+    """One entry as it is printed: PLACE NUMBER ROLE TIME KEY DO ANSWER, then words, of which some
+    are NAME=VALUE."""
 
     def __init__(self, text):
         found = LINE.fullmatch(text)
@@ -27,9 +62,12 @@ class Line:
         self.place, self.number = int(self.place), int(self.number)
         words = rest.split(" ")
         self.refusal = None if words[0] == "ok" else words[0]
-        self.named = {name: value for name, sign, value in (word.partition("=") for word in words) if sign}
+        self.named = {
+            name: value for name, sign, value in (word.partition("=") for word in words) if sign
+        }
         self.plain = [word for word in words[1:] if "=" not in word]
-        # The version in the answer: the first `v=`, which stands before all other words that are named.
+        # The version in the answer: the first `v=`, which stands before all other words that are
+        # named.
         self.version = int(self.named["v"]) if "v" in self.named else None
 
     def names(self, name):
@@ -39,12 +77,20 @@ class Line:
 def minute(time):
     """The minutes since 1970 of a printed time."""
     from datetime import datetime
-    return int((datetime.strptime(time, "%Y-%m-%dT%H:%M:%SZ") - datetime(1970, 1, 1)).total_seconds()) // 60
+
+    return (
+        int((datetime.strptime(time, "%Y-%m-%dT%H:%M:%SZ") - datetime(1970, 1, 1)).total_seconds())
+        // 60
+    )
 
 
 def millis(time):
     from datetime import datetime
-    return int((datetime.strptime(time, "%Y-%m-%dT%H:%M:%SZ") - datetime(1970, 1, 1)).total_seconds()) * 1000
+
+    return (
+        int((datetime.strptime(time, "%Y-%m-%dT%H:%M:%SZ") - datetime(1970, 1, 1)).total_seconds())
+        * 1000
+    )
 
 
 def split(key):
@@ -81,10 +127,19 @@ class Store:
 
 
 class Queue:
-    """client-go's work queue: the line, the dirty keys, those that are worked on, those that wait."""
+    """client-go's work queue: the line, the dirty keys, those that are worked on, those that
+    wait."""
 
     def __init__(self):
-        self.line, self.dirty, self.held, self.waiting, self.failures, self.now, self.shut = [], set(), set(), {}, {}, 0, False
+        self.line, self.dirty, self.held, self.waiting, self.failures, self.now, self.shut = (
+            [],
+            set(),
+            set(),
+            {},
+            {},
+            0,
+            False,
+        )
 
     def add(self, key):
         if self.shut or key in self.dirty:
@@ -148,7 +203,8 @@ class Checker:
             self.fault(rule, f"{what}: {got!r}, and not {wanted!r}")
 
     def refused(self, rule, wanted):
-        """Whether the line is refused, as it must be where `wanted` names a refusal, and only then."""
+        """Whether the line is refused, as it must be where `wanted` names a refusal, and only
+        then."""
         self.want(rule, wanted, self.line.refusal, f"{self.line.do} is answered")
         return self.line.refusal is not None
 
@@ -157,7 +213,12 @@ class Checker:
     def read(self, line):
         self.want("places", len(self.places) + 1, line.place, "the place of the entry")
         self.places.append(line.place)
-        self.want("passes", self.roles.setdefault(line.number, line.role), line.role, f"the role of caller {line.number}")
+        self.want(
+            "passes",
+            self.roles.setdefault(line.number, line.role),
+            line.role,
+            f"the role of caller {line.number}",
+        )
         if line.do not in ROLES[line.role]:
             return self.refused("roles", "NotPermitted")
         getattr(self, line.do)(line)
@@ -177,7 +238,9 @@ class Checker:
     # ---- users and runners
 
     def given_conflict(self, line, thing):
-        uid, version = line.named.get("if-uid", thing["uid"]), line.named.get("if-version", str(thing["v"]))
+        uid, version = line.named.get("if-uid", thing["uid"]), line.named.get(
+            "if-version", str(thing["v"])
+        )
         return uid != thing["uid"] or version != str(thing["v"])
 
     def fields(self, line, thing, rule="store"):
@@ -187,40 +250,87 @@ class Checker:
                 self.want(rule, str(value), line.named[name], f"{name} of {line.key}")
 
     def create(self, line, kind, table, thing):
-        wanted = "Invalid" if "if-version" in line.named else "AlreadyExists" if line.key in table else None
+        wanted = (
+            "Invalid"
+            if "if-version" in line.named
+            else "AlreadyExists"
+            if line.key in table
+            else None
+        )
         if line.refusal == "NotPermitted" and kind == "Job":
             return
         if self.refused("create", wanted):
             return
-        self.fields(line, self.store.write("ADDED", kind, line.key, dict(thing, uid=self.store.new_uid())))
+        self.fields(
+            line, self.store.write("ADDED", kind, line.key, dict(thing, uid=self.store.new_uid()))
+        )
 
     def createCron(self, line):
-        thing = {} if line.refusal else {"policy": line.named["policy"], "suspend": line.named["suspend"], "last": "-", "active": "-"}
+        thing = (
+            {}
+            if line.refusal
+            else {
+                "policy": line.named["policy"],
+                "suspend": line.named["suspend"],
+                "last": "-",
+                "active": "-",
+            }
+        )
         self.create(line, "CronJob", self.store.crons, thing)
 
     def createJob(self, line):
-        thing = {} if line.refusal else {"owner": "-", "owner-uid": "-", "due": line.named["due"], "created": line.time, "state": "Running"}
+        thing = (
+            {}
+            if line.refusal
+            else {
+                "owner": "-",
+                "owner-uid": "-",
+                "due": line.named["due"],
+                "created": line.time,
+                "state": "Running",
+            }
+        )
         self.create(line, "Job", self.store.jobs, thing)
 
     def update(self, line, kind, table, changes):
         thing = table.get(line.key)
-        wanted = "NotFound" if thing is None else "Conflict" if self.given_conflict(line, thing) else None
+        wanted = (
+            "NotFound"
+            if thing is None
+            else "Conflict"
+            if self.given_conflict(line, thing)
+            else None
+        )
         if kind == "Job" and wanted is None and line.refusal == "NotPermitted":
             return
         if self.refused("update", wanted):
             return
-        self.fields(line, self.store.write("MODIFIED", kind, line.key, dict(thing or {}, **changes)))
+        self.fields(
+            line, self.store.write("MODIFIED", kind, line.key, dict(thing or {}, **changes))
+        )
 
     def updateCron(self, line):
-        self.update(line, "CronJob", self.store.crons, {} if line.refusal else {name: line.named[name] for name in ("policy", "suspend")})
+        self.update(
+            line,
+            "CronJob",
+            self.store.crons,
+            {} if line.refusal else {name: line.named[name] for name in ("policy", "suspend")},
+        )
 
     def updateJob(self, line):
-        self.update(line, "Job", self.store.jobs, {} if line.refusal else {"due": line.named["due"]})
+        self.update(
+            line, "Job", self.store.jobs, {} if line.refusal else {"due": line.named["due"]}
+        )
 
     def delete(self, line, kind, table):
         if not self.refused("deletion", None if line.key in table else "NotFound"):
             if line.key in table:
-                self.want("versions", self.store.write("DELETED", kind, line.key, None)["v"], line.version, "the version of the deletion")
+                self.want(
+                    "versions",
+                    self.store.write("DELETED", kind, line.key, None)["v"],
+                    line.version,
+                    "the version of the deletion",
+                )
 
     def deleteCron(self, line):
         self.delete(line, "CronJob", self.store.crons)
@@ -230,9 +340,20 @@ class Checker:
 
     def endJob(self, line):
         job = self.store.jobs.get(line.key)
-        wanted = "NotFound" if job is None or job["uid"] != line.named["of"] else "AlreadyFinished" if job["state"] != "Running" else None
+        wanted = (
+            "NotFound"
+            if job is None or job["uid"] != line.named["of"]
+            else "AlreadyFinished"
+            if job["state"] != "Running"
+            else None
+        )
         if not self.refused("job-end", wanted) and job:
-            self.fields(line, self.store.write("MODIFIED", "Job", line.key, dict(job, state=line.named["outcome"])))
+            self.fields(
+                line,
+                self.store.write(
+                    "MODIFIED", "Job", line.key, dict(job, state=line.named["outcome"])
+                ),
+            )
 
     def get(self, line, table):
         thing = table.get(line.key)
@@ -265,13 +386,22 @@ class Checker:
         after, most = int(line.named["after"]), int(line.named["max"])
         if self.refused("watch-window", "Expired" if after + WINDOW < self.store.version else None):
             return
-        events = [f"{what}:{kind}:{key}@{thing['v']}" for what, kind, key, thing in self.store.events[after:after + most]]
-        self.want("events", [str(len(events))] + events, line.plain, f"what is told after version {after}")
+        events = [
+            f"{what}:{kind}:{key}@{thing['v']}"
+            for what, kind, key, thing in self.store.events[after : after + most]
+        ]
+        self.want(
+            "events", [str(len(events))] + events, line.plain, f"what is told after version {after}"
+        )
 
     def feed(self, line):
         self.refused("mirror", None)
-        known = self.store.version if self.fed + WINDOW < self.store.version else min(self.store.version, self.fed + int(line.named["max"]))
-        for what, kind, key, thing in self.store.events[self.fed:known]:
+        known = (
+            self.store.version
+            if self.fed + WINDOW < self.store.version
+            else min(self.store.version, self.fed + int(line.named["max"]))
+        )
+        for what, kind, key, thing in self.store.events[self.fed : known]:
             if kind == "Job":
                 if what == "DELETED":
                     self.mirror.pop(key, None)
@@ -298,7 +428,10 @@ class Checker:
         if line.number in self.seats:
             return self.refused("phases", "OutOfPhase")
         line_up = self.queue.line
-        if self.refused("queue-take", None if line_up else "ShutDown" if self.queue.shut else "nothing that is entered"):
+        if self.refused(
+            "queue-take",
+            None if line_up else "ShutDown" if self.queue.shut else "nothing that is entered",
+        ):
             return
         if line.key in self.queue.held:
             self.fault("exclusive", f"{line.key} is in another's hands")
@@ -321,14 +454,20 @@ class Checker:
         seat = self.seat("held")
         if seat and not self.refused("live-read", None):
             seat.phase, seat.cron = "seen", self.store.crons.get(seat.key)
-            self.want("phases", seat.cron is None, "none" in line.plain, "whether there is no CronJob")
+            self.want(
+                "phases", seat.cron is None, "none" in line.plain, "whether there is no CronJob"
+            )
             self.fields(line, seat.cron or {})
 
     def seeJobs(self, line):
         seat = self.seat("seen")
         if seat and not self.refused("lagging-listing", None):
             namespace, name = split(seat.key)
-            seat.listing = {key: job for key, job in self.mirror.items() if split(key)[0] == namespace and job["owner"] == name}
+            seat.listing = {
+                key: job
+                for key, job in self.mirror.items()
+                if split(key)[0] == namespace and job["owner"] == name
+            }
             jobs = self.listed(seat.listing)
             seat.phase = "listed"
             self.want("lagging-listing", [str(len(jobs))] + jobs, line.plain, "the listing")
@@ -336,25 +475,41 @@ class Checker:
     def seeActive(self, line):
         seat = self.seat("listed")
         if seat and not self.refused("live-read", None):
-            names = [] if not seat.cron or seat.cron["active"] == "-" else seat.cron["active"].split(",")
+            names = (
+                []
+                if not seat.cron or seat.cron["active"] == "-"
+                else seat.cron["active"].split(",")
+            )
             namespace = split(seat.key)[0]
             jobs = [self.store.jobs.get(f"{namespace}/{name}") for name in names]
             jobs = [job if job and job["owner-uid"] == seat.cron["uid"] else None for job in jobs]
             seat.live = {f"{namespace}/{name}": job for name, job in zip(names, jobs) if job}
-            told = [f"{namespace}/{name}@{job['v']}" if job else "-" for name, job in zip(names, jobs)]
+            told = [
+                f"{namespace}/{name}@{job['v']}" if job else "-" for name, job in zip(names, jobs)
+            ]
             seat.phase = "read"
             self.want("live-read", [str(len(seat.live))] + told, line.plain, "the live read")
 
     def plan_is_well_formed(self, line, seat):
-        """What a plan says must follow from what its worker saw (what a schedule has to do with isn't looked at)."""
-        running = sorted((job["created"], split(key)) for key, job in seat.live.items() if job["state"] == "Running")
+        """What a plan says must follow from what its worker saw (what a schedule has to do with
+        isn't looked at)."""
+        running = sorted(
+            (job["created"], split(key))
+            for key, job in seat.live.items()
+            if job["state"] == "Running"
+        )
         running = [name for _, (_, name) in running]
         make, policy = line.named["make"], line.named["policy"]
         if make != "-" and seat.cron["suspend"] == "yes":
             self.fault("decision-cases", "it is suspended, and a Job is planned")
         if make != "-" and policy == "Forbid" and running:
             self.fault("live-read-decides", f"{running} run, and a Job is planned under Forbid")
-        self.want("decision-cases", running if make != "-" and policy == "Replace" else [], line.names("drop"), "what is dropped first")
+        self.want(
+            "decision-cases",
+            running if make != "-" and policy == "Replace" else [],
+            line.names("drop"),
+            "what is dropped first",
+        )
         for name in line.names("cleanup"):
             job = seat.listing.get(f"{split(seat.key)[0]}/{name}")
             if job is None:
@@ -366,17 +521,31 @@ class Checker:
         seat = self.seat("read")
         if not seat:
             return
-        seen = (seat.cron["uid"], str(seat.cron["v"]), seat.cron["policy"]) if seat.cron else ("-", "-", "-")
+        seen = (
+            (seat.cron["uid"], str(seat.cron["v"]), seat.cron["policy"])
+            if seat.cron
+            else ("-", "-", "-")
+        )
         plan = tuple(line.named[name] for name in ("of", "seen", "policy"))
         make, stands = line.named["make"], self.store.crons.get(seat.key)
         wanted = "Stale" if plan != seen else None
         if plan == seen and make != "-":
-            wanted = "NotFound" if not stands or stands["uid"] != plan[0] else "Conflict" if str(stands["v"]) != plan[1] else None
+            wanted = (
+                "NotFound"
+                if not stands or stands["uid"] != plan[0]
+                else "Conflict"
+                if str(stands["v"]) != plan[1]
+                else None
+            )
         if self.refused("claim-inputs", wanted):
             return
         seat.phase, seat.moment = "works", line.time
-        seat.steps = [("drop", name) for name in line.names("drop")] + [("make", make)] * (make != "-")
-        seat.steps += [("drop", name) for name in line.names("cleanup")] + [("setStatus", None)] * (line.named["status"] == "yes")
+        seat.steps = [("drop", name) for name in line.names("drop")] + [("make", make)] * (
+            make != "-"
+        )
+        seat.steps += [("drop", name) for name in line.names("cleanup")] + [("setStatus", None)] * (
+            line.named["status"] == "yes"
+        )
         seat.next, seat.version = line.named["next"], seat.cron["v"] if seat.cron else None
         seat.dropped, seat.made = set(line.names("drop")), None if make == "-" else make
         if seat.cron or make == "-":
@@ -392,13 +561,23 @@ class Checker:
             return
         time = line.plain[0]
         seat.time, seat.policy, seat.last = time, (stands or seat.cron)["policy"], time
-        self.want("made-job", f"{split(seat.key)[1]}-{minute(time)}", make, "the name of the Job for that time")
+        self.want(
+            "made-job",
+            f"{split(seat.key)[1]}-{minute(time)}",
+            make,
+            "the name of the Job for that time",
+        )
         if stands and stands["last"] != "-" and time <= stands["last"]:
             self.fault("claim-time", f"{time} isn't later than the last time, {stands['last']}")
         if time > line.time:
             self.fault("claim-time", f"{time} isn't over at {line.time}")
         active = {make} | (set(stands["active"].split(",")) - {"-"} if stands else set())
-        claimed = self.store.write("MODIFIED", "CronJob", seat.key, dict(stands or seat.cron, last=time, active=",".join(sorted(active))))
+        claimed = self.store.write(
+            "MODIFIED",
+            "CronJob",
+            seat.key,
+            dict(stands or seat.cron, last=time, active=",".join(sorted(active))),
+        )
         seat.version = claimed["v"]
         self.want("versions", claimed["v"], line.version, "the version of the claim")
 
@@ -424,7 +603,12 @@ class Checker:
         gone = job is None or planned is None or job["uid"] != planned["uid"]
         self.want("plan-steps", ["gone"] if gone else [name], line.plain, "what is dropped")
         if not gone:
-            self.want("versions", self.store.write("DELETED", "Job", key, None)["v"], line.version, "the version of the drop")
+            self.want(
+                "versions",
+                self.store.write("DELETED", "Job", key, None)["v"],
+                line.version,
+                "the version of the drop",
+            )
 
     def make(self, line):
         seat, name = self.step("make")
@@ -436,21 +620,37 @@ class Checker:
         seat.steps.pop(0)
         self.once(line, seat)
         self.alone(seat, key)
-        job = {"owner": split(seat.key)[1], "owner-uid": seat.cron["uid"], "due": seat.time, "created": seat.moment, "state": "Running"}
+        job = {
+            "owner": split(seat.key)[1],
+            "owner-uid": seat.cron["uid"],
+            "due": seat.time,
+            "created": seat.moment,
+            "state": "Running",
+        }
         self.want("made-job", [name], line.plain, "the name of the Job")
-        self.fields(line, self.store.write("ADDED", "Job", key, dict(job, uid=self.store.new_uid())), "made-job")
+        self.fields(
+            line,
+            self.store.write("ADDED", "Job", key, dict(job, uid=self.store.new_uid())),
+            "made-job",
+        )
 
     def once(self, line, seat):
         """No two Jobs of one CronJob, by its uid, for one time."""
         start = (line.named["owner-uid"], line.named["due"])
         if start in self.made:
-            self.fault("once", f"{start[1]} of {seat.key} got a Job at place {self.made[start]} already")
+            self.fault(
+                "once", f"{start[1]} of {seat.key} got a Job at place {self.made[start]} already"
+            )
         self.made.setdefault(start, line.place)
 
     def alone(self, seat, key):
         """Under Forbid and Replace none beside another one of its CronJob."""
         if seat.policy in ("Forbid", "Replace"):
-            others = [k for k, job in self.store.jobs.items() if job["owner-uid"] == seat.cron["uid"] and job["state"] == "Running" and k != key]
+            others = [
+                k
+                for k, job in self.store.jobs.items()
+                if job["owner-uid"] == seat.cron["uid"] and job["state"] == "Running" and k != key
+            ]
             if others:
                 self.fault("alone", f"{others} of {seat.key} run")
 
@@ -459,15 +659,30 @@ class Checker:
         if not seat:
             return
         stands = self.store.crons.get(seat.key)
-        wanted = "NotFound" if not stands or stands["uid"] != seat.cron["uid"] else "Conflict" if stands["v"] != seat.version else None
+        wanted = (
+            "NotFound"
+            if not stands or stands["uid"] != seat.cron["uid"]
+            else "Conflict"
+            if stands["v"] != seat.version
+            else None
+        )
         if self.refused("status-update", wanted):
             return
         seat.steps.pop(0)
         status = {"last": seat.last, "active": self.final_active(seat)}
-        self.want("versions", self.store.write("MODIFIED", "CronJob", seat.key, dict(stands or seat.cron, **status))["v"], line.version, "the version of the status")
+        self.want(
+            "versions",
+            self.store.write("MODIFIED", "CronJob", seat.key, dict(stands or seat.cron, **status))[
+                "v"
+            ],
+            line.version,
+            "the version of the status",
+        )
 
     def final_active(self, seat):
-        names = {split(key)[1] for key, job in seat.live.items() if job["state"] == "Running"} - seat.dropped
+        names = {
+            split(key)[1] for key, job in seat.live.items() if job["state"] == "Running"
+        } - seat.dropped
         names |= {seat.made} if seat.made else set()
         return ",".join(sorted(names)) or "-"
 
@@ -479,7 +694,11 @@ class Checker:
         if self.refused("finish", None):
             return
         reasons = line.names("reasons")
-        if "JobAlreadyActive" in reasons and (not seat.cron or seat.cron["policy"] != "Forbid" or not any(j["state"] == "Running" for j in (seat.live or {}).values())):
+        if "JobAlreadyActive" in reasons and (
+            not seat.cron
+            or seat.cron["policy"] != "Forbid"
+            or not any(j["state"] == "Running" for j in (seat.live or {}).values())
+        ):
             self.fault("sync-reasons", "JobAlreadyActive is told, and none runs under Forbid")
         del self.seats[line.number]
         self.queue.done(seat.key)
@@ -490,7 +709,9 @@ class Checker:
         else:
             failures = self.queue.failures.get(seat.key, 0)
             self.queue.failures[seat.key] = min(failures + 1, 18)
-            self.queue.add_after(seat.key, int(line.named["ms"]) + min(5 * 2 ** failures, 1_000_000))
+            self.queue.add_after(
+                seat.key, int(line.named["ms"]) + min(5 * 2**failures, 1_000_000)
+            )
 
 
 def faults(text):

@@ -1,5 +1,6 @@
-"""Histories that were tampered with, each by one wrong that breaks one promise. A wrong takes the lines of a history and gives others,
-or None where the history has nothing to do it to; the checker must tell one of the rules that stand beside it.
+"""Histories that were tampered with, each by one wrong that breaks one promise. A wrong takes the
+lines of a history and gives others, or None where the history has nothing to do it to; the checker
+must tell one of the rules that stand beside it.
 """
 import re
 
@@ -19,7 +20,7 @@ def did(word, *answer):
 def replaced(lines, n, pattern, new):
     if n is None or not re.search(pattern, lines[n]):
         return None
-    return lines[:n] + [re.sub(pattern, new, lines[n], count=1)] + lines[n + 1:]
+    return lines[:n] + [re.sub(pattern, new, lines[n], count=1)] + lines[n + 1 :]
 
 
 def sync_of(lines, start):
@@ -40,7 +41,9 @@ def started(lines, policy=None):
         if did("take")(line.split(" ")):
             sync = sync_of(lines, n)
             if sync and any(did("make")(lines[m].split(" ")) for m in sync):
-                if not policy or any(f"policy={policy}" in lines[m] and " claim " in lines[m] for m in sync):
+                if not policy or any(
+                    f"policy={policy}" in lines[m] and " claim " in lines[m] for m in sync
+                ):
                     yield sync
 
 
@@ -53,23 +56,39 @@ def a_time_twice(lines):
 def beside_another(lines):
     """Under Forbid the end of a Job is left out, after which another one was made."""
     for sync in started(lines, "Forbid"):
-        cron, namespace = lines[sync[0]].split(" ")[4].split("/")[1], lines[sync[0]].split(" ")[4].split("/")[0]
-        before = [n for n in range(sync[0]) if did("endJob")(lines[n].split(" ")) and lines[n].split(" ")[4].startswith(f"{namespace}/{cron}-")]
+        cron, namespace = (
+            lines[sync[0]].split(" ")[4].split("/")[1],
+            lines[sync[0]].split(" ")[4].split("/")[0],
+        )
+        before = [
+            n
+            for n in range(sync[0])
+            if did("endJob")(lines[n].split(" "))
+            and lines[n].split(" ")[4].startswith(f"{namespace}/{cron}-")
+        ]
         if before:
-            return lines[:before[-1]] + lines[before[-1] + 1:]
+            return lines[: before[-1]] + lines[before[-1] + 1 :]
     return None
 
 
 def in_two_hands(lines):
     """Another worker takes a key that is held."""
     n = place(lines, did("take"))
-    return n is not None and lines[:n + 1] + [lines[n].replace(f" {lines[n].split(' ')[1]} Worker", " 99 Worker", 1)] + lines[n + 1:] or None
+    return (
+        n is not None
+        and lines[: n + 1]
+        + [lines[n].replace(f" {lines[n].split(' ')[1]} Worker", " 99 Worker", 1)]
+        + lines[n + 1 :]
+        or None
+    )
 
 
 def calls_swapped(lines):
     """A worker claims before it has read what runs."""
     n = place(lines, did("seeActive"))
-    m = n is not None and after(lines, n, lambda words: words[1] == lines[n].split(" ")[1] and words[5] == "claim")
+    m = n is not None and after(
+        lines, n, lambda words: words[1] == lines[n].split(" ")[1] and words[5] == "claim"
+    )
     if not m:
         return None
     lines = list(lines)
@@ -79,7 +98,11 @@ def calls_swapped(lines):
 
 def a_version_left_out(lines):
     n = place(lines, did("endJob"))
-    return n is not None and replaced(lines, n, r" v=(\d+)", lambda found: f" v={int(found[1]) + 1}") or None
+    return (
+        n is not None
+        and replaced(lines, n, r" v=(\d+)", lambda found: f" v={int(found[1]) + 1}")
+        or None
+    )
 
 
 def a_uid_again(lines):
@@ -93,7 +116,7 @@ def the_line_overtaken(lines):
     for n, m in zip(takes, takes[1:]):
         if lines[n].split(" ")[4] != lines[m].split(" ")[4] and m == n + 1:
             a, b = lines[n].split(" ")[4], lines[m].split(" ")[4]
-            return lines[:n] + [lines[n].replace(a, b), lines[m].replace(b, a)] + lines[m + 1:]
+            return lines[:n] + [lines[n].replace(a, b), lines[m].replace(b, a)] + lines[m + 1 :]
     return None
 
 
@@ -114,11 +137,16 @@ def not_found_alive(lines):
 
 def ended_twice(lines):
     n = place(lines, did("endJob"))
-    return n is not None and lines[:n + 1] + [lines[n]] + lines[n + 1:] or None
+    return n is not None and lines[: n + 1] + [lines[n]] + lines[n + 1 :] or None
 
 
 def a_stale_claim(lines):
-    n = place(lines, lambda words: did("claim")(words) and " seen=1 " not in " ".join(words) and "seen=-" not in words)
+    n = place(
+        lines,
+        lambda words: did("claim")(words)
+        and " seen=1 " not in " ".join(words)
+        and "seen=-" not in words,
+    )
     return replaced(lines, n, r" seen=(\d+)", lambda found: f" seen={int(found[1]) - 1}")
 
 

@@ -1,5 +1,5 @@
-// Calls libcronsim as no caller should, and with each request for memory refused in turn. Linked with -Wl,--wrap=malloc and
-// -Wl,--wrap=realloc, so that the requests of the library come here.
+// Calls libcronsim as no caller should, and with each request for memory refused in turn. Linked
+// with -Wl,--wrap=malloc and -Wl,--wrap=realloc, so that the requests of the library come here.
 #include "cronsim.h"
 #include <pthread.h>
 #include <stdatomic.h>
@@ -12,11 +12,17 @@ void *__real_realloc(void *block, size_t size);
 
 static _Atomic long asked, refused_one;
 
-static bool is_refused(void) { return ++asked == refused_one; }
+static bool is_refused(void) {
+    return ++asked == refused_one;
+}
 
-void *__wrap_malloc(size_t size) { return is_refused() ? NULL : __real_malloc(size); }
+void *__wrap_malloc(size_t size) {
+    return is_refused() ? NULL : __real_malloc(size);
+}
 
-void *__wrap_realloc(void *block, size_t size) { return is_refused() ? NULL : __real_realloc(block, size); }
+void *__wrap_realloc(void *block, size_t size) {
+    return is_refused() ? NULL : __real_realloc(block, size);
+}
 
 static void want(const char *what, unsigned long long got, unsigned long long wanted) {
     if (got != wanted) {
@@ -25,9 +31,12 @@ static void want(const char *what, unsigned long long got, unsigned long long wa
     }
 }
 
-static const uint8_t *text(const char *bytes) { return (const uint8_t *)bytes; }
+static const uint8_t *text(const char *bytes) {
+    return (const uint8_t *)bytes;
+}
 
-static void want_fault(const char *what, uint32_t status, cronsim_fault fault, uint64_t field, uint64_t cause) {
+static void want_fault(const char *what, uint32_t status, cronsim_fault fault, uint64_t field,
+                       uint64_t cause) {
     want(what, status, CRONSIM_REFUSED);
     want(what, fault.field, field);
     want(what, fault.cause, cause);
@@ -49,7 +58,8 @@ static void closed(void) {
     cronsim_close(&cron);
 }
 
-// Lengths of 0 and of a thousand million, and bytes that aren't UTF-8, beside a handle that keeps what it kept.
+// Lengths of 0 and of a thousand million, and bytes that aren't UTF-8, beside a handle that keeps
+// what it kept.
 static void lengths(void) {
     cronsim_cron cron = CRONSIM_CRON_INIT;
     cronsim_fault fault = {0, 0, 0};
@@ -57,17 +67,32 @@ static void lengths(void) {
     const size_t many = 1000000000;
     want("opened", cronsim_open(&cron, text("0 0 * * *"), 9, &fault), CRONSIM_DONE);
     want_fault("no bytes", cronsim_open(&cron, text(""), 0, &fault), fault, 0, CRONSIM_EMPTY);
-    want_fault("1 GB", cronsim_open(&cron, text("* * * * *"), many, &fault), fault, 0, CRONSIM_LENGTH);
-    want_fault("SIZE_MAX / 2", cronsim_open(&cron, text("* * * * *"), SIZE_MAX / 2, &fault), fault, 0, CRONSIM_LENGTH);
-    want_fault("no UTF-8", cronsim_open(&cron, text("* * * * \xff"), 9, &fault), fault, 0, CRONSIM_NO_TEXT);
-    want_fault("half a character", cronsim_open(&cron, text("* * * * \xc3"), 9, &fault), fault, 0, CRONSIM_NO_TEXT);
-    want_fault("a zero byte, in Latin", cronsim_open(&cron, text("\0\xe9"), 2, &fault), fault, 0, CRONSIM_NO_TEXT);
-    want_fault("no rule", cronsim_open_rule(&cron, text("* * * * *"), 9, text(""), 0, &fault), fault, 6, CRONSIM_NO_ZONE);
-    want_fault("rule of 1 GB", cronsim_open_rule(&cron, text("* * * * *"), 9, text("UTC0"), many, &fault), fault, 6, CRONSIM_NO_ZONE);
-    want_fault("rule, no UTF-8", cronsim_open_rule(&cron, text("* * * * *"), 9, text("\xffTC0"), 4, &fault), fault, 6, CRONSIM_NO_ZONE);
-    want_fault("no file", cronsim_open_file(&cron, text("* * * * *"), 9, text(""), 0, &fault), fault, 6, CRONSIM_NO_ZONE);
-    want_fault("file of 1 GB", cronsim_open_file(&cron, text("* * * * *"), 9, text("TZif"), many, &fault), fault, 6, CRONSIM_NO_ZONE);
-    want_fault("no zone file", cronsim_open_file(&cron, text("* * * * *"), 9, text("TZif2"), 5, &fault), fault, 6, CRONSIM_NO_ZONE);
+    want_fault("1 GB", cronsim_open(&cron, text("* * * * *"), many, &fault), fault, 0,
+               CRONSIM_LENGTH);
+    want_fault("SIZE_MAX / 2", cronsim_open(&cron, text("* * * * *"), SIZE_MAX / 2, &fault), fault,
+               0, CRONSIM_LENGTH);
+    want_fault("no UTF-8", cronsim_open(&cron, text("* * * * \xff"), 9, &fault), fault, 0,
+               CRONSIM_NO_TEXT);
+    want_fault("half a character", cronsim_open(&cron, text("* * * * \xc3"), 9, &fault), fault, 0,
+               CRONSIM_NO_TEXT);
+    want_fault("a zero byte, in Latin", cronsim_open(&cron, text("\0\xe9"), 2, &fault), fault, 0,
+               CRONSIM_NO_TEXT);
+    want_fault("no rule", cronsim_open_rule(&cron, text("* * * * *"), 9, text(""), 0, &fault),
+               fault, 6, CRONSIM_NO_ZONE);
+    want_fault("rule of 1 GB",
+               cronsim_open_rule(&cron, text("* * * * *"), 9, text("UTC0"), many, &fault), fault, 6,
+               CRONSIM_NO_ZONE);
+    want_fault("rule, no UTF-8",
+               cronsim_open_rule(&cron, text("* * * * *"), 9, text("\xffTC0"), 4, &fault), fault, 6,
+               CRONSIM_NO_ZONE);
+    want_fault("no file", cronsim_open_file(&cron, text("* * * * *"), 9, text(""), 0, &fault),
+               fault, 6, CRONSIM_NO_ZONE);
+    want_fault("file of 1 GB",
+               cronsim_open_file(&cron, text("* * * * *"), 9, text("TZif"), many, &fault), fault, 6,
+               CRONSIM_NO_ZONE);
+    want_fault("no zone file",
+               cronsim_open_file(&cron, text("* * * * *"), 9, text("TZif2"), 5, &fault), fault, 6,
+               CRONSIM_NO_ZONE);
     bool is_match = true;
     want("still midnight", cronsim_next(&cron, 1, &due) == CRONSIM_DONE && due == 86400, 1);
     want("a minute past", cronsim_matches(&cron, 86460, &is_match) == CRONSIM_DONE && !is_match, 1);
@@ -91,42 +116,56 @@ static void ranges(void) {
     want("matches, past the end", cronsim_matches(&cron, UINT64_MAX, &is_match), CRONSIM_RANGE);
     want("previous, turned round", cronsim_previous(&cron, 600, 60, &due), CRONSIM_NONE);
     want("nothing written", due == 9 && !is_match && missed.count == 7 && missed.latest == 8, 1);
-    want("missed, turned round", cronsim_missed(&cron, 600, 60, &missed) == CRONSIM_DONE && missed.count == 0, 1);
-    want("all since 1970", cronsim_missed(&cron, 0, last, &missed) == CRONSIM_DONE && missed.count == 101, 1);
+    want("missed, turned round",
+         cronsim_missed(&cron, 600, 60, &missed) == CRONSIM_DONE && missed.count == 0, 1);
+    want("all since 1970",
+         cronsim_missed(&cron, 0, last, &missed) == CRONSIM_DONE && missed.count == 101, 1);
     cronsim_close(&cron);
 }
 
 static const char manifest[] =
-    "{\"apiVersion\":\"batch/v1\",\"kind\":\"CronJob\",\"metadata\":{\"name\":\"hello\"},\"spec\":{\"schedule\":\"30 2 * * *\","
-    "\"timeZone\":\"Europe/Berlin\",\"jobTemplate\":{\"spec\":{\"template\":{\"spec\":{\"restartPolicy\":\"Never\"}}}}}}";
+    "{\"apiVersion\":\"batch/"
+    "v1\",\"kind\":\"CronJob\",\"metadata\":{\"name\":\"hello\"},\"spec\":{\"schedule\":\"30 2 * * "
+    "*\","
+    "\"timeZone\":\"Europe/"
+    "Berlin\",\"jobTemplate\":{\"spec\":{\"template\":{\"spec\":{\"restartPolicy\":\"Never\"}}}}}}";
 static const char zones[] = "{\"Europe/Berlin\":\"CET-1CEST,M3.5.0,M10.5.0/3\"}";
-static const char sound[] = "{\"kind\":\"CronJob\",\"name\":\"hello\",\"namespace\":\"default\",\"warnings\":[]}";
+static const char sound[] =
+    "{\"kind\":\"CronJob\",\"name\":\"hello\",\"namespace\":\"default\",\"warnings\":[]}";
 static const char no_zone[] = "[{\"cause\":\"Zone\",\"field\":\"spec.timeZone\"}]";
 static const char no_json[] = "[{\"cause\":\"Syntax\",\"field\":\"$\"}]";
 static const char no_form[] = "[{\"cause\":\"Form\",\"field\":\"$\"}]";
-static const char plan[] =
-    "{\"claim\":null,\"clean\":[],\"drop\":[],\"make\":null,\"next\":\"2024-01-01T01:30:00Z\",\"reasons\":[],\"status\":null}";
-static const char empty_audit[] =
-    "{\"cronJobs\":0,\"findings\":[],\"jobs\":0,\"manual\":[],\"others\":[{\"item\":1,\"kind\":\"Pod\"}],\"refused\":[]}";
+static const char plan[] = "{\"claim\":null,\"clean\":[],\"drop\":[],\"make\":null,\"next\":\"2024-"
+                           "01-01T01:30:00Z\",\"reasons\":[],\"status\":null}";
+static const char empty_audit[] = "{\"cronJobs\":0,\"findings\":[],\"jobs\":0,\"manual\":[],"
+                                  "\"others\":[{\"item\":1,\"kind\":\"Pod\"}],\"refused\":[]}";
 static char scenario[1024];
 
-enum call { CHECK, PLAN, AUDIT };
+enum call {
+    CHECK,
+    PLAN,
+    AUDIT
+};
 
-// Makes one of the calls that answer with JSON; the zones, or none, and of a plan the moment 2024-01-01T00:00:00Z.
-static uint32_t told(enum call call, const char *bytes, size_t length, const char *by, uint8_t *answer, size_t room, size_t *size) {
+// Makes one of the calls that answer with JSON; the zones, or none, and of a plan the moment
+// 2024-01-01T00:00:00Z.
+static uint32_t told(enum call call, const char *bytes, size_t length, const char *by,
+                     uint8_t *answer, size_t room, size_t *size) {
     if (call == PLAN) return cronsim_plan(text(bytes), length, 1704067200, answer, room, size);
-    return (call == CHECK ? cronsim_check : cronsim_audit)(text(bytes), length, text(by), strlen(by), answer, room, size);
+    return (call == CHECK ? cronsim_check : cronsim_audit)(text(bytes), length, text(by),
+                                                           strlen(by), answer, room, size);
 }
 
 // The answer is this one; nothing is written without room for it, nor behind it.
-static void want_told(const char *what, enum call call, const char *bytes, size_t length, const char *by, uint32_t status,
-                      const char *answer) {
+static void want_told(const char *what, enum call call, const char *bytes, size_t length,
+                      const char *by, uint32_t status, const char *answer) {
     uint8_t buffer[1024];
     size_t wanted = strlen(answer);
     for (size_t room = 0; room <= wanted + 1; room += room + 1 < wanted ? wanted - 1 : 1) {
         size_t size = 0;
         memset(buffer, 7, sizeof buffer);
-        want(what, told(call, bytes, length, by, buffer, room, &size), room < wanted ? CRONSIM_ROOM : status);
+        want(what, told(call, bytes, length, by, buffer, room, &size),
+             room < wanted ? CRONSIM_ROOM : status);
         want(what, size, wanted);
         size_t written = room < wanted ? 0 : wanted;
         want(what, memcmp(buffer, answer, written), 0);
@@ -147,19 +186,26 @@ static void texts(void) {
         want_told("half of it", call, manifest, sizeof manifest / 2, "", CRONSIM_REFUSED, no_json);
         if (call != CHECK) want_told("a number", call, "1", 1, "", CRONSIM_REFUSED, no_form);
         if (call == PLAN) continue;
-        want_told("zones, no UTF-8", call, manifest, sizeof manifest - 1, "\xff", CRONSIM_REFUSED, "[{\"cause\":\"Syntax\",\"field\":\"zones\"}]");
-        want_told("zones, a list", call, manifest, sizeof manifest - 1, "[]", CRONSIM_REFUSED, "[{\"cause\":\"Zone\",\"field\":\"zones\"}]");
-        want_told("a second UTC", call, "", 0, "{\"UTC\":\"UTC0\"}", CRONSIM_REFUSED, "[{\"cause\":\"Zone\",\"field\":\"zones\"}]");
+        want_told("zones, no UTF-8", call, manifest, sizeof manifest - 1, "\xff", CRONSIM_REFUSED,
+                  "[{\"cause\":\"Syntax\",\"field\":\"zones\"}]");
+        want_told("zones, a list", call, manifest, sizeof manifest - 1, "[]", CRONSIM_REFUSED,
+                  "[{\"cause\":\"Zone\",\"field\":\"zones\"}]");
+        want_told("a second UTC", call, "", 0, "{\"UTC\":\"UTC0\"}", CRONSIM_REFUSED,
+                  "[{\"cause\":\"Zone\",\"field\":\"zones\"}]");
     }
-    want_told("a number", CHECK, "1", 1, "", CRONSIM_REFUSED, "[{\"cause\":\"Type\",\"field\":\"$\"}]");
+    want_told("a number", CHECK, "1", 1, "", CRONSIM_REFUSED,
+              "[{\"cause\":\"Type\",\"field\":\"$\"}]");
     want_told("a manifest", CHECK, manifest, sizeof manifest - 1, zones, CRONSIM_DONE, sound);
-    want_told("a zone that isn't known", CHECK, manifest, sizeof manifest - 1, "", CRONSIM_REFUSED, no_zone);
+    want_told("a zone that isn't known", CHECK, manifest, sizeof manifest - 1, "", CRONSIM_REFUSED,
+              no_zone);
     want_told("a scenario", PLAN, scenario, strlen(scenario), "", CRONSIM_DONE, plan);
     const char *pods = "{\"kind\":\"List\",\"items\":[{\"kind\":\"Pod\"}]}";
     want_told("a Pod", AUDIT, pods, strlen(pods), zones, CRONSIM_DONE, empty_audit);
     uint8_t answer[8] = {7};
     size_t size = 9;
-    want("past the end", cronsim_plan(text(scenario), strlen(scenario), 253370764800u, answer, 8, &size), CRONSIM_RANGE);
+    want("past the end",
+         cronsim_plan(text(scenario), strlen(scenario), 253370764800u, answer, 8, &size),
+         CRONSIM_RANGE);
     want("UINT64_MAX", cronsim_plan(text(""), 0, UINT64_MAX, answer, 8, &size), CRONSIM_RANGE);
     want("nothing written", size == 9 && answer[0] == 7, 1);
 }
@@ -170,22 +216,27 @@ static bool tells(int number_of_call) {
         enum call call;
         const char *bytes, *by;
         uint32_t status;
-    } all[] = {{CHECK, manifest, zones, CRONSIM_DONE}, {CHECK, manifest, "", CRONSIM_REFUSED}, {CHECK, "{", zones, CRONSIM_REFUSED},
-               {CHECK, "{}", "[]", CRONSIM_REFUSED}, {PLAN, scenario, "", CRONSIM_DONE}, {PLAN, "{}", "", CRONSIM_REFUSED},
+    } all[] = {{CHECK, manifest, zones, CRONSIM_DONE}, {CHECK, manifest, "", CRONSIM_REFUSED},
+               {CHECK, "{", zones, CRONSIM_REFUSED},   {CHECK, "{}", "[]", CRONSIM_REFUSED},
+               {PLAN, scenario, "", CRONSIM_DONE},     {PLAN, "{}", "", CRONSIM_REFUSED},
                {AUDIT, manifest, zones, CRONSIM_DONE}, {AUDIT, "1", zones, CRONSIM_REFUSED}};
     uint8_t answer[1024];
     size_t size = 9;
     memset(answer, 7, sizeof answer);
     asked = 0;
     const char *bytes = all[number_of_call].bytes;
-    uint32_t status = told(all[number_of_call].call, bytes, strlen(bytes), all[number_of_call].by, answer, sizeof answer, &size);
+    uint32_t status = told(all[number_of_call].call, bytes, strlen(bytes), all[number_of_call].by,
+                           answer, sizeof answer, &size);
     bool was_refused = asked >= refused_one;
     want("told", status, was_refused ? CRONSIM_MEMORY : all[number_of_call].status);
-    if (was_refused) want("nothing written", size == 9 && answer[0] == 7 && memcmp(answer, answer + 1, sizeof answer - 1) == 0, 1);
+    if (was_refused)
+        want("nothing written",
+             size == 9 && answer[0] == 7 && memcmp(answer, answer + 1, sizeof answer - 1) == 0, 1);
     return was_refused;
 }
 
-// Opens handles of its own, each for another hour, and looks through three days of each: what a thread does.
+// Opens handles of its own, each for another hour, and looks through three days of each: what a
+// thread does.
 static void *alone(void *first) {
     const uint64_t day = 86400;
     for (int turn = 0; turn < 240; turn++) {
@@ -194,13 +245,15 @@ static void *alone(void *first) {
         uint64_t due = day, hour = (uint64_t)(*(int *)first + turn) % 24;
         char schedule[16];
         int length = snprintf(schedule, sizeof schedule, "0 %d * * *", (int)hour);
-        want("opened by a thread", cronsim_open(&cron, text(schedule), (size_t)length, &fault), CRONSIM_DONE);
+        want("opened by a thread", cronsim_open(&cron, text(schedule), (size_t)length, &fault),
+             CRONSIM_DONE);
         for (uint64_t days = 1; days < 4; days++) {
             want("next in a thread", cronsim_next(&cron, due, &due), CRONSIM_DONE);
             want("due in a thread", due, (days + (hour == 0)) * day + hour * 3600);
         }
         cronsim_close(&cron);
-        if (turn % 60 == 0) want_told("told in a thread", PLAN, scenario, strlen(scenario), "", CRONSIM_DONE, plan);
+        if (turn % 60 == 0)
+            want_told("told in a thread", PLAN, scenario, strlen(scenario), "", CRONSIM_DONE, plan);
     }
     return NULL;
 }
@@ -209,11 +262,13 @@ static void *alone(void *first) {
 static void threads(void) {
     pthread_t all[4];
     int firsts[4] = {0, 5, 11, 17};
-    for (int i = 0; i < 4; i++) want("a thread", (unsigned)pthread_create(&all[i], NULL, alone, &firsts[i]), 0);
+    for (int i = 0; i < 4; i++)
+        want("a thread", (unsigned)pthread_create(&all[i], NULL, alone, &firsts[i]), 0);
     for (int i = 0; i < 4; i++) pthread_join(all[i], NULL);
 }
 
-// A first and a second opening, by each call in turn, with the request for memory of this number refused; tells whether one was.
+// A first and a second opening, by each call in turn, with the request for memory of this number
+// refused; tells whether one was.
 static bool opens(int call, const uint8_t *file, size_t file_length) {
     cronsim_cron cron = CRONSIM_CRON_INIT;
     cronsim_fault fault = {7, 8, 9};
@@ -224,14 +279,22 @@ static bool opens(int call, const uint8_t *file, size_t file_length) {
     want("opened", cronsim_open(&cron, text("0 0 * * *"), 9, &fault), CRONSIM_DONE);
     asked = 0;
     refused_one = number;
-    if (call == 0) status = cronsim_open(&cron, text("30 2 * * *"), 10, &fault);
-    else if (call == 1) status = cronsim_open_rule(&cron, text("30 2 * * *"), 10, text("CET-1CEST,M3.5.0,M10.5.0/3"), 26, &fault);
-    else if (call == 2) status = cronsim_open_file(&cron, text("30 2 * * *"), 10, file, file_length, &fault);
-    else status = cronsim_open_file(&cron, text("30 2 * * *"), 10, text("no zone file"), 12, &fault);
+    if (call == 0)
+        status = cronsim_open(&cron, text("30 2 * * *"), 10, &fault);
+    else if (call == 1)
+        status = cronsim_open_rule(&cron, text("30 2 * * *"), 10,
+                                   text("CET-1CEST,M3.5.0,M10.5.0/3"), 26, &fault);
+    else if (call == 2)
+        status = cronsim_open_file(&cron, text("30 2 * * *"), 10, file, file_length, &fault);
+    else
+        status = cronsim_open_file(&cron, text("30 2 * * *"), 10, text("no zone file"), 12, &fault);
     bool was_refused = asked >= number;
-    if (was_refused) want("refused memory", status, CRONSIM_MEMORY);
-    else want("with memory", status, call == 3 ? CRONSIM_REFUSED : CRONSIM_DONE);
-    if (status == CRONSIM_MEMORY) want("the fault stays", fault.field == 7 && fault.cause == 8 && fault.byte == 9, 1);
+    if (was_refused)
+        want("refused memory", status, CRONSIM_MEMORY);
+    else
+        want("with memory", status, call == 3 ? CRONSIM_REFUSED : CRONSIM_DONE);
+    if (status == CRONSIM_MEMORY)
+        want("the fault stays", fault.field == 7 && fault.cause == 8 && fault.byte == 9, 1);
     long before = asked;
     want("next", cronsim_next(&cron, 1, &due), CRONSIM_DONE);
     want("what is kept", due == 86400, status != CRONSIM_DONE);
@@ -248,7 +311,9 @@ int main(int count, char **words) {
         file_length = fread(file, 1, sizeof file, input);
         fclose(input);
     }
-    snprintf(scenario, sizeof scenario, "{\"manifest\":%s,\"created\":\"2024-01-01T00:00:00Z\",\"zones\":%s}", manifest, zones);
+    snprintf(scenario, sizeof scenario,
+             "{\"manifest\":%s,\"created\":\"2024-01-01T00:00:00Z\",\"zones\":%s}", manifest,
+             zones);
     closed();
     lengths();
     ranges();
@@ -261,6 +326,7 @@ int main(int count, char **words) {
     }
     for (int call = 0; call < 8; call++)
         for (refused_one = 1; tells(call); refused_one++) refusals++;
-    printf("library: hostile: each answer as stated, with %ld requests for memory refused\n", refusals);
+    printf("library: hostile: each answer as stated, with %ld requests for memory refused\n",
+           refusals);
     return refusals ? 0 : 1;
 }

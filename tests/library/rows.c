@@ -1,4 +1,5 @@
-// Runs the cases on standard input through libcronsim, and ends with status 0 where each answer is the one stated.
+// Runs the cases on standard input through libcronsim, and ends with status 0 where each answer is
+// the one stated.
 #include "cronsim.h"
 #include <stdio.h>
 #include <stdlib.h>
@@ -26,7 +27,8 @@ static size_t bytes_of(char *digits) {
     return count;
 }
 
-// The times that have to come, each by the call for the next one, and the same looked at from the other end.
+// The times that have to come, each by the call for the next one, and the same looked at from the
+// other end.
 static void times(cronsim_cron *cron, uint64_t after) {
     uint64_t at = after, due = 0, back = 0, count = 0;
     cronsim_missed_times missed = {7, 7};
@@ -53,14 +55,17 @@ static void times(cronsim_cron *cron, uint64_t after) {
 }
 
 // A refusal leaves the fault stated, and what was kept before.
-static void refused(uint32_t status, cronsim_fault fault, uint64_t field, uint64_t byte, uint64_t cause) {
+static void refused(uint32_t status, cronsim_fault fault, uint64_t field, uint64_t byte,
+                    uint64_t cause) {
     want("refused", status, CRONSIM_REFUSED);
     want("field", fault.field, field);
     want("byte", fault.byte, byte);
     want("cause", fault.cause, cause);
 }
 
-static uint64_t number(void) { return strtoull(strtok(NULL, "\t\n"), NULL, 10); }
+static uint64_t number(void) {
+    return strtoull(strtok(NULL, "\t\n"), NULL, 10);
+}
 
 static void run(char *line, cronsim_cron *cron) {
     char *schedule = strtok(line, "\t\n"), *rule = strtok(NULL, "\t\n");
@@ -74,7 +79,8 @@ static void run(char *line, cronsim_cron *cron) {
         status = cronsim_open(cron, (const uint8_t *)schedule, schedule_length, &fault);
     } else {
         rule_length = bytes_of(rule);
-        status = cronsim_open_rule(cron, (const uint8_t *)schedule, schedule_length, (const uint8_t *)rule, rule_length, &fault);
+        status = cronsim_open_rule(cron, (const uint8_t *)schedule, schedule_length,
+                                   (const uint8_t *)rule, rule_length, &fault);
     }
     if (strcmp(outcome, "times") == 0) {
         want("opened", status, CRONSIM_DONE);

@@ -48,12 +48,14 @@ func open(cron *C.cronsim_cron, schedule []byte, rule string) (C.uint32_t, C.cro
 		status = C.cronsim_open(cron, start(schedule), length, &fault)
 	} else {
 		zone := text(rule)
-		status = C.cronsim_open_rule(cron, start(schedule), length, start(zone), C.size_t(len(zone)), &fault)
+		size := C.size_t(len(zone))
+		status = C.cronsim_open_rule(cron, start(schedule), length, start(zone), size, &fault)
 	}
 	return status, fault
 }
 
-// Whether these times come, each by the call for the next one, and the same looked at from the other end.
+// Whether these times come, each by the call for the next one, and the same looked at from the
+// other end.
 func times(cron *C.cronsim_cron, after uint64, wanted []string) bool {
 	at, count := C.uint64_t(after), 0
 	var due, back C.uint64_t

@@ -1,9 +1,20 @@
-"""Runs the cases on standard input through libcronsim.so, whose path is given; each of a rule a second time with a zone file
-(RFC 8536) that has no transitions and this rule at its end, by which all its times go then."""
+"""Runs the cases on standard input through libcronsim.so, whose path is given; each of a rule a
+second time with a zone file (RFC 8536) that has no transitions and this rule at its end, by which
+all its times go then."""
 import ctypes
 import struct
 import sys
-from ctypes import POINTER, Structure, byref, c_bool, c_char_p, c_size_t, c_uint32, c_uint64, c_void_p
+from ctypes import (
+    POINTER,
+    Structure,
+    byref,
+    c_bool,
+    c_char_p,
+    c_size_t,
+    c_uint32,
+    c_uint64,
+    c_void_p,
+)
 
 DONE, NONE, REFUSED = 0, 1, 2
 NO_ZONE = 10
@@ -26,7 +37,14 @@ def loaded(path):
     library = ctypes.CDLL(path)
     cron, number = POINTER(Cron), POINTER(c_uint64)
     library.cronsim_open.argtypes = [cron, c_char_p, c_size_t, POINTER(Fault)]
-    library.cronsim_open_rule.argtypes = [cron, c_char_p, c_size_t, c_char_p, c_size_t, POINTER(Fault)]
+    library.cronsim_open_rule.argtypes = [
+        cron,
+        c_char_p,
+        c_size_t,
+        c_char_p,
+        c_size_t,
+        POINTER(Fault),
+    ]
     library.cronsim_open_file.argtypes = library.cronsim_open_rule.argtypes
     library.cronsim_close.argtypes, library.cronsim_close.restype = [cron], None
     library.cronsim_next.argtypes = [cron, c_uint64, number]
@@ -41,7 +59,8 @@ def text(digits):
 
 
 def zone_file(rule):
-    """A zone file whose times all go by the rule: two headers with a block each, of one local time type, and the rule."""
+    """A zone file whose times all go by the rule: two headers with a block each, of one local time
+    type, and the rule."""
     counts = struct.pack(">6l", 0, 0, 0, 0, 1, 4)
     block = b"TZif3" + bytes(15) + counts + struct.pack(">lbb", 0, 0, 0) + b"UTC\0"
     return block + block + b"\n" + rule + b"\n"
@@ -53,12 +72,17 @@ def opened(library, cron, schedule, rule, fault, by_file):
     rule = text(rule)
     if by_file:
         file = zone_file(rule)
-        return library.cronsim_open_file(byref(cron), schedule, len(schedule), file, len(file), byref(fault))
-    return library.cronsim_open_rule(byref(cron), schedule, len(schedule), rule, len(rule), byref(fault))
+        return library.cronsim_open_file(
+            byref(cron), schedule, len(schedule), file, len(file), byref(fault)
+        )
+    return library.cronsim_open_rule(
+        byref(cron), schedule, len(schedule), rule, len(rule), byref(fault)
+    )
 
 
 def times(library, cron, after, wanted):
-    """Whether these times come, each by the call for the next one, and the same looked at from the other end."""
+    """Whether these times come, each by the call for the next one, and the same looked at from the
+    other end."""
     at, due, back, is_match, missed = after, c_uint64(0), c_uint64(0), c_bool(False), Missed(7, 7)
     count = 0
     for word in wanted:
@@ -68,9 +92,15 @@ def times(library, cron, after, wanted):
             break
         if library.cronsim_next(byref(cron), at, byref(due)) != DONE or due.value != int(word):
             return False
-        if library.cronsim_matches(byref(cron), due.value, byref(is_match)) != DONE or not is_match.value:
+        if (
+            library.cronsim_matches(byref(cron), due.value, byref(is_match)) != DONE
+            or not is_match.value
+        ):
             return False
-        if library.cronsim_previous(byref(cron), at, due.value, byref(back)) != DONE or back.value != due.value:
+        if (
+            library.cronsim_previous(byref(cron), at, due.value, byref(back)) != DONE
+            or back.value != due.value
+        ):
             return False
         at, count = due.value, count + 1
     status = library.cronsim_missed(byref(cron), after, at, byref(missed))
@@ -94,7 +124,9 @@ def main():
         # (a zone file may have no rule at its end)
         has_rule = line.split("\t")[1] not in ("-", ".")
         files += has_rule
-        if not all(is_right(library, cron, line, by_file) for by_file in [False, True][: 1 + has_rule]):
+        if not all(
+            is_right(library, cron, line, by_file) for by_file in [False, True][: 1 + has_rule]
+        ):
             sys.exit(f"library: Python: case {count}: {line}")
     library.cronsim_close(byref(cron))
     print(f"library: Python: {count} rows, {files} of them with a zone file too")

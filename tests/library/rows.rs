@@ -101,7 +101,8 @@ fn text(digits: &str) -> Option<Vec<u8>> {
     pairs.map(|pair| u8::from_str_radix(std::str::from_utf8(pair).ok()?, 16).ok()).collect()
 }
 
-/// Whether these times come, each by the call for the next one, and the same looked at from the other end.
+/// Whether these times come, each by the call for the next one, and the same looked at from the
+/// other end.
 fn times(cron: &mut Timetable, after: u64, wanted: &[&str]) -> bool {
     let (mut at, mut count) = (after, 0);
     for word in wanted {
@@ -131,7 +132,8 @@ fn is_right(cron: &mut Timetable, line: &str) -> Option<bool> {
     Some(match words[4] {
         "times" => status == DONE && times(cron, words[2].parse().ok()?, rest),
         "fault" => {
-            status == REFUSED && told.iter().map(u64::to_string).eq(rest.iter().map(|word| word.to_string()))
+            let wanted = rest.iter().map(|word| word.to_string());
+            status == REFUSED && told.iter().map(u64::to_string).eq(wanted)
         }
         _ => status == REFUSED && told == [6, 0, NO_ZONE],
     })

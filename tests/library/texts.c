@@ -1,5 +1,6 @@
-// Makes the calls on standard input through libcronsim, and prints each answer on a line: the status and the JSON. Each call is
-// made with no room for the answer, with a byte too few and with some more, and writes to no byte but the answer's.
+// Makes the calls on standard input through libcronsim, and prints each answer on a line: the
+// status and the JSON. Each call is made with no room for the answer, with a byte too few and with
+// some more, and writes to no byte but the answer's.
 #include "cronsim.h"
 #include <stdio.h>
 #include <stdlib.h>
@@ -36,10 +37,13 @@ struct call {
 };
 
 static uint32_t made(const struct call *c, uint8_t *answer, size_t capacity, size_t *length) {
-    if (strcmp(c->name, "plan") == 0) return cronsim_plan(c->text.bytes, c->text.length, c->now, answer, capacity, length);
+    if (strcmp(c->name, "plan") == 0)
+        return cronsim_plan(c->text.bytes, c->text.length, c->now, answer, capacity, length);
     if (strcmp(c->name, "check") == 0)
-        return cronsim_check(c->text.bytes, c->text.length, c->zones.bytes, c->zones.length, answer, capacity, length);
-    return cronsim_audit(c->text.bytes, c->text.length, c->zones.bytes, c->zones.length, answer, capacity, length);
+        return cronsim_check(c->text.bytes, c->text.length, c->zones.bytes, c->zones.length, answer,
+                             capacity, length);
+    return cronsim_audit(c->text.bytes, c->text.length, c->zones.bytes, c->zones.length, answer,
+                         capacity, length);
 }
 
 static void answer(const struct call *c) {
@@ -67,8 +71,10 @@ int main(void) {
         line_number++;
         struct call c = {strtok(line, "\t\n"), 0, {(uint8_t *)"", 0}, {NULL, 0}};
         char *known = strtok(NULL, "\t\n");
-        if (strcmp(c.name, "plan") == 0) c.now = strtoull(known, NULL, 10);
-        else c.zones = bytes_of(known);
+        if (strcmp(c.name, "plan") == 0)
+            c.now = strtoull(known, NULL, 10);
+        else
+            c.zones = bytes_of(known);
         c.text = bytes_of(strtok(NULL, "\t\n"));
         answer(&c);
     }

@@ -1,4 +1,5 @@
-// Makes the calls on standard input through libcronsim, by cgo, and prints each answer on a line: the status and the JSON.
+// Makes the calls on standard input through libcronsim, by cgo, and prints each answer on a line:
+// the status and the JSON.
 package main
 
 /*
@@ -33,7 +34,9 @@ func text(digits string) []byte {
 }
 
 // What a call answers: at most twice, since it tells how much room it wants.
-func told(call func(answer *C.uint8_t, room C.size_t, length *C.size_t) C.uint32_t) (C.uint32_t, []byte) {
+func told(
+	call func(answer *C.uint8_t, room C.size_t, length *C.size_t) C.uint32_t,
+) (C.uint32_t, []byte) {
 	room, length := C.size_t(400), C.size_t(0)
 	for {
 		answer := make([]byte, room)
@@ -58,11 +61,12 @@ func answer(words []string) (C.uint32_t, []byte) {
 		})
 	}
 	zones := text(words[1])
+	many := C.size_t(len(zones))
 	return told(func(answer *C.uint8_t, room C.size_t, length *C.size_t) C.uint32_t {
 		if words[0] == "check" {
-			return C.cronsim_check(start(input), size, start(zones), C.size_t(len(zones)), answer, room, length)
+			return C.cronsim_check(start(input), size, start(zones), many, answer, room, length)
 		}
-		return C.cronsim_audit(start(input), size, start(zones), C.size_t(len(zones)), answer, room, length)
+		return C.cronsim_audit(start(input), size, start(zones), many, answer, room, length)
 	})
 }
 

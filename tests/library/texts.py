@@ -1,5 +1,5 @@
-"""Makes the calls on standard input through libcronsim.so, whose path is given, and prints each answer on a line: the status and
-the JSON."""
+"""Makes the calls on standard input through libcronsim.so, whose path is given, and prints each
+answer on a line: the status and the JSON."""
 import ctypes
 import sys
 from ctypes import POINTER, byref, c_char_p, c_size_t, c_uint64, create_string_buffer

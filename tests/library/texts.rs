@@ -1,10 +1,13 @@
-//! Makes the calls on standard input through libcronsim, and prints each answer on a line: the status and the JSON.
+//! Makes the calls on standard input through libcronsim, and prints each answer on a line: the
+//! status and the JSON.
 use std::io::BufRead;
 
 const ROOM: u32 = 6;
 
 unsafe extern "C" {
-    fn cronsim_plan(text: *const u8, size: usize, now: u64, answer: *mut u8, room: usize, length: &mut usize) -> u32;
+    fn cronsim_plan(
+        text: *const u8, size: usize, now: u64, answer: *mut u8, room: usize, length: &mut usize,
+    ) -> u32;
     fn cronsim_check(
         text: *const u8,
         size: usize,
@@ -30,7 +33,8 @@ fn text(digits: &str) -> Vec<u8> {
         return Vec::new();
     }
     let pairs = digits.as_bytes().chunks(2);
-    pairs.map(|pair| u8::from_str_radix(std::str::from_utf8(pair).expect("digits"), 16).expect("digits")).collect()
+    let text = |pair| std::str::from_utf8(pair).expect("digits");
+    pairs.map(|pair| u8::from_str_radix(text(pair), 16).expect("digits")).collect()
 }
 
 /// What a call answers: at most twice, since it tells how much room it wants.
@@ -50,7 +54,8 @@ fn answer(words: &[&str]) -> (u32, Vec<u8>) {
     if words[0] == "plan" {
         let now = words[1].parse().expect("a moment");
         return told(|answer, length| unsafe {
-            cronsim_plan(input.as_ptr(), input.len(), now, answer.as_mut_ptr(), answer.len(), length)
+            let (room, size) = (answer.len(), input.len());
+            cronsim_plan(input.as_ptr(), size, now, answer.as_mut_ptr(), room, length)
         });
     }
     let zones = text(words[1]);

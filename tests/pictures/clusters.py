@@ -6,19 +6,42 @@ from datetime import date
 from scenarios import START, time
 from svg import SVG, bars_of
 
-SCHEDULES = ["* * * * *", "*/5 * * * *", "0 * * * *", "30 2 * * *", "*/7 8-18 * * 1-5", "15,45 */2 * * *", "0 0 * * 0"]
+SCHEDULES = [
+    "* * * * *",
+    "*/5 * * * *",
+    "0 * * * *",
+    "30 2 * * *",
+    "*/7 8-18 * * 1-5",
+    "15,45 */2 * * *",
+    "0 0 * * 0",
+]
 
 
 def cron(choice, number):
     return {
         "apiVersion": "batch/v1",
         "kind": "CronJob",
-        "metadata": {"namespace": f"team-{number % 7}", "name": f"cron-{number}", "uid": f"uid-{number}",
-                     "creationTimestamp": time(START - 86400)},
-        "spec": {"schedule": choice.choice(SCHEDULES), "concurrencyPolicy": choice.choice(["Allow", "Forbid", "Replace"]),
-                 "suspend": choice.random() < 0.1,
-                 "jobTemplate": {"spec": {"template": {"spec": {"containers": [{"name": "a", "image": "b"}],
-                                                                "restartPolicy": "Never"}}}}},
+        "metadata": {
+            "namespace": f"team-{number % 7}",
+            "name": f"cron-{number}",
+            "uid": f"uid-{number}",
+            "creationTimestamp": time(START - 86400),
+        },
+        "spec": {
+            "schedule": choice.choice(SCHEDULES),
+            "concurrencyPolicy": choice.choice(["Allow", "Forbid", "Replace"]),
+            "suspend": choice.random() < 0.1,
+            "jobTemplate": {
+                "spec": {
+                    "template": {
+                        "spec": {
+                            "containers": [{"name": "a", "image": "b"}],
+                            "restartPolicy": "Never",
+                        }
+                    }
+                }
+            },
+        },
     }
 
 
@@ -33,17 +56,36 @@ def job(choice, owner, number, due, hand):
     ended = choice.choice(["Complete", "Complete", "Failed", None])
     status = {}
     if ended:
-        status = {"conditions": [{"type": ended, "status": "True", "lastTransitionTime": time(end)}]}
+        status = {
+            "conditions": [{"type": ended, "status": "True", "lastTransitionTime": time(end)}]
+        }
         if ended == "Complete":
             status["completionTime"] = time(end)
     return {
         "apiVersion": "batch/v1",
         "kind": "Job",
-        "metadata": {"namespace": meta["namespace"], "name": f"{meta['name']}-{due // 60}-{number}", "uid": f"job-{meta['name']}-{number}",
-                     "creationTimestamp": time(made), "annotations": annotations,
-                     "ownerReferences": [{"apiVersion": "batch/v1", "kind": "CronJob", "name": meta["name"], "uid": meta["uid"],
-                                          "controller": True, "blockOwnerDeletion": True}]},
-        "spec": {"template": {"spec": {"containers": [{"name": "a", "image": "b"}], "restartPolicy": "Never"}}},
+        "metadata": {
+            "namespace": meta["namespace"],
+            "name": f"{meta['name']}-{due // 60}-{number}",
+            "uid": f"job-{meta['name']}-{number}",
+            "creationTimestamp": time(made),
+            "annotations": annotations,
+            "ownerReferences": [
+                {
+                    "apiVersion": "batch/v1",
+                    "kind": "CronJob",
+                    "name": meta["name"],
+                    "uid": meta["uid"],
+                    "controller": True,
+                    "blockOwnerDeletion": True,
+                }
+            ],
+        },
+        "spec": {
+            "template": {
+                "spec": {"containers": [{"name": "a", "image": "b"}], "restartPolicy": "Never"}
+            }
+        },
         "status": status,
     }
 
@@ -60,7 +102,11 @@ def cluster(number, crons, jobs, length):
         made.append(job(choice, owner, n, due, hand))
         if not stray and not hand:
             owned.append(made[-1]["metadata"]["name"])
-    return {"list": {"apiVersion": "v1", "kind": "List", "items": owners + made}, "owned": owned, "length": length}
+    return {
+        "list": {"apiVersion": "v1", "kind": "List", "items": owners + made},
+        "owned": owned,
+        "length": length,
+    }
 
 
 def clusters():
@@ -78,17 +124,30 @@ def titles(parts):
 
 
 def troubles(top, said, lines, wrong):
-    """A bar for each Job of one of the CronJobs, a cross for each finding, and the Jobs that findings name are marked."""
+    """A bar for each Job of one of the CronJobs, a cross for each finding, and the Jobs that
+    findings name are marked."""
     bars = bars_of(top, wrong)
     names = sorted(title.split(",")[0].split("/")[1] for title in titles(bars))
     if names != sorted(said["owned"]):
         wrong.append(f"{len(names)} bars of {len(said['owned'])} Jobs")
-    found = [line.split() for line in lines if line.split()[0] in ("twice", "beside", "undue", "early", "missing")]
-    crosses = [path for path in top.iter(f"{SVG}path") if path.get("class") == "skip" and path.find(f"{SVG}title") is not None]
+    found = [
+        line.split()
+        for line in lines
+        if line.split()[0] in ("twice", "beside", "undue", "early", "missing")
+    ]
+    crosses = [
+        path
+        for path in top.iter(f"{SVG}path")
+        if path.get("class") == "skip" and path.find(f"{SVG}title") is not None
+    ]
     if len(crosses) != len(found):
         wrong.append(f"{len(crosses)} crosses of {len(found)} findings")
     named = {word for line in found for word in line[2:] if word in set(said["owned"])}
-    marked = {title.split(",")[0].split("/")[1] for bar, title in zip(bars, titles(bars)) if "ill" in bar.get("class").split()}
+    marked = {
+        title.split(",")[0].split("/")[1]
+        for bar, title in zip(bars, titles(bars))
+        if "ill" in bar.get("class").split()
+    }
     if named != marked:
         wrong.append(f"marked: {sorted(marked ^ named)[:5]}")
 

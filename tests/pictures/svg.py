@@ -1,4 +1,5 @@
-"""What every picture must be: well-formed XML, all in bounds, nothing from elsewhere, and no lane in another."""
+"""What every picture must be: well-formed XML, all in bounds, nothing from elsewhere, and no lane
+in another."""
 import re
 import xml.etree.ElementTree as xml
 
@@ -27,7 +28,9 @@ def in_bounds(top, part, wrong):
 
 def lanes_hold(lanes, bars, wrong):
     """Each bar is in one lane, and no lane runs into the next."""
-    spans = sorted((float(lane.get("y")), float(lane.get("y")) + float(lane.get("height"))) for lane in lanes)
+    spans = sorted(
+        (float(lane.get("y")), float(lane.get("y")) + float(lane.get("height"))) for lane in lanes
+    )
     for (_, end), (begin, _) in zip(spans, spans[1:]):
         if end > begin:
             wrong.append(f"a lane ends at {end} below {begin}")
@@ -44,7 +47,11 @@ def read(text, wrong):
     except xml.ParseError as fault:
         wrong.append(f"no XML: {fault}: {text[:100]}")
         return None
-    wrong += [f"from elsewhere: {word}" for word in ("href", "@import", "<script", "@font-face") if word in text]
+    wrong += [
+        f"from elsewhere: {word}"
+        for word in ("href", "@import", "<script", "@font-face")
+        if word in text
+    ]
     for part in top.iter():
         in_bounds(top, part, wrong)
     return top

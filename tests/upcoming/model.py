@@ -1,13 +1,24 @@
-"""What `upcoming` and `describe` print, by a plain scan of all minutes, with Python's own zones: nothing here knows of the
-program's code. A schedule is scanned as the sets of its five fields."""
+"""What `upcoming` and `describe` print, by a plain scan of all minutes, with Python's own zones:
+nothing here knows of the program's code. A schedule is scanned as the sets of its five fields."""
 import datetime
 import re
 
 DAYS = ["Monday", "Tuesday", "Wednesday", "Thursday", "Friday", "Saturday", "Sunday"]
 RANGES = [(0, 59), (0, 23), (1, 31), (1, 12), (0, 6)]
-MACROS = {"@yearly": "0 0 1 1 *", "@monthly": "0 0 1 * *", "@weekly": "0 0 * * 0", "@daily": "0 0 * * *", "@hourly": "0 * * * *"}
-NAMES = [{}, {}, {}, {m: n + 1 for n, m in enumerate("jan feb mar apr may jun jul aug sep oct nov dec".split())},
-         {d: n for n, d in enumerate("sun mon tue wed thu fri sat".split())}]
+MACROS = {
+    "@yearly": "0 0 1 1 *",
+    "@monthly": "0 0 1 * *",
+    "@weekly": "0 0 * * 0",
+    "@daily": "0 0 * * *",
+    "@hourly": "0 * * * *",
+}
+NAMES = [
+    {},
+    {},
+    {},
+    {m: n + 1 for n, m in enumerate("jan feb mar apr may jun jul aug sep oct nov dec".split())},
+    {d: n for n, d in enumerate("sun mon tue wed thu fri sat".split())},
+]
 UTC = datetime.timezone.utc
 REACH = 3000 * 86400
 
@@ -32,7 +43,10 @@ class Schedule:
     def __init__(self, text):
         fields = MACROS.get(text, text).lower().split()
         self.sets = [numbers(field, place) for place, field in enumerate(fields)]
-        self.is_open = [any(re.fullmatch(r"[*?](/1)?", it) for it in fields[place].split(",")) for place in (2, 4)]
+        self.is_open = [
+            any(re.fullmatch(r"[*?](/1)?", it) for it in fields[place].split(","))
+            for place in (2, 4)
+        ]
 
     def allows_day(self, local):
         day = local.day in self.sets[2]
@@ -44,7 +58,8 @@ class Schedule:
         return clock and local.month in self.sets[3] and self.allows_day(local)
 
     def is_never(self):
-        """Whether no date of any year is allowed; each weekday falls on each date within the years that are searched."""
+        """Whether no date of any year is allowed; each weekday falls on each date within the years
+        that are searched."""
         lengths = [31, 29, 31, 30, 31, 30, 31, 31, 30, 31, 30, 31]
         days = any(day <= lengths[month - 1] for month in self.sets[3] for day in self.sets[2])
         return not days and (self.is_open[1] or self.is_open[0])
@@ -67,13 +82,16 @@ def ahead(zone, at):
 
 
 def changes(name, zone, after, last):
-    """The lines of the instants after one and up to another at which the zone's clock is put; all zones here are put at whole
-    minutes."""
+    """The lines of the instants after one and up to another at which the zone's clock is put; all
+    zones here are put at whole minutes."""
     for at in range((after // 60 + 1) * 60, last + 1, 60):
         before, now = ahead(zone, at - 1), ahead(zone, at)
         if before != now:
             word = "skips" if before < now else "repeats"
-            yield f"{word} {name} {civil(shown(zone, at - 1))} {civil(shown(zone, at))} {text(at)}\n"
+            yield (
+                f"{word} {name} {civil(shown(zone, at - 1))} {civil(shown(zone, at))} "
+                f"{text(at)}\n"
+            )
 
 
 def due_times(schedule, zone, start, end):
@@ -82,8 +100,8 @@ def due_times(schedule, zone, start, end):
 
 
 def upcoming(crons, zones, start, end, peaks):
-    """What is printed of CronJobs in their order, each as its key, its schedule, the name of its zone or none, and whether it is
-    suspended."""
+    """What is printed of CronJobs in their order, each as its key, its schedule, the name of its
+    zone or none, and whether it is suspended."""
     minutes = {}
     for key, schedule, zone, suspended in crons:
         if not suspended:
@@ -99,12 +117,17 @@ def upcoming(crons, zones, start, end, peaks):
         lines += changes(name, zones[name], start, end - 1)
     fullest = sorted(minutes, key=lambda at: (-len(minutes[at]), at))[:peaks]
     lines += [f"peak {text(at)} {len(minutes[at])} {' '.join(minutes[at])}\n" for at in fullest]
-    lines.append(f"from {text(start)} to {text(end)}: {len(crons)} cron jobs, {sum(map(len, minutes.values()))} starts\n")
+    lines.append(
+        f"from {text(start)} to {text(end)}: {len(crons)} cron jobs, "
+        f"{sum(map(len, minutes.values()))} starts\n"
+    )
     return "".join(lines)
 
 
 def two(seconds):
-    return f"{seconds // 3600:02}:{seconds % 3600 // 60:02}" + (f":{seconds % 60:02}" if seconds % 60 else "")
+    return f"{seconds // 3600:02}:{seconds % 3600 // 60:02}" + (
+        f":{seconds % 60:02}" if seconds % 60 else ""
+    )
 
 
 def span(seconds):
@@ -124,6 +147,9 @@ def times(schedule, name, zone, start, count):
             off = ahead(zone, at)
             sign = "-" if off < 0 else "+"
             lines += changes(name, zone, after, at)
-            lines.append(f"{DAYS[local.weekday()]} {civil(local)} {sign}{two(abs(off))} {text(at)} in {span(at - start)}\n")
+            lines.append(
+                f"{DAYS[local.weekday()]} {civil(local)} {sign}{two(abs(off))} {text(at)} in "
+                f"{span(at - start)}\n"
+            )
             after, count = at, count - 1
     return "".join(lines)

@@ -1,5 +1,6 @@
-// The times at which robfig/cron, the library that Kubernetes uses, has schedules due: of each line of standard input,
-// a JSON object with a schedule, a zone's name and two times, the times after the first and before the second.
+// The times at which robfig/cron, the library that Kubernetes uses, has schedules due: of each line
+// of standard input, a JSON object with a schedule, a zone's name and two times, the times after
+// the first and before the second.
 package main
 
 import (
@@ -45,7 +46,8 @@ func tell(one asked, out *bufio.Writer) error {
 	}
 }
 
-// The next time, if it is found within two seconds: where a day has no midnight some searches never end.
+// The next time, if it is found within two seconds: where a day has no midnight some searches never
+// end.
 func nextOf(schedule cron.Schedule, at time.Time) (time.Time, bool) {
 	found := make(chan time.Time, 1)
 	go func() { found <- schedule.Next(at) }()
