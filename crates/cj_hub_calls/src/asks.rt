@@ -1,8 +1,7 @@
 // The call at the place of a step.
 use crate::boxed::boxed;
 use cj_calls::Call;
-use cj_replay::Snapshots;
-use cj_script::{Operation, Snapshot, Step, call_of, key_of};
+use cj_script::{Operation, Step, call_of, key_of};
 use cj_types::{Job, Key, Refusal, Shared};
 use cj_world::World;
 use cj_zone::ZoneTable;
@@ -25,21 +24,17 @@ fn job_of<'w>(world: &'w World, operation: &Operation) -> Option<&'w Shared<Job>
     }
 }
 
-// The call of the step for what the worker of the number has seen.
-fn seen_call(
+// The call of the step for how far the sync of the worker of the number has come.
+fn call_for(
     alloc: Global,
     zones: &ZoneTable,
     world: &World,
-    snapshots: &Snapshots,
     number: u64,
     step: &Step,
 ) -> Result<Box<Call, Global>, Refusal> {
     let job = job_of(world, &step.operation);
-    let call = match snapshots.get(number) {
-        Some(snapshot) => call_of(alloc, zones, snapshot, job, &step.operation),
-        None => call_of(alloc, zones, &Snapshot::unseen(), job, &step.operation),
-    };
-    boxed(alloc, call?)
+    let call = call_of(alloc, zones, world.sync(number), job, &step.operation)?;
+    boxed(alloc, call)
 }
 
 /// The step's own call.
@@ -47,10 +42,9 @@ pub fn step_call(
     alloc: Global,
     zones: &ZoneTable,
     world: &World,
-    snapshots: &Snapshots,
     step: &Step,
 ) -> Result<Box<Call, Global>, Refusal> {
-    seen_call(alloc, zones, world, snapshots, step.caller.number, step)
+    call_for(alloc, zones, world, step.caller.number, step)
 }
 
 fn key_in(alloc: Global, text: &str) -> Result<Key, Refusal> {
@@ -74,15 +68,14 @@ pub fn asked_call(
     alloc: Global,
     zones: &ZoneTable,
     world: &World,
-    snapshots: &Snapshots,
     ask: &Ask<'_>,
     step: &Step,
 ) -> Result<Box<Call, Global>, Refusal> {
     match ask.call {
-        "step" => step_call(alloc, zones, world, snapshots, step),
+        "step" => step_call(alloc, zones, world, step),
         "seenBy" => {
             let number = ask.detail.parse::<u64>().map_err(|_| Refusal::Syntax)?;
-            seen_call(alloc, zones, world, snapshots, number, step)
+            call_for(alloc, zones, world, number, step)
         }
         _ => reading(alloc, ask),
     }

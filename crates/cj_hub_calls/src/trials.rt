@@ -155,14 +155,7 @@ fn is_right(
         return Err(Refusal::Syntax);
     };
     let are_made_before = are_made(alloc, twins, &script.zones, before)?;
-    let call = asked_call(
-        alloc,
-        &script.zones,
-        &twins.one,
-        &twins.snapshots,
-        ask,
-        step,
-    )?;
+    let call = asked_call(alloc, &script.zones, &twins.one, ask, step)?;
     let is_tried = is_tried(rt, alloc, twins, step.caller, &call)?;
     let are_made_after = are_made(alloc, twins, &script.zones, after)?;
     let are_alike = twins.are_alike()?;

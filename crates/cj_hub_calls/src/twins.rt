@@ -2,19 +2,17 @@
 use crate::asks::step_call;
 use crate::boxed::boxed;
 use cj_calls::{Answer, Call, Caller, Entry, same_answer};
-use cj_replay::Snapshots;
 use cj_script::Step;
 use cj_types::{CronJob, Job, Limits, Listing, Refusal, Same, Shared};
 use cj_world::World;
 use cj_zone::ZoneTable;
 use std::alloc::Global;
 
-/// Two worlds, and what the workers have seen on the first.
+/// Two worlds.
 #[derive(Drop)]
 pub struct Twins {
     pub one: Box<World, Global>,
     pub other: Box<World, Global>,
-    pub snapshots: Snapshots,
 }
 
 fn world_of(alloc: Global, limits: Limits) -> Result<Box<World, Global>, Refusal> {
@@ -34,11 +32,7 @@ impl Twins {
     pub fn new(alloc: Global, limits: Limits) -> Result<Twins, Refusal> {
         let one = world_of(alloc, limits)?;
         let other = world_of(alloc, limits)?;
-        Ok(Twins {
-            one,
-            other,
-            snapshots: Snapshots::new(alloc),
-        })
+        Ok(Twins { one, other })
     }
 
     /// Makes the call on the first world alone.
@@ -48,14 +42,12 @@ impl Twins {
         caller: Caller,
         call: &Call,
     ) -> Result<Box<Answer, Global>, Refusal> {
-        let answer = answered(alloc, &mut self.one, &caller, call)?;
-        self.snapshots.note(alloc, caller, call, &answer)?;
-        Ok(answer)
+        answered(alloc, &mut self.one, &caller, call)
     }
 
     /// Makes the call of the step on both worlds, and answers whether their answers are the same.
     pub fn make(&mut self, alloc: Global, zones: &ZoneTable, step: &Step) -> Result<bool, Refusal> {
-        let call = step_call(alloc, zones, &self.one, &self.snapshots, step)?;
+        let call = step_call(alloc, zones, &self.one, step)?;
         let answer = self.ask_one(alloc, step.caller, &call)?;
         let other = answered(alloc, &mut self.other, &step.caller, &call)?;
         Ok(same_answer(&answer, &other))

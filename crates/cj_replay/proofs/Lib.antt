@@ -3,4 +3,3 @@ pub mod Called
 pub mod Stepped
 pub mod Printed
 pub mod Replayed
-pub mod SnapshotsLemmas

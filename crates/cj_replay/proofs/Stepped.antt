@@ -12,8 +12,7 @@ use Rattle.cj_world.specs.Worlds.{told}
 use Rattle.cj_report.specs.Lines.{step_line}
 use Rattle.cj_script.specs.declared.step.Step.{Step}
 use Rattle.cj_script.specs.operations.Calls.{IsCallOf}
-use Rattle.cj_replay.specs.snapshots.Snapshots.{seen_of}
-use Rattle.cj_replay.specs.Runs.{MakesStep, after, answered, is_full, job_at}
+use Rattle.cj_replay.specs.Runs.{MakesStep, after, answered, is_full, job_at, sync_after}
 
 -- For makes: an entry that was added stands at the place after those before it.
 place_by : (t : Told) (h : List Told) (b : Bool) → (if b then Some (length (if b then t ∷ h else h)) else None)
@@ -24,7 +23,7 @@ place_by t h false = refl
 -- For make_step: a step's call, its answer, its line and the history left are what MakesStep says.
 pub makes : (zones : ZoneTable) (limits : Kept) (h : List Told) (step : Step) (call : Call) (answer : Result Reply
     Refusal) (h' : List Told) (line : List ℕ) (full : Bool)
-    → IsCallOf zones (seen_of step.caller.number h) (job_at limits.window h) step.operation call
+    → IsCallOf zones (sync_after limits.window h step.caller.number) (job_at limits.window h) step.operation call
     → answer ≡ answered limits h step.caller call → h' ≡ after h step.caller call answer
     → line ≡ step_line (if is_entered answer then Some (length h') else None) step.who step.verb answer
     → full ≡ is_full answer → MakesStep zones limits h step line full h'

@@ -1,4 +1,3 @@
 pub mod Runs
 pub mod Replays
 pub mod Printing
-pub mod snapshots

@@ -19,9 +19,15 @@ use Rattle.cj_script.specs.declared.operations.operation.Operation.{Operation}
 use Rattle.cj_script.specs.declared.operations.operation.Operation.TheVariants.{Ends}
 use Rattle.cj_script.specs.declared.step.Step.{Step}
 use Rattle.cj_script.specs.operations.Calls.{IsCallOf}
-use Rattle.cj_replay.specs.snapshots.Snapshots.{seen_of}
+use Rattle.cj_state.specs.declared.phases.sync.InFlight.{InFlight}
+use Rattle.cj_state.specs.WorkerCalls.{sync_of}
 
 -- ---- one step
+
+-- the sync of the caller of that number, if it has one
+-- rules: claim-step, finish-step
+abbrev pub sync_after : ℕ → List Told → ℕ → Option InFlight
+sync_after window h number = sync_of (state_of window h) number
 
 -- the Job at the key
 abbrev pub job_at : ℕ → List Told → Place → Option Job
@@ -60,8 +66,8 @@ wants_memory other = false
 pub record MakesStep (zones : ZoneTable) (limits : Kept) (h : List Told) (step : Step)
     (line : List ℕ) (full : Bool) (h' : List Told) : Type 0 where
   pub call : Call
-  pub means : IsCallOf zones (seen_of step.caller.number h) (job_at limits.window h) step.operation
-      call
+  pub means : IsCallOf zones (sync_after limits.window h step.caller.number)
+      (job_at limits.window h) step.operation call
   pub answer : Result Reply Refusal
   pub given : answer ≡ answered limits h step.caller call
   pub printed : line ≡ step_line (place_after h answer) step.who step.verb answer

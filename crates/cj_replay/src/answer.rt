@@ -1,13 +1,10 @@
 // How the world answers a step, and what that adds to its history.
-ghost use Rattle.std.specs.Prelude.{◌≡◌, List, IfOk, IfErr, OnOk, length, string_bytes, if◌then◌else◌, Some, None};
+ghost use Rattle.std.specs.Prelude.{◌≡◌, IfOk, IfErr, length, string_bytes, if◌then◌else◌, Some, None};
 ghost use Rattle.cj_base.specs.declared.refusal.Refusal.TheVariants.{OutOfMemory};
-ghost use Rattle.cj_calls.specs.Rows.{Told};
 ghost use Rattle.cj_report.specs.Lines as lines;
 ghost use Rattle.cj_state.specs.Legal as legal;
-ghost use Rattle.cj_replay.specs.snapshots.Remembered.{Remembers};
 ghost use Rattle.cj_replay.specs.Runs as said;
 
-use crate::snapshots::Snapshots;
 use cj_calls::{Answer, Call, Caller};
 use cj_report::step_line;
 use cj_script::Step;
@@ -95,23 +92,4 @@ pub(crate) fn line_of(
 {
     let place = place_of(world, answer);
     step_line(alloc, place, step.who.get().as_str(), step.verb, answer)
-}
-
-/// Remembers what the caller has seen by this answer.
-pub(crate) fn note(
-    alloc: Global,
-    snapshots: &mut Snapshots,
-    caller: Caller,
-    call: &Call,
-    answer: &Answer,
-) -> Result<(), Refusal>
-    ensures ok { OnOk result ((h : List Told) → Remembers snapshots.old h →
-        Remembers snapshots.new (said.after h caller call.now answer.now)) }
-    ensures err { IfErr result (λ e. e ≡ OutOfMemory) }
-{
-    if is_entered(answer) {
-        snapshots.note(alloc, caller, call, answer)
-    } else {
-        Ok(())
-    }
 }

@@ -3,12 +3,10 @@ ghost use Rattle.std.specs.Prelude.{◌≡◌, [], List, ℕ, IfOk, OnOk, OnErr}
 ghost use Rattle.std.specs.Io.KnownBytes.{Appends};
 ghost use Rattle.cj_io.specs.Writing.{AppendsSome};
 ghost use Rattle.cj_world_laws.specs.Promise.{KeepsPromise};
-ghost use Rattle.cj_replay.specs.snapshots.Remembered.{Remembers};
 ghost use Rattle.cj_replay.specs.Replays.{IsPartOf, IsReplayed};
 ghost use Rattle.cj_replay.specs.Printing.{BreaksOff, CutsReport, HasPlayed, PrintsPart, PrintsReport, PrintsStep};
 
 use crate::report::world_report;
-use crate::snapshots::Snapshots;
 use crate::step::make_step;
 use cj_io::{Failure, Pending};
 use cj_script::{Script, Step};
@@ -23,21 +21,18 @@ fn print_step<W: Write>(
     alloc: Global,
     zones: &ZoneTable,
     world: &mut World,
-    snapshots: &mut Snapshots,
     pending: &mut Pending,
     out: &mut W,
     step: &Step,
 ) -> Result<bool, Failure>
-    requires { Remembers snapshots.old world.old.history }
     ensures ok { IfOk result (λ full. PrintsStep zones.now world.old.limits world.old.history
         step.now full world.new.history (W.contents out.old) pending.old (W.contents out.new)
         pending.new) }
-    ensures remembered { OnOk result (Remembers snapshots.new world.new.history) }
     ensures limits { world.new.limits ≡ world.old.limits }
     ensures err { OnErr result (PrintsPart zones.now world.old.limits world.old.history step.now
         (W.contents out.old) pending.old (W.contents out.new)) }
 {
-    let stepped = make_step(alloc, zones, world, snapshots, step)?;
+    let stepped = make_step(alloc, zones, world, step)?;
     pending.print(out, stepped.line.as_str())?;
     Ok(stepped.is_full)
 }
@@ -48,12 +43,10 @@ fn print_all<W: Write>(
     zones: &ZoneTable,
     steps: &[Step],
     world: &mut World,
-    snapshots: &mut Snapshots,
     pending: &mut Pending,
     out: &mut W,
 ) -> Result<bool, Failure>
-    requires remembered { Remembers snapshots.old world.old.history }
-    requires empty { pending.old ≡ [] }
+    requires { pending.old ≡ [] }
     ensures ok { IfOk result (λ full. HasPlayed zones.now world.old.limits world.old.history
         steps.now full world.new.history (W.contents out.old) (W.contents out.new) pending.new) }
     ensures limits { world.new.limits ≡ world.old.limits }
@@ -62,7 +55,7 @@ fn print_all<W: Write>(
 {
     let mut is_full = false;
     for step in steps {
-        let found = print_step(alloc, zones, world, snapshots, pending, out, step)?;
+        let found = print_step(alloc, zones, world, pending, out, step)?;
         is_full = is_full || found;
     }
     Ok(is_full)
@@ -107,14 +100,12 @@ fn replay_on<W: Write>(
     ensures begun { OnErr result ((text : List ℕ) × IsPartOf script.now text
         × AppendsSome (W.contents out.old) (W.contents out.new) text) }
 {
-    let mut snapshots = Snapshots::new(alloc);
     let mut pending = Pending::new(alloc);
     let is_full = print_all(
         alloc,
         &script.zones,
         script.steps.as_slice(),
         world,
-        &mut snapshots,
         &mut pending,
         out,
     )?;

@@ -1,12 +1,10 @@
 // One step of a script, made on the world.
-ghost use Rattle.std.specs.Prelude.{◌≡◌, IfOk, IfErr, OnOk, string_bytes};
+ghost use Rattle.std.specs.Prelude.{◌≡◌, IfOk, IfErr, string_bytes};
 ghost use Rattle.cj_base.specs.declared.refusal.Refusal.TheVariants.{OutOfMemory};
-ghost use Rattle.cj_replay.specs.snapshots.Remembered.{Remembers};
 ghost use Rattle.cj_replay.specs.Runs.{MakesStep};
 
-use crate::answer::{answer_to, is_full, line_of, note};
+use crate::answer::{answer_to, is_full, line_of};
 use crate::call::step_call;
-use crate::snapshots::Snapshots;
 use cj_script::Step;
 use cj_types::Refusal;
 use cj_world::World;
@@ -27,19 +25,15 @@ pub(crate) fn make_step(
     alloc: Global,
     zones: &ZoneTable,
     world: &mut World,
-    snapshots: &mut Snapshots,
     step: &Step,
 ) -> Result<Stepped, Refusal>
-    requires { Remembers snapshots.old world.old.history }
     ensures makes { IfOk result (λ p. MakesStep zones.now world.old.limits world.old.history
         step.now (string_bytes p.line) p.is_full world.new.history) }
-    ensures remembered { OnOk result (Remembers snapshots.new world.new.history) }
     ensures limits { world.new.limits ≡ world.old.limits }
     ensures err { IfErr result (λ e. e ≡ OutOfMemory) }
 {
-    let call = step_call(alloc, zones, world, snapshots, step)?;
+    let call = step_call(alloc, zones, world, step)?;
     let answer = answer_to(alloc, world, &step.caller, call.get())?;
-    note(alloc, snapshots, step.caller, call.get(), answer.get())?;
     let line = line_of(alloc, world, step, answer.get())?;
     Ok(Stepped {
         line,

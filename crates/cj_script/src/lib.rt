@@ -1,10 +1,9 @@
 //! Scripts and simulations: what callers do, as a JSON text says it.
 //!
 //! Here belongs how a text becomes the steps of a script or the scenario of a run, with which fault
-//! it is refused where it doesn't, and which call an operation is, by what its caller has seen.
-//! What a call is answered, and what a worker has seen after a history, belongs to the crates
-//! above. They rest on `read_script` and `read_simulation`, which say what a text means, and on
-//! `call_of` and `unseen_call`.
+//! it is refused where it doesn't, and which call an operation is, by how far its caller's sync has
+//! come. What a call is answered belongs to the crates above. They rest on `read_script` and
+//! `read_simulation`, which say what a text means, and on `call_of` and `unseen_call`.
 #![tactic(auto)]
 
 mod callers;
@@ -20,8 +19,7 @@ mod steps;
 mod writes;
 
 pub use operations::{
-    Operation, Plain, Snapshot, Verb, Write, call_of, instant_of, key_of, present, unseen_call,
-    verb_named,
+    Operation, Plain, Verb, Write, call_of, instant_of, key_of, present, unseen_call, verb_named,
 };
 pub use read::read_script;
 pub use script::Script;

@@ -1,5 +1,5 @@
 // What a step of a script does: its verb, and the operation of a verb that takes no manifest, as a
-// JSON object says it; and the call of an operation, by what its caller has seen until then.
+// JSON object says it; and the call of an operation, by how far its caller's sync has come.
 mod call;
 mod finish;
 mod instant;
@@ -8,7 +8,6 @@ mod member;
 mod operation;
 mod plain;
 mod plan;
-mod snapshot;
 mod verb;
 
 pub use call::{call_of, unseen_call};
@@ -19,5 +18,4 @@ pub(crate) use member::number_at;
 pub use member::present;
 pub use operation::Operation;
 pub(crate) use plain::plain_operation;
-pub use snapshot::Snapshot;
 pub use verb::{Plain, Verb, Write, verb_named};

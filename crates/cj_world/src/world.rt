@@ -5,6 +5,7 @@ ghost use Rattle.cj_base.specs.declared.refusal.Refusal.TheVariants.{Empty, Hist
 ghost use Rattle.cj_types.specs.WorldLimits.{last_history};
 ghost use Rattle.cj_queue.specs.Queue.{first};
 ghost use Rattle.cj_state.specs.Legal.{IsLegal, IsPlanned, ArePlanned, is_entered};
+ghost use Rattle.cj_state.specs.WorkerCalls.{sync_of};
 ghost use Rattle.cj_world_laws.specs.legal.Exclusive.{Exclusive};
 ghost use Rattle.cj_world_laws.specs.legal.Rest.{IsAtRest};
 ghost use Rattle.cj_world_laws.specs.once.Once.{Once, Alone};
@@ -15,7 +16,7 @@ use crate::advance::{Made, advance};
 use cj_base::both;
 use cj_calls::{Answer, Call, Caller, Entry};
 use cj_queue::Queue;
-use cj_state::{InFlightSyncs, State};
+use cj_state::{InFlight, InFlightSyncs, State};
 use cj_store::Store;
 use cj_types::{CronJob, Job, Key, Limits, Listing, Refusal, Shared, TryCopy, Version};
 use cj_watch::{Mirror, WatchLog, Window};
@@ -219,6 +220,13 @@ impl World {
         ensures { option_copied result ≡ map.get (state_in self.now).store.jobs key.now }
     {
         self.state.store.get_job(key)
+    }
+
+    /// The sync of the worker, with how far it has come, if the worker holds a key. It isn't copied.
+    pub fn sync(&self, worker: u64) -> Option<&InFlight>
+        ensures { option_copied result ≡ sync_of (state_in self.now) worker }
+    {
+        self.state.syncs.get(worker)
     }
 
     /// The version of the last write, 0 before the first.

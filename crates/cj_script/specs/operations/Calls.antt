@@ -7,10 +7,10 @@ use Rattle.cj_zone.specs.declared.table.ZoneTable.{ZoneTable}
 use Rattle.cj_decide.specs.Decision.{Planned}
 use Rattle.cj_calls.specs.declared.call.Call.{Call}
 use Rattle.cj_calls.specs.declared.call.Call.TheVariants as Of
+use Rattle.cj_state.specs.declared.phases.sync.InFlight.{InFlight}
 use Rattle.cj_script.specs.declared.operations.operation.Operation.{Operation}
 use Rattle.cj_script.specs.declared.operations.operation.Operation.TheVariants.{Calls, Claims, Closes, Ends}
-use Rattle.cj_script.specs.declared.operations.snapshot.Snapshot.{Snapshot}
-use Rattle.cj_script.specs.operations.Plans.{Inputs, IsPlanFor, inputs_of, reasons_of, unseen}
+use Rattle.cj_script.specs.operations.Plans.{Inputs, IsPlanFor, inputs_of, reasons_of}
 
 -- the uid of the Job that is there; any uid where there is none
 abbrev pub IsUidOf : Option Job → ℕ → Type 0
@@ -32,15 +32,16 @@ pub record IsClaim (zones : ZoneTable) (inputs : Inputs) (at : ℕ) (call : Call
   pub is_for : IsPlanFor zones inputs at plan
   pub is : call ≡ Of.Claim plan
 
--- the call of an operation of a caller that has seen so much, where these Jobs stand
+-- the call of an operation of a caller whose sync, if it has one, has come so far, where these Jobs
+-- stand
 -- rules: claim-step, end-step, finish-step
-abbrev pub IsCallOf : ZoneTable → Snapshot → (Place → Option Job) → Operation → Call → Type 0
-IsCallOf zones snapshot job_at (Calls said) call = call ≡ said
-IsCallOf zones snapshot job_at (Ends key outcome at) call = IsEnd (job_at key) key outcome at call
-IsCallOf zones snapshot job_at (Claims at) call = IsClaim zones (inputs_of snapshot) at call
-IsCallOf zones snapshot job_at (Closes end) call = call ≡ Of.Finish end (reasons_of snapshot.plan)
+abbrev pub IsCallOf : ZoneTable → Option InFlight → (Place → Option Job) → Operation → Call → Type 0
+IsCallOf zones sync job_at (Calls said) call = call ≡ said
+IsCallOf zones sync job_at (Ends key outcome at) call = IsEnd (job_at key) key outcome at call
+IsCallOf zones sync job_at (Claims at) call = IsClaim zones (inputs_of sync) at call
+IsCallOf zones sync job_at (Closes end) call = call ≡ Of.Finish end (reasons_of sync)
 
--- the call of an operation of a caller that has seen nothing, where no Job is known
+-- the call of an operation of a caller that has no sync, where no Job is known
 -- rules: claim-step, end-step, finish-step
 abbrev pub IsUnseenCall : ZoneTable → Operation → Call → Type 0
-IsUnseenCall zones operation call = IsCallOf zones unseen (λ _. None) operation call
+IsUnseenCall zones operation call = IsCallOf zones None (λ _. None) operation call

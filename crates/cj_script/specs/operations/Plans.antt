@@ -8,10 +8,9 @@ use Rattle.cj_zone.specs.declared.zone.Zone.{Zone}
 use Rattle.cj_zone.specs.Table.{local_zone, zones_of}
 use Rattle.cj_zone.specs.Zones.{zone_named}
 use Rattle.cj_decide.specs.Decision.{IsDecided, Planned}
-use Rattle.cj_script.specs.declared.operations.snapshot.Snapshot.{Snapshot}
-
-abbrev pub unseen : Snapshot
-unseen = record { cron = None; jobs = None; active = None; plan = None }
+use Rattle.cj_state.specs.declared.phases.sync.InFlight.{InFlight}
+use Rattle.cj_state.specs.declared.phases.sync.Phase.{Phase}
+use Rattle.cj_state.specs.declared.phases.sync.Phase.TheVariants.{Checked, Works}
 
 -- the three readings that a plan rests on
 pub record Inputs : Type 0 where
@@ -22,18 +21,16 @@ pub record Inputs : Type 0 where
 abbrev pub no_inputs : Inputs
 no_inputs = record { cron = None; jobs = []; active = [] }
 
--- all three, or nothing where one of them is lacking
-abbrev pub gathered : Option (Option CronJob) → Option (List Job) → Option (List (Option Job))
-    → Inputs
-gathered (Some cron) (Some jobs) (Some active)
-    = record { cron = cron; jobs = jobs; active = active }
-gathered (Some cron) (Some jobs) None = no_inputs
-gathered (Some cron) None active = no_inputs
-gathered None jobs active = no_inputs
+-- all three, once a sync has got them, until its plan is claimed; before and afterwards none
+-- rule: claim-step
+abbrev pub inputs_at : Phase → Inputs
+inputs_at (Checked cron jobs active) = record { cron = cron; jobs = jobs; active = active }
+inputs_at phase = no_inputs
 
 -- rule: claim-step
-abbrev pub inputs_of : Snapshot → Inputs
-inputs_of s = gathered s.cron s.jobs s.active
+abbrev pub inputs_of : Option InFlight → Inputs
+inputs_of None = no_inputs
+inputs_of (Some sync) = inputs_at sync.phase
 
 -- the zone of that name, if it is known; the local one where none is named
 abbrev pub zone_named_by : ZoneTable → Option (List ℕ) → Option Zone
@@ -56,8 +53,13 @@ pub record IsPlanFor (zones : ZoneTable) (inputs : Inputs) (at : ℕ) (p : Plann
   pub zone : p.zone ≡ zone_of zones inputs.cron
   pub decided : IsDecided p
 
--- the reasons of a plan that was claimed
+-- the reasons of the plan that was claimed
 -- rule: finish-step
-abbrev pub reasons_of : Option Planned → List Reason
+abbrev pub reasons_at : Phase → List Reason
+reasons_at (Works work) = work.plan.steps.reasons
+reasons_at phase = []
+
+-- rule: finish-step
+abbrev pub reasons_of : Option InFlight → List Reason
 reasons_of None = []
-reasons_of (Some p) = p.steps.reasons
+reasons_of (Some sync) = reasons_at sync.phase

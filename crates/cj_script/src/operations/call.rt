@@ -7,8 +7,8 @@ ghost use Rattle.cj_script.specs.operations.Calls.{IsCallOf, IsClaim, IsEnd, IsU
 
 use crate::operations::operation::Operation;
 use crate::operations::plan::{plan_for, reasons_for};
-use crate::operations::snapshot::Snapshot;
 use cj_calls::{Call, End};
+use cj_state::InFlight;
 use cj_types::{Job, Key, Outcome, Refusal, Seconds, Shared, TryCopy, Uid};
 use cj_zone::ZoneTable;
 use std::alloc::Global;
@@ -44,48 +44,48 @@ fn end_call(
 fn claim_call(
     alloc: Global,
     zones: &ZoneTable,
-    snapshot: &Snapshot,
+    sync: Option<&InFlight>,
     at: Seconds,
 ) -> Result<Call, Refusal>
-    ensures ok { IfOk result (IsClaim zones.now (inputs_of snapshot.now) at) }
+    ensures ok { IfOk result (IsClaim zones.now (inputs_of (option_copied sync.entry)) at) }
     ensures err { IfErr result (λ e. e ≡ OutOfMemory) }
 {
-    let plan = plan_for(alloc, zones, snapshot, at)?;
+    let plan = plan_for(alloc, zones, sync, at)?;
     Ok(Call::Claim(Shared::new(alloc, plan)?))
 }
 
-fn finish_call(alloc: Global, snapshot: &Snapshot, end: End) -> Result<Call, Refusal>
-    ensures ok { IfOk result (λ call. call ≡ Finish end (reasons_of snapshot.now.plan)) }
+fn finish_call(alloc: Global, sync: Option<&InFlight>, end: End) -> Result<Call, Refusal>
+    ensures ok { IfOk result (λ call. call ≡ Finish end (reasons_of (option_copied sync.entry))) }
     ensures err { IfErr result (λ e. e ≡ OutOfMemory) }
 {
-    Ok(Call::Finish(end, reasons_for(alloc, snapshot)?))
+    Ok(Call::Finish(end, reasons_for(alloc, sync)?))
 }
 
-/// The call of an operation of a caller that has seen what the snapshot says. The Job is the one at
-/// the key of an end; none where there is no such Job.
+/// The call of an operation of a caller, by how far its sync has come, if it has one. The Job is the
+/// one at the key of an end; none where there is no such Job.
 pub fn call_of(
     alloc: Global,
     zones: &ZoneTable,
-    snapshot: &Snapshot,
+    sync: Option<&InFlight>,
     job: Option<&Shared<Job>>,
     operation: &Operation,
 ) -> Result<Call, Refusal>
-    ensures ok { IfOk result (IsCallOf zones.now snapshot.now (λ _. option_copied job.entry)
-        operation.now) }
+    ensures ok { IfOk result (IsCallOf zones.now (option_copied sync.entry)
+        (λ _. option_copied job.entry) operation.now) }
     ensures err { IfErr result (λ e. e ≡ OutOfMemory) }
 {
     match operation {
         Operation::Calls(call) => call.try_copy(alloc),
         Operation::Ends(key, outcome, at) => end_call(alloc, job, key, *outcome, *at),
-        Operation::Claims(at) => claim_call(alloc, zones, snapshot, *at),
-        Operation::Closes(end) => finish_call(alloc, snapshot, *end),
+        Operation::Claims(at) => claim_call(alloc, zones, sync, *at),
+        Operation::Closes(end) => finish_call(alloc, sync, *end),
     }
 }
 
-/// The call of an operation of a caller that has seen nothing and knows of no Job.
+/// The call of an operation of a caller that has no sync and knows of no Job.
 pub fn unseen_call(alloc: Global, zones: &ZoneTable, operation: &Operation) -> Result<Call, Refusal>
     ensures ok { IfOk result (IsUnseenCall zones.now operation.now) }
     ensures err { IfErr result (λ e. e ≡ OutOfMemory) }
 {
-    call_of(alloc, zones, &Snapshot::unseen(), None, operation)
+    call_of(alloc, zones, None, None, operation)
 }

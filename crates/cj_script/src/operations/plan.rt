@@ -1,10 +1,10 @@
 ghost use Rattle.std.specs.Prelude.{◌≡◌, None, IfOk, IfErr, option_copied};
 ghost use Rattle.cj_base.specs.declared.refusal.Refusal.TheVariants.{OutOfMemory};
-ghost use Rattle.cj_script.specs.operations.Plans.{IsPlanFor, inputs_of, no_inputs, reasons_of, zone_named_by, zone_of};
+ghost use Rattle.cj_script.specs.operations.Plans.{IsPlanFor, inputs_at, inputs_of, no_inputs, reasons_at, reasons_of, zone_named_by, zone_of};
 
-use crate::operations::snapshot::Snapshot;
 use cj_base::{all_four, both};
 use cj_decide::{Plan, decide};
+use cj_state::{InFlight, Phase};
 use cj_types::{CronJob, Job, Listing, Reasons, Refusal, Seconds, Shared, Text, TryCopy};
 use cj_zone::{Zone, ZoneTable};
 use std::alloc::Global;
@@ -72,7 +72,7 @@ fn plan_of(
     decide(alloc, cron, jobs, active, at, zone)
 }
 
-// The plan of a worker that has seen nothing.
+// The plan of a sync that lacks one of the three readings.
 fn empty_plan(alloc: Global, zones: &ZoneTable, at: Seconds) -> Result<Plan, Refusal>
     ensures ok { IfOk result (IsPlanFor zones.now no_inputs at) }
     ensures err { IfErr result (λ e. e ≡ OutOfMemory) }
@@ -84,30 +84,50 @@ fn empty_plan(alloc: Global, zones: &ZoneTable, at: Seconds) -> Result<Plan, Ref
     plan_of(alloc, zones, &None, &jobs, &active, at)
 }
 
-/// The plan of what a worker has seen, at the moment and in the CronJob's zone. A worker that lacks
-/// one of the three readings counts as one that has seen nothing.
-pub(crate) fn plan_for(
-    alloc: Global,
-    zones: &ZoneTable,
-    snapshot: &Snapshot,
-    at: Seconds,
-) -> Result<Plan, Refusal>
-    ensures ok { IfOk result (IsPlanFor zones.now (inputs_of snapshot.now) at) }
+fn plan_at(alloc: Global, zones: &ZoneTable, phase: &Phase, at: Seconds) -> Result<Plan, Refusal>
+    ensures ok { IfOk result (IsPlanFor zones.now (inputs_at phase.now) at) }
     ensures err { IfErr result (λ e. e ≡ OutOfMemory) }
 {
-    match (&snapshot.cron, &snapshot.jobs, &snapshot.active) {
-        (Some(cron), Some(jobs), Some(active)) => plan_of(alloc, zones, cron, jobs, active, at),
+    match phase {
+        Phase::Checked(cron, jobs, active) => plan_of(alloc, zones, cron, jobs, active, at),
         _ => empty_plan(alloc, zones, at),
     }
 }
 
-/// The reasons of the plan that the worker claimed; none where it claimed none.
-pub(crate) fn reasons_for(alloc: Global, snapshot: &Snapshot) -> Result<Reasons, Refusal>
-    ensures ok { IfOk result (λ r. r ≡ reasons_of snapshot.now.plan) }
+/// The plan of what a worker's sync has seen, at the moment and in the CronJob's zone. A sync that
+/// lacks one of the three readings, or whose plan is claimed, counts as one that has seen nothing.
+pub(crate) fn plan_for(
+    alloc: Global,
+    zones: &ZoneTable,
+    sync: Option<&InFlight>,
+    at: Seconds,
+) -> Result<Plan, Refusal>
+    ensures ok { IfOk result (IsPlanFor zones.now (inputs_of (option_copied sync.entry)) at) }
     ensures err { IfErr result (λ e. e ≡ OutOfMemory) }
 {
-    match &snapshot.plan {
-        Some(plan) => plan.get().steps().reasons.try_copy(alloc),
+    match sync {
+        Some(sync) => plan_at(alloc, zones, &sync.phase, at),
+        None => empty_plan(alloc, zones, at),
+    }
+}
+
+fn reasons_at(alloc: Global, phase: &Phase) -> Result<Reasons, Refusal>
+    ensures ok { IfOk result (λ r. r ≡ reasons_at phase.now) }
+    ensures err { IfErr result (λ e. e ≡ OutOfMemory) }
+{
+    match phase {
+        Phase::Works(work) => work.plan.get().steps().reasons.try_copy(alloc),
+        _ => Ok(Reasons::new(alloc)),
+    }
+}
+
+/// The reasons of the plan that the worker's sync claimed; none where it claimed none.
+pub(crate) fn reasons_for(alloc: Global, sync: Option<&InFlight>) -> Result<Reasons, Refusal>
+    ensures ok { IfOk result (λ r. r ≡ reasons_of (option_copied sync.entry)) }
+    ensures err { IfErr result (λ e. e ≡ OutOfMemory) }
+{
+    match sync {
+        Some(sync) => reasons_at(alloc, &sync.phase),
         None => Ok(Reasons::new(alloc)),
     }
 }

@@ -16,7 +16,6 @@ returns-in_err-found-clause-err g c =
 
 pub loop-step-preserved : goal.loop-step-preserved
 loop-step-preserved g c = record {
-  remembered = c.in_ok-found.ensures.remembered;
   limits = c.print_step.ensures.limits ∙ c.loop-step.invariant.limits;
   stepped =
       loop_more c.args.zones.now c.args.world.now.limits c.loop-step.world.limits c.args.world.now.history
