@@ -222,7 +222,7 @@ impl World {
         self.state.store.get_job(key)
     }
 
-    /// The sync of the worker, with how far it has come, if the worker holds a key. It isn't copied.
+    /// The worker's sync, with how far it has come, if it holds a key. It isn't copied.
     pub fn sync(&self, worker: u64) -> Option<&InFlight>
         ensures { option_copied result ≡ sync_of (state_in self.now) worker }
     {

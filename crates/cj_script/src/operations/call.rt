@@ -61,8 +61,8 @@ fn finish_call(alloc: Global, sync: Option<&InFlight>, end: End) -> Result<Call,
     Ok(Call::Finish(end, reasons_for(alloc, sync)?))
 }
 
-/// The call of an operation of a caller, by how far its sync has come, if it has one. The Job is the
-/// one at the key of an end; none where there is no such Job.
+/// The call of an operation of a caller, by how far its sync has come, if it has one. The Job is
+/// the one at the key of an end; none where there is no such Job.
 pub fn call_of(
     alloc: Global,
     zones: &ZoneTable,
