@@ -1,6 +1,6 @@
 """Whether a history that `cronsim run --history` printed keeps what docs/RULES.md promises. It is
 written from that page alone, and shares nothing with the program: a store, a watch window, a
-listing that lags, a work queue and the seats of workers, each a few lines of Python; every line of
+listing that lags, a work queue and the syncs in flight, each a few lines of Python; every line of
 the history is looked at in turn, and its answer must be the one that the lines before it give.
 
 `faults(text)` gives a list of (place, rule, words), empty where all is well. After a fault it goes
@@ -178,7 +178,7 @@ class Queue:
         self.shut, self.waiting = True, {}
 
 
-class Seat:
+class Sync:
     """What a worker that holds a key has seen and planned."""
 
     def __init__(self, key):
@@ -190,7 +190,7 @@ class Seat:
 
 class Checker:
     def __init__(self):
-        self.store, self.queue, self.seats, self.fed, self.mirror = Store(), Queue(), {}, 0, {}
+        self.store, self.queue, self.syncs, self.fed, self.mirror = Store(), Queue(), {}, 0, {}
         self.roles, self.made, self.found, self.line = {}, {}, [], None
 
     # ---- what is said of a fault
@@ -425,7 +425,7 @@ class Checker:
     # ---- workers
 
     def take(self, line):
-        if line.number in self.seats:
+        if line.number in self.syncs:
             return self.refused("phases", "OutOfPhase")
         line_up = self.queue.line
         if self.refused(
@@ -440,67 +440,67 @@ class Checker:
             line_up.remove(line.key)
             line_up.insert(0, line.key)
             self.queue.take()
-        self.seats[line.number] = Seat(line.key)
+        self.syncs[line.number] = Sync(line.key)
 
-    def seat(self, phase):
-        """The caller's seat, if the call is one of its phase."""
-        seat = self.seats.get(self.line.number)
-        if seat is None or seat.phase != phase:
+    def sync(self, phase):
+        """The caller's sync, if the call is one of its phase."""
+        sync = self.syncs.get(self.line.number)
+        if sync is None or sync.phase != phase:
             self.refused("phases", "OutOfPhase")
             return None
-        return seat
+        return sync
 
     def seeCron(self, line):
-        seat = self.seat("held")
-        if seat and not self.refused("live-read", None):
-            seat.phase, seat.cron = "seen", self.store.crons.get(seat.key)
+        sync = self.sync("held")
+        if sync and not self.refused("live-read", None):
+            sync.phase, sync.cron = "seen", self.store.crons.get(sync.key)
             self.want(
-                "phases", seat.cron is None, "none" in line.plain, "whether there is no CronJob"
+                "phases", sync.cron is None, "none" in line.plain, "whether there is no CronJob"
             )
-            self.fields(line, seat.cron or {})
+            self.fields(line, sync.cron or {})
 
     def seeJobs(self, line):
-        seat = self.seat("seen")
-        if seat and not self.refused("lagging-listing", None):
-            namespace, name = split(seat.key)
-            seat.listing = {
+        sync = self.sync("seen")
+        if sync and not self.refused("lagging-listing", None):
+            namespace, name = split(sync.key)
+            sync.listing = {
                 key: job
                 for key, job in self.mirror.items()
                 if split(key)[0] == namespace and job["owner"] == name
             }
-            jobs = self.listed(seat.listing)
-            seat.phase = "listed"
+            jobs = self.listed(sync.listing)
+            sync.phase = "listed"
             self.want("lagging-listing", [str(len(jobs))] + jobs, line.plain, "the listing")
 
     def seeActive(self, line):
-        seat = self.seat("listed")
-        if seat and not self.refused("live-read", None):
+        sync = self.sync("listed")
+        if sync and not self.refused("live-read", None):
             names = (
                 []
-                if not seat.cron or seat.cron["active"] == "-"
-                else seat.cron["active"].split(",")
+                if not sync.cron or sync.cron["active"] == "-"
+                else sync.cron["active"].split(",")
             )
-            namespace = split(seat.key)[0]
+            namespace = split(sync.key)[0]
             jobs = [self.store.jobs.get(f"{namespace}/{name}") for name in names]
-            jobs = [job if job and job["owner-uid"] == seat.cron["uid"] else None for job in jobs]
-            seat.live = {f"{namespace}/{name}": job for name, job in zip(names, jobs) if job}
+            jobs = [job if job and job["owner-uid"] == sync.cron["uid"] else None for job in jobs]
+            sync.live = {f"{namespace}/{name}": job for name, job in zip(names, jobs) if job}
             told = [
                 f"{namespace}/{name}@{job['v']}" if job else "-" for name, job in zip(names, jobs)
             ]
-            seat.phase = "read"
-            self.want("live-read", [str(len(seat.live))] + told, line.plain, "the live read")
+            sync.phase = "read"
+            self.want("live-read", [str(len(sync.live))] + told, line.plain, "the live read")
 
-    def plan_is_well_formed(self, line, seat):
+    def plan_is_well_formed(self, line, sync):
         """What a plan says must follow from what its worker saw (what a schedule has to do with
         isn't looked at)."""
         running = sorted(
             (job["created"], split(key))
-            for key, job in seat.live.items()
+            for key, job in sync.live.items()
             if job["state"] == "Running"
         )
         running = [name for _, (_, name) in running]
         make, policy = line.named["make"], line.named["policy"]
-        if make != "-" and seat.cron["suspend"] == "yes":
+        if make != "-" and sync.cron["suspend"] == "yes":
             self.fault("decision-cases", "it is suspended, and a Job is planned")
         if make != "-" and policy == "Forbid" and running:
             self.fault("live-read-decides", f"{running} run, and a Job is planned under Forbid")
@@ -511,23 +511,23 @@ class Checker:
             "what is dropped first",
         )
         for name in line.names("cleanup"):
-            job = seat.listing.get(f"{split(seat.key)[0]}/{name}")
+            job = sync.listing.get(f"{split(sync.key)[0]}/{name}")
             if job is None:
                 self.fault("cleanup", f"{name} isn't listed")
-            elif seat.cron and job["owner-uid"] == seat.cron["uid"] and job["state"] == "Running":
+            elif sync.cron and job["owner-uid"] == sync.cron["uid"] and job["state"] == "Running":
                 self.fault("cleanup", f"{name} runs, and is cleaned up")
 
     def claim(self, line):
-        seat = self.seat("read")
-        if not seat:
+        sync = self.sync("read")
+        if not sync:
             return
         seen = (
-            (seat.cron["uid"], str(seat.cron["v"]), seat.cron["policy"])
-            if seat.cron
+            (sync.cron["uid"], str(sync.cron["v"]), sync.cron["policy"])
+            if sync.cron
             else ("-", "-", "-")
         )
         plan = tuple(line.named[name] for name in ("of", "seen", "policy"))
-        make, stands = line.named["make"], self.store.crons.get(seat.key)
+        make, stands = line.named["make"], self.store.crons.get(sync.key)
         wanted = "Stale" if plan != seen else None
         if plan == seen and make != "-":
             wanted = (
@@ -539,31 +539,31 @@ class Checker:
             )
         if self.refused("claim-inputs", wanted):
             return
-        seat.phase, seat.moment = "works", line.time
-        seat.steps = [("drop", name) for name in line.names("drop")] + [("make", make)] * (
+        sync.phase, sync.moment = "works", line.time
+        sync.steps = [("drop", name) for name in line.names("drop")] + [("make", make)] * (
             make != "-"
         )
-        seat.steps += [("drop", name) for name in line.names("cleanup")] + [("setStatus", None)] * (
+        sync.steps += [("drop", name) for name in line.names("cleanup")] + [("setStatus", None)] * (
             line.named["status"] == "yes"
         )
-        seat.next, seat.version = line.named["next"], seat.cron["v"] if seat.cron else None
-        seat.dropped, seat.made = set(line.names("drop")), None if make == "-" else make
-        if seat.cron or make == "-":
-            self.plan_is_well_formed(line, seat)
-            self.claim_time(line, seat, make, stands)
+        sync.next, sync.version = line.named["next"], sync.cron["v"] if sync.cron else None
+        sync.dropped, sync.made = set(line.names("drop")), None if make == "-" else make
+        if sync.cron or make == "-":
+            self.plan_is_well_formed(line, sync)
+            self.claim_time(line, sync, make, stands)
         else:
             self.fault("decision-cases", "there is no CronJob, and a Job is planned")
 
-    def claim_time(self, line, seat, make, stands):
+    def claim_time(self, line, sync, make, stands):
         if make == "-":
             self.want("decision-cases", ["none"], line.plain, "what is claimed")
-            seat.last = seat.cron["last"] if seat.cron else "-"
+            sync.last = sync.cron["last"] if sync.cron else "-"
             return
         time = line.plain[0]
-        seat.time, seat.policy, seat.last = time, (stands or seat.cron)["policy"], time
+        sync.time, sync.policy, sync.last = time, (stands or sync.cron)["policy"], time
         self.want(
             "made-job",
-            f"{split(seat.key)[1]}-{minute(time)}",
+            f"{split(sync.key)[1]}-{minute(time)}",
             make,
             "the name of the Job for that time",
         )
@@ -575,31 +575,31 @@ class Checker:
         claimed = self.store.write(
             "MODIFIED",
             "CronJob",
-            seat.key,
-            dict(stands or seat.cron, last=time, active=",".join(sorted(active))),
+            sync.key,
+            dict(stands or sync.cron, last=time, active=",".join(sorted(active))),
         )
-        seat.version = claimed["v"]
+        sync.version = claimed["v"]
         self.want("versions", claimed["v"], line.version, "the version of the claim")
 
     def step(self, kind):
-        """The seat whose next step is of that kind, with what it names."""
-        seat = self.seats.get(self.line.number)
-        if seat is None or seat.phase != "works" or not seat.steps or seat.steps[0][0] != kind:
+        """The sync whose next step is of that kind, with what it names."""
+        sync = self.syncs.get(self.line.number)
+        if sync is None or sync.phase != "works" or not sync.steps or sync.steps[0][0] != kind:
             self.refused("plan-steps", "OutOfPhase")
             return None, None
-        return seat, seat.steps[0][1]
+        return sync, sync.steps[0][1]
 
-    def planned(self, seat, key):
+    def planned(self, sync, key):
         """The Job as the plan's worker saw it: by its live read, or else by the listing."""
-        return seat.live.get(key) or (seat.listing or {}).get(key)
+        return sync.live.get(key) or (sync.listing or {}).get(key)
 
     def drop(self, line):
-        seat, name = self.step("drop")
-        if not seat or self.refused("plan-steps", None):
+        sync, name = self.step("drop")
+        if not sync or self.refused("plan-steps", None):
             return
-        seat.steps.pop(0)
-        key = f"{split(seat.key)[0]}/{name}"
-        job, planned = self.store.jobs.get(key), self.planned(seat, key)
+        sync.steps.pop(0)
+        key = f"{split(sync.key)[0]}/{name}"
+        job, planned = self.store.jobs.get(key), self.planned(sync, key)
         gone = job is None or planned is None or job["uid"] != planned["uid"]
         self.want("plan-steps", ["gone"] if gone else [name], line.plain, "what is dropped")
         if not gone:
@@ -611,20 +611,20 @@ class Checker:
             )
 
     def make(self, line):
-        seat, name = self.step("make")
-        if not seat:
+        sync, name = self.step("make")
+        if not sync:
             return
-        key = f"{split(seat.key)[0]}/{name}"
+        key = f"{split(sync.key)[0]}/{name}"
         if self.refused("plan-steps", "AlreadyExists" if key in self.store.jobs else None):
             return
-        seat.steps.pop(0)
-        self.once(line, seat)
-        self.alone(seat, key)
+        sync.steps.pop(0)
+        self.once(line, sync)
+        self.alone(sync, key)
         job = {
-            "owner": split(seat.key)[1],
-            "owner-uid": seat.cron["uid"],
-            "due": seat.time,
-            "created": seat.moment,
+            "owner": split(sync.key)[1],
+            "owner-uid": sync.cron["uid"],
+            "due": sync.time,
+            "created": sync.moment,
             "state": "Running",
         }
         self.want("made-job", [name], line.plain, "the name of the Job")
@@ -634,83 +634,83 @@ class Checker:
             "made-job",
         )
 
-    def once(self, line, seat):
+    def once(self, line, sync):
         """No two Jobs of one CronJob, by its uid, for one time."""
         start = (line.named["owner-uid"], line.named["due"])
         if start in self.made:
             self.fault(
-                "once", f"{start[1]} of {seat.key} got a Job at place {self.made[start]} already"
+                "once", f"{start[1]} of {sync.key} got a Job at place {self.made[start]} already"
             )
         self.made.setdefault(start, line.place)
 
-    def alone(self, seat, key):
+    def alone(self, sync, key):
         """Under Forbid and Replace none beside another one of its CronJob."""
-        if seat.policy in ("Forbid", "Replace"):
+        if sync.policy in ("Forbid", "Replace"):
             others = [
                 k
                 for k, job in self.store.jobs.items()
-                if job["owner-uid"] == seat.cron["uid"] and job["state"] == "Running" and k != key
+                if job["owner-uid"] == sync.cron["uid"] and job["state"] == "Running" and k != key
             ]
             if others:
-                self.fault("alone", f"{others} of {seat.key} run")
+                self.fault("alone", f"{others} of {sync.key} run")
 
     def setStatus(self, line):
-        seat, _ = self.step("setStatus")
-        if not seat:
+        sync, _ = self.step("setStatus")
+        if not sync:
             return
-        stands = self.store.crons.get(seat.key)
+        stands = self.store.crons.get(sync.key)
         wanted = (
             "NotFound"
-            if not stands or stands["uid"] != seat.cron["uid"]
+            if not stands or stands["uid"] != sync.cron["uid"]
             else "Conflict"
-            if stands["v"] != seat.version
+            if stands["v"] != sync.version
             else None
         )
         if self.refused("status-update", wanted):
             return
-        seat.steps.pop(0)
-        status = {"last": seat.last, "active": self.final_active(seat)}
+        sync.steps.pop(0)
+        status = {"last": sync.last, "active": self.final_active(sync)}
         self.want(
             "versions",
-            self.store.write("MODIFIED", "CronJob", seat.key, dict(stands or seat.cron, **status))[
+            self.store.write("MODIFIED", "CronJob", sync.key, dict(stands or sync.cron, **status))[
                 "v"
             ],
             line.version,
             "the version of the status",
         )
 
-    def final_active(self, seat):
+    def final_active(self, sync):
         names = {
-            split(key)[1] for key, job in seat.live.items() if job["state"] == "Running"
-        } - seat.dropped
-        names |= {seat.made} if seat.made else set()
+            split(key)[1] for key, job in sync.live.items() if job["state"] == "Running"
+        } - sync.dropped
+        names |= {sync.made} if sync.made else set()
         return ",".join(sorted(names)) or "-"
 
     def finish(self, line):
-        seat = self.seats.get(line.number)
+        sync = self.syncs.get(line.number)
         well = line.plain[0] == "well" if line.plain else True
-        if seat is None or (well and (seat.phase != "works" or seat.steps)):
+        if sync is None or (well and (sync.phase != "works" or sync.steps)):
             return self.refused("phases", "OutOfPhase")
         if self.refused("finish", None):
             return
         reasons = line.names("reasons")
         if "JobAlreadyActive" in reasons and (
-            not seat.cron
-            or seat.cron["policy"] != "Forbid"
-            or not any(j["state"] == "Running" for j in (seat.live or {}).values())
+            not sync.cron
+            or sync.cron["policy"] != "Forbid"
+            or not any(j["state"] == "Running" for j in (sync.live or {}).values())
         ):
             self.fault("sync-reasons", "JobAlreadyActive is told, and none runs under Forbid")
-        del self.seats[line.number]
-        self.queue.done(seat.key)
+        del self.syncs[line.number]
+        self.queue.done(sync.key)
         if well:
-            self.queue.failures.pop(seat.key, None)
-            if seat.next not in (None, "-"):
-                self.queue.add_after(seat.key, millis(seat.next))
+            self.queue.failures.pop(sync.key, None)
+            if sync.next not in (None, "-"):
+                self.queue.add_after(sync.key, millis(sync.next))
         else:
-            failures = self.queue.failures.get(seat.key, 0)
-            self.queue.failures[seat.key] = min(failures + 1, 18)
+            failures = self.queue.failures.get(sync.key, 0)
+            self.queue.failures[sync.key] = min(failures + 1, 18)
             self.queue.add_after(
-                seat.key, int(line.named["ms"]) + min(5 * 2**failures, 1_000_000)
+                sync.key, int(line.named["ms"]) + min(5 * 2**failures, 1_000_000)
             )
 
 

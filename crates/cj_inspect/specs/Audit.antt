@@ -67,7 +67,7 @@ pub record RefusesAuditZone (r : AuditRequest) (files : List ZoneFile) (o : Outc
   pub zones : IsNoneGiven r.zones files
   pub answer : o ≡ explained r.explain pair_words (refusal (codes "cronsim: zone\n"))
 
--- else what is read, all of the input, is looked over
+-- else what is read, all of the input, is audited
 pub record AuditsInput (r : AuditRequest) (files : List ZoneFile) (input : Option (List ℕ))
     (o : Outcome) : Type 0 where
   pub zones : List Zone

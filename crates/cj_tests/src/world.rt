@@ -1,5 +1,5 @@
 // Tests of the world: each way in which it refuses a call, by `apply` and by `enter`, and what it
-// tells after each call; and ten thousand calls of several callers, looked over by plain lists.
+// tells after each call; and ten thousand calls of several callers, checked by plain lists.
 mod ask;
 mod boxed;
 mod calls;
