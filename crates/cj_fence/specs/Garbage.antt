@@ -26,7 +26,7 @@ pub record IsGarbage (h : List Told) (n : List ℕ) (c : Cron) (x : Row Job) : T
 abbrev pub NeverStarted : Type 0
 NeverStarted =
     (h es : List Told) (n : List ℕ) (c : Cron) (x : Row Job)
-    → IsLegal (es ++ h) → AllFollow (es ++ h) → OthersKeepTo (es ++ h)
+    → IsLegal (es ++ h) → AllFollow (es ++ h) → OthersKeepTo c.uid (es ++ h)
     → IsGarbage h n c x → started (es ++ h) (ref_of x) ≡ false
 
 -- a sync that has come to its end: it has listed the Jobs, and removed all garbage
@@ -45,7 +45,7 @@ IsRemoved o = Unit {0}
 abbrev pub IsCleared : Type 0
 IsCleared =
     (h es : List Told) (y : ℕ) (n : List ℕ) (c : Cron) (x : Row Job)
-    → IsLegal (es ++ h) → AllFollow (es ++ h) → OthersKeepTo (es ++ h)
+    → IsLegal (es ++ h) → AllFollow (es ++ h) → OthersKeepTo c.uid (es ++ h)
     → own y h ≡ [] → Undisturbed y es h → IsGarbage h n c x
     → IsWhole c.uid (seen_of (own y (es ++ h)))
     → IsRemoved (look (state_of (es ++ h)).jobs (ref_of x))

@@ -1,6 +1,8 @@
 -- Help: whoever claimed a Job and then stopped, the next sync that nobody disturbs starts it.
 use Rattle.std.specs.Prelude.{◌⊎◌, ◌≡◌, ℕ, true, List, [], ◌∷◌, ◌++◌, Some}
 use Rattle.cj_fence.specs.declared.refs.Ref.{Ref}
+use Rattle.cj_fence.specs.declared.answer.Answer.{Answer}
+use Rattle.cj_fence.specs.declared.answer.Answer.TheVariants as Is
 use Rattle.cj_fence.specs.declared.answer.Stamp.{Stamp}
 use Rattle.cj_fence.specs.declared.sync.Sync.{Sync}
 use Rattle.cj_fence.specs.declared.call.Call.{Call}
@@ -39,7 +41,7 @@ HasLooked u s = ⊥
 abbrev pub HelpLaw : Type 0
 HelpLaw =
     (h es : List Told) (y : ℕ) (r : Ref) (k : Claimed)
-    → IsLegal (es ++ h) → AllFollow (es ++ h) → OthersKeepTo (es ++ h)
+    → IsLegal (es ++ h) → AllFollow (es ++ h) → OthersKeepTo k.owner (es ++ h)
     → own y h ≡ [] → Undisturbed y es h
     → claim_of h r ≡ Some k → IsWaiting h r
     → HasLooked k.owner (seen_of (own y (es ++ h))) → started (es ++ h) r ≡ true
@@ -65,12 +67,24 @@ abbrev pub HasExpired : List Own → Type 0
 HasExpired [] = ⊥
 HasExpired (o ∷ os) = IsExpire o.call ⊎ HasExpired os
 
+-- an answer that has a CronJob in it has the one of this uid
+abbrev pub ReadsCron : List ℕ → Answer → Type 0
+ReadsCron u (Is.Cron (Some c)) = c.uid ≡ u
+ReadsCron u answer = Unit {0}
+
+-- a sync of the CronJob of this uid: it read no other
+-- rule: helped
+abbrev pub IsSyncOf : List ℕ → List Own → Type 0
+IsSyncOf u [] = Unit {0}
+IsSyncOf u (o ∷ os) = ReadsCron u o.answer × IsSyncOf u os
+
 -- A sync that nobody disturbs isn't stuck: it may make a further call, unless it is done, or it
 -- deleted a Job for its deadline.
 -- rule: helped
 abbrev pub NeverStuck : Type 0
 NeverStuck =
-    (h es : List Told) (y : ℕ) → IsLegal (es ++ h) → AllFollow (es ++ h) → OthersKeepTo (es ++ h)
-    → own y h ≡ [] → Undisturbed y es h
+    (u : List ℕ) (h es : List Told) (y : ℕ)
+    → IsLegal (es ++ h) → AllFollow (es ++ h) → OthersKeepTo u (es ++ h)
+    → own y h ≡ [] → Undisturbed y es h → IsSyncOf u (own y (es ++ h))
     → HasNext (seen_of (own y (es ++ h)))
     ⊎ (IsDone (seen_of (own y (es ++ h))) ⊎ HasExpired (own y (es ++ h)))

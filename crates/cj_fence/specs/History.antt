@@ -1,8 +1,9 @@
 -- Histories: the calls of any number of syncs and the writes of others, in the order in which the
 -- server carries them out, the newest first. The server takes conditional writes of an object one
 -- after the other (Kubernetes API conventions, "Concurrency Control and Consistency").
-use Rattle.std.specs.Prelude.{◌≡◌, ℕ, ◌==◌, Bool, true, false, ◌||◌, ◌&&◌, ◌⊎◌, List, [], ◌∷◌, Option, Some, None, if◌then◌else◌}
+use Rattle.std.specs.Prelude.{◌≡◌, ℕ, ◌==◌, Bool, true, false, ◌||◌, ◌&&◌, not, ◌⊎◌, List, [], ◌∷◌, Option, Some, None, if◌then◌else◌}
 use Rattle.cj_fence.specs.declared.policy.Policy.{Policy}
+use Rattle.cj_fence.specs.declared.table.Row.{Row}
 use Rattle.cj_fence.specs.declared.refs.Ref.{Ref}
 use Rattle.cj_fence.specs.declared.objects.Cron.{Cron}
 use Rattle.cj_fence.specs.declared.objects.Job.{Job}
@@ -15,7 +16,7 @@ use Rattle.cj_fence.specs.declared.answer.Answer.{Answer}
 use Rattle.cj_fence.specs.declared.answer.Answer.TheVariants as Is
 use Rattle.cj_fence.specs.declared.answer.Stamp.{Stamp}
 use Rattle.cj_fence.specs.Tables.{find}
-use Rattle.cj_fence.specs.Objects.{is_ref, look, waits}
+use Rattle.cj_fence.specs.Objects.{is_ref, look, waits, runs}
 use Rattle.cj_fence.specs.Server.{served, written, takes}
 use Rattle.cj_fence.specs.Protocol.{Own, Follows}
 
@@ -67,7 +68,6 @@ pub record IsFresh (h : List Told) (t : Stamp) : Type 0 where
 abbrev pub cache_of : Cluster → Call → Option Answer
 cache_of s (Of.CacheCron n) = Some (Is.Cron (find n s.crons))
 cache_of s (Of.CacheJob n) = Some (Is.Job (find n s.jobs))
-cache_of s Of.ListJobs = Some (Is.Jobs s.jobs)
 cache_of s call = None
 
 -- a cache says what was so at the moment or at an earlier one
@@ -76,14 +76,24 @@ abbrev pub WasSo : Call → Answer → List Told → Type 0
 WasSo call a [] = cache_of nothing call ≡ Some a
 WasSo call a (e ∷ h) = (cache_of (state_of (e ∷ h)) call ≡ Some a) ⊎ WasSo call a h
 
--- An answer is lost, whether the call reached the server or not; or it is the server's; or it is a
--- cache's.
+-- each row of a list says what a cache could say of its Job
+-- rule: fence-history
+abbrev pub RowsWereSo : List (Row Job) → List Told → Type 0
+RowsWereSo [] h = Unit {0}
+RowsWereSo (r ∷ rs) h =
+    WasSo (Of.CacheJob r.name) (Is.Job (Some r.object)) h × RowsWereSo rs h
+
+-- An answer is lost, or the call is refused on its way or behind the server, whether it was carried
+-- out or not; or the answer is the server's; or a cache's; or a list, in any order, some Jobs
+-- missing, and each row as old as it may be.
 -- rule: fence-history
 pub data IsAnswer (h : List Told) (t : Stamp) (call : Call) (reached : Bool) (a : Answer)
     : Type 0 where
-  Unheard : a ≡ Is.Lost → IsAnswer h t call reached a
+  Unheard : (a ≡ Is.Lost) ⊎ (a ≡ Is.Refused) → IsAnswer h t call reached a
   Answered : reached ≡ true → a ≡ (served (state_of h) t call).answer → IsAnswer h t call reached a
   FromCache : WasSo call a h → IsAnswer h t call reached a
+  Listed : (rows : List (Row Job)) → call ≡ Of.ListJobs → a ≡ Is.Jobs rows → RowsWereSo rows h
+      → IsAnswer h t call reached a
 
 -- what a sync hears is such an answer
 abbrev pub IsHeard : List Told → Stamp → Deed → Type 0
@@ -152,15 +162,26 @@ abbrev pub waits_in : Option Job → Bool
 waits_in None = false
 waits_in (Some j) = waits j
 
--- Whether a call starts a Job: it reaches the server, and the Job is held, neither finished nor
--- being deleted. A start of one that is being deleted is taken too, but its Pods are never made.
+-- whether a Job stands that runs
+abbrev pub runs_in : Option Job → Bool
+runs_in None = false
+runs_in (Some j) = runs j
+
+-- Whether a deed starts a Job, by what stood before it and what stands after it. A sync's call
+-- starts what runs after it and didn't before, whatever the call is. A write of others starts what
+-- waited before it: what they create of their own, they run.
 -- rule: fence-once
-abbrev pub starts : Cluster → Deed → Ref → Bool
-starts s (Asked y (Of.Start x) true a) r = is_ref x r && waits_in (look s.jobs x)
-starts s d r = false
+abbrev pub makes_run : Deed → Option Job → Option Job → Bool
+makes_run (Asked y call reached a) old new = not (runs_in old) && runs_in new
+makes_run (Wrote w) old new = waits_in old && runs_in new
+
+-- whether an entry starts a Job
+-- rule: fence-once
+abbrev pub starts : Cluster → Stamp → Deed → Ref → Bool
+starts s t d r = makes_run d (look s.jobs r) (look (after s t d).jobs r)
 
 -- whether a Job was started
 -- rule: fence-once
 abbrev pub started : List Told → Ref → Bool
 started [] r = false
-started (e ∷ h) r = starts (state_of h) e.deed r || started h r
+started (e ∷ h) r = starts (state_of h) e.stamp e.deed r || started h r

@@ -1,10 +1,9 @@
 -- Nothing claimed is lost to a replica: no call of a sync takes a claimed Job away before it is
 -- started, but for the one whose starting deadline has passed (Kubernetes CronJob documentation,
 -- "Deadline for delayed Job start").
-use Rattle.std.specs.Prelude.{◌≡◌, ℕ, ◌⊎◌, true, List, ◌∷◌, Some, ◌<◌, Bool, false, ◌&&◌, not, None, Option}
+use Rattle.std.specs.Prelude.{◌≡◌, ℕ, ◌⊎◌, true, List, ◌∷◌, Some, ◌<◌}
 use Rattle.cj_fence.specs.declared.policy.Policy.TheVariants.{Replace}
 use Rattle.cj_fence.specs.declared.refs.Ref.{Ref}
-use Rattle.cj_fence.specs.declared.objects.Job.{Job}
 use Rattle.cj_fence.specs.declared.call.Call.{Call}
 use Rattle.cj_fence.specs.declared.call.Call.TheVariants as Of
 use Rattle.cj_fence.specs.declared.sync.At.{At}
@@ -12,7 +11,7 @@ use Rattle.cj_fence.specs.declared.sync.Held.{Held}
 use Rattle.cj_fence.specs.declared.sync.Sync.TheVariants.{Starting}
 use Rattle.cj_fence.specs.Objects.{look}
 use Rattle.cj_fence.specs.Protocol.{seen_of, IsLate}
-use Rattle.cj_fence.specs.History.{Deed, Asked, Wrote, Told, state_of, own, Claimed, claim_of, waits_in, starts, IsLegal, AllFollow}
+use Rattle.cj_fence.specs.History.{Deed, Asked, Wrote, Told, state_of, own, Claimed, claim_of, waits_in, runs_in, starts, IsLegal, AllFollow}
 use Rattle.cj_fence.specs.Others.{OthersKeepTo}
 use Rattle.cj_fence.specs.Fence.{Always}
 
@@ -35,31 +34,28 @@ pub record IsExpiry (h : List Told) (y : ℕ) (call : Call) (r : Ref) (k : Claim
   pub owner : at.cron.uid ≡ k.owner
   pub late : IsLate at.cron.deadline k.time now
 
--- after a call of a sync a claimed Job that waits still does, or the call starts it, or it is too
--- late for it
+-- after a call of a sync a Job claimed for the CronJob of this uid that waits still does, or the
+-- call starts it, or it is too late for it
 -- rule: nothing-lost
-abbrev pub KeepsClaimed : Told → List Told → Deed → Type 0
-KeepsClaimed e h (Asked y call reached a) =
-    (r : Ref) (k : Claimed) → claim_of h r ≡ Some k → IsWaiting h r
-    → IsWaiting (e ∷ h) r ⊎ ((starts (state_of h) e.deed r ≡ true) ⊎ IsExpiry h y call r k)
-KeepsClaimed e h (Wrote w) = Unit {0}
+abbrev pub KeepsClaimed : List ℕ → Told → List Told → Deed → Type 0
+KeepsClaimed u e h (Asked y call reached a) =
+    (r : Ref) (k : Claimed) → claim_of h r ≡ Some k → k.owner ≡ u → IsWaiting h r
+    → IsWaiting (e ∷ h) r ⊎ ((starts (state_of h) e.stamp e.deed r ≡ true) ⊎ IsExpiry h y call r k)
+KeepsClaimed u e h (Wrote w) = Unit {0}
 
 -- an entry keeps what was claimed
-abbrev pub IsKept : Told → List Told → Type 0
-IsKept e h = KeepsClaimed e h e.deed
+abbrev pub IsKept : List ℕ → Told → List Told → Type 0
+IsKept u e h = KeepsClaimed u e h e.deed
 
 -- no sync's call loses what was claimed
 -- rule: nothing-lost
 abbrev pub NothingIsLost : Type 0
-NothingIsLost = (h : List Told) → IsLegal h → AllFollow h → OthersKeepTo h → Always IsKept h
+NothingIsLost =
+    (u : List ℕ) (h : List Told) → IsLegal h → AllFollow h → OthersKeepTo u h → Always (IsKept u) h
 
 -- ---- Jobs that run
 
 -- a Job that runs: it isn't held, hasn't finished, and has no metadata.deletionTimestamp
-abbrev pub runs_in : Option Job → Bool
-runs_in None = false
-runs_in (Some j) = not j.held && not j.finished && not j.deleting
-
 abbrev pub IsRunning : List Told → Ref → Type 0
 IsRunning h r = runs_in (look (state_of h).jobs r) ≡ true
 
@@ -73,20 +69,22 @@ pub record IsReplaced (h : List Told) (k : Claimed) : Type 0 where
   pub later : k.time < claim.time
   pub policy : claim.policy ≡ Replace
 
--- after a call of a sync a claimed Job that runs still does, or the call deletes it for one that
--- takes its place
+-- after a call of a sync a Job claimed for the CronJob of this uid that runs still does, or the
+-- call deletes it for one that takes its place
 -- rule: running-stays
-abbrev pub SparesRunning : Told → List Told → Deed → Type 0
-SparesRunning e h (Asked y call reached a) =
-    (r : Ref) (k : Claimed) → claim_of h r ≡ Some k → IsRunning h r
+abbrev pub SparesRunning : List ℕ → Told → List Told → Deed → Type 0
+SparesRunning u e h (Asked y call reached a) =
+    (r : Ref) (k : Claimed) → claim_of h r ≡ Some k → k.owner ≡ u → IsRunning h r
     → IsRunning (e ∷ h) r ⊎ ((call ≡ Of.Delete r) × IsReplaced h k)
-SparesRunning e h (Wrote w) = Unit {0}
+SparesRunning u e h (Wrote w) = Unit {0}
 
 -- an entry takes no claimed Job away that runs
-abbrev pub IsSpared : Told → List Told → Type 0
-IsSpared e h = SparesRunning e h e.deed
+abbrev pub IsSpared : List ℕ → Told → List Told → Type 0
+IsSpared u e h = SparesRunning u e h e.deed
 
 -- no sync's call takes a Job away that runs, but under Replace for a later one
 -- rule: running-stays
 abbrev pub RunningStays : Type 0
-RunningStays = (h : List Told) → IsLegal h → AllFollow h → OthersKeepTo h → Always IsSpared h
+RunningStays =
+    (u : List ℕ) (h : List Told) → IsLegal h → AllFollow h → OthersKeepTo u h
+    → Always (IsSpared u) h

@@ -30,10 +30,25 @@ ref n u = record { name = n; uid = u }
 abbrev pub ref_of : Row Job → Ref
 ref_of r = ref r.name r.object.uid
 
+-- whether a name is one: it isn't empty
+abbrev pub has_name : List ℕ → Bool
+has_name [] = false
+has_name (x ∷ xs) = true
+
 -- whether a list of references has one
 abbrev pub has_ref : List Ref → Ref → Bool
 has_ref [] r = false
 has_ref (x ∷ xs) r = is_ref x r || has_ref xs r
+
+-- the references that name a Job: Kubernetes' own controller can leave such as don't
+abbrev pub named : List Ref → List Ref
+named [] = []
+named (x ∷ xs) = if has_name x.name then x ∷ named xs else named xs
+
+-- a list of references without one
+abbrev pub without_ref : Ref → List Ref → List Ref
+without_ref r [] = []
+without_ref r (x ∷ xs) = if is_ref x r then without_ref r xs else x ∷ without_ref r xs
 
 -- whether two are one (spec.concurrencyPolicy)
 abbrev pub is_policy : Policy → Policy → Bool
@@ -45,6 +60,10 @@ is_policy _ _ = false
 -- held, and a start would make its Pods: it hasn't finished, and has no metadata.deletionTimestamp
 abbrev pub waits : Job → Bool
 waits j = j.held && not j.finished && not j.deleting
+
+-- it may run Pods: it isn't held, hasn't finished, and has no metadata.deletionTimestamp
+abbrev pub runs : Job → Bool
+runs j = not j.held && not j.finished && not j.deleting
 
 -- it runs no Pod any more, or will never run one: finished, or held and being deleted
 abbrev pub is_dead : Job → Bool

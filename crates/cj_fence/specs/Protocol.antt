@@ -1,6 +1,6 @@
 -- The fenced start: what one sync of a CronJob may call next, given what it has heard since its
 -- Get. It knows nothing of other syncs, and may stop anywhere.
-use Rattle.std.specs.Prelude.{◌≡◌, ℕ, ◌+◌, ◌<◌, nat_le, nat_lt, Bool, true, false, ◌&&◌, not, List, [], ◌∷◌, ◌++◌, Option, Some, None, if◌then◌else◌}
+use Rattle.std.specs.Prelude.{◌≡◌, ℕ, ◌+◌, ◌<◌, nat_le, nat_lt, Bool, true, false, ◌&&◌, ◌||◌, not, List, [], ◌∷◌, ◌++◌, Option, Some, None, if◌then◌else◌}
 use Rattle.cj_fence.specs.declared.policy.Policy.{Policy}
 use Rattle.cj_fence.specs.declared.policy.Policy.TheVariants.{Forbid, Replace}
 use Rattle.cj_fence.specs.declared.table.Row.{Row}
@@ -18,7 +18,7 @@ use Rattle.cj_fence.specs.declared.sync.Held.{Held}
 use Rattle.cj_fence.specs.declared.sync.Sync.{Sync}
 use Rattle.cj_fence.specs.declared.sync.Sync.TheVariants.{Fresh, Looking, Ready, Holding, Starting, Tidying, Gone, Over}
 use Rattle.cj_fence.specs.Texts.{is_same}
-use Rattle.cj_fence.specs.Objects.{ref_of, is_ref, has_ref, is_policy, waits, is_dead}
+use Rattle.cj_fence.specs.Objects.{ref_of, is_ref, has_ref, named, without_ref, is_policy, waits, is_dead}
 use Rattle.cj_fence.specs.Server.{made}
 
 -- ---- what a sync has heard
@@ -40,6 +40,12 @@ abbrev pub drops_of : Policy → List Ref → List Ref
 drops_of Replace rs = rs
 drops_of _ rs = []
 
+-- what stays beside the started Job
+-- rule: fence-replace
+abbrev pub kept_of : Policy → List Ref → List Ref
+kept_of Replace rs = []
+kept_of _ rs = rs
+
 -- the next Job of status.active is read; after the last one a held Job is helped, or a time may be
 -- claimed
 -- rule: fence-help
@@ -58,20 +64,28 @@ abbrev pub is_held_ref : Option Held → Ref → Bool
 is_held_ref None r = false
 is_held_ref (Some x) r = is_ref x.job r
 
+-- whether a Job was found before: started, or held
+abbrev pub was_found : At → Option Held → Ref → Bool
+was_found at held r = has_ref at.alive r || is_held_ref held r
+
 -- the Job that a reference names, where it isn't dead; one that is named twice counts once
 abbrev pub found_job : At → List Ref → Option Held → Ref → Job → Sync
 found_job at rs held r j =
-    if is_held_ref held r then go_on at rs held
+    if was_found at held r then go_on at rs held
     else (if j.held then found_held at rs held (record { job = r; found = j }) else go_on
     (with_alive at r) rs held)
 
--- what a GET says of a reference: it is dead where the Job is missing, has another uid, has
--- finished, or is held and being deleted
+-- whether a Job is the one of a reference, and its controller is the CronJob
+abbrev pub is_its : Cron → Ref → Job → Bool
+is_its c r j = is_same j.uid r.uid && is_same j.owner c.uid
+
+-- what a GET says of a reference: it is dead where the Job is missing, has another uid or another
+-- controller, has finished, or is held and being deleted
 -- rule: fence-read
 abbrev pub looked : At → List Ref → Option Held → Ref → Option Job → Sync
 looked at rs held r None = go_on at rs held
 looked at rs held r (Some j) =
-    if is_same j.uid r.uid && not (is_dead j) then found_job at rs held r j
+    if is_its at.cron r j && not (is_dead j) then found_job at rs held r j
     else go_on at rs held
 
 -- whether a cache's word is taken: a Job that is dead or was started stays so
@@ -89,10 +103,11 @@ cached at rs held r (Some j) =
     if is_same j.uid r.uid && not (waits j) then looked at rs held r (Some j)
     else Looking at (r ∷ rs) held
 
--- the Get of the CronJob
+-- the Get of the CronJob; a reference of status.active that has no name is of no Job
+-- rule: fence-read
 abbrev pub begun : List ℕ → Option Cron → Sync
 begun n None = Gone
-begun n (Some c) = go_on (record { name = n; cron = c; alive = [] }) c.active None
+begun n (Some c) = go_on (record { name = n; cron = c; alive = [] }) (named c.active) None
 
 -- a held Job under a name that was to be taken is adopted where it is ours: of this uid and policy,
 -- and of a time that is to be claimed
@@ -135,11 +150,9 @@ abbrev pub refs_where : (Row Job → Bool) → List (Row Job) → List Ref
 refs_where p [] = []
 refs_where p (r ∷ rs) = if p r then ref_of r ∷ refs_where p rs else refs_where p rs
 
--- a DELETE by uid that the server looked at: a Job of that uid is gone or being deleted, whether it
--- was taken or refused
+-- a DELETE by uid that was taken: its Job is gone or being deleted
 abbrev pub is_deleted : Call → Answer → Bool
 is_deleted (Of.Delete r) Is.Deleted = true
-is_deleted (Of.Delete r) Is.Refused = true
 is_deleted call answer = false
 
 -- the status that this sync claimed by
@@ -149,6 +162,10 @@ has_claimed at w v = record at { cron = record at.cron { version = v; last = w.t
 -- the status that this sync tidied
 abbrev pub has_tidied : At → Tidy → List ℕ → At
 has_tidied at w v = record at { cron = record at.cron { version = v; active = w.active } }
+
+-- what runs once this sync has started its Job
+abbrev pub has_started : At → Held → At
+has_started at h = record at { alive = kept_of h.found.policy at.alive ++ h.job ∷ [] }
 
 -- ---- the state after a call and its answer
 
@@ -175,27 +192,31 @@ from_ready at Of.ListJobs (Is.Jobs rows) =
     Tidying at (refs_where (is_garbage at.cron) rows) (refs_where (is_finished at.cron) rows)
 from_ready at call answer = Over
 
--- after the claim; one that is refused ends the sync
+-- after the claim, which ends the sync where it isn't taken; any other call lets the held Job be
 abbrev pub from_holding : At → Held → Call → Answer → Sync
 from_holding at h (Of.Claim w) (Is.Written v)
     = Starting (has_claimed at w v) h (drops_of h.found.policy at.alive)
-from_holding at h call answer = Over
+from_holding at h (Of.Claim w) answer = Over
+from_holding at h call answer = from_ready at call answer
 
--- a Job of that uid is gone or being deleted, whether DELETE was taken or refused
+-- after a deletion before the start; one that is refused ends the sync, since the Job may run still
+-- rule: fence-replace
 abbrev pub from_dropping : At → Held → List Ref → Call → Answer → Sync
 from_dropping at h ds (Of.Delete r) Is.Deleted = Starting at h ds
-from_dropping at h ds (Of.Delete r) Is.Refused = Starting at h ds
 from_dropping at h ds call answer = Over
 
--- after the start
+-- after the start; what was deleted for it is looked at again, since it may run still or be gone
+-- rule: fence-replace
 abbrev pub from_starting : At → Held → Call → Answer → Sync
-from_starting at h (Of.Start r) (Is.Written v) = Ready (with_alive at h.job)
+from_starting at h (Of.Start r) (Is.Written v) =
+    go_on (has_started at h) (drops_of h.found.policy at.alive) None
 from_starting at h call answer = Over
 
--- after the deletion of garbage, or of a finished Job
+-- after the deletion of garbage, or of a finished Job, whether it was taken or refused
+-- rule: fence-garbage
 abbrev pub from_tidying : At → List Ref → List Ref → Call → Answer → Sync
-from_tidying at gs fs (Of.Delete r) Is.Deleted = Tidying at gs fs
-from_tidying at gs fs (Of.Delete r) Is.Refused = Tidying at gs fs
+from_tidying at gs fs (Of.Delete r) Is.Deleted = Tidying at (without_ref r gs) (without_ref r fs)
+from_tidying at gs fs (Of.Delete r) Is.Refused = Tidying at (without_ref r gs) (without_ref r fs)
 from_tidying at gs fs call answer = Over
 
 -- what a sync knows after a call and its answer; any other answer ends it
@@ -207,8 +228,7 @@ advanced (Ready at) call answer = from_ready at call answer
 advanced (Holding at h) call answer = from_holding at h call answer
 advanced (Starting at h (d ∷ ds)) call answer = from_dropping at h ds call answer
 advanced (Starting at h []) call answer = from_starting at h call answer
-advanced (Tidying at (g ∷ gs) fs) call answer = from_tidying at gs fs call answer
-advanced (Tidying at [] fs) call answer = from_tidying at [] fs call answer
+advanced (Tidying at gs fs) call answer = from_tidying at gs fs call answer
 advanced s call answer = Over
 
 -- ---- what may be called
@@ -265,10 +285,11 @@ pub record MayClaim (at : At) (h : Held) (w : Claim) : Type 0 where
   pub job : w.job ≡ h.job
   pub active : w.active ≡ at.alive ++ h.job ∷ []
 
--- with a held Job at hand
+-- with a held Job at hand: its claim, or what may be called without it, as where it is left alone
+-- for another name
 abbrev pub MayHolding : At → Held → Call → Type 0
 MayHolding at h (Of.Claim w) = MayClaim at h w
-MayHolding at h call = ⊥
+MayHolding at h call = MayReady at call
 
 -- more than spec.startingDeadlineSeconds have passed since the time
 -- rule: fence-expiry
@@ -298,17 +319,11 @@ MayStart at h (Of.Start r) = r ≡ h.job
 MayStart at h (Of.Expire r v now) = MayExpire at h r v now
 MayStart at h call = ⊥
 
--- step 4: garbage goes, each by uid
+-- steps 4 and 9: garbage goes, and finished Jobs may go, each by uid, in any order
 -- rule: fence-garbage
-abbrev pub MayClear : Ref → Call → Type 0
-MayClear g (Of.Delete r) = r ≡ g
-MayClear g call = ⊥
-
--- step 9: finished Jobs may go
--- rule: fence-garbage
-abbrev pub MayClean : List Ref → Call → Type 0
-MayClean fs (Of.Delete r) = has_ref fs r ≡ true
-MayClean fs call = ⊥
+abbrev pub MayClear : List Ref → List Ref → Call → Type 0
+MayClear gs fs (Of.Delete r) = (has_ref gs r || has_ref fs r) ≡ true
+MayClear gs fs call = ⊥
 
 -- what a sync may call next
 -- rule: fence-follows
@@ -319,8 +334,7 @@ May (Ready at) call = MayReady at call
 May (Holding at h) call = MayHolding at h call
 May (Starting at h (d ∷ ds)) call = MayDrop at h d call
 May (Starting at h []) call = MayStart at h call
-May (Tidying at (g ∷ gs) fs) call = MayClear g call
-May (Tidying at [] fs) call = MayClean fs call
+May (Tidying at gs fs) call = MayClear gs fs call
 May s call = ⊥
 
 -- ---- one sync's own calls and answers, the newest first

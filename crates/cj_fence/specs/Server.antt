@@ -41,9 +41,10 @@ puts_job s a n j = record { answer = a; cluster = record s { jobs = put n j s.jo
 abbrev pub made : Stamp → Job → Job
 made t j = record j { uid = t.uid; version = t.version; finished = false; deleting = false }
 
--- POST is refused where the name is taken (409 AlreadyExists)
+-- POST is refused where the name is empty (422 Invalid) or taken (409 AlreadyExists)
 -- rule: fence-server
 abbrev pub create : Cluster → Stamp → List ℕ → Job → Option Job → Served
+create s t [] j o = refuses s
 create s t n j None = puts_job s (Is.Created t) n (made t j)
 create s t n j (Some old) = refuses s
 
@@ -92,10 +93,15 @@ start s t r (Some j) = if j.held then puts_job s (Is.Written t.version) r.name (
 abbrev pub marked : Stamp → Job → Job
 marked t j = record j { version = t.version; deleting = true }
 
+-- a Job gets a deletionTimestamp; where it has one nothing is written
+abbrev pub mark : Cluster → Stamp → Ref → Job → Served
+mark s t r j =
+    if j.deleting then says s Is.Deleted else puts_job s Is.Deleted r.name (marked t j)
+
 -- DELETE takes an object away; one that has metadata.finalizers gets a deletionTimestamp instead
 abbrev pub delete : Cluster → Stamp → Ref → Job → Served
 delete s t r j =
-    if j.pinned then puts_job s Is.Deleted r.name (marked t j)
+    if j.pinned then mark s t r j
     else record { answer = Is.Deleted; cluster = record s { jobs = without r.name s.jobs } }
 
 -- DELETE with the precondition uid (meta/v1, Preconditions): one that isn't met is refused (409
@@ -136,10 +142,11 @@ abbrev pub put_job : Stamp → Job → Option Job → Job
 put_job t j None = made t j
 put_job t j (Some old) = record j { uid = old.uid; version = t.version; deleting = old.deleting || j.deleting }
 
--- what somebody else's write leaves
+-- what somebody else's write leaves; a Job under an empty name is refused
 -- rule: fence-server
 abbrev pub written : Cluster → Stamp → Write → Cluster
 written s t (By.PutCron n c) = record s { crons = put n (put_cron t c (find n s.crons)) s.crons }
 written s t (By.DropCron n) = record s { crons = without n s.crons }
+written s t (By.PutJob [] j) = s
 written s t (By.PutJob n j) = record s { jobs = put n (put_job t j (find n s.jobs)) s.jobs }
 written s t (By.DropJob n) = record s { jobs = without n s.jobs }

@@ -1,16 +1,27 @@
 // What a sync knows after a call and its answer.
 ghost use Rattle.std.specs.Prelude.{◌≡◌, ◌&&◌, [], IfOk, IfErr};
 ghost use Rattle.cj_base.specs.declared.refusal.Refusal.TheVariants.{OutOfMemory};
-ghost use Rattle.cj_fence.specs.Objects.{ref_of, is_policy, waits, is_dead};
+ghost use Rattle.cj_fence.specs.Objects.{ref_of, named, without_ref, is_policy, waits, is_dead};
 ghost use Rattle.cj_fence.specs.Server.{made};
-ghost use Rattle.cj_fence.specs.Protocol.{drops_of, go_on, is_held_ref, found_held, found_job, looked, begun, is_ours, lets_hold, adopted, is_garbage, is_finished, refs_where, settles, is_deleted, has_claimed, has_tidied, advanced};
+ghost use Rattle.cj_fence.specs.Protocol.{kept_of, drops_of, go_on, is_held_ref, was_found, found_held, found_job, is_its, looked, begun, is_ours, lets_hold, adopted, is_garbage, is_finished, refs_where, settles, is_deleted, has_claimed, has_tidied, has_started, advanced};
 
 use crate::may::lets_hold;
-use crate::texts::{has_ref, is_ref, is_same};
+use crate::texts::{has_name, has_ref, is_ref, is_same};
 use crate::writing::job_made;
 use crate::{Answer, At, Call, Claim, Cron, Held, Job, Policy, Ref, Refs, Row, Stamp, Sync, Tidy};
 use cj_base::{Refusal, Text, TryCopy};
 use std::alloc::Global;
+
+// The Jobs that stay beside the one that is started: under Replace none.
+fn kept_of(alloc: Global, policy: Policy, alive: &Refs) -> Result<Refs, Refusal>
+    ensures ok { IfOk result (λ k. k ≡ kept_of policy alive.now) }
+    ensures err { IfErr result (λ e. e ≡ OutOfMemory) }
+{
+    match policy {
+        Policy::Replace => Ok(Refs::new(alloc)),
+        _ => alive.try_copy(alloc),
+    }
+}
 
 // The Jobs that are deleted before a start: under Replace all that run.
 fn drops_of(alloc: Global, policy: Policy, alive: &Refs) -> Result<Refs, Refusal>
@@ -73,6 +84,15 @@ fn is_held_ref(held: &Option<Held>, job: &Ref) -> bool
     }
 }
 
+// Whether a reference is to a Job that was found before.
+fn was_found(at: &At, held: &Option<Held>, job: &Ref) -> bool
+    ensures { result ≡ was_found at.now held.now job.now }
+{
+    let alive = has_ref(at.alive.as_slice(), &job.name, &job.uid);
+    let first = is_held_ref(held, job);
+    alive || first
+}
+
 // The sync after it found a Job in `status.active` that isn't dead.
 fn found_job(
     alloc: Global,
@@ -85,7 +105,7 @@ fn found_job(
     ensures ok { IfOk result (λ s. s ≡ found_job at todo held job found.now) }
     ensures err { IfErr result (λ e. e ≡ OutOfMemory) }
 {
-    if is_held_ref(&held, &job) {
+    if was_found(&at, &held, &job) {
         return go_on(alloc, at, todo, held);
     }
     if found.held {
@@ -109,6 +129,15 @@ fn waits(job: &Job) -> bool
     job.held && !job.finished && !job.deleting
 }
 
+// Whether a Job is the one of a reference, and its controller is the CronJob.
+fn is_its(cron: &Cron, job: &Ref, found: &Job) -> bool
+    ensures { result ≡ is_its cron.now job.now found.now }
+{
+    let same = is_same(&found.uid, &job.uid);
+    let owner = is_same(&found.owner, &cron.uid);
+    same && owner
+}
+
 // The sync after a GET of a Job of `status.active`.
 fn looked(
     alloc: Global,
@@ -122,11 +151,25 @@ fn looked(
     ensures err { IfErr result (λ e. e ≡ OutOfMemory) }
 {
     match found {
-        Some(seen) if is_same(&seen.uid, &job.uid) && !is_dead(seen) => {
+        Some(seen) if is_its(&at.cron, &job, seen) && !is_dead(seen) => {
             found_job(alloc, at, todo, held, job, seen)
         }
         _ => go_on(alloc, at, todo, held),
     }
+}
+
+// Those of these references that name a Job.
+fn named(alloc: Global, refs: &[Ref]) -> Result<Refs, Refusal>
+    ensures ok { IfOk result (λ l. l ≡ named refs.now) }
+    ensures err { IfErr result (λ e. e ≡ OutOfMemory) }
+{
+    let mut found = Refs::new(alloc);
+    for one in refs {
+        if has_name(&one.name) {
+            found.push(one.try_copy(alloc)?)?;
+        }
+    }
+    Ok(found)
 }
 
 // The sync after it read its CronJob.
@@ -136,7 +179,7 @@ fn begun(alloc: Global, name: &Text, found: &Option<Cron>) -> Result<Sync, Refus
 {
     match found {
         Some(cron) => {
-            let todo = cron.active.try_copy(alloc)?;
+            let todo = named(alloc, cron.active.as_slice())?;
             let at = At {
                 name: name.try_copy(alloc)?,
                 cron: cron.try_copy(alloc)?,
@@ -428,37 +471,50 @@ pub(crate) fn from_holding(
             let claimed = has_claimed(alloc, at, sent, version)?;
             Ok(Sync::Starting(claimed, held, drops))
         }
-        _ => Ok(Sync::Over),
+        (Call::Claim(_), _) => Ok(Sync::Over),
+        _ => from_ready(alloc, at, call, answer),
     }
 }
 
+// What a sync knows of its CronJob once it has started its Job.
+fn has_started(alloc: Global, mut at: At, held: Held) -> Result<At, Refusal>
+    ensures ok { IfOk result (λ a. a ≡ has_started at held) }
+    ensures err { IfErr result (λ e. e ≡ OutOfMemory) }
+{
+    let mut alive = kept_of(alloc, held.found.policy, &at.alive)?;
+    alive.push(held.into_job())?;
+    at.alive = alive;
+    Ok(at)
+}
+
 // The sync after a call with nothing to delete before its start.
-fn started(mut at: At, held: Held, call: &Call, answer: &Answer) -> Result<Sync, Refusal>
+fn started(alloc: Global, at: At, held: Held, call: &Call, answer: &Answer) -> Result<Sync, Refusal>
     ensures ok { IfOk result (λ s. s ≡ advanced (Sync.Starting at held []) call.now answer.now) }
     ensures err { IfErr result (λ e. e ≡ OutOfMemory) }
 {
     match (call, answer) {
         (Call::Start(_), Answer::Written(_)) => {
-            at.alive.push(held.into_job())?;
-            Ok(Sync::Ready(at))
+            let again = drops_of(alloc, held.found.policy, &at.alive)?;
+            let now = has_started(alloc, at, held)?;
+            go_on(alloc, now, again, None)
         }
         _ => Ok(Sync::Over),
     }
 }
 
-// Whether the server looked at a deletion by uid: the Job is gone then, or being deleted.
+// Whether a deletion by uid was taken: the Job is gone then, or being deleted.
 fn is_deleted(call: &Call, answer: &Answer) -> bool
     ensures { result ≡ is_deleted call.now answer.now }
 {
     match (call, answer) {
         (Call::Delete(_), Answer::Deleted) => true,
-        (Call::Delete(_), Answer::Refused) => true,
         _ => false,
     }
 }
 
 /// The sync after a call with a claimed Job to start.
 pub(crate) fn from_starting(
+    alloc: Global,
     at: At,
     held: Held,
     mut drops: Refs,
@@ -469,16 +525,48 @@ pub(crate) fn from_starting(
     ensures err { IfErr result (λ e. e ≡ OutOfMemory) }
 {
     match drops.take_first() {
-        None => started(at, held, call, answer),
+        None => started(alloc, at, held, call, answer),
         Some(_) if is_deleted(call, answer) => Ok(Sync::Starting(at, held, drops)),
         Some(_) => Ok(Sync::Over),
     }
 }
 
+// The sync with a Job less to delete.
+fn one_less(
+    alloc: Global,
+    at: At,
+    garbage: &Refs,
+    finished: &Refs,
+    job: &Ref,
+) -> Result<Sync, Refusal>
+    ensures ok { IfOk result (λ s.
+        s ≡ Sync.Tidying at (without_ref job.now garbage.now) (without_ref job.now finished.now)) }
+    ensures err { IfErr result (λ e. e ≡ OutOfMemory) }
+{
+    let garbage = without_ref(alloc, garbage.as_slice(), job)?;
+    let finished = without_ref(alloc, finished.as_slice(), job)?;
+    Ok(Sync::Tidying(at, garbage, finished))
+}
+
+// These references without the one to a Job.
+fn without_ref(alloc: Global, refs: &[Ref], job: &Ref) -> Result<Refs, Refusal>
+    ensures ok { IfOk result (λ l. l ≡ without_ref job.now refs.now) }
+    ensures err { IfErr result (λ e. e ≡ OutOfMemory) }
+{
+    let mut left = Refs::new(alloc);
+    for one in refs {
+        if !is_ref(one, &job.name, &job.uid) {
+            left.push(one.try_copy(alloc)?)?;
+        }
+    }
+    Ok(left)
+}
+
 /// The sync after a call with garbage and finished Jobs to delete.
 pub(crate) fn from_tidying(
+    alloc: Global,
     at: At,
-    mut garbage: Refs,
+    garbage: Refs,
     finished: Refs,
     call: &Call,
     answer: &Answer,
@@ -487,9 +575,9 @@ pub(crate) fn from_tidying(
         s ≡ advanced (Sync.Tidying at garbage finished) call.now answer.now) }
     ensures err { IfErr result (λ e. e ≡ OutOfMemory) }
 {
-    match garbage.take_first() {
-        Some(_) if is_deleted(call, answer) => Ok(Sync::Tidying(at, garbage, finished)),
-        None if is_deleted(call, answer) => Ok(Sync::Tidying(at, garbage, finished)),
+    match (call, answer) {
+        (Call::Delete(job), Answer::Deleted) => one_less(alloc, at, &garbage, &finished, job),
+        (Call::Delete(job), Answer::Refused) => one_less(alloc, at, &garbage, &finished, job),
         _ => Ok(Sync::Over),
     }
 }

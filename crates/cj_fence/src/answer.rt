@@ -38,7 +38,8 @@ pub enum Answer {
     Written(Text),
     /// The Job is gone, or marked to go (200).
     Deleted,
-    /// The server looked, and what the call asks of the object isn't so (404, 409 or 422).
+    /// A refusal (403, 404, 409, 422 ..): the server looked, and what the call asks of the object
+    /// isn't so; or somebody between refused what the server carried out, or will.
     Refused,
     /// Any other answer, or none: whether the call took effect isn't known.
     Lost,

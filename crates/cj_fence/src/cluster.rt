@@ -3,9 +3,9 @@ ghost use Rattle.std.specs.Option.{option_copied};
 ghost use Rattle.cj_base.specs.declared.refusal.Refusal.TheVariants.{OutOfMemory};
 ghost use Rattle.cj_fence.specs.Tables.{find};
 ghost use Rattle.cj_fence.specs.Objects.{look};
-ghost use Rattle.cj_fence.specs.Server.{says, puts_cron, puts_job, create, claim, tidy, start, delete, delete_where, expire_where, served, written};
+ghost use Rattle.cj_fence.specs.Server.{says, puts_cron, puts_job, create, claim, tidy, start, mark, delete, delete_where, expire_where, served, written};
 
-use crate::texts::is_same;
+use crate::texts::{has_name, is_same};
 use crate::writing::{
     cron_claimed, cron_put, cron_tidied, job_made, job_marked, job_put, job_released, takes,
 };
@@ -75,6 +75,9 @@ impl Cluster {
                 with_crons(alloc, self, crons)
             }
             Write::PutJob(name, job) => {
+                if !has_name(name) {
+                    return self.try_copy(alloc);
+                }
                 let job = job_put(alloc, stamp, job, self.jobs.find(name))?;
                 let jobs = self.jobs.put(alloc, name, job)?;
                 with_jobs(alloc, self, jobs)
@@ -171,7 +174,7 @@ impl Cluster {
             r ≡ create self.now stamp.now name.now job.now (find name.now self.now.jobs)) }
         ensures err { IfErr result (λ e. e ≡ OutOfMemory) }
     {
-        if self.jobs.find(name).is_some() {
+        if self.jobs.find(name).is_some() || !has_name(name) {
             return self.says(alloc, Answer::Refused);
         }
         let made = job_made(alloc, stamp, job)?;
@@ -224,6 +227,18 @@ impl Cluster {
         }
     }
 
+    // A Job that stands is marked to go.
+    fn mark(&self, alloc: Global, stamp: &Stamp, job: &Ref, found: &Job) -> Result<Served, Refusal>
+        ensures ok { IfOk result (λ r. r ≡ mark self.now stamp.now job.now found.now) }
+        ensures err { IfErr result (λ e. e ≡ OutOfMemory) }
+    {
+        if found.deleting {
+            return self.says(alloc, Answer::Deleted);
+        }
+        let marked = job_marked(alloc, stamp, found)?;
+        self.puts_job(alloc, Answer::Deleted, &job.name, marked)
+    }
+
     // A Job that stands goes, or is marked.
     fn take_away(
         &self,
@@ -236,8 +251,7 @@ impl Cluster {
         ensures err { IfErr result (λ e. e ≡ OutOfMemory) }
     {
         if found.pinned {
-            let marked = job_marked(alloc, stamp, found)?;
-            return self.puts_job(alloc, Answer::Deleted, &job.name, marked);
+            return self.mark(alloc, stamp, job, found);
         }
         let jobs = self.jobs.without(alloc, &job.name)?;
         let cluster = with_jobs(alloc, self, jobs)?;

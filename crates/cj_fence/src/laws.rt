@@ -3,10 +3,10 @@ ghost use Rattle.cj_fence.specs.Garbage.{NeverStarted, IsCleared};
 ghost use Rattle.cj_fence.specs.Help.{HelpLaw, NeverStuck};
 ghost use Rattle.cj_fence.specs.Lost.{NothingIsLost, RunningStays};
 
-/// For every list of calls, whoever makes them in whatever order, where each answer is the
-/// server's, each sync follows the protocol, and others keep to the premises: no two Jobs of one
-/// CronJob and one time are started; a Job that was claimed under Forbid or Replace is started
-/// alone; what is started was claimed, once; claimed times rise.
+/// For each CronJob, and every list of calls, whoever makes them in whatever order, where each
+/// answer is the server's, each sync follows the protocol, and others keep to the premises for this
+/// CronJob: no two Jobs of it and of one time are started; a Job that was claimed under Forbid or
+/// Replace is started alone; what is started was claimed, once; claimed times rise.
 pub fn fence_law()
     ensures { FenceLaw }
 {}

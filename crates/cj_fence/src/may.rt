@@ -1,7 +1,7 @@
 // What a sync may call next.
 ghost use Rattle.std.specs.Prelude.{◌≡◌, ◌↔◌, [], ◌∷◌, ◌++◌, IsTrue};
 ghost use Rattle.cj_fence.specs.Objects.{has_ref};
-ghost use Rattle.cj_fence.specs.Protocol.{lets_hold, MayFresh, MayLook, MayHold, MayTidy, MayReady, MayClaim, MayHolding, IsLate, MayExpire, MayDrop, MayStart, MayClear, MayClean};
+ghost use Rattle.cj_fence.specs.Protocol.{lets_hold, MayFresh, MayLook, MayHold, MayTidy, MayReady, MayClaim, MayHolding, IsLate, MayExpire, MayDrop, MayStart, MayClear};
 
 use crate::texts::has_ref;
 use crate::{At, Call, Claim, Held, Job, Policy, Ref, Tidy};
@@ -108,7 +108,7 @@ pub(crate) fn may_holding(at: &At, held: &Held, call: &Call) -> bool
 {
     match call {
         Call::Claim(sent) => may_claim(at, held, sent),
-        _ => false,
+        _ => may_ready(at, call),
     }
 }
 
@@ -154,22 +154,16 @@ pub(crate) fn may_start(at: &At, held: &Held, call: &Call) -> bool
     }
 }
 
-/// Whether a sync may make this call that has this garbage to delete.
-pub(crate) fn may_clear(first: &Ref, call: &Call) -> bool
-    ensures { IsTrue result ↔ MayClear first.now call.now }
+/// Whether a sync may make this call that has this garbage and these finished Jobs to delete.
+pub(crate) fn may_clear(garbage: &[Ref], finished: &[Ref], call: &Call) -> bool
+    ensures { IsTrue result ↔ MayClear garbage.now finished.now call.now }
 {
     match call {
-        Call::Delete(job) => job.same(first),
-        _ => false,
-    }
-}
-
-/// Whether a sync may make this call that has no garbage left, and these finished Jobs.
-pub(crate) fn may_clean(finished: &[Ref], call: &Call) -> bool
-    ensures { IsTrue result ↔ MayClean finished.now call.now }
-{
-    match call {
-        Call::Delete(job) => has_ref(finished, &job.name, &job.uid),
+        Call::Delete(job) => {
+            let clears = has_ref(garbage, &job.name, &job.uid);
+            let cleans = has_ref(finished, &job.name, &job.uid);
+            clears || cleans
+        }
         _ => false,
     }
 }

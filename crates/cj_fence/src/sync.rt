@@ -4,9 +4,7 @@ ghost use Rattle.cj_base.specs.declared.refusal.Refusal.TheVariants.{OutOfMemory
 use crate::advance::{
     from_fresh, from_holding, from_looking, from_ready, from_starting, from_tidying,
 };
-use crate::may::{
-    may_clean, may_clear, may_drop, may_fresh, may_holding, may_look, may_ready, may_start,
-};
+use crate::may::{may_clear, may_drop, may_fresh, may_holding, may_look, may_ready, may_start};
 use crate::{Answer, Call, Cron, Job, Ref, Refs};
 use cj_base::{Refusal, Text};
 use std::alloc::Global;
@@ -67,7 +65,7 @@ pub enum Sync {
     Looking(At, Refs, Option<Held>),
     /// Each Job in `status.active` is dead or was started.
     Ready(At),
-    /// A held Job was made or found for a time that is to be claimed.
+    /// A held Job was made or found for a time that may be claimed for it.
     Holding(At, Held),
     /// A claimed Job is to be started, after these are deleted.
     Starting(At, Held, Refs),
@@ -98,10 +96,9 @@ impl Sync {
                 [first, ..] => may_drop(at, held, first, call),
                 [] => may_start(at, held, call),
             },
-            Sync::Tidying(_, garbage, finished) => match garbage.as_slice() {
-                [first, ..] => may_clear(first, call),
-                [] => may_clean(finished.as_slice(), call),
-            },
+            Sync::Tidying(_, garbage, finished) => {
+                may_clear(garbage.as_slice(), finished.as_slice(), call)
+            }
             Sync::Gone => false,
             Sync::Over => false,
         }
@@ -118,9 +115,9 @@ impl Sync {
             Sync::Looking(at, todo, held) => from_looking(alloc, at, todo, held, call, answer),
             Sync::Ready(at) => from_ready(alloc, at, call, answer),
             Sync::Holding(at, held) => from_holding(alloc, at, held, call, answer),
-            Sync::Starting(at, held, drops) => from_starting(at, held, drops, call, answer),
+            Sync::Starting(at, held, drops) => from_starting(alloc, at, held, drops, call, answer),
             Sync::Tidying(at, garbage, finished) => {
-                from_tidying(at, garbage, finished, call, answer)
+                from_tidying(alloc, at, garbage, finished, call, answer)
             }
             Sync::Gone => Ok(Sync::Over),
             Sync::Over => Ok(Sync::Over),

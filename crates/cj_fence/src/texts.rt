@@ -1,6 +1,6 @@
 ghost use Rattle.std.specs.Prelude.{◌≡◌};
 ghost use Rattle.cj_fence.specs.Texts.{is_same};
-ghost use Rattle.cj_fence.specs.Objects.{ref, is_ref, has_ref};
+ghost use Rattle.cj_fence.specs.Objects.{ref, is_ref, has_name, has_ref};
 
 use crate::Ref;
 use cj_base::Text;
@@ -11,6 +11,16 @@ pub(crate) fn is_same(a: &Text, b: &Text) -> bool
     ensures { result ≡ is_same a.now b.now }
 {
     a == b
+}
+
+/// Whether a name is one: it isn't empty.
+pub(crate) fn has_name(name: &Text) -> bool
+    ensures { result ≡ has_name name.now }
+{
+    match name.as_str().as_bytes() {
+        [] => false,
+        [_, ..] => true,
+    }
 }
 
 /// Whether a reference is of this name and this uid.

@@ -1,5 +1,5 @@
 -- Texts, references and tables: what their tests and look-ups say.
-use Rattle.std.proofs.Common.{◌≡◌, ◌≢◌, ◌⊎◌, inl, inr, ℕ, Bool, true, false, not, ◌&&◌, ◌||◌, List, [], ◌∷◌, ◌++◌, Option, Some, None, refl, sym, ap, ◌∙◌, ◌<◌, arith}
+use Rattle.std.proofs.Common.{◌≡◌, ◌≢◌, ◌⊎◌, inl, inr, ℕ, Bool, true, false, not, ◌&&◌, ◌||◌, List, [], ◌∷◌, ◌++◌, Option, Some, None, refl, sym, ap, subst, ◌∙◌, ◌<◌, arith}
 use Rattle.std.specs.Prelude.{nat_lt, if◌then◌else◌}
 use Rattle.std.proofs.lemmas.Bool.Decides.{nat_tests}
 use Rattle.std.proofs.lemmas.Slice.Eq.{bytes_eq-Decides}
@@ -8,7 +8,7 @@ use Rattle.cj_fence.specs.declared.refs.Ref.{Ref}
 use Rattle.cj_fence.specs.declared.objects.Job.{Job}
 use Rattle.cj_fence.specs.Texts.{is_same}
 use Rattle.cj_fence.specs.Tables.{find, without, put}
-use Rattle.cj_fence.specs.Objects.{is_ref, with_uid, look}
+use Rattle.cj_fence.specs.Objects.{is_ref, has_ref, without_ref, with_uid, look}
 
 -- Texts that test as one are one.
 pub same_true : (a b : List ℕ) → is_same a b ≡ true → a ≡ b
@@ -37,6 +37,15 @@ both_true false b e = absurd (cc e)
 pub one_true : (a b : Bool) → (a || b) ≡ true → (a ≡ true) ⊎ (b ≡ true)
 one_true true b e = inl refl
 one_true false b e = inr e
+
+-- Of two of which the first is true, one is.
+pub first_true : (a b : Bool) → a ≡ true → (a || b) ≡ true
+first_true a b e = ap (λ (z : Bool). z || b) e
+
+-- Of two of which the second is true, one is.
+pub second_true : (a b : Bool) → b ≡ true → (a || b) ≡ true
+second_true true b e = refl
+second_true false b e = e
 
 -- A negation that is true is of something false.
 pub not_true : (a : Bool) → not a ≡ true → a ≡ false
@@ -75,6 +84,58 @@ pub in_front : {X : Type 0} (x : X) (xs ys : List X) → IsIn x xs → IsIn x (x
 in_front x [] ys h = absurd h
 in_front x (y ∷ xs) ys (inl e) = inl e
 in_front x (y ∷ xs) ys (inr h) = inr (in_front x xs ys h)
+
+-- Of two that aren't true neither is.
+pub neither : (a b : Bool) → (a || b) ≡ false → (a ≡ false) × (b ≡ false)
+neither true b e = absurd (cc e)
+neither false b e = (refl, e)
+
+-- What a test finds in a list is in it.
+pub is_in : (xs : List Ref) (r : Ref) → has_ref xs r ≡ true → IsIn r xs
+is_in [] r e = absurd (cc e)
+is_in (x ∷ xs) r e = by_part (λ k. is_in xs r k) (one_true (is_ref x r) (has_ref xs r) e)
+  where
+    by_part : (has_ref xs r ≡ true → IsIn r xs) → (is_ref x r ≡ true) ⊎ (has_ref xs r ≡ true) → IsIn r (x ∷ xs)
+    by_part f (inl a) = inl (sym (ref_true x r a))
+    by_part f (inr b) = inr (f b)
+
+-- What a test doesn't find in a list isn't in it.
+pub not_in : (xs : List Ref) (r : Ref) → has_ref xs r ≡ false → IsIn r xs → ⊥
+not_in [] r e i = i
+not_in (x ∷ xs) r e (inl s) = by_part (is_ref x r) (subst (λ (z : Ref). is_ref x z ≡ true) (sym s) (ref_self x)) e
+  where
+    by_part : (b : Bool) → b ≡ true → (b || has_ref xs r) ≡ false → ⊥
+    by_part true q g = absurd (cc g)
+    by_part false q g = absurd (cc q)
+not_in (x ∷ xs) r e (inr i) = not_in xs r (neither (is_ref x r) (has_ref xs r) e).1 i
+
+-- What is left of a list without a reference was in it.
+pub fewer : (q r : Ref) (xs : List Ref) → IsIn r (without_ref q xs) → IsIn r xs
+fewer q r [] i = i
+fewer q r (x ∷ xs) i = by_test (λ k. fewer q r xs k) (is_ref x q) i
+  where
+    by_test : (IsIn r (without_ref q xs) → IsIn r xs) → (b : Bool)
+        → IsIn r (if b then without_ref q xs else x ∷ without_ref q xs) → IsIn r (x ∷ xs)
+    by_test f true k = inr (f k)
+    by_test f false (inl e) = inl e
+    by_test f false (inr k) = inr (f k)
+
+-- What was in a list is the reference, or is left without it.
+pub left_or : (q r : Ref) (xs : List Ref) → IsIn r xs → (r ≡ q) ⊎ IsIn r (without_ref q xs)
+left_or q r [] i = absurd i
+left_or q r (x ∷ xs) (inl e) = by_test (is_ref x q) refl
+  where
+    by_test : (b : Bool) → is_ref x q ≡ b
+        → (r ≡ q) ⊎ IsIn r (if b then without_ref q xs else x ∷ without_ref q xs)
+    by_test true t = inl (e ∙ ref_true x q t)
+    by_test false t = inr (inl e)
+left_or q r (x ∷ xs) (inr i) = by_test (left_or q r xs i) (is_ref x q)
+  where
+    by_test : (r ≡ q) ⊎ IsIn r (without_ref q xs) → (b : Bool)
+        → (r ≡ q) ⊎ IsIn r (if b then without_ref q xs else x ∷ without_ref q xs)
+    by_test (inl e) b = inl e
+    by_test (inr k) true = inr k
+    by_test (inr k) false = inr (inr k)
 
 -- The element put behind is in the list.
 pub in_end : {X : Type 0} (x : X) (xs : List X) → IsIn x (xs ++ x ∷ [])
@@ -159,6 +220,25 @@ pub look_is : (jobs : List (Row Job)) (r : Ref) (j : Job) → find r.name jobs �
     → look jobs r ≡ Some j
 look_is jobs r j f u =
     ap (λ (o : Option Job). with_uid r.uid o) f ∙ ap (λ (t : Bool). if t then Some j else None) (same_is j.uid r.uid u)
+
+-- The Job of a reference, after a put, is the one that was put, or was there before.
+pub look_put : (n : List ℕ) (x : Job) (jobs : List (Row Job)) (r : Ref) (j : Job) → look (put n x jobs) r ≡ Some j
+    → ((n ≡ r.name) × (x ≡ j) × (x.uid ≡ r.uid)) ⊎ (look jobs r ≡ Some j)
+look_put n x jobs r j e =
+    let f = look_found (put n x jobs) r j e in
+    by_name f.1 (put_at n r.name x jobs j f.0)
+  where
+    by_name : j.uid ≡ r.uid → ((n ≡ r.name) × (x ≡ j)) ⊎ ((n ≢ r.name) × (find r.name jobs ≡ Some j))
+        → ((n ≡ r.name) × (x ≡ j) × (x.uid ≡ r.uid)) ⊎ (look jobs r ≡ Some j)
+    by_name u (inl p) = inl (p.0, p.1, ap (λ (z : Job). z.uid) p.1 ∙ u)
+    by_name u (inr p) = inr (look_is jobs r j p.1 u)
+
+-- The Job of a reference, after one went, was there before.
+pub look_without : (n : List ℕ) (jobs : List (Row Job)) (r : Ref) (j : Job) → look (without n jobs) r ≡ Some j
+    → look jobs r ≡ Some j
+look_without n jobs r j e =
+    let f = look_found (without n jobs) r j e in
+    look_is jobs r j (without_at n r.name jobs j f.0).1 f.1
 
 -- Two times are one, or one is before the other.
 pub either_way : (a b : ℕ) → (a < b) ⊎ ((a ≡ b) ⊎ (b < a))

@@ -1,5 +1,5 @@
 -- Every entry keeps all facts, and what it starts and claims rests on them.
-use Rattle.std.proofs.Common.{◌≡◌, ◌≢◌, ◌⊎◌, inl, inr, ℕ, ◌<◌, ◌≤◌, ◌==◌, Bool, true, false, List, [], ◌∷◌, Option, Some, None, refl, sym, ap, subst, ◌∙◌, arith}
+use Rattle.std.proofs.Common.{◌≡◌, ◌≢◌, ◌⊎◌, inl, inr, ℕ, ◌<◌, ◌==◌, Bool, true, false, List, [], ◌∷◌, Option, Some, None, refl, sym, ap, subst, ◌∙◌, arith}
 use Rattle.std.specs.Prelude.{IfSome, if◌then◌else◌}
 use Rattle.std.proofs.lemmas.Bool.Decides.{nat_tests}
 use Rattle.cj_fence.specs.declared.policy.Policy.TheVariants.{Replace}
@@ -24,128 +24,134 @@ use Rattle.cj_fence.specs.declared.sync.Sync.TheVariants.{Fresh, Looking, Ready,
 use Rattle.cj_fence.specs.Texts.{is_same}
 use Rattle.cj_fence.specs.Tables.{find, without, put}
 use Rattle.cj_fence.specs.Objects.{is_ref, look}
-use Rattle.cj_fence.specs.Server.{refuses, puts_cron, puts_job, create, takes, claimed, claim, tidied, tidy, released, start, delete, delete_where, expire_where, served, put_cron, written}
+use Rattle.cj_fence.specs.Server.{says, refuses, puts_cron, puts_job, create, takes, claimed, claim, tidied, tidy, released, start, marked, mark, delete, delete_where, expire_where, served, put_cron, written}
 use Rattle.cj_fence.specs.Protocol.{seen_of, advanced, MayTidy, MayClaim, May}
 use Rattle.cj_fence.specs.History.{Deed, Asked, Wrote, Told, state_of, GaveUid, IsFresh, IsAnswer, Claimed, claim_in, claims, claim_of, starts, started, own_after, own}
 use Rattle.cj_fence.specs.Others.{KeepsCron, KeepsTo, DeedKeepsTo}
-use Rattle.cj_fence.proofs.FenceLemmas.Basics.{IsIn, both_true, one_true, same_true, ref_true, put_at, without_at}
-use Rattle.cj_fence.proofs.FenceLemmas.Facts.{job_at, cron_at, Dead, Leaving, IsClaimedFor, AtFact, HeldFact, HoldingFact, StartingFact, SyncFact, Inv}
-use Rattle.cj_fence.proofs.FenceLemmas.Grows.{IsStarting, Grows, cron_is_old, claimed_gave, for_kept, sync_kept, dead_kept}
-use Rattle.cj_fence.proofs.FenceLemmas.Kept.{FromUid, CronStep, Change}
-use Rattle.cj_fence.proofs.FenceLemmas.Moves.{next, claim_stays, ClaimsNone, no_claim, starting, plain_grows}
+use Rattle.cj_fence.proofs.FenceLemmas.Basics.{IsIn, both_true, one_true, same_true, put_at, without_at}
+use Rattle.cj_fence.proofs.FenceLemmas.Facts.{job_at, cron_at, Dead, Leaving, Owned, StatusFact, NowFact, HeldFact, Readies, Holds, Commits, SyncFact, Inv}
+use Rattle.cj_fence.proofs.FenceLemmas.Grows.{IsStarting, Grows, cron_is_old, owned_own, owned_one, owned_before, for_kept, sync_kept}
+use Rattle.cj_fence.proofs.FenceLemmas.Kept.{FromUid, NewStatus, CronStep, Change, still_named, gave_of}
+use Rattle.cj_fence.proofs.FenceLemmas.Moves.{next, MadeHeld, MakesHeld, call_starts, write_starts, claim_stays, ClaimsNone, no_claim, plain_grows}
 use Rattle.cj_fence.proofs.FenceLemmas.Claims.{Accepted, claims_it, unclaimed, claim_grows, claim_crons, claim_claims, record_of}
 use Rattle.cj_fence.proofs.FenceLemmas.Nexts.{same_read, accepted_by, next_fact}
 
 -- ---- what an entry starts and claims
 
--- a Job that is started: it was claimed, and under Replace all that was claimed before is leaving
-pub record StartFact (h : List Told) (r : Ref) : Type 0 where
+-- a Job of the CronJob that is started: it was claimed, and under Replace all that was claimed before is leaving
+pub record StartFact (me : List ℕ) (h : List Told) (r : Ref) : Type 0 where
   pub starts_it : IsStarting h r
   pub claim : Claimed
   pub is : claim_of h r ≡ Some claim
+  pub owner : claim.owner ≡ me
   pub leaves : claim.policy ≡ Replace → (x : Ref) (m : Claimed) → claim_of h x ≡ Some m → m.owner ≡ claim.owner
       → m.time < claim.time → Leaving h x
 
--- a claim: its Job wasn't claimed before, and its time is later
+-- a claim for the CronJob: its Job wasn't claimed before, and its time is later
 pub record ClaimsFact (h : List Told) (r : Ref) (k : Claimed) : Type 0 where
   pub first : claim_of h r ≡ None
   pub rises : (x : Ref) (m : Claimed) → claim_of h x ≡ Some m → m.owner ≡ k.owner → m.time < k.time
 
-pub record Rests (h : List Told) (d : Deed) : Type 0 where
-  pub starts_fact : (r : Ref) → starts (state_of h) d r ≡ true → StartFact h r
-  pub claims_fact : (r : Ref) (k : Claimed) → claims (state_of h) d r ≡ Some k → ClaimsFact h r k
+-- what each start of a Job of the CronJob rests on
+abbrev pub StartsRest : List ℕ → List Told → Stamp → Deed → Type 0
+StartsRest me h t d = (r : Ref) → starts (state_of h) t d r ≡ true → Owned h me r → StartFact me h r
+
+pub record Rests (me : List ℕ) (h : List Told) (t : Stamp) (d : Deed) : Type 0 where
+  pub starts_fact : StartsRest me h t d
+  pub claims_fact : (r : Ref) (k : Claimed) → claims (state_of h) d r ≡ Some k → k.owner ≡ me → ClaimsFact h r k
 
 -- all facts after an entry
-pub record Kept (h : List Told) (t : Stamp) (d : Deed) : Type 0 where
-  pub change : Change h (next h t d) t
-  pub rests : Rests h d
+pub record Kept (me : List ℕ) (h : List Told) (t : Stamp) (d : Deed) : Type 0 where
+  pub change : Change me h (next h t d) t
+  pub rests : Rests me h t d
 
 -- ---- an entry that claims nothing
 
 -- a CronJob that is written at an entry, by what was claimed before
-pub record Rewritten (h : List Told) (t : Stamp) (k n : List ℕ) (c : Cron) : Type 0 where
+pub record Rewritten (me : List ℕ) (h : List Told) (t : Stamp) (k n : List ℕ) (c : Cron) : Type 0 where
   pub name : n ≡ k
   pub version : c.version ≡ t.version
-  pub uid : FromUid h t n c
-  pub named : (r : Ref) (m : Claimed) → claim_of h r ≡ Some m → m.owner ≡ c.uid → m.time ≤ c.last
-      → IsIn r c.active ⊎ Dead h r
-  pub claimed : (r : Ref) → IsIn r c.active → IsClaimedFor h c r
-  pub claims : (r : Ref) (m : Claimed) → claim_of h r ≡ Some m → m.owner ≡ c.uid → m.time ≤ c.last
+  pub uid : FromUid me h t n c
+  pub its : c.uid ≡ me → NewStatus h c
 
-abbrev pub Cronic : List Told → Stamp → List ℕ → List ℕ → Cron → Type 0
-Cronic h t k n c = (cron_at h n ≡ Some c) ⊎ Rewritten h t k n c
-
--- For plain_crons: a Job that was named or dead is.
-still_named : {h g : List Told} {t : Stamp} → Inv h → Grows h g t → (c : Cron) (r : Ref) (m : Claimed)
-    → claim_of h r ≡ Some m → IsIn r c.active ⊎ Dead h r → IsIn r c.active ⊎ Dead g r
-still_named f w c r m is (inl i) = inl i
-still_named f w c r m is (inr d) = inr (dead_kept w r (claimed_gave f r m is) d)
+abbrev pub Cronic : List ℕ → List Told → Stamp → List ℕ → List ℕ → Cron → Type 0
+Cronic me h t k n c = (cron_at h n ≡ Some c) ⊎ Rewritten me h t k n c
 
 -- A CronJob after an entry that claims nothing, by what was claimed before it.
-plain_cron : (h : List Told) (t : Stamp) (d : Deed) → Inv h → Grows h (next h t d) t → ClaimsNone h d → (k n : List ℕ)
-    (c : Cron) → Cronic h t k n c → CronStep h (next h t d) t k n c
+plain_cron : {me : List ℕ} (h : List Told) (t : Stamp) (d : Deed) → Inv me h → Grows me h (next h t d) t
+    → ClaimsNone h d → (k n : List ℕ) (c : Cron) → Cronic me h t k n c → CronStep me h (next h t d) t k n c
 plain_cron h t d f w none k n c (inl e) = inl (record {
   was = e;
-  claims = λ r m is o. no_claim h t d none r m is;
+  claims = λ m r q is o. no_claim h t d none r q is;
 })
 plain_cron h t d f w none k n c (inr a) = inr (record {
   name = a.name;
   version = a.version;
   uid = a.uid;
-  named = λ r m is o l. let was = no_claim h t d none r m is in still_named f w c r m was (a.named r m was o l);
-  claimed = λ r i. for_kept w c r (a.claimed r i);
-  claims = λ r m is o. a.claims r m (no_claim h t d none r m is) o;
+  its = λ m. let b = a.its m in record {
+    named = λ r q is o l. let was = no_claim h t d none r q is in
+        still_named f w c r q was (o ∙ m) (b.named r q was o l);
+    claimed = λ r i. for_kept w c r (b.claimed r i);
+    claims = λ r q is o. b.claims r q (no_claim h t d none r q is) o;
+  };
 })
 
--- For plain_kept: whatever was started by now was claimed.
-plain_starts : (h : List Told) (t : Stamp) (d : Deed) → Inv h
-    → ((r : Ref) → starts (state_of h) d r ≡ true → StartFact h r) → (r : Ref) → started (next h t d) r ≡ true
+-- Whatever of the CronJob was started by now was claimed.
+plain_starts : {me : List ℕ} (h : List Told) (t : Stamp) (d : Deed) → Inv me h → Grows me h (next h t d) t
+    → StartsRest me h t d → (r : Ref) → started (next h t d) r ≡ true → Owned (next h t d) me r
     → (k : Claimed) × (claim_of (next h t d) r ≡ Some k)
-plain_starts h t d f s r e = by_part (one_true (starts (state_of h) d r) (started h r) e)
+plain_starts {me} h t d f w s r e now = by_part (one_true (starts (state_of h) t d r) (started h r) e)
   where
-    by_part : (starts (state_of h) d r ≡ true) ⊎ (started h r ≡ true)
+    own : Owned h me r
+    own = owned_before w r (gave_of f r (w.starts r e)) now
+
+    by_part : (starts (state_of h) t d r ≡ true) ⊎ (started h r ≡ true)
         → (k : Claimed) × (claim_of (next h t d) r ≡ Some k)
     by_part (inl a) =
-        let k = s r a in (k.claim, claim_stays (claim_of h r) (claims (state_of h) d r) k.claim k.is)
+        let k = s r a own in (k.claim, claim_stays (claim_of h r) (claims (state_of h) d r) k.claim k.is)
     by_part (inr b) =
-        let k = f.started r b in (k.0, claim_stays (claim_of h r) (claims (state_of h) d r) k.0 k.1)
+        let k = f.started r b own in (k.0, claim_stays (claim_of h r) (claims (state_of h) d r) k.0 k.1)
 
 -- An entry that claims nothing keeps all facts.
-pub plain_kept : (h : List Told) (t : Stamp) (d : Deed) → Inv h → IsFresh h t → DeedKeepsTo (state_of h) d
-    → ClaimsNone h d → (k : List ℕ) → ((n : List ℕ) (c : Cron) → cron_at (next h t d) n ≡ Some c → Cronic h t k n c)
-    → ((r : Ref) → starts (state_of h) d r ≡ true → StartFact h r)
-    → (Grows h (next h t d) t → (y : ℕ) → SyncFact (next h t d) (seen_of (own_after y d (own y h))))
-    → Kept h t d
-plain_kept h t d f fresh keeps none k crons s syncs =
-    let w = plain_grows h t d fresh keeps none in
+pub plain_kept : {me : List ℕ} (h : List Told) (t : Stamp) (d : Deed) → Inv me h → IsFresh h t
+    → DeedKeepsTo me (state_of h) d → MakesHeld d → ClaimsNone h d → (k : List ℕ)
+    → ((n : List ℕ) (c : Cron) → cron_at (next h t d) n ≡ Some c → Cronic me h t k n c) → StartsRest me h t d
+    → (Grows me h (next h t d) t → (y : ℕ) → SyncFact me (next h t d) (seen_of (own_after y d (own y h))))
+    → Kept me h t d
+plain_kept {me} h t d f fresh keeps m none k crons s syncs =
+    let w = plain_grows me h t d fresh keeps m none in
     record {
       change = record {
         grows = w;
         name = k;
         crons = λ n c at. plain_cron h t d f w none k n c (crons n c at);
         it = record { name = []; uid = [] };
-        claims = λ r m is. inl (no_claim h t d none r m is);
-        starts = plain_starts h t d f s;
+        claims = λ r q is. inl (no_claim h t d none r q is);
+        starts = plain_starts h t d f w s;
         syncs = syncs w;
       };
       rests = record {
         starts_fact = s;
-        claims_fact = λ r m is. absurd (cc (none r, is));
+        claims_fact = λ r q is o. absurd (cc (none r, is));
       };
     }
 
 -- ---- others' writes
 
 -- For put_cronic: a CronJob that stood.
-kept_cron : (h : List Told) (t : Stamp) (n : List ℕ) (c old : Cron) → Inv h → cron_at h n ≡ Some old → KeepsCron c old
-    → Rewritten h t n n (record c { uid = old.uid; version = t.version })
-kept_cron h t n c old f at k =
-    let a = f.crons n old (cron_is_old h n old at) in
-    let b = f.now n old at in
-    record {
-      name = refl;
-      version = refl;
-      uid = inr (old, at, refl, let e = k.last in omega arith);
+kept_cron : {me : List ℕ} (h : List Told) (t : Stamp) (n : List ℕ) (c old : Cron) → Inv me h → cron_at h n ≡ Some old
+    → (old.uid ≡ me → KeepsCron c old)
+    → Rewritten me h t n n (record c { uid = old.uid; version = t.version })
+kept_cron {me} h t n c old f at keeps = record {
+  name = refl;
+  version = refl;
+  uid = inr (old, at, refl, λ o. let e = (keeps o).last in omega arith);
+  its = λ o. its (keeps o) (f.status n old (cron_is_old h n old at) o) (f.now n old at o);
+}
+  where
+    its : KeepsCron c old → StatusFact h old → NowFact h n old
+        → NewStatus h (record c { uid = old.uid; version = t.version })
+    its k a b = record {
       named = λ r m is o l. let e = k.last in subst (λ (z : List Ref). IsIn r z ⊎ Dead h r) (sym k.active)
           (a.named r m is o (omega arith));
       claimed = λ r i. let x = a.claimed r (subst (λ (z : List Ref). IsIn r z) k.active i) in let e = k.last in let l
@@ -155,35 +161,39 @@ kept_cron h t n c old f at k =
     }
 
 -- For put_cronic: a new CronJob.
-fresh_cron : (h : List Told) (t : Stamp) (n : List ℕ) (c : Cron) → Inv h → IsFresh h t
-    → Rewritten h t n n (record c { uid = t.uid; version = t.version; last = 0; active = [] })
+fresh_cron : {me : List ℕ} (h : List Told) (t : Stamp) (n : List ℕ) (c : Cron) → Inv me h → IsFresh h t
+    → Rewritten me h t n n (record c { uid = t.uid; version = t.version; last = 0; active = [] })
 fresh_cron h t n c f fresh = record {
   name = refl;
   version = refl;
   uid = inl refl;
-  named = λ r m is o l. absurd (none r m is o);
-  claimed = λ r i. absurd i;
-  claims = λ r m is o. absurd (none r m is o);
+  its = λ q. record {
+    named = λ r m is o l. absurd (none r m is o);
+    claimed = λ r i. absurd i;
+    claims = λ r m is o. absurd (none r m is o);
+  };
 }
   where
     none : (r : Ref) (m : Claimed) → claim_of h r ≡ Some m → m.owner ≡ t.uid → ⊥
     none r m is o = fresh.uid (subst (GaveUid h) o (f.claims r m is).gave)
 
 -- The CronJob that somebody writes, where one stood and where none did.
-put_cronic : (h : List Told) (t : Stamp) (n : List ℕ) (c : Cron) (o : Option Cron) → Inv h → IsFresh h t
-    → cron_at h n ≡ o → IfSome o (KeepsCron c) → Rewritten h t n n (put_cron t c o)
+put_cronic : {me : List ℕ} (h : List Told) (t : Stamp) (n : List ℕ) (c : Cron) (o : Option Cron) → Inv me h
+    → IsFresh h t → cron_at h n ≡ o → IfSome o (λ old. old.uid ≡ me → KeepsCron c old)
+    → Rewritten me h t n n (put_cron t c o)
 put_cronic h t n c None f fresh e k = fresh_cron h t n c f fresh
 put_cronic h t n c (Some old) f fresh e k = kept_cron h t n c old f e k
 
 -- The CronJobs after a put.
-crons_put : (h : List Told) (t : Stamp) (n : List ℕ) (x : Cron) → Rewritten h t n n x → (m : List ℕ) (c : Cron)
-    → find m (put n x (state_of h).crons) ≡ Some c → Cronic h t n m c
-crons_put h t n x a m c at = by_name (put_at n m x (state_of h).crons c at)
+crons_put : {me : List ℕ} (h : List Told) (t : Stamp) (n : List ℕ) (x : Cron) → Rewritten me h t n n x
+    → (m : List ℕ) (c : Cron)
+    → find m (put n x (state_of h).crons) ≡ Some c → Cronic me h t n m c
+crons_put {me} h t n x a m c at = by_name (put_at n m x (state_of h).crons c at)
   where
-    by_name : ((n ≡ m) × (x ≡ c)) ⊎ ((n ≢ m) × (cron_at h m ≡ Some c)) → Cronic h t n m c
+    by_name : ((n ≡ m) × (x ≡ c)) ⊎ ((n ≢ m) × (cron_at h m ≡ Some c)) → Cronic me h t n m c
     by_name (inl e) =
-        let b = subst (λ (z : List ℕ). Rewritten h t n z x) e.0 a in
-        inr (subst (Rewritten h t n m) e.1 b)
+        let b = subst (λ (z : List ℕ). Rewritten me h t n z x) e.0 a in
+        inr (subst (Rewritten me h t n m) e.1 b)
     by_name (inr e) = inl e.1
 
 -- The name that a write of others is about.
@@ -194,20 +204,24 @@ write_name (By.PutJob n j) = n
 write_name (By.DropJob n) = n
 
 -- The CronJobs after a write of others.
-crons_written : (h : List Told) (t : Stamp) (w : Write) → Inv h → IsFresh h t → KeepsTo (state_of h) w
-    → (n : List ℕ) (c : Cron) → find n (written (state_of h) t w).crons ≡ Some c → Cronic h t (write_name w) n c
+crons_written : {me : List ℕ} (h : List Told) (t : Stamp) (w : Write) → Inv me h → IsFresh h t
+    → KeepsTo me (state_of h) w
+    → (n : List ℕ) (c : Cron) → find n (written (state_of h) t w).crons ≡ Some c → Cronic me h t (write_name w) n c
 unfolding write_name
 crons_written h t (By.PutCron n c) f fresh k =
     crons_put h t n (put_cron t c (cron_at h n)) (put_cronic h t n c (cron_at h n) f fresh refl k)
 crons_written h t (By.DropCron n) f fresh k = λ m c at. inl (without_at n m (state_of h).crons c at).1
-crons_written h t (By.PutJob n j) f fresh k = λ m c at. inl at
+crons_written h t (By.PutJob [] j) f fresh k = λ m c at. inl at
+crons_written h t (By.PutJob (b ∷ n) j) f fresh k = λ m c at. inl at
 crons_written h t (By.DropJob n) f fresh k = λ m c at. inl at
 
 -- A write of somebody else keeps all facts.
-pub wrote_kept : (h : List Told) (t : Stamp) (w : Write) → Inv h → IsFresh h t → KeepsTo (state_of h) w
-    → Kept h t (Wrote w)
-wrote_kept h t w f fresh k =
-    plain_kept h t (Wrote w) f fresh k (λ r. refl) (write_name w) (crons_written h t w f fresh k) (λ r e. absurd (cc e))
+pub wrote_kept : {me : List ℕ} (h : List Told) (t : Stamp) (w : Write) → Inv me h → IsFresh h t
+    → KeepsTo me (state_of h) w
+    → Kept me h t (Wrote w)
+wrote_kept {me} h t w f fresh k =
+    plain_kept h t (Wrote w) f fresh k tt (λ r. refl) (write_name w) (crons_written h t w f fresh k)
+    (λ r e own. absurd (write_starts me h t w k r (owned_own f r own).stands e))
     (λ grows y. sync_kept f grows (seen_of (own y h)) (f.syncs y))
 
 -- ---- calls of syncs
@@ -217,15 +231,15 @@ pub same_number : (x y : ℕ) → (x == y) ≡ true → x ≡ y
 same_number x y e = grind (arith, nat_tests)
 
 -- What each sync knows after a call of one of them.
-asked_syncs : (h : List Told) (t : Stamp) (x : ℕ) (call : Call) (reached : Bool) (a : Answer) → Inv h
-    → Grows h (next h t (Asked x call reached a)) t
-    → SyncFact (next h t (Asked x call reached a)) (advanced (seen_of (own x h)) call a) → (y : ℕ)
-    → SyncFact (next h t (Asked x call reached a)) (seen_of (own_after y (Asked x call reached a) (own y h)))
-asked_syncs h t x call reached a f w s y = by_test (x == y) refl
+asked_syncs : {me : List ℕ} (h : List Told) (t : Stamp) (x : ℕ) (call : Call) (reached : Bool) (a : Answer) → Inv me h
+    → Grows me h (next h t (Asked x call reached a)) t
+    → SyncFact me (next h t (Asked x call reached a)) (advanced (seen_of (own x h)) call a) → (y : ℕ)
+    → SyncFact me (next h t (Asked x call reached a)) (seen_of (own_after y (Asked x call reached a) (own y h)))
+asked_syncs {me} h t x call reached a f w s y = by_test (x == y) refl
   where
-    by_test : (b : Bool) → (x == y) ≡ b → SyncFact (next h t (Asked x call reached a))
+    by_test : (b : Bool) → (x == y) ≡ b → SyncFact me (next h t (Asked x call reached a))
         (seen_of (if b then record { call = call; answer = a } ∷ own y h else own y h))
-    by_test true e = subst (λ (z : ℕ). SyncFact (next h t (Asked x call reached a))
+    by_test true e = subst (λ (z : ℕ). SyncFact me (next h t (Asked x call reached a))
         (advanced (seen_of (own z h)) call a))
         (same_number x y e) s
     by_test false e = sync_kept f w (seen_of (own y h)) (f.syncs y)
@@ -235,26 +249,18 @@ abbrev pub LeavesCrons : List Told → Stamp → Call → Type 0
 LeavesCrons h t call = (served (state_of h) t call).cluster.crons ≡ (state_of h).crons
 
 -- For crons_after: whether it came to the server or not.
-crons_same : (h : List Told) (t : Stamp) (y : ℕ) (call : Call) (reached : Bool) (a : Answer) → LeavesCrons h t call
-    → (n : List ℕ) (c : Cron) → cron_at (next h t (Asked y call reached a)) n ≡ Some c → Cronic h t [] n c
+crons_same : {me : List ℕ} (h : List Told) (t : Stamp) (y : ℕ) (call : Call) (reached : Bool) (a : Answer)
+    → LeavesCrons h t call
+    → (n : List ℕ) (c : Cron) → cron_at (next h t (Asked y call reached a)) n ≡ Some c → Cronic me h t [] n c
 crons_same h t y call true a e n c at = inl (ap (λ z. find n z) (sym e) ∙ at)
 crons_same h t y call false a e n c at = inl at
-
--- A call of a sync that neither claims nor writes a CronJob keeps all facts.
-asked_kept : (h : List Told) (t : Stamp) (y : ℕ) (call : Call) (reached : Bool) (a : Answer) → Inv h → IsFresh h t
-    → May (seen_of (own y h)) call → IsAnswer h t call reached a → ClaimsNone h (Asked y call reached a)
-    → LeavesCrons h t call → ((r : Ref) → starts (state_of h) (Asked y call reached a) r ≡ true → StartFact h r)
-    → Kept h t (Asked y call reached a)
-asked_kept h t y call reached a f fresh m k none e s =
-    plain_kept h t (Asked y call reached a) f fresh tt none [] (crons_same h t y call reached a e) s
-    (λ w. asked_syncs h t y call reached a f w
-    (next_fact h t y (seen_of (own y h)) fresh f (f.syncs y) call m reached a k w))
 
 -- A POST of a Job leaves the CronJobs.
 pub crons_create : (s : Cluster) (t : Stamp) (n : List ℕ) (j : Job) (o : Option Job)
     → (create s t n j o).cluster.crons ≡ s.crons
-crons_create s t n j None = refl
-crons_create s t n j (Some old) = refl
+crons_create s t [] j o = refl
+crons_create s t (c ∷ n) j None = refl
+crons_create s t (c ∷ n) j (Some old) = refl
 
 -- Of two outcomes that leave the CronJobs, the one that a test picks does.
 crons_if : (s : Cluster) (b : Bool) (x y : Served) → x.cluster.crons ≡ s.crons → y.cluster.crons ≡ s.crons
@@ -268,11 +274,14 @@ crons_start s t r None = refl
 crons_start s t r (Some j) = crons_if s j.held (puts_job s (Is.Written t.version) r.name (released t j)) (refuses s)
     refl refl
 
+-- A mark leaves the CronJobs.
+crons_mark : (s : Cluster) (t : Stamp) (r : Ref) (j : Job) → (mark s t r j).cluster.crons ≡ s.crons
+crons_mark s t r j = crons_if s j.deleting (says s Is.Deleted) (puts_job s Is.Deleted r.name (marked t j)) refl refl
+
 -- The deletion of a Job that stands leaves the CronJobs.
 crons_delete : (s : Cluster) (t : Stamp) (r : Ref) (j : Job) → (delete s t r j).cluster.crons ≡ s.crons
-crons_delete s t r j = crons_if s j.pinned
-    (puts_job s Is.Deleted r.name (record j { version = t.version; deleting = true }))
-    (record { answer = Is.Deleted; cluster = record s { jobs = without r.name s.jobs } }) refl refl
+crons_delete s t r j = crons_if s j.pinned (mark s t r j)
+    (record { answer = Is.Deleted; cluster = record s { jobs = without r.name s.jobs } }) (crons_mark s t r j) refl
 
 -- A DELETE by uid leaves the CronJobs.
 pub crons_delete_where : (s : Cluster) (t : Stamp) (r : Ref) (o : Option Job)
@@ -289,31 +298,33 @@ crons_expire s t r v (Some j) = crons_if s (is_same j.version v) (delete s t r j
 
 -- ---- a start
 
--- For start_kept: the policy of a found Job's claim is the Job's.
-pub claim_policy : {h : List Told} → Inv h → (x : Held) → HeldFact h x → (k : Claimed) → claim_of h x.job ≡ Some k
-    → x.found.policy ≡ k.policy
-claim_policy {h} f x a k is =
+-- The policy of the claim of a Job of the CronJob is the Job's.
+pub claim_policy : {me : List ℕ} {h : List Told} → Inv me h → (w : List ℕ) (x : Held) → HeldFact h w x → w ≡ me
+    → (k : Claimed) → claim_of h x.job ≡ Some k → x.found.policy ≡ k.policy
+claim_policy f w x a m k is =
     let c = f.claims x.job k is in
-    ((f.jobs x.job.name x.found a.was).alike c.job c.was (c.uid ∙ sym a.uid)).policy ∙ c.policy
+    ((f.jobs x.job.name x.found a.was).alike c.job c.was (c.uid ∙ sym a.uid) (a.owner ∙ m)).policy ∙ c.policy
 
--- For start_kept: a sync that may start a Job knows that all else that was claimed is leaving.
-may_start : {h : List Told} → Inv h → (at : At) (x : Held) → StartingFact h at x [] → IsStarting h x.job
-    → StartFact h x.job
-may_start {h} f at x a s =
-    let k = a.at_fact.claimed x.job (inl refl) in
+-- For start_fact: a sync that may start a Job knows that all else that was claimed is leaving.
+may_start : {me : List ℕ} {h : List Told} → Inv me h → (at : At) (x : Held) → Commits me h at x []
+    → at.cron.uid ≡ me → IsStarting h x.job → StartFact me h x.job
+may_start {me} {h} f at x a q s =
+    let k = (a.its q).at_fact.claimed x.job (inl refl) in
     record {
       starts_it = s;
       claim = k.claim;
       is = k.is;
-      leaves = λ p r m is o l. leaves r m is l (a.drops (claim_policy f x a.held_fact k.claim k.is ∙ p) r m is
-          (o ∙ k.owner)
+      owner = k.owner ∙ q;
+      leaves = λ p r m is o l. leaves r m is l ((a.its q).drops
+          (claim_policy f at.cron.uid x a.held_fact q k.claim k.is ∙ p) r m is (o ∙ k.owner)
           (let z = k.time in omega arith));
     }
   where
-    leaves : (r : Ref) (m : Claimed) → claim_of h r ≡ Some m → m.time < (a.at_fact.claimed x.job (inl refl)).claim.time
+    leaves : (r : Ref) (m : Claimed) → claim_of h r ≡ Some m
+        → m.time < ((a.its q).at_fact.claimed x.job (inl refl)).claim.time
         → (r ≡ x.job) ⊎ (IsIn r [] ⊎ Leaving h r) → Leaving h r
     leaves r m is l (inl e) =
-        let k = a.at_fact.claimed x.job (inl refl) in
+        let k = (a.its q).at_fact.claimed x.job (inl refl) in
         let b : claim_of h x.job ≡ Some m = subst (λ (z : Ref). claim_of h z ≡ Some m) e is in
         let same : m ≡ k.claim = cc (sym b ∙ k.is) in
         let time : m.time ≡ k.claim.time = ap (λ (z : Claimed). z.time) same in
@@ -321,62 +332,83 @@ may_start {h} f at x a s =
     leaves r m is l (inr (inl n)) = absurd n
     leaves r m is l (inr (inr d)) = d
 
--- What a sync knows of a Job that it may start, and that waits.
-start_fact : {h : List Told} → Inv h → (s : Sync) → SyncFact h s → (r : Ref) → May s (Of.Start r) → IsStarting h r
-    → StartFact h r
-start_fact f Fresh a r m s = absurd m
-start_fact f (Looking at [] held) a r m s = absurd m
-start_fact f (Looking at (x ∷ rs) held) a r m s = absurd m
-start_fact f (Ready at) a r m s = absurd m
-start_fact f (Holding at x) a r m s = absurd m
-start_fact {h} f (Starting at x []) a r m s =
-    subst (StartFact h) (sym m) (may_start f at x a (subst (IsStarting h) m s))
-start_fact f (Starting at x (d ∷ ds)) a r m s = absurd m
-start_fact f (Tidying at [] fs) a r m s = absurd m
-start_fact f (Tidying at (x ∷ gs) fs) a r m s = absurd m
-start_fact f Gone a r m s = absurd m
-start_fact f Over a r m s = absurd m
+-- Whose the held Job of a sync was.
+pub held_owned : (h : List Told) (w : List ℕ) (x : Held) → HeldFact h w x → Owned h w x.job
+held_owned h w x a = record { job = x.found; was = a.was; uid = a.uid; owner = a.owner }
 
--- A start is of the Job that it names.
-start_of : (h : List Told) (y : ℕ) (x r : Ref) (reached : Bool) (a : Answer)
-    → starts (state_of h) (Asked y (Of.Start x) reached a) r ≡ true → x ≡ r
-start_of h y x r true a e = ref_true x r (both_true (is_ref x r) _ e).0
-start_of h y x r false a e = absurd (cc e)
+-- What a sync knows of a Job of the CronJob that it may start, and that waits.
+start_fact : {me : List ℕ} {h : List Told} → Inv me h → (s : Sync) → SyncFact me h s → (r : Ref) → May s (Of.Start r)
+    → IsStarting h r → Owned h me r → StartFact me h r
+start_fact f Fresh a r m s o = absurd m
+start_fact f (Looking at [] held) a r m s o = absurd m
+start_fact f (Looking at (x ∷ rs) held) a r m s o = absurd m
+start_fact f (Ready at) a r m s o = absurd m
+start_fact f (Holding at x) a r m s o = absurd m
+start_fact {me} {h} f (Starting at x []) a r m s o =
+    let q = owned_one f x.job at.cron.uid (held_owned h at.cron.uid x a.held_fact) (subst (Owned h me) m o) in
+    subst (StartFact me h) (sym m) (may_start f at x a q (subst (IsStarting h) m s))
+start_fact f (Starting at x (d ∷ ds)) a r m s o = absurd m
+start_fact f (Tidying at gs fs) a r m s o = absurd m
+start_fact f Gone a r m s o = absurd m
+start_fact f Over a r m s o = absurd m
 
--- A start keeps all facts.
-start_kept : (h : List Told) (t : Stamp) (y : ℕ) (x : Ref) (reached : Bool) (a : Answer) → Inv h → IsFresh h t
-    → May (seen_of (own y h)) (Of.Start x) → IsAnswer h t (Of.Start x) reached a
-    → Kept h t (Asked y (Of.Start x) reached a)
-start_kept h t y x reached a f fresh m k =
-    asked_kept h t y (Of.Start x) reached a f fresh m k (none reached)
-    (crons_start (state_of h) t x (look (state_of h).jobs x))
-    (λ r e. subst (StartFact h) (start_of h y x r reached a e) (start_fact f (seen_of (own y h)) (f.syncs y) x m
-    (subst (IsStarting h) (sym (start_of h y x r reached a e)) (starting h (Asked y (Of.Start x) reached a) r e))))
+-- A sync makes no Job but a held one.
+made_held : (s : Sync) (call : Call) → May s call → MadeHeld call
+made_held s (Of.Create n j) m = by_state s m
   where
-    none : (b : Bool) (r : Ref) → claims (state_of h) (Asked y (Of.Start x) b a) r ≡ None
-    none true r = refl
-    none false r = refl
+    by_state : (s : Sync) → May s (Of.Create n j) → j.held ≡ true
+    by_state Fresh m = absurd m
+    by_state (Looking at [] held) m = absurd m
+    by_state (Looking at (x ∷ rs) held) m = absurd m
+    by_state (Ready at) m = m.held
+    by_state (Holding at x) m = m.held
+    by_state (Starting at x []) m = absurd m
+    by_state (Starting at x (d ∷ ds)) m = absurd m
+    by_state (Tidying at gs fs) m = absurd m
+    by_state Gone m = absurd m
+    by_state Over m = absurd m
+made_held s call m = tt
+
+-- What a sync's call starts it may start.
+any_start : {me : List ℕ} (h : List Told) (t : Stamp) (y : ℕ) (call : Call) (reached : Bool) (a : Answer) → Inv me h
+    → May (seen_of (own y h)) call → StartsRest me h t (Asked y call reached a)
+any_start h t y call reached a f m r e =
+    let k = call_starts h t y call reached a (made_held (seen_of (own y h)) call m) r e in
+    start_fact f (seen_of (own y h)) (f.syncs y) r (subst (May (seen_of (own y h))) k.0 m) k.1
+
+-- A call of a sync that neither claims nor writes a CronJob keeps all facts.
+asked_kept : {me : List ℕ} (h : List Told) (t : Stamp) (y : ℕ) (call : Call) (reached : Bool) (a : Answer) → Inv me h
+    → IsFresh h t
+    → May (seen_of (own y h)) call → IsAnswer h t call reached a → ClaimsNone h (Asked y call reached a)
+    → LeavesCrons h t call → Kept me h t (Asked y call reached a)
+asked_kept {me} h t y call reached a f fresh m k none e =
+    plain_kept h t (Asked y call reached a) f fresh tt (made_held (seen_of (own y h)) call m) none []
+    (crons_same h t y call reached a e) (any_start h t y call reached a f m)
+    (λ w. asked_syncs h t y call reached a f w
+    (next_fact me h t y (seen_of (own y h)) fresh f (f.syncs y) call m reached a k w))
 
 -- ---- a status without its dead
 
 -- For tidy_cronic: the CronJob that stands is the one that the sync knows.
-tidy_fact : (h : List Told) (t : Stamp) (w : Tidy) (at : At) → Inv h → AtFact h at [] → MayTidy at w → (c : Cron)
-    → cron_at h w.name ≡ Some c → takes w.uid w.version c ≡ true → Rewritten h t w.name w.name (tidied t w c)
-tidy_fact h t w at f a m c is ok =
+tidy_fact : {me : List ℕ} (h : List Told) (t : Stamp) (w : Tidy) (at : At) → Inv me h → Readies me h at → MayTidy at w
+    → (c : Cron) → cron_at h w.name ≡ Some c → takes w.uid w.version c ≡ true
+    → Rewritten me h t w.name w.name (tidied t w c)
+tidy_fact {me} h t w at f a m c is ok =
     let z = both_true (is_same c.uid w.uid) (is_same c.version w.version) ok in
     let here : cron_at h at.name ≡ Some c = subst (λ (q : List ℕ). cron_at h q ≡ Some c) m.name is in
-    let same : c ≡ at.cron = same_read f at [] a c here (same_true c.version w.version z.1 ∙ m.version) in
+    let same : c ≡ at.cron = same_read f at a.base c here (same_true c.version w.version z.1 ∙ m.version) in
     let stands : cron_at h w.name ≡ Some at.cron = subst (λ (q : Cron). cron_at h w.name ≡ Some q) same is in
-    let now = f.now w.name at.cron stands in
-    subst (λ (q : Cron). Rewritten h t w.name w.name (tidied t w q)) (sym same) (record {
+    subst (λ (q : Cron). Rewritten me h t w.name w.name (tidied t w q)) (sym same) (record {
       name = refl;
       version = refl;
-      uid = inr (at.cron, stands, refl, omega arith);
-      named = λ r k i o l. subst (λ (q : List Ref). IsIn r q ⊎ Dead h r) (sym m.active)
-          (by_place r (a.known r k i o l));
-      claimed = λ r i. let k = a.alive r (subst (λ (q : List Ref). IsIn r q) m.active i) in
-          record { claim = k.claim; is = k.is; owner = k.owner; time = k.time };
-      claims = now.claims;
+      uid = inr (at.cron, stands, refl, λ o. omega arith);
+      its = λ o. let b = a.its o in record {
+        named = λ r k i q l. subst (λ (p : List Ref). IsIn r p ⊎ Dead h r) (sym m.active)
+            (by_place r (b.known r k i q l));
+        claimed = λ r i. let k = b.alive r (subst (λ (p : List Ref). IsIn r p) m.active i) in
+            record { claim = k.claim; is = k.is; owner = k.owner; time = k.time };
+        claims = (f.now w.name at.cron stands o).claims;
+      };
     })
   where
     by_place : (r : Ref) → IsIn r [] ⊎ (IsIn r at.alive ⊎ Dead h r) → IsIn r at.alive ⊎ Dead h r
@@ -384,59 +416,59 @@ tidy_fact h t w at f a m c is ok =
     by_place r (inr k) = k
 
 -- The CronJobs after a status without its dead, by what stood.
-tidy_cronic : (h : List Told) (t : Stamp) (w : Tidy) (at : At) (o : Option Cron) → Inv h → AtFact h at [] → MayTidy at w
+tidy_cronic : {me : List ℕ} (h : List Told) (t : Stamp) (w : Tidy) (at : At) (o : Option Cron) → Inv me h
+    → Readies me h at → MayTidy at w
     → cron_at h w.name ≡ o → (n : List ℕ) (c : Cron) → find n (tidy (state_of h) t w o).cluster.crons ≡ Some c
-    → Cronic h t w.name n c
+    → Cronic me h t w.name n c
 tidy_cronic h t w at None f a m e n c is = inl is
-tidy_cronic h t w at (Some b) f a m e n c is = by_test (takes w.uid w.version b) refl is
+tidy_cronic {me} h t w at (Some b) f a m e n c is = by_test (takes w.uid w.version b) refl is
   where
     by_test : (q : Bool) → takes w.uid w.version b ≡ q
         → find n (if q then puts_cron (state_of h) (Is.Written t.version) w.name (tidied t w b) else refuses
         (state_of h)).cluster.crons ≡ Some c
-        → Cronic h t w.name n c
+        → Cronic me h t w.name n c
     by_test true k g = crons_put h t w.name (tidied t w b) (tidy_fact h t w at f a m b e k) n c g
     by_test false k g = inl g
 
 -- The CronJobs after such a status, whether it reached the server or not.
-tidy_crons : (h : List Told) (t : Stamp) (y : ℕ) (w : Tidy) (reached : Bool) (a : Answer) → Inv h → (at : At)
-    → AtFact h at [] → MayTidy at w → (n : List ℕ) (c : Cron)
-    → cron_at (next h t (Asked y (Of.Tidy w) reached a)) n ≡ Some c → Cronic h t w.name n c
+tidy_crons : {me : List ℕ} (h : List Told) (t : Stamp) (y : ℕ) (w : Tidy) (reached : Bool) (a : Answer) → Inv me h
+    → (at : At)
+    → Readies me h at → MayTidy at w → (n : List ℕ) (c : Cron)
+    → cron_at (next h t (Asked y (Of.Tidy w) reached a)) n ≡ Some c → Cronic me h t w.name n c
 tidy_crons h t y w true a f at k m n c is = tidy_cronic h t w at (cron_at h w.name) f k m refl n c is
 tidy_crons h t y w false a f at k m n c is = inl is
 
 -- Of a sync that may tidy.
-tidy_by : (h : List Told) (t : Stamp) (y : ℕ) (w : Tidy) (reached : Bool) (a : Answer) → Inv h → (s : Sync)
-    → SyncFact h s → May s (Of.Tidy w) → (n : List ℕ) (c : Cron)
-    → cron_at (next h t (Asked y (Of.Tidy w) reached a)) n ≡ Some c → Cronic h t w.name n c
+tidy_by : {me : List ℕ} (h : List Told) (t : Stamp) (y : ℕ) (w : Tidy) (reached : Bool) (a : Answer) → Inv me h
+    → (s : Sync)
+    → SyncFact me h s → May s (Of.Tidy w) → (n : List ℕ) (c : Cron)
+    → cron_at (next h t (Asked y (Of.Tidy w) reached a)) n ≡ Some c → Cronic me h t w.name n c
 tidy_by h t y w reached a f Fresh k m = absurd m
 tidy_by h t y w reached a f (Looking at [] held) k m = absurd m
 tidy_by h t y w reached a f (Looking at (x ∷ rs) held) k m = absurd m
 tidy_by h t y w reached a f (Ready at) k m = tidy_crons h t y w reached a f at k m
-tidy_by h t y w reached a f (Holding at x) k m = absurd m
+tidy_by h t y w reached a f (Holding at x) k m =
+    tidy_crons h t y w reached a f at (record { base = k.base; its = k.its }) m
 tidy_by h t y w reached a f (Starting at x []) k m = absurd m
 tidy_by h t y w reached a f (Starting at x (d ∷ ds)) k m = absurd m
-tidy_by h t y w reached a f (Tidying at [] fs) k m = absurd m
-tidy_by h t y w reached a f (Tidying at (x ∷ gs) fs) k m = absurd m
+tidy_by h t y w reached a f (Tidying at gs fs) k m = absurd m
 tidy_by h t y w reached a f Gone k m = absurd m
 tidy_by h t y w reached a f Over k m = absurd m
 
 -- A status without its dead keeps all facts.
-tidy_kept : (h : List Told) (t : Stamp) (y : ℕ) (w : Tidy) (reached : Bool) (a : Answer) → Inv h → IsFresh h t
+tidy_kept : {me : List ℕ} (h : List Told) (t : Stamp) (y : ℕ) (w : Tidy) (reached : Bool) (a : Answer) → Inv me h
+    → IsFresh h t
     → May (seen_of (own y h)) (Of.Tidy w) → IsAnswer h t (Of.Tidy w) reached a
-    → Kept h t (Asked y (Of.Tidy w) reached a)
-tidy_kept h t y w reached a f fresh m k =
-    plain_kept h t (Asked y (Of.Tidy w) reached a) f fresh tt (none reached) w.name
-    (tidy_by h t y w reached a f (seen_of (own y h)) (f.syncs y) m) (starts_none reached)
+    → Kept me h t (Asked y (Of.Tidy w) reached a)
+tidy_kept {me} h t y w reached a f fresh m k =
+    plain_kept h t (Asked y (Of.Tidy w) reached a) f fresh tt tt (none reached) w.name
+    (tidy_by h t y w reached a f (seen_of (own y h)) (f.syncs y) m) (any_start h t y (Of.Tidy w) reached a f m)
     (λ g. asked_syncs h t y (Of.Tidy w) reached a f g
-    (next_fact h t y (seen_of (own y h)) fresh f (f.syncs y) (Of.Tidy w) m reached a k g))
+    (next_fact me h t y (seen_of (own y h)) fresh f (f.syncs y) (Of.Tidy w) m reached a k g))
   where
     none : (b : Bool) (r : Ref) → claims (state_of h) (Asked y (Of.Tidy w) b a) r ≡ None
     none true r = refl
     none false r = refl
-
-    starts_none : (b : Bool) (r : Ref) → starts (state_of h) (Asked y (Of.Tidy w) b a) r ≡ true → StartFact h r
-    starts_none true r e = absurd (cc e)
-    starts_none false r e = absurd (cc e)
 
 -- ---- a claim
 
@@ -450,25 +482,23 @@ not_taken w r o e = by_test (is_ref w.job r)
     by_test false = refl
 
 -- A claim that isn't taken keeps all facts.
-refused_kept : (h : List Told) (t : Stamp) (y : ℕ) (w : Claim) (reached : Bool) (a : Answer) → Inv h → IsFresh h t
+refused_kept : {me : List ℕ} (h : List Told) (t : Stamp) (y : ℕ) (w : Claim) (reached : Bool) (a : Answer) → Inv me h
+    → IsFresh h t
     → May (seen_of (own y h)) (Of.Claim w) → IsAnswer h t (Of.Claim w) reached a
     → ClaimsNone h (Asked y (Of.Claim w) reached a) → ((n : List ℕ) (c : Cron)
-    → cron_at (next h t (Asked y (Of.Claim w) reached a)) n ≡ Some c → Cronic h t [] n c)
-    → Kept h t (Asked y (Of.Claim w) reached a)
-refused_kept h t y w reached a f fresh m k none crons =
-    plain_kept h t (Asked y (Of.Claim w) reached a) f fresh tt none [] crons (starts_none reached)
+    → cron_at (next h t (Asked y (Of.Claim w) reached a)) n ≡ Some c → Cronic me h t [] n c)
+    → Kept me h t (Asked y (Of.Claim w) reached a)
+refused_kept {me} h t y w reached a f fresh m k none crons =
+    plain_kept h t (Asked y (Of.Claim w) reached a) f fresh tt tt none [] crons
+    (any_start h t y (Of.Claim w) reached a f m)
     (λ g. asked_syncs h t y (Of.Claim w) reached a f g
-    (next_fact h t y (seen_of (own y h)) fresh f (f.syncs y) (Of.Claim w) m reached a k g))
-  where
-    starts_none : (b : Bool) (r : Ref) → starts (state_of h) (Asked y (Of.Claim w) b a) r ≡ true → StartFact h r
-    starts_none true r e = absurd (cc e)
-    starts_none false r e = absurd (cc e)
+    (next_fact me h t y (seen_of (own y h)) fresh f (f.syncs y) (Of.Claim w) m reached a k g))
 
 -- A claim that is taken keeps all facts.
-taken_kept : (h : List Told) (t : Stamp) (y : ℕ) (w : Claim) (a : Answer) → Inv h → IsFresh h t
+taken_kept : {me : List ℕ} (h : List Told) (t : Stamp) (y : ℕ) (w : Claim) (a : Answer) → Inv me h → IsFresh h t
     → May (seen_of (own y h)) (Of.Claim w) → IsAnswer h t (Of.Claim w) true a → (at : At) (x : Held)
-    → Accepted h at x w → Kept h t (Asked y (Of.Claim w) true a)
-taken_kept h t y w a f fresh m k at x c =
+    → Accepted me h at x w → Kept me h t (Asked y (Of.Claim w) true a)
+taken_kept {me} h t y w a f fresh m k at x c =
     let g = claim_grows f c t y a fresh in
     record {
       change = record {
@@ -477,23 +507,23 @@ taken_kept h t y w a f fresh m k at x c =
         crons = claim_crons f c t y a fresh;
         it = w.job;
         claims = claim_claims f c t y a fresh;
-        starts = λ r e. let b = f.started r e in
-            (b.0, claim_stays (claim_of h r) (claims (state_of h) (Asked y (Of.Claim w) true a) r) b.0 b.1);
+        starts = plain_starts h t (Asked y (Of.Claim w) true a) f g (any_start h t y (Of.Claim w) true a f m);
         syncs = asked_syncs h t y (Of.Claim w) true a f g
-            (next_fact h t y (seen_of (own y h)) fresh f (f.syncs y) (Of.Claim w) m true a k g);
+            (next_fact me h t y (seen_of (own y h)) fresh f (f.syncs y) (Of.Claim w) m true a k g);
       };
       rests = record {
-        starts_fact = λ r e. absurd (cc e);
-        claims_fact = λ r b e. fact r b (claims_it c y a r b e);
+        starts_fact = any_start h t y (Of.Claim w) true a f m;
+        claims_fact = λ r b e o. fact r b o (claims_it c y a r b e);
       };
     }
   where
-    fact : (r : Ref) (b : Claimed) → (r ≡ w.job) × (b ≡ record_of at w) → ClaimsFact h r b
-    fact r b e =
+    fact : (r : Ref) (b : Claimed) → b.owner ≡ me → (r ≡ w.job) × (b ≡ record_of at w) → ClaimsFact h r b
+    fact r b o e =
+        let mine : at.cron.uid ≡ me = ap (λ (z : Claimed). z.owner) (sym e.1) ∙ o in
         let m = subst (λ (z : Ref). ClaimsFact h z (record_of at w)) (sym e.0) (record {
-          first = unclaimed f c;
-          rises = λ z q is o.
-              let low = (f.now w.name at.cron c.stands).claims z q is o in
+          first = unclaimed f c mine;
+          rises = λ z q is own.
+              let low = (f.now w.name at.cron c.stands mine).claims z q is own in
               let high = c.fact.for_fact.time in
               let same = c.may.time in
               omega arith;
@@ -501,15 +531,15 @@ taken_kept h t y w a f fresh m k at x c =
         subst (ClaimsFact h r) (sym e.1) m
 
 -- A claim keeps all facts, whether its condition is met or not.
-claim_by_test : (h : List Told) (t : Stamp) (y : ℕ) (w : Claim) (a : Answer) → Inv h → IsFresh h t
+claim_by_test : {me : List ℕ} (h : List Told) (t : Stamp) (y : ℕ) (w : Claim) (a : Answer) → Inv me h → IsFresh h t
     → May (seen_of (own y h)) (Of.Claim w) → IsAnswer h t (Of.Claim w) true a → (at : At) (x : Held)
-    → HoldingFact h at x → MayClaim at x w → (c : Cron) → cron_at h w.name ≡ Some c → (b : Bool)
-    → takes w.uid w.version c ≡ b → Kept h t (Asked y (Of.Claim w) true a)
-claim_by_test h t y w a f fresh m k at x l may c e true b =
+    → Holds me h at x → MayClaim at x w → (c : Cron) → cron_at h w.name ≡ Some c → (b : Bool)
+    → takes w.uid w.version c ≡ b → Kept me h t (Asked y (Of.Claim w) true a)
+claim_by_test {me} h t y w a f fresh m k at x l may c e true b =
     let z = both_true (is_same c.uid w.uid) (is_same c.version w.version) b in
     taken_kept h t y w a f fresh m k at x (accepted_by f at x w l may c e (same_true c.uid w.uid z.0)
     (same_true c.version w.version z.1))
-claim_by_test h t y w a f fresh m k at x l may c e false b =
+claim_by_test {me} h t y w a f fresh m k at x l may c e false b =
     let none : claim_in w (cron_at h w.name) ≡ None = ap (λ (o : Option Cron). claim_in w o) e
     ∙ ap (λ (q : Bool). if q then Some (record { owner = c.uid; time = w.time; policy = c.policy }) else None) b in
     let same : (claim (state_of h) t w (cron_at h w.name)).cluster.crons ≡ (state_of h).crons =
@@ -520,81 +550,80 @@ claim_by_test h t y w a f fresh m k at x l may c e false b =
     (crons_same h t y (Of.Claim w) true a same)
 
 -- A claim that reaches the server keeps all facts, whether the CronJob stands or not.
-claim_reached : (h : List Told) (t : Stamp) (y : ℕ) (w : Claim) (a : Answer) → Inv h → IsFresh h t
+claim_reached : {me : List ℕ} (h : List Told) (t : Stamp) (y : ℕ) (w : Claim) (a : Answer) → Inv me h → IsFresh h t
     → May (seen_of (own y h)) (Of.Claim w) → IsAnswer h t (Of.Claim w) true a → (at : At) (x : Held)
-    → HoldingFact h at x → MayClaim at x w → (o : Option Cron) → cron_at h w.name ≡ o
-    → Kept h t (Asked y (Of.Claim w) true a)
-claim_reached h t y w a f fresh m k at x l may None e =
+    → Holds me h at x → MayClaim at x w → (o : Option Cron) → cron_at h w.name ≡ o
+    → Kept me h t (Asked y (Of.Claim w) true a)
+claim_reached {me} h t y w a f fresh m k at x l may None e =
     refused_kept h t y w true a f fresh m k
     (λ r. not_taken w r (cron_at h w.name) (ap (λ (o : Option Cron). claim_in w o) e))
     (crons_same h t y (Of.Claim w) true a (ap (λ (o : Option Cron). (claim (state_of h) t w o).cluster.crons) e))
-claim_reached h t y w a f fresh m k at x l may (Some c) e =
+claim_reached {me} h t y w a f fresh m k at x l may (Some c) e =
     claim_by_test h t y w a f fresh m k at x l may c e (takes w.uid w.version c) refl
 
 -- what is known of a sync that may claim
-pub record Claiming (h : List Told) (w : Claim) : Type 0 where
+pub record Claiming (me : List ℕ) (h : List Told) (w : Claim) : Type 0 where
   pub at : At
   pub x : Held
-  pub fact : HoldingFact h at x
+  pub fact : Holds me h at x
   pub may : MayClaim at x w
 
 -- A sync that may claim holds a Job for it.
-claiming : (h : List Told) (w : Claim) (s : Sync) → SyncFact h s → May s (Of.Claim w) → Claiming h w
-claiming h w Fresh k m = absurd m
-claiming h w (Looking at [] held) k m = absurd m
-claiming h w (Looking at (x ∷ rs) held) k m = absurd m
-claiming h w (Ready at) k m = absurd m
-claiming h w (Holding at x) k m = record { at = at; x = x; fact = k; may = m }
-claiming h w (Starting at x []) k m = absurd m
-claiming h w (Starting at x (d ∷ ds)) k m = absurd m
-claiming h w (Tidying at [] fs) k m = absurd m
-claiming h w (Tidying at (x ∷ gs) fs) k m = absurd m
-claiming h w Gone k m = absurd m
-claiming h w Over k m = absurd m
+claiming : (me : List ℕ) (h : List Told) (w : Claim) (s : Sync) → SyncFact me h s → May s (Of.Claim w) → Claiming me h w
+claiming me h w Fresh k m = absurd m
+claiming me h w (Looking at [] held) k m = absurd m
+claiming me h w (Looking at (x ∷ rs) held) k m = absurd m
+claiming me h w (Ready at) k m = absurd m
+claiming me h w (Holding at x) k m = record { at = at; x = x; fact = k; may = m }
+claiming me h w (Starting at x []) k m = absurd m
+claiming me h w (Starting at x (d ∷ ds)) k m = absurd m
+claiming me h w (Tidying at gs fs) k m = absurd m
+claiming me h w Gone k m = absurd m
+claiming me h w Over k m = absurd m
 
 -- A claim keeps all facts.
-claim_kept : (h : List Told) (t : Stamp) (y : ℕ) (w : Claim) (reached : Bool) (a : Answer) → Inv h → IsFresh h t
+claim_kept : {me : List ℕ} (h : List Told) (t : Stamp) (y : ℕ) (w : Claim) (reached : Bool) (a : Answer) → Inv me h
+    → IsFresh h t
     → May (seen_of (own y h)) (Of.Claim w) → IsAnswer h t (Of.Claim w) reached a
-    → Kept h t (Asked y (Of.Claim w) reached a)
-claim_kept h t y w true a f fresh m k =
-    let c = claiming h w (seen_of (own y h)) (f.syncs y) m in
+    → Kept me h t (Asked y (Of.Claim w) reached a)
+claim_kept {me} h t y w true a f fresh m k =
+    let c = claiming me h w (seen_of (own y h)) (f.syncs y) m in
     claim_reached h t y w a f fresh m k c.at c.x c.fact c.may (cron_at h w.name) refl
 claim_kept h t y w false a f fresh m k =
     refused_kept h t y w false a f fresh m k (λ r. refl) (λ n c at. inl at)
 
 -- ---- any call
 
--- For call_kept: a call that neither claims, nor starts, nor writes a CronJob.
-quiet_kept : (h : List Told) (t : Stamp) (y : ℕ) (call : Call) (reached : Bool) (a : Answer) → Inv h → IsFresh h t
+-- For call_kept: a call that neither claims nor writes a CronJob.
+quiet_kept : {me : List ℕ} (h : List Told) (t : Stamp) (y : ℕ) (call : Call) (reached : Bool) (a : Answer) → Inv me h
+    → IsFresh h t
     → May (seen_of (own y h)) call → IsAnswer h t call reached a
     → ((b : Bool) (r : Ref) → claims (state_of h) (Asked y call b a) r ≡ None)
-    → ((b : Bool) (r : Ref) → starts (state_of h) (Asked y call b a) r ≡ false)
-    → LeavesCrons h t call → Kept h t (Asked y call reached a)
-quiet_kept h t y call reached a f fresh m k none s e =
-    asked_kept h t y call reached a f fresh m k (none reached) e (λ r b. absurd (cc (s reached r, b)))
+    → LeavesCrons h t call → Kept me h t (Asked y call reached a)
+quiet_kept {me} h t y call reached a f fresh m k none e = asked_kept h t y call reached a f fresh m k (none reached) e
 
 -- A call of a sync that follows the protocol keeps all facts.
-pub call_kept : (h : List Told) (t : Stamp) (y : ℕ) (call : Call) (reached : Bool) (a : Answer) → Inv h → IsFresh h t
-    → May (seen_of (own y h)) call → IsAnswer h t call reached a → Kept h t (Asked y call reached a)
+pub call_kept : {me : List ℕ} (h : List Told) (t : Stamp) (y : ℕ) (call : Call) (reached : Bool) (a : Answer)
+    → Inv me h → IsFresh h t
+    → May (seen_of (own y h)) call → IsAnswer h t call reached a → Kept me h t (Asked y call reached a)
 call_kept h t y (Of.GetCron n) reached a f fresh m k = quiet_kept h t y (Of.GetCron n) reached a f fresh m k
-    (λ b. elim b [ true ↦ λ q. refl | false ↦ λ q. refl ]) (λ b. elim b [ true ↦ λ q. refl | false ↦ λ q. refl ]) refl
+    (λ b. elim b [ true ↦ λ q. refl | false ↦ λ q. refl ]) refl
 call_kept h t y (Of.CacheCron n) reached a f fresh m k = quiet_kept h t y (Of.CacheCron n) reached a f fresh m k
-    (λ b. elim b [ true ↦ λ q. refl | false ↦ λ q. refl ]) (λ b. elim b [ true ↦ λ q. refl | false ↦ λ q. refl ]) refl
+    (λ b. elim b [ true ↦ λ q. refl | false ↦ λ q. refl ]) refl
 call_kept h t y (Of.GetJob n) reached a f fresh m k = quiet_kept h t y (Of.GetJob n) reached a f fresh m k
-    (λ b. elim b [ true ↦ λ q. refl | false ↦ λ q. refl ]) (λ b. elim b [ true ↦ λ q. refl | false ↦ λ q. refl ]) refl
+    (λ b. elim b [ true ↦ λ q. refl | false ↦ λ q. refl ]) refl
 call_kept h t y (Of.CacheJob n) reached a f fresh m k = quiet_kept h t y (Of.CacheJob n) reached a f fresh m k
-    (λ b. elim b [ true ↦ λ q. refl | false ↦ λ q. refl ]) (λ b. elim b [ true ↦ λ q. refl | false ↦ λ q. refl ]) refl
+    (λ b. elim b [ true ↦ λ q. refl | false ↦ λ q. refl ]) refl
 call_kept h t y Of.ListJobs reached a f fresh m k = quiet_kept h t y Of.ListJobs reached a f fresh m k
-    (λ b. elim b [ true ↦ λ q. refl | false ↦ λ q. refl ]) (λ b. elim b [ true ↦ λ q. refl | false ↦ λ q. refl ]) refl
+    (λ b. elim b [ true ↦ λ q. refl | false ↦ λ q. refl ]) refl
 call_kept h t y (Of.Create n j) reached a f fresh m k = quiet_kept h t y (Of.Create n j) reached a f fresh m k
-    (λ b. elim b [ true ↦ λ q. refl | false ↦ λ q. refl ]) (λ b. elim b [ true ↦ λ q. refl | false ↦ λ q. refl ])
-    (crons_create (state_of h) t n j (job_at h n))
+    (λ b. elim b [ true ↦ λ q. refl | false ↦ λ q. refl ]) (crons_create (state_of h) t n j (job_at h n))
 call_kept h t y (Of.Delete r) reached a f fresh m k = quiet_kept h t y (Of.Delete r) reached a f fresh m k
-    (λ b. elim b [ true ↦ λ q. refl | false ↦ λ q. refl ]) (λ b. elim b [ true ↦ λ q. refl | false ↦ λ q. refl ])
+    (λ b. elim b [ true ↦ λ q. refl | false ↦ λ q. refl ])
     (crons_delete_where (state_of h) t r (look (state_of h).jobs r))
 call_kept h t y (Of.Expire r v now) reached a f fresh m k = quiet_kept h t y (Of.Expire r v now) reached a f fresh m k
-    (λ b. elim b [ true ↦ λ q. refl | false ↦ λ q. refl ]) (λ b. elim b [ true ↦ λ q. refl | false ↦ λ q. refl ])
-    (crons_expire (state_of h) t r v (look (state_of h).jobs r))
+    (λ b. elim b [ true ↦ λ q. refl | false ↦ λ q. refl ]) (crons_expire (state_of h) t r v (look (state_of h).jobs r))
+call_kept h t y (Of.Start r) reached a f fresh m k = quiet_kept h t y (Of.Start r) reached a f fresh m k
+    (λ b. elim b [ true ↦ λ q. refl | false ↦ λ q. refl ]) (crons_start (state_of h) t r (look (state_of h).jobs r))
 call_kept h t y (Of.Claim w) reached a f fresh m k = claim_kept h t y w reached a f fresh m k
 call_kept h t y (Of.Tidy w) reached a f fresh m k = tidy_kept h t y w reached a f fresh m k
-call_kept h t y (Of.Start r) reached a f fresh m k = start_kept h t y r reached a f fresh m k

@@ -6,7 +6,6 @@ use Rattle.cj_fence.specs.declared.table.Row.{Row}
 use Rattle.cj_fence.specs.declared.refs.Ref.{Ref}
 use Rattle.cj_fence.specs.declared.objects.Cron.{Cron}
 use Rattle.cj_fence.specs.declared.objects.Job.{Job}
-use Rattle.cj_fence.specs.declared.cluster.Cluster.{Cluster}
 use Rattle.cj_fence.specs.declared.call.Call.{Call}
 use Rattle.cj_fence.specs.declared.call.Call.TheVariants as Of
 use Rattle.cj_fence.specs.declared.answer.Answer.{Answer}
@@ -17,21 +16,22 @@ use Rattle.cj_fence.specs.declared.sync.Held.{Held}
 use Rattle.cj_fence.specs.declared.sync.Sync.{Sync}
 use Rattle.cj_fence.specs.declared.sync.Sync.TheVariants.{Fresh, Looking, Ready, Holding, Starting, Tidying, Gone, Over}
 use Rattle.cj_fence.specs.Texts.{is_same}
-use Rattle.cj_fence.specs.Tables.{find, without}
-use Rattle.cj_fence.specs.Objects.{ref_of, is_ref, has_ref, look, waits, is_dead}
-use Rattle.cj_fence.specs.Server.{puts_job, marked, delete_where, served}
-use Rattle.cj_fence.specs.Protocol.{with_alive, go_on, is_held_ref, found_held, found_job, looked, cached, begun, is_ours, lets_hold, adopted, is_garbage, refs_where, from_fresh, from_looking, from_ready, from_holding, from_dropping, from_starting, from_tidying, advanced, MayClear, May, seen_of}
+use Rattle.cj_fence.specs.Tables.{find}
+use Rattle.cj_fence.specs.Objects.{ref_of, is_ref, has_ref, named, without_ref, look, waits, is_dead}
+use Rattle.cj_fence.specs.Server.{served}
+use Rattle.cj_fence.specs.Protocol.{with_alive, drops_of, go_on, was_found, found_held, found_job, is_its, looked, cached, begun, is_ours, lets_hold, adopted, is_garbage, refs_where, has_started, from_fresh, from_looking, from_ready, from_holding, from_dropping, from_starting, from_tidying, advanced, May, seen_of}
 use Rattle.cj_fence.specs.History.{Asked, Told, state_of, Claimed, claim_of, started, own}
 use Rattle.cj_fence.specs.Garbage.{IsGarbage, NeverStarted, IsWhole, IsRemoved, IsCleared}
-use Rattle.cj_fence.proofs.FenceLemmas.Basics.{IsIn, is_false, same_true, same_is, ref_true, look_found, look_is, put_self, without_at}
-use Rattle.cj_fence.proofs.FenceLemmas.Facts.{job_at, cron_at, OldJob, OldCron, OfJob, IsDead, AtFact, SyncFact, Inv}
-use Rattle.cj_fence.proofs.FenceLemmas.Grows.{Grows, job_is_old, cron_is_old, of_job, not_deleting, not_finished, is_held}
+use Rattle.cj_fence.proofs.FenceLemmas.Basics.{IsIn, is_in, left_or, is_false, same_true, same_is, ref_true, look_found}
+use Rattle.cj_fence.proofs.FenceLemmas.Facts.{job_at, cron_at, OldJob, OldCron, OfJob, IsDead, Owned, AtBase, Commits, SyncFact, Inv}
+use Rattle.cj_fence.proofs.FenceLemmas.Grows.{Grows, job_is_old, cron_is_old, old_owner, owned_own, owned_one, of_job, not_deleting, not_finished, is_held}
 use Rattle.cj_fence.proofs.FenceLemmas.Moves.{next}
 use Rattle.cj_fence.proofs.FenceLemmas.Names.{is_picked}
-use Rattle.cj_fence.proofs.FenceLemmas.Nexts.{garbage_row, garbage_says}
-use Rattle.cj_fence.proofs.FenceLemmas.Lost.{Spares, stays, is_in, garbage_dead}
+use Rattle.cj_fence.proofs.FenceLemmas.Nexts.{garbage_row, garbage_says, delete_removes}
+use Rattle.cj_fence.proofs.FenceLemmas.Lost.{Spares, stays, garbage_dead}
 use Rattle.cj_fence.proofs.FenceLemmas.Help.{SinceOf, Since, since_next, reads_now}
 use Rattle.cj_fence.proofs.FenceLemmas.Runs.{Plain, seen_next, run, onward, legal_before, followed_before, kept_before}
+use Rattle.cj_fence.proofs.FenceLemmas.Entries.{held_owned}
 use Rattle.cj_fence.proofs.FenceLemmas.Whole.{always}
 
 -- ---- never started
@@ -46,17 +46,17 @@ pub record Spare (g : List Told) (n : List ℕ) (c : Cron) (x : Row Job) : Type 
 
 module _ (n : List ℕ) (c : Cron) (x : Row Job) where
   -- For spare_first: a claim of it would stand in status.active, or its Job would be dead.
-  not_claimed : (h : List Told) → Inv h → IsGarbage h n c x → (k : Claimed) → claim_of h (ref_of x) ≡ Some k → ⊥
+  not_claimed : (h : List Told) → Inv c.uid h → IsGarbage h n c x → (k : Claimed) → claim_of h (ref_of x) ≡ Some k → ⊥
   not_claimed h f a k is =
       let b = garbage_row h c x (job_is_old h x.name x.object a.job) a.garbage in
-      let d = garbage_dead f n c (cron_is_old h n c a.cron) (ref_of x) b k is in
+      let d = garbage_dead f n c (cron_is_old h n c a.cron) refl (ref_of x) b k is in
       by_dead (d x.object a.job refl)
     where
       by_dead : IsDead h (ref_of x) x.object → ⊥
       by_dead (inl e) = not_finished x.object a.held e
       by_dead (inr e) = not_deleting x.object a.held e.0
 
-  spare_first : (h : List Told) → IsGarbage h n c x → Inv h → Spare h n c x
+  spare_first : (h : List Told) → IsGarbage h n c x → Inv c.uid h → Spare h n c x
   spare_first h a f =
       let b = garbage_says c x a.garbage in
       record {
@@ -72,19 +72,22 @@ module _ (n : List ℕ) (c : Cron) (x : Row Job) where
       by_claim (Some k) e = absurd (not_claimed h f a k e)
 
   -- For spare_next: a claim of it would be of an earlier entry.
-  not_now : (g e : List Told) (t : Stamp) → Grows g e t → Inv e → Spare g n c x → (k : Claimed)
+  not_now : (g e : List Told) (t : Stamp) → Grows c.uid g e t → Inv c.uid e → Spare g n c x → (k : Claimed)
       → claim_of e (ref_of x) ≡ Some k → ⊥
   not_now g e t w f a k is =
       let b = f.claims (ref_of x) k is in
-      let alike = (f.jobs x.name b.job b.was).alike x.object (w.old_job x.name x.object a.job) (sym b.uid) in
-      let owner : k.owner ≡ c.uid = sym b.owner ∙ alike.owner ∙ a.owner in
+      let old = w.old_job x.name x.object a.job in
+      let mine = old_owner f (ref_of x) (record { job = x.object; was = old; uid = refl; owner = a.owner }) b.job b.was
+      b.uid in
+      let alike = (f.jobs x.name b.job b.was).alike x.object old (sym b.uid) mine in
+      let owner : k.owner ≡ c.uid = sym b.owner ∙ mine in
       let same = alike.time in
       let low = a.time in
       let time = b.time in
-      let was = w.older n c (ref_of x) k a.cron is owner (omega arith) in
+      let was = w.older n c (ref_of x) k refl a.cron is owner (omega arith) in
       absurd (cc (a.none, was))
 
-  spare_next : (g e : List Told) (t : Stamp) → Grows g e t → Inv e → Spare g n c x → Spare e n c x
+  spare_next : (g e : List Told) (t : Stamp) → Grows c.uid g e t → Inv c.uid e → Spare g n c x → Spare e n c x
   spare_next g e t w f a = record {
     cron = w.old_cron n c a.cron;
     job = w.old_job x.name x.object a.job;
@@ -97,16 +100,20 @@ module _ (n : List ℕ) (c : Cron) (x : Row Job) where
       by_claim None q = refl
       by_claim (Some k) q = absurd (not_now g e t w f a k q)
 
+  -- It is of the CronJob.
+  pub spare_owned : (g : List Told) → Spare g n c x → Owned g c.uid (ref_of x)
+  spare_owned g a = record { job = x.object; was = a.job; uid = refl; owner = a.owner }
+
   -- A Job that no one claimed wasn't started.
-  spare_unstarted : (g : List Told) → Inv g → Spare g n c x → started g (ref_of x) ≡ false
+  spare_unstarted : (g : List Told) → Inv c.uid g → Spare g n c x → started g (ref_of x) ≡ false
   spare_unstarted g f a = is_false (started g (ref_of x))
-      (λ s. let k = f.started (ref_of x) s in absurd (cc (a.none, k.1)))
+      (λ s. let k = f.started (ref_of x) s (spare_owned g a) in absurd (cc (a.none, k.1)))
 
 -- Garbage is never started.
 pub never : NeverStarted
 never h es n c x l a o g =
-    spare_unstarted n c x (es ++ h) (always (es ++ h) l a o)
-    (onward h (λ z. Spare z n c x) (spare_first n c x h g)
+    spare_unstarted n c x (es ++ h) (always c.uid (es ++ h) l a o)
+    (onward c.uid h (λ z. Spare z n c x) (spare_first n c x h g)
     (λ z t d f w i s. spare_next n c x z (next z t d) t w i s) es l a o)
 
 -- ---- what a sync's call does to it
@@ -116,25 +123,10 @@ abbrev pub Removed : List Told → Ref → Type 0
 Removed g r = OfJob g r (λ j. j.deleting ≡ true)
 
 -- A Job that is gone or being deleted stays so.
-removed_kept : {g e : List Told} {t : Stamp} → Inv g → Grows g e t → (n : List ℕ) (c : Cron) (x : Row Job)
+removed_kept : (n : List ℕ) (c : Cron) (x : Row Job) {g e : List Told} {t : Stamp} → Inv c.uid g → Grows c.uid g e t
     → Spare g n c x → Removed g (ref_of x) → Removed e (ref_of x)
-removed_kept f w n c x a m = of_job w (ref_of x) (f.jobs x.name x.object a.job).gave (λ j. j.deleting ≡ true)
-    (λ j. j.deleting ≡ true) (λ i j at k d. k.deleting d) m
-
--- A Job that was deleted by uid is gone or being deleted.
-delete_removes : (s : Cluster) (t : Stamp) (r : Ref) (o : Option Job) → look s.jobs r ≡ o → (j : Job)
-    → find r.name (delete_where s t r o).cluster.jobs ≡ Some j → j.uid ≡ r.uid → j.deleting ≡ true
-delete_removes s t r None e j at u = absurd (cc (sym e ∙ look_is s.jobs r j at u))
-delete_removes s t r (Some i) e j at u = by_pin i.pinned at
-  where
-    by_pin : (b : Bool)
-        → find r.name (if b then puts_job s Is.Deleted r.name (marked t i) else record
-        { answer = Is.Deleted; cluster = record s { jobs = without r.name s.jobs } }).cluster.jobs
-        ≡ Some j → j.deleting ≡ true
-    by_pin true a =
-        let k : marked t i ≡ j = cc (sym (put_self r.name (marked t i) s.jobs) ∙ a) in
-        ap (λ (z : Job). z.deleting) (sym k)
-    by_pin false a = absurd ((without_at r.name r.name s.jobs j a).0 refl)
+removed_kept n c x {g} f w a m = of_job w (ref_of x) (owned_own f (ref_of x) (spare_owned n c x g a))
+    (λ j. j.deleting ≡ true) (λ j. j.deleting ≡ true) (λ i j at k d. k.deleting d) m
 
 -- After a DELETE by uid its Job is gone or being deleted.
 removed_now : (g : List Told) (t : Stamp) (y : ℕ) (r : Ref) (a : Answer)
@@ -147,48 +139,50 @@ IsTarget (Of.Start z) r = z ≡ r
 IsTarget (Of.Expire z v now) r = z ≡ r
 IsTarget call r = ⊥
 
--- Whatever a sync starts, or deletes for its deadline, was claimed.
-target_claimed : (g : List Told) (s : Sync) → SyncFact g s → (call : Call) → May s call → (r : Ref) → IsTarget call r
-    → (k : Claimed) × (claim_of g r ≡ Some k)
-target_claimed g (Starting at x []) a (Of.Start z) m r e =
-    let b = a.at_fact.claimed x.job (inl refl) in
-    (b.claim, subst (λ (q : Ref). claim_of g q ≡ Some b.claim) (sym m ∙ e) b.is)
-target_claimed g (Starting at x []) a (Of.Expire z v now) m r e =
-    let b = a.at_fact.claimed x.job (inl refl) in
-    (b.claim, subst (λ (q : Ref). claim_of g q ≡ Some b.claim) (sym m.job ∙ e) b.is)
-target_claimed g (Starting at x (d ∷ ds)) a (Of.Expire z v now) m r e =
-    let b = a.at_fact.claimed x.job (inl refl) in
-    (b.claim, subst (λ (q : Ref). claim_of g q ≡ Some b.claim) (sym m.job ∙ e) b.is)
-target_claimed g Fresh a (Of.Start z) m r e = absurd m
-target_claimed g Fresh a (Of.Expire z v now) m r e = absurd m
-target_claimed g (Looking at [] held) a (Of.Start z) m r e = absurd m
-target_claimed g (Looking at [] held) a (Of.Expire z v now) m r e = absurd m
-target_claimed g (Looking at (q ∷ rs) held) a (Of.Start z) m r e = absurd m
-target_claimed g (Looking at (q ∷ rs) held) a (Of.Expire z v now) m r e = absurd m
-target_claimed g (Ready at) a (Of.Start z) m r e = absurd m
-target_claimed g (Ready at) a (Of.Expire z v now) m r e = absurd m
-target_claimed g (Holding at x) a (Of.Start z) m r e = absurd m
-target_claimed g (Holding at x) a (Of.Expire z v now) m r e = absurd m
-target_claimed g (Starting at x (d ∷ ds)) a (Of.Start z) m r e = absurd m
-target_claimed g (Tidying at [] fs) a (Of.Start z) m r e = absurd m
-target_claimed g (Tidying at [] fs) a (Of.Expire z v now) m r e = absurd m
-target_claimed g (Tidying at (q ∷ gs) fs) a (Of.Start z) m r e = absurd m
-target_claimed g (Tidying at (q ∷ gs) fs) a (Of.Expire z v now) m r e = absurd m
-target_claimed g Gone a (Of.Start z) m r e = absurd m
-target_claimed g Gone a (Of.Expire z v now) m r e = absurd m
-target_claimed g Over a (Of.Start z) m r e = absurd m
-target_claimed g Over a (Of.Expire z v now) m r e = absurd m
-target_claimed g s a call m r e = absurd e
+-- For target_claimed: the Job that a sync has to start was claimed, if it is of the CronJob.
+held_claimed : {me : List ℕ} (g : List Told) → Inv me g → (at : At) (x : Held) (ds : List Ref) → Commits me g at x ds
+    → (r : Ref) → x.job ≡ r → Owned g me r → (k : Claimed) × (claim_of g r ≡ Some k)
+held_claimed {me} g f at x ds a r e o =
+    let q = owned_one f x.job at.cron.uid (held_owned g at.cron.uid x a.held_fact) (subst (Owned g me) (sym e) o) in
+    let b = (a.its q).at_fact.claimed x.job (inl refl) in
+    (b.claim, subst (λ (z : Ref). claim_of g z ≡ Some b.claim) e b.is)
+
+-- Whatever of the CronJob a sync starts, or deletes for its deadline, was claimed.
+target_claimed : {me : List ℕ} (g : List Told) → Inv me g → (s : Sync) → SyncFact me g s → (call : Call) → May s call
+    → (r : Ref) → IsTarget call r → Owned g me r → (k : Claimed) × (claim_of g r ≡ Some k)
+target_claimed g f (Starting at x []) a (Of.Start z) m r e o = held_claimed g f at x [] a r (sym m ∙ e) o
+target_claimed g f (Starting at x []) a (Of.Expire z v now) m r e o = held_claimed g f at x [] a r (sym m.job ∙ e) o
+target_claimed g f (Starting at x (d ∷ ds)) a (Of.Expire z v now) m r e o =
+    held_claimed g f at x (d ∷ ds) a r (sym m.job ∙ e) o
+target_claimed g f (Starting at x (d ∷ ds)) a (Of.Start z) m r e o = absurd m
+target_claimed g f Fresh a (Of.Start z) m r e o = absurd m
+target_claimed g f Fresh a (Of.Expire z v now) m r e o = absurd m
+target_claimed g f (Looking at [] held) a (Of.Start z) m r e o = absurd m
+target_claimed g f (Looking at [] held) a (Of.Expire z v now) m r e o = absurd m
+target_claimed g f (Looking at (q ∷ rs) held) a (Of.Start z) m r e o = absurd m
+target_claimed g f (Looking at (q ∷ rs) held) a (Of.Expire z v now) m r e o = absurd m
+target_claimed g f (Ready at) a (Of.Start z) m r e o = absurd m
+target_claimed g f (Ready at) a (Of.Expire z v now) m r e o = absurd m
+target_claimed g f (Holding at x) a (Of.Start z) m r e o = absurd m
+target_claimed g f (Holding at x) a (Of.Expire z v now) m r e o = absurd m
+target_claimed g f (Tidying at gs fs) a (Of.Start z) m r e o = absurd m
+target_claimed g f (Tidying at gs fs) a (Of.Expire z v now) m r e o = absurd m
+target_claimed g f Gone a (Of.Start z) m r e o = absurd m
+target_claimed g f Gone a (Of.Expire z v now) m r e o = absurd m
+target_claimed g f Over a (Of.Start z) m r e o = absurd m
+target_claimed g f Over a (Of.Expire z v now) m r e o = absurd m
+target_claimed g f s a call m r e o = absurd e
 
 module _ (n : List ℕ) (c : Cron) (x : Row Job) (y : ℕ) where
   abbrev pub Stands : List Told → Type 0
   Stands g = (job_at g x.name ≡ Some x.object) ⊎ Removed g (ref_of x)
 
   -- For stands_next: it is no sync's target.
-  not_target : (g : List Told) → Inv g → Spare g n c x → (call : Call) → May (seen_of (own y g)) call
+  not_target : (g : List Told) → Inv c.uid g → Spare g n c x → (call : Call) → May (seen_of (own y g)) call
       → IsTarget call (ref_of x) → ⊥
   not_target g f a call m e =
-      let k = target_claimed g (seen_of (own y g)) (f.syncs y) call m (ref_of x) e in absurd (cc (a.none, k.1))
+      let k = target_claimed g f (seen_of (own y g)) (f.syncs y) call m (ref_of x) e (spare_owned n c x g a) in
+      absurd (cc (a.none, k.1))
 
   still : (g : List Told) (t : Stamp) (call : Call) (a : Answer) → Spares call (ref_of x)
       → job_at g x.name ≡ Some x.object → Stands (next g t (Asked y call true a))
@@ -202,7 +196,7 @@ module _ (n : List ℕ) (c : Cron) (x : Row Job) (y : ℕ) where
   by_test g t a z at false e = still g t (Of.Delete z) a e at
 
   -- What stands of it after a call that doesn't disturb.
-  stands_now : (g : List Told) (t : Stamp) (call : Call) (a : Answer) → Inv g → Spare g n c x
+  stands_now : (g : List Told) (t : Stamp) (call : Call) (a : Answer) → Inv c.uid g → Spare g n c x
       → May (seen_of (own y g)) call → job_at g x.name ≡ Some x.object → Stands (next g t (Asked y call true a))
   stands_now g t (Of.Start z) a f s m at = still g t (Of.Start z) a
       (is_false (is_ref z (ref_of x)) (λ e. not_target g f s (Of.Start z) m (ref_true z (ref_of x) e))) at
@@ -218,10 +212,11 @@ module _ (n : List ℕ) (c : Cron) (x : Row Job) (y : ℕ) where
   stands_now g t (Of.Claim q) a f s m at = still g t (Of.Claim q) a tt at
   stands_now g t (Of.Tidy q) a f s m at = still g t (Of.Tidy q) a tt at
 
-  stands_next : (g : List Told) (t : Stamp) (call : Call) (a : Answer) → Plain g t y call a → Spare g n c x → Stands g
+  stands_next : (g : List Told) (t : Stamp) (call : Call) (a : Answer) → Plain c.uid g t y call a → Spare g n c x
+      → Stands g
       → Stands (next g t (Asked y call true a))
   stands_next g t call a p s (inl at) = stands_now g t call a p.inv s p.may at
-  stands_next g t call a p s (inr m) = inr (removed_kept p.inv p.grows n c x s m)
+  stands_next g t call a p s (inr m) = inr (removed_kept n c x p.inv p.grows s m)
 
 -- ---- what the sync has listed
 
@@ -247,9 +242,9 @@ module _ (u : List ℕ) (r : Ref) (g : List Told) where
   clears_looked : (at : At) (rs : List Ref) (held : Option Held) (q : Ref) (o : Option Job)
       → Clears u r g (looked at rs held q o)
   clears_looked at rs held q None = clears_go at rs held
-  clears_looked at rs held q (Some j) = clears_if (is_same j.uid q.uid && not (is_dead j))
+  clears_looked at rs held q (Some j) = clears_if (is_its at.cron q j && not (is_dead j))
       (found_job at rs held q j) (go_on at rs held)
-      (clears_if (is_held_ref held q) (go_on at rs held)
+      (clears_if (was_found at held q) (go_on at rs held)
       (if j.held then found_held at rs held (record { job = q; found = j }) else go_on (with_alive at q) rs held)
       (clears_go at rs held)
       (clears_if j.held (found_held at rs held (record { job = q; found = j })) (go_on (with_alive at q) rs held)
@@ -264,7 +259,7 @@ module _ (u : List ℕ) (r : Ref) (g : List Told) where
 
   clears_begun : (n : List ℕ) (o : Option Cron) → Clears u r g (begun n o)
   clears_begun n None = tt
-  clears_begun n (Some c) = clears_go (record { name = n; cron = c; alive = [] }) c.active None
+  clears_begun n (Some c) = clears_go (record { name = n; cron = c; alive = [] }) (named c.active) None
 
   clears_adopted : (at : At) (n : List ℕ) (o : Option Job) → Clears u r g (adopted at n o)
   clears_adopted at n None = tt
@@ -282,18 +277,14 @@ module _ (u : List ℕ) (r : Ref) (g : List Told) where
   clears_looking at q rs held (Of.CacheJob n) (Is.Job o) = clears_cached at rs held q o
   clears_looking at q rs held call a = tt
 
-  clears_holding : (at : At) (x : Held) (call : Call) (a : Answer) → Clears u r g (from_holding at x call a)
-  clears_holding at x (Of.Claim w) (Is.Written v) = tt
-  clears_holding at x call a = tt
-
   clears_dropping : (at : At) (x : Held) (ds : List Ref) (call : Call) (a : Answer)
       → Clears u r g (from_dropping at x ds call a)
   clears_dropping at x ds (Of.Delete q) Is.Deleted = tt
-  clears_dropping at x ds (Of.Delete q) Is.Refused = tt
   clears_dropping at x ds call a = tt
 
   clears_starting : (at : At) (x : Held) (call : Call) (a : Answer) → Clears u r g (from_starting at x call a)
-  clears_starting at x (Of.Start q) (Is.Written v) = tt
+  clears_starting at x (Of.Start q) (Is.Written v) =
+      clears_go (has_started at x) (drops_of x.found.policy at.alive) None
   clears_starting at x call a = tt
 
   -- what the list of a sync is of
@@ -309,11 +300,11 @@ module _ (u : List ℕ) (r : Ref) (g : List Told) where
   clears_ready at Of.ListJobs (Is.Jobs rows) f = f
   clears_ready at call a f = tt
 
-  clears_tidying : (at : At) (gs fs : List Ref) (call : Call) (a : Answer)
-      → (at.cron.uid ≡ u → IsIn r gs ⊎ Removed g r) → Clears u r g (from_tidying at gs fs call a)
-  clears_tidying at gs fs (Of.Delete q) Is.Deleted f = f
-  clears_tidying at gs fs (Of.Delete q) Is.Refused f = f
-  clears_tidying at gs fs call a f = tt
+  clears_holding : (at : At) (x : Held) (call : Call) (a : Answer) → Lists at call a
+      → Clears u r g (from_holding at x call a)
+  clears_holding at x (Of.Claim w) (Is.Written v) f = tt
+  clears_holding at x (Of.Claim w) a f = tt
+  clears_holding at x call a f = clears_ready at call a f
 
 -- ---- a sync that comes to its end
 
@@ -348,19 +339,20 @@ four a b c d e f g h =
 
 module _ (n : List ℕ) (c : Cron) (x : Row Job) where
   -- For lists_it: by what the sync knows, the Job is garbage.
-  tests : (g : List Told) → Spare g n c x → x.object.held ≡ true → (at : At) → AtFact g at [] → Inv g
+  tests : (g : List Told) → Spare g n c x → x.object.held ≡ true → (at : At) → AtBase g at → Inv c.uid g
       → at.cron.uid ≡ c.uid → c.last ≤ at.cron.last → is_garbage at.cron x ≡ true
   tests g a held at f inv u l = four (is_same x.object.owner at.cron.uid) x.object.held
       (nat_le x.object.time at.cron.last) (has_ref at.cron.active (ref_of x))
       (same_is x.object.owner at.cron.uid (a.owner ∙ sym u)) held
       (le_test x.object.time at.cron.last (let b = a.time in omega arith))
       (is_false (has_ref at.cron.active (ref_of x)) (λ e.
-      let k = (inv.crons at.name at.cron f.cron).claimed (ref_of x) (is_in at.cron.active (ref_of x) e) in
+      let k = (inv.status at.name at.cron f.cron u).claimed (ref_of x) (is_in at.cron.active (ref_of x) e) in
       absurd (cc (a.none, k.is))))
 
   -- What an undisturbed sync lists has the Job, if it stands.
-  lists_it : (g e : List Told) (t : Stamp) → Inv g → Grows g e t → Spare g n c x → x.object.held ≡ true → (at : At)
-      → AtFact g at [] → Since c.uid c.last at → (job_at g x.name ≡ Some x.object) ⊎ Removed g (ref_of x)
+  lists_it : (g e : List Told) (t : Stamp) → Inv c.uid g → Grows c.uid g e t → Spare g n c x → x.object.held ≡ true
+      → (at : At)
+      → AtBase g at → Since c.uid c.last at → (job_at g x.name ≡ Some x.object) ⊎ Removed g (ref_of x)
       → (call : Call) (a : Answer) → a ≡ (served (state_of g) t call).answer → Lists c.uid (ref_of x) e at call a
   lists_it g e t inv w a held at f s (inl here) Of.ListJobs (Is.Jobs rows) is = λ u.
       let same : rows ≡ (state_of g).jobs = cc is in
@@ -369,7 +361,7 @@ module _ (n : List ℕ) (c : Cron) (x : Row Job) where
       let among : IsIn x (state_of g).jobs = subst (λ (z : Row Job). IsIn z (state_of g).jobs) one row.1 in
       inl (subst (λ (z : List (Row Job)). IsIn (ref_of x) (refs_where (is_garbage at.cron) z)) (sym same)
       (is_picked (is_garbage at.cron) (state_of g).jobs x among (tests g a held at f inv u (s u))))
-  lists_it g e t inv w a held at f s (inr m) Of.ListJobs (Is.Jobs rows) is = λ u. inr (removed_kept inv w n c x a m)
+  lists_it g e t inv w a held at f s (inr m) Of.ListJobs (Is.Jobs rows) is = λ u. inr (removed_kept n c x inv w a m)
   lists_it g e t inv w a held at f s here call q is = tt
 
 -- what holds of garbage while an undisturbed sync works
@@ -379,24 +371,34 @@ pub record Clearing (n : List ℕ) (c : Cron) (x : Row Job) (y : ℕ) (g : List 
   pub since : SinceOf c.uid c.last (seen_of (own y g))
   pub clears : Clears c.uid (ref_of x) g (seen_of (own y g))
 
--- For clears_next: a Job fewer is to be deleted.
-clears_one : (g : List Told) (t : Stamp) (y : ℕ) (u : List ℕ) (r z : Ref) (at : At) (gs fs : List Ref) (call : Call)
-    → MayClear z call → (a : Answer) → (Removed g r → Removed (next g t (Asked y call true a)) r)
-    → (at.cron.uid ≡ u → IsIn r (z ∷ gs) ⊎ Removed g r)
+-- A Job fewer is to be deleted.
+clears_one : (g : List Told) (t : Stamp) (y : ℕ) (u : List ℕ) (r : Ref) (at : At) (gs fs : List Ref) (call : Call)
+    (a : Answer) → (Removed g r → Removed (next g t (Asked y call true a)) r)
+    → (at.cron.uid ≡ u → IsIn r gs ⊎ Removed g r)
     → Clears u r (next g t (Asked y call true a)) (from_tidying at gs fs call a)
-clears_one g t y u r z at gs fs (Of.Delete q) m a kept f =
-    clears_tidying u r (next g t (Asked y (Of.Delete q) true a)) at gs fs (Of.Delete q) a (λ e. by_place (f e))
+clears_one g t y u r at gs fs (Of.Delete q) a kept f = by_answer a (λ e. by_place (f e))
   where
-    by_place : IsIn r (z ∷ gs) ⊎ Removed g r → IsIn r gs ⊎ Removed (next g t (Asked y (Of.Delete q) true a)) r
-    by_place (inl (inl e)) = inr (subst (Removed (next g t (Asked y (Of.Delete q) true a))) (m ∙ sym e)
-        (removed_now g t y q a))
-    by_place (inl (inr i)) = inl i
+    by_end : (r ≡ q) ⊎ IsIn r (without_ref q gs)
+        → IsIn r (without_ref q gs) ⊎ Removed (next g t (Asked y (Of.Delete q) true a)) r
+    by_end (inl e) = inr (subst (Removed (next g t (Asked y (Of.Delete q) true a))) (sym e) (removed_now g t y q a))
+    by_end (inr i) = inl i
+
+    by_place : IsIn r gs ⊎ Removed g r
+        → IsIn r (without_ref q gs) ⊎ Removed (next g t (Asked y (Of.Delete q) true a)) r
+    by_place (inl i) = by_end (left_or q r gs i)
     by_place (inr d) = inr (kept d)
-clears_one g t y u r z at gs fs call m a kept f = absurd m
+
+    by_answer : (b : Answer) → (at.cron.uid ≡ u
+        → IsIn r (without_ref q gs) ⊎ Removed (next g t (Asked y (Of.Delete q) true a)) r)
+        → Clears u r (next g t (Asked y (Of.Delete q) true a)) (from_tidying at gs fs (Of.Delete q) b)
+    by_answer Is.Deleted k = k
+    by_answer Is.Refused k = k
+    by_answer b k = tt
+clears_one g t y u r at gs fs call a kept f = tt
 
 module _ (n : List ℕ) (c : Cron) (x : Row Job) (y : ℕ) where
-  clears_by : (g : List Told) (t : Stamp) (call : Call) (a : Answer) → Plain g t y call a → x.object.held ≡ true
-      → Spare g n c x → (job_at g x.name ≡ Some x.object) ⊎ Removed g (ref_of x) → (s : Sync) → SyncFact g s
+  clears_by : (g : List Told) (t : Stamp) (call : Call) (a : Answer) → Plain c.uid g t y call a → x.object.held ≡ true
+      → Spare g n c x → (job_at g x.name ≡ Some x.object) ⊎ Removed g (ref_of x) → (s : Sync) → SyncFact c.uid g s
       → May s call → SinceOf c.uid c.last s → Clears c.uid (ref_of x) g s
       → Clears c.uid (ref_of x) (next g t (Asked y call true a)) (advanced s call a)
   clears_by g t call a p held spare stands Fresh k m q f =
@@ -406,33 +408,28 @@ module _ (n : List ℕ) (c : Cron) (x : Row Job) (y : ℕ) where
       clears_looking c.uid (ref_of x) (next g t (Asked y call true a)) at r rs o call a
   clears_by g t call a p held spare stands (Ready at) k m q f =
       clears_ready c.uid (ref_of x) (next g t (Asked y call true a)) at call a
-      (lists_it n c x g (next g t (Asked y call true a)) t p.inv p.grows spare held at k q stands call a p.is)
+      (lists_it n c x g (next g t (Asked y call true a)) t p.inv p.grows spare held at k.base q stands call a p.is)
   clears_by g t call a p held spare stands (Holding at z) k m q f =
       clears_holding c.uid (ref_of x) (next g t (Asked y call true a)) at z call a
+      (lists_it n c x g (next g t (Asked y call true a)) t p.inv p.grows spare held at k.base q stands call a p.is)
   clears_by g t call a p held spare stands (Starting at z []) k m q f =
       clears_starting c.uid (ref_of x) (next g t (Asked y call true a)) at z call a
   clears_by g t call a p held spare stands (Starting at z (d ∷ ds)) k m q f =
       clears_dropping c.uid (ref_of x) (next g t (Asked y call true a)) at z ds call a
-  clears_by g t call a p held spare stands (Tidying at [] fs) k m q f =
-      clears_tidying c.uid (ref_of x) (next g t (Asked y call true a)) at [] fs call a (λ e. by_place (f e))
-    where
-      by_place : IsIn (ref_of x) [] ⊎ Removed g (ref_of x)
-          → IsIn (ref_of x) [] ⊎ Removed (next g t (Asked y call true a)) (ref_of x)
-      by_place (inl i) = absurd i
-      by_place (inr d) = inr (removed_kept p.inv p.grows n c x spare d)
-  clears_by g t call a p held spare stands (Tidying at (z ∷ gs) fs) k m q f =
-      clears_one g t y c.uid (ref_of x) z at gs fs call m a (removed_kept p.inv p.grows n c x spare) f
+  clears_by g t call a p held spare stands (Tidying at gs fs) k m q f =
+      clears_one g t y c.uid (ref_of x) at gs fs call a (removed_kept n c x p.inv p.grows spare) f
   clears_by g t call a p held spare stands Gone k m q f = absurd m
   clears_by g t call a p held spare stands Over k m q f = absurd m
 
   -- For clearing_next: what the sync reads first isn't older.
-  reads_later : (g : List Told) (t : Stamp) (call : Call) (a : Answer) → Plain g t y call a → Spare g n c x
+  reads_later : (g : List Told) (t : Stamp) (call : Call) (a : Answer) → Plain c.uid g t y call a → Spare g n c x
       → (m : List ℕ) (b : Cron) → cron_at g m ≡ Some b → b.uid ≡ c.uid → c.last ≤ b.last
   reads_later g t call a p spare m b at e =
       let home : m ≡ n = (p.inv.crons n c spare.cron).home m b (cron_is_old g m b at) e in
-      (p.inv.now m b at).last c (subst (λ (z : List ℕ). OldCron g z c) (sym home) spare.cron) (sym e)
+      (p.inv.now m b at e).last c (subst (λ (z : List ℕ). OldCron g z c) (sym home) spare.cron) (sym e)
 
-  clearing_next : x.object.held ≡ true → (g : List Told) (t : Stamp) (call : Call) (a : Answer) → Plain g t y call a
+  clearing_next : x.object.held ≡ true → (g : List Told) (t : Stamp) (call : Call) (a : Answer)
+      → Plain c.uid g t y call a
       → Clearing n c x y g → Clearing n c x y (next g t (Asked y call true a))
   clearing_next held g t call a p k =
       let reads = reads_now g t c.uid c.last call a p.is (reads_later g t call a p k.spare) in
@@ -441,7 +438,7 @@ module _ (n : List ℕ) (c : Cron) (x : Row Job) (y : ℕ) where
         spare = spare_next n c x g (next g t (Asked y call true a)) t p.grows p.inv_next k.spare;
         stands = stands_next n c x y g t call a p k.spare k.stands;
         since = subst (SinceOf c.uid c.last) (sym seen)
-            (since_next g c.uid c.last (seen_of (own y g)) (p.inv.syncs y) call p.may a reads k.since);
+            (since_next c.uid g c.uid c.last (seen_of (own y g)) (p.inv.syncs y) call p.may a reads k.since);
         clears = subst (Clears c.uid (ref_of x) (next g t (Asked y call true a))) (sym seen)
             (clears_by g t call a p held k.spare k.stands (seen_of (own y g)) (p.inv.syncs y) p.may k.since k.clears);
       }
@@ -466,12 +463,12 @@ removed_is g r d = by_look (look (state_of g).jobs r) refl
 -- An undisturbed sync that has come to its end has removed all garbage.
 pub cleared : IsCleared
 cleared h es y n c x l a o none u b w =
-    let f = always h (legal_before h es l) (followed_before h es a) (kept_before h es o) in
+    let f = always c.uid h (legal_before h es l) (followed_before h es a) (kept_before c.uid h es o) in
     let base : Clearing n c x y h = record {
       spare = spare_first n c x h b f;
       stands = inl b.job;
       since = subst (λ z. SinceOf c.uid c.last (seen_of z)) (sym none) tt;
       clears = subst (λ z. Clears c.uid (ref_of x) h (seen_of z)) (sym none) tt;
     } in
-    let k = run y h (λ g. Clearing n c x y g) base (clearing_next n c x y (is_held x.object b.held)) es l a o u in
+    let k = run c.uid y h (λ g. Clearing n c x y g) base (clearing_next n c x y (is_held x.object b.held)) es l a o u in
     removed_is (es ++ h) (ref_of x) (cleared_at c.uid (ref_of x) (es ++ h) (seen_of (own y (es ++ h))) w k.clears)

@@ -1,5 +1,5 @@
 -- An undisturbed sync starts what was claimed.
-use Rattle.std.proofs.Common.{◌≡◌, ◌⊎◌, inl, inr, ℕ, ◌<◌, ◌≤◌, Bool, true, false, not, ◌&&◌, ◌||◌, List, [], ◌∷◌, ◌++◌, Option, Some, None, refl, sym, ap, subst, ◌∙◌, arith}
+use Rattle.std.proofs.Common.{◌≡◌, ◌⊎◌, inl, inr, ℕ, ◌<◌, ◌≤◌, Bool, true, false, not, ◌&&◌, List, [], ◌∷◌, ◌++◌, Option, Some, None, refl, sym, ap, subst, ◌∙◌, arith}
 use Rattle.std.specs.Prelude.{if◌then◌else◌}
 use Rattle.cj_fence.specs.declared.refs.Ref.{Ref}
 use Rattle.cj_fence.specs.declared.objects.Cron.{Cron}
@@ -14,17 +14,17 @@ use Rattle.cj_fence.specs.declared.sync.Held.{Held}
 use Rattle.cj_fence.specs.declared.sync.Sync.{Sync}
 use Rattle.cj_fence.specs.declared.sync.Sync.TheVariants.{Fresh, Looking, Ready, Holding, Starting, Tidying, Gone, Over}
 use Rattle.cj_fence.specs.Texts.{is_same}
-use Rattle.cj_fence.specs.Objects.{waits, is_dead}
+use Rattle.cj_fence.specs.Objects.{named, waits, is_dead}
 use Rattle.cj_fence.specs.Server.{served}
-use Rattle.cj_fence.specs.Protocol.{with_alive, go_on, is_held_ref, found_held, found_job, looked, cached, begun, is_ours, lets_hold, adopted, from_fresh, from_looking, from_ready, from_holding, from_dropping, from_starting, from_tidying, advanced, MayHolding, May, seen_of}
+use Rattle.cj_fence.specs.Protocol.{with_alive, drops_of, go_on, was_found, found_held, found_job, is_its, looked, cached, begun, is_ours, lets_hold, adopted, has_started, from_fresh, from_looking, from_ready, from_holding, from_dropping, from_starting, from_tidying, advanced, MayHolding, May, seen_of}
 use Rattle.cj_fence.specs.History.{Asked, Told, state_of, Claimed, claims, claim_of, starts, started, own}
 use Rattle.cj_fence.specs.Lost.{IsWaiting, IsExpiry}
 use Rattle.cj_fence.specs.Help.{HasLooked, HelpLaw}
-use Rattle.cj_fence.proofs.FenceLemmas.Basics.{IsIn}
+use Rattle.cj_fence.proofs.FenceLemmas.Basics.{IsIn, first_true, second_true}
 use Rattle.cj_fence.proofs.FenceLemmas.Facts.{cron_at, Dead, Settled, AtFact, SyncFact, Inv}
 use Rattle.cj_fence.proofs.FenceLemmas.Grows.{dead_settled}
-use Rattle.cj_fence.proofs.FenceLemmas.Moves.{next, claim_stays}
-use Rattle.cj_fence.proofs.FenceLemmas.Lost.{waiting_is, becomes}
+use Rattle.cj_fence.proofs.FenceLemmas.Moves.{next, claim_stays, waiting_is}
+use Rattle.cj_fence.proofs.FenceLemmas.Lost.{becomes}
 use Rattle.cj_fence.proofs.FenceLemmas.Runs.{Plain, seen_next, run}
 use Rattle.cj_fence.proofs.FenceLemmas.Whole.{always}
 
@@ -62,9 +62,9 @@ module _ (u : List ℕ) (m : ℕ) where
   since_looked : (at : At) (rs : List Ref) (held : Option Held) (r : Ref) (o : Option Job) → Since u m at
       → SinceOf u m (looked at rs held r o)
   since_looked at rs held r None s = since_go at rs held s
-  since_looked at rs held r (Some j) s = since_if (is_same j.uid r.uid && not (is_dead j))
+  since_looked at rs held r (Some j) s = since_if (is_its at.cron r j && not (is_dead j))
       (found_job at rs held r j) (go_on at rs held)
-      (since_if (is_held_ref held r) (go_on at rs held)
+      (since_if (was_found at held r) (go_on at rs held)
       (if j.held then found_held at rs held (record { job = r; found = j }) else go_on (with_alive at r) rs held)
       (since_go at rs held s)
       (since_if j.held (found_held at rs held (record { job = r; found = j })) (go_on (with_alive at r) rs held)
@@ -80,7 +80,7 @@ module _ (u : List ℕ) (m : ℕ) where
   since_begun : (n : List ℕ) (o : Option Cron) → ((c : Cron) → o ≡ Some c → c.uid ≡ u → m ≤ c.last)
       → SinceOf u m (begun n o)
   since_begun n None f = tt
-  since_begun n (Some c) f = since_go (record { name = n; cron = c; alive = [] }) c.active None (f c refl)
+  since_begun n (Some c) f = since_go (record { name = n; cron = c; alive = [] }) (named c.active) None (f c refl)
 
   since_adopted : (at : At) (n : List ℕ) (o : Option Job) → Since u m at → SinceOf u m (adopted at n o)
   since_adopted at n None s = s
@@ -116,17 +116,18 @@ module _ (u : List ℕ) (m : ℕ) where
       → Since u m at → SinceOf u m (from_holding at x call a)
   since_holding at x (Of.Claim w) (Is.Written v) l k s =
       λ e. let low = s e in let same = k.time in omega arith
-  since_holding at x call a l k s = tt
+  since_holding at x (Of.Claim w) a l k s = tt
+  since_holding at x call a l k s = since_ready at call a s
 
   since_dropping : (at : At) (x : Held) (ds : List Ref) (call : Call) (a : Answer) → Since u m at
       → SinceOf u m (from_dropping at x ds call a)
   since_dropping at x ds (Of.Delete r) Is.Deleted s = s
-  since_dropping at x ds (Of.Delete r) Is.Refused s = s
   since_dropping at x ds call a s = tt
 
   since_starting : (at : At) (x : Held) (call : Call) (a : Answer) → Since u m at
       → SinceOf u m (from_starting at x call a)
-  since_starting at x (Of.Start r) (Is.Written v) s = s
+  since_starting at x (Of.Start r) (Is.Written v) s =
+      since_go (has_started at x) (drops_of x.found.policy at.alive) None s
   since_starting at x call a s = tt
 
   since_tidying : (at : At) (gs fs : List Ref) (call : Call) (a : Answer) → Since u m at
@@ -136,20 +137,20 @@ module _ (u : List ℕ) (m : ℕ) where
   since_tidying at gs fs call a s = tt
 
 -- The last time that a sync saw isn't before this one, whatever it calls.
-pub since_next : (g : List Told) (u : List ℕ) (m : ℕ) (s : Sync) → SyncFact g s → (call : Call) → May s call
+pub since_next : (me : List ℕ) (g : List Told) (u : List ℕ) (m : ℕ) (s : Sync) → SyncFact me g s → (call : Call)
+    → May s call
     → (a : Answer)
     → Reads u m call a → SinceOf u m s → SinceOf u m (advanced s call a)
-since_next g u m Fresh k call may a f s = since_fresh u m call a f
-since_next g u m (Looking at [] held) k call may a f s = absurd may
-since_next g u m (Looking at (r ∷ rs) held) k call may a f s = since_looking u m at r rs held call a s
-since_next g u m (Ready at) k call may a f s = since_ready u m at call a s
-since_next g u m (Holding at x) k call may a f s = since_holding u m at x call a k.for_fact.time may s
-since_next g u m (Starting at x []) k call may a f s = since_starting u m at x call a s
-since_next g u m (Starting at x (d ∷ ds)) k call may a f s = since_dropping u m at x ds call a s
-since_next g u m (Tidying at [] fs) k call may a f s = since_tidying u m at [] fs call a s
-since_next g u m (Tidying at (x ∷ gs) fs) k call may a f s = since_tidying u m at gs fs call a s
-since_next g u m Gone k call may a f s = absurd may
-since_next g u m Over k call may a f s = absurd may
+since_next me g u m Fresh k call may a f s = since_fresh u m call a f
+since_next me g u m (Looking at [] held) k call may a f s = absurd may
+since_next me g u m (Looking at (r ∷ rs) held) k call may a f s = since_looking u m at r rs held call a s
+since_next me g u m (Ready at) k call may a f s = since_ready u m at call a s
+since_next me g u m (Holding at x) k call may a f s = since_holding u m at x call a k.for_fact.time may s
+since_next me g u m (Starting at x []) k call may a f s = since_starting u m at x call a s
+since_next me g u m (Starting at x (d ∷ ds)) k call may a f s = since_dropping u m at x ds call a s
+since_next me g u m (Tidying at gs fs) k call may a f s = since_tidying u m at gs fs call a s
+since_next me g u m Gone k call may a f s = absurd may
+since_next me g u m Over k call may a f s = absurd may
 
 -- What an undisturbed sync reads first is what stands.
 pub reads_now : (g : List Told) (t : Stamp) (u : List ℕ) (m : ℕ) (call : Call) (a : Answer)
@@ -187,28 +188,19 @@ pub record Helps (g : List Told) (y : ℕ) (r : Ref) (k : Claimed) : Type 0 wher
   pub claimed : claim_of g r ≡ Some k
   pub outcome : Outcome g y r k
 
--- Of two of which the second is true, one is.
-second : (a b : Bool) → b ≡ true → (a || b) ≡ true
-second true b e = refl
-second false b e = e
-
--- Of two of which the first is true, one is.
-first : (a b : Bool) → a ≡ true → (a || b) ≡ true
-first a b e = ap (λ (z : Bool). z || b) e
-
 module _ (y : ℕ) (r : Ref) (k : Claimed) where
   -- For help_step: by what becomes of a Job that waits.
-  waits_on : (g : List Told) (t : Stamp) (call : Call) (a : Answer) → Plain g t y call a
+  waits_on : (g : List Told) (t : Stamp) (call : Call) (a : Answer) → Plain k.owner g t y call a
       → claim_of g r ≡ Some k → SinceOf k.owner k.time (seen_of (own y g))
       → IsWaiting (next g t (Asked y call true a)) r
-      ⊎ ((starts (state_of g) (Asked y call true a) r ≡ true) ⊎ IsExpiry g y call r k)
+      ⊎ ((starts (state_of g) t (Asked y call true a) r ≡ true) ⊎ IsExpiry g y call r k)
       → Outcome (next g t (Asked y call true a)) y r k
   waits_on g t call a p is s (inl w) =
-      let reads = reads_now g t k.owner k.time call a p.is (λ n c at o. (p.inv.now n c at).claims r k is (sym o)) in
+      let reads = reads_now g t k.owner k.time call a p.is (λ n c at o. (p.inv.now n c at o).claims r k is (sym o)) in
       StillWaits w (subst (SinceOf k.owner k.time) (sym (seen_next g t y call true a))
-      (since_next g k.owner k.time (seen_of (own y g)) (p.inv.syncs y) call p.may a reads s))
+      (since_next k.owner g k.owner k.time (seen_of (own y g)) (p.inv.syncs y) call p.may a reads s))
   waits_on g t call a p is s (inr (inl e)) =
-      IsStarted (first (starts (state_of g) (Asked y call true a) r) (started g r) e)
+      IsStarted (first_true (starts (state_of g) t (Asked y call true a) r) (started g r) e)
   waits_on g t call a p is s (inr (inr x)) =
       let same : advanced (Starting x.at x.held x.drops) (Of.Expire r x.version x.now) a
       ≡ advanced (seen_of (own y g)) call a =
@@ -216,15 +208,15 @@ module _ (y : ℕ) (r : Ref) (k : Claimed) where
       ∙ ap (λ (z : Call). advanced (seen_of (own y g)) z a) (sym x.is) in
       IsOut (subst HasEnded (same ∙ sym (seen_next g t y call true a)) (ends x.at x.held x.drops r x.version x.now a))
 
-  help_by : (g : List Told) (t : Stamp) (call : Call) (a : Answer) → Plain g t y call a → claim_of g r ≡ Some k
+  help_by : (g : List Told) (t : Stamp) (call : Call) (a : Answer) → Plain k.owner g t y call a → claim_of g r ≡ Some k
       → Outcome g y r k → Outcome (next g t (Asked y call true a)) y r k
   help_by g t call a p is (IsStarted e) = IsStarted
-      (second (starts (state_of g) (Asked y call true a) r) (started g r) e)
+      (second_true (starts (state_of g) t (Asked y call true a) r) (started g r) e)
   help_by g t call a p is (IsOut e) = absurd (no_more (seen_of (own y g)) call p.may e)
   help_by g t call a p is (StillWaits w s) =
-      waits_on g t call a p is s (becomes g t y call true a p.inv p.may r k is w)
+      waits_on g t call a p is s (becomes g t y call true a p.inv p.may r k is refl w)
 
-  help_step : (g : List Told) (t : Stamp) (call : Call) (a : Answer) → Plain g t y call a → Helps g y r k
+  help_step : (g : List Told) (t : Stamp) (call : Call) (a : Answer) → Plain k.owner g t y call a → Helps g y r k
       → Helps (next g t (Asked y call true a)) y r k
   help_step g t call a p b = record {
     claimed = claim_stays (claim_of g r) (claims (state_of g) (Asked y call true a) r) k b.claimed;
@@ -232,9 +224,9 @@ module _ (y : ℕ) (r : Ref) (k : Claimed) where
   }
 
 -- For helped: a sync that has come past what was claimed leaves nothing that waits.
-none_waits : (g : List Told) (r : Ref) (k : Claimed) → Inv g → claim_of g r ≡ Some k → IsWaiting g r → (at : At)
+none_waits : (g : List Told) (r : Ref) (k : Claimed) → claim_of g r ≡ Some k → IsWaiting g r → (at : At)
     → AtFact g at [] → at.cron.uid ≡ k.owner → Since k.owner k.time at → ⊥
-none_waits g r k f is w at a u s = by_place (a.known r k is (sym u) (s u))
+none_waits g r k is w at a u s = by_place (a.known r k is (sym u) (s u))
   where
     not_settled : Settled g r → ⊥
     not_settled n =
@@ -248,12 +240,12 @@ none_waits g r k f is w at a u s = by_place (a.known r k is (sym u) (s u))
     by_place (inr (inr d)) = not_settled (dead_settled g r d)
 
 -- A sync that has come past what was claimed leaves nothing that waits, in any of its states.
-looked_all : (g : List Told) (r : Ref) (k : Claimed) → Inv g → claim_of g r ≡ Some k → IsWaiting g r → (s : Sync)
-    → SyncFact g s → HasLooked k.owner s → SinceOf k.owner k.time s → ⊥
-looked_all g r k f is w (Ready at) a l s = none_waits g r k f is w at a l s
-looked_all g r k f is w (Holding at x) a l s = none_waits g r k f is w at a.at_fact l s
-looked_all g r k f is w (Tidying at gs fs) a l s = none_waits g r k f is w at a.at_fact l s
-looked_all g r k f is w s a l q = l
+looked_all : (g : List Told) (r : Ref) (k : Claimed) → claim_of g r ≡ Some k → IsWaiting g r → (s : Sync)
+    → SyncFact k.owner g s → HasLooked k.owner s → SinceOf k.owner k.time s → ⊥
+looked_all g r k is w (Ready at) a l s = none_waits g r k is w at (a.its l) l s
+looked_all g r k is w (Holding at x) a l s = none_waits g r k is w at (a.its l) l s
+looked_all g r k is w (Tidying at gs fs) a l s = none_waits g r k is w at (a.its l) l s
+looked_all g r k is w s a l q = l
 
 -- A sync that has ended has not come past what was claimed.
 ended_not : (u : List ℕ) (s : Sync) → HasEnded s → HasLooked u s → ⊥
@@ -261,11 +253,11 @@ ended_not u Over e l = l
 ended_not u s e l = e
 
 -- Where a sync has come past what was claimed, it was started.
-helped : (g : List Told) (y : ℕ) (r : Ref) (k : Claimed) → Inv g → claim_of g r ≡ Some k → Outcome g y r k
+helped : (g : List Told) (y : ℕ) (r : Ref) (k : Claimed) → Inv k.owner g → claim_of g r ≡ Some k → Outcome g y r k
     → HasLooked k.owner (seen_of (own y g)) → started g r ≡ true
 helped g y r k f is (IsStarted e) l = e
 helped g y r k f is (IsOut e) l = absurd (ended_not k.owner (seen_of (own y g)) e l)
-helped g y r k f is (StillWaits w s) l = absurd (looked_all g r k f is w (seen_of (own y g)) (f.syncs y) l s)
+helped g y r k f is (StillWaits w s) l = absurd (looked_all g r k is w (seen_of (own y g)) (f.syncs y) l s)
 
 -- A claimed Job that waits is started by the next sync that nobody disturbs.
 pub help : HelpLaw
@@ -273,5 +265,5 @@ help h es y r k l a o none u is w looked =
     let fresh : SinceOf k.owner k.time (seen_of (own y h)) =
     subst (λ z. SinceOf k.owner k.time (seen_of z)) (sym none) tt in
     let base : Helps h y r k = record { claimed = is; outcome = StillWaits w fresh } in
-    let b = run y h (λ g. Helps g y r k) base (help_step y r k) es l a o u in
-    helped (es ++ h) y r k (always (es ++ h) l a o) b.claimed b.outcome looked
+    let b = run k.owner y h (λ g. Helps g y r k) base (help_step y r k) es l a o u in
+    helped (es ++ h) y r k (always k.owner (es ++ h) l a o) b.claimed b.outcome looked

@@ -18,12 +18,13 @@ use Rattle.cj_fence.specs.declared.answer.Stamp.{Stamp}
 use Rattle.cj_fence.specs.Texts.{is_same}
 use Rattle.cj_fence.specs.Tables.{find, without, put}
 use Rattle.cj_fence.specs.Objects.{ref_of, look}
-use Rattle.cj_fence.specs.Server.{refuses, puts_cron, puts_job, made, create, takes, claimed, claim, tidied, tidy, released, start, marked, delete, delete_where, expire_where, served, put_job, written}
+use Rattle.cj_fence.specs.Server.{says, refuses, puts_cron, puts_job, made, create, takes, claimed, claim, tidied, tidy, released, start, marked, mark, delete, delete_where, expire_where, served, put_job, written}
 use Rattle.cj_fence.specs.Protocol.{refs_where}
-use Rattle.cj_fence.specs.History.{Deed, Asked, Wrote, Told, after, state_of, WasSo, IsAnswer, Unheard, Answered, FromCache}
+use Rattle.cj_fence.specs.History.{Deed, Asked, Wrote, Told, after, state_of, RowsWereSo, IsAnswer, Unheard, Answered, FromCache, Listed}
 use Rattle.cj_fence.proofs.FenceLemmas.Basics.{IsIn, same_true, same_self, without_at}
 use Rattle.cj_fence.proofs.FenceLemmas.Facts.{OldJob}
 use Rattle.cj_fence.proofs.FenceLemmas.Grows.{job_is_old}
+use Rattle.cj_fence.proofs.FenceLemmas.Looks.{not_cached, was_job}
 
 -- no two rows of one name
 abbrev pub Unique : List (Row Job) → Type 0
@@ -86,8 +87,9 @@ unique_if false x y f g = g
 -- After a POST names are unique.
 unique_create : (s : Cluster) (t : Stamp) (n : List ℕ) (j : Job) (o : Option Job) → Unique s.jobs
     → Unique (create s t n j o).cluster.jobs
-unique_create s t n j None u = unique_put n (made t j) s.jobs u
-unique_create s t n j (Some old) u = u
+unique_create s t [] j o u = u
+unique_create s t (c ∷ n) j None u = unique_put (c ∷ n) (made t j) s.jobs u
+unique_create s t (c ∷ n) j (Some old) u = u
 
 -- After a claim names are unique.
 unique_claim : (s : Cluster) (t : Stamp) (w : Claim) (o : Option Cron) → Unique s.jobs
@@ -110,11 +112,16 @@ unique_start s t r None u = u
 unique_start s t r (Some j) u = unique_if j.held (puts_job s (Is.Written t.version) r.name (released t j)) (refuses s)
     (unique_put r.name (released t j) s.jobs u) u
 
+-- After a mark names are unique.
+unique_mark : (s : Cluster) (t : Stamp) (r : Ref) (j : Job) → Unique s.jobs → Unique (mark s t r j).cluster.jobs
+unique_mark s t r j u = unique_if j.deleting (says s Is.Deleted) (puts_job s Is.Deleted r.name (marked t j)) u
+    (unique_put r.name (marked t j) s.jobs u)
+
 -- After the deletion of a Job that stands names are unique.
 unique_delete : (s : Cluster) (t : Stamp) (r : Ref) (j : Job) → Unique s.jobs → Unique (delete s t r j).cluster.jobs
-unique_delete s t r j u = unique_if j.pinned (puts_job s Is.Deleted r.name (marked t j))
+unique_delete s t r j u = unique_if j.pinned (mark s t r j)
     (record { answer = Is.Deleted; cluster = record s { jobs = without r.name s.jobs } })
-    (unique_put r.name (marked t j) s.jobs u) (unique_without r.name s.jobs u)
+    (unique_mark s t r j u) (unique_without r.name s.jobs u)
 
 -- After a DELETE by uid names are unique.
 unique_delete_where : (s : Cluster) (t : Stamp) (r : Ref) (o : Option Job) → Unique s.jobs
@@ -147,7 +154,8 @@ unique_served s t (Of.Expire r v now) u = unique_expire s t r v (look s.jobs r) 
 unique_written : (s : Cluster) (t : Stamp) (w : Write) → Unique s.jobs → Unique (written s t w).jobs
 unique_written s t (By.PutCron n c) u = u
 unique_written s t (By.DropCron n) u = u
-unique_written s t (By.PutJob n j) u = unique_put n (put_job t j (find n s.jobs)) s.jobs u
+unique_written s t (By.PutJob [] j) u = u
+unique_written s t (By.PutJob (c ∷ n) j) u = unique_put (c ∷ n) (put_job t j (find (c ∷ n) s.jobs)) s.jobs u
 unique_written s t (By.DropJob n) u = unique_without n s.jobs u
 
 -- After any entry names are unique.
@@ -163,7 +171,7 @@ unique (e ∷ h) = unique_after (state_of h) e.stamp e.deed (unique h)
 
 -- ---- what is listed
 
--- Jobs that stood at one moment
+-- Jobs that stood, each at some moment
 abbrev pub AreOld : List Told → List (Row Job) → Type 0
 AreOld h rows = (x : Row Job) → IsIn x rows → OldJob h x.name x.object
 
@@ -171,25 +179,27 @@ AreOld h rows = (x : Row Job) → IsIn x rows → OldJob h x.name x.object
 now_listed : (h : List Told) → AreOld h (state_of h).jobs
 now_listed h x i = job_is_old h x.name x.object (row_found (state_of h).jobs (unique h) x i)
 
--- The Jobs that a cache lists stood at some moment.
-once_listed : (h : List Told) (rows : List (Row Job)) → WasSo Of.ListJobs (Is.Jobs rows) h → AreOld h rows
-once_listed [] rows w =
-    let e : [] ≡ rows = cc w in
-    subst (λ (z : List (Row Job)). AreOld [] z) e (λ x i. absurd i)
-once_listed (e ∷ h) rows (inl w) =
-    let s : (state_of (e ∷ h)).jobs ≡ rows = cc w in
-    subst (λ (z : List (Row Job)). AreOld (e ∷ h) z) s (now_listed (e ∷ h))
-once_listed (e ∷ h) rows (inr w) = λ x i. inr (once_listed h rows w x i)
+-- Rows of which each says what was so are of Jobs that stood.
+rows_old : (h : List Told) (rows : List (Row Job)) → RowsWereSo rows h → AreOld h rows
+rows_old h [] w x i = absurd i
+rows_old h (r ∷ rows) w x (inl e) =
+    subst (λ (z : Row Job). OldJob h z.name z.object) (sym e) (was_job r.name r.object h w.0)
+rows_old h (r ∷ rows) w x (inr i) = rows_old h rows w.1 x i
 
--- Jobs that are listed stood at one moment.
+-- Jobs that are listed stood, each at some moment.
 pub listed_old : {h : List Told} {t : Stamp} {reached : Bool} {rows : List (Row Job)}
     → IsAnswer h t Of.ListJobs reached (Is.Jobs rows) → AreOld h rows
-listed_old (Unheard e) = absurd (cc e)
+listed_old (Unheard (inl e)) = absurd (cc e)
+listed_old (Unheard (inr e)) = absurd (cc e)
 listed_old {h} {t} {reached} {rows} (Answered r e) =
     let s : Is.Jobs rows ≡ Is.Jobs (state_of h).jobs = e in
     let q : (state_of h).jobs ≡ rows = cc in
     subst (λ (z : List (Row Job)). AreOld h z) q (now_listed h)
-listed_old {h} {t} {reached} {rows} (FromCache w) = once_listed h rows w
+listed_old {h} {t} {reached} {rows} (FromCache w) =
+    absurd (not_cached Of.ListJobs (λ s. refl) (Is.Jobs rows) h w)
+listed_old {h} {t} {reached} {rows} (Listed all c e w) =
+    let q : all ≡ rows = cc (sym e) in
+    subst (λ (z : List (Row Job)). AreOld h z) q (rows_old h all w)
 
 -- a row that passes a test
 pub record Picked (p : Row Job → Bool) (rows : List (Row Job)) (r : Ref) : Type 0 where

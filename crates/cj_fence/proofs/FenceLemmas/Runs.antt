@@ -17,12 +17,12 @@ use Rattle.cj_fence.proofs.FenceLemmas.Entries.{call_kept}
 use Rattle.cj_fence.proofs.FenceLemmas.Whole.{followed, MayDo, may_do, self_number, entry_kept, always}
 
 -- a call of an undisturbed sync
-pub record Plain (g : List Told) (t : Stamp) (y : ℕ) (call : Call) (a : Answer) : Type 0 where
-  pub inv : Inv g
+pub record Plain (me : List ℕ) (g : List Told) (t : Stamp) (y : ℕ) (call : Call) (a : Answer) : Type 0 where
+  pub inv : Inv me g
   pub may : May (seen_of (own y g)) call
   pub is : a ≡ (served (state_of g) t call).answer
-  pub grows : Grows g (next g t (Asked y call true a)) t
-  pub inv_next : Inv (next g t (Asked y call true a))
+  pub grows : Grows me g (next g t (Asked y call true a)) t
+  pub inv_next : Inv me (next g t (Asked y call true a))
 
 -- What the sync knows after its call.
 pub seen_next : (g : List Told) (t : Stamp) (y : ℕ) (call : Call) (reached : Bool) (a : Answer)
@@ -31,23 +31,24 @@ seen_next g t y call reached a =
     ap (λ (b : Bool). seen_of (if b then record { call = call; answer = a } ∷ own y g else own y g)) (self_number y)
 
 -- A call of an undisturbed sync keeps all facts.
-plain_call : (g : List Told) (t : Stamp) (y : ℕ) (call : Call) (a : Answer) → Inv g → IsFresh g t
-    → May (seen_of (own y g)) call → a ≡ (served (state_of g) t call).answer → Plain g t y call a
-plain_call g t y call a f fresh m e =
+plain_call : {me : List ℕ} (g : List Told) (t : Stamp) (y : ℕ) (call : Call) (a : Answer) → Inv me g → IsFresh g t
+    → May (seen_of (own y g)) call → a ≡ (served (state_of g) t call).answer → Plain me g t y call a
+plain_call {me} g t y call a f fresh m e =
     let k = call_kept g t y call true a f fresh m (Answered refl e) in
     record {
       inv = f;
       may = m;
       is = e;
       grows = k.change.grows;
-      inv_next = inv_kept g (next g t (Asked y call true a)) t f k.change;
+      inv_next = inv_kept me g (next g t (Asked y call true a)) t f k.change;
     }
 
 -- An entry of an undisturbed sync is such a call.
-by_deed : (y : ℕ) (P : List Told → Type 0)
-    → ((g : List Told) (t : Stamp) (call : Call) (a : Answer) → Plain g t y call a → P g
+by_deed : {me : List ℕ} (y : ℕ) (P : List Told → Type 0)
+    → ((g : List Told) (t : Stamp) (call : Call) (a : Answer) → Plain me g t y call a → P g
     → P (next g t (Asked y call true a)))
-    → (g : List Told) (t : Stamp) (d : Deed) → IsPlain y g t d → Inv g → IsFresh g t → MayDo g d → P g → P (next g t d)
+    → (g : List Told) (t : Stamp) (d : Deed) → IsPlain y g t d → Inv me g → IsFresh g t → MayDo g d → P g
+    → P (next g t d)
 by_deed y P step g t (Wrote w) p f fresh m before = absurd p
 by_deed y P step g t (Asked x call false a) p f fresh m before = absurd (cc p.1)
 by_deed y P step g t (Asked x call true a) p f fresh m before =
@@ -56,30 +57,30 @@ by_deed y P step g t (Asked x call true a) p f fresh m before =
     (step g t call a (plain_call g t y call a f fresh may p.2) before)
 
 -- What each call of an undisturbed sync keeps holds at its end.
-pub run : (y : ℕ) (h : List Told) (P : List Told → Type 0) → P h
-    → ((g : List Told) (t : Stamp) (call : Call) (a : Answer) → Plain g t y call a → P g
+pub run : (me : List ℕ) (y : ℕ) (h : List Told) (P : List Told → Type 0) → P h
+    → ((g : List Told) (t : Stamp) (call : Call) (a : Answer) → Plain me g t y call a → P g
     → P (next g t (Asked y call true a)))
-    → (es : List Told) → IsLegal (es ++ h) → AllFollow (es ++ h) → OthersKeepTo (es ++ h) → Undisturbed y es h
+    → (es : List Told) → IsLegal (es ++ h) → AllFollow (es ++ h) → OthersKeepTo me (es ++ h) → Undisturbed y es h
     → P (es ++ h)
-run y h P base step [] l a o u = base
-run y h P base step (e ∷ es) l a o u =
+run me y h P base step [] l a o u = base
+run me y h P base step (e ∷ es) l a o u =
     let before = λ (z : ℕ). followed z e.deed (own z (es ++ h)) (a z) in
-    by_deed y P step (es ++ h) e.stamp e.deed u.0 (always (es ++ h) l.2 before o.1) l.0 (may_do (es ++ h) e.deed a)
-    (run y h P base step es l.2 before o.1 u.1)
+    by_deed y P step (es ++ h) e.stamp e.deed u.0 (always me (es ++ h) l.2 before o.1) l.0 (may_do (es ++ h) e.deed a)
+    (run me y h P base step es l.2 before o.1 u.1)
 
 -- What each entry keeps holds after any number of them.
-pub onward : (h : List Told) (P : List Told → Type 0) → (Inv h → P h)
-    → ((g : List Told) (t : Stamp) (d : Deed) → Inv g → Grows g (next g t d) t → Inv (next g t d) → P g
+pub onward : (me : List ℕ) (h : List Told) (P : List Told → Type 0) → (Inv me h → P h)
+    → ((g : List Told) (t : Stamp) (d : Deed) → Inv me g → Grows me g (next g t d) t → Inv me (next g t d) → P g
     → P (next g t d))
-    → (es : List Told) → IsLegal (es ++ h) → AllFollow (es ++ h) → OthersKeepTo (es ++ h) → P (es ++ h)
-onward h P base step [] l a o = base (always h l a o)
-onward h P base step (e ∷ es) l a o =
+    → (es : List Told) → IsLegal (es ++ h) → AllFollow (es ++ h) → OthersKeepTo me (es ++ h) → P (es ++ h)
+onward me h P base step [] l a o = base (always me h l a o)
+onward me h P base step (e ∷ es) l a o =
     let before = λ (z : ℕ). followed z e.deed (own z (es ++ h)) (a z) in
-    let f = always (es ++ h) l.2 before o.1 in
+    let f = always me (es ++ h) l.2 before o.1 in
     let k = entry_kept (es ++ h) e.stamp e.deed f l.0 l.1 (may_do (es ++ h) e.deed a) o.0 in
     step (es ++ h) e.stamp e.deed f k.change.grows
-    (inv_kept (es ++ h) (next (es ++ h) e.stamp e.deed) e.stamp f k.change)
-    (onward h P base step es l.2 before o.1)
+    (inv_kept me (es ++ h) (next (es ++ h) e.stamp e.deed) e.stamp f k.change)
+    (onward me h P base step es l.2 before o.1)
 
 -- The histories behind an undisturbed sync keep what is asked of the whole.
 pub legal_before : (h es : List Told) → IsLegal (es ++ h) → IsLegal h
@@ -92,6 +93,6 @@ followed_before h [] a = a
 followed_before h (e ∷ es) a = followed_before h es (λ z. followed z e.deed (own z (es ++ h)) (a z))
 
 -- Others kept to the premises in what came before.
-pub kept_before : (h es : List Told) → OthersKeepTo (es ++ h) → OthersKeepTo h
-kept_before h [] o = o
-kept_before h (e ∷ es) o = kept_before h es o.1
+pub kept_before : (me : List ℕ) (h es : List Told) → OthersKeepTo me (es ++ h) → OthersKeepTo me h
+kept_before me h [] o = o
+kept_before me h (e ∷ es) o = kept_before me h es o.1

@@ -1,6 +1,6 @@
 -- Lists of calls that compute: two replicas, a stall between claim and start, help, adoption, Replace with a deletion,
 -- a name that is taken; and lists that break a promise, each refused at the call where it goes wrong.
-use Rattle.std.proofs.Common.{◌≡◌, inl, inr, ℕ, ◌<◌, ◌==◌, Bool, true, false, List, [], ◌∷◌, ◌++◌, length, None, refl, sym, ap, subst, ◌∙◌, arith}
+use Rattle.std.proofs.Common.{◌≡◌, ◌⊎◌, inl, inr, ℕ, ◌<◌, ◌==◌, Bool, true, false, List, [], ◌∷◌, ◌++◌, length, None, refl, sym, ap, subst, ◌∙◌, arith}
 use Rattle.std.specs.Prelude.{if◌then◌else◌}
 use Rattle.cj_fence.specs.declared.policy.Policy.{Policy}
 use Rattle.cj_fence.specs.declared.policy.Policy.TheVariants.{Allow, Forbid, Replace}
@@ -18,10 +18,11 @@ use Rattle.cj_fence.specs.declared.sync.Sync.TheVariants.{Over}
 use Rattle.cj_fence.specs.Texts.{is_same}
 use Rattle.cj_fence.specs.Tables.{put}
 use Rattle.cj_fence.specs.Objects.{ref}
-use Rattle.cj_fence.specs.Server.{served}
+use Rattle.cj_fence.specs.Server.{made, served}
 use Rattle.cj_fence.specs.Protocol.{seen_of, May, Follows}
-use Rattle.cj_fence.specs.History.{Deed, Asked, Wrote, Told, state_of, GaveUid, GaveVersion, IsFresh, Answered, IsLegal, AllFollow, own_after, own, started}
-use Rattle.cj_fence.specs.Others.{OthersKeepTo}
+use Rattle.cj_fence.specs.History.{Deed, Asked, Wrote, Told, state_of, GaveUid, GaveVersion, IsFresh, IsAnswer, Answered, Listed, IsLegal, AllFollow, own_after, own, started}
+use Rattle.cj_fence.specs.Others.{KeepsJob, OthersKeepTo}
+use Rattle.cj_fence.specs.Fence.{Always, IsClaimed}
 use Rattle.cj_fence.proofs.FenceLemmas.Entries.{same_number}
 use Rattle.cj_fence.proofs.FenceLemmas.Whole.{followed}
 
@@ -195,7 +196,7 @@ whole_follows = all_follow whole (refl, (refl, (refl, (refl, (tt, tt))))) (
 )
 
 -- The user who created the CronJob keeps to the premises.
-pub whole_keeps_to : OthersKeepTo whole
+pub whole_keeps_to : OthersKeepTo (id 0) whole
 whole_keeps_to = (tt, (tt, (tt, (tt, (tt, tt)))))
 
 -- ---- help
@@ -316,7 +317,8 @@ no_other m = m
 
 -- a claim that leaves its Job out of status.active
 abbrev leaves_out : Call
-leaves_out = Of.Claim (record { name = id 7; uid = id 0; version = id 0; time = 5; job = ref (id 5) (id 2); active = [] })
+leaves_out =
+    Of.Claim (record { name = id 7; uid = id 0; version = id 0; time = 5; job = ref (id 5) (id 2); active = [] })
 
 abbrev before_claim : List Told
 before_claim = asks 1 (hold 5 Forbid) (asks 1 get (born Forbid))
@@ -387,3 +389,139 @@ pub not_at_once : May (seen_of (own 1 (asks 1 get (born Forbid))))
     (Of.Create (id 5) (record (job_for 5 Forbid) { held = false })) → ⊥
 unfolding is_same put
 not_at_once m = absurd (cc m.held)
+
+-- a sync that creates its Job started: no protocol lets it, but the server takes it
+abbrev created_started : List Told
+created_started = asks 1 (Of.Create (id 5) (record (job_for 5 Forbid) { held = false })) (asks 1 get (born Forbid))
+
+-- Each answer in it is the server's.
+pub created_is_legal : IsLegal created_started
+unfolding is_same put
+created_is_legal = (
+  next_is_fresh (asks 1 get (born Forbid)) (refl, (refl, tt)),
+  Answered refl refl,
+  (next_is_fresh (born Forbid) (refl, tt), Answered refl refl, (next_is_fresh [] tt, tt, tt)),
+)
+
+-- What is started so wasn't claimed, and the law says that it was.
+pub not_started_so : Always (IsClaimed (id 0)) created_started → ⊥
+unfolding is_same put
+not_started_so a =
+    let k = a.0.before (ref (id 5) (id 2)) (made (stamp (asks 1 get (born Forbid)))
+    (record (job_for 5 Forbid) { held = false })) refl refl refl in
+    absurd (cc k.claimed)
+
+-- a list row by row: the Job of the time 5 as it was before its start, and in another order
+abbrev listed_late : Answer
+listed_late = Is.Jobs (record { name = id 5; object = made (stamp (asks 1 get (born Forbid))) (job_for 5 Forbid) } ∷ [])
+
+-- Such a list can be heard.
+pub rows_late : IsAnswer whole (stamp whole) Of.ListJobs false listed_late
+unfolding is_same put
+rows_late = Listed
+    (record { name = id 5; object = made (stamp (asks 1 get (born Forbid))) (job_for 5 Forbid) } ∷ [])
+    refl refl (inr (inl refl), tt)
+
+-- a sync that holds a Job which it then leaves alone, for another name
+abbrev leaves_alone : List Told
+leaves_alone = asks 1 (Of.Create (id 50) (job_for 5 Forbid)) before_claim
+
+-- The other one is claimed in its place.
+pub takes_another : May (seen_of (own 1 leaves_alone)) (Of.Claim (record {
+  name = id 7;
+  uid = id 0;
+  version = id 0;
+  time = 5;
+  job = ref (id 50) (id 3);
+  active = ref (id 50) (id 3) ∷ [];
+}))
+unfolding is_same put
+takes_another = record { name = refl; uid = refl; version = refl; time = refl; job = refl; active = refl }
+
+-- a DELETE before a start that somebody refuses, who may not have asked the server
+abbrev refused_delete : List Told
+refused_delete = hears 2 (Of.Delete (ref (id 5) (id 2))) Is.Refused replaced
+
+-- It lets nothing be started.
+pub not_refused : seen_of (own 2 refused_delete) ≡ Over
+unfolding is_same put
+not_refused = refl
+
+-- a Job that status.active names twice
+abbrev named_twice : List Told
+named_twice = asks 2 (Of.GetJob (id 5)) (asks 2 (Of.GetJob (id 5)) (asks 2 get (writes (By.PutCron (id 7) (record
+    (cron_of Replace) { last = 5; active = ref (id 5) (id 2) ∷ ref (id 5) (id 2) ∷ [] }))
+    (asks 1 (start_of 5 2) (claimed_by_one Replace)))))
+
+-- It counts once.
+pub counts_once : May (seen_of (own 2 named_twice)) (Of.Tidy (record {
+  name = id 7;
+  uid = id 0;
+  version = id 5;
+  active = ref (id 5) (id 2) ∷ [];
+}))
+unfolding is_same put
+counts_once = record { name = refl; uid = refl; version = refl; active = refl; changes = λ e. absurd (cc e) }
+
+-- a status.active as Kubernetes' own controller can leave it: with a reference that has no name
+abbrev nameless : List Told
+nameless = asks 2 get (writes (By.PutCron (id 7) (record (cron_of Forbid) { active = ref [] (id 3) ∷ [] }))
+    (born Forbid))
+
+-- It may be written without it, and nothing is to be read first.
+pub drops_nameless : May (seen_of (own 2 nameless)) (Of.Tidy (record {
+  name = id 7;
+  uid = id 0;
+  version = id 1;
+  active = [];
+}))
+unfolding is_same put
+drops_nameless = record { name = refl; uid = refl; version = refl; active = refl; changes = λ e. absurd (cc e) }
+
+-- No Job is made without a name.
+pub no_name : (served (state_of (born Forbid)) (stamp (born Forbid)) (Of.Create [] (job_for 5 Forbid))).answer
+    ≡ Is.Refused
+no_name = refl
+
+-- a Job with finalizers that was deleted
+abbrev deleted_once : List Told
+deleted_once = asks 1 (Of.Delete (ref (id 5) (id 1)))
+    (writes (By.PutJob (id 5) (record stranger { pinned = true })) (born Forbid))
+
+-- A second DELETE writes nothing.
+pub no_version : state_of (asks 1 (Of.Delete (ref (id 5) (id 1))) deleted_once) ≡ state_of deleted_once
+unfolding is_same put
+no_version = refl
+
+-- a Job of another CronJob that somebody orphans, while one of this CronJob is claimed
+abbrev orphaned : List Told
+orphaned = writes (By.PutJob (id 8) (record stranger { owner = [] }))
+    (writes (By.PutJob (id 8) stranger) (claimed_by_one Forbid))
+
+-- For orphan_keeps_to: neither that Job nor what is made of it is of this CronJob.
+not_mine : (j i : Job) → (id 9 ≡ id 0) ⊎ ([] ≡ id 0) → KeepsJob j i
+not_mine j i (inl e) = absurd (cc e)
+not_mine j i (inr e) = absurd (cc e)
+
+-- For this CronJob that keeps to the premises.
+pub orphan_keeps_to : OthersKeepTo (id 0) orphaned
+unfolding is_same put
+orphan_keeps_to = (
+  λ e. not_mine (record stranger { owner = [] }) (made (stamp (claimed_by_one Forbid)) stranger) e,
+  (tt, (tt, (tt, (tt, (tt, tt))))),
+)
+
+-- For the other one it doesn't.
+pub orphan_breaks : OthersKeepTo (id 9) orphaned → ⊥
+unfolding is_same put
+orphan_breaks k = absurd (cc (k.0 (inl refl)).owner)
+
+-- a status.active that names a Job of another controller, as its uid has it
+abbrev names_strangers : List Told
+names_strangers = asks 2 (Of.GetJob (id 5)) (asks 2 get (writes (By.PutCron (id 7) (record (cron_of Allow)
+    { active = ref (id 5) (id 1) ∷ [] })) (writes (By.PutJob (id 5) (record stranger { held = true })) (born Allow))))
+
+-- A sync doesn't start it.
+pub not_of_another : May (seen_of (own 2 names_strangers)) (start_of 5 1) → ⊥
+unfolding is_same put
+not_of_another m = m

@@ -9,14 +9,15 @@ use Rattle.cj_fence.specs.declared.objects.Job.{Job}
 use Rattle.cj_fence.specs.declared.answer.Stamp.{Stamp}
 use Rattle.cj_fence.specs.Objects.{look}
 use Rattle.cj_fence.specs.Protocol.{Own, seen_of, May, Follows}
-use Rattle.cj_fence.specs.History.{Deed, Asked, Wrote, Told, state_of, IsFresh, IsHeard, IsLegal, AllFollow, Claimed, claim_of, started, own_after, own}
+use Rattle.cj_fence.specs.History.{Deed, Asked, Wrote, Told, state_of, IsFresh, IsHeard, IsLegal, AllFollow, Claimed, claims, claim_of, starts, started, own_after, own}
 use Rattle.cj_fence.specs.Others.{DeedKeepsTo, OthersKeepTo}
-use Rattle.cj_fence.specs.Fence.{Always, IsOnce, IsOver, IsAlone, IsOf, IsClaimed, IsRising, FenceLaw}
-use Rattle.cj_fence.proofs.FenceLemmas.Basics.{either_way, look_found}
-use Rattle.cj_fence.proofs.FenceLemmas.Facts.{ref, IsDead, Dead, Leaving, Inv}
-use Rattle.cj_fence.proofs.FenceLemmas.Grows.{IsStarting, is_held, job_is_old}
-use Rattle.cj_fence.proofs.FenceLemmas.Kept.{inv_kept}
-use Rattle.cj_fence.proofs.FenceLemmas.Entries.{Rests, Kept, wrote_kept, call_kept}
+use Rattle.cj_fence.specs.Fence.{Always, IsOnce, IsOver, IsAlone, IsOf, WasClaimed, IsClaimed, IsRising, FenceLaw}
+use Rattle.cj_fence.proofs.FenceLemmas.Basics.{first_true, either_way, look_found}
+use Rattle.cj_fence.proofs.FenceLemmas.Facts.{ref, IsDead, Dead, Leaving, Owned, IsOwn, Inv}
+use Rattle.cj_fence.proofs.FenceLemmas.Grows.{IsStarting, is_held, job_is_old, claim_mine, claimed_own, owned_before}
+use Rattle.cj_fence.proofs.FenceLemmas.Kept.{inv_kept, gave_of}
+use Rattle.cj_fence.proofs.FenceLemmas.Moves.{claim_stays}
+use Rattle.cj_fence.proofs.FenceLemmas.Entries.{StartFact, Kept, wrote_kept, call_kept}
 
 -- ---- who follows
 
@@ -48,67 +49,70 @@ may_do h (Asked x call reached a) f =
 -- ---- all facts
 
 -- Every entry keeps all facts.
-pub entry_kept : (h : List Told) (t : Stamp) (d : Deed) → Inv h → IsFresh h t → IsHeard h t d → MayDo h d
-    → DeedKeepsTo (state_of h) d → Kept h t d
+pub entry_kept : {me : List ℕ} (h : List Told) (t : Stamp) (d : Deed) → Inv me h → IsFresh h t → IsHeard h t d
+    → MayDo h d → DeedKeepsTo me (state_of h) d → Kept me h t d
 entry_kept h t (Asked y call reached a) f fresh k m p = call_kept h t y call reached a f fresh m k
 entry_kept h t (Wrote w) f fresh k m p = wrote_kept h t w f fresh p
 
 -- Before the first call there is nothing.
-at_start : Inv []
-at_start = record {
+at_start : (me : List ℕ) → Inv me []
+at_start me = record {
   jobs = λ n j old. absurd old;
   held = λ n j at. absurd (cc at);
   crons = λ n c old. absurd old;
+  status = λ n c old. absurd old;
   now = λ n c at. absurd (cc at);
   claims = λ r k is. absurd (cc is);
+  orderly = λ r k is. absurd (cc is);
+  gave = λ r e. absurd (cc e);
   started = λ r e. absurd (cc e);
   syncs = λ y. tt;
 }
 
 -- All facts hold after every history.
-pub always : (h : List Told) → IsLegal h → AllFollow h → OthersKeepTo h → Inv h
-always [] l a o = at_start
-always (e ∷ h) l a o =
-    let f = always h l.2 (λ y. followed y e.deed (own y h) (a y)) o.1 in
-    inv_kept h (e ∷ h) e.stamp f (entry_kept h e.stamp e.deed f l.0 l.1 (may_do h e.deed a) o.0).change
+pub always : (me : List ℕ) (h : List Told) → IsLegal h → AllFollow h → OthersKeepTo me h → Inv me h
+always me [] l a o = at_start me
+always me (e ∷ h) l a o =
+    let f = always me h l.2 (λ y. followed y e.deed (own y h) (a y)) o.1 in
+    inv_kept me h (e ∷ h) e.stamp f (entry_kept h e.stamp e.deed f l.0 l.1 (may_do h e.deed a) o.0).change
 
--- What an entry starts and claims rests on what came before.
-pub rests_at : (e : Told) (h : List Told) → IsLegal (e ∷ h) → AllFollow (e ∷ h) → OthersKeepTo (e ∷ h)
-    → Inv h × Rests h e.deed
-rests_at e h l a o =
-    let f = always h l.2 (λ y. followed y e.deed (own y h) (a y)) o.1 in
-    (f, (entry_kept h e.stamp e.deed f l.0 l.1 (may_do h e.deed a) o.0).rests)
-
--- What follows for each entry from the facts holds always.
-pub throughout : (P : Told → List Told → Type 0) → ((e : Told) (h : List Told) → Inv h → Rests h e.deed → P e h)
-    → (h : List Told) → IsLegal h → AllFollow h → OthersKeepTo h → Always P h
-throughout P f [] l a o = tt
-throughout P f (e ∷ h) l a o =
-    let r = rests_at e h l a o in
-    (f e h r.0 r.1, throughout P f h l.2 (λ y. followed y e.deed (own y h) (a y)) o.1)
+-- What follows for each entry from the facts before it and after it holds always.
+pub throughout : (me : List ℕ) (P : Told → List Told → Type 0)
+    → ((e : Told) (h : List Told) → Inv me h → Kept me h e.stamp e.deed → Inv me (e ∷ h) → P e h)
+    → (h : List Told) → IsLegal h → AllFollow h → OthersKeepTo me h → Always P h
+throughout me P f [] l a o = tt
+throughout me P f (e ∷ h) l a o =
+    let before = λ (y : ℕ). followed y e.deed (own y h) (a y) in
+    let i = always me h l.2 before o.1 in
+    let k = entry_kept h e.stamp e.deed i l.0 l.1 (may_do h e.deed a) o.0 in
+    (f e h i k (inv_kept me h (e ∷ h) e.stamp i k.change), throughout me P f h l.2 before o.1)
 
 -- What follows from the facts and from who may call holds always.
-pub always_by : (P : Told → List Told → Type 0) → ((e : Told) (h : List Told) → Inv h → MayDo h e.deed → P e h)
-    → (h : List Told) → IsLegal h → AllFollow h → OthersKeepTo h → Always P h
-always_by P f [] l a o = tt
-always_by P f (e ∷ h) l a o =
+pub always_by : (me : List ℕ) (P : Told → List Told → Type 0)
+    → ((e : Told) (h : List Told) → Inv me h → MayDo h e.deed → P e h)
+    → (h : List Told) → IsLegal h → AllFollow h → OthersKeepTo me h → Always P h
+always_by me P f [] l a o = tt
+always_by me P f (e ∷ h) l a o =
     let before = λ (y : ℕ). followed y e.deed (own y h) (a y) in
-    (f e h (always h l.2 before o.1) (may_do h e.deed a), always_by P f h l.2 before o.1)
+    (f e h (always me h l.2 before o.1) (may_do h e.deed a), always_by me P f h l.2 before o.1)
 
 -- ---- the laws
 
--- A Job that is started wasn't started before.
-not_twice : {h : List Told} → Inv h → (r : Ref) → IsStarting h r → started h r ≡ true → ⊥
-not_twice {h} f r s e =
-    let n = f.held r.name s.job s.stands (is_held s.job s.waits_yet) in
+-- A Job of the CronJob that is started wasn't started before.
+not_twice : {me : List ℕ} {h : List Told} → Inv me h → (r : Ref) → IsOwn me h r → IsStarting h r
+    → started h r ≡ true → ⊥
+not_twice {me} {h} f r own s e =
+    let n = f.held r.name s.job s.stands (own.stands s.job s.stands s.uid) (is_held s.job s.waits_yet) in
     let m : started h r ≡ false = subst (λ (u : List ℕ). started h (ref r.name u) ≡ false) s.uid n in
     absurd (cc (m, e))
 
--- No entry starts a second Job of one CronJob and one time.
-once_at : (e : Told) (h : List Told) → Inv h → Rests h e.deed → IsOnce e h
-once_at e h f k r x c d s before is was o t =
-    let same : x ≡ r = (f.claims r c is).unique x d was o t in
-    not_twice f r (k.starts_fact r s).starts_it (subst (λ (z : Ref). started h z ≡ true) same before)
+-- No entry starts a second Job of the CronJob and one time.
+once_at : (me : List ℕ) (e : Told) (h : List Told) → Inv me h → Kept me h e.stamp e.deed → Inv me (e ∷ h)
+    → IsOnce me e h
+once_at me e h f k g r x c d s before is was oc od t =
+    let same : x ≡ r = (f.orderly r c is oc).unique x d was (od ∙ sym oc) t in
+    not_twice f r (claimed_own f r c is oc) (k.rests.starts_fact r s (claim_mine f r c is oc)).starts_it
+    (subst (λ (z : Ref). started h z ≡ true) same before)
 
 -- For alone_at: what was claimed before is over.
 over_by : (h : List Told) (p : Policy) (x : Ref) → started h x ≡ true → (p ≡ Forbid → Dead h x)
@@ -128,49 +132,64 @@ over_by h Replace x s d l (Some j) e =
     l refl j a.0 a.1
 
 -- What an entry starts under Forbid or Replace is alone.
-alone_at : (e : Told) (h : List Told) → Inv h → Rests h e.deed → IsAlone e h
-alone_at e h f k r x c d s before is was o = by_time (either_way d.time c.time)
+alone_at : (me : List ℕ) (e : Told) (h : List Told) → Inv me h → Kept me h e.stamp e.deed → Inv me (e ∷ h)
+    → IsAlone me e h
+alone_at me e h f k g r x c d s before is was oc od = by_time (either_way d.time c.time)
   where
+    start : StartFact me h r
+    start = k.rests.starts_fact r s (claim_mine f r c is oc)
+
     by_time : (d.time < c.time) ⊎ ((d.time ≡ c.time) ⊎ (c.time < d.time)) → IsOver c.policy (look (state_of h).jobs x)
     by_time (inl l) =
-        let a = k.starts_fact r s in
-        let same : a.claim ≡ c = cc (sym a.is ∙ is) in
+        let same : start.claim ≡ c = cc (sym start.is ∙ is) in
         let b = subst (λ (z : Claimed). z.policy ≡ Replace → (q : Ref) (m : Claimed) → claim_of h q ≡ Some m
-        → m.owner ≡ z.owner → m.time < z.time → Leaving h q) same a.leaves in
-        over_by h c.policy x before ((f.claims r c is).passed x d was o l).dead
-        (λ p. b p x d was o l) (look (state_of h).jobs x) refl
-    by_time (inr (inl t)) = absurd (once_at e h f k r x c d s before is was o t)
+        → m.owner ≡ z.owner → m.time < z.time → Leaving h q) same start.leaves in
+        over_by h c.policy x before ((f.orderly r c is oc).passed x d was (od ∙ sym oc) l).dead
+        (λ p. b p x d was (od ∙ sym oc) l) (look (state_of h).jobs x) refl
+    by_time (inr (inl t)) = absurd (once_at me e h f k g r x c d s before is was oc od t)
     by_time (inr (inr l)) =
-        let a = (k.starts_fact r s).starts_it in
-        let n = ((f.claims x d was).passed r c is (sym o) l).settled a.job a.stands a.uid in
+        let a = start.starts_it in
+        let n = ((f.orderly x d was od).passed r c is (oc ∙ sym od) l).settled a.job a.stands a.uid in
         absurd (cc (a.waits_yet, n))
 
--- A claimed Job has the controller and the time of its claim.
-of_claim : {h : List Told} → Inv h → (r : Ref) (k : Claimed) → claim_of h r ≡ Some k → (j : Job)
-    → look (state_of h).jobs r ≡ Some j → IsOf k j
-of_claim {h} f r k is j e =
+-- A Job claimed for the CronJob has the controller and the time of its claim.
+of_claim : {me : List ℕ} {h : List Told} → Inv me h → (r : Ref) (k : Claimed) → claim_of h r ≡ Some k → k.owner ≡ me
+    → (j : Job) → look (state_of h).jobs r ≡ Some j → IsOf k j
+of_claim {me} {h} f r k is o j e =
     let c = f.claims r k is in
     let a = look_found (state_of h).jobs r j e in
-    let b = (f.jobs r.name c.job c.was).alike j (job_is_old h r.name j a.0) (a.1 ∙ sym c.uid) in
+    let b = (f.jobs r.name c.job c.was).alike j (job_is_old h r.name j a.0) (a.1 ∙ sym c.uid) (c.owner ∙ o) in
     record { owner = sym b.owner ∙ c.owner; time = sym b.time ∙ c.time }
 
--- What an entry starts was claimed, and what it claims was not.
-claimed_at : (e : Told) (h : List Told) → Inv h → Rests h e.deed → IsClaimed e h
-claimed_at e h f k = record {
-  before = λ r s. let a = k.starts_fact r s in
-      record { claim = a.claim; claimed = a.is; job = of_claim f r a.claim a.is };
-  once = λ r c d e is. absurd (cc ((k.claims_fact r c e).first, is));
+-- What an entry starts of the CronJob was claimed, and what it claims for it was not.
+claimed_at : (me : List ℕ) (e : Told) (h : List Told) → Inv me h → Kept me h e.stamp e.deed → Inv me (e ∷ h)
+    → IsClaimed me e h
+claimed_at me e h f k g = record {
+  before = before;
+  once = λ r c d q o is. absurd (cc ((k.rests.claims_fact r c q o).first, is));
 }
+  where
+    before : (r : Ref) (j : Job) → starts (state_of h) e.stamp e.deed r ≡ true → look (state_of (e ∷ h)).jobs r ≡ Some j
+        → j.owner ≡ me → WasClaimed h r j
+    before r j s at o =
+        let p = look_found (state_of (e ∷ h)).jobs r j at in
+        let now : Owned (e ∷ h) me r = record { job = j; was = inl p.0; uid = p.1; owner = o } in
+        let so : started (e ∷ h) r ≡ true = first_true (starts (state_of h) e.stamp e.deed r) (started h r) s in
+        let w = k.change.grows in
+        let a = k.rests.starts_fact r s (owned_before w r (gave_of f r (w.starts r so)) now) in
+        let is = claim_stays (claim_of h r) (claims (state_of h) e.deed r) a.claim a.is in
+        record { claim = a.claim; claimed = a.is; job = of_claim g r a.claim is a.owner j at }
 
--- What an entry claims is of a later time.
-rising_at : (e : Told) (h : List Told) → Inv h → Rests h e.deed → IsRising e h
-rising_at e h f k r x c d s was o = (k.claims_fact r c s).rises x d was o
+-- What an entry claims for the CronJob is of a later time.
+rising_at : (me : List ℕ) (e : Told) (h : List Told) → Inv me h → Kept me h e.stamp e.deed → Inv me (e ∷ h)
+    → IsRising me e h
+rising_at me e h f k g r x c d s was oc od = (k.rests.claims_fact r c s oc).rises x d was (od ∙ sym oc)
 
 -- The fenced start keeps what it promises.
 pub fenced : FenceLaw
-fenced h l a o = (
-  throughout IsOnce once_at h l a o,
-  throughout IsAlone alone_at h l a o,
-  throughout IsClaimed claimed_at h l a o,
-  throughout IsRising rising_at h l a o,
+fenced u h l a o = (
+  throughout u (IsOnce u) (once_at u) h l a o,
+  throughout u (IsAlone u) (alone_at u) h l a o,
+  throughout u (IsClaimed u) (claimed_at u) h l a o,
+  throughout u (IsRising u) (rising_at u) h l a o,
 )

@@ -1,7 +1,7 @@
 -- fence_law: its ensures, that whoever calls what, once, alone, claimed and rising hold; and the samples.
 use Rattle.cj_fence.proofs.laws.fence_law.Goals as goal
 use Rattle.cj_fence.proofs.FenceLemmas.Whole.{fenced}
-use Rattle.cj_fence.proofs.FenceLemmas.Samples.{not_under_forbid, not_again, not_by_name, not_at_once, whole_is_legal, whole_follows, whole_keeps_to, another_name, one_may_start, one_starts, two_helps, late_start, late_is_refused, not_beside, first_deletes, then_starts, helper_waits, helper_deletes, adopts, not_adopted, other_policy, no_other, not_left_out, is_conflict, nothing_made, not_garbage, not_by_cache}
+use Rattle.cj_fence.proofs.FenceLemmas.Samples.{not_under_forbid, not_again, not_by_name, not_at_once, whole_is_legal, whole_follows, whole_keeps_to, another_name, one_may_start, one_starts, two_helps, late_start, late_is_refused, not_beside, first_deletes, then_starts, helper_waits, helper_deletes, adopts, not_adopted, other_policy, no_other, not_left_out, is_conflict, nothing_made, not_garbage, not_by_cache, created_is_legal, not_started_so, rows_late, takes_another, not_refused, counts_once, drops_nameless, no_name, no_version, orphan_keeps_to, orphan_breaks, not_of_another}
 
 pub returns : goal.returns
 returns c =
@@ -32,4 +32,16 @@ returns c =
     let s16 = nothing_made in
     let s17 = not_garbage in
     let s18 = not_by_cache in
+    let s19 = created_is_legal in
+    let s20 = not_started_so in
+    let s21 = rows_late in
+    let s22 = takes_another in
+    let s23 = not_refused in
+    let s24 = counts_once in
+    let s25 = drops_nameless in
+    let s26 = no_name in
+    let s27 = no_version in
+    let s28 = orphan_keeps_to in
+    let s29 = orphan_breaks in
+    let s30 = not_of_another in
     fenced
