@@ -1,7 +1,9 @@
 pub mod Known
-pub mod Syncing
+pub mod Settled
 pub mod Among
+pub mod IntervalLemmas
 pub mod Listing
 pub mod Whole
+pub mod Made
 pub mod Late
 pub mod Sample

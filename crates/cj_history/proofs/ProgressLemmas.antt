@@ -23,5 +23,8 @@ pub mod Led
 pub mod Synced
 pub mod Since
 pub mod Near
+pub mod OneKey
+pub mod Runs
 pub mod HourSample
 pub mod EverySample
+pub mod ForbidSample

@@ -5,10 +5,10 @@
 //! Here belongs a second reading of what the crates below define by a state: of what is written
 //! (`store`) and queued (`queue`), and that what is written of a created object reads back
 //! (`manifests`); `legal_law` and `answer_law` say that the two readings agree. The program rests
-//! on `gaps_of` alone, whose gaps it tells people of a run. What is sure to come stands here too
-//! (`progress`): the queue forgets nothing that is due, a sync that nobody disturbs makes its Job,
-//! and such syncs, one after the other, just those of the due times; and which due times got no
-//! Job, and why (`gaps`), for whoever reports of a history.
+//! on `gaps_of` and `all_gaps_of` alone, whose gaps it tells people of a run. What is sure to come
+//! stands here too (`progress`): the queue forgets nothing that is due, a sync that nobody disturbs
+//! makes its Job, and such syncs, one after the other, just those of the due times; and which due
+//! times got no Job, and why (`gaps`), for whoever reports of a history.
 //!
 //! docs/ARCHITECTURE.md has a glossary of house words.
 #![tactic(auto)]
@@ -20,7 +20,7 @@ pub mod progress;
 pub mod queue;
 pub mod store;
 
-pub use gaps::{Gap, Why, gaps_of, late_of};
+pub use gaps::{Gap, Standing, Why, all_gaps_of, gaps_of, made_or_told_law};
 pub use laws::{answer_law, exclusive_law, legal_law, once_law, time_law};
 pub use manifests::created_laws;
 pub use progress::{every_time_law, no_key_is_lost_law, progress_law};

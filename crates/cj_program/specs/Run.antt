@@ -1,5 +1,5 @@
 -- What `run` answers of a scenario.
-use Rattle.std.specs.Prelude.{◌≡◌, ◌≢◌, ◌⊎◌, ℕ, ◌≤◌, List, ◌++◌, length, reverse, Option, IfSome, Bool}
+use Rattle.std.specs.Prelude.{◌≡◌, ◌≢◌, ◌⊎◌, ℕ, ◌≤◌, List, ◌++◌, length, Option, IfSome, Bool}
 use Rattle.cj_scenario.specs.declared.fault.SceneFault.{SceneFault}
 use Rattle.cj_scenario.specs.declared.fault.SceneFault.TheVariants as Why
 use Rattle.cj_scenario.specs.declared.detection.form.Form.TheVariants as A
@@ -35,11 +35,12 @@ pub record PrintsReport (r : RunRequest) (given : GivenZones) (bytes : List ℕ)
   pub text : List ℕ
   pub run : IsRun simulation r.workers log text
   pub printed : List ℕ
-  pub shown : IsShown r (reverse log.history) text printed
+  pub shown : IsShown r simulation.span simulation.zones log text printed
   pub seen : List ℕ
   pub looked : IsAskedDetection r.explain A.Simulation bytes seen
   pub remark : List ℕ
-  pub remarked : IsAskedRemark r.explain most_lines simulation.span log remark
+  pub remarked : IsAskedRemark r.explain most_lines simulation.span simulation.zones log
+      remark
   pub answer : o ≡ explained r.explain (seen ++ remark) (done printed)
 
 -- what the bytes are answered under these zones

@@ -5,4 +5,5 @@ pub mod Families
 pub mod Order
 pub mod Gaps
 pub mod Suspended
+pub mod Standings
 pub mod Remarks

@@ -5,7 +5,8 @@ mod gaps;
 mod idle;
 mod order;
 mod refused;
+mod standings;
 mod suspended;
 mod whole;
 
-pub(crate) use whole::{asked_remark, entries_of};
+pub(crate) use whole::{asked_remark, entries_of, gaps_in};

@@ -63,9 +63,10 @@ fn answered<T: Threads + Wait + Sync>(
         run.explain,
         MOST_LINES,
         &simulation.span,
+        &simulation.zones,
         ran.closed.get(),
     )?;
-    let printed = shown(alloc, run, ran)?;
+    let printed = shown(alloc, run, simulation, ran)?;
     Ok(reported(alloc, run.explain, printed, seen.as_str(), remark.as_str())?)
 }
 

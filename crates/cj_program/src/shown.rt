@@ -1,17 +1,17 @@
 // What is printed of a run.
 ghost use Rattle.std.specs.Prelude.{IfOk, string_bytes};
-ghost use mathlib.Core.List.{reverse};
 ghost use Rattle.cj_program.specs.Shown.{IsShown};
 
 use crate::as_json::run_json;
 use crate::remarks::entries_of;
 use cj_answers::is_json;
 use cj_args::RunRequest;
-use cj_calls::Entry;
+use cj_hub::Closed;
 use cj_io::Failure;
 use cj_picture::picture_text;
 use cj_report::{history_text, timeline_text};
 use cj_run::Ran;
+use cj_script::Simulation;
 use std::alloc::Global;
 use std::mem;
 
@@ -20,12 +20,14 @@ use std::mem;
 fn shown_text(
     alloc: Global,
     run: &RunRequest<'_>,
-    entries: &[Entry],
+    simulation: &Simulation,
+    closed: &Closed,
     report: String,
 ) -> Result<String, Failure>
-    ensures { IfOk result (λ s. IsShown run.now entries.now (string_bytes report)
-        (string_bytes s)) }
+    ensures { IfOk result (λ s. IsShown run.now simulation.now.span simulation.now.zones closed.now
+        (string_bytes report) (string_bytes s)) }
 {
+    let entries = entries_of(closed);
     if run.timeline {
         Ok(timeline_text(alloc, entries)?)
     } else if run.history {
@@ -33,19 +35,24 @@ fn shown_text(
     } else if run.svg {
         Ok(picture_text(alloc, entries)?)
     } else if is_json(run.output) {
-        Ok(run_json(alloc, entries)?)
+        Ok(run_json(alloc, &simulation.span, &simulation.zones, closed)?)
     } else {
         Ok(report)
     }
 }
 
-/// What is printed of a run: its report, or what else the words ask for.
-pub(crate) fn shown(alloc: Global, run: &RunRequest<'_>, ran: Ran) -> Result<String, Failure>
-    ensures { IfOk result (λ s. IsShown run.now (reverse ran.closed.history)
+/// What is printed of a run of the scenario: its report, or what else the words ask for.
+pub(crate) fn shown(
+    alloc: Global,
+    run: &RunRequest<'_>,
+    simulation: &Simulation,
+    ran: Ran,
+) -> Result<String, Failure>
+    ensures { IfOk result (λ s. IsShown run.now simulation.now.span simulation.now.zones ran.closed
         (string_bytes ran.report) (string_bytes s)) }
 {
     let Ran { report, closed } = ran;
-    let text = shown_text(alloc, run, entries_of(closed.get()), report);
+    let text = shown_text(alloc, run, simulation, closed.get(), report);
     // The program ends with its answer, so a long history isn't given back piece by piece before.
     mem::forget(closed);
     text

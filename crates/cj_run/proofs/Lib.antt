@@ -1,6 +1,10 @@
 pub mod Done
 pub mod Followed
+pub mod Caught
+pub mod Kept
+pub mod Ordered
 pub mod Validated
+pub mod Zoned
 pub mod Noted
 pub mod Reported
 pub mod Went

@@ -22,10 +22,14 @@ use Rattle.cj_run.specs.Made.{Notes, no_notes}
 use Rattle.cj_run.specs.Rounds.{GoesRounds, watch}
 use Rattle.cj_run.specs.Turns.{AllInstants, KeepsTime, turn}
 use Rattle.cj_run.specs.Validation.{IsValid}
+use Rattle.cj_run.specs.Upkeep.{ComesToRest}
+use Rattle.cj_run.specs.Zones.{AreZoned}
 use Rattle.cj_run.specs.Runs.{HasRun, IsReport, IsRun}
 use Rattle.cj_run.specs.declared.participants.Participants.{Participants}
 use Rattle.cj_run.specs.declared.drive.Driver.{Driver}
 use Rattle.cj_run.specs.declared.rest.Follower.{Follower}
+use Rattle.cj_run.proofs.Caught.{keeps_up}
+use Rattle.cj_run.proofs.Ordered.{ends_first}
 
 -- For same_count: one count of a clock's instants isn't below another.
 not_below : (s : SpanView) (a b : ℕ) → AllInstants s a → AllInstants s b → (a < b → ⊥)
@@ -123,9 +127,11 @@ pub reported : (c : Simulation) (participants : Participants) (w : WorldLog) (te
     → KeepsPromise w.limits.window w.history
     → All (IsExact w.history) ps
     → IsValid c callers user w.history
+    → AreZoned c.zones w.history
+    → ComesToRest w.limits.window c.span w.history
     → text ≡ report_of w.limits.window w.history
     → IsReport c participants w text
-reported c participants w text ps callers user are of whose numbered promise exact kept printed =
+reported c participants w text ps callers user are of whose numbered promise exact kept zoned rests printed =
     let e : callers ≡ map caller_of (passes_of participants) = of ∙ ap (map caller_of) are in
     record {
       promise = promise;
@@ -135,6 +141,8 @@ reported c participants w text ps callers user are of whose numbered promise exa
         exact = subst (λ (qs : List PassView). All (IsExact w.history) qs) are exact;
       };
       time = subst (λ (n : ℕ). KeepsTime c n w.history) whose kept.time;
+      zones = zoned;
+      rests = rests;
       printed = printed;
     }
 
@@ -153,6 +161,9 @@ run_of c workers participants w text ran r =
       promise = r.promise;
       all = r.all;
       time = r.time;
+      ends_first = ends_first c.span w.history r.time.timely;
+      zones = r.zones;
+      keeps_up = keeps_up w.limits.window c.span w.history r.promise.legal r.rests;
       done = subst (λ (n : ℕ). HasDone c n participants) e ran.done;
       printed = r.printed;
     }

@@ -12,7 +12,7 @@ use Rattle.cj_script.specs.simulation.Spans.{instant}
 use Rattle.cj_script.specs.declared.simulation.scenario.Simulation.{Simulation}
 use Rattle.cj_run.specs.Follows.{Follows}
 use Rattle.cj_run.specs.Made.{Notes, noted_news}
-use Rattle.cj_run.specs.Rounds.{EndsDue, GoesRound, GoesRounds, NotesMade, Watch, watch, without_due}
+use Rattle.cj_run.specs.Rounds.{EndsDue, FollowsOn, GoesRound, GoesRounds, NotesMade, Watch, watch, without_due}
 use Rattle.cj_run.specs.declared.rest.Follower.{Follower}
 use Rattle.cj_run.proofs.Followed.{follows_longer}
 
@@ -55,28 +55,38 @@ pub notes_made : (runs : RunTable) (at : ℕ) (news : List Receipt) (ps : List P
     → NotesMade runs at news (watch ps n) (watch ps n')
 notes_made runs at news ps n n' noted = record { passes = refl; noted = noted }
 
--- For run_instant: the ends, the informer's steps, and the notes of the receipts that it got in these.
-pub goes_round : (runs : RunTable) (at millis known : ℕ) (f f' g : Follower) (a m b : Watch) → f' ≡ f
+-- For follow: the informer's steps, and the notes of the receipts that it got in these.
+pub follows_on : (runs : RunTable) (at millis known : ℕ) (f g : Follower) (a b : Watch)
     → millis ≡ at * 1000
-    → known ≡ length f'.pass.receipts
-    → EndsDue at a m
-    → Follows millis f' g
-    → NotesMade runs at (drop known g.pass.receipts) m b
-    → GoesRound runs at f g a b
-goes_round runs at millis known f f' g a m b same moment count ends followed made =
-    let long = follows_longer millis f' g followed in
+    → known ≡ length f.pass.receipts
+    → Follows millis f g
+    → NotesMade runs at (drop known g.pass.receipts) a b
+    → FollowsOn runs at f g a b
+follows_on runs at millis known f g a b moment count followed made =
+    let long = follows_longer millis f g followed in
     let news : drop known g.pass.receipts ≡ long.0 =
     ap (λ (k : ℕ). drop k g.pass.receipts) count
-    ∙ ap (λ (p : PassView). drop (length f'.pass.receipts) p.receipts) long.1
-    ∙ drop-append_seam f'.pass.receipts long.0 in
-    subst (λ (x : Follower). GoesRound runs at x g a b) same (record {
-      between = m;
-      ends = ends;
-      followed = subst (λ (n : ℕ). Follows n f' g) moment followed;
+    ∙ ap (λ (p : PassView). drop (length f.pass.receipts) p.receipts) long.1
+    ∙ drop-append_seam f.pass.receipts long.0 in
+    record {
+      followed = subst (λ (n : ℕ). Follows n f g) moment followed;
       news = long.0;
       kept = long.1;
-      notes = subst (λ (rs : List Receipt). NotesMade runs at rs m b) news made;
-    })
+      notes = subst (λ (rs : List Receipt). NotesMade runs at rs a b) news made;
+    }
+
+-- For run_instant: the ends, and then the informer's steps, which the edits between leave as they are.
+pub goes_round : (runs : RunTable) (at : ℕ) (f f' f'' g : Follower) (a m m' b : Watch) → f' ≡ f → f'' ≡ f' → m' ≡ m
+    → EndsDue at a m
+    → FollowsOn runs at f'' g m' b
+    → GoesRound runs at f g a b
+goes_round runs at f f' f'' g a m m' b one two same ends follows =
+    record {
+      between = m;
+      ends = ends;
+      follows = subst (λ (w : Watch). FollowsOn runs at f g w b) same
+          (subst (λ (x : Follower). FollowsOn runs at x g m' b) (two ∙ one) follows);
+    }
 
 -- For drive: after the first n instants, the next makes those of n + 1.
 pub round_more : (c : Simulation) (n : ℕ) (f h g : Follower) (a m b : Watch) → GoesRounds c n f h a m

@@ -9,5 +9,7 @@ pub mod Actions
 pub mod Works
 pub mod Participants
 pub mod Validation
+pub mod Zones
+pub mod Upkeep
 pub mod Readings
 pub mod Runs

@@ -46,16 +46,21 @@ pub record NotesMade (runs : RunTable) (at : ℕ) (news : List Receipt) (a b : W
 
 -- ---- an instant
 
--- the Jobs that are due are ended, then the informer follows, and what it was shown then is noted:
--- its receipts are those that it had before, and the news
+-- the informer follows, and what it was shown then is noted: its receipts are those that it had
+-- before, and the news
+-- rules: run-clock, run-jobs
+pub record FollowsOn (runs : RunTable) (at : ℕ) (f g : Follower) (a b : Watch) : Type 0 where
+  pub followed : Follows (at * 1000) f g
+  pub news : List Receipt
+  pub kept : g.pass ≡ record f.pass { receipts = f.pass.receipts ++ news }
+  pub notes : NotesMade runs at news a b
+
+-- the Jobs that are due are ended, and then the informer follows
 -- rules: run-clock, run-jobs
 pub record GoesRound (runs : RunTable) (at : ℕ) (f g : Follower) (a b : Watch) : Type 0 where
   pub between : Watch
   pub ends : EndsDue at a between
-  pub followed : Follows (at * 1000) f g
-  pub news : List Receipt
-  pub kept : g.pass ≡ record f.pass { receipts = f.pass.receipts ++ news }
-  pub notes : NotesMade runs at news between b
+  pub follows : FollowsOn runs at f g between b
 
 -- the round at each of the first `n` instants, one after the other
 -- rules: run-clock, run-jobs

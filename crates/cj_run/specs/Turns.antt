@@ -1,8 +1,8 @@
 -- When calls are made in a run, by its clock. An instant begins with the informer's first Tick at
 -- it. It is over with the first call that belongs between it and the next one, which is one of a
 -- runner or of the user, or the informer's Shut; or else where the next one begins. Within an
--- instant informer and workers call; between two of them runners and user do.
-use Rattle.std.specs.Prelude.{◌≡◌, ◌<◌, ◌↔◌, ◌==◌, ◌+◌, ◌-◌, ◌*◌, ◌&&◌, ◌||◌, nat_le, ℕ, zero, suc, Bool, true, false, if◌then◌else◌, List, [], ◌∷◌, ◌++◌, Result, Ok, Err, map}
+-- instant informer and workers call; between two of them runners and then the user do.
+use Rattle.std.specs.Prelude.{◌≡◌, ◌<◌, ◌↔◌, ◌==◌, ◌+◌, ◌-◌, ◌*◌, ◌&&◌, ◌||◌, not, nat_le, ℕ, zero, suc, Bool, true, false, if◌then◌else◌, List, [], ◌∷◌, ◌++◌, Result, Ok, Err, map}
 use Rattle.cj_base.specs.declared.refusal.Refusal.{Refusal}
 use Rattle.cj_calls.specs.Rows.{Told}
 use Rattle.cj_calls.specs.declared.call.Call.{Call}
@@ -22,8 +22,8 @@ is_moment s n millis = nat_le (instant s n) s.end && (instant s n * 1000 == mill
 
 -- ---- how far a run is
 
-abbrev pub progress : ℕ → Bool → Progress
-progress begun on = record { begun = begun; on = on }
+abbrev pub progress : ℕ → Bool → Bool → Progress
+progress begun on edited = record { begun = begun; on = on; edited = edited }
 
 -- the next instant begins with a Tick at it, whether or not one goes on
 -- rule: run-clock
@@ -39,15 +39,21 @@ ends User call = true
 ends Informer Of.Shut = true
 ends role call = false
 
+-- the user's calls, after which no Job ends before the next instant
+-- rule: run-clock
+abbrev pub edits : Role → Bool
+edits User = true
+edits role = false
+
 -- how far a run is with the call
 abbrev pub progress_after : SpanView → Progress → Role → Call → Progress
 progress_after s p role call =
-    if begins s p role call then progress (p.begun + 1) true
-    else (if ends role call then progress p.begun false else p)
+    if begins s p role call then progress (p.begun + 1) true false
+    else (if ends role call then progress p.begun false (edits role || p.edited) else p)
 
 -- how far it is with a history
 abbrev pub progress_of : SpanView → List Told → Progress
-progress_of s [] = progress 0 false
+progress_of s [] = progress 0 false false
 progress_of s (e ∷ h) = progress_after s (progress_of s h) e.caller.role e.call
 
 -- how many instants have begun
@@ -72,30 +78,44 @@ is_within s n Worker call = true
 is_within s n Runner call = false
 is_within s n User call = false
 
--- before it: the ends of Jobs, by its moment, and the user; its first Tick, or the end of the
--- queue, and then a worker's Take that is refused
+-- the end of a Job, by the moment of the instant of that number
 -- rule: run-clock
-abbrev pub is_before : SpanView → ℕ → Role → Call → Result Reply Refusal → Bool
-is_before s n Informer (Of.Tick at) answer = is_moment s n at
-is_before s n Informer Of.Shut answer = true
-is_before s n Informer call answer = false
-is_before s n Worker Of.Take answer = is_refusal answer
-is_before s n Worker call answer = false
-is_before s n Runner (Of.EndJob key uid outcome at) answer = is_moment s n (at * 1000)
-is_before s n Runner call answer = false
-is_before s n User call answer = true
+abbrev pub is_end_at : SpanView → ℕ → Call → Bool
+is_end_at s n (Of.EndJob key uid outcome at) = is_moment s n (at * 1000)
+is_end_at s n call = false
+
+-- before the next one: the ends of Jobs, by its moment, and after these the user; its first Tick,
+-- or the end of the queue, and then a worker's Take that is refused
+-- rule: run-clock
+abbrev pub is_before : SpanView → Progress → Role → Call → Result Reply Refusal → Bool
+is_before s p Informer (Of.Tick at) answer = is_moment s p.begun at
+is_before s p Informer Of.Shut answer = true
+is_before s p Informer call answer = false
+is_before s p Worker Of.Take answer = is_refusal answer
+is_before s p Worker call answer = false
+is_before s p Runner call answer = not p.edited && is_end_at s p.begun call
+is_before s p User call answer = true
 
 -- a call is at its time: within the instant that goes on, or before the next one
 -- rule: run-clock
 abbrev pub is_timely : SpanView → Progress → Role → Call → Result Reply Refusal → Bool
 is_timely s p role call answer = (p.on && is_within s (p.begun - 1) role call)
-    || is_before s p.begun role call answer
+    || is_before s p role call answer
 
 -- each entry of a history is at its time
 -- rule: run-clock
 abbrev pub are_timely : SpanView → List Told → Bool
 are_timely s [] = true
 are_timely s (e ∷ h) = are_timely s h && is_timely s (progress_of s h) e.caller.role e.call e.answer
+
+-- where a runner calls after the user, an instant has begun between: at each instant Jobs end
+-- first, and then come the user's edits
+-- rules: run-clock, run-edits
+abbrev pub EndsFirst : SpanView → List Told → Type 0
+EndsFirst s h = (later between before : List Told) (end edit : Told)
+    → h ≡ later ++ end ∷ (between ++ edit ∷ before)
+    → end.caller.role ≡ Runner → edit.caller.role ≡ User
+    → turn s before < turn s (between ++ edit ∷ before)
 
 -- ---- the user's calls
 

@@ -6,7 +6,8 @@
 //! written, belongs to the crates below. The program rests on `run_simulation`, which returns a
 //! history with its report. The history keeps what is promised of every history. It has the calls
 //! of an informer, two runners, the workers and a user alone, each at its time. The user did just
-//! what the scenario says, and the runners ended just the Jobs that were due.
+//! what the scenario says, the runners ended just the Jobs that were due, and the workers claimed
+//! times in the scenario's zones.
 //!
 //! docs/ARCHITECTURE.md has a glossary of house words.
 #![tactic(auto)]
@@ -22,9 +23,11 @@ mod rest;
 mod run;
 mod threads;
 mod turns;
+mod upkeep;
 mod user;
 mod validation;
 mod work;
+mod zones;
 
 pub use meter::Meter;
 pub use run::{Ran, run_simulation};

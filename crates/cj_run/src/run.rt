@@ -5,11 +5,13 @@ ghost use Rattle.cj_world_laws.specs.Promise.{KeepsPromise};
 ghost use Rattle.cj_report.specs.Reports.{report_of};
 ghost use Rattle.cj_run.specs.Participants.{AreNumbered};
 ghost use Rattle.cj_run.specs.Actions.{AreFresh, HaveRunLoop, IsFresh, IsUnused};
+ghost use Rattle.cj_run.specs.Upkeep.{ComesToRest};
 ghost use Rattle.cj_run.specs.Validation.{IsValid};
+ghost use Rattle.cj_run.specs.Zones.{AreZoned};
 ghost use Rattle.cj_run.specs.Runs.{HasRun, IsReport, IsRun, IsRunFailure, pass_at};
 
 use crate::clock::RunClock;
-use crate::drive::Driver;
+use crate::drive::{Driver, LastDone};
 use crate::error::RunError;
 use crate::made::Made;
 use crate::meter::Meter;
@@ -18,7 +20,9 @@ use crate::participants::{
 };
 use crate::rest::Follower;
 use crate::threads::{ThreadResults, WorkerEnds, run_threads};
+use crate::upkeep::comes_to_rest;
 use crate::validation::is_valid;
+use crate::zones::are_zoned;
 use cj_calls::{Caller, Role};
 use cj_hub::{Closed, Hub, HubState, Pass};
 use cj_informer::Informer;
@@ -85,6 +89,7 @@ fn new_driver<R: Wait>(rt: &R, alloc: Global, hub: &Hub) -> Result<Driver, RunEr
         follower,
         runners,
         made: Made::new(alloc),
+        last: LastDone::Rest,
     })
 }
 
@@ -160,6 +165,7 @@ fn participants_of(
         follower,
         runners,
         made: _,
+        last: _,
     } = driver;
     let workers = passes_at(alloc, ends)?;
     let informer = follower.pass;
@@ -198,9 +204,10 @@ fn promised(closed: &Closed)
     closed.history();
 }
 
-// Validates a closed history: it must have the entries of these callers alone, made at their times.
-// What one pass did is proved, but no clause can say where its entries are among those of other
-// threads, so each history is looked through.
+// Validates a closed history: it must have the entries of these callers alone, made at their times,
+// and its claims must be in the zones of the scenario. What one pass did is proved, but no clause
+// can say where its entries are among those of other threads, nor what the threads of workers
+// promise, so each history is looked through.
 fn validate(
     alloc: Global,
     simulation: &Simulation,
@@ -208,9 +215,15 @@ fn validate(
     user: u64,
     closed: &Closed,
 ) -> Result<(), RunError>
-    ensures { OnOk result (IsValid simulation.now callers.now user closed.now.history) }
+    ensures valid { OnOk result (IsValid simulation.now callers.now user closed.now.history) }
+    ensures zones { OnOk result (AreZoned simulation.now.zones closed.now.history) }
+    ensures rests { OnOk result (ComesToRest closed.now.limits.window simulation.now.span
+        closed.now.history) }
 {
-    if is_valid(alloc, simulation, callers, user, closed.history())? {
+    let valid = is_valid(alloc, simulation, callers, user, closed.history())?;
+    let zoned = are_zoned(&simulation.zones, closed.history());
+    let rests = comes_to_rest(alloc, &simulation.span, closed.history())?;
+    if valid && zoned && rests {
         Ok(())
     } else {
         Err(RunError::Inconsistent)

@@ -1,7 +1,9 @@
 // The threads of a run.
 ghost use Rattle.std.specs.Prelude.{◌≡◌, Err, IfErr, IfOk, OnOk};
 ghost use Rattle.cj_calls.specs.declared.call.Call.TheVariants as Of;
+ghost use Rattle.cj_worker.specs.Workers.{WentSome};
 ghost use Rattle.cj_run.specs.Actions.{Called, HasRunLoop};
+ghost use Rattle.cj_run.specs.Readings.{Shows};
 ghost use Rattle.cj_run.specs.declared.error.RunError.TheVariants.{Inconsistent};
 
 use crate::clock::RunClock;
@@ -73,7 +75,25 @@ fn run_instants<R: Threads + Wait + Sync>(
     }
 }
 
-// Runs the workers to their ends, and hands over what came of them, for which the channel has room.
+// Runs the workers to their ends, by the run's clock and in the zones of its scenario.
+fn work<R: Threads + Wait + Sync>(
+    rt: &R,
+    alloc: Global,
+    hub: &Hub,
+    clock: &RunClock,
+    simulation: &Simulation,
+    workers: Vec<Pass>,
+) -> WorkerEnds
+    ensures { IfOk result (λ ends. WentSome (λ r. Shows clock.now.span r.seconds r.millis)
+        (λ _ _. ⊥) simulation.now.zones workers.items ends.items) }
+{
+    match run_workers(rt, alloc, hub, workers, &OpenGate, clock, &simulation.zones) {
+        Ok(ends) => Ok(ends),
+        Err(refusal) => Err(RunError::from(refusal)),
+    }
+}
+
+// Has the workers work, and hands over what came of them, for which the channel has room.
 fn run_and_send<R: Threads + Wait + Sync>(
     rt: &R,
     alloc: Global,
@@ -83,8 +103,8 @@ fn run_and_send<R: Threads + Wait + Sync>(
     workers: Vec<Pass>,
     to: Sender<WorkerEnds>,
 ) {
-    let ended = run_workers(rt, alloc, hub, workers, &OpenGate, clock, &simulation.zones);
-    let _ = to.send(rt, ended.map_err(RunError::from));
+    let ended = work(rt, alloc, hub, clock, simulation, workers);
+    let _ = to.send(rt, ended);
 }
 
 // What came of the workers. Their thread always sends it, so a channel that gives nothing is no

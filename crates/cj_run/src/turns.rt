@@ -1,7 +1,7 @@
 // When the calls of a run are made, by its clock.
 ghost use Rattle.std.specs.Prelude.{◌≡◌, ◌+◌, ◌<◌, ◌≤◌, ◌^◌, false};
-ghost use Rattle.cj_calls.specs.declared.caller.Role.TheVariants.{Informer, Runner, Worker};
-ghost use Rattle.cj_run.specs.Turns.{begins, ends, is_before, is_moment, is_refusal, is_timely, is_within, progress_after};
+ghost use Rattle.cj_calls.specs.declared.caller.Role.TheVariants.{Informer, Worker};
+ghost use Rattle.cj_run.specs.Turns.{begins, edits, ends, is_before, is_end_at, is_moment, is_refusal, is_timely, is_within, progress_after};
 
 use cj_calls::{Answer, Call, End, Role};
 use cj_script::Span;
@@ -14,6 +14,8 @@ pub struct Progress {
     pub begun: u64,
     /// Whether the last one that began still goes on.
     pub on: bool,
+    /// Whether the user called since it was over.
+    pub edited: bool,
 }
 
 // Whether the clock has an instant of that number, and it is that moment.
@@ -68,20 +70,20 @@ fn is_within(span: &Span, n: u64, role: Role, call: &Call) -> bool
     }
 }
 
-// Whether an informer's call is before the instant.
-fn informer_is_before(span: &Span, n: u64, call: &Call, answer: &Answer) -> bool
-    ensures { result ≡ is_before span.now n Informer call.now answer.now }
+// Whether an informer's call is before the next instant.
+fn informer_is_before(span: &Span, progress: Progress, call: &Call, answer: &Answer) -> bool
+    ensures { result ≡ is_before span.now progress Informer call.now answer.now }
 {
     match call {
-        Call::Tick(at) => is_moment(span, n, *at),
+        Call::Tick(at) => is_moment(span, progress.begun, *at),
         Call::Shut => true,
         _ => false,
     }
 }
 
-// Whether a worker's call is before the instant.
-fn worker_is_before(span: &Span, n: u64, call: &Call, answer: &Answer) -> bool
-    ensures { result ≡ is_before span.now n Worker call.now answer.now }
+// Whether a worker's call is before the next instant.
+fn worker_is_before(span: &Span, progress: Progress, call: &Call, answer: &Answer) -> bool
+    ensures { result ≡ is_before span.now progress Worker call.now answer.now }
 {
     match call {
         Call::Take => is_refusal(answer),
@@ -89,9 +91,9 @@ fn worker_is_before(span: &Span, n: u64, call: &Call, answer: &Answer) -> bool
     }
 }
 
-// Whether a runner's call is before the instant.
-fn runner_is_before(span: &Span, n: u64, call: &Call, answer: &Answer) -> bool
-    ensures { result ≡ is_before span.now n Runner call.now answer.now }
+// Whether a call is the end of a Job by the moment of that instant.
+fn is_end_at(span: &Span, n: u64, call: &Call) -> bool
+    ensures { result ≡ is_end_at span.now n call.now }
 {
     match call {
         Call::EndJob(_, _, _, at) => is_moment(span, n, Millis::from(*at)),
@@ -99,14 +101,14 @@ fn runner_is_before(span: &Span, n: u64, call: &Call, answer: &Answer) -> bool
     }
 }
 
-// Whether a call is before the instant of that number.
-fn is_before(span: &Span, n: u64, role: Role, call: &Call, answer: &Answer) -> bool
-    ensures { result ≡ is_before span.now n role call.now answer.now }
+// Whether a call is before the next instant.
+fn is_before(span: &Span, progress: Progress, role: Role, call: &Call, answer: &Answer) -> bool
+    ensures { result ≡ is_before span.now progress role call.now answer.now }
 {
     match role {
-        Role::Informer => informer_is_before(span, n, call, answer),
-        Role::Worker => worker_is_before(span, n, call, answer),
-        Role::Runner => runner_is_before(span, n, call, answer),
+        Role::Informer => informer_is_before(span, progress, call, answer),
+        Role::Worker => worker_is_before(span, progress, call, answer),
+        Role::Runner => !progress.edited && is_end_at(span, progress.begun, call),
         Role::User => true,
     }
 }
@@ -121,7 +123,7 @@ fn tick_begins(span: &Span, progress: Progress, call: &Call) -> bool
     }
 }
 
-fn begins(span: &Span, progress: Progress, role: Role, call: &Call) -> bool
+pub(crate) fn begins(span: &Span, progress: Progress, role: Role, call: &Call) -> bool
     ensures { result ≡ begins span.now progress role call.now }
 {
     match role {
@@ -131,7 +133,7 @@ fn begins(span: &Span, progress: Progress, role: Role, call: &Call) -> bool
 }
 
 // Whether the call ends an instant that goes on.
-fn ends(role: Role, call: &Call) -> bool
+pub(crate) fn ends(role: Role, call: &Call) -> bool
     ensures { result ≡ ends role call.now }
 {
     match role {
@@ -141,14 +143,22 @@ fn ends(role: Role, call: &Call) -> bool
     }
 }
 
+// Whether the call is the user's.
+fn edits(role: Role) -> bool
+    ensures { result ≡ edits role }
+{
+    matches!(role, Role::User)
+}
+
 impl Progress {
-    /// No instant has begun.
+    /// No instant has begun, and nobody has called.
     pub fn new() -> Progress
-        ensures { result ≡ record { begun = 0; on = false } }
+        ensures { result ≡ record { begun = 0; on = false; edited = false } }
     {
         Progress {
             begun: 0,
             on: false,
+            edited: false,
         }
     }
 
@@ -157,7 +167,7 @@ impl Progress {
         ensures { result ≡ is_timely span.now self role call.now answer.now }
     {
         let within = self.on && is_within(span, self.begun.saturating_sub(1), role, call);
-        within || is_before(span, self.begun, role, call, answer)
+        within || is_before(span, self, role, call, answer)
     }
 
     /// How far the run is after this call.
@@ -170,12 +180,14 @@ impl Progress {
             return Progress {
                 begun: self.begun + 1,
                 on: true,
+                edited: false,
             };
         }
         if ends(role, call) {
             return Progress {
                 begun: self.begun,
                 on: false,
+                edited: edits(role) || self.edited,
             };
         }
         self

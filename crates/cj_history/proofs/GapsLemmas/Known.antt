@@ -26,7 +26,7 @@ pub eq_nat : (a b : ℕ) → is_eq (nat_cmp a b) ≡ (a == b)
 eq_nat a b = grind (arith, nat_tests)
 
 -- Two orders, one asked after the other, say equal just where both do.
-both_eq : (o p : Ordering) → is_eq (ordering_then o p) ≡ (is_eq o && is_eq p)
+pub both_eq : (o p : Ordering) → is_eq (ordering_then o p) ≡ (is_eq o && is_eq p)
 both_eq Less p = refl
 both_eq Equal p = refl
 both_eq Greater p = refl

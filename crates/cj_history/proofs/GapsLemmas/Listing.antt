@@ -1,5 +1,5 @@
--- The gaps that one sync looked at first, as they are listed: what reads the schedule and the plan.
-use Rattle.std.proofs.Common.{◌≡◌, ◌∙◌, inl, inr, ℕ, Bool, List, [], ◌++◌, Option, Some, refl, sym, ap, subst, append-nil}
+-- The gaps that one sync counted first, as they are listed: what reads the schedule and the plan.
+use Rattle.std.proofs.Common.{◌≡◌, inl, inr, Bool, List, [], Option, Some, refl, sym, subst, append-nil}
 use Rattle.cj_types.specs.declared.cron.CronJob.{CronJob}
 use Rattle.cj_schedule.specs.Matches.{Sets}
 use Rattle.cj_schedule.specs.Grammar.{IsSchedule}
@@ -8,34 +8,49 @@ use Rattle.cj_due.specs.Due.{missed_times}
 use Rattle.cj_decide.specs.Decision.{Planned}
 use Rattle.cj_history.specs.declared.gaps.gap.Gap.{Gap}
 use Rattle.cj_history.specs.declared.gaps.mark.Mark.{Mark}
-use Rattle.cj_history.specs.gaps.reading.Listed.{gaps_among, Adds, GapsFrom, GapsBy}
+use Rattle.cj_history.specs.declared.gaps.intervals.Intervals.{Intervals}
+use Rattle.cj_history.specs.gaps.Syncs.{last_scheduled}
+use Rattle.cj_history.specs.gaps.reading.Listed.{gaps_among, GapsFrom, GapsBy, GoesOn}
+use Rattle.cj_history.specs.gaps.reading.Settled.{is_settled}
+use Rattle.cj_history.specs.gaps.reading.Intervals.{Covers}
 
-module _ (told : Mark → Bool) (p : Planned) (gs after : List Gap) where
+-- What goes on with gaps of one kind goes on with those of another that they are.
+pub goes_weaker : (told : Mark → Bool) (P Q : List Gap → Type 0) (before after : List Gap) (l : Intervals)
+    → ((gs : List Gap) → P gs → Q gs) → GoesOn told P before after l → GoesOn told Q before after l
+goes_weaker told P Q before after l f g = record {
+  adds = (g.adds.0, f g.adds.0 g.adds.1, g.adds.2);
+  covers = g.covers;
+}
+
+-- Where nothing is listed, nothing changes.
+pub goes_none : (told : Mark → Bool) (P : List Gap → Type 0) (gs : List Gap) (l : Intervals) → P []
+    → Covers (is_settled told gs) l → GoesOn told P gs gs l
+goes_none told P gs l none covers = record { adds = ([], none, sym (append-nil gs)); covers = covers }
+
+module _ (told : Mark → Bool) (p : Planned) (gs after : List Gap) (l : Intervals) where
   -- For note_cron: where the text of the CronJob, as it was read, is a schedule.
-  pub adds_read : (c cron : CronJob) (z : Zone) (lo : ℕ) (s : Sets) → c ≡ cron → IsSchedule c.spec.schedule s
-      → after ≡ gs ++ gaps_among told cron p (missed_times s z lo p.at) → Adds (GapsFrom told cron p z lo) gs after
-  adds_read c cron z lo s same reads is = (
-    gaps_among told cron p (missed_times s z lo p.at),
-    inl (s, subst (λ (x : CronJob). IsSchedule x.spec.schedule s) same reads, refl),
-    is,
-  )
+  pub from_read : (C : Type 0) (c cron : CronJob) (z : Zone) (s : Sets) → c ≡ cron → IsSchedule c.spec.schedule s
+      → (C
+      → GoesOn told (λ new. new ≡ gaps_among told gs cron p (missed_times s z (last_scheduled cron) p.at)) gs after l)
+      → C → GoesOn told (GapsFrom told gs cron p z) gs after l
+  from_read C c cron z s same reads g x =
+      goes_weaker told (λ new. new ≡ gaps_among told gs cron p (missed_times s z (last_scheduled cron) p.at))
+      (GapsFrom told gs cron p z) gs after l
+      (λ new is. inl (s, subst (λ (y : CronJob). IsSchedule y.spec.schedule s) same reads, is)) (g x)
 
-  -- For note_plan: where its CronJob and its zone are known, and the instant up to which all was looked at.
-  pub adds_by : (c cron : CronJob) (y z : Zone) (from : CronJob → ℕ) (lo : ℕ) → Some c ≡ p.cron → Some y ≡ p.zone
-      → c ≡ cron
-      → y ≡ z → lo ≡ from cron → Adds (GapsFrom told c p z lo) gs after
-      → Adds (GapsBy told from p p.cron p.zone) gs after
-  adds_by c cron y z from lo stands known same zone is adds =
-      subst (λ (o : Option CronJob). Adds (GapsBy told from p o p.zone) gs after) stands
-      (subst (λ (o : Option Zone). Adds (GapsBy told from p (Some c) o) gs after) known
-      (subst (λ (x : Zone). Adds (GapsFrom told c p x (from c)) gs after) (sym zone)
-      (subst (λ (x : ℕ). Adds (GapsFrom told c p z x) gs after) (is ∙ ap from (sym same)) adds)))
+  -- For note_plan: where its CronJob and its zone are known.
+  pub by_plan : (C : Type 0) (c : CronJob) (z : Zone) → p.cron ≡ Some c → p.zone ≡ Some z
+      → (C → GoesOn told (GapsFrom told gs c p z) gs after l)
+      → C → GoesOn told (GapsBy told gs p p.cron p.zone) gs after l
+  by_plan C c z stands known g x =
+      goes_weaker told (GapsFrom told gs c p z) (GapsBy told gs p p.cron p.zone) gs after l
+      (λ new is. subst (λ (o : Option CronJob). GapsBy told gs p o p.zone new) (sym stands)
+      (subst (λ (o : Option Zone). GapsBy told gs p (Some c) o new) (sym known) is)) (g x)
 
 -- For note_cron: where the text isn't a schedule, there is none.
-pub adds_none : (told : Mark → Bool) (p : Planned) (gs : List Gap) (c cron : CronJob) (z : Zone) (lo : ℕ) → c ≡ cron
-    → ((s : Sets) → IsSchedule c.spec.schedule s → ⊥) → Adds (GapsFrom told cron p z lo) gs gs
-adds_none told p gs c cron z lo same none = (
-  [],
-  inr (λ s h. none s (subst (λ (x : CronJob). IsSchedule x.spec.schedule s) (sym same) h), refl),
-  sym (append-nil gs),
-)
+pub from_none : (told : Mark → Bool) (p : Planned) (gs : List Gap) (l : Intervals) (c cron : CronJob) (z : Zone)
+    → c ≡ cron → ((s : Sets) → IsSchedule c.spec.schedule s → ⊥) → Covers (is_settled told gs) l
+    → GoesOn told (GapsFrom told gs cron p z) gs gs l
+from_none told p gs l c cron z same none covers =
+    goes_none told (GapsFrom told gs cron p z) gs l
+    (inr (λ s h. none s (subst (λ (x : CronJob). IsSchedule x.spec.schedule s) (sym same) h), refl)) covers

@@ -1,6 +1,7 @@
--- The gaps that are listed are just the gaps of the history, and those of each CronJob rise.
-use Rattle.std.proofs.Common.{◌≡◌, ◌∙◌, inl, inr, ℕ, ◌<◌, ◌≤◌, Bool, true, false, if◌then◌else◌, List, [], ◌∷◌, Option, Some, None, refl, sym, ap, subst, arith}
-use Rattle.std.specs.Prelude.{◌↔◌, ◌==◌, max, Ok}
+-- The gaps that are listed are just the gaps of the history, each once and in their order.
+use Rattle.std.proofs.Common.{◌≡◌, ◌∙◌, inl, inr, ◌⊎◌, ℕ, ◌<◌, Bool, true, false, List, [], ◌∷◌, ◌++◌, Option, Some, None, refl, sym, ap, subst, arith}
+use Rattle.std.specs.Prelude.{◌==◌, Ok}
+use Rattle.std.specs.List.{AllByRecursion}
 use Rattle.std.proofs.lemmas.Bool.Decides.{nat_tests}
 use Rattle.cj_types.specs.declared.cron.CronJob.{CronJob}
 use Rattle.cj_schedule.specs.Matches.{Sets}
@@ -15,16 +16,18 @@ use Rattle.cj_calls.specs.Rows.{Told}
 use Rattle.cj_history.specs.declared.gaps.gap.Gap.{Gap}
 use Rattle.cj_history.specs.declared.gaps.mark.Mark.{Mark}
 use Rattle.cj_history.specs.declared.gaps.marks.Marks.{Marks}
-use Rattle.cj_history.specs.declared.gaps.moments.Moments.{Moments}
+use Rattle.cj_history.specs.declared.gaps.intervals.Intervals.{Intervals}
 use Rattle.cj_history.specs.gaps.Marks.{has_job, is_told}
-use Rattle.cj_history.specs.gaps.Syncs.{plan_in, moment_by, moment_in, synced, seen_by, seen_upto}
+use Rattle.cj_history.specs.gaps.Syncs.{plan_in, last_scheduled, IsMissed, Counts, CountedAt, CountedIn}
 use Rattle.cj_history.specs.gaps.Causes.{cause}
-use Rattle.cj_history.specs.gaps.Gaps.{IsDueIn, IsGapAt, IsGapIn, IsGap, Rise}
+use Rattle.cj_history.specs.gaps.Gaps.{IsGapAt, IsGapIn, IsApart, AreApart, Rise, InOrder, AreGaps}
 use Rattle.cj_history.specs.gaps.reading.Goes.{Goes}
 use Rattle.cj_history.specs.gaps.reading.Known.{has, Knows}
-use Rattle.cj_history.specs.gaps.reading.Listed.{gap_of, gaps_among, Adds, GapsFrom, GapsBy, GapsOf, AreGaps}
-use Rattle.cj_history.specs.gaps.reading.Reached.{moment_of, ComesBy}
-use Rattle.cj_history.proofs.GapsLemmas.Among.{in_right, in_missed, missed_in, among_is, is_among, among_rises, missed_rises, rise_append}
+use Rattle.cj_history.specs.gaps.reading.Listed.{gap_by, gaps_with, gaps_among, GapsFrom, GapsBy, GapsOf, AreListed, GoesOn}
+use Rattle.cj_history.specs.gaps.reading.Settled.{is_listed, is_settled}
+use Rattle.cj_history.specs.gaps.reading.Intervals.{Covers}
+use Rattle.cj_history.proofs.GapsLemmas.Settled.{both_false, false_both, listed_is, is_there, settled_still, settled_new}
+use Rattle.cj_history.proofs.GapsLemmas.Among.{in_right, all_in, in_missed, missed_in, among_is, is_among, among_rises, missed_rises}
 
 -- A text is a schedule with one value of Sets at most.
 pub one_schedule : (text : List ℕ) (s t : Sets) → IsSchedule text s → IsSchedule text t → s ≡ t
@@ -32,237 +35,329 @@ one_schedule text s t h k =
     let same = only_by text (Ok s) t (h.lists, lists_complete text h.lists h.short h.fields, h.sets) k in
     cc
 
--- ---- how far the syncs came
-
 -- A number tests as equal to itself.
 pub same_nat : (u : ℕ) → (u == u) ≡ true
 same_nat u = grind (arith, nat_tests)
 
--- The greater of two is no less than each.
-choice : (b : Bool) (was at : ℕ) → was ≤ (if b then max was at else was)
-choice true was at = omega arith
-choice false was at = omega arith
+-- ---- gaps apart
 
--- From one number up to another, and on to what is that one.
-up_to : (t a b c : ℕ) → t ≤ a → a ≤ b → b ≡ c → t ≤ c
-up_to t a b c l m e = omega (arith, l, m, e)
-
--- What is above the greater of two is above the second.
-above_max : (a b t : ℕ) → max a b < t → b < t
-above_max a b t l = omega (arith, l)
-
--- A sync takes no moment back.
-by_grows : (c : Option CronJob) (z : Option Zone) (at u was : ℕ) → was ≤ moment_by c z at u was
-by_grows None z at u was = omega arith
-by_grows (Some cron) None at u was = omega arith
-by_grows (Some cron) (Some z) at u was = choice (cron.meta.uid == u) was at
-
--- Nor does an entry.
-in_grows : (o : Option Planned) (u was : ℕ) → was ≤ moment_in o u was
-in_grows None u was = omega arith
-in_grows (Some p) u was = by_grows p.cron p.zone p.at u was
-
--- After a sync of a CronJob in a known zone its moment is no later than the greatest.
-by_covers : (c : Option CronJob) (o : Option Zone) (cron : CronJob) (z : Zone) (at was : ℕ) → c ≡ Some cron → o ≡ Some z
-    → at ≤ moment_by c o at cron.meta.uid was
-by_covers c o cron z at was e f =
-    subst (λ (x : Option CronJob). at ≤ moment_by x o at cron.meta.uid was) (sym e)
-    (subst (λ (y : Option Zone). at ≤ moment_by (Some cron) y at cron.meta.uid was) (sym f)
-    (here (cron.meta.uid == cron.meta.uid) (same_nat cron.meta.uid)))
+-- Gaps whose times rise are apart.
+rise_apart : (gs : List Gap) → Rise gs → AreApart gs
+rise_apart [] r = tt
+rise_apart (g ∷ gs) r = (all gs r.0, rise_apart gs r.1)
   where
-    here : (b : Bool) → b ≡ true → at ≤ (if b then max was at else was)
-    here true t = omega arith
-    here false t = absurd (cc t)
+    all : (l : List Gap) → AllByRecursion (λ b. g.time < b.time) l → AllByRecursion (IsApart g) l
+    all [] k = tt
+    all (x ∷ l) k = let a = k.0 in ((λ same at. absurd (omega (arith, a, at))), all l k.1)
+
+-- Of two lists that are apart from one another, each of which is apart, all are.
+apart_append : (xs ys : List Gap) → AreApart xs → AreApart ys
+    → ((a b : Gap) → IsIn a xs → IsIn b ys → IsApart a b) → AreApart (xs ++ ys)
+apart_append [] ys a b h = b
+apart_append (x ∷ xs) ys a b h = (
+  all_in (IsApart x) (xs ++ ys) (λ g k. by g (in_parts g xs ys k)),
+  apart_append xs ys a.1 b (λ c d i j. h c d (inr i) j),
+)
+  where
+    old : (g : Gap) (l : List Gap) → AllByRecursion (IsApart x) l → IsIn g l → IsApart x g
+    old g [] r i = absurd i
+    old g (y ∷ l) r (inl e) = λ same at.
+        r.0 (same ∙ ap (λ (z : Gap). z.cron.meta.uid) (sym e)) (at ∙ ap (λ (z : Gap). z.time) (sym e))
+    old g (y ∷ l) r (inr i) = old g l r.1 i
+
+    by : (g : Gap) → IsIn g xs ⊎ IsIn g ys → IsApart x g
+    by g (inl i) = old g xs a.0 i
+    by g (inr i) = h x g (inl refl) i
 
 module _ (told : Mark → Bool) where
-  -- A gap is for a time up to the greatest moment of its CronJob's syncs.
-  pub gap_within : (h : List Told) (g : Gap) → IsGapIn told h g → g.time ≤ synced h g.cron.meta.uid
-  gap_within [] g k = absurd k
-  gap_within (e ∷ h) g (inl a) =
-      up_to g.time a.plan.at (moment_by a.plan.cron a.plan.zone a.plan.at g.cron.meta.uid (synced h g.cron.meta.uid))
-      (synced (e ∷ h) g.cron.meta.uid) a.is_due.within
-      (by_covers a.plan.cron a.plan.zone g.cron a.is_due.zone a.plan.at (synced h g.cron.meta.uid) a.stands
-      a.is_due.known)
-      (ap (λ (o : Option Planned). moment_in o g.cron.meta.uid (synced h g.cron.meta.uid)) (sym a.sync))
-  gap_within (e ∷ h) g (inr k) =
-      up_to g.time (synced h g.cron.meta.uid) (synced (e ∷ h) g.cron.meta.uid) (synced (e ∷ h) g.cron.meta.uid)
-      (gap_within h g k) (in_grows (plan_in e.call e.answer) g.cron.meta.uid (synced h g.cron.meta.uid)) refl
+  -- ---- gaps and counted times
 
-  -- The gaps at an entry are for times after all moments of its CronJob's syncs before.
-  pub gap_above : (e : Told) (h : List Told) (g : Gap) → IsGapAt told h e g → synced h g.cron.meta.uid < g.time
-  gap_above e h g a = above_max g.cron.meta.created (synced h g.cron.meta.uid) g.time a.is_due.above
+  -- The time of a gap is counted.
+  pub gap_counted : (h : List Told) (g : Gap) → IsGapIn told h g → CountedIn h g.cron.meta.uid g.time
+  gap_counted [] g k = absurd k
+  gap_counted (e ∷ h) g (inl a) = inl (record {
+    plan = a.plan;
+    sync = a.sync;
+    cron = g.cron;
+    stands = a.stands;
+    uid = refl;
+    counts = a.counts;
+  })
+  gap_counted (e ∷ h) g (inr k) = inr (gap_counted h g k)
+
+  -- It got no Job.
+  pub gap_jobless : (h : List Told) (g : Gap) → IsGapIn told h g → has_job told g.cron.meta.uid g.time ≡ false
+  gap_jobless [] g k = absurd k
+  gap_jobless (e ∷ h) g (inl a) = a.jobless
+  gap_jobless (e ∷ h) g (inr k) = gap_jobless h g k
 
   -- ---- the gaps at an entry
 
-  -- those that are listed are just these, and rise
-  pub record AreHere (h : List Told) (e : Told) (gs : List Gap) : Type 0 where
-    pub is : (g : Gap) → IsIn g gs → IsGapAt told h e g
-    pub all : (g : Gap) → IsGapAt told h e g → IsIn g gs
-    pub rise : Rise gs
+  -- after these entries and their gaps: those that are listed are the gaps at the entry, none of which was listed; and
+  -- each time that it counts is settled with them
+  pub record AreHere (h : List Told) (gs : List Gap) (e : Told) (new : List Gap) : Type 0 where
+    pub is : (g : Gap) → IsIn g new
+        → ((first : CountedIn h g.cron.meta.uid g.time → ⊥) → IsGapAt told h e g)
+        × (is_settled told gs g.cron.meta.uid g.time ≡ false)
+    pub all : (g : Gap) → IsGapAt told h e g → is_settled told gs g.cron.meta.uid g.time ≡ false → IsIn g new
+    pub settles : (u t : ℕ) → CountedAt e u t → is_settled told (gs ++ new) u t ≡ true
+    pub rise : Rise new
 
-  -- Where there are none, none are listed.
-  none_here : (h : List Told) (e : Told) (gs : List Gap) → gs ≡ [] → ((g : Gap) → IsGapAt told h e g → ⊥)
-      → AreHere h e gs
-  none_here h e gs none k = record {
+  -- Where the entry counts nothing, none are listed.
+  none_here : (h : List Told) (gs : List Gap) (e : Told) (new : List Gap) → new ≡ []
+      → ((u t : ℕ) → CountedAt e u t → ⊥)
+      → AreHere h gs e new
+  none_here h gs e new none k = record {
     is = λ g i. absurd (subst (IsIn g) none i);
-    all = λ g a. absurd (k g a);
+    all = λ g a f. absurd (k g.cron.meta.uid g.time (record {
+      plan = a.plan;
+      sync = a.sync;
+      cron = g.cron;
+      stands = a.stands;
+      uid = refl;
+      counts = a.counts;
+    }));
+    settles = λ u t c. absurd (k u t c);
     rise = subst Rise (sym none) tt;
   }
 
-  module _ (h : List Told) (e : Told) (p : Planned) (sync : plan_in e.call e.answer ≡ Some p) (gs : List Gap) where
-    -- The plan is that of the entry.
-    one_plan : (g : Gap) (a : IsGapAt told h e g) → a.plan ≡ p
-    one_plan g a = let f : Some a.plan ≡ Some p = sym a.sync ∙ sync in cc
-
+  module _ (h : List Told) (gs : List Gap) (e : Told) (p : Planned) (sync : plan_in e.call e.answer ≡ Some p)
+      (new : List Gap) where
     module _ (c : CronJob) (z : Zone) (stands : p.cron ≡ Some c) (known : p.zone ≡ Some z) where
-      -- Its CronJob is that of the plan.
-      one_cron : (g : Gap) (a : IsGapAt told h e g) → c ≡ g.cron
-      one_cron g a =
-          let f : Some c ≡ Some g.cron = sym stands ∙ ap (λ (x : Planned). x.cron) (sym (one_plan g a)) ∙ a.stands in cc
+      -- What another plan of the entry counts for another CronJob, this one does for its own.
+      pub one_count : (q : Planned) (d : CronJob) (t : ℕ) → plan_in e.call e.answer ≡ Some q → q.cron ≡ Some d
+          → Counts d q t
+          → (q ≡ p) × (d ≡ c) × IsMissed c z p.at t
+      one_count q d t f s k =
+          let same : q ≡ p = (let o : Some q ≡ Some p = sym f ∙ sync in cc) in
+          let cron : d ≡ c = (let o : Some d ≡ Some c = sym s ∙ ap (λ (x : Planned). x.cron) same ∙ stands in cc) in
+          let zone : k.zone ≡ z =
+          (let o : Some k.zone ≡ Some z = sym k.known ∙ ap (λ (x : Planned). x.zone) same ∙ known in cc) in (
+            same,
+            cron,
+            subst (λ (x : Planned). IsMissed c z x.at t) same
+                (subst (λ (x : CronJob). IsMissed x z q.at t) cron
+                (subst (λ (x : Zone). IsMissed d x q.at t) zone k.missed)),
+          )
 
-      -- Its zone is that of the plan.
-      one_zone : (g : Gap) (a : IsGapAt told h e g) → a.is_due.zone ≡ z
-      one_zone g a =
-          let f : Some a.is_due.zone ≡ Some z =
-          sym a.is_due.known ∙ ap (λ (x : Planned). x.zone) (one_plan g a) ∙ known in cc
-
-      -- Where the CronJob's schedule is read, those among the times missed.
+      -- Where the CronJob's schedule is read, those among the times missed that weren't settled.
       read_here : (s : Sets) → IsSchedule c.spec.schedule s
-          → gs ≡ gaps_among told c p (missed_times s z (seen_upto h c) p.at) → AreHere h e gs
+          → new ≡ gaps_among told gs c p (missed_times s z (last_scheduled c) p.at) → AreHere h gs e new
       read_here s reads are = record {
-        is = λ g i. (
-            let r = among_is told c (cause told c p) (missed_times s z (seen_upto h c) p.at) g (subst (IsIn g) are i) in
-            let q = in_missed s z (seen_upto h c) p.at g.time r.0 in
-            let cron : c ≡ g.cron = ap (λ (x : Gap). x.cron) r.2 in
-            let is_due : IsDueIn h c p g.time = record {
-              schedule = s;
-              zone = z;
-              reads = reads;
-              known = known;
-              is_due = q.2;
-              above = q.0;
-              within = q.1;
-            } in
-            record {
-              plan = p;
-              sync = sync;
-              stands = stands ∙ ap (λ (x : CronJob). Some x) cron;
-              is_due = subst (λ (x : CronJob). IsDueIn h x p g.time) cron is_due;
-              jobless = subst (λ (x : CronJob). has_job told x.meta.uid g.time ≡ false) cron r.1;
-              why = sym (ap (λ (x : Gap). x.why) r.2) ∙ ap (λ (x : CronJob). cause told x p g.time) cron;
-            });
-        all = λ g a. (
-            let plan = one_plan g a in
-            let cron = one_cron g a in
-            let schedule : a.is_due.schedule ≡ s = one_schedule c.spec.schedule a.is_due.schedule s
-            (subst (λ (x : CronJob). IsSchedule x.spec.schedule a.is_due.schedule) (sym cron) a.is_due.reads) reads in
-            let above : seen_upto h c < g.time =
-            subst (λ (x : CronJob). seen_upto h x < g.time) (sym cron) a.is_due.above in
-            let within : g.time ≤ p.at = subst (λ (x : Planned). g.time ≤ x.at) plan a.is_due.within in
-            let is_due : due s z g.time ≡ true =
-            subst (λ (x : Sets). due x z g.time ≡ true) schedule
-            (subst (λ (x : Zone). due a.is_due.schedule x g.time ≡ true) (one_zone g a) a.is_due.is_due) in
-            let jobless : has_job told c.meta.uid g.time ≡ false =
-            subst (λ (x : CronJob). has_job told x.meta.uid g.time ≡ false) (sym cron) a.jobless in
-            let why : cause told c p g.time ≡ g.why =
-            ap (λ (x : CronJob). cause told x p g.time) cron
-            ∙ ap (λ (x : Planned). cause told g.cron x g.time) (sym plan) ∙ sym a.why in
-            let one : gap_of told c p g.time ≡ g =
-            λ i. record { cron = cron i; time = g.time; why = why i } in
-            subst (IsIn g) (sym are)
-            (subst (λ (x : Gap). IsIn x (gaps_among told c p (missed_times s z (seen_upto h c) p.at))) one
-            (is_among told c (cause told c p) (missed_times s z (seen_upto h c) p.at) g.time
-            (missed_in s z (seen_upto h c) p.at g.time above within is_due) jobless)));
-        rise = subst Rise (sym are) (among_rises told c (cause told c p) (missed_times s z (seen_upto h c) p.at)
-            (missed_rises s z (seen_upto h c) p.at));
+        is = to;
+        all = back;
+        settles = settles;
+        rise = subst Rise (sym are) (among_rises had c (cause told c p) times
+            (missed_rises s z (last_scheduled c) p.at));
       }
+        where
+          had : ℕ → Bool
+          had = is_settled told gs c.meta.uid
+
+          times : List ℕ
+          times = missed_times s z (last_scheduled c) p.at
+
+          -- a time that was missed is one of these
+          there : (t : ℕ) → IsMissed c z p.at t → IsIn t times
+          there t m = missed_in s z (last_scheduled c) p.at t m.above m.within
+              (subst (λ (x : Sets). due x z t ≡ true)
+              (one_schedule c.spec.schedule m.schedule s m.reads reads) m.is_due)
+
+          to : (g : Gap) → IsIn g new
+              → ((first : CountedIn h g.cron.meta.uid g.time → ⊥) → IsGapAt told h e g)
+              × (is_settled told gs g.cron.meta.uid g.time ≡ false)
+          to g i =
+              let r = among_is had c (cause told c p) times g (subst (IsIn g) are i) in
+              let q = in_missed s z (last_scheduled c) p.at g.time r.0 in
+              let cron : c ≡ g.cron = ap (λ (x : Gap). x.cron) r.2 in
+              let missed : IsMissed c z p.at g.time = record {
+                schedule = s;
+                reads = reads;
+                is_due = q.2;
+                above = q.0;
+                within = q.1;
+              } in
+              let counts : Counts c p g.time = record { zone = z; known = known; missed = missed } in (
+                (λ first. record {
+                  plan = p;
+                  sync = sync;
+                  stands = stands ∙ ap (λ (x : CronJob). Some x) cron;
+                  counts = subst (λ (x : CronJob). Counts x p g.time) cron counts;
+                  first = first;
+                  jobless = subst (λ (x : CronJob). has_job told x.meta.uid g.time ≡ false) cron
+                      (both_false (has_job told c.meta.uid g.time) (is_listed gs c.meta.uid g.time) r.1).0;
+                  why = sym (ap (λ (x : Gap). x.why) r.2) ∙ ap (λ (x : CronJob). cause told x p g.time) cron;
+                }),
+                subst (λ (x : CronJob). is_settled told gs x.meta.uid g.time ≡ false) cron r.1,
+              )
+
+          back : (g : Gap) → IsGapAt told h e g → is_settled told gs g.cron.meta.uid g.time ≡ false → IsIn g new
+          back g a f =
+              let k = one_count a.plan g.cron g.time a.sync a.stands a.counts in
+              let cron : c ≡ g.cron = sym k.1 in
+              let why : cause told c p g.time ≡ g.why =
+              ap (λ (x : CronJob). cause told x p g.time) cron
+              ∙ ap (λ (x : Planned). cause told g.cron x g.time) (sym k.0) ∙ sym a.why in
+              let one : gap_by c (cause told c p) g.time ≡ g =
+              λ i. record { cron = cron i; time = g.time; why = why i } in
+              subst (IsIn g) (sym are)
+              (subst (λ (x : Gap). IsIn x (gaps_with had c (cause told c p) times)) one
+              (is_among had c (cause told c p) times g.time (there g.time k.2)
+              (subst (λ (x : CronJob). is_settled told gs x.meta.uid g.time ≡ false) (sym cron) f)))
+
+          settles : (u t : ℕ) → CountedAt e u t → is_settled told (gs ++ new) u t ≡ true
+          settles u t a =
+              let k = one_count a.plan a.cron t a.sync a.stands a.counts in
+              let uid : c.meta.uid ≡ u = ap (λ (x : CronJob). x.meta.uid) (sym k.1) ∙ a.uid in
+              subst (λ (x : ℕ). is_settled told (gs ++ new) x t ≡ true) uid
+              (by (there t k.2) (had t) refl)
+            where
+              by : IsIn t times → (b : Bool) → had t ≡ b → is_settled told (gs ++ new) c.meta.uid t ≡ true
+              by i true f = settled_still told gs new c.meta.uid t f
+              by i false f =
+                  settled_new told gs new c.meta.uid t
+                  (is_there new (gap_by c (cause told c p) t) c.meta.uid t
+                  (subst (IsIn (gap_by c (cause told c p) t)) (sym are)
+                  (is_among had c (cause told c p) times t i f)) refl refl)
 
       -- Where its text isn't a schedule, none.
-      text_here : GapsFrom told c p z (seen_upto h c) gs → AreHere h e gs
+      text_here : GapsFrom told gs c p z new → AreHere h gs e new
       text_here (inl (s, reads, are)) = read_here s reads are
-      text_here (inr (none, is)) = none_here h e gs is (λ g a.
-          none a.is_due.schedule
-          (subst (λ (x : CronJob). IsSchedule x.spec.schedule a.is_due.schedule) (sym (one_cron g a)) a.is_due.reads))
+      text_here (inr (none, is)) = none_here h gs e new is (λ u t a.
+          (let m = (one_count a.plan a.cron t a.sync a.stands a.counts).2 in none m.schedule m.reads))
 
     -- Without a CronJob or a zone, none.
-    by_here : (c : Option CronJob) (z : Option Zone) → p.cron ≡ c → p.zone ≡ z → GapsBy told (seen_upto h) p c z gs
-        → AreHere h e gs
-    by_here None z a b k = none_here h e gs k (λ g x.
-        (let f : None ≡ Some g.cron = sym a ∙ ap (λ (y : Planned). y.cron) (sym (one_plan g x))
-        ∙ x.stands in absurd (cc f)))
-    by_here (Some c) None a b k = none_here h e gs k (λ g x.
-        (let f : None ≡ Some x.is_due.zone = sym b ∙ ap (λ (y : Planned). y.zone) (sym (one_plan g x))
-        ∙ x.is_due.known in
-        absurd (cc f)))
+    by_here : (c : Option CronJob) (z : Option Zone) → p.cron ≡ c → p.zone ≡ z → GapsBy told gs p c z new
+        → AreHere h gs e new
+    by_here None z a b k = none_here h gs e new k (λ u t x.
+        (let o : Some x.plan ≡ Some p = sym x.sync ∙ sync in
+        let same : x.plan ≡ p = cc o in
+        let f : None ≡ Some x.cron = sym a ∙ ap (λ (y : Planned). y.cron) (sym same) ∙ x.stands in absurd (cc f)))
+    by_here (Some c) None a b k = none_here h gs e new k (λ u t x.
+        (let o : Some x.plan ≡ Some p = sym x.sync ∙ sync in
+        let same : x.plan ≡ p = cc o in
+        let f : None ≡ Some x.counts.zone = sym b ∙ ap (λ (y : Planned). y.zone) (sym same)
+        ∙ x.counts.known in absurd (cc f)))
     by_here (Some c) (Some z) a b k = text_here c z a b k
 
   -- Of an entry that isn't an accepted claim, none.
-  of_here : (h : List Told) (e : Told) (gs : List Gap) (o : Option Planned) → plan_in e.call e.answer ≡ o
-      → GapsOf told (seen_upto h) o gs → AreHere h e gs
-  of_here h e gs None sync k = none_here h e gs k (λ g x.
+  of_here : (h : List Told) (gs : List Gap) (e : Told) (new : List Gap) (o : Option Planned)
+      → plan_in e.call e.answer ≡ o → GapsOf told gs o new → AreHere h gs e new
+  of_here h gs e new None sync k = none_here h gs e new k (λ u t x.
       (let f : None ≡ Some x.plan = sym sync ∙ x.sync in absurd (cc f)))
-  of_here h e gs (Some p) sync k = by_here h e p sync gs p.cron p.zone refl refl k
+  of_here h gs e new (Some p) sync k = by_here h gs e p sync new p.cron p.zone refl refl k
 
   -- ---- the gaps of all entries
 
-  -- those that are listed are just these, and rise
+  -- those that are listed are just these, each once, in their order; and each time that was counted is settled
   pub record AreAll (h : List Told) (gs : List Gap) : Type 0 where
     pub is : (g : Gap) → IsIn g gs → IsGapIn told h g
     pub all : (g : Gap) → IsGapIn told h g → IsIn g gs
-    pub rise : Rise gs
+    pub settled : (u t : ℕ) → CountedIn h u t → is_settled told gs u t ≡ true
+    pub apart : AreApart gs
+    pub order : InOrder told h gs
+
+  -- A time that isn't settled isn't counted.
+  pub open_first : (h : List Told) (gs : List Gap) → AreAll h gs → (u t : ℕ) → is_settled told gs u t ≡ false
+      → CountedIn h u t
+      → ⊥
+  open_first h gs a u t f c = let s = sym f ∙ a.settled u t c in absurd (cc s)
+
+  -- And one that isn't counted, and got no Job, isn't settled.
+  pub first_open : (h : List Told) (gs : List Gap) → AreAll h gs → (u t : ℕ) → has_job told u t ≡ false
+      → (CountedIn h u t → ⊥) → is_settled told gs u t ≡ false
+  first_open h gs a u t f c = false_both (has_job told u t) (is_listed gs u t) f (by (is_listed gs u t) refl)
+    where
+      by : (b : Bool) → is_listed gs u t ≡ b → b ≡ false
+      by true e =
+          let l = listed_is gs u t e in
+          absurd (c (subst (λ (v : ℕ). CountedIn h v t) l.2
+          (subst (λ (v : ℕ). CountedIn h l.0.cron.meta.uid v) l.3 (gap_counted h l.0 (a.is l.0 l.1)))))
+      by false e = refl
 
   -- Those that are listed are the gaps, by induction over the entries.
-  pub all_listed : (h : List Told) (gs : List Gap) → AreGaps told h gs → AreAll h gs
+  pub all_listed : (h : List Told) (gs : List Gap) → AreListed told h gs → AreAll h gs
   all_listed [] gs none = record {
     is = λ g i. subst (IsIn g) none i;
     all = λ g k. absurd k;
-    rise = subst Rise (sym none) tt;
+    settled = λ u t k. absurd k;
+    apart = subst AreApart (sym none) tt;
+    order = none;
   }
-  all_listed (e ∷ h) gs (old, new, before, at, are) =
-      let b = all_listed h old before in
-      let n = of_here h e new (plan_in e.call e.answer) refl at in
-      record {
+  all_listed (e ∷ h) gs (old, new, before, at, are) = with_more (all_listed h old before)
+      (of_here h old e new (plan_in e.call e.answer) refl at)
+    where
+      with_more : AreAll h old → AreHere h old e new → AreAll (e ∷ h) gs
+      with_more b n = record {
         is = λ g i. (elim (in_parts g old new (subst (IsIn g) are i))
-            [ inl k ↦ inr (b.is g k) | inr k ↦ inl (n.is g k) ]);
+            [ inl k ↦ inr (b.is g k) | inr k ↦ inl (here g k) ]);
         all = λ g k. subst (IsIn g) (sym are) (elim k [
-          | inl a ↦ in_right g old new (n.all g a)
+          | inl a ↦ in_right g old new (n.all g a (first_open h old b g.cron.meta.uid g.time a.jobless a.first))
           | inr a ↦ in_left g old new (b.all g a)
         ]);
-        rise = subst Rise (sym are) (rise_append old new b.rise n.rise (λ x y i j same.
-            (let l = gap_within h x (b.is x i) in
-            let m = gap_above e h y (n.is y j) in
-            let s = ap (λ (u : ℕ). synced h u) same in
-            omega (arith, l, m, s))));
+        settled = λ u t k. subst (λ (l : List Gap). is_settled told l u t ≡ true) (sym are) (elim k [
+          | inl a ↦ n.settles u t a
+          | inr a ↦ settled_still told old new u t (b.settled u t a)
+        ]);
+        apart = subst AreApart (sym are) (apart_append old new b.apart (rise_apart new n.rise) apart);
+        order = (old, new, b.order, record { are = here; rise = n.rise }, are);
       }
+        where
+          here : (g : Gap) → IsIn g new → IsGapAt told h e g
+          here g k = let r = n.is g k in r.0 (open_first h old b g.cron.meta.uid g.time r.1)
+
+          apart : (x y : Gap) → IsIn x old → IsIn y new → IsApart x y
+          apart x y i j = λ same at.
+              (let f = (both_false (has_job told y.cron.meta.uid y.time) (is_listed old y.cron.meta.uid y.time)
+              (n.is y j).1).1 in
+              let k = is_there old x y.cron.meta.uid y.time i same at in
+              let s = sym f ∙ k in absurd (cc s))
 
 -- So are those that are listed with what is known of the history.
-pub just_gaps : (t : Marks) (h : List Told) (moments : Moments) (gs : List Gap) → Knows t h → Goes (has t) h moments gs
-    → ((g : Gap) → IsIn g gs ↔ IsGap h g) × Rise gs
-just_gaps t h moments gs knows goes =
+pub just_gaps : (t : Marks) (h : List Told) (gs : List Gap) → Knows t h → AreListed (has t) h gs
+    → AreAll (is_told h) h gs
+just_gaps t h gs knows are =
     let same : has t ≡ is_told h = λ i. λ m. knows.told m i in
-    let all = all_listed (is_told h) h gs (subst (λ (f : Mark → Bool). AreGaps f h gs) same goes.gaps) in
-    ((λ g. (all.is g, all.all g)), all.rise)
+    all_listed (is_told h) h gs (subst (λ (f : Mark → Bool). AreListed f h gs) same are)
+
+-- For gaps_of: in the words of its clause.
+pub are_gaps : (h : List Told) (gs : List Gap) → AreAll (is_told h) h gs → AreGaps h gs
+are_gaps h gs a = record { exact = λ g. (a.is g, a.all g); apart = a.apart; order = a.order }
 
 -- ---- an entry more
 
--- For note_entry: after an accepted claim, with the gaps at it and its sync, what is known and listed is that of the
--- entries with it.
-pub goes_with : (told : Mark → Bool) (e : Told) (p : Planned) (a b : Moments) (gs after : List Gap)
-    → Some p ≡ plan_in e.call e.answer → Adds (GapsBy told (seen_by (moment_of a)) p p.cron p.zone) gs after
-    → ComesBy p a b → (h : List Told) → Goes told h a gs → Goes told (e ∷ h) b after
-goes_with told e p a b gs after sync (new, at, is) comes h g =
-    let known : moment_of a ≡ synced h = λ i. λ u. g.syncs u i in
+-- For note_entry: after an accepted claim, with the gaps at it.
+pub goes_with : (told : Mark → Bool) (e : Told) (p : Planned) (l m : Intervals) (gs after : List Gap)
+    → Some p ≡ plan_in e.call e.answer
+    → (Covers (is_settled told gs) l → GoesOn told (GapsBy told gs p p.cron p.zone) gs after m)
+    → (h : List Told) → Goes told h l gs → Goes told (e ∷ h) m after
+goes_with told e p l m gs after sync goes h before =
+    let on = goes before.covers in
     record {
-      syncs = λ u.
-          comes u
-          ∙ ap (λ (x : ℕ). moment_in (Some p) u x) (g.syncs u)
-          ∙ ap (λ (o : Option Planned). moment_in o u (synced h u)) sync;
+      covers = on.covers;
       gaps = (
         gs,
-        new,
-        g.gaps,
-        subst (λ (o : Option Planned). GapsOf told (seen_upto h) o new) sync
-            (subst (λ (f : ℕ → ℕ). GapsBy told (seen_by f) p p.cron p.zone new) known at),
-        is,
+        on.adds.0,
+        before.gaps,
+        subst (λ (o : Option Planned). GapsOf told gs o on.adds.0) sync on.adds.1,
+        on.adds.2,
       );
     }
+
+-- For note_entry: an entry that isn't an accepted claim.
+pub goes_without : (told : Mark → Bool) (e : Told) (l : Intervals) (gs : List Gap) → None ≡ plan_in e.call e.answer
+    → (h : List Told) → Goes told h l gs → Goes told (e ∷ h) l gs
+goes_without told e l gs sync h g = record {
+  covers = g.covers;
+  gaps = (
+    gs,
+    [],
+    g.gaps,
+    subst (λ (o : Option Planned). GapsOf told gs o []) sync refl,
+    sym (append_nil gs),
+  );
+}
+  where
+    append_nil : (xs : List Gap) → xs ++ [] ≡ xs
+    append_nil [] = refl
+    append_nil (x ∷ xs) = ap (λ (l : List Gap). x ∷ l) (append_nil xs)

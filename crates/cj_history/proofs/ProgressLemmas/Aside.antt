@@ -165,7 +165,7 @@ pub keyed : (window : ℕ) (h : List Told) → IsLegal window h → AreKeyed (st
 keyed window h l q x e = job_keyed (writes h) q x (sym ((store_agrees window h l).jobs q) ∙ e)
 
 -- Earlier entries of a legal history are legal.
-legal_rest : (window : ℕ) (es h : List Told) → IsLegal window (es ++ h) → IsLegal window h
+pub legal_rest : (window : ℕ) (es h : List Told) → IsLegal window (es ++ h) → IsLegal window h
 legal_rest window [] h l = l
 legal_rest window (e ∷ es) h l = legal_rest window es h l.2
 

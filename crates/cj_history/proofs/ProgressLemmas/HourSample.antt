@@ -39,6 +39,10 @@ is_date = search rules
 below_24 : 1 < 24
 below_24 = omega arith
 
+-- And an hour 3.
+three_below_24 : 3 < 24
+three_below_24 = omega arith
+
 -- An hour has a minute 0, and a minute a second 0.
 none_below_60 : 0 < 60
 none_below_60 = omega arith
@@ -67,7 +71,23 @@ one = record {
   };
 }
 
--- and a minute after
+-- three o'clock
+abbrev three : DateTime
+three = record {
+  date = record { year = pos 1970; month = 1; day = 1; year_in = is_date.0; month_in = is_date.1; day_in = is_date.2 };
+  time = record {
+    hour = 3;
+    minute = 0;
+    second = 0;
+    subsec_nanosecond = 0;
+    hour_in = three_below_24;
+    minute_in = none_below_60;
+    second_in = none_below_60;
+    subsec_in = no_nanos;
+  };
+}
+
+-- and a minute after one o'clock
 abbrev after_one : DateTime
 after_one = record {
   date = record { year = pos 1970; month = 1; day = 1; year_in = is_date.0; month_in = is_date.1; day_in = is_date.2 };
@@ -108,7 +128,14 @@ nanos_one =
     ap (λ (d : ℤ). d *ℤ pos 86_400_000_000_000 +ℤ pos 3_600_000_000_000) first_day
     ∙ ap (λ (x : ℤ). nanos_of_seconds (pos 3_600 +ℤ x)) (sym (not_ahead 3_600))
 
--- And those of a minute after.
+-- Those of three o'clock.
+nanos_three : civil_nanos three ≡ nanos_of_seconds (pos 10_800 +ℤ zone_offset utc 10_800)
+unfolding civil_nanos
+nanos_three =
+    ap (λ (d : ℤ). d *ℤ pos 86_400_000_000_000 +ℤ pos 10_800_000_000_000) first_day
+    ∙ ap (λ (x : ℤ). nanos_of_seconds (pos 10_800 +ℤ x)) (sym (not_ahead 10_800))
+
+-- And those of a minute after one.
 nanos_after : civil_nanos after_one ≡ nanos_of_seconds (pos 3_660 +ℤ zone_offset utc 3_660)
 unfolding civil_nanos
 nanos_after =
@@ -128,7 +155,20 @@ matches_one =
       minute = 0;
     })) first_day
 
--- A minute after doesn't.
+-- So does three o'clock.
+matches_three : matches_civil hourly (truncated three) ≡ true
+unfolding matches_civil matches_day weekday_number
+matches_three =
+    ap (λ (d : ℤ). matches_civil hourly (record {
+      year = pos 1970;
+      month = 1;
+      day = 1;
+      weekday = (weekday_number d + 1) % 7;
+      hour = 3;
+      minute = 0;
+    })) first_day
+
+-- A minute after one doesn't.
 matches_after : matches_civil hourly (truncated after_one) ≡ false
 unfolding matches_civil
 matches_after = refl
@@ -140,7 +180,14 @@ due_hour =
     ∙ (ap (λ (c : Civil). matches_civil hourly c) (civil_at-truncated one utc 3_600 (in_range 3_600) nanos_one)
     ∙ matches_one)
 
--- And not a minute after.
+-- And at three o'clock.
+pub due_three : due hourly utc 10_800 ≡ true
+due_three =
+    due-minute hourly utc 10_800 180 refl (omega arith)
+    ∙ (ap (λ (c : Civil). matches_civil hourly c) (civil_at-truncated three utc 10_800 (in_range 10_800) nanos_three)
+    ∙ matches_three)
+
+-- And not a minute after one.
 due_after : due hourly utc 3_660 ≡ false
 due_after =
     due-minute hourly utc 3_660 61 refl (omega arith)

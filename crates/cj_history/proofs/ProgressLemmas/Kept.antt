@@ -1,12 +1,12 @@
 -- What was added and not taken since is kept by the queue, and what waits is added at its time.
-use Rattle.std.proofs.Common.{◌≡◌, ◌⊎◌, inl, inr, ℕ, ◌*◌, ◌<◌, ◌≤◌, max, nat_le, Bool, true, false, cond, not, ◌&&◌, ◌||◌, List, [], ◌∷◌, ◌++◌, Option, Some, None, is_some, refl, sym, ap, subst, ◌∙◌, arith}
+use Rattle.std.proofs.Common.{◌≡◌, ◌⊎◌, inl, inr, ℕ, ◌+◌, ◌*◌, ◌<◌, ◌≤◌, max, nat_le, Bool, true, false, cond, not, ◌&&◌, ◌||◌, List, [], ◌∷◌, ◌++◌, Option, Some, None, is_some, refl, sym, ap, subst, ◌∙◌, arith}
 use Rattle.std.specs.Prelude.{Result, Ok, Err}
 use Rattle.std.proofs.lemmas.Bool.Decides.{nat_tests}
 use Rattle.cj_base.specs.declared.refusal.Refusal.{Refusal}
 use Rattle.cj_types.specs.Keys.{Place}
 use Rattle.cj_queue.specs.Parts.{key_eq}
 use Rattle.cj_queue.specs.Times.{earlier}
-use Rattle.cj_queue.specs.Queue.{Queue}
+use Rattle.cj_queue.specs.Queue.{Queue, delay}
 use Rattle.cj_queue.proofs.Sets.{eq_true, eq_self}
 use Rattle.cj_calls.specs.declared.call.Call.{Call}
 use Rattle.cj_calls.specs.declared.call.Call.TheVariants as Of
@@ -22,10 +22,11 @@ use Rattle.cj_world_laws.specs.legal.InFlightSyncs.{sync}
 use Rattle.cj_history.specs.queue.Deeds.{Deed, adds, ticks, takes, ends, fails, shuts, nothing, accepted, deed, finish, next_of, Operation, operations}
 use Rattle.cj_history.specs.queue.LookBacks.{is_take, is_finish, is_by, is_shut, is_within, is_add, adds_in, later, later_in, waits_in, waits_more, marks, holder, held, dirty, shut, mark, failures, ready_at}
 use Rattle.cj_history.specs.queue.Laws.{IsQueue}
-use Rattle.cj_history.specs.progress.Kept.{operation, IsAdd, IsTick, IsEnd, Adds, by_name, by_moment, at_once, NoneTakes, IsWanted, IsDone, IsLined, IsKept, Waits, NoKeyIsLost}
+use Rattle.cj_history.specs.progress.Kept.{operation, IsAdd, IsTick, IsEnd, Adds, by_name, by_moment, at_once, NoneTakes, IsWanted, IsDone, IsToRetry, retry_at, IsLined, IsKept, Waits, NoKeyIsLost}
 use Rattle.cj_history.proofs.QueueLemmas.Turns.{key_of}
 use Rattle.cj_history.proofs.QueueLemmas.Holders.{holds, holder_after}
 use Rattle.cj_history.proofs.QueueLemmas.Agreed.{stands, queue_agrees}
+use Rattle.cj_history.proofs.ProgressLemmas.Aside.{legal_rest}
 
 -- ---- tests
 
@@ -52,6 +53,10 @@ and_true false b e f = absurd (cc e)
 -- The test of an order that holds is true.
 le_true : (a b : ℕ) → a ≤ b → nat_le a b ≡ true
 le_true a b l = grind (arith, nat_tests)
+
+-- The order holds where its test is true.
+le_of : (a b : ℕ) → nat_le a b ≡ true → a ≤ b
+le_of a b e = grind (arith, nat_tests, e)
 
 -- Where the test of an order is false, the other order holds.
 le_false : (a b : ℕ) → nat_le a b ≡ false → b < a
@@ -125,6 +130,19 @@ late_adds (ticks n) k m b f at was e l = absurd (cc e)
 late_adds (takes j) k m b f at was e l = absurd (cc e)
 late_adds shuts k m b f at was e l = absurd (cc e)
 late_adds nothing k m b f at was e l = absurd (cc e)
+
+-- One whose delayed add isn't due yet leaves its key waiting for it, or for an earlier one.
+late_waits : (d : Deed) (m : ℕ) (b : Bool) (f at : ℕ) (was : Option ℕ) → later_in d b f ≡ Some at → nat_le at m ≡ false
+    → waits_in d false m (later_in d b f) was ≡ Some (earlier was at)
+late_waits (ends n) m b f at was e l =
+    ap (λ o. waits_more o m was) e ∙ ap (λ c. cond c was (Some (earlier was at))) l
+late_waits (fails n) m b f at was e l =
+    ap (λ o. waits_more o m was) e ∙ ap (λ c. cond c was (Some (earlier was at))) l
+late_waits (adds j) m b f at was e l = absurd (cc e)
+late_waits (ticks n) m b f at was e l = absurd (cc e)
+late_waits (takes j) m b f at was e l = absurd (cc e)
+late_waits shuts m b f at was e l = absurd (cc e)
+late_waits nothing m b f at was e l = absurd (cc e)
 
 -- whether an entry adds the key, where the queue isn't shut
 abbrev add_test : List Told → Told → Place → Bool
@@ -201,7 +219,7 @@ freed_by o Well v k was e = ap (λ b. cond b None was) e
 freed_by o (Again now) v k was e = ap (λ b. cond b None was) e
 
 -- After the end of its sync nobody holds a key.
-freed : (window : ℕ) (before : List Told) → IsLegal window before → (k : Place) (end : End) (e : Told)
+pub freed : (window : ℕ) (before : List Told) → IsLegal window before → (k : Place) (end : End) (e : Told)
     → IsEnd before k end e → holder (operations (e ∷ before)) k ≡ None
 freed window before l k end e i =
     ap (λ (d : Deed). holder_after d e.caller.number k (holder (operations before) k))
@@ -327,67 +345,89 @@ ahead_step h a k t n c s f = record {
     by (inr (at, w, l)) = on at l
         (ahead_due a.deed k (shut h) (mark h) (later h a k) (ready_at h k) at idle c w)
 
--- After the end of its sync with a next time a key is ahead.
-ahead_end : (window : ℕ) (before : List Told) → IsLegal window before → (k : Place) (t : ℕ) (e : Told)
-    → IsEnd before k Well e → next_of (sync before e.caller.number) ≡ Some t → shut (operations before) ≡ false
-    → Ahead (operations (e ∷ before)) k (1000 * t)
-ahead_end window before l k t e i n s = record {
-  free = freed window before l k Well e i;
-  due = by (nat_le (1000 * t) (mark (operations before))) refl;
+-- After the end of its sync, which adds it again at a time, a key is ahead.
+ahead_end : (window : ℕ) (before : List Told) → IsLegal window before → (k : Place) (t : ℕ) (end : End) (e : Told)
+    → IsEnd before k end e → later (operations before) (operation before e) k ≡ Some t
+    → shut (operations before) ≡ false
+    → Ahead (operations (e ∷ before)) k t
+ahead_end window before l k t end e i n s = record {
+  free = freed window before l k end e i;
+  due = by (nat_le t (mark (operations before))) refl;
 }
   where
-    is : (operation before e).deed ≡ ends (Some t)
-    is = end_deed (sync before e.caller.number) before k Well e i ∙ ap (λ (o : Option ℕ). ends o) n
+    its : Bool
+    its = is_by (holder (operations before) k) e.caller.number
 
-    late_is : later (operations before) (operation before e) k ≡ Some (1000 * t)
-    late_is =
-        ap (λ (d : Deed). later_in d (is_by (holder (operations before) k) e.caller.number)
-        (failures (operations before) k)) is
-        ∙ ap (λ b. later_in (ends (Some t)) b (failures (operations before) k)) (is_its window before l k Well e i)
-
-    by : (b : Bool) → nat_le (1000 * t) (mark (operations before)) ≡ b
+    by : (b : Bool) → nat_le t (mark (operations before)) ≡ b
         → (dirty (operations (e ∷ before)) k ≡ true)
-        ⊎ ((at : ℕ) × (ready_at (operations (e ∷ before)) k ≡ Some at) × (at ≤ 1000 * t))
+        ⊎ ((at : ℕ) × (ready_at (operations (e ∷ before)) k ≡ Some at) × (at ≤ t))
     by true g = inl (or_left (is_add (operations before) (operation before e) k)
         (not (is_take (operation before e).deed k) && dirty (operations before) k)
         (and_true (not (shut (operations before))) (add_test before e k) (ap not s)
-        (ap (λ (d : Deed). adds_in d k (mark (operations before)) (later (operations before) (operation before e) k)
-        (ready_at (operations before) k)) is
-        ∙ ap (λ (o : Option ℕ). is_within o (mark (operations before))) late_is ∙ g)))
+        (late_adds (operation before e).deed k (mark (operations before)) its (failures (operations before) k) t
+        (ready_at (operations before) k) n (le_of t (mark (operations before)) g))))
     by false g = inr (
-      earlier (ready_at (operations before) k) (1000 * t),
-      ap (λ (d : Deed). waits_in d (shut (operations before)) (mark (operations before))
-          (later (operations before) (operation before e) k) (ready_at (operations before) k)) is
-          ∙ ap (λ b. cond b (ready_at (operations before) k)
-          (waits_more (later (operations before) (operation before e) k) (mark (operations before))
-          (ready_at (operations before) k))) s
-          ∙ ap (λ (o : Option ℕ). waits_more o (mark (operations before)) (ready_at (operations before) k)) late_is
-          ∙ ap (λ b. cond b (ready_at (operations before) k)
-          (Some (earlier (ready_at (operations before) k) (1000 * t)))) g,
-      earlier_le (ready_at (operations before) k) (1000 * t),
+      earlier (ready_at (operations before) k) t,
+      ap (λ b. waits_in (operation before e).deed b (mark (operations before))
+          (later (operations before) (operation before e) k) (ready_at (operations before) k)) s
+          ∙ late_waits (operation before e).deed (mark (operations before)) its (failures (operations before) k) t
+          (ready_at (operations before) k) n g,
+      earlier_le (ready_at (operations before) k) t,
     )
 
 -- From the end of its sync on, until it is taken or the queue is shut, a key is ahead.
-ahead : (window : ℕ) (before : List Told) (k : Place) (t : ℕ) (e : Told) (after : List Told)
-    → IsLegal window (after ++ e ∷ before) → IsEnd before k Well e → next_of (sync before e.caller.number) ≡ Some t
+ahead : (window : ℕ) (before : List Told) (k : Place) (t : ℕ) (end : End) (e : Told) (after : List Told)
+    → IsLegal window (after ++ e ∷ before) → IsEnd before k end e
+    → later (operations before) (operation before e) k ≡ Some t
     → shut (operations (after ++ e ∷ before)) ≡ false → NoneTakes k after
-    → Ahead (operations (after ++ e ∷ before)) k (1000 * t)
-ahead window before k t e [] l i n s none =
-    ahead_end window before l.2 k t e i n
+    → Ahead (operations (after ++ e ∷ before)) k t
+ahead window before k t end e [] l i n s none =
+    ahead_end window before l.2 k t end e i n
     (or_false (is_shut (operation before e).deed) (shut (operations before)) s).1
-ahead window before k t e (x ∷ after) l i n s none =
+ahead window before k t end e (x ∷ after) l i n s none =
     let h : List Told = after ++ e ∷ before in
     let two = or_false (is_shut (operation h x).deed) (shut (operations h)) s in
-    ahead_step (operations h) (operation h x) k (1000 * t) (not_taken (sync h x.caller.number) x k none.0)
-    two.0 two.1 (ahead window before k t e after l.2 i n two.1 none.1)
+    ahead_step (operations h) (operation h x) k t (not_taken (sync h x.caller.number) x k none.0)
+    two.0 two.1 (ahead window before k t end e after l.2 i n two.1 none.1)
+
+-- The end of a sync that ended well, with a next time, adds its key at that.
+next_later : (window : ℕ) (before : List Told) → IsLegal window before → (k : Place) (t : ℕ) (e : Told)
+    → IsEnd before k Well e → next_of (sync before e.caller.number) ≡ Some t
+    → later (operations before) (operation before e) k ≡ Some (1000 * t)
+next_later window before l k t e i n =
+    ap (λ (d : Deed). later_in d (is_by (holder (operations before) k) e.caller.number)
+    (failures (operations before) k))
+    (end_deed (sync before e.caller.number) before k Well e i ∙ ap (λ (o : Option ℕ). ends o) n)
+    ∙ ap (λ b. later_in (ends (Some t)) b (failures (operations before) k)) (is_its window before l k Well e i)
+
+-- That of one that is to be tried again adds its key after the delay of its failures before.
+retry_later : (window : ℕ) (before : List Told) → IsLegal window before → (k : Place) (now : ℕ) (e : Told)
+    → IsEnd before k (Again now) e
+    → later (operations before) (operation before e) k ≡ Some (now + delay (failures (operations before) k))
+retry_later window before l k now e i =
+    ap (λ (d : Deed). later_in d (is_by (holder (operations before) k) e.caller.number)
+    (failures (operations before) k)) (end_deed (sync before e.caller.number) before k (Again now) e i)
+    ∙ ap (λ b. later_in (fails now) b (failures (operations before) k)) (is_its window before l k (Again now) e i)
 
 -- After a sync that ended well, with a next time, a key that wasn't taken since is ahead.
 done_ahead : (window : ℕ) (h : List Told) → IsLegal window h → (k : Place) (t : ℕ) → IsDone h k t
     → Ahead (operations h) k (1000 * t)
 done_ahead window h l k t d =
+    let whole = subst (IsLegal window) d.is l in
     subst (λ (x : List Told). Ahead (operations x) k (1000 * t)) (sym d.is)
-    (ahead window d.before k t d.entry d.after (subst (IsLegal window) d.is l) d.end d.next
+    (ahead window d.before k (1000 * t) Well d.entry d.after whole d.end
+    (next_later window d.before (legal_rest window d.after (d.entry ∷ d.before) whole).2 k t d.entry d.end d.next)
     (sym (ap (λ (x : List Told). shut (operations x)) d.is) ∙ d.runs) d.untaken)
+
+-- So is one whose sync is to be tried again.
+retry_ahead : (window : ℕ) (h : List Told) → IsLegal window h → (k : Place) (now : ℕ) → (y : IsToRetry h k now)
+    → Ahead (operations h) k (retry_at y)
+retry_ahead window h l k now y =
+    let whole = subst (IsLegal window) y.is l in
+    subst (λ (x : List Told). Ahead (operations x) k (retry_at y)) (sym y.is)
+    (ahead window y.before k (retry_at y) (Again now) y.entry y.after whole y.end
+    (retry_later window y.before (legal_rest window y.after (y.entry ∷ y.before) whole).2 k now y.entry y.end)
+    (sym (ap (λ (x : List Told). shut (operations x)) y.is) ∙ y.runs) y.untaken)
 
 -- A key that is ahead stands in the line, or waits for its time.
 ahead_waits : (h : List Operation) (q : Queue) (k : Place) (t : ℕ) → IsQueue h q → Ahead h k t
@@ -424,4 +464,8 @@ none_lost window h l = record {
       (done_ahead window h l k t d);
   due = λ k t d told. ahead_lined (operations h) (state_of window h).queue k (1000 * t) (queue_agrees window h l)
       (done_ahead window h l k t d) told;
+  again = λ k now y. ahead_waits (operations h) (state_of window h).queue k (retry_at y) (queue_agrees window h l)
+      (retry_ahead window h l k now y);
+  retried = λ k now y due. ahead_lined (operations h) (state_of window h).queue k (retry_at y) (queue_agrees window h l)
+      (retry_ahead window h l k now y) due;
 }

@@ -79,7 +79,7 @@ still_there x call (Ok r) i = still_accepted x call r i
 still_there x call (Err e) i = (x, refl, refl)
 
 -- After such a call its worker holds the key.
-holds_own : (window w : ℕ) (k : Place) (call : Call) (h : List Told) → keeps_key call ≡ true → Holds h w k
+pub holds_own : (window w : ℕ) (k : Place) (call : Call) (h : List Told) → keeps_key call ≡ true → Holds h w k
     → Holds (entry window h w call ∷ h) w k
 holds_own window w k call h i f =
     let a = answer_of window h (worker w) call in

@@ -1,5 +1,5 @@
 -- Histories of a few calls, which are legal, and in which a key was added and not taken since.
-use Rattle.std.proofs.Common.{[], refl, sym, arith}
+use Rattle.std.proofs.Common.{◌≡◌, ℕ, ◌≤◌, [], ◌∷◌, refl, sym, subst, arith}
 use Rattle.std.specs.Prelude.{Ok}
 use Rattle.cj_calls.specs.declared.caller.Role.TheVariants.{Informer, Worker}
 use Rattle.cj_calls.specs.declared.call.Call.TheVariants as Of
@@ -7,7 +7,9 @@ use Rattle.cj_calls.specs.declared.end.End.TheVariants.{Again}
 use Rattle.cj_calls.specs.declared.reply.Reply.TheVariants as Say
 use Rattle.cj_state.specs.Step.{step_of}
 use Rattle.cj_state.specs.Legal.{IsLegal, state_of}
-use Rattle.cj_history.specs.progress.Kept.{by_name, by_moment, IsWanted, IsKept}
+use Rattle.cj_history.specs.queue.Deeds.{operations}
+use Rattle.cj_history.specs.queue.LookBacks.{mark}
+use Rattle.cj_history.specs.progress.Kept.{by_name, by_moment, IsWanted, IsToRetry, retry_at, IsLined, IsKept}
 use Rattle.cj_history.proofs.QueueLemmas.Sample.{a, told, taken, added_again, early, due, legal_take}
 use Rattle.cj_history.proofs.QueueLemmas.Answered.{answers_agree}
 use Rattle.cj_history.proofs.ProgressLemmas.Kept.{none_lost}
@@ -53,3 +55,25 @@ wanted_due = record {
 -- So its queue keeps the key.
 pub lined_due : IsKept (state_of 3 due).queue a
 lined_due = (none_lost 3 due legal_due).added a wanted_due
+
+-- In it the sync of the key, which failed for the first time, is to be tried again.
+pub to_retry : IsToRetry due a 1000
+to_retry = record {
+  after = told 0 Informer (Of.Tick 1005) (Ok Say.Done) ∷ told 0 Informer (Of.Tick 1004) (Ok Say.Done) ∷ [];
+  entry = told 1 Worker (Of.Finish (Again 1000) []) (Ok Say.Done);
+  before = taken;
+  is = refl;
+  end = record { sits = _; held = refl; key = refl; reasons = []; call = refl; answer = refl };
+  runs = refl;
+  untaken = ((λ t. absurd (cc t.call)), ((λ t. absurd (cc t.call)), tt));
+}
+
+-- After the first delay, of 5 milliseconds.
+pub retry_then : retry_at to_retry ≡ 1005
+unfolding to_retry
+retry_then = refl
+
+-- So at the tick of that time it stands in the line.
+pub retried_due : IsLined (state_of 3 due).queue a
+retried_due = (none_lost 3 due legal_due).retried a 1000 to_retry
+    (subst (λ (n : ℕ). n ≤ mark (operations due)) (sym retry_then) (omega arith))

@@ -27,7 +27,7 @@ use Rattle.cj_state.specs.Step.{writes, by_role, step_of}
 use Rattle.cj_state.specs.Legal.{state_of}
 use Rattle.cj_world_laws.specs.once.Once.{Claimed, claim_of, makes_with, with_made, makes}
 use Rattle.cj_world_laws.proofs.OnceLemmas.Maps.{put_here}
-use Rattle.cj_history.specs.progress.Every.{Synced, times_of, made_for, IsBegun, IsNew, AreLatest, EveryTimeSince}
+use Rattle.cj_history.specs.progress.Every.{Moment, Synced, times_of, made_for, IsBegun, IsNew, AreLatest, EveryTimeSince}
 use Rattle.cj_history.proofs.ProgressLemmas.Makers.{Good, earlier, facts}
 use Rattle.cj_history.proofs.ProgressLemmas.Synced.{sync_begun, every_time}
 
@@ -79,17 +79,17 @@ none_for n (m ∷ ms) a = by (m.owner == n + 1) refl (none_for n ms a.1)
 -- ---- from the creation on
 
 -- The history before the syncs is such as the one after them.
-synced_begun : (window : ℕ) (k : Place) (z : Zone) (start : List Told) (ts : List ℕ) (g : List Told) → Good window g
-    → Synced window k z start ts g → Good window start
+synced_begun : (window : ℕ) (k : Place) (z : Zone) (start : List Told) (ms : List Moment) (g : List Told)
+    → Good window g → Synced window k z start ms g → Good window start
 synced_begun window k z start [] g good (es, others, is) = earlier window es start (subst (Good window) is good)
-synced_begun window k z start (t ∷ ts) g good (before, after, es, rest, sync, others, is) =
-    synced_begun window k z start ts before
-    (sync_begun window k z t before after sync (earlier window es after (subst (Good window) is good))) rest
+synced_begun window k z start (m ∷ ms) g good (before, after, es, rest, sync, others, is) =
+    synced_begun window k z start ms before
+    (sync_begun window k z m before after sync (earlier window es after (subst (Good window) is good))) rest
 
 -- what holds after the creation
-record Fresh (window : ℕ) (h : List Told) (k : Place) (cron : CronJob) (s : Sets) : Type 0 where
-  begun : IsBegun window h k cron s
-  none : made_for window cron.meta.uid h ≡ []
+pub record Fresh (window : ℕ) (h : List Told) (k : Place) (cron : CronJob) (s : Sets) : Type 0 where
+  pub begun : IsBegun window h k cron s
+  pub none : made_for window cron.meta.uid h ≡ []
 
 -- It does.
 fresh : (window : ℕ) (h : List Told) (k : Place) (cron : CronJob) (s : Sets) (n : IsNew h k cron s)
@@ -112,7 +112,6 @@ fresh window h k cron s n good =
         stands = ap (map.get (state_of window (e ∷ n.before)).store.crons) (sym n.key)
             ∙ (ap (λ (c : Call). map.get (step_of st e.caller c).state.store.crons n.draft.key) n.call ∙ m.1);
         runs = n.runs;
-        policy = n.policy;
         reads = n.reads;
         last = subst (λ (o : Option ℕ). IfSome o (λ t. IsIn t (made_for window cron.meta.uid (e ∷ n.before))))
             (sym (ap (λ (c : CronJob). c.status.last_schedule_time) m.0)) tt;
@@ -120,14 +119,17 @@ fresh window h k cron s n good =
       none = none;
     }
 
+-- In a history that begins with the creation, it holds after that.
+pub fresh_in : (window : ℕ) (start g : List Told) (k : Place) (cron : CronJob) (s : Sets) (z : Zone) (ms : List Moment)
+    → Good window g → IsNew start k cron s → Synced window k z start ms g → Fresh window start k cron s
+fresh_in window start g k cron s z ms good n y =
+    subst (λ (h : List Told). Fresh window h k cron s) (sym n.is)
+    (fresh window start k cron s n (subst (Good window) n.is (synced_begun window k z start ms g good y)))
+
 -- For every_time_law: from the creation on they are all Jobs that are made for the CronJob.
 pub every_time_since : EveryTimeSince
-every_time_since window start g k cron s z ts short legal planned n on y =
-    let good : Good window g = record { short = short; legal = legal; planned = planned } in
-    let whole : Good window (n.creation ∷ n.before)
-    = subst (Good window) n.is (synced_begun window k z start ts g good y) in
-    let f = fresh window start k cron s n whole in
-    let r = every_time window (n.creation ∷ n.before) g k cron s z ts short legal planned f.begun on
-    (subst (λ (h : List Told). Synced window k z h ts g) n.is y) in
-    subst (AreLatest s z cron ts)
+every_time_since window start g k cron s z ms short legal planned n on y =
+    let f = fresh_in window start g k cron s z ms (record { short = short; legal = legal; planned = planned }) n y in
+    let r = every_time window start g k cron s z ms short legal planned f.begun on y in
+    subst (AreLatest s z cron ms)
     (sym (r.2 ∙ (ap (λ (l : List ℕ). r.0 ++ l) f.none ∙ append-nil r.0))) r.1

@@ -244,13 +244,14 @@ found_low s uid namespace (n ∷ names) f j h =
     by None e rest i = rest i
     by (Some x) e rest i = here x e (is_mine uid x) rest i
 
--- what a worker that made its readings knows: its CronJob stands, and the Jobs that were listed
--- have uids that were given out
+-- what a worker that made its readings knows: its CronJob stands, the live read found what stands
+-- of its active names, and the Jobs that were listed have uids that were given out
 pub record IsRead (w : ℕ) (k : Place) (cron : CronJob) (s : State) : Type 0 where
   pub jobs : List Job
   pub live : List (Option Job)
   pub sync : sync_of s w ≡ Some (in_flight k (Checked (Some cron) jobs live))
   pub stands : map.get s.store.crons k ≡ Some cron
+  pub found : live ≡ active_of s.store (Some cron)
   pub old : (j : Job) → IsIn j jobs → j.meta.uid ≤ s.store.uids
   pub low : (j : Job) → IsIn j (present live) → j.meta.uid ≤ s.store.uids
   pub settled : (j : Job) → IsIn j jobs → IsSettled j s.store
@@ -271,6 +272,7 @@ module _ (w : ℕ) (k : Place) (cron : CronJob) where
       live = active_of t.store (Some cron);
       sync = sync_here t.syncs w (in_flight k (Checked (Some cron) js (active_of t.store (Some cron))));
       stands = same.cron ∙ at;
+      found = refl;
       settled = λ j i. same.ages j (old j i) (ends j i);
       old = λ j i. (let a = old j i in let b = same.more in omega (arith, a, b));
       low = λ j i. found_low t.store (uid_text cron.meta.uid) cron.key.namespace cron.status.active same.stored j i;

@@ -1,24 +1,24 @@
 -- The queue forgets nothing that is due: client-go, package workqueue ("it is allowed for an item
 -- to be reenqueued while it is being processed"; AddAfter). What is supposed is what the callers
 -- saw; what is promised is said of the queue of the state, from which the next Take is answered.
-use Rattle.std.specs.Prelude.{◌≡◌, ◌⊎◌, ℕ, ◌*◌, ◌<◌, ◌≤◌, true, false, List, ◌∷◌, ◌++◌, Some, Ok}
+use Rattle.std.specs.Prelude.{◌≡◌, ◌⊎◌, ℕ, ◌+◌, ◌*◌, ◌<◌, ◌≤◌, true, false, List, ◌∷◌, ◌++◌, Some, Ok}
 use Rattle.std.specs.List.{AllByRecursion}
 use Rattle.std.specs.FinMap.{get}
 use Rattle.cj_types.specs.Keys.{Place}
 use Rattle.cj_types.specs.declared.policy.Reason.{Reason}
 use Rattle.cj_queue.specs.Parts.{stands_in}
-use Rattle.cj_queue.specs.Queue.{Queue, has}
+use Rattle.cj_queue.specs.Queue.{Queue, has, delay}
 use Rattle.cj_calls.specs.Rows.{Told}
 use Rattle.cj_calls.specs.declared.call.Call.TheVariants as Of
 use Rattle.cj_calls.specs.declared.end.End.{End}
-use Rattle.cj_calls.specs.declared.end.End.TheVariants.{Well}
+use Rattle.cj_calls.specs.declared.end.End.TheVariants.{Well, Again}
 use Rattle.cj_calls.specs.declared.reply.Reply.TheVariants as Is
 use Rattle.cj_state.specs.declared.phases.sync.InFlight.{InFlight}
 use Rattle.cj_state.specs.Legal.{IsLegal, state_of}
 use Rattle.cj_world_laws.specs.legal.Exclusive.{IsTake}
 use Rattle.cj_world_laws.specs.legal.InFlightSyncs.{sync}
 use Rattle.cj_history.specs.queue.Deeds.{Operation, deed, next_of, operations}
-use Rattle.cj_history.specs.queue.LookBacks.{later, mark, ready_at, shut}
+use Rattle.cj_history.specs.queue.LookBacks.{failures, later, mark, ready_at, shut}
 
 -- ---- what the callers saw
 
@@ -83,6 +83,23 @@ pub record IsDone (h : List Told) (k : Place) (t : ℕ) : Type 0 where
   pub runs : shut (operations h) ≡ false
   pub untaken : NoneTakes k after
 
+-- its last sync is to be tried again, from this moment in milliseconds on; it wasn't taken since,
+-- nor was the queue shut
+-- rule: nothing-due-is-lost
+pub record IsToRetry (h : List Told) (k : Place) (now : ℕ) : Type 0 where
+  pub after : List Told
+  pub entry : Told
+  pub before : List Told
+  pub is : h ≡ after ++ entry ∷ before
+  pub end : IsEnd before k (Again now) entry
+  pub runs : shut (operations h) ≡ false
+  pub untaken : NoneTakes k after
+
+-- when it is to be tried again: after the delay of the failures of its syncs before that one
+-- rule: nothing-due-is-lost
+abbrev pub retry_at : {h : List Told} {k : Place} {now : ℕ} → IsToRetry h k now → ℕ
+retry_at {h} {k} {now} y = now + delay (failures (operations y.before) k)
+
 -- ---- what is promised
 
 -- it stands in the line
@@ -103,8 +120,9 @@ pub record Waits (q : Queue) (k : Place) (t : ℕ) : Type 0 where
   pub within : at ≤ t
 
 -- what was added stands in the line, or goes there after the sync of one who holds it; it stands
--- there after the end of that sync; and a CronJob whose sync ended well waits for its next time,
--- and stands there once that was told
+-- there after the end of that sync; a CronJob whose sync ended well waits for its next time, and
+-- one whose sync is to be tried again for the time of that; and each stands there once its time was
+-- told
 -- rule: nothing-due-is-lost
 pub record KeepsKeys (h : List Told) (q : Queue) : Type 0 where
   pub added : (k : Place) → IsWanted h k → IsKept q k
@@ -112,6 +130,9 @@ pub record KeepsKeys (h : List Told) (q : Queue) : Type 0 where
       → IsEnd before k end e → IsWanted h k → IsLined q k
   pub next : (k : Place) (t : ℕ) → IsDone h k t → IsLined q k ⊎ Waits q k (1000 * t)
   pub due : (k : Place) (t : ℕ) → IsDone h k t → 1000 * t ≤ mark (operations h) → IsLined q k
+  pub again : (k : Place) (now : ℕ) → (y : IsToRetry h k now) → IsLined q k ⊎ Waits q k (retry_at y)
+  pub retried : (k : Place) (now : ℕ) → (y : IsToRetry h k now) → retry_at y ≤ mark (operations h)
+      → IsLined q k
 
 -- whoever called whatever
 -- rule: nothing-due-is-lost

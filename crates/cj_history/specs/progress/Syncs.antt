@@ -233,7 +233,8 @@ pub record PlansWork (window w : ℕ) (k : Place) (cron : CronJob) (h : List Tol
   pub stay : PlansStay w k cron h
   pub spare : PlansSpare window w k cron h
 
--- who takes the key is answered all calls of its sync, and the latest time missed gets its Job
+-- by the answers that a legal history determines, who takes the key is answered all calls of its
+-- sync, and the latest time missed gets its Job
 -- rule: sync-makes-job
 abbrev pub MakesJob : Type 0
 MakesJob = (window : ℕ) (h : List Told) (w : ℕ) (k : Place) (cron : CronJob) → IsLegal window h

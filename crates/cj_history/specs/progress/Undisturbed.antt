@@ -43,12 +43,13 @@ AreAside w k q (e ∷ es) h =
     (λ x. is_of k q (object_of x) ≡ false)
     × AreAside w k q es h
 
--- the entry of a worker's call after these, with the answer that they give
+-- the entry of a worker's call after these, with the answer that they determine; a call that is
+-- refused for want of memory, or of room in the history, makes no entry (cj_state, Legal)
 abbrev pub entry : ℕ → List Told → ℕ → Call → Told
 entry window h w call = record { caller = worker w; call = call; answer = answer_of window h (worker w) call }
 
--- the worker's calls, each after whatever others call aside, are all accepted, and that holds after
--- them
+-- the worker's calls, each after whatever others call aside, are all accepted by the answers that
+-- the history determines, and that holds after them
 -- rule: undisturbed
 abbrev pub Leads : ℕ → ℕ → Place → Option Place → List Told → List Call → (List Told → Type 0)
     → Type 0

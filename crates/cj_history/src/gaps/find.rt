@@ -1,25 +1,26 @@
 // The gaps of a history.
-ghost use Rattle.std.specs.Prelude.{◌≡◌, ◌++◌, List, ◌∷◌, Some, ◌↔◌, IfOk, IfErr, OnOk, option_copied};
+ghost use Rattle.std.specs.Prelude.{◌≡◌, ◌++◌, List, ◌∷◌, Some, IfOk, IfErr, OnOk, option_copied};
 ghost use mathlib.Core.List.{reverse};
 ghost use Rattle.cj_base.specs.declared.refusal.Refusal.TheVariants.{OutOfMemory};
 ghost use Rattle.cj_calls.specs.Rows.{Told};
 ghost use Rattle.cj_schedule.specs.Grammar.{IsSchedule};
 ghost use Rattle.cj_schedule.specs.Matches.{Sets};
 ghost use Rattle.cj_due.specs.Due.{missed_times};
-ghost use Rattle.cj_decide.specs.laws.Laws.{IsIn};
-ghost use Rattle.cj_history.specs.declared.gaps.gap.Gap.{Gap};
 ghost use Rattle.cj_history.specs.gaps.Causes.{is_forbidden, is_late, why_left, cause};
-ghost use Rattle.cj_history.specs.gaps.Gaps.{IsGap, Rise};
+ghost use Rattle.cj_history.specs.gaps.Gaps.{AreGaps};
+ghost use Rattle.cj_history.specs.gaps.Syncs.{plan_in, last_scheduled};
+ghost use Rattle.cj_history.specs.gaps.Whole.{MadeOrTold};
 ghost use Rattle.cj_history.specs.gaps.reading.Goes.{Goes};
 ghost use Rattle.cj_history.specs.gaps.reading.Known.{has};
-ghost use Rattle.cj_history.specs.gaps.reading.Listed.{gap_if, gaps_among, Adds, GapsFrom, GapsBy, GapsOf};
-ghost use Rattle.cj_history.specs.gaps.reading.Reached.{moment_of};
-ghost use Rattle.cj_history.specs.gaps.Syncs.{plan_in, seen_by};
+ghost use Rattle.cj_history.specs.gaps.reading.Listed.{gap_if, gaps_among, AreListed, GapsFrom, GapsBy, GoesOn};
+ghost use Rattle.cj_history.specs.gaps.reading.Settled.{is_settled};
+ghost use Rattle.cj_history.specs.gaps.reading.Intervals.{Covers};
 
 use crate::gaps::gap::{Gap, Why};
-use crate::gaps::mark::{Deed, Mark};
+use crate::gaps::intervals::{Interval, Intervals, later};
+use crate::gaps::listed::Listed;
+use crate::gaps::mark::{Deed, Mark, Start};
 use crate::gaps::marks::Marks;
-use crate::gaps::moments::Moments;
 use crate::gaps::times::next_upto;
 use cj_calls::{Answer, Call, Entry};
 use cj_decide::Plan;
@@ -46,7 +47,7 @@ fn is_late(cron: &CronJob, plan: &Plan, time: Seconds) -> bool
     }
 }
 
-// Why the sync that looked at the time first claimed nothing for it.
+// Why the sync that counted the time first claimed nothing for it.
 fn why_left(cron: &CronJob, plan: &Plan, time: Seconds) -> Why
     ensures { result ≡ why_left cron.now plan.now time }
 {
@@ -84,30 +85,39 @@ fn cause(marks: &Marks, cron: &CronJob, plan: &Plan, time: Seconds) -> Why
     }
 }
 
-// Notes the time, if it got no Job.
+// Whether the time got its Job, or its gap is listed.
+pub(crate) fn is_settled(marks: &Marks, listed: &Listed, cron: &CronJob, time: Seconds) -> bool
+    ensures { result ≡ is_settled (has marks.now) listed.now cron.now.meta.uid time }
+{
+    let uid = cron.meta.uid;
+    let made = marks.has(mark_of(cron, time, Deed::Made));
+    let told = listed.has(Start { uid, time });
+    made || told
+}
+
+// Lists the time, if it isn't settled.
 fn note_time(
     alloc: Global,
     marks: &Marks,
     cron: &Shared<CronJob>,
     plan: &Plan,
     time: Seconds,
-    gaps: &mut Vec<Gap>,
+    listed: &mut Listed,
 ) -> Result<(), Refusal>
-    ensures ok { OnOk result (gaps.new.items
-        ≡ gaps.old.items ++ gap_if (has marks.now) cron.now
+    ensures ok { OnOk result (listed.new ≡ listed.old
+        ++ gap_if (is_settled (has marks.now) listed.old cron.now.meta.uid) cron.now
         (cause (has marks.now) cron.now plan.now) time) }
     ensures err { IfErr result (λ e. e ≡ OutOfMemory) }
 {
-    if marks.has(mark_of(cron.get(), time, Deed::Made)) {
+    if is_settled(marks, listed, cron.get(), time) {
         return Ok(());
     }
     let why = cause(marks, cron.get(), plan, time);
     let cron = cron.try_copy(alloc)?;
-    let gap = Gap { cron, time, why };
-    gaps.push(gap).map_err(|_| Refusal::OutOfMemory)
+    listed.push(Gap { cron, time, why })
 }
 
-// Notes those of the due times after `lo` and up to the plan's moment that got no Job.
+// Lists those of the due times after `lo` and up to the plan's moment that aren't settled.
 fn note_times(
     alloc: Global,
     marks: &Marks,
@@ -116,17 +126,17 @@ fn note_times(
     schedule: &Schedule,
     zone: &Zone,
     lo: Seconds,
-    gaps: &mut Vec<Gap>,
+    listed: &mut Listed,
 ) -> Result<(), Refusal>
-    ensures ok { OnOk result (gaps.new.items ≡ gaps.old.items
-        ++ gaps_among (has marks.now) cron.now plan.now
+    ensures ok { OnOk result (listed.new ≡ listed.old
+        ++ gaps_among (has marks.now) listed.old cron.now plan.now
         (missed_times schedule.now zone.now lo plan.now.at)) }
     ensures err { IfErr result (λ e. e ≡ OutOfMemory) }
 {
     let hi = plan.moment();
     let mut at = lo;
     while let Some(time) = next_upto(schedule, zone, at, hi) {
-        note_time(alloc, marks, cron, plan, time, gaps)?;
+        note_time(alloc, marks, cron, plan, time, listed)?;
         at = time;
     }
     Ok(())
@@ -140,49 +150,88 @@ pub(crate) fn schedule_of(cron: &CronJob) -> Option<Schedule>
     Schedule::parse(cron.spec.get().schedule.as_str()).ok()
 }
 
-// The same of the CronJob's own schedule.
+// The last time that was scheduled, or the creation before the first.
+pub(crate) fn last_scheduled(cron: &CronJob) -> Seconds
+    ensures { result ≡ last_scheduled cron.now }
+{
+    cron.status.last_schedule_time.unwrap_or(cron.meta.created)
+}
+
+// Lists what a plan counts by this schedule and in this zone. It goes on where the last sync of the
+// CronJob ended, if that had the same schedule and zone.
+fn note_schedule(
+    alloc: Global,
+    marks: &Marks,
+    cron: &Shared<CronJob>,
+    plan: &Plan,
+    schedule: &Schedule,
+    zone: &Shared<Zone>,
+    intervals: &mut Intervals,
+    listed: &mut Listed,
+) -> Result<(), Refusal>
+    ensures ok { OnOk result (Covers (is_settled (has marks.now) listed.old) intervals.old →
+        GoesOn (has marks.now) (λ gs. gs ≡ gaps_among (has marks.now) listed.old cron.now plan.now
+        (missed_times schedule.now zone.now (last_scheduled cron.now) plan.now.at))
+        listed.old listed.new intervals.new) }
+    ensures err { IfErr result (λ e. e ≡ OutOfMemory) }
+{
+    let uid = cron.get().meta.uid;
+    let from = last_scheduled(cron.get());
+    let lo = intervals.seen_upto(uid, schedule, zone.get(), from);
+    note_times(alloc, marks, cron, plan, schedule, zone.get(), lo, listed)?;
+    let interval = Interval {
+        schedule: *schedule,
+        zone: zone.try_copy(alloc)?,
+        from,
+        upto: later(lo, plan.moment()),
+    };
+    intervals.put(uid, interval)
+}
+
+// The same by the CronJob's own schedule.
 fn note_cron(
     alloc: Global,
     marks: &Marks,
     cron: &Shared<CronJob>,
     plan: &Plan,
-    zone: &Zone,
-    lo: Seconds,
-    gaps: &mut Vec<Gap>,
+    zone: &Shared<Zone>,
+    intervals: &mut Intervals,
+    listed: &mut Listed,
 ) -> Result<(), Refusal>
-    ensures ok { OnOk result (Adds (GapsFrom (has marks.now) cron.now plan.now zone.now lo)
-        gaps.old.items gaps.new.items) }
+    ensures ok { OnOk result (Covers (is_settled (has marks.now) listed.old) intervals.old →
+        GoesOn (has marks.now) (GapsFrom (has marks.now) listed.old cron.now plan.now zone.now)
+        listed.old listed.new intervals.new) }
     ensures err { IfErr result (λ e. e ≡ OutOfMemory) }
 {
     match schedule_of(cron.get()) {
-        Some(schedule) => note_times(alloc, marks, cron, plan, &schedule, zone, lo, gaps),
+        Some(schedule) => {
+            note_schedule(alloc, marks, cron, plan, &schedule, zone, intervals, listed)
+        }
         None => Ok(()),
     }
 }
 
-// What a plan, which was claimed, looked at first.
+// What a plan, which was claimed, counts first.
 fn note_plan(
     alloc: Global,
     marks: &Marks,
     plan: &Plan,
-    moments: &Moments,
-    gaps: &mut Vec<Gap>,
+    intervals: &mut Intervals,
+    listed: &mut Listed,
 ) -> Result<(), Refusal>
-    ensures ok { OnOk result (Adds (GapsBy (has marks.now) (seen_by (moment_of moments.now))
-        plan.now plan.now.cron plan.now.zone) gaps.old.items gaps.new.items) }
+    ensures ok { OnOk result (Covers (is_settled (has marks.now) listed.old) intervals.old →
+        GoesOn (has marks.now) (GapsBy (has marks.now) listed.old plan.now plan.now.cron
+        plan.now.zone) listed.old listed.new intervals.new) }
     ensures err { IfErr result (λ e. e ≡ OutOfMemory) }
 {
     match (plan.cron(), plan.zone()) {
-        (Some(cron), Some(zone)) => {
-            let lo = moments.seen_upto(cron.get());
-            note_cron(alloc, marks, cron, plan, zone.get(), lo, gaps)
-        }
+        (Some(cron), Some(zone)) => { note_cron(alloc, marks, cron, plan, zone, intervals, listed) }
         _ => Ok(()),
     }
 }
 
 // The plan of an accepted claim.
-pub(crate) fn plan_in<'a>(call: &'a Call, answer: &Answer) -> Option<&'a Plan>
+fn plan_in<'a>(call: &'a Call, answer: &Answer) -> Option<&'a Plan>
     ensures { option_copied result ≡ plan_in call.now answer.now }
 {
     match (call, answer) {
@@ -196,44 +245,54 @@ fn note_entry(
     alloc: Global,
     marks: &Marks,
     entry: &Entry,
-    moments: &mut Moments,
-    gaps: &mut Vec<Gap>,
+    intervals: &mut Intervals,
+    listed: &mut Listed,
 ) -> Result<(), Refusal>
-    ensures ok { OnOk result ((h : List Told) → Goes (has marks.now) h moments.old gaps.old.items
-        → Goes (has marks.now) (entry.now ∷ h) moments.new gaps.new.items) }
+    ensures ok { OnOk result ((h : List Told) → Goes (has marks.now) h intervals.old listed.old
+        → Goes (has marks.now) (entry.now ∷ h) intervals.new listed.new) }
     ensures err { IfErr result (λ e. e ≡ OutOfMemory) }
 {
-    let Some(plan) = plan_in(entry.call(), entry.answer()) else {
-        return Ok(());
-    };
-    note_plan(alloc, marks, plan, moments, gaps)?;
-    moments.note(plan)
+    match plan_in(entry.call(), entry.answer()) {
+        Some(plan) => note_plan(alloc, marks, plan, intervals, listed),
+        None => Ok(()),
+    }
 }
 
-/// The due times of the history that got no Job, each with its cause: of each CronJob, by its uid,
-/// those from its creation to the greatest moment of its syncs. A time is due by the schedule and
-/// in the zone that the first sync that looked at it read, and got its Job where an accepted making
-/// rests on a claim of it. The entries come with the oldest first; the gaps come in the order of
-/// those syncs, and of each CronJob in the order of time.
+// The gaps of the entries, of which the oldest is the first.
+pub(crate) fn list(alloc: Global, marks: &Marks, entries: &[Entry]) -> Result<Listed, Refusal>
+    ensures ok { IfOk result (λ gs. AreListed (has marks.now) (reverse entries.now) gs) }
+    ensures err { IfErr result (λ e. e ≡ OutOfMemory) }
+{
+    let mut intervals = Intervals::new(alloc);
+    let mut listed = Listed::new(alloc);
+    for entry in entries {
+        note_entry(alloc, marks, entry, &mut intervals, &mut listed)?;
+    }
+    Ok(listed)
+}
+
+/// The gaps of the history: the times that a sync counted as missed and that got no Job, each once,
+/// with its cause. A sync counts the times that are due by the schedule and in the zone that it
+/// read, later than the last scheduled time that it read (the creation before the first), and not
+/// later than its moment. A time got its Job where an accepted making rests on a claim of it.
+///
+/// The entries come with the oldest first. The gaps come in the order of the syncs that counted
+/// them first, and those of one sync in the order of time. So of each time that a sync counted
+/// there is one Job or one gap, and never both.
 ///
 /// A sync counts once its claim was accepted, also where it claimed nothing, and where its zone was
-/// known. Times after the last one aren't looked at; `late_of` tells those. Takes memory in
-/// proportion to the claims and the gaps.
+/// known. Times that no sync counted yet are none of these; `all_gaps_of` tells those too. Takes
+/// memory in proportion to the claims and the gaps.
 ///
 /// # Errors
 ///
 /// `OutOfMemory`.
 pub fn gaps_of(alloc: Global, entries: &[Entry]) -> Result<Vec<Gap>, Refusal>
-    ensures exact { IfOk result (λ gs. (g : Gap) →
-        IsIn g gs.items ↔ IsGap (reverse entries.now) g) }
-    ensures rise { IfOk result (λ gs. Rise gs.items) }
+    ensures ok { IfOk result (λ gs. AreGaps (reverse entries.now) gs.items) }
+    ensures whole { IfOk result (λ gs. MadeOrTold (reverse entries.now) gs.items) }
     ensures err { IfErr result (λ e. e ≡ OutOfMemory) }
 {
     let marks = Marks::read(alloc, entries)?;
-    let mut moments = Moments::new(alloc);
-    let mut gaps = Vec::new(alloc);
-    for entry in entries {
-        note_entry(alloc, &marks, entry, &mut moments, &mut gaps)?;
-    }
-    Ok(gaps)
+    let listed = list(alloc, &marks, entries)?;
+    Ok(listed.into_gaps())
 }

@@ -35,7 +35,7 @@ fn why_words(why: Why) -> &'static str {
         Why::TooLate => "too late: spec.startingDeadlineSeconds was over",
         Why::Earlier => "passed over for a later time",
         Why::NotMade => "claimed, but not made",
-        Why::NeverSynced => "never looked at",
+        Why::NeverSynced => "no sync came since",
         Why::Forbidden => "JobAlreadyActive",
         Why::NameTaken => "FailedCreate",
     }

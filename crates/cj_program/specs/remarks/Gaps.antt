@@ -16,7 +16,7 @@ why_words Forbidden = codes "spec.concurrencyPolicy was Forbid and a Job of it r
 why_words Earlier = codes "a later time was missed too, and only the latest is started"
 why_words NameTaken = codes "the name of its Job was taken"
 why_words NotMade = codes "it was claimed, and then no Job was made"
-why_words NeverSynced = codes "no sync looked at it"
+why_words NeverSynced = codes "no sync came since"
 
 -- `NAMESPACE/NAME: no Job for TIME, since WHY`
 -- rule: explain-gaps

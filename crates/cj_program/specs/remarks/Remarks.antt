@@ -1,25 +1,19 @@
 -- What is said to people of a run: the edits that were refused, that nothing started, the due times
 -- that got no Job, and the CronJobs that are suspended in the end.
-use Rattle.std.specs.Prelude.{◌≡◌, ◌↔◌, ℕ, Bool, true, false, List, [], ◌++◌}
+use Rattle.std.specs.Prelude.{◌≡◌, ℕ, Bool, true, false, List, [], ◌++◌}
 use Rattle.std.specs.FinMap as map
 use mathlib.Core.List.{reverse}
 use Rattle.cj_status.specs.Order.{in_order}
-use Rattle.cj_decide.specs.laws.Laws.{IsIn}
-use Rattle.cj_calls.specs.Rows.{Told}
 use Rattle.cj_script.specs.simulation.Spans.{SpanView}
 use Rattle.cj_history.specs.declared.gaps.gap.Gap.{Gap}
-use Rattle.cj_history.specs.gaps.Gaps.{IsGap, Rise}
 use Rattle.cj_world.specs.Worlds.{WorldLog, state_in}
+use Rattle.cj_zone.specs.declared.table.ZoneTable.{ZoneTable}
 use Rattle.cj_program.specs.remarks.Refused.{refused_lines}
 use Rattle.cj_program.specs.remarks.Idle.{idle_words}
 use Rattle.cj_program.specs.remarks.Gaps.{gap_lines}
 use Rattle.cj_program.specs.remarks.Order.{comes_before}
+use Rattle.cj_program.specs.remarks.Standings.{AreGapsOf}
 use Rattle.cj_program.specs.remarks.Suspended.{suspended_lines}
-
--- exactly the due times of the history that got no Job, each once
-pub record AreGaps (h : List Told) (gs : List Gap) : Type 0 where
-  pub exact : (g : Gap) → IsIn g gs ↔ IsGap h g
-  pub rise : Rise gs
 
 -- the most gaps of one CronJob and one cause that get a line each
 -- rule: explain-gaps
@@ -32,14 +26,15 @@ remark_words most s w gaps =
     refused_lines s w.history ++ (idle_words s (reverse w.history) gaps ++ (gap_lines most gaps
     ++ suspended_lines (map.values (state_in w).store.crons)))
 
--- of a run under this clock that left this history
+-- of a run under this clock, and with these zones, that left this history
 -- rules: explain-refused, explain-idle, explain-gaps, explain-suspended
-pub record IsRemark (most : ℕ) (s : SpanView) (w : WorldLog) (words : List ℕ) : Type 0 where
+pub record IsRemark (most : ℕ) (s : SpanView) (zones : ZoneTable) (w : WorldLog) (words : List ℕ)
+    : Type 0 where
   pub gaps : List Gap
-  pub are : AreGaps w.history gaps
+  pub are : AreGapsOf s zones w gaps
   pub said : words ≡ remark_words most s w (in_order comes_before gaps)
 
 -- where people ask for it
-abbrev pub IsAskedRemark : Bool → ℕ → SpanView → WorldLog → List ℕ → Type 0
-IsAskedRemark true most s w words = IsRemark most s w words
-IsAskedRemark false most s w words = words ≡ []
+abbrev pub IsAskedRemark : Bool → ℕ → SpanView → ZoneTable → WorldLog → List ℕ → Type 0
+IsAskedRemark true most s zones w words = IsRemark most s zones w words
+IsAskedRemark false most s zones w words = words ≡ []

@@ -20,7 +20,7 @@ fn why_words(why: Why) -> &'static str
         Why::Earlier => "a later time was missed too, and only the latest is started",
         Why::NameTaken => "the name of its Job was taken",
         Why::NotMade => "it was claimed, and then no Job was made",
-        Why::NeverSynced => "no sync looked at it",
+        Why::NeverSynced => "no sync came since",
     }
 }
 

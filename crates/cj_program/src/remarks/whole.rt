@@ -1,22 +1,27 @@
 // All that is said to people of a run.
-ghost use Rattle.std.specs.Prelude.{◌≡◌, IfOk, string_bytes};
+ghost use Rattle.std.specs.Prelude.{◌≡◌, IfOk, IfErr, string_bytes};
+ghost use Rattle.cj_base.specs.declared.refusal.Refusal.TheVariants.{OutOfMemory};
 ghost use Rattle.std.specs.FinMap as map;
 ghost use mathlib.Core.List.{reverse};
 ghost use Rattle.cj_world.specs.Worlds.{state_in};
 ghost use Rattle.cj_program.specs.remarks.Remarks.{IsAskedRemark, IsRemark, remark_words};
+ghost use Rattle.cj_program.specs.remarks.Standings as said;
+ghost use Rattle.cj_program.specs.remarks.Standings.{AreGapsOf};
 ghost use Rattle.cj_program.specs.remarks.Suspended.{suspended_lines};
 
 use crate::remarks::gaps::gap_text;
 use crate::remarks::idle::idle_text;
 use crate::remarks::order::sort;
 use crate::remarks::refused::refused_text;
+use crate::remarks::standings::{last_instant, standings};
 use crate::remarks::suspended::suspended_text;
 use cj_calls::Entry;
-use cj_history::{Gap, gaps_of};
+use cj_history::{Gap, Standing, all_gaps_of};
 use cj_hub::Closed;
 use cj_io::Failure;
 use cj_script::Span;
 use cj_types::Refusal;
+use cj_zone::ZoneTable;
 use std::alloc::Global;
 
 // What is said of the CronJobs that are there at the end.
@@ -57,28 +62,63 @@ fn text_of(
     Ok(text)
 }
 
-// What is said of a closed history.
-fn remark(alloc: Global, most: u64, span: &Span, closed: &Closed) -> Result<String, Refusal>
-    ensures { IfOk result (λ s. IsRemark most span.now closed.now (string_bytes s)) }
+// The CronJobs that stand in the end and aren't suspended, with their zones.
+fn standing_in(alloc: Global, zones: &ZoneTable, closed: &Closed) -> Result<Vec<Standing>, Refusal>
+    ensures ok { IfOk result (λ v. v.items
+        ≡ said.standings zones.now (map.values (state_in closed.now).store.crons)) }
+    ensures err { IfErr result (λ e. e ≡ OutOfMemory) }
 {
-    let mut gaps = gaps_of(alloc, entries_of(closed))?;
+    let (crons, _) = closed.objects()?;
+    standings(alloc, zones, crons.as_slice())
+}
+
+/// The gaps of a closed history of a run under this clock, and with these zones, and what is late
+/// in the end.
+pub(crate) fn gaps_in(
+    alloc: Global,
+    span: &Span,
+    zones: &ZoneTable,
+    closed: &Closed,
+) -> Result<Vec<Gap>, Refusal>
+    ensures ok { IfOk result (λ gs. AreGapsOf span.now zones.now closed.now gs.items) }
+    ensures err { IfErr result (λ e. e ≡ OutOfMemory) }
+{
+    let standing = standing_in(alloc, zones, closed)?;
+    let at = last_instant(span);
+    all_gaps_of(alloc, entries_of(closed), standing.as_slice(), at)
+}
+
+// What is said of a closed history.
+fn remark(
+    alloc: Global,
+    most: u64,
+    span: &Span,
+    zones: &ZoneTable,
+    closed: &Closed,
+) -> Result<String, Refusal>
+    ensures { IfOk result (λ s. IsRemark most span.now zones.now closed.now (string_bytes s)) }
+{
+    let mut gaps = gaps_in(alloc, span, zones, closed)?;
     sort(&mut gaps)?;
     text_of(alloc, most, span, closed, gaps.as_slice())
 }
 
-/// What is said to people of a run under this clock, where they ask for it. At most `most` gaps of
-/// one CronJob and one cause get a line each, and more get one line together.
+/// What is said to people of a run under this clock, and with these zones, where they ask for it.
+/// At most `most` gaps of one CronJob and one cause get a line each, and more get one line
+/// together.
 pub(crate) fn asked_remark(
     alloc: Global,
     explain: bool,
     most: u64,
     span: &Span,
+    zones: &ZoneTable,
     closed: &Closed,
 ) -> Result<String, Failure>
-    ensures { IfOk result (λ s. IsAskedRemark explain most span.now closed.now (string_bytes s)) }
+    ensures { IfOk result (λ s. IsAskedRemark explain most span.now zones.now closed.now
+        (string_bytes s)) }
 {
     if explain {
-        Ok(remark(alloc, most, span, closed)?)
+        Ok(remark(alloc, most, span, zones, closed)?)
     } else {
         Ok(String::new(alloc))
     }

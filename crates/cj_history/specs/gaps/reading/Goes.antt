@@ -3,12 +3,12 @@ use Rattle.std.specs.Prelude.{Bool, List}
 use Rattle.cj_calls.specs.Rows.{Told}
 use Rattle.cj_history.specs.declared.gaps.gap.Gap.{Gap}
 use Rattle.cj_history.specs.declared.gaps.mark.Mark.{Mark}
-use Rattle.cj_history.specs.declared.gaps.moments.Moments.{Moments}
-use Rattle.cj_history.specs.gaps.reading.Listed.{AreGaps}
-use Rattle.cj_history.specs.gaps.reading.Reached.{Knows}
+use Rattle.cj_history.specs.declared.gaps.intervals.Intervals.{Intervals}
+use Rattle.cj_history.specs.gaps.reading.Listed.{AreListed}
+use Rattle.cj_history.specs.gaps.reading.Settled.{is_settled}
+use Rattle.cj_history.specs.gaps.reading.Intervals.{Covers}
 
--- the syncs of these entries are known, and their gaps are listed
-pub record Goes (told : Mark → Bool) (h : List Told) (moments : Moments) (gs : List Gap)
-    : Type 0 where
-  pub syncs : Knows moments h
-  pub gaps : AreGaps told h gs
+-- the gaps of these entries are listed, and the intervals that were looked at are settled
+pub record Goes (told : Mark → Bool) (h : List Told) (l : Intervals) (gs : List Gap) : Type 0 where
+  pub covers : Covers (is_settled told gs) l
+  pub gaps : AreListed told h gs

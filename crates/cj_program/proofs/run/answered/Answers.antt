@@ -26,8 +26,8 @@ returns g c = λ given said.
       seen = seen;
       looked = c.in_ok-seen.ensures;
       remark = remark;
-      remarked = subst (λ (w : WorldLog). IsAskedRemark explain most_lines simulation.span w remark) c.get.ensures
-          c.in_ok-remark.ensures;
+      remarked = subst (λ (w : WorldLog). IsAskedRemark explain most_lines simulation.span simulation.zones w remark)
+          c.get.ensures c.in_ok-remark.ensures;
       answer = c.in_ok-reported.ensures
           ∙ ap (λ (w : List ℕ). explained explain (w ++ c.as_str-2.result.now) (done printed))
           c.as_str.ensures.value

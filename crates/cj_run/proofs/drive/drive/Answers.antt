@@ -11,4 +11,5 @@ loop-n-preserved g c = record {
   rounds = round_more c.args.simulation.now c.loop-n.n c.args.driver.now.follower c.loop-n.driver.follower
       c.run_instant_at.new.driver.follower (watch_of c.args.driver.now) (watch_of c.loop-n.driver)
       (watch_of c.run_instant_at.new.driver) c.loop-n.invariant.rounds c.in_ok-run_instant_at.ensures.round;
+  last = c.in_ok-run_instant_at.ensures.last;
 }
