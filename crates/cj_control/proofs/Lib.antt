@@ -1,0 +1,5 @@
+mod CreatedLemmas
+mod FollowLemmas
+pub mod MarkLemmas
+pub mod RefLemmas
+pub mod RowLemmas

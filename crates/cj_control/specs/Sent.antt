@@ -1,0 +1,76 @@
+-- The requests of a sync: method, path and body (Kubernetes API concepts, "Resource URIs"; HTTP
+-- PATCH with a JSON patch or a merge patch).
+use Rattle.std.specs.Prelude.{◌≡◌, ℕ, List, ◌++◌, codes, Option, Some, None, option_map}
+use Rattle.serde_json.specs.Data.{Data, member, no_members, number, object, string, unsigned}
+use Rattle.serde_json.specs.View.{view}
+use Rattle.cj_control.specs.declared.sent.Request.{Request}
+use Rattle.cj_control.specs.declared.sent.Verb.{Verb}
+use Rattle.cj_control.specs.declared.sent.Verb.TheVariants as By
+
+-- the Jobs of a namespace
+abbrev pub jobs_path : List ℕ → List ℕ
+jobs_path namespace = codes "/apis/batch/v1/namespaces/" ++ (namespace ++ codes "/jobs")
+
+-- a Job
+-- rule: control-requests
+abbrev pub job_path : List ℕ → List ℕ → List ℕ
+job_path namespace name =
+    codes "/apis/batch/v1/namespaces/" ++ (namespace ++ (codes "/jobs/" ++ name))
+
+-- a CronJob
+abbrev pub cron_path : List ℕ → List ℕ → List ℕ
+cron_path namespace name =
+    codes "/apis/batch/v1/namespaces/" ++ (namespace ++ (codes "/cronjobs/" ++ name))
+
+-- its subresource status
+-- rule: control-requests
+abbrev pub status_path : List ℕ → List ℕ → List ℕ
+status_path namespace name =
+    codes "/apis/batch/v1/namespaces/"
+    ++ (namespace ++ (codes "/cronjobs/" ++ (name ++ codes "/status")))
+
+-- of that method, at that path, with that body
+-- rule: control-requests
+pub record IsRequest (verb : Verb) (path : List ℕ) (body : Option Data) (r : Request) : Type 0 where
+  pub verb_is : r.verb ≡ verb
+  pub path_is : r.path ≡ path
+  pub body_is : option_map view r.body ≡ body
+
+-- ---- as a line
+
+abbrev pub method : Verb → List ℕ
+method By.Get = codes "GET"
+method By.Post = codes "POST"
+method By.MergePatch = codes "PATCH"
+method By.JsonPatch = codes "PATCH"
+method By.Delete = codes "DELETE"
+
+abbrev pub content_type : Verb → List ℕ
+content_type By.Get = codes "application/json"
+content_type By.Post = codes "application/json"
+content_type By.MergePatch = codes "application/merge-patch+json"
+content_type By.JsonPatch = codes "application/json-patch+json"
+content_type By.Delete = codes "application/json"
+
+abbrev pub bare : ℕ → List ℕ → List ℕ → Data
+bare id method path = object (
+    member (codes "id") (number (unsigned id)) (
+    member (codes "method") (string method) (
+    member (codes "path") (string path) no_members)))
+
+abbrev pub with_body : ℕ → List ℕ → List ℕ → List ℕ → Data → Data
+with_body id method path kind body = object (
+    member (codes "body") body (
+    member (codes "contentType") (string kind) (
+    member (codes "id") (number (unsigned id)) (
+    member (codes "method") (string method) (
+    member (codes "path") (string path) no_members)))))
+
+abbrev pub line_by : ℕ → Verb → List ℕ → Option Data → Data
+line_by id verb path None = bare id (method verb) path
+line_by id verb path (Some body) = with_body id (method verb) path (content_type verb) body
+
+-- a request under a number
+-- rule: control-requests
+abbrev pub line : ℕ → Request → Data
+line id r = line_by id r.verb r.path (option_map view r.body)

@@ -1,0 +1,181 @@
+-- The syncs of one controller: which are under way, what each asked last, and what became of them.
+use Rattle.std.specs.Prelude.{◌≡◌, ◌⊎◌, ℕ, ◌+◌, ◌-◌, ◌<◌, ◌≤◌, refl, ◌==◌, Bool, true, false, List, [], ◌∷◌, ◌++◌, Option, Some, None, if◌then◌else◌}
+use Rattle.std.specs.Ordering.{nat_cmp}
+use Rattle.std.specs.FinMap.{FinMap, code, empty, get, insert, len, remove}
+use Rattle.std.specs.Coded.{Coded, code_by, coded×, coded_list, coded_ℕ}
+use Rattle.cj_control.specs.contracts.rows.FencedSync.{the_row as fenced_sync}
+use Rattle.cj_control.specs.contracts.deed.Deed.{the_row as deed}
+use Rattle.cj_fence.specs.declared.call.Call.{Call}
+use Rattle.cj_fence.specs.declared.answer.Answer.{Answer}
+use Rattle.cj_fence.specs.declared.answer.Answer.TheVariants.{Lost}
+use Rattle.cj_fence.specs.declared.sync.Sync.TheVariants.{Fresh}
+use Rattle.cj_fence.specs.Protocol.{Own, May, Follows, advanced}
+use Rattle.cj_control.specs.declared.deed.Deed.{Deed}
+use Rattle.cj_control.specs.declared.deed.Deed.TheVariants.{Asks, Begins, Ends, Hears}
+use Rattle.cj_control.specs.declared.rows.FencedSync.{FencedSync}
+
+-- ---- the syncs under way
+
+-- by their numbers
+abbrev pub Rows : Type 0
+Rows = FinMap nat_cmp FencedSync
+
+-- with how many began, how many of them haven't ended, and how many may be under way at a time
+pub record Syncs : Type 0 where
+  pub rows : Rows
+  pub begun : ℕ
+  pub live : ℕ
+  pub workers : ℕ
+
+abbrev pub coded_syncs : Coded Syncs
+coded_syncs =
+    code_by (Rows × (ℕ × (ℕ × ℕ)))
+    (coded× (code coded_ℕ fenced_sync.coded) (coded× coded_ℕ (coded× coded_ℕ coded_ℕ)))
+    (λ s. (s.rows, (s.begun, (s.live, s.workers))))
+    (λ p. record
+    { rows = p.0; begun = (p.1).0; live = ((p.1).1).0; workers = ((p.1).1).1 })
+    (λ _. refl)
+
+-- none began
+abbrev pub nothing : ℕ → Syncs
+nothing workers = record { rows = empty; begun = 0; live = 0; workers = workers }
+
+-- one that has asked nothing yet
+abbrev pub fresh : FencedSync
+fresh = record { sync = Fresh; asked = None }
+
+-- ---- what may become of them
+
+-- the next one begins, where there is a worker for it
+pub record HasBegun (y : ℕ) (s t : Syncs) : Type 0 where
+  pub number : y ≡ s.begun
+  pub room : s.live < s.workers
+  pub after : t
+      ≡ record s { rows = insert s.rows y fresh; begun = s.begun + 1; live = s.live + 1 }
+
+-- one that waits for no answer asks what the protocol lets it ask
+-- rule: control-follows
+pub record RowAsks (y : ℕ) (call : Call) (m n : Rows) : Type 0 where
+  pub sync : FencedSync
+  pub is : get m y ≡ Some sync
+  pub idle : sync.asked ≡ None
+  pub may : May sync.sync call
+  pub after : n ≡ insert m y (record sync { asked = Some call })
+
+-- one that asked hears an answer
+-- rule: control-follows
+pub record RowHears (y : ℕ) (a : Answer) (m n : Rows) : Type 0 where
+  pub sync : FencedSync
+  pub is : get m y ≡ Some sync
+  pub call : Call
+  pub asked : sync.asked ≡ Some call
+  pub after : n ≡ insert m y (record { sync = advanced sync.sync call a; asked = None })
+
+-- one ends, wherever it is
+pub record RowEnds (y : ℕ) (m n : Rows) : Type 0 where
+  pub sync : FencedSync
+  pub is : get m y ≡ Some sync
+  pub after : n ≡ remove m y
+
+pub record HasAsked (y : ℕ) (call : Call) (s t : Syncs) : Type 0 where
+  pub row : RowAsks y call s.rows t.rows
+  pub after : t ≡ record s { rows = t.rows }
+
+pub record HasHeard (y : ℕ) (a : Answer) (s t : Syncs) : Type 0 where
+  pub row : RowHears y a s.rows t.rows
+  pub after : t ≡ record s { rows = t.rows }
+
+pub record HasEnded (y : ℕ) (s t : Syncs) : Type 0 where
+  pub row : RowEnds y s.rows t.rows
+  pub after : t ≡ record s { rows = t.rows; live = s.live - 1 }
+
+-- what a deed changes
+-- rule: control-follows
+abbrev pub Moves : Deed → Syncs → Syncs → Type 0
+Moves (Begins y) s t = HasBegun y s t
+Moves (Asks y call) s t = HasAsked y call s t
+Moves (Hears y a) s t = HasHeard y a s t
+Moves (Ends y) s t = HasEnded y s t
+
+-- one deed after the other, the newest first
+-- rule: control-follows
+abbrev pub Path : List Deed → Syncs → Syncs → Type 0
+Path [] s t = t ≡ s
+Path (d ∷ ds) s t = (r : Syncs) × Path ds s r × Moves d r t
+
+-- ---- each sync's own calls
+
+-- a call that was asked is answered
+abbrev pub heard : Answer → List Own → List Own
+heard a [] = []
+heard a (o ∷ os) = record { call = o.call; answer = a } ∷ os
+
+-- the calls of a sync with what it heard, the newest first; the answer to the last one is lost
+-- until it is heard
+-- rule: control-follows
+abbrev pub own : ℕ → List Deed → List Own
+own y [] = []
+own y (Begins x ∷ ds) = own y ds
+own y (Asks x call ∷ ds) = if y == x then record { call = call; answer = Lost }
+    ∷ own y ds else own y ds
+own y (Hears x a ∷ ds) = if y == x then heard a (own y ds) else own y ds
+own y (Ends x ∷ ds) = own y ds
+
+-- each sync follows the protocol, and no more than that number are under way
+-- rules: control-follows, control-workers
+pub record AreKept (workers : ℕ) (ds : List Deed) (s : Syncs) : Type 0 where
+  pub follows : (y : ℕ) → Follows (own y ds)
+  pub few : len s.rows ≤ workers
+
+-- whatever the syncs hear
+-- rule: control-follows
+abbrev pub FollowLaw : Type 0
+FollowLaw = (workers : ℕ) (ds : List Deed) (s : Syncs) → Path ds (nothing workers) s
+    → AreKept workers ds s
+
+-- ---- the ledger
+
+-- the syncs under way, and the deeds since they were taken last, the oldest first
+pub record LedgerView : Type 0 where
+  pub syncs : Syncs
+  pub deeds : List Deed
+
+abbrev pub coded_ledger : Coded LedgerView
+coded_ledger =
+    code_by (Syncs × List Deed) (coded× coded_syncs (coded_list deed.coded))
+    (λ l. (l.syncs, l.deeds)) (λ p. record { syncs = p.0; deeds = p.1 }) (λ _. refl)
+
+abbrev pub IsNew : ℕ → LedgerView → Type 0
+IsNew workers l = l ≡ record { syncs = nothing workers; deeds = [] }
+
+-- with one deed more
+pub record Adds (d : Deed) (l m : LedgerView) : Type 0 where
+  pub moves : Moves d l.syncs m.syncs
+  pub noted : m.deeds ≡ l.deeds ++ d ∷ []
+
+-- a sync began under that number, or none did
+abbrev pub Began : Option ℕ → LedgerView → LedgerView → Type 0
+Began (Some y) l m = Adds (Begins y) l m
+Began None l m = m ≡ l
+
+-- where memory is wanting, nothing changed, or the sync was given up and ended
+abbrev pub GaveUp : ℕ → LedgerView → LedgerView → Type 0
+GaveUp y l m = (m ≡ l) ⊎ Adds (Ends y) l m
+
+-- of the syncs alone: what was tried was done, or nothing changed
+abbrev pub AsksIf : Bool → ℕ → Call → Rows → Rows → Type 0
+AsksIf true y call m n = RowAsks y call m n
+AsksIf false y call m n = n ≡ m
+
+abbrev pub HearsIf : Bool → ℕ → Answer → Rows → Rows → Type 0
+HearsIf true y a m n = RowHears y a m n
+HearsIf false y a m n = n ≡ m
+
+abbrev pub EndsIf : Bool → ℕ → Rows → Rows → Type 0
+EndsIf true y m n = RowEnds y m n
+EndsIf false y m n = n ≡ m
+
+-- what was tried was done, or nothing changed
+abbrev pub Tried : Bool → Deed → LedgerView → LedgerView → Type 0
+Tried true d l m = Adds d l m
+Tried false d l m = m ≡ l

@@ -1,0 +1,14 @@
+// Objects as an API server shows them: a CronJob and a Job as the fenced start sees them.
+
+mod cron;
+mod head;
+mod job;
+mod marks;
+mod members;
+
+pub(crate) use cron::time;
+pub use cron::{CronSaid, read_cron};
+pub use head::Head;
+pub use job::read_job;
+pub use marks::JobMarks;
+pub(crate) use members::{member, meta};

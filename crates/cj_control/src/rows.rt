@@ -1,0 +1,192 @@
+ghost use Rattle.std.specs.Prelude.{◌≡◌, ◌↔◌, None, Some, IfOk, IfErr, IsTrue, OnOk, OnErr, option_copied};
+ghost use Rattle.std.specs.FinMap as map;
+ghost use Rattle.cj_base.specs.declared.refusal.Refusal.TheVariants.{OutOfMemory};
+ghost use Rattle.cj_fence.specs.declared.call.Call.{Call};
+ghost use Rattle.cj_fence.specs.Protocol.{May, advanced};
+ghost use Rattle.cj_control.specs.Syncs.{AsksIf, EndsIf, HearsIf, RowEnds};
+
+use cj_base::{Refusal, Shared};
+use cj_fence::{Answer, Call, Sync};
+use std::alloc::Global;
+use std::collections::BTreeMap;
+use std::marker::Model;
+
+/// A sync under way.
+pub struct FencedSync {
+    /// How far it has come.
+    pub sync: Sync,
+    /// What it asked, where it waits for an answer.
+    pub asked: Option<Shared<Call>>,
+}
+
+impl Drop for FencedSync {
+    fn drop(self) {
+        let FencedSync { sync, asked } = self;
+        drop(sync);
+        drop(asked);
+    }
+}
+
+impl FencedSync {
+    /// Whether the sync waits for no answer, and may ask this.
+    pub fn may_ask(&self, call: &Call) -> bool
+        ensures { IsTrue result ↔ ((self.now.asked ≡ None) × May self.now.sync call.now) }
+    {
+        let may = self.sync.may(call);
+        self.asked.is_none() && may
+    }
+
+    /// The sync that waits for the answer to this call.
+    pub fn asking(self, call: Shared<Call>) -> FencedSync
+        ensures { result ≡ record self { asked = Some call } }
+    {
+        let FencedSync { sync, asked: _ } = self;
+        FencedSync {
+            sync,
+            asked: Some(call),
+        }
+    }
+
+    /// The sync after the answer to what it asked.
+    pub fn hearing(self, alloc: Global, answer: &Answer) -> Result<FencedSync, Refusal>
+        ensures ok { IfOk result (λ f. (call : Call) → self.asked ≡ Some call
+            → f ≡ record { sync = advanced self.sync call answer.now; asked = None }) }
+        ensures memory { IfErr result (λ e. e ≡ OutOfMemory) }
+    {
+        let FencedSync { sync, asked } = self;
+        let next = match asked {
+            Some(call) => sync.advance(alloc, call.get(), answer)?,
+            None => sync,
+        };
+        Ok(FencedSync {
+            sync: next,
+            asked: None,
+        })
+    }
+}
+
+/// Syncs under way by their numbers. Contracts see a finite map.
+pub struct SyncRows {
+    rows: BTreeMap<u64, FencedSync>,
+}
+
+impl Drop for SyncRows {
+    fn drop(self) {
+        let SyncRows { rows: _ } = self;
+    }
+}
+
+impl Model for SyncRows {
+    ghost use Rattle.std.specs.FinMap as map;
+    ghost use Rattle.std.specs.Ordering.{nat_cmp};
+    ghost use Rattle.std.specs.Coded.{coded_ℕ};
+    ghost use Rattle.cj_control.specs.declared.rows.FencedSync.{FencedSync};
+    ghost use Rattle.cj_control.specs.contracts.rows.FencedSync.{the_row as fenced_sync};
+
+    ghost Value = { map.FinMap nat_cmp FencedSync };
+
+    ghost coded = { map.code coded_ℕ fenced_sync.coded };
+
+    ghost view = { λ s. map.from_entries s.rows.entries };
+}
+
+impl SyncRows {
+    /// No sync.
+    pub fn new(alloc: Global) -> SyncRows
+        ensures { result ≡ map.empty }
+    {
+        SyncRows {
+            rows: BTreeMap::new(alloc),
+        }
+    }
+
+    /// The sync of the number, if it is under way.
+    #[tactic(auto, using(crate::proofs::RowLemmas::found_row))]
+    pub fn get(&self, number: u64) -> Option<&FencedSync>
+        ensures { option_copied result ≡ map.get self.now number }
+    {
+        self.rows.get(&number)
+    }
+
+    /// Puts a sync under the number, in place of what was there. Where memory is wanting, all stays
+    /// as it was.
+    #[tactic(auto, using(crate::proofs::RowLemmas::put_row))]
+    pub fn insert(&mut self, number: u64, sync: FencedSync) -> Result<(), Refusal>
+        ensures ok { OnOk result (self.new ≡ map.insert self.old number sync) }
+        ensures err { OnErr result (self.new ≡ self.old) }
+        ensures memory { IfErr result (λ e. e ≡ OutOfMemory) }
+    {
+        match self.rows.insert(number, sync) {
+            Ok(_) => Ok(()),
+            Err(_) => Err(Refusal::OutOfMemory),
+        }
+    }
+
+    /// Takes the sync of the number out, if it is there.
+    #[tactic(auto, using(crate::proofs::RowLemmas::found_row, crate::proofs::RowLemmas::gone_row))]
+    pub fn take(&mut self, number: u64) -> Option<FencedSync>
+        ensures was { result ≡ map.get self.old number }
+        ensures gone { self.new ≡ map.remove self.old number }
+    {
+        self.rows.remove(&number)
+    }
+
+    /// A sync asks what the protocol lets it ask; whether it may. Where memory is wanting, the sync
+    /// is given up.
+    #[tactic(auto, using(crate::proofs::RowLemmas::put_back))]
+    pub fn ask(&mut self, number: u64, call: Shared<Call>) -> Result<bool, Refusal>
+        ensures ok { IfOk result (λ done. AsksIf done number call self.old self.new) }
+        ensures err { OnErr result (RowEnds number self.old self.new) }
+        ensures memory { IfErr result (λ e. e ≡ OutOfMemory) }
+    {
+        let may = match self.get(number) {
+            Some(row) => row.may_ask(call.get()),
+            None => false,
+        };
+        if !may {
+            return Ok(false);
+        }
+        let Some(row) = self.take(number) else {
+            return Ok(false);
+        };
+        self.insert(number, row.asking(call))?;
+        Ok(true)
+    }
+
+    /// A sync that asked hears the answer; whether it waited for one. Where memory is wanting, the
+    /// sync is given up.
+    #[tactic(auto, using(crate::proofs::RowLemmas::put_back))]
+    pub fn hear(&mut self, alloc: Global, number: u64, answer: &Answer) -> Result<bool, Refusal>
+        ensures ok { IfOk result (λ done. HearsIf done number answer.now self.old self.new) }
+        ensures err { OnErr result (RowEnds number self.old self.new) }
+        ensures memory { IfErr result (λ e. e ≡ OutOfMemory) }
+    {
+        let waits = match self.get(number) {
+            Some(row) => row.asked.is_some(),
+            None => false,
+        };
+        if !waits {
+            return Ok(false);
+        }
+        let Some(row) = self.take(number) else {
+            return Ok(false);
+        };
+        let next = row.hearing(alloc, answer)?;
+        self.insert(number, next)?;
+        Ok(true)
+    }
+
+    /// A sync ends; whether it was under way.
+    pub fn end(&mut self, number: u64) -> bool
+        ensures { EndsIf result number self.old self.new }
+    {
+        if self.get(number).is_none() {
+            return false;
+        }
+        let Some(row) = self.take(number) else {
+            return false;
+        };
+        drop(row);
+        true
+    }
+}
