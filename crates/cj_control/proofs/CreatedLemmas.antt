@@ -59,7 +59,7 @@ text_of o s e = ap (λ x. option_and_then as_str (option_and_then unless_null x)
 
 -- For created_law.
 pub created_back : CreatedLaw
-created_back h name m by template =
+created_back api h name m by template =
     let ms = template_members (codes "annotations") template in
     record {
       named = refl;

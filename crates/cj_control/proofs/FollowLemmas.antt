@@ -11,9 +11,10 @@ use Rattle.cj_fence.specs.declared.answer.Answer.TheVariants.{Lost}
 use Rattle.cj_fence.specs.declared.sync.Sync.{Sync}
 use Rattle.cj_fence.specs.Protocol.{Own, May, Follows, seen_of, advanced}
 use Rattle.cj_control.specs.declared.deed.Deed.{Deed}
-use Rattle.cj_control.specs.declared.deed.Deed.TheVariants.{Asks, Begins, Ends, Hears}
+use Rattle.cj_control.specs.declared.deed.Deed.TheVariants.{Asks, Begins, Ends, Hears, Reads, Sends}
 use Rattle.cj_control.specs.declared.rows.FencedSync.{FencedSync}
-use Rattle.cj_control.specs.Syncs.{Rows, Syncs, nothing, fresh, HasBegun, HasAsked, HasHeard, HasEnded, Moves, Path, heard, own, FollowLaw}
+use Rattle.cj_control.specs.declared.sent.Request.{Request}
+use Rattle.cj_control.specs.Syncs.{Rows, Syncs, nothing, fresh, HasBegun, HasAsked, HasSent, HasRead, HasHeard, HasEnded, RowAsks, Moves, Path, heard, own, FollowLaw}
 
 -- Two numbers are equal by the order's test just where they are by the test of numbers.
 same_number : (q k : ℕ) → eq_by_cmp nat_cmp q k ≡ (q == k)
@@ -46,10 +47,10 @@ follows (Some f) os x = by f.asked x
     by None x = x.0
     by (Some call) x = x.0
 
--- the one invariant: each sync fits, and those that haven't begun did nothing
-pub record Inv (ds : List Deed) (s : Syncs) : Type 0 where
-  pub each : (y : ℕ) → Fits (map.get s.rows y) (own y ds)
-  pub none : (y : ℕ) → s.begun ≤ y → own y ds ≡ []
+-- the one invariant of what each sync did: it fits, and those that haven't begun did nothing
+pub record Inv (o : ℕ → List Own) (s : Syncs) : Type 0 where
+  pub each : (y : ℕ) → Fits (map.get s.rows y) (o y)
+  pub none : (y : ℕ) → s.begun ≤ y → o y ≡ []
   pub absent : (y : ℕ) → s.begun ≤ y → map.get s.rows y ≡ None
   pub count : map.len s.rows ≡ s.live
   pub few : s.live ≤ s.workers
@@ -86,11 +87,25 @@ cut_old m k was e = map.len-remove nat_cmp_total m k
 
 -- ---- each deed keeps it
 
-module _ (ds : List Deed) (s t : Syncs) (i : Inv ds s) where
+-- how many began, are under way and may be
+pub record SameCounts (s t : Syncs) : Type 0 where
+  pub begun : t.begun ≡ s.begun
+  pub live : t.live ≡ s.live
+  pub workers : t.workers ≡ s.workers
+
+-- what a sync did, with a call more that isn't answered
+abbrev asking : ℕ → Call → (ℕ → List Own) → ℕ → List Own
+asking y call o q = if q == y then unheard call ∷ o q else o q
+
+-- and with the answer to its last call
+abbrev hearing : ℕ → Answer → (ℕ → List Own) → ℕ → List Own
+hearing y a o q = if q == y then heard a (o q) else o q
+
+module _ (o : ℕ → List Own) (s t : Syncs) (i : Inv o s) where
   -- A sync that begins did nothing before.
-  begun_kept : (y : ℕ) → HasBegun y s t → Inv (Begins y ∷ ds) t
+  begun_kept : (y : ℕ) → HasBegun y s t → Inv o t
   begun_kept y b = record {
-    each = λ q. subst (λ (o : Option FencedSync). Fits o (own q ds))
+    each = λ q. subst (λ (x : Option FencedSync). Fits x (o q))
         (sym (rows q)) (by q (q == y) refl);
     none = λ q le. i.none q (past q le);
     absent = λ q le. rows q ∙ other q (q == y) refl le;
@@ -114,7 +129,7 @@ module _ (ds : List Deed) (s t : Syncs) (i : Inv ds s) where
       past : (q : ℕ) → t.begun ≤ q → s.begun ≤ q
       past q le = let e : t.begun ≡ s.begun + 1 = count in omega (arith, le, e)
 
-      by : (q : ℕ) (c : Bool) → (q == y) ≡ c → Fits (cond c (Some fresh) (map.get s.rows q)) (own q ds)
+      by : (q : ℕ) (c : Bool) → (q == y) ≡ c → Fits (cond c (Some fresh) (map.get s.rows q)) (o q)
       by q true e =
           let same : q ≡ s.begun = number_is q y e ∙ b.number in
           let le : s.begun ≤ q = omega (arith, same) in
@@ -139,53 +154,54 @@ module _ (ds : List Deed) (s t : Syncs) (i : Inv ds s) where
       by false e = e
 
   -- What a sync asks it may ask.
-  asked_kept : (y : ℕ) (call : Call) → HasAsked y call s t → Inv (Asks y call ∷ ds) t
-  asked_kept y call a = record {
-    each = λ q. subst (λ (o : Option FencedSync). Fits o (own q (Asks y call ∷ ds)))
+  asked_kept : (y : ℕ) (call : Call) (id : Option ℕ) → RowAsks y call id s.rows t.rows
+      → SameCounts s t → Inv (asking y call o) t
+  asked_kept y call id row same = record {
+    each = λ q. subst (λ (x : Option FencedSync). Fits x (asking y call o q))
         (sym (rows q)) (by q (q == y) refl);
-    none = λ q le. ap (λ c. if c then unheard call ∷ own q ds else own q ds)
-        (has_begun y q a.row.sync a.row.is (same_count q le)) ∙ i.none q (same_count q le);
+    none = λ q le. ap (λ c. if c then unheard call ∷ o q else o q)
+        (has_begun y q row.sync row.is (same_count q le)) ∙ i.none q (same_count q le);
     absent = λ q le. rows q
-        ∙ ap (λ c. cond c (Some now) (map.get s.rows q)) (has_begun y q a.row.sync a.row.is (same_count q le))
+        ∙ ap (λ c. cond c (Some now) (map.get s.rows q)) (has_begun y q row.sync row.is (same_count q le))
         ∙ i.absent q (same_count q le);
-    count = ap (λ (x : Rows). map.len x) a.row.after ∙ put_old s.rows y now a.row.sync a.row.is
-        ∙ i.count ∙ sym (ap (λ (x : Syncs). x.live) a.after);
+    count = ap (λ (x : Rows). map.len x) row.after ∙ put_old s.rows y now row.sync row.is
+        ∙ i.count ∙ sym (same.live);
     few = same_few;
   }
     where
       same_few : t.live ≤ t.workers
-      same_few = let e : t.live ≡ s.live = ap (λ (x : Syncs). x.live) a.after in
-          let f : t.workers ≡ s.workers = ap (λ (x : Syncs). x.workers) a.after in
+      same_few = let e : t.live ≡ s.live = same.live in
+          let f : t.workers ≡ s.workers = same.workers in
           let r : s.live ≤ s.workers = i.few in omega (arith, e, f, r)
 
       now : FencedSync
-      now = record a.row.sync { asked = Some call }
+      now = record row.sync { asked = Some call; id = id }
 
       rows : (q : ℕ) → map.get t.rows q ≡ cond (q == y) (Some now) (map.get s.rows q)
-      rows q = ap (λ (x : Rows). map.get x q) a.row.after ∙ put_at s.rows y now q
+      rows q = ap (λ (x : Rows). map.get x q) row.after ∙ put_at s.rows y now q
 
       same_count : (q : ℕ) → t.begun ≤ q → s.begun ≤ q
-      same_count q le = let e : t.begun ≡ s.begun = ap (λ (x : Syncs). x.begun) a.after in omega (arith, le, e)
+      same_count q le = let e : t.begun ≡ s.begun = same.begun in omega (arith, le, e)
 
-      was : Follows (own y ds) × (seen_of (own y ds) ≡ a.row.sync.sync)
-      was = subst (λ (o : Option Call). FitsAt o a.row.sync.sync (own y ds)) a.row.idle
-          (subst (λ (o : Option FencedSync). Fits o (own y ds)) a.row.is (i.each y))
+      was : Follows (o y) × (seen_of (o y) ≡ row.sync.sync)
+      was = subst (λ (x : Option Call). FitsAt x row.sync.sync (o y)) row.idle
+          (subst (λ (x : Option FencedSync). Fits x (o y)) row.is (i.each y))
 
-      more : FitsAt (Some call) a.row.sync.sync (unheard call ∷ own y ds)
-      more = ((subst (λ (x : Sync). May x call) (sym was.1) a.row.may, was.0), (own y ds, refl, was.1))
+      more : FitsAt (Some call) row.sync.sync (unheard call ∷ o y)
+      more = ((subst (λ (x : Sync). May x call) (sym was.1) row.may, was.0), (o y, refl, was.1))
 
       by : (q : ℕ) (c : Bool) → (q == y) ≡ c
-          → Fits (cond c (Some now) (map.get s.rows q)) (if c then unheard call ∷ own q ds else own q ds)
-      by q true e = subst (λ (z : ℕ). FitsAt (Some call) a.row.sync.sync (unheard call ∷ own z ds))
+          → Fits (cond c (Some now) (map.get s.rows q)) (if c then unheard call ∷ o q else o q)
+      by q true e = subst (λ (z : ℕ). FitsAt (Some call) row.sync.sync (unheard call ∷ o z))
           (sym (number_is q y e)) more
       by q false e = i.each q
 
   -- What a sync hears is what the protocol goes by.
-  heard_kept : (y : ℕ) (answer : Answer) → HasHeard y answer s t → Inv (Hears y answer ∷ ds) t
+  heard_kept : (y : ℕ) (answer : Answer) → HasHeard y answer s t → Inv (hearing y answer o) t
   heard_kept y answer a = record {
-    each = λ q. subst (λ (o : Option FencedSync). Fits o (own q (Hears y answer ∷ ds)))
+    each = λ q. subst (λ (x : Option FencedSync). Fits x (hearing y answer o q))
         (sym (rows q)) (by q (q == y) refl);
-    none = λ q le. ap (λ c. if c then heard answer (own q ds) else own q ds)
+    none = λ q le. ap (λ c. if c then heard answer (o q) else o q)
         (has_begun y q a.row.sync a.row.is (same_count q le)) ∙ i.none q (same_count q le);
     absent = λ q le. rows q
         ∙ ap (λ c. cond c (Some now) (map.get s.rows q)) (has_begun y q a.row.sync a.row.is (same_count q le))
@@ -201,7 +217,7 @@ module _ (ds : List Deed) (s t : Syncs) (i : Inv ds s) where
           let r : s.live ≤ s.workers = i.few in omega (arith, e, f, r)
 
       now : FencedSync
-      now = record { sync = advanced a.row.sync.sync a.row.call answer; asked = None }
+      now = record { sync = advanced a.row.sync.sync a.row.call answer; asked = None; id = None }
 
       rows : (q : ℕ) → map.get t.rows q ≡ cond (q == y) (Some now) (map.get s.rows q)
       rows q = ap (λ (x : Rows). map.get x q) a.row.after ∙ put_at s.rows y now q
@@ -209,9 +225,9 @@ module _ (ds : List Deed) (s t : Syncs) (i : Inv ds s) where
       same_count : (q : ℕ) → t.begun ≤ q → s.begun ≤ q
       same_count q le = let e : t.begun ≡ s.begun = ap (λ (x : Syncs). x.begun) a.after in omega (arith, le, e)
 
-      was : FitsAt (Some a.row.call) a.row.sync.sync (own y ds)
-      was = subst (λ (o : Option Call). FitsAt o a.row.sync.sync (own y ds)) a.row.asked
-          (subst (λ (o : Option FencedSync). Fits o (own y ds)) a.row.is (i.each y))
+      was : FitsAt (Some a.row.call) a.row.sync.sync (o y)
+      was = subst (λ (x : Option Call). FitsAt x a.row.sync.sync (o y)) a.row.asked
+          (subst (λ (x : Option FencedSync). Fits x (o y)) a.row.is (i.each y))
 
       by_own : (os : List Own) → FitsAt (Some a.row.call) a.row.sync.sync os
           → FitsAt None (advanced a.row.sync.sync a.row.call answer) (heard answer os)
@@ -223,16 +239,16 @@ module _ (ds : List Deed) (s t : Syncs) (i : Inv ds s) where
           more o os ps e f = cc
 
       by : (q : ℕ) (c : Bool) → (q == y) ≡ c
-          → Fits (cond c (Some now) (map.get s.rows q)) (if c then heard answer (own q ds) else own q ds)
+          → Fits (cond c (Some now) (map.get s.rows q)) (if c then heard answer (o q) else o q)
       by q true e = subst
-          (λ (z : ℕ). FitsAt None (advanced a.row.sync.sync a.row.call answer) (heard answer (own z ds)))
-          (sym (number_is q y e)) (by_own (own y ds) was)
+          (λ (z : ℕ). FitsAt None (advanced a.row.sync.sync a.row.call answer) (heard answer (o z)))
+          (sym (number_is q y e)) (by_own (o y) was)
       by q false e = i.each q
 
   -- What ended has followed the protocol.
-  ended_kept : (y : ℕ) → HasEnded y s t → Inv (Ends y ∷ ds) t
+  ended_kept : (y : ℕ) → HasEnded y s t → Inv o t
   ended_kept y a = record {
-    each = λ q. subst (λ (o : Option FencedSync). Fits o (own q ds)) (sym (rows q)) (by q (q == y) refl);
+    each = λ q. subst (λ (x : Option FencedSync). Fits x (o q)) (sym (rows q)) (by q (q == y) refl);
     none = λ q le. i.none q (same_count q le);
     absent = λ q le. rows q ∙ other q (q == y) refl le;
     count = ap (λ (x : Rows). map.len x) a.row.after ∙ cut_old s.rows y a.row.sync a.row.is
@@ -248,22 +264,62 @@ module _ (ds : List Deed) (s t : Syncs) (i : Inv ds s) where
       same_count : (q : ℕ) → t.begun ≤ q → s.begun ≤ q
       same_count q le = let e : t.begun ≡ s.begun = ap (λ (x : Syncs). x.begun) a.after in omega (arith, le, e)
 
-      by : (q : ℕ) (c : Bool) → (q == y) ≡ c → Fits (cond c None (map.get s.rows q)) (own q ds)
-      by q true e = follows (map.get s.rows q) (own q ds) (i.each q)
+      by : (q : ℕ) (c : Bool) → (q == y) ≡ c → Fits (cond c None (map.get s.rows q)) (o q)
+      by q true e = follows (map.get s.rows q) (o q) (i.each q)
       by q false e = i.each q
 
       other : (q : ℕ) (c : Bool) → (q == y) ≡ c → t.begun ≤ q → cond c None (map.get s.rows q) ≡ None
       other q true e le = refl
       other q false e le = i.absent q (same_count q le)
 
-  kept : (d : Deed) → Moves d s t → Inv (d ∷ ds) t
-  kept (Begins y) m = begun_kept y m
-  kept (Asks y call) m = asked_kept y call m
-  kept (Hears y a) m = heard_kept y a m
-  kept (Ends y) m = ended_kept y m
+  -- A request of no sync changes no sync.
+  read_kept : (id : ℕ) (r : Request) → HasRead id r s t → Inv o t
+  read_kept id r a = record {
+    each = λ q. subst (λ (x : Rows). Fits (map.get x q) (o q)) (sym rows) (i.each q);
+    none = λ q le. i.none q (past q le);
+    absent = λ q le. ap (λ (x : Rows). map.get x q) rows ∙ i.absent q (past q le);
+    count = ap (λ (x : Rows). map.len x) rows ∙ i.count ∙ sym (ap (λ (x : Syncs). x.live) a.after);
+    few = let e : t.live ≡ s.live = ap (λ (x : Syncs). x.live) a.after in
+        let f : t.workers ≡ s.workers = ap (λ (x : Syncs). x.workers) a.after in
+        let r : s.live ≤ s.workers = i.few in omega (arith, e, f, r);
+  }
+    where
+      rows : t.rows ≡ s.rows
+      rows = ap (λ (x : Syncs). x.rows) a.after
+
+      past : (q : ℕ) → t.begun ≤ q → s.begun ≤ q
+      past q le = let e : t.begun ≡ s.begun = ap (λ (x : Syncs). x.begun) a.after in omega (arith, le, e)
+
+-- What a deed leaves as it was.
+counts_asked : (y : ℕ) (call : Call) (s t : Syncs) → HasAsked y call s t → SameCounts s t
+counts_asked y call s t a = record {
+  begun = ap (λ (x : Syncs). x.begun) a.after;
+  live = ap (λ (x : Syncs). x.live) a.after;
+  workers = ap (λ (x : Syncs). x.workers) a.after;
+}
+
+-- The same of a request.
+counts_sent : (y id : ℕ) (call : Call) (r : Request) (s t : Syncs) → HasSent y id call r s t → SameCounts s t
+counts_sent y id call r s t a = record {
+  begun = ap (λ (x : Syncs). x.begun) a.after;
+  live = ap (λ (x : Syncs). x.live) a.after;
+  workers = ap (λ (x : Syncs). x.workers) a.after;
+}
+
+-- Each deed keeps the invariant.
+kept : (ds : List Deed) (s t : Syncs) → Inv (λ q. own q ds) s → (d : Deed) → Moves d s t
+    → Inv (λ q. own q (d ∷ ds)) t
+kept ds s t i (Begins y) m = begun_kept (λ q. own q ds) s t i y m
+kept ds s t i (Asks y call) m =
+    asked_kept (λ q. own q ds) s t i y call None m.row (counts_asked y call s t m)
+kept ds s t i (Sends y id call r) m =
+    asked_kept (λ q. own q ds) s t i y call (Some id) m.row (counts_sent y id call r s t m)
+kept ds s t i (Reads id r) m = read_kept (λ q. own q ds) s t i id r m
+kept ds s t i (Hears y a) m = heard_kept (λ q. own q ds) s t i y a m
+kept ds s t i (Ends y) m = ended_kept (λ q. own q ds) s t i y m
 
 -- Where nothing began, nobody did anything.
-at_start : (workers : ℕ) → Inv [] (nothing workers)
+at_start : (workers : ℕ) → Inv (λ q. own q []) (nothing workers)
 at_start workers = record {
   each = λ q. subst (λ (o : Option FencedSync). Fits o []) (sym (map.get-empty nat_cmp q)) tt;
   none = λ q le. refl;
@@ -273,14 +329,16 @@ at_start workers = record {
 }
 
 -- After all deeds the invariant holds.
-always : (workers : ℕ) (ds : List Deed) (s : Syncs) → Path ds (nothing workers) s → Inv ds s
-always workers [] s p = subst (Inv []) (sym p) (at_start workers)
+always : (workers : ℕ) (ds : List Deed) (s : Syncs) → Path ds (nothing workers) s → Inv (λ q. own q ds) s
+always workers [] s p = subst (Inv (λ q. own q [])) (sym p) (at_start workers)
 always workers (d ∷ ds) s p = kept ds p.0 s (always workers ds p.0 p.1) d p.2
 
 -- A deed changes nothing of how many may be under way.
-same_workers : (d : Deed) (s t : Syncs) → Moves d s t → t.workers ≡ s.workers
+pub same_workers : (d : Deed) (s t : Syncs) → Moves d s t → t.workers ≡ s.workers
 same_workers (Begins y) s t m = ap (λ (x : Syncs). x.workers) m.after
 same_workers (Asks y call) s t m = ap (λ (x : Syncs). x.workers) m.after
+same_workers (Sends y id call r) s t m = ap (λ (x : Syncs). x.workers) m.after
+same_workers (Reads id r) s t m = ap (λ (x : Syncs). x.workers) m.after
 same_workers (Hears y a) s t m = ap (λ (x : Syncs). x.workers) m.after
 same_workers (Ends y) s t m = ap (λ (x : Syncs). x.workers) m.after
 

@@ -1,5 +1,7 @@
 mod CreatedLemmas
 mod FollowLemmas
+pub mod KeptLemmas
+pub mod NameLemmas
 pub mod MarkLemmas
 pub mod RefLemmas
 pub mod RowLemmas

@@ -1,11 +1,16 @@
 -- What the entries of a map with numbers for keys are as a finite map.
-use Rattle.std.proofs.Common.{◌≡◌, ℕ, List, [], ◌∷◌, Bool, true, false, Some, None, cond, refl, sym, ap, ◌∙◌}
-use Rattle.std.specs.Ordering.{nat_cmp}
+use Rattle.std.proofs.Common.{◌≡◌, ℕ, arith, List, [], ◌∷◌, Bool, true, false, Some, None, cond, refl, sym, ap, ◌∙◌}
+use Rattle.std.specs.Ordering.{nat_cmp, eq_by_cmp}
 use Rattle.std.specs.FinMap as map
 use Rattle.std.specs.FinMap.{find, nat_cmp-IsAntisymmetric}
 use Rattle.std.specs.Map.{lookup}
 use Rattle.std.specs.BTreeMap.{is_at}
 use Rattle.std.specs.Cmp.{nat_cmp_total, eq_by_cmp_equiv}
+use Rattle.std.specs.Prelude.{◌==◌, Option}
+use Rattle.std.proofs.lemmas.Bool.Decides.{nat_tests}
+use Rattle.cj_fence.specs.declared.call.Call.{Call}
+use Rattle.cj_control.specs.declared.rows.FencedSync.{FencedSync}
+use Rattle.cj_control.specs.Syncs.{RowAsks, Rows, Waits}
 
 -- What a finite map finds at a number among entries is what a look-up in them finds.
 find-lookup : {X : Type 0} (es : List (ℕ × X)) (q : ℕ) → find nat_cmp q es ≡ lookup (is_at (nat_cmp q)) es
@@ -49,3 +54,21 @@ put_back m k v = map.same_map nat_cmp_total nat_cmp-IsAntisymmetric _ _ (λ q.
     twice : {A : Type 0} (b : Bool) (x y z : A) → cond b x (cond b y z) ≡ cond b x z
     twice true x y z = refl
     twice false x y z = refl
+
+-- A key is itself by the order's test.
+itself : (k : ℕ) → eq_by_cmp nat_cmp k k ≡ true
+itself k = grind (arith, nat_tests)
+
+-- What was put is there.
+put_there : {X : Type 0} (m : map.FinMap nat_cmp X) (k : ℕ) (v : X) → map.get (map.insert m k v) k ≡ Some v
+put_there m k v = map.get-insert nat_cmp_total m k v k ∙ ap (λ b. cond b (Some v) (map.get m k)) (itself k)
+
+-- For Ledger::ask: a sync that asked waits.
+pub asked_waits : (y : ℕ) (call : Call) (id : Option ℕ) (m n : Rows) → RowAsks y call id m n → Waits y id n
+asked_waits y call id m n a = record {
+  sync = record a.sync { asked = Some call; id = id };
+  is = ap (λ (x : Rows). map.get x y) a.after ∙ put_there m y (record a.sync { asked = Some call; id = id });
+  call = call;
+  asked = refl;
+  by = refl;
+}

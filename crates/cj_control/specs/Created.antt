@@ -7,6 +7,8 @@ use Rattle.serde_json.specs.View.{items_of}
 use Rattle.cj_manifest.specs.Members.{present}
 use Rattle.cj_cluster.specs.kubectl.Rows.{member_of}
 use Rattle.cj_control.specs.Objects.{annotation, controller, meta, status}
+use Rattle.cj_control.specs.Mirror.{api_text}
+use Rattle.cj_control.specs.declared.api.ApiVersion.{ApiVersion}
 use Rattle.cj_control.specs.declared.objects.head.Head.{Head}
 use Rattle.cj_control.specs.declared.created.MarkTexts.{MarkTexts}
 use Rattle.cj_control.specs.declared.request.HeldBy.{HeldBy}
@@ -56,14 +58,17 @@ annotations m ms =
     put (codes "batch.kubernetes.io/cronjob-scheduled-timestamp") (string m.time) ms)))
 
 -- the CronJob as the controller
-abbrev pub owner : List ℕ → List ℕ → Data
-owner name uid = object (
-    member (codes "apiVersion") (string (codes "batch/v1")) (
+abbrev pub owner_by : List ℕ → List ℕ → List ℕ → Data
+owner_by api name uid = object (
+    member (codes "apiVersion") (string api) (
     member (codes "blockOwnerDeletion") (boolean true) (
     member (codes "controller") (boolean true) (
     member (codes "kind") (string (codes "CronJob")) (
     member (codes "name") (string name) (
     member (codes "uid") (string uid) no_members))))))
+
+abbrev pub owner : ApiVersion → List ℕ → List ℕ → Data
+owner api name uid = owner_by (api_text api) name uid
 
 abbrev pub metadata_of : List ℕ → List ℕ → Data → Data → Data → Data
 metadata_of namespace name annotations labels owners = object (
@@ -73,9 +78,10 @@ metadata_of namespace name annotations labels owners = object (
     member (codes "namespace") (string namespace) (
     member (codes "ownerReferences") owners no_members)))))
 
-abbrev pub metadata : Head → List ℕ → Data → Data → Data
-metadata h name annotations labels =
-    metadata_of h.namespace name annotations labels (array (items_of (owner h.name h.uid ∷ [])))
+abbrev pub metadata : ApiVersion → Head → List ℕ → Data → Data → Data
+metadata api h name annotations labels =
+    metadata_of h.namespace name annotations labels
+    (array (items_of (owner api h.name h.uid ∷ [])))
 
 abbrev pub job : Data → Data → Data
 job metadata spec = object (
@@ -91,9 +97,9 @@ template_members name template =
 
 -- the Job of that name and with those marks, by the CronJob's head and its jobTemplate
 -- rule: control-created
-abbrev pub created_body : Head → List ℕ → MarkTexts → HeldBy → Data → Data
-created_body h name m by template =
-    job (metadata h name
+abbrev pub created_body : ApiVersion → Head → List ℕ → MarkTexts → HeldBy → Data → Data
+created_body api h name m by template =
+    job (metadata api h name
     (object (annotations m (template_members (codes "annotations") template)))
     (object (labels h.uid (template_members (codes "labels") template))))
     (object (held by (present (codes "spec") template)))
@@ -113,5 +119,5 @@ pub record ReadsBack (h : Head) (name : List ℕ) (m : MarkTexts) (d : Data) : T
   pub unpinned : meta (codes "finalizers") d ≡ None
 
 abbrev pub CreatedLaw : Type 0
-CreatedLaw = (h : Head) (name : List ℕ) (m : MarkTexts) (by : HeldBy) (template : Data)
-    → ReadsBack h name m (created_body h name m by template)
+CreatedLaw = (api : ApiVersion) (h : Head) (name : List ℕ) (m : MarkTexts) (by : HeldBy)
+    (template : Data) → ReadsBack h name m (created_body api h name m by template)

@@ -6,25 +6,32 @@ use Rattle.cj_fence.specs.declared.answer.Answer.{Answer}
 use Rattle.cj_fence.specs.declared.call.Call.{Call}
 use Rattle.cj_control.specs.declared.deed.Deed.TheVariants.{Hears}
 use Rattle.cj_control.specs.declared.line.LineKind.{LineKind}
+use Rattle.cj_control.specs.declared.line.LineKind.TheVariants.{Answered, Failed, Told, Clock, Stop}
 use Rattle.cj_control.specs.declared.rows.FencedSync.{FencedSync}
 use Rattle.cj_control.specs.Answers.{IsAnswer}
-use Rattle.cj_control.specs.Syncs.{Adds, LedgerView}
+use Rattle.cj_control.specs.Syncs.{Adds, LedgerView, Waits}
 
--- what a sync waits for
-abbrev pub asked_of : Option FencedSync → Option Call
-asked_of None = None
-asked_of (Some s) = s.asked
+-- the number of the request that a line answers
+abbrev pub answered_id : LineKind → Option ℕ
+answered_id (Answered id status) = Some id
+answered_id (Failed id) = Some id
+answered_id (Told id) = None
+answered_id (Clock t) = None
+answered_id Stop = None
 
--- what the line says as the answer to what the sync asked
+-- a sync waits for what a line answers
+-- rule: control-numbers
+abbrev pub WaitsFor : ℕ → LineKind → LedgerView → Type 0
+WaitsFor y kind l = (id : ℕ) × (answered_id kind ≡ Some id) × Waits y (Some id) l.syncs.rows
+
+-- it hears what the line says as the answer to what it asked
 -- rule: control-answers
 pub record HearsLine (y : ℕ) (kind : LineKind) (body : Option Data)
     (l m : LedgerView) : Type 0 where
+  pub sync : FencedSync
+  pub is : get l.syncs.rows y ≡ Some sync
   pub call : Call
-  pub asked : asked_of (get l.syncs.rows y) ≡ Some call
+  pub asked : sync.asked ≡ Some call
   pub answer : Answer
-  pub is : IsAnswer call kind body answer
+  pub answers : IsAnswer call kind body answer
   pub adds : Adds (Hears y answer) l m
-
-abbrev pub HearsLineIf : Bool → ℕ → LineKind → Option Data → LedgerView → LedgerView → Type 0
-HearsLineIf true y kind body l m = HearsLine y kind body l m
-HearsLineIf false y kind body l m = m ≡ l

@@ -1,12 +1,10 @@
 -- The lines that a transport gives a controller: the answer to a request, or that none came, an
 -- event of a watch, the clock, and the end.
-use Rattle.std.specs.Prelude.{◌≡◌, ℕ, List, codes, Bool, true, false, if◌then◌else◌, Option, Some, None, is_some, option_and_then, option_map, Result}
-use Rattle.std.specs.Result.{result_ok}
+use Rattle.std.specs.Prelude.{◌≡◌, ◌⊎◌, ℕ, ◌==◌, List, [], ◌∷◌, codes, Bool, true, false, if◌then◌else◌, Option, Some, None, is_some, option_and_then, option_map}
 use Rattle.serde_json.specs.Data.{Data}
 use Rattle.serde_json.specs.Find.{as_bool, as_number, as_str, as_u64}
 use Rattle.serde_json.specs.View.{view}
-use Rattle.cj_base.specs.declared.cause.Cause.{Cause}
-use Rattle.cj_cluster.specs.kubectl.Rows.{IsTimeRow}
+use Rattle.cj_cluster.specs.kubectl.Instants.{IsInstant, IsNoInstant}
 use Rattle.cj_manifest.specs.Members.{present}
 use Rattle.cj_manifest.specs.Reading.{IsNoValue, Reads}
 use Rattle.cj_control.specs.Objects.{says_so}
@@ -33,10 +31,22 @@ for_request d = option_and_then (λ id. came id d) (count_at (codes "id") d)
 abbrev pub stops : Data → Bool
 stops d = says_so (option_and_then as_bool (present (codes "stop") d))
 
--- the time of the clock
+-- a time without the fraction of its second (RFC 3339, time-secfrac)
+abbrev pub whole : List ℕ → List ℕ
+whole [] = []
+whole (c ∷ cs) = if c == 46 then codes "Z" else c ∷ whole cs
+
+-- the second of the clock
+abbrev pub IsSecond : List ℕ → Option LineKind → Type 0
+IsSecond text r = ((t : ℕ) × IsInstant text t × (r ≡ Some (Clock t)))
+    ⊎ (IsNoInstant text × (r ≡ None))
+
+abbrev pub IsClockAt : Option (List ℕ) → Option LineKind → Type 0
+IsClockAt None r = r ≡ None
+IsClockAt (Some text) r = IsSecond (whole text) r
+
 abbrev pub IsClock : Data → Option LineKind → Type 0
-IsClock now r = (time : Result ℕ Cause) × IsTimeRow (as_str now) time
-    × (r ≡ option_map (λ t. Clock t) (result_ok time))
+IsClock now r = IsClockAt (as_str now) r
 
 abbrev pub IsClockOr : Option Data → Data → Option LineKind → Type 0
 IsClockOr None d r = r ≡ for_request d

@@ -3,9 +3,11 @@
 use Rattle.std.specs.Prelude.{◌≡◌, ℕ, List, ◌++◌, codes, Option, Some, None, option_map}
 use Rattle.serde_json.specs.Data.{Data, member, no_members, number, object, string, unsigned}
 use Rattle.serde_json.specs.View.{view}
+use Rattle.cj_control.specs.declared.api.ApiVersion.{ApiVersion}
 use Rattle.cj_control.specs.declared.sent.Request.{Request}
 use Rattle.cj_control.specs.declared.sent.Verb.{Verb}
 use Rattle.cj_control.specs.declared.sent.Verb.TheVariants as By
+use Rattle.cj_control.specs.Mirror.{api_text}
 
 -- the Jobs of a namespace
 abbrev pub jobs_path : List ℕ → List ℕ
@@ -18,16 +20,22 @@ job_path namespace name =
     codes "/apis/batch/v1/namespaces/" ++ (namespace ++ (codes "/jobs/" ++ name))
 
 -- a CronJob
-abbrev pub cron_path : List ℕ → List ℕ → List ℕ
-cron_path namespace name =
-    codes "/apis/batch/v1/namespaces/" ++ (namespace ++ (codes "/cronjobs/" ++ name))
+-- rule: control-requests
+abbrev pub cron_path : ApiVersion → List ℕ → List ℕ → List ℕ
+cron_path api namespace name =
+    codes "/apis/" ++ (api_text api ++ (codes "/namespaces/"
+    ++ (namespace ++ (codes "/cronjobs/" ++ name))))
 
 -- its subresource status
 -- rule: control-requests
-abbrev pub status_path : List ℕ → List ℕ → List ℕ
-status_path namespace name =
-    codes "/apis/batch/v1/namespaces/"
-    ++ (namespace ++ (codes "/cronjobs/" ++ (name ++ codes "/status")))
+abbrev pub status_path : ApiVersion → List ℕ → List ℕ → List ℕ
+status_path api namespace name =
+    codes "/apis/" ++ (api_text api ++ (codes "/namespaces/"
+    ++ (namespace ++ (codes "/cronjobs/" ++ (name ++ codes "/status")))))
+
+-- the Events of a namespace (v1, Event)
+abbrev pub events_path : List ℕ → List ℕ
+events_path namespace = codes "/api/v1/namespaces/" ++ (namespace ++ codes "/events")
 
 -- of that method, at that path, with that body
 -- rule: control-requests

@@ -1,5 +1,5 @@
 -- The syncs of one controller: which are under way, what each asked last, and what became of them.
-use Rattle.std.specs.Prelude.{◌≡◌, ◌⊎◌, ℕ, ◌+◌, ◌-◌, ◌<◌, ◌≤◌, refl, ◌==◌, Bool, true, false, List, [], ◌∷◌, ◌++◌, Option, Some, None, if◌then◌else◌}
+use Rattle.std.specs.Prelude.{◌≡◌, ◌⊎◌, ℕ, ◌+◌, ◌-◌, ◌<◌, ◌≤◌, refl, ◌==◌, Bool, true, false, List, [], ◌∷◌, ◌++◌, reverse, Option, Some, None, if◌then◌else◌}
 use Rattle.std.specs.Ordering.{nat_cmp}
 use Rattle.std.specs.FinMap.{FinMap, code, empty, get, insert, len, remove}
 use Rattle.std.specs.Coded.{Coded, code_by, coded×, coded_list, coded_ℕ}
@@ -11,8 +11,10 @@ use Rattle.cj_fence.specs.declared.answer.Answer.TheVariants.{Lost}
 use Rattle.cj_fence.specs.declared.sync.Sync.TheVariants.{Fresh}
 use Rattle.cj_fence.specs.Protocol.{Own, May, Follows, advanced}
 use Rattle.cj_control.specs.declared.deed.Deed.{Deed}
-use Rattle.cj_control.specs.declared.deed.Deed.TheVariants.{Asks, Begins, Ends, Hears}
+use Rattle.cj_control.specs.declared.deed.Deed.TheVariants.{Asks, Begins, Ends, Hears, Reads, Sends}
 use Rattle.cj_control.specs.declared.rows.FencedSync.{FencedSync}
+use Rattle.cj_control.specs.declared.sent.Request.{Request}
+use Rattle.cj_control.specs.SentFor.{IsOfNoSync, IsSentFor}
 
 -- ---- the syncs under way
 
@@ -20,31 +22,48 @@ use Rattle.cj_control.specs.declared.rows.FencedSync.{FencedSync}
 abbrev pub Rows : Type 0
 Rows = FinMap nat_cmp FencedSync
 
--- with how many began, how many of them haven't ended, and how many may be under way at a time
+-- with how many began, how many of them haven't ended, how many may be under way at a time, and the
+-- number of the next request
 pub record Syncs : Type 0 where
   pub rows : Rows
   pub begun : ℕ
   pub live : ℕ
   pub workers : ℕ
+  pub next : ℕ
 
 abbrev pub coded_syncs : Coded Syncs
 coded_syncs =
-    code_by (Rows × (ℕ × (ℕ × ℕ)))
-    (coded× (code coded_ℕ fenced_sync.coded) (coded× coded_ℕ (coded× coded_ℕ coded_ℕ)))
-    (λ s. (s.rows, (s.begun, (s.live, s.workers))))
-    (λ p. record
-    { rows = p.0; begun = (p.1).0; live = ((p.1).1).0; workers = ((p.1).1).1 })
+    code_by (Rows × (ℕ × (ℕ × (ℕ × ℕ))))
+    (coded× (code coded_ℕ fenced_sync.coded)
+    (coded× coded_ℕ (coded× coded_ℕ (coded× coded_ℕ coded_ℕ))))
+    (λ s. (s.rows, (s.begun, (s.live, (s.workers, s.next)))))
+    (λ p. record {
+      rows = p.0;
+      begun = (p.1).0;
+      live = ((p.1).1).0;
+      workers = (((p.1).1).1).0;
+      next = (((p.1).1).1).1;
+    })
     (λ _. refl)
 
--- none began
+-- none began, and nothing was sent
 abbrev pub nothing : ℕ → Syncs
-nothing workers = record { rows = empty; begun = 0; live = 0; workers = workers }
+nothing workers = record { rows = empty; begun = 0; live = 0; workers = workers; next = 1 }
 
 -- one that has asked nothing yet
 abbrev pub fresh : FencedSync
-fresh = record { sync = Fresh; asked = None }
+fresh = record { sync = Fresh; asked = None; id = None }
+
+-- the greatest number that a sync or a request may have
+abbrev pub greatest : ℕ
+greatest = 18_446_744_073_709_551_615
 
 -- ---- what may become of them
+
+-- the next one may begin: there is a worker for it
+pub record HasRoom (s : Syncs) : Type 0 where
+  pub worker : s.live < s.workers
+  pub number : s.begun < greatest
 
 -- the next one begins, where there is a worker for it
 pub record HasBegun (y : ℕ) (s t : Syncs) : Type 0 where
@@ -53,14 +72,22 @@ pub record HasBegun (y : ℕ) (s t : Syncs) : Type 0 where
   pub after : t
       ≡ record s { rows = insert s.rows y fresh; begun = s.begun + 1; live = s.live + 1 }
 
--- one that waits for no answer asks what the protocol lets it ask
+-- one waits for no answer, and the protocol lets it ask this
 -- rule: control-follows
-pub record RowAsks (y : ℕ) (call : Call) (m n : Rows) : Type 0 where
+pub record MayAsk (y : ℕ) (call : Call) (m : Rows) : Type 0 where
   pub sync : FencedSync
   pub is : get m y ≡ Some sync
   pub idle : sync.asked ≡ None
   pub may : May sync.sync call
-  pub after : n ≡ insert m y (record sync { asked = Some call })
+
+-- it asks this, by the request of that number or of a cache
+-- rule: control-follows
+pub record RowAsks (y : ℕ) (call : Call) (id : Option ℕ) (m n : Rows) : Type 0 where
+  pub sync : FencedSync
+  pub is : get m y ≡ Some sync
+  pub idle : sync.asked ≡ None
+  pub may : May sync.sync call
+  pub after : n ≡ insert m y (record sync { asked = Some call; id = id })
 
 -- one that asked hears an answer
 -- rule: control-follows
@@ -69,7 +96,7 @@ pub record RowHears (y : ℕ) (a : Answer) (m n : Rows) : Type 0 where
   pub is : get m y ≡ Some sync
   pub call : Call
   pub asked : sync.asked ≡ Some call
-  pub after : n ≡ insert m y (record { sync = advanced sync.sync call a; asked = None })
+  pub after : n ≡ insert m y (record { sync = advanced sync.sync call a; asked = None; id = None })
 
 -- one ends, wherever it is
 pub record RowEnds (y : ℕ) (m n : Rows) : Type 0 where
@@ -77,9 +104,25 @@ pub record RowEnds (y : ℕ) (m n : Rows) : Type 0 where
   pub is : get m y ≡ Some sync
   pub after : n ≡ remove m y
 
+-- of a cache
 pub record HasAsked (y : ℕ) (call : Call) (s t : Syncs) : Type 0 where
-  pub row : RowAsks y call s.rows t.rows
+  pub row : RowAsks y call None s.rows t.rows
   pub after : t ≡ record s { rows = t.rows }
+
+-- by a request, which says what the call is, under the next number
+-- rules: control-requests, control-numbers
+pub record HasSent (y id : ℕ) (call : Call) (r : Request) (s t : Syncs) : Type 0 where
+  pub number : id ≡ s.next
+  pub row : RowAsks y call (Some id) s.rows t.rows
+  pub is : IsSentFor call r
+  pub after : t ≡ record s { rows = t.rows; next = s.next + 1 }
+
+-- a request of no sync, under the next number
+-- rule: control-numbers
+pub record HasRead (id : ℕ) (r : Request) (s t : Syncs) : Type 0 where
+  pub number : id ≡ s.next
+  pub is : IsOfNoSync r
+  pub after : t ≡ record s { next = s.next + 1 }
 
 pub record HasHeard (y : ℕ) (a : Answer) (s t : Syncs) : Type 0 where
   pub row : RowHears y a s.rows t.rows
@@ -94,6 +137,8 @@ pub record HasEnded (y : ℕ) (s t : Syncs) : Type 0 where
 abbrev pub Moves : Deed → Syncs → Syncs → Type 0
 Moves (Begins y) s t = HasBegun y s t
 Moves (Asks y call) s t = HasAsked y call s t
+Moves (Sends y id call r) s t = HasSent y id call r s t
+Moves (Reads id r) s t = HasRead id r s t
 Moves (Hears y a) s t = HasHeard y a s t
 Moves (Ends y) s t = HasEnded y s t
 
@@ -118,6 +163,9 @@ own y [] = []
 own y (Begins x ∷ ds) = own y ds
 own y (Asks x call ∷ ds) = if y == x then record { call = call; answer = Lost }
     ∷ own y ds else own y ds
+own y (Sends x id call r ∷ ds) = if y == x then record { call = call; answer = Lost }
+    ∷ own y ds else own y ds
+own y (Reads id r ∷ ds) = own y ds
 own y (Hears x a ∷ ds) = if y == x then heard a (own y ds) else own y ds
 own y (Ends x ∷ ds) = own y ds
 
@@ -153,29 +201,30 @@ pub record Adds (d : Deed) (l m : LedgerView) : Type 0 where
   pub moves : Moves d l.syncs m.syncs
   pub noted : m.deeds ≡ l.deeds ++ d ∷ []
 
--- a sync began under that number, or none did
-abbrev pub Began : Option ℕ → LedgerView → LedgerView → Type 0
-Began (Some y) l m = Adds (Begins y) l m
-Began None l m = m ≡ l
-
 -- where memory is wanting, nothing changed, or the sync was given up and ended
 abbrev pub GaveUp : ℕ → LedgerView → LedgerView → Type 0
 GaveUp y l m = (m ≡ l) ⊎ Adds (Ends y) l m
 
--- of the syncs alone: what was tried was done, or nothing changed
-abbrev pub AsksIf : Bool → ℕ → Call → Rows → Rows → Type 0
-AsksIf true y call m n = RowAsks y call m n
-AsksIf false y call m n = n ≡ m
+-- it waits for the answer to a request of that number, or of a cache
+pub record Waits (y : ℕ) (id : Option ℕ) (m : Rows) : Type 0 where
+  pub sync : FencedSync
+  pub is : get m y ≡ Some sync
+  pub call : Call
+  pub asked : sync.asked ≡ Some call
+  pub by : sync.id ≡ id
 
-abbrev pub HearsIf : Bool → ℕ → Answer → Rows → Rows → Type 0
-HearsIf true y a m n = RowHears y a m n
-HearsIf false y a m n = n ≡ m
+-- what it waits for the answer to
+pub record IsAsked (y : ℕ) (call : Call) (m : Rows) : Type 0 where
+  pub sync : FencedSync
+  pub is : get m y ≡ Some sync
+  pub asked : sync.asked ≡ Some call
 
-abbrev pub EndsIf : Bool → ℕ → Rows → Rows → Type 0
-EndsIf true y m n = RowEnds y m n
-EndsIf false y m n = n ≡ m
+-- ---- from the start on
 
--- what was tried was done, or nothing changed
-abbrev pub Tried : Bool → Deed → LedgerView → LedgerView → Type 0
-Tried true d l m = Adds d l m
-Tried false d l m = m ≡ l
+-- all that became of the syncs is one path of deeds, and the ledger has the last of them
+-- rule: control-follows
+pub record IsKept (l : LedgerView) : Type 0 where
+  pub all : List Deed
+  pub path : Path all (nothing l.syncs.workers) l.syncs
+  pub before : List Deed
+  pub last : reverse all ≡ before ++ l.deeds

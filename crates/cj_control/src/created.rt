@@ -5,6 +5,7 @@ ghost use Rattle.serde_json.specs.View.{items_of, members_view, view};
 ghost use Rattle.cj_base.specs.declared.refusal.Refusal.TheVariants.{OutOfMemory};
 ghost use Rattle.cj_control.specs.Created as made;
 
+use crate::api::ApiVersion;
 use crate::objects::{Head, member, meta};
 use crate::request::HeldBy;
 use cj_base::{Refusal, Text};
@@ -152,17 +153,23 @@ fn held_spec(alloc: Global, by: HeldBy, spec: Option<&Value>) -> Result<Value, R
     Ok(Value::Object(members))
 }
 
-fn owner(alloc: Global, name: &str, uid: &str) -> Result<Value, AllocError>
-    ensures { IfOk result (λ v. view v ≡ made.owner name.now uid.now) }
+fn owner_object(alloc: Global, api: &str, name: &str, uid: &str) -> Result<Value, AllocError>
+    ensures { IfOk result (λ v. view v ≡ made.owner_by api.now name.now uid.now) }
 {
     json!(in alloc; {
-        "apiVersion": "batch/v1",
+        "apiVersion": api,
         "blockOwnerDeletion": true,
         "controller": true,
         "kind": "CronJob",
         "name": name,
         "uid": uid
     })
+}
+
+fn owner(alloc: Global, api: ApiVersion, name: &str, uid: &str) -> Result<Value, AllocError>
+    ensures { IfOk result (λ v. view v ≡ made.owner api name.now uid.now) }
+{
+    owner_object(alloc, api.text(), name, uid)
 }
 
 fn one_value(alloc: Global, value: Value) -> Result<Value, AllocError>
@@ -193,16 +200,17 @@ fn metadata_object(
 
 fn metadata(
     alloc: Global,
+    api: ApiVersion,
     head: &Head,
     name: &str,
     annotations: Value,
     labels: Value,
 ) -> Result<Value, Refusal>
     ensures ok { IfOk result (λ v. view v
-        ≡ made.metadata head.now name.now (view annotations) (view labels)) }
+        ≡ made.metadata api head.now name.now (view annotations) (view labels)) }
     ensures err { IfErr result (λ e. e ≡ OutOfMemory) }
 {
-    let owner = owner(alloc, head.name.as_str(), head.uid.as_str())?;
+    let owner = owner(alloc, api, head.name.as_str(), head.uid.as_str())?;
     let owners = one_value(alloc, owner)?;
     let namespace = head.namespace.as_str();
     Ok(metadata_object(alloc, namespace, name, annotations, labels, owners)?)
@@ -222,6 +230,7 @@ fn job_object(alloc: Global, metadata: Value, spec: Value) -> Result<Value, Allo
 /// The Job of that name and with those marks, held, by the CronJob's head and its `jobTemplate`.
 pub fn created_body(
     alloc: Global,
+    api: ApiVersion,
     head: &Head,
     name: &str,
     marks: &MarkTexts,
@@ -229,12 +238,12 @@ pub fn created_body(
     template: &Value,
 ) -> Result<Value, Refusal>
     ensures ok { IfOk result (λ v. view v
-        ≡ made.created_body head.now name.now marks.now by (view template.now)) }
+        ≡ made.created_body api head.now name.now marks.now by (view template.now)) }
     ensures err { IfErr result (λ e. e ≡ OutOfMemory) }
 {
     let annotations = annotations(alloc, marks, template)?;
     let labels = labels(alloc, head.uid.as_str(), template)?;
     let spec = held_spec(alloc, by, present(template, "spec"))?;
-    let metadata = metadata(alloc, head, name, annotations, labels)?;
+    let metadata = metadata(alloc, api, head, name, annotations, labels)?;
     Ok(job_object(alloc, metadata, spec)?)
 }

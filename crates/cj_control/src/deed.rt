@@ -1,3 +1,4 @@
+use crate::sent::Request;
 use cj_base::Shared;
 use cj_fence::{Answer, Call};
 
@@ -6,8 +7,12 @@ use cj_fence::{Answer, Call};
 pub enum Deed {
     /// It begins.
     Begins(u64),
-    /// It asks the API server or a cache.
+    /// It asks what lists and watches told.
     Asks(u64, Shared<Call>),
+    /// It asks the API server, by the request of the second number.
+    Sends(u64, u64, Shared<Call>, Request),
+    /// A request of this number, of no sync: a GET, or an Event that is told.
+    Reads(u64, Request),
     /// It hears the answer to what it asked last.
     Hears(u64, Answer),
     /// It ends.

@@ -1,175 +1,179 @@
-ghost use Rattle.std.specs.Prelude.{◌≡◌, ◌↔◌, ◌<◌, [], IfOk, IfErr, IsTrue, OnErr, option_copied};
+ghost use Rattle.std.specs.Prelude.{◌≡◌, ◌↔◌, ◌<◌, ℕ, Option, [], Some, None, IfOk, IfErr, IsTrue, OnOk, OnErr, option_copied};
 ghost use Rattle.std.specs.FinMap as map;
 ghost use Rattle.cj_base.specs.declared.refusal.Refusal.TheVariants.{OutOfMemory};
-ghost use Rattle.cj_control.specs.declared.deed.Deed.TheVariants.{Asks, Ends, Hears};
-ghost use Rattle.cj_control.specs.Syncs.{Began, GaveUp, IsNew, Tried};
+ghost use Rattle.cj_control.specs.declared.deed.Deed.TheVariants.{Asks, Begins, Ends, Hears, Reads, Sends};
+ghost use Rattle.cj_control.specs.declared.rows.FencedSync.{FencedSync};
+ghost use Rattle.cj_control.specs.SentFor.{IsOfNoSync, IsSentFor};
+ghost use Rattle.cj_control.specs.Syncs.{Adds, GaveUp, HasRoom, IsAsked, IsKept, IsNew, MayAsk, Waits, greatest};
 
 use crate::Deed;
-use crate::rows::{FencedSync, SyncRows};
+use crate::book::Book;
+use crate::rows::FencedSync;
+use crate::sent::Request;
 use cj_base::{Refusal, Shared};
-use cj_fence::{Answer, Call, Sync};
+use cj_fence::{Answer, Call};
 use std::alloc::Global;
 use std::marker::Model;
-use std::mem;
 
-/// The syncs under way, and what became of syncs since the deeds were taken last. Contracts see
-/// both.
+/// The syncs under way, and what became of syncs since the deeds were taken last. Whatever is done
+/// with a ledger, each of its syncs follows the protocol: contracts see that all its deeds, from
+/// the start on, are one path.
 pub struct Ledger {
-    rows: SyncRows,
-    begun: u64,
-    live: u64,
-    workers: u64,
-    deeds: Vec<Deed>,
+    book: Book,
 }
 
 impl Model for Ledger {
-    ghost use Rattle.cj_control.specs.Syncs.{LedgerView, coded_ledger};
+    ghost use Rattle.cj_control.specs.Syncs.{IsKept, LedgerView, coded_ledger};
 
     ghost Value = { LedgerView };
 
     ghost coded = { coded_ledger };
 
-    ghost view = { λ l. record {
-      syncs = record {
-        rows = l.rows;
-        begun = l.begun;
-        live = l.live;
-        workers = l.workers;
-      };
-      deeds = l.deeds.items;
-    } };
+    ghost view = { λ l. l.book };
+
+    ghost invariant = { λ l. IsKept l.book };
 }
 
 impl Drop for Ledger {
     fn drop(self) {
-        let Ledger {
-            rows: _,
-            begun: _,
-            live: _,
-            workers: _,
-            deeds: _,
-        } = self;
+        let Ledger { book } = self;
+        drop(book);
     }
 }
 
 impl Ledger {
-    /// No sync is under way; at most `workers` may be at a time.
+    /// No sync is under way, and nothing was sent; at most `workers` may be under way at a time.
+    #[tactic(auto, using(crate::proofs::KeptLemmas::kept_new))]
     pub fn new(alloc: Global, workers: u64) -> Ledger
         ensures { IsNew workers result }
     {
         Ledger {
-            rows: SyncRows::new(alloc),
-            begun: 0,
-            live: 0,
-            workers,
-            deeds: Vec::new(alloc),
+            book: Book::new(alloc, workers),
         }
     }
 
-    /// A sync begins, where there is a worker for it; its number. Where memory is wanting, all
-    /// stays as it was.
-    pub fn begin(&mut self) -> Result<Option<u64>, Refusal>
-        ensures ok { IfOk result (λ o. Began o self.old self.new) }
+    /// Whether there is a worker for one sync more, and a number.
+    pub fn has_room(&self) -> bool
+        ensures { IsTrue result ↔ HasRoom self.now.syncs }
+    {
+        self.book.has_room()
+    }
+
+    /// Whether there is a number for one request more.
+    pub fn has_number(&self) -> bool
+        ensures { IsTrue result ↔ (self.now.syncs.next < greatest) }
+    {
+        self.book.has_number()
+    }
+
+    /// A sync begins; its number. Where memory is wanting, all stays as it was.
+    #[tactic(auto, using(crate::proofs::KeptLemmas::kept_or_same))]
+    pub fn begin(&mut self) -> Result<u64, Refusal>
+        requires { HasRoom self.old.syncs }
+        ensures ok { IfOk result (λ y. Adds (Begins y) self.old self.new) }
         ensures err { OnErr result (self.new ≡ self.old) }
         ensures memory { IfErr result (λ e. e ≡ OutOfMemory) }
     {
-        let number = self.begun;
-        if self.live >= self.workers || number == u64::MAX {
-            return Ok(None);
-        }
-        self.deeds.reserve(1)?;
-        self.rows.insert(
-            number,
-            FencedSync {
-                sync: Sync::Fresh,
-                asked: None,
-            },
-        )?;
-        self.begun = number + 1;
-        self.live += 1;
-        self.deeds.push_reserved(Deed::Begins(number));
-        Ok(Some(number))
+        self.book.begin()
     }
 
-    /// A sync asks what the protocol lets it ask next, where it waits for no answer; whether it
-    /// may. Where memory is wanting, the sync is given up, or nothing changed.
-    pub fn ask(&mut self, number: u64, call: Shared<Call>) -> Result<bool, Refusal>
-        ensures ok { IfOk result (λ done. Tried done (Asks number call) self.old self.new) }
+    /// Whether a sync waits for no answer, and the protocol lets it ask this.
+    pub fn may_ask(&self, number: u64, call: &Call) -> bool
+        ensures { IsTrue result ↔ MayAsk number call.now self.now.syncs.rows }
+    {
+        self.book.may_ask(number, call)
+    }
+
+    /// A sync asks what lists and watches told. Where memory is wanting, the sync is given up, or
+    /// nothing changed.
+    #[tactic(auto, using(crate::proofs::KeptLemmas::kept_on_up))]
+    pub fn ask(&mut self, number: u64, call: Shared<Call>) -> Result<(), Refusal>
+        requires { MayAsk number call self.old.syncs.rows }
+        ensures ok { OnOk result (Adds (Asks number call) self.old self.new) }
+        ensures waits { OnOk result (Waits number None self.new.syncs.rows) }
         ensures err { OnErr result (GaveUp number self.old self.new) }
         ensures memory { IfErr result (λ e. e ≡ OutOfMemory) }
     {
-        self.deeds.reserve(1)?;
-        let kept = call.share()?;
-        match self.rows.ask(number, kept) {
-            Ok(true) => {
-                self.deeds.push_reserved(Deed::Asks(number, call));
-                Ok(true)
-            }
-            Ok(false) => Ok(false),
-            Err(refusal) => {
-                self.live = self.live.saturating_sub(1);
-                self.deeds.push_reserved(Deed::Ends(number));
-                Err(refusal)
-            }
-        }
+        self.book.ask(number, call)
     }
 
-    /// A sync hears the answer to what it asked; whether it waited for one. Where memory is
-    /// wanting, the sync is given up, or nothing changed.
-    pub fn hear(&mut self, alloc: Global, number: u64, answer: Answer) -> Result<bool, Refusal>
-        ensures ok { IfOk result (λ done. Tried done (Hears number answer) self.old self.new) }
+    /// A sync asks the API server by a request, which says what the call is; the request's number.
+    /// Where memory is wanting, the sync is given up, or nothing changed.
+    #[tactic(auto, using(crate::proofs::KeptLemmas::kept_or_up))]
+    pub fn send(
+        &mut self,
+        number: u64,
+        call: Shared<Call>,
+        request: Request,
+    ) -> Result<u64, Refusal>
+        requires may { MayAsk number call self.old.syncs.rows }
+        requires says { IsSentFor call request }
+        requires number { self.old.syncs.next < greatest }
+        ensures ok { IfOk result (λ id. Adds (Sends number id call request) self.old self.new) }
         ensures err { OnErr result (GaveUp number self.old self.new) }
         ensures memory { IfErr result (λ e. e ≡ OutOfMemory) }
     {
-        self.deeds.reserve(1)?;
-        match self.rows.hear(alloc, number, &answer) {
-            Ok(true) => {
-                self.deeds.push_reserved(Deed::Hears(number, answer));
-                Ok(true)
-            }
-            Ok(false) => Ok(false),
-            Err(refusal) => {
-                self.live = self.live.saturating_sub(1);
-                self.deeds.push_reserved(Deed::Ends(number));
-                Err(refusal)
-            }
-        }
+        self.book.send(number, call, request)
     }
 
-    /// A sync ends; whether it was under way. Where memory is wanting, all stays as it was.
-    pub fn end(&mut self, number: u64) -> Result<bool, Refusal>
-        ensures ok { IfOk result (λ done. Tried done (Ends number) self.old self.new) }
+    /// A request of no sync is sent; its number. Where memory is wanting, all stays as it was.
+    #[tactic(auto, using(crate::proofs::KeptLemmas::kept_or_same))]
+    pub fn read(&mut self, request: Request) -> Result<u64, Refusal>
+        requires says { IsOfNoSync request }
+        requires number { self.old.syncs.next < greatest }
+        ensures ok { IfOk result (λ id. Adds (Reads id request) self.old self.new) }
         ensures err { OnErr result (self.new ≡ self.old) }
         ensures memory { IfErr result (λ e. e ≡ OutOfMemory) }
     {
-        self.deeds.reserve(1)?;
-        if !self.rows.end(number) {
-            return Ok(false);
-        }
-        self.live = self.live.saturating_sub(1);
-        self.deeds.push_reserved(Deed::Ends(number));
-        Ok(true)
+        self.book.read(request)
+    }
+
+    /// What a sync waits for the answer to.
+    pub fn asked(&self, number: u64) -> Result<Shared<Call>, Refusal>
+        requires { (id : Option ℕ) × Waits number id self.now.syncs.rows }
+        ensures ok { IfOk result (λ c. IsAsked number c self.now.syncs.rows) }
+        ensures err { IfErr result (λ e. e ≡ OutOfMemory) }
+    {
+        self.book.asked(number)
+    }
+
+    /// A sync hears the answer to what it asked. Where memory is wanting, the sync is given up, or
+    /// nothing changed.
+    #[tactic(auto, using(crate::proofs::KeptLemmas::kept_on_up))]
+    pub fn hear(&mut self, alloc: Global, number: u64, answer: Answer) -> Result<(), Refusal>
+        requires { (id : Option ℕ) × Waits number id self.old.syncs.rows }
+        ensures ok { OnOk result (Adds (Hears number answer) self.old self.new) }
+        ensures err { OnErr result (GaveUp number self.old self.new) }
+        ensures memory { IfErr result (λ e. e ≡ OutOfMemory) }
+    {
+        self.book.hear(alloc, number, answer)
+    }
+
+    /// A sync that is under way ends. Where memory is wanting, all stays as it was.
+    #[tactic(auto, using(crate::proofs::KeptLemmas::kept_on_same))]
+    pub fn end(&mut self, number: u64) -> Result<(), Refusal>
+        requires { (sync : FencedSync) × (map.get self.old.syncs.rows number ≡ Some sync) }
+        ensures ok { OnOk result (Adds (Ends number) self.old self.new) }
+        ensures err { OnErr result (self.new ≡ self.old) }
+        ensures memory { IfErr result (λ e. e ≡ OutOfMemory) }
+    {
+        self.book.end(number)
     }
 
     /// The deeds since they were taken last, the oldest first.
+    #[tactic(auto, using(crate::proofs::KeptLemmas::kept_taken))]
     pub fn take_deeds(&mut self, alloc: Global) -> Vec<Deed>
         ensures deeds { result.items ≡ self.old.deeds }
+        ensures kept { IsKept self.old }
         ensures after { self.new ≡ record self.old { deeds = [] } }
     {
-        mem::replace(&mut self.deeds, Vec::new(alloc))
+        self.book.take_deeds(alloc)
     }
 
     /// The sync of the number, if it is under way.
     pub fn get(&self, number: u64) -> Option<&FencedSync>
         ensures { option_copied result ≡ map.get self.now.syncs.rows number }
     {
-        self.rows.get(number)
-    }
-
-    /// Whether there is a worker for one sync more.
-    pub fn has_room(&self) -> bool
-        ensures { IsTrue result ↔ (self.now.syncs.live < self.now.syncs.workers) }
-    {
-        self.live < self.workers
+        self.book.get(number)
     }
 }

@@ -1,14 +1,14 @@
 // Lines that a transport gives a controller.
-ghost use Rattle.std.specs.Prelude.{◌≡◌, ◌⊎◌, IfOk, IfErr};
+ghost use Rattle.std.specs.Prelude.{◌≡◌, ◌⊎◌, IfOk, IfErr, string_bytes};
 ghost use Rattle.serde_json.specs.View.{view};
 ghost use Rattle.cj_manifest.specs.Reading.{IsNoValue, Reads};
 ghost use Rattle.cj_control.specs.declared.line.LineFault.TheVariants.{Memory, Syntax};
-ghost use Rattle.cj_control.specs.Lines.{IsClock, IsKind, IsLine, IsNoLine, came, count_at, for_request, stops};
+ghost use Rattle.cj_control.specs.Lines.{IsClock, IsKind, IsLine, IsNoLine, IsSecond, came, count_at, for_request, stops, whole};
 
-use crate::objects::time;
+use cj_cluster::read_instant;
 use cj_manifest::present;
 use serde_json::Value;
-use std::alloc::Global;
+use std::alloc::{AllocError, Global};
 
 /// What a line says.
 #[derive(Clone, Copy, Debug, PartialEq, Eq)]
@@ -19,7 +19,7 @@ pub enum LineKind {
     Failed(u64),
     /// The watch of this number has an event.
     Told(u64),
-    /// The clock is at this instant, in seconds since 1970.
+    /// The clock is in this second, counted from 1970.
     Clock(u64),
     /// Nothing new is to begin.
     Stop,
@@ -90,25 +90,51 @@ fn for_request(value: &Value) -> Option<LineKind>
     came(id, value)
 }
 
-fn clock(now: &Value) -> Option<LineKind>
-    ensures { IsClock (view now.now) result }
+// A time without the fraction of its second.
+fn whole(alloc: Global, text: &str) -> Result<String, AllocError>
+    ensures { IfOk result (λ s. string_bytes s ≡ whole text.now) }
 {
-    match time(now) {
-        Ok(instant) => Some(LineKind::Clock(instant)),
-        Err(_) => None,
+    match text.split_once('.') {
+        Some((head, _)) => format!(in alloc; "{head}Z"),
+        None => String::from_str(alloc, text),
+    }
+}
+
+fn second(text: &str) -> Option<LineKind>
+    ensures { IsSecond text.now result }
+{
+    match read_instant(text) {
+        Some(instant) => Some(LineKind::Clock(instant.get())),
+        None => None,
+    }
+}
+
+fn second_of(alloc: Global, text: &str) -> Result<Option<LineKind>, AllocError>
+    ensures { IfOk result (IsSecond (whole text.now)) }
+{
+    let whole = whole(alloc, text)?;
+    Ok(second(whole.as_str()))
+}
+
+fn clock(alloc: Global, now: &Value) -> Result<Option<LineKind>, AllocError>
+    ensures { IfOk result (IsClock (view now.now)) }
+{
+    match now.as_str() {
+        Some(text) => second_of(alloc, text),
+        None => Ok(None),
     }
 }
 
 // What a value says as a line, if it is one.
-fn kind_of(value: &Value) -> Option<LineKind>
-    ensures { IsKind (view value.now) result }
+fn kind_of(alloc: Global, value: &Value) -> Result<Option<LineKind>, AllocError>
+    ensures { IfOk result (IsKind (view value.now)) }
 {
     if stops(value) {
-        return Some(LineKind::Stop);
+        return Ok(Some(LineKind::Stop));
     }
     match present(value, "now") {
-        Some(now) => clock(now),
-        None => for_request(value),
+        Some(now) => clock(alloc, now),
+        None => Ok(for_request(value)),
     }
 }
 
@@ -118,8 +144,9 @@ pub fn read_line(alloc: Global, bytes: &[u8]) -> Result<Line, LineFault>
     ensures err { IfErr result (IsNoLine bytes.now) }
 {
     let value = value_of(alloc, bytes)?;
-    match kind_of(&value) {
-        Some(kind) => Ok(Line { value, kind }),
-        None => Err(LineFault::Form),
+    match kind_of(alloc, &value) {
+        Ok(Some(kind)) => Ok(Line { value, kind }),
+        Ok(None) => Err(LineFault::Form),
+        Err(_) => Err(LineFault::Memory),
     }
 }

@@ -6,9 +6,9 @@ mod job;
 mod marks;
 mod members;
 
-pub(crate) use cron::time;
 pub use cron::{CronSaid, read_cron};
 pub use head::Head;
+pub(crate) use head::read_head;
 pub use job::read_job;
 pub use marks::JobMarks;
-pub(crate) use members::{member, meta};
+pub(crate) use members::{annotation, full_name, is_text, list_of, member, meta, spec, text_at};

@@ -1,9 +1,10 @@
-ghost use Rattle.std.specs.Prelude.{◌≡◌, ◌↔◌, None, Some, IfOk, IfErr, IsTrue, OnOk, OnErr, option_copied};
+ghost use Rattle.std.specs.Prelude.{◌≡◌, ◌↔◌, None, Some, IfOk, IfErr, IsTrue, ℕ, Option, OnOk, OnErr, option_copied};
 ghost use Rattle.std.specs.FinMap as map;
 ghost use Rattle.cj_base.specs.declared.refusal.Refusal.TheVariants.{OutOfMemory};
 ghost use Rattle.cj_fence.specs.declared.call.Call.{Call};
 ghost use Rattle.cj_fence.specs.Protocol.{May, advanced};
-ghost use Rattle.cj_control.specs.Syncs.{AsksIf, EndsIf, HearsIf, RowEnds};
+ghost use Rattle.cj_control.specs.declared.rows.FencedSync.{FencedSync};
+ghost use Rattle.cj_control.specs.Syncs.{MayAsk, RowAsks, RowEnds, RowHears, Waits};
 
 use cj_base::{Refusal, Shared};
 use cj_fence::{Answer, Call, Sync};
@@ -17,11 +18,13 @@ pub struct FencedSync {
     pub sync: Sync,
     /// What it asked, where it waits for an answer.
     pub asked: Option<Shared<Call>>,
+    /// The number of the request by which it asked, where it asked the API server.
+    pub id: Option<u64>,
 }
 
 impl Drop for FencedSync {
     fn drop(self) {
-        let FencedSync { sync, asked } = self;
+        let FencedSync { sync, asked, id: _ } = self;
         drop(sync);
         drop(asked);
     }
@@ -37,23 +40,28 @@ impl FencedSync {
     }
 
     /// The sync that waits for the answer to this call.
-    pub fn asking(self, call: Shared<Call>) -> FencedSync
-        ensures { result ≡ record self { asked = Some call } }
+    pub fn asking(self, call: Shared<Call>, id: Option<u64>) -> FencedSync
+        ensures { result ≡ record self { asked = Some call; id = id } }
     {
-        let FencedSync { sync, asked: _ } = self;
+        let FencedSync {
+            sync,
+            asked: _,
+            id: _,
+        } = self;
         FencedSync {
             sync,
             asked: Some(call),
+            id,
         }
     }
 
     /// The sync after the answer to what it asked.
     pub fn hearing(self, alloc: Global, answer: &Answer) -> Result<FencedSync, Refusal>
         ensures ok { IfOk result (λ f. (call : Call) → self.asked ≡ Some call
-            → f ≡ record { sync = advanced self.sync call answer.now; asked = None }) }
+            → f ≡ record { sync = advanced self.sync call answer.now; asked = None; id = None }) }
         ensures memory { IfErr result (λ e. e ≡ OutOfMemory) }
     {
-        let FencedSync { sync, asked } = self;
+        let FencedSync { sync, asked, id: _ } = self;
         let next = match asked {
             Some(call) => sync.advance(alloc, call.get(), answer)?,
             None => sync,
@@ -61,6 +69,7 @@ impl FencedSync {
         Ok(FencedSync {
             sync: next,
             asked: None,
+            id: None,
         })
     }
 }
@@ -131,62 +140,52 @@ impl SyncRows {
         self.rows.remove(&number)
     }
 
-    /// A sync asks what the protocol lets it ask; whether it may. Where memory is wanting, the sync
-    /// is given up.
-    #[tactic(auto, using(crate::proofs::RowLemmas::put_back))]
-    pub fn ask(&mut self, number: u64, call: Shared<Call>) -> Result<bool, Refusal>
-        ensures ok { IfOk result (λ done. AsksIf done number call self.old self.new) }
-        ensures err { OnErr result (RowEnds number self.old self.new) }
-        ensures memory { IfErr result (λ e. e ≡ OutOfMemory) }
+    /// Whether a sync waits for no answer, and may ask this.
+    pub fn may_ask(&self, number: u64, call: &Call) -> bool
+        ensures { IsTrue result ↔ MayAsk number call.now self.now }
     {
-        let may = match self.get(number) {
-            Some(row) => row.may_ask(call.get()),
+        match self.get(number) {
+            Some(row) => row.may_ask(call),
             None => false,
-        };
-        if !may {
-            return Ok(false);
         }
-        let Some(row) = self.take(number) else {
-            return Ok(false);
-        };
-        self.insert(number, row.asking(call))?;
-        Ok(true)
     }
 
-    /// A sync that asked hears the answer; whether it waited for one. Where memory is wanting, the
-    /// sync is given up.
+    /// A sync asks what the protocol lets it ask, by a request of that number or of a cache. Where
+    /// memory is wanting, the sync is given up.
     #[tactic(auto, using(crate::proofs::RowLemmas::put_back))]
-    pub fn hear(&mut self, alloc: Global, number: u64, answer: &Answer) -> Result<bool, Refusal>
-        ensures ok { IfOk result (λ done. HearsIf done number answer.now self.old self.new) }
+    pub fn ask(&mut self, number: u64, call: Shared<Call>, id: Option<u64>) -> Result<(), Refusal>
+        requires { MayAsk number call self.old }
+        ensures ok { OnOk result (RowAsks number call id self.old self.new) }
         ensures err { OnErr result (RowEnds number self.old self.new) }
         ensures memory { IfErr result (λ e. e ≡ OutOfMemory) }
     {
-        let waits = match self.get(number) {
-            Some(row) => row.asked.is_some(),
-            None => false,
-        };
-        if !waits {
-            return Ok(false);
-        }
         let Some(row) = self.take(number) else {
-            return Ok(false);
+            unreachable!()
+        };
+        self.insert(number, row.asking(call, id))
+    }
+
+    /// A sync that asked hears the answer. Where memory is wanting, the sync is given up.
+    #[tactic(auto, using(crate::proofs::RowLemmas::put_back))]
+    pub fn hear(&mut self, alloc: Global, number: u64, answer: &Answer) -> Result<(), Refusal>
+        requires { (id : Option ℕ) × Waits number id self.old }
+        ensures ok { OnOk result (RowHears number answer.now self.old self.new) }
+        ensures err { OnErr result (RowEnds number self.old self.new) }
+        ensures memory { IfErr result (λ e. e ≡ OutOfMemory) }
+    {
+        let Some(row) = self.take(number) else {
+            unreachable!()
         };
         let next = row.hearing(alloc, answer)?;
-        self.insert(number, next)?;
-        Ok(true)
+        self.insert(number, next)
     }
 
-    /// A sync ends; whether it was under way.
-    pub fn end(&mut self, number: u64) -> bool
-        ensures { EndsIf result number self.old self.new }
+    /// A sync that is under way ends.
+    pub fn end(&mut self, number: u64)
+        requires { (sync : FencedSync) × (map.get self.old number ≡ Some sync) }
+        ensures { RowEnds number self.old self.new }
     {
-        if self.get(number).is_none() {
-            return false;
-        }
-        let Some(row) = self.take(number) else {
-            return false;
-        };
+        let row = self.take(number);
         drop(row);
-        true
     }
 }

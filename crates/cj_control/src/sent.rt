@@ -5,6 +5,7 @@ ghost use Rattle.cj_base.specs.declared.refusal.Refusal.TheVariants.{OutOfMemory
 ghost use Rattle.cj_control.specs.declared.sent.Verb.TheVariants as By;
 ghost use Rattle.cj_control.specs.Sent as sent;
 
+use crate::api::ApiVersion;
 use cj_base::{Refusal, Text};
 use serde_json::{Value, json};
 use std::alloc::{AllocError, Global};
@@ -46,31 +47,46 @@ fn job_path(alloc: Global, namespace: &str, name: &str) -> Result<Text, Refusal>
     Text::new(alloc, path.as_str())
 }
 
-fn cron_path(alloc: Global, namespace: &str, name: &str) -> Result<Text, Refusal>
-    ensures ok { IfOk result (λ t. t ≡ sent.cron_path namespace.now name.now) }
+fn cron_path(alloc: Global, api: ApiVersion, namespace: &str, name: &str) -> Result<Text, Refusal>
+    ensures ok { IfOk result (λ t. t ≡ sent.cron_path api namespace.now name.now) }
     ensures err { IfErr result (λ e. e ≡ OutOfMemory) }
 {
-    let path = format!(in alloc; "/apis/batch/v1/namespaces/{namespace}/cronjobs/{name}")?;
+    let api = api.text();
+    let path = format!(in alloc; "/apis/{api}/namespaces/{namespace}/cronjobs/{name}")?;
     Text::new(alloc, path.as_str())
 }
 
-fn status_path(alloc: Global, namespace: &str, name: &str) -> Result<Text, Refusal>
-    ensures ok { IfOk result (λ t. t ≡ sent.status_path namespace.now name.now) }
+fn status_path(alloc: Global, api: ApiVersion, namespace: &str, name: &str) -> Result<Text, Refusal>
+    ensures ok { IfOk result (λ t. t ≡ sent.status_path api namespace.now name.now) }
     ensures err { IfErr result (λ e. e ≡ OutOfMemory) }
 {
-    let path = format!(in alloc; "/apis/batch/v1/namespaces/{namespace}/cronjobs/{name}/status")?;
+    let api = api.text();
+    let path = format!(in alloc; "/apis/{api}/namespaces/{namespace}/cronjobs/{name}/status")?;
+    Text::new(alloc, path.as_str())
+}
+
+fn events_path(alloc: Global, namespace: &str) -> Result<Text, Refusal>
+    ensures ok { IfOk result (λ t. t ≡ sent.events_path namespace.now) }
+    ensures err { IfErr result (λ e. e ≡ OutOfMemory) }
+{
+    let path = format!(in alloc; "/api/v1/namespaces/{namespace}/events")?;
     Text::new(alloc, path.as_str())
 }
 
 /// A GET of a CronJob.
-pub fn get_cron(alloc: Global, namespace: &str, name: &str) -> Result<Request, Refusal>
+pub fn get_cron(
+    alloc: Global,
+    api: ApiVersion,
+    namespace: &str,
+    name: &str,
+) -> Result<Request, Refusal>
     ensures ok { IfOk result (sent.IsRequest By.Get
-        (sent.cron_path namespace.now name.now) None) }
+        (sent.cron_path api namespace.now name.now) None) }
     ensures err { IfErr result (λ e. e ≡ OutOfMemory) }
 {
     Ok(Request {
         verb: Verb::Get,
-        path: cron_path(alloc, namespace, name)?,
+        path: cron_path(alloc, api, namespace, name)?,
         body: None,
     })
 }
@@ -104,17 +120,18 @@ pub fn post_job(alloc: Global, namespace: &str, body: Value) -> Result<Request, 
 /// A merge patch of a CronJob's status.
 pub fn patch_status(
     alloc: Global,
+    api: ApiVersion,
     namespace: &str,
     name: &str,
     body: Value,
 ) -> Result<Request, Refusal>
     ensures ok { IfOk result (sent.IsRequest By.MergePatch
-        (sent.status_path namespace.now name.now) (Some (view body))) }
+        (sent.status_path api namespace.now name.now) (Some (view body))) }
     ensures err { IfErr result (λ e. e ≡ OutOfMemory) }
 {
     Ok(Request {
         verb: Verb::MergePatch,
-        path: status_path(alloc, namespace, name)?,
+        path: status_path(alloc, api, namespace, name)?,
         body: Some(body),
     })
 }
@@ -153,6 +170,30 @@ pub fn delete_job(
         path: job_path(alloc, namespace, name)?,
         body: Some(body),
     })
+}
+
+/// A POST of an Event with this body.
+pub fn post_event(alloc: Global, namespace: &str, body: Value) -> Result<Request, Refusal>
+    ensures ok { IfOk result (sent.IsRequest By.Post
+        (sent.events_path namespace.now) (Some (view body))) }
+    ensures err { IfErr result (λ e. e ≡ OutOfMemory) }
+{
+    Ok(Request {
+        verb: Verb::Post,
+        path: events_path(alloc, namespace)?,
+        body: Some(body),
+    })
+}
+
+/// A GET of what is at a path.
+pub fn get_path(path: Text) -> Request
+    ensures { sent.IsRequest By.Get path None result }
+{
+    Request {
+        verb: Verb::Get,
+        path,
+        body: None,
+    }
 }
 
 fn method(verb: Verb) -> &'static str

@@ -17,6 +17,7 @@ pub use cron_json::cron_values;
 pub use plan_json::plan_value;
 pub use reviewing::{Reviewed, review};
 pub use rows::{CronRow, cron_rows, problems};
+pub use seen::{found, listed};
 pub use steps_text::plan_text;
 pub use table::table_text;
 pub use verdict::Verdict;

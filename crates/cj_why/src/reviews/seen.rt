@@ -84,7 +84,7 @@ fn all_numbered(
 
 /// The Jobs whose controller names the CronJob, whatever its uid, in the order of their names: what
 /// a listing shows to a sync of it. The number of the CronJob serves as its uid.
-pub(crate) fn listed(
+pub fn listed(
     alloc: Global,
     cluster: &Cluster,
     cron: &ClusterCron,
@@ -130,7 +130,7 @@ fn all_found(
 }
 
 /// What a live read finds for each name in the CronJob's `status.active`.
-pub(crate) fn found(
+pub fn found(
     alloc: Global,
     cluster: &Cluster,
     cron: &ClusterCron,

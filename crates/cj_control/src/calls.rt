@@ -1,0 +1,260 @@
+// What is sent for a call of a sync.
+ghost use Rattle.std.specs.Prelude.{◌≡◌, ◌↔◌, IsTrue, map, option_map, IfOk, IfErr, IfSome};
+ghost use Rattle.serde_json.specs.View.{view};
+ghost use Rattle.cj_base.specs.declared.refusal.Refusal.TheVariants.{OutOfMemory};
+ghost use Rattle.cj_control.specs.SentFor as sent;
+ghost use Rattle.cj_control.specs.Parts as from;
+
+use crate::api::ApiVersion;
+use crate::created::{MarkTexts, created_body};
+use crate::names::parts;
+use crate::objects::{Head, member};
+use crate::request::{
+    HeldBy, claim_body, delete_body, expire_body, reference, start_body, tidy_body,
+};
+use crate::sent::{Request, delete_job, get_cron, get_job, patch_job, patch_status, post_job};
+use cj_base::{Refusal, Seconds, Text, TryCopy};
+use cj_fence::{Call, Claim, Job, Policy, Ref, Refs, Tidy};
+use cj_json::push_value;
+use cj_manifest::present;
+use cj_zone::time_text;
+use serde_json::Value;
+use std::alloc::Global;
+
+/// What of a CronJob the requests of its sync need.
+pub struct CronParts {
+    /// The version of the API that CronJobs are served in.
+    pub api: ApiVersion,
+    /// What keeps a held Job from running.
+    pub by: HeldBy,
+    /// The CronJob's names.
+    pub head: Head,
+    /// `spec.jobTemplate`.
+    pub template: Value,
+    /// What tells this template from others.
+    pub mark: Text,
+}
+
+impl Drop for CronParts {
+    fn drop(self) {
+        let CronParts {
+            api: _,
+            by: _,
+            head,
+            template,
+            mark,
+        } = self;
+        drop(head);
+        drop(template);
+        drop(mark);
+    }
+}
+
+fn policy_text(policy: Policy) -> &'static str
+    ensures { result.now ≡ sent.policy_text policy }
+{
+    match policy {
+        Policy::Allow => "Allow",
+        Policy::Forbid => "Forbid",
+        Policy::Replace => "Replace",
+    }
+}
+
+fn reference_to(alloc: Global, job: &Ref) -> Result<Value, Refusal>
+    ensures ok { IfOk result (λ v. view v ≡ sent.reference_to job.now) }
+    ensures err { IfErr result (λ e. e ≡ OutOfMemory) }
+{
+    let (namespace, name) = parts(job.name.as_str());
+    reference(alloc, namespace, name, job.uid.as_str())
+}
+
+fn references(alloc: Global, jobs: &[Ref]) -> Result<Vec<Value>, Refusal>
+    ensures ok { IfOk result (λ v. map view v.items ≡ map sent.reference_to jobs.now) }
+    ensures err { IfErr result (λ e. e ≡ OutOfMemory) }
+{
+    let mut values = Vec::new(alloc);
+    for job in jobs {
+        push_value(&mut values, reference_to(alloc, job)?)?;
+    }
+    Ok(values)
+}
+
+// What stands in `status.active`.
+fn active_value(alloc: Global, jobs: &Refs) -> Result<Value, Refusal>
+    ensures ok { IfOk result (λ v. view v ≡ sent.active_data jobs.now) }
+    ensures err { IfErr result (λ e. e ≡ OutOfMemory) }
+{
+    Ok(Value::Array(references(alloc, jobs.as_slice())?))
+}
+
+fn cron_request(alloc: Global, source: &CronParts, full: &Text) -> Result<Request, Refusal>
+    ensures ok { IfOk result (sent.GetsCron full.now) }
+    ensures err { IfErr result (λ e. e ≡ OutOfMemory) }
+{
+    let (namespace, name) = parts(full.as_str());
+    get_cron(alloc, source.api, namespace, name)
+}
+
+fn job_request(alloc: Global, full: &Text) -> Result<Request, Refusal>
+    ensures ok { IfOk result (sent.GetsJob full.now) }
+    ensures err { IfErr result (λ e. e ≡ OutOfMemory) }
+{
+    let (namespace, name) = parts(full.as_str());
+    get_job(alloc, namespace, name)
+}
+
+fn marks(alloc: Global, source: &CronParts, time: Seconds, job: &Job) -> Result<MarkTexts, Refusal>
+    requires { time ≡ job.now.time }
+    ensures ok { IfOk result (λ m. m ≡ from.marks_of source.now job.now) }
+    ensures err { IfErr result (λ e. e ≡ OutOfMemory) }
+{
+    let text = time_text(alloc, time)?;
+    Ok(MarkTexts {
+        time: Text::new(alloc, text.as_str())?,
+        policy: Text::new(alloc, policy_text(job.policy))?,
+        template: source.mark.try_copy(alloc)?,
+    })
+}
+
+// Whether a Job of that name is to be of this CronJob.
+fn is_of(source: &CronParts, namespace: &str, job: &Job) -> bool
+    ensures { IsTrue result ↔ from.IsOf source.now namespace.now job.now }
+{
+    let placed = source.head.namespace.as_str() == namespace;
+    placed && source.head.uid.as_str() == job.owner.as_str()
+}
+
+// A POST of a Job of this CronJob.
+#[tactic(auto, using(crate::proofs::NameLemmas::posts_job))]
+fn create_request(
+    alloc: Global,
+    source: &CronParts,
+    full: &Text,
+    job: &Job,
+) -> Result<Option<Request>, Refusal>
+    ensures ok { IfOk result (λ o. IfSome o (from.PostsIt source.now full.now job.now)) }
+    ensures says { IfOk result (λ o. IfSome o (sent.PostsJob full.now job.now)) }
+    ensures err { IfErr result (λ e. e ≡ OutOfMemory) }
+{
+    let (namespace, name) = parts(full.as_str());
+    let Some(time) = Seconds::new(job.time) else {
+        return Ok(None);
+    };
+    if !is_of(source, namespace, job) {
+        return Ok(None);
+    }
+    let marks = marks(alloc, source, time, job)?;
+    let body = created_body(
+        alloc,
+        source.api,
+        &source.head,
+        name,
+        &marks,
+        source.by,
+        &source.template,
+    )?;
+    Ok(Some(post_job(alloc, namespace, body)?))
+}
+
+fn claim_request(
+    alloc: Global,
+    source: &CronParts,
+    claim: &Claim,
+) -> Result<Option<Request>, Refusal>
+    ensures ok { IfOk result (λ o. IfSome o (sent.ClaimsIt claim.now)) }
+    ensures err { IfErr result (λ e. e ≡ OutOfMemory) }
+{
+    let Some(time) = Seconds::new(claim.time) else {
+        return Ok(None);
+    };
+    let active = active_value(alloc, &claim.active)?;
+    let body = claim_body(
+        alloc,
+        claim.uid.as_str(),
+        claim.version.as_str(),
+        time,
+        active,
+    )?;
+    let (namespace, name) = parts(claim.name.as_str());
+    Ok(Some(patch_status(alloc, source.api, namespace, name, body)?))
+}
+
+fn tidy_request(alloc: Global, source: &CronParts, tidy: &Tidy) -> Result<Request, Refusal>
+    ensures ok { IfOk result (sent.TidiesIt tidy.now) }
+    ensures err { IfErr result (λ e. e ≡ OutOfMemory) }
+{
+    let active = active_value(alloc, &tidy.active)?;
+    let body = tidy_body(alloc, tidy.uid.as_str(), tidy.version.as_str(), active)?;
+    let (namespace, name) = parts(tidy.name.as_str());
+    patch_status(alloc, source.api, namespace, name, body)
+}
+
+fn or_value(alloc: Global, found: Option<&Value>, usual: Value) -> Result<Value, Refusal>
+    ensures ok { IfOk result (λ v. view v ≡ from.or_data (view usual)
+        (option_map (λ v. view v.now) found.entry)) }
+    ensures err { IfErr result (λ e. e ≡ OutOfMemory) }
+{
+    match found {
+        Some(value) => Ok(value.clone()?),
+        None => Ok(usual),
+    }
+}
+
+// What the template says of what held the Job back.
+fn start_value(alloc: Global, source: &CronParts) -> Result<Value, Refusal>
+    ensures ok { IfOk result (λ v. view v ≡ from.start_value source.now) }
+    ensures err { IfErr result (λ e. e ≡ OutOfMemory) }
+{
+    let spec = present(&source.template, "spec");
+    match source.by {
+        HeldBy::Suspend => or_value(alloc, member(spec, "suspend"), Value::from(false)),
+        HeldBy::Parallelism => or_value(alloc, member(spec, "parallelism"), Value::from(1_u64)),
+    }
+}
+
+fn start_request(alloc: Global, source: &CronParts, job: &Ref) -> Result<Request, Refusal>
+    ensures ok { IfOk result (from.StartsIt source.now job.now) }
+    ensures err { IfErr result (λ e. e ≡ OutOfMemory) }
+{
+    let value = start_value(alloc, source)?;
+    let body = start_body(alloc, job.uid.as_str(), source.by, value)?;
+    let (namespace, name) = parts(job.name.as_str());
+    patch_job(alloc, namespace, name, body)
+}
+
+fn delete_request(alloc: Global, job: &Ref, body: Value) -> Result<Request, Refusal>
+    ensures ok { IfOk result (sent.DeletesJob job.now (view body)) }
+    ensures err { IfErr result (λ e. e ≡ OutOfMemory) }
+{
+    let (namespace, name) = parts(job.name.as_str());
+    delete_job(alloc, namespace, name, body)
+}
+
+/// The request that says what a call is. None for what a cache is asked, for a Job that isn't to be
+/// of this CronJob, and for a time past the greatest that is written.
+pub fn request_of(
+    alloc: Global,
+    source: &CronParts,
+    call: &Call,
+) -> Result<Option<Request>, Refusal>
+    ensures ok { IfOk result (λ o. IfSome o (sent.IsSentFor call.now)) }
+    ensures err { IfErr result (λ e. e ≡ OutOfMemory) }
+{
+    match call {
+        Call::GetCron(name) => Ok(Some(cron_request(alloc, source, name)?)),
+        Call::GetJob(name) => Ok(Some(job_request(alloc, name)?)),
+        Call::Create(name, job) => create_request(alloc, source, name, job),
+        Call::Claim(claim) => claim_request(alloc, source, claim),
+        Call::Tidy(tidy) => Ok(Some(tidy_request(alloc, source, tidy)?)),
+        Call::Start(job) => Ok(Some(start_request(alloc, source, job)?)),
+        Call::Delete(job) => {
+            let body = delete_body(alloc, job.uid.as_str())?;
+            Ok(Some(delete_request(alloc, job, body)?))
+        }
+        Call::Expire(job, version, _) => {
+            let body = expire_body(alloc, job.uid.as_str(), version.as_str())?;
+            Ok(Some(delete_request(alloc, job, body)?))
+        }
+        Call::CacheCron(_) | Call::CacheJob(_) | Call::ListJobs => Ok(None),
+    }
+}

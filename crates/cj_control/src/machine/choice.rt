@@ -1,0 +1,14 @@
+// What a sync does next, by what it has heard.
+use crate::machine::task::Again;
+use cj_fence::{Answer, Call};
+
+/// What a sync does next.
+#[derive(Drop)]
+pub(crate) enum Choice {
+    /// It asks what lists and watches told, which is this.
+    Look(Call, Answer),
+    /// It asks the API server.
+    Send(Call),
+    /// It ends.
+    End(Again),
+}
