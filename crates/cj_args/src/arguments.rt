@@ -1,6 +1,6 @@
 // The arguments of the commands.
 ghost use Rattle.cj_args.specs.Building.{IsArg, option_rule, positional_rule, required_rule};
-ghost use Rattle.cj_args.specs.Command.{count_rule, crons_rule, explain_rule, files_rule, flag_rule, length_rule, lines_rule, namespace_rule, output_rule, peaks_rule, workers_rule, zones_rule};
+ghost use Rattle.cj_args.specs.Command.{count_rule, crons_rule, explain_rule, files_rule, flag_rule, length_rule, lines_rule, namespace_rule, output_rule, peaks_rule, selector_rule, syncs_rule, usual_rule, workers_rule, zones_rule};
 
 use crate::help;
 use clap::builder::ValueParser;
@@ -72,6 +72,35 @@ pub(crate) fn workers_arg<'a>(alloc: Global) -> Arg<'a>
         "How many workers, 1 to 32, each in a thread of its own",
     )
     .value_parser(ValueParser::unsigned(1, 32))
+}
+
+/// An option with one value, and the value that it has where nobody gives one.
+pub(crate) fn usual_arg<'a>(
+    alloc: Global,
+    id: &'a str,
+    value: &'a str,
+    usual: &'a str,
+    help: &'a str,
+) -> Arg<'a>
+    ensures { IsArg (usual_rule id.entry.now usual.entry.now) result }
+{
+    option_arg(alloc, id, value, help).default_value(usual)
+}
+
+/// How many syncs may be under way at once.
+pub(crate) fn syncs_arg<'a>(alloc: Global) -> Arg<'a>
+    ensures { IsArg syncs_rule result }
+{
+    option_arg(alloc, "workers", "N", help::SYNCS)
+        .value_parser(ValueParser::unsigned(1, 32))
+        .default_value("8")
+}
+
+/// The labels of the CronJobs that are looked after.
+pub(crate) fn selector_arg<'a>(alloc: Global) -> Arg<'a>
+    ensures { IsArg selector_rule result }
+{
+    option_arg(alloc, "selector", "SELECTOR", help::SELECTOR).short('l')
 }
 
 /// The zones that an input may name.

@@ -115,6 +115,41 @@ pub(crate) const RAN: &str =
 pub(crate) const PROBLEMS: &str =
     "Only CronJobs that want a look: not those that are suspended, missed nothing, or start for the one time missed";
 
+/// How many syncs `control` has under way.
+pub(crate) const SYNCS: &str = "How many CronJobs may be in work at once, 1 to 32";
+
+/// The labels of its CronJobs.
+pub(crate) const SELECTOR: &str =
+    "Only CronJobs with these labels, as the API server takes them: app=backup,tier!=test";
+
+/// Which of them are looked after.
+pub(crate) const ONLY_ANNOTATED: &str =
+    "Only CronJobs with the annotation cronsim/run: \"true\", whose spec.suspend is ignored: so it runs beside the cluster's own controller, which starts nothing of suspended CronJobs";
+
+/// Whether it writes.
+pub(crate) const DRY_RUN: &str =
+    "Read and decide, and tell on standard error what would be written, but ask for no write";
+
+/// The API of its CronJobs.
+pub(crate) const API_VERSION: &str =
+    "The API in which the server has CronJobs: batch/v1, or batch/v1beta1 before 1.21";
+
+/// Its name among others.
+pub(crate) const REPLICA: &str =
+    "What tells this replica from others, as the name of its Pod; each should have its own";
+
+/// Its lines on standard error.
+pub(crate) const LOG: &str =
+    "How lines are printed on standard error: text, or json, a JSON value with the message a line";
+
+/// Its transcript.
+pub(crate) const TRANSCRIPT: &str =
+    "Write each line that comes in or goes out into this file, which is made anew, for --check";
+
+/// A transcript that is checked.
+pub(crate) const REPEATED: &str =
+    "Run nothing, but say whether this file is a transcript of what this program does, by the options and zones in it; - is standard input";
+
 /// After the options of `next`.
 pub(crate) const NEXT: &str = "Example:
   cronsim next '30 2 * * *' --after 2024-03-30T12:00:00Z --count 2 --zone CET-1CEST,M3.5.0,M10.5.0/3
@@ -271,3 +306,33 @@ Exit status:
   1  the format, the schedule, the time or the zone is refused, as standard error says; --explain says why
   2  the words are wrong
   3  writing failed, or memory was wanting";
+
+/// Of `control`.
+pub(crate) const CONTROL: &str = "Examples:
+  cronsim-control --dry-run
+  cronsim-control --only-annotated --namespace default --transcript lines.jsonl
+  cronsim control --check lines.jsonl
+
+cronsim-control starts this command, and carries its lines to a Kubernetes API server and back.
+Where no folder of zones is given, they are looked up in /usr/share/zoneinfo.
+
+Lines that go out:
+  {\"id\":1,\"method\":\"GET\",\"path\":\"/version\"}   a request, which is sent once
+  {\"id\":2,\"method\":\"PATCH\",\"path\":..,\"contentType\":..,\"body\":..}
+
+Lines that come in:
+  {\"id\":1,\"status\":200,\"body\":..}   the answer to request 1, or the end of its watch
+  {\"id\":1,\"event\":..}               an event of its watch
+  {\"id\":1,\"error\":\"..\"}             no answer came, so nobody knows whether it took effect
+  {\"now\":\"2026-11-28T02:00:00Z\"}    the time, at least once a second
+  {\"stop\":true}                     begin nothing new, and end once all is answered
+
+Lines of a check:
+  N lines in, M requests: as this program does
+  line N differs                    and below it what the transcript has there, and what this program does
+
+Exit status:
+  0  it was told to stop, or its input ended; or the transcript is what this program does
+  1  the transcript differs, as standard output says; or an option or the transcript is refused, as standard error says; --explain says why
+  2  the words are wrong
+  3  reading or writing failed, or memory was wanting at the start";

@@ -34,16 +34,10 @@ pub record Syncs : Type 0 where
 abbrev pub coded_syncs : Coded Syncs
 coded_syncs =
     code_by (Rows × (ℕ × (ℕ × (ℕ × ℕ))))
-    (coded× (code coded_ℕ fenced_sync.coded)
-    (coded× coded_ℕ (coded× coded_ℕ (coded× coded_ℕ coded_ℕ))))
+    (coded× (code coded_ℕ fenced_sync.coded) (coded× coded_ℕ (coded× coded_ℕ (coded× coded_ℕ coded_ℕ))))
     (λ s. (s.rows, (s.begun, (s.live, (s.workers, s.next)))))
-    (λ p. record {
-      rows = p.0;
-      begun = (p.1).0;
-      live = ((p.1).1).0;
-      workers = (((p.1).1).1).0;
-      next = (((p.1).1).1).1;
-    })
+    (λ p. record
+    { rows = p.0; begun = (p.1).0; live = ((p.1).1).0; workers = (((p.1).1).1).0; next = (((p.1).1).1).1 })
     (λ _. refl)
 
 -- none began, and nothing was sent

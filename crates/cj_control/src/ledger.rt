@@ -16,8 +16,8 @@ use std::alloc::Global;
 use std::marker::Model;
 
 /// The syncs under way, and what became of syncs since the deeds were taken last. Whatever is done
-/// with a ledger, each of its syncs follows the protocol: contracts see that all its deeds, from
-/// the start on, are one path.
+/// with a ledger, each of its syncs follows the protocol: contracts see that all its deeds, from the
+/// start on, are one path.
 pub struct Ledger {
     book: Book,
 }

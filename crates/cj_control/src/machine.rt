@@ -43,8 +43,8 @@ use std::mem;
 /// More syncs than begin at one line.
 const MOST_SYNCS: u64 = 1_000_000;
 
-/// A controller of CronJobs: a line in, and then the requests that are to be sent. Contracts see
-/// its ledger.
+/// A controller of CronJobs: a line in, and then the requests that are to be sent. Contracts see its
+/// ledger.
 pub struct Machine {
     ledger: Ledger,
     driver: Driver,

@@ -13,6 +13,7 @@ mod start;
 
 pub use reviews::{
     CronRow, Reviewed, Verdict, cron_rows, cron_values, found, listed, plan_text, plan_value,
-    problems, review, table_text, zone_copy, zone_of,
+    problems, review,
+    table_text, zone_copy, zone_of,
 };
 pub use start::why;
