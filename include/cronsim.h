@@ -180,9 +180,9 @@ uint32_t cronsim_plan(const uint8_t *scenario, size_t scenario_length, uint64_t 
  * What is wrong in a cluster, by what `kubectl get cronjobs,jobs -A -o json` prints of it.
  * CRONSIM_DONE, also where much is wrong, with what `cronsim audit -o json` prints: an object with
  * `cronJobs` and `jobs`, how many were looked at; `findings`, each with its `finding` (twice,
- * beside, undue, early, missing or stray), the `namespace` and `name` of the CronJob, the `time`,
- * and the names of the `jobs`; `manual`, the Jobs made by hand; and in `refused` and `others` the
- * items of the list that can't be used. CRONSIM_REFUSED, where it is no list; CRONSIM_ROOM;
+ * beside, undue, early, missing, stray or stuck), the `namespace` and `name` of the CronJob, the
+ * `time`, and the names of the `jobs`; `manual`, the Jobs made by hand; and in `refused` and `others`
+ * the items of the list that can't be used. CRONSIM_REFUSED, where it is no list; CRONSIM_ROOM;
  * CRONSIM_MEMORY.
  */
 uint32_t cronsim_audit(const uint8_t *list, size_t list_length, const uint8_t *zones,

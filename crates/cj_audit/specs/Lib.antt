@@ -12,3 +12,4 @@ pub mod Places
 pub mod Json
 pub mod Lines
 pub mod Words
+pub mod Told

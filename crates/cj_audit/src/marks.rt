@@ -164,6 +164,13 @@ impl Marks {
         })
     }
 
+    /// Whether a Job has this time.
+    pub fn has(&self, time: Seconds) -> bool
+        ensures { result ≡ contains nat_cmp self.now.times time }
+    {
+        self.times.contains(&time)
+    }
+
     /// Whether later times have a Job, and this one has none, where clean-up would have left it.
     pub fn lacks(&self, spec: &CronSpec, time: Seconds) -> bool
         ensures { result ≡ lacks self.now spec.now time }

@@ -7,13 +7,15 @@ ghost use Rattle.cj_answers.specs.Outcome.{explained, outcome_of, refusal};
 ghost use Rattle.cj_answers.specs.as_json.Forms.{is_json};
 ghost use Rattle.cj_inspect.specs.Why.{IsListReviewed, IsReviewed, IsPrinted, IsWhole, IsWhyAnswer, IsWhyOutcome, PrintsKnown, RefusesCron, is_lines, is_nothing, is_output, meant_of, output_words};
 
-mod lines;
+pub(crate) mod lines;
 pub(crate) mod naming;
+pub(crate) mod notices;
 mod table;
 
 use crate::as_json::clusters::json_reviewed;
 use crate::why::lines::lines_reviewed;
-use crate::why::naming::{meant_of, unknown_of};
+use crate::why::naming::{meant_of, narrowed, unknown_of};
+use crate::why::notices::with_notices;
 use crate::why::table::table_reviewed;
 use cj_answers::{
     Answer, asked_moment, given_zones, is_json, refused_list, refused_now, refused_pair,
@@ -148,7 +150,8 @@ fn known_reviewed(
         ⊎ PrintsKnown why.now (zones_of zones.now) now list.now unknown.now (outcome_of a)) }
 {
     if is_nothing(unknown) {
-        meant_reviewed(alloc, why, zones, list, crons, now)
+        let answer = meant_reviewed(alloc, why, zones, list, crons, now)?;
+        Ok(with_notices(alloc, why, list, crons, now, answer)?)
     } else {
         refused_unknown(alloc, why.explain, unknown)
     }
@@ -191,7 +194,10 @@ fn bytes_reviewed(
         (outcome_of a)) }
 {
     match read_cluster(alloc, bytes, zones) {
-        Ok(list) => list_reviewed(alloc, why, zones, &list, now),
+        Ok(list) => {
+            let list = narrowed(why, list);
+            list_reviewed(alloc, why, zones, &list, now)
+        }
         Err(fault) => refused_list(alloc, why.explain, bytes, fault),
     }
 }
