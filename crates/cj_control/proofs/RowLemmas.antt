@@ -6,10 +6,9 @@ use Rattle.std.specs.FinMap.{find, nat_cmp-IsAntisymmetric}
 use Rattle.std.specs.Map.{lookup}
 use Rattle.std.specs.BTreeMap.{is_at}
 use Rattle.std.specs.Cmp.{nat_cmp_total, eq_by_cmp_equiv}
-use Rattle.std.specs.Prelude.{◌==◌, Option}
+use Rattle.std.specs.Prelude.{Option}
 use Rattle.std.proofs.lemmas.Bool.Decides.{nat_tests}
 use Rattle.cj_fence.specs.declared.call.Call.{Call}
-use Rattle.cj_control.specs.declared.rows.FencedSync.{FencedSync}
 use Rattle.cj_control.specs.Syncs.{RowAsks, Rows, Waits}
 
 -- What a finite map finds at a number among entries is what a look-up in them finds.

@@ -1,5 +1,5 @@
 -- A sync hears a line.
-use Rattle.std.specs.Prelude.{◌≡◌, ℕ, Bool, true, false, Option, Some, None}
+use Rattle.std.specs.Prelude.{◌≡◌, ℕ, Option, Some, None}
 use Rattle.std.specs.FinMap.{get}
 use Rattle.serde_json.specs.Data.{Data}
 use Rattle.cj_fence.specs.declared.answer.Answer.{Answer}

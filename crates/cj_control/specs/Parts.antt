@@ -1,6 +1,6 @@
 -- What is sent for a CronJob: the Job that is created is its template's, and a start gives back
 -- what its template says.
-use Rattle.std.specs.Prelude.{◌≡◌, ℕ, true, false, List, codes, Option, Some, None}
+use Rattle.std.specs.Prelude.{◌≡◌, ℕ, false, List, codes, Option, Some, None}
 use Rattle.serde_json.specs.Data.{Data, boolean, number, unsigned}
 use Rattle.serde_json.specs.View.{view}
 use Rattle.cj_zone.specs.TimeText.{time_text_of}

@@ -1,5 +1,5 @@
 -- second: where the text prints no instant.
-use Rattle.std.proofs.Common.{◌≡◌, inr, refl}
+use Rattle.std.proofs.Common.{inr, refl}
 use Rattle.cj_control.proofs.line.second.Goals as goal
 
 pub returns-in-None : goal.returns-in-None
