@@ -9,7 +9,7 @@ use Rattle.percent_encoding.specs.Percent.{percent_encode}
 use Rattle.percent_encoding.specs.declared.ascii_set.TheConstants.{NON_ALPHANUMERIC}
 use Rattle.cj_manifest.specs.Members.{present}
 use Rattle.cj_manifest.specs.Owners.{text_at}
-use Rattle.cj_control.specs.Mirror.{Rows, meta_text, no_rows, resource, version}
+use Rattle.cj_control.specs.Mirror.{meta_text, resource, version}
 use Rattle.cj_control.specs.Objects.{is_text, list_or_none}
 use Rattle.cj_control.specs.declared.api.ApiVersion.{ApiVersion}
 use Rattle.cj_control.specs.declared.feed.answers.Change.{Change}
@@ -18,8 +18,6 @@ use Rattle.cj_control.specs.declared.feed.answers.Page.{Page}
 use Rattle.cj_control.specs.declared.feed.answers.Verdict.{Verdict}
 use Rattle.cj_control.specs.declared.feed.answers.Verdict.TheVariants.{Busy, Done, Expired, Refused}
 use Rattle.cj_control.specs.declared.feed.answers.Change.TheVariants.{Bookmark, Gone, Put}
-use Rattle.cj_control.specs.declared.feed.Stage.{Stage}
-use Rattle.cj_control.specs.declared.feed.Stage.TheVariants.{Ending, Listing, Watching}
 use Rattle.cj_control.specs.declared.source.Source.{Source}
 use Rattle.cj_control.specs.declared.source.Source.TheVariants.{Crons, Jobs}
 
@@ -114,12 +112,3 @@ abbrev pub event_in : Option Data → Option EventSaid
 event_in None = None
 event_in (Some d) = event_of (option_and_then change_of (text_at (codes "type") d))
     (present (codes "object") d)
-
--- ---- what a feed does with an answer and with an event
-
--- a first page begins anew
-abbrev pub begun : Stage → Rows → Rows
-begun (Listing None) coming = no_rows
-begun (Listing (Some token)) coming = coming
-begun (Watching from) coming = coming
-begun Ending coming = coming

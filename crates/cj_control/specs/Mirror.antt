@@ -1,15 +1,13 @@
 -- What a controller keeps of a cluster's objects (Kubernetes API reference: CronJob, Job,
 -- ObjectMeta, OwnerReference; Kubernetes, "Owners and Dependents").
-use Rattle.std.specs.Prelude.{ℕ, ◌&&◌, List, codes, bytes_eq, Bool, true, false, if◌then◌else◌, Option, Some, None, is_some, nat_eq, option_and_then, option_map}
+use Rattle.std.specs.Prelude.{ℕ, ◌&&◌, List, codes, bytes_eq, Bool, true, false, if◌then◌else◌, Option, Some, None, nat_eq, option_and_then, option_map}
 use Rattle.std.specs.Result.{result_ok}
 use Rattle.std.specs.FinMap as map
-use Rattle.std.specs.FinSet as set
 use Rattle.std.specs.List.{starts_with}
-use Rattle.serde_json.specs.Data.{Data, Items, Members, array, boolean, item, member, no_items, no_members, null, number, object, string}
+use Rattle.serde_json.specs.Data.{Data, Items, item, no_items, object}
 use Rattle.serde_json.specs.Find.{as_array, as_str}
 use Rattle.cj_types.specs.Keys.{Place, new_key, place_cmp}
 use Rattle.cj_types.specs.Names.{longest}
-use Rattle.cj_manifest.specs.Members.{present}
 use Rattle.cj_manifest.specs.Owners.{text_at}
 use Rattle.cj_control.specs.Objects.{is_controller, list_or_none, meta}
 use Rattle.cj_control.specs.declared.api.ApiVersion.{ApiVersion}
@@ -36,61 +34,6 @@ version api Jobs = codes "batch/v1"
 abbrev pub resource : Source → List ℕ
 resource Crons = codes "cronjobs"
 resource Jobs = codes "jobs"
-
--- ---- what is kept of an object
-
--- the members but the one of that name
-abbrev pub without_member : List ℕ → Members → Members
-without_member name no_members = no_members
-without_member name (member k d ms) =
-    if bytes_eq k name then ms else member k d (without_member name ms)
-
-abbrev pub without : List ℕ → Data → Data
-without name null = null
-without name (boolean b) = boolean b
-without name (number n) = number n
-without name (string s) = string s
-without name (array ds) = array ds
-without name (object ms) = object (without_member name ms)
-
-abbrev pub or_null : Option Data → Data
-or_null None = null
-or_null (Some d) = d
-
-abbrev pub at_or_null : List ℕ → Data → Data
-at_or_null name d = or_null (present name d)
-
-abbrev pub cron_object : List ℕ → Data → Data → Data → Data
-cron_object version metadata spec status = object (
-    member (codes "apiVersion") (string version) (
-    member (codes "kind") (string (codes "CronJob")) (
-    member (codes "metadata") metadata (
-    member (codes "spec") spec (
-    member (codes "status") status no_members)))))
-
-abbrev pub job_object : List ℕ → Data → Data → Data
-job_object version metadata status = object (
-    member (codes "apiVersion") (string version) (
-    member (codes "kind") (string (codes "Job")) (
-    member (codes "metadata") metadata (
-    member (codes "status") status no_members))))
-
--- a CronJob: all that it has but metadata.managedFields
-abbrev pub kept_cron : List ℕ → Data → Data
-kept_cron version d =
-    cron_object version (without (codes "managedFields") (at_or_null (codes "metadata") d))
-    (at_or_null (codes "spec") d) (at_or_null (codes "status") d)
-
--- a Job: its metadata but managedFields and labels, and its status
-abbrev pub kept_job : List ℕ → Data → Data
-kept_job version d =
-    job_object version (without (codes "labels")
-    (without (codes "managedFields") (at_or_null (codes "metadata") d)))
-    (at_or_null (codes "status") d)
-
-abbrev pub kept : Source → ApiVersion → Data → Data
-kept Crons api d = kept_cron (version api Crons) d
-kept Jobs api d = kept_job (version api Jobs) d
 
 -- ---- the key of an object, and the CronJob that it touches
 
@@ -157,19 +100,3 @@ text_of rows key = option_map (λ (e : Entry). e.text) (map.get rows key)
 -- the CronJob of the object at a key
 abbrev pub cron_at : Rows → Place → Option Place
 cron_at rows key = option_and_then (λ (e : Entry). e.cron) (map.get rows key)
-
--- ---- the index from CronJobs to their objects
-
-abbrev pub Keys : Type 0
-Keys = set.FinSet place_cmp
-
-abbrev pub Index : Type 0
-Index = map.FinMap place_cmp Keys
-
-abbrev pub or_none : Option Keys → Keys
-or_none None = map.empty
-or_none (Some own) = own
-
--- whether the index has the key under the CronJob
-abbrev pub has : Index → Place → Place → Bool
-has index cron key = is_some (map.get (or_none (map.get index cron)) key)

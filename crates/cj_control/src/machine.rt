@@ -79,8 +79,8 @@ impl Machine {
         Ok(Machine { ledger, driver })
     }
 
-    /// Takes a line, without its end. A line that is none is told to people; where memory is
-    /// wanting, what the line said may be lost, and is asked for again.
+    /// Takes a line, without its end. A line that is none is told to people. Where memory is
+    /// wanting, what the line said may be lost: a sync then ends, and a list begins anew.
     pub fn line(&mut self, alloc: Global, bytes: &[u8], zones: &ZoneTable) -> Result<(), Refusal> {
         let (ledger, driver) = (&mut self.ledger, &mut self.driver);
         match read_line(alloc, bytes) {
@@ -90,7 +90,8 @@ impl Machine {
         }
     }
 
-    /// The lines of the requests since the last call, without their ends.
+    /// The lines of the requests since the last call, without their ends. Where memory is wanting,
+    /// they are lost, and who asked waits for the answer in vain.
     pub fn take_out(&mut self, alloc: Global) -> Result<Vec<String>, Refusal> {
         let mut lines = Vec::new(alloc);
         let deeds = self.ledger.take_deeds(alloc);

@@ -16,8 +16,8 @@ fn after(now: u64, wait: u64) -> u64 {
     now.saturating_mul(1_000).saturating_add(wait)
 }
 
-// The key is worked on no more, and waits for its next time.
-fn finish_key(driver: &mut Driver, key: &Key, again: &Again) -> Result<(), Refusal> {
+/// The key is worked on no more, and waits for its next time.
+pub(crate) fn finish_key(driver: &mut Driver, key: &Key, again: &Again) -> Result<(), Refusal> {
     if !driver.queue.is_processing(key) {
         return Ok(());
     }

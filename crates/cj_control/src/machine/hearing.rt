@@ -63,13 +63,24 @@ impl Driver {
             .feeds
             .heard(alloc, source, line.kind, &line.value, self.now)
         {
-            Ok(keys) => self.touch_all(alloc, keys.as_slice()),
+            Ok(keys) => {
+                self.touch_all(alloc, keys.as_slice())?;
+                self.tell_notes(alloc)
+            }
             Err(refusal) => {
                 self.set_feed(source, None);
                 self.feeds.forget_answer(source, self.now);
                 Err(refusal)
             }
         }
+    }
+
+    // What people are to know of lists and watches.
+    fn tell_notes(&mut self, alloc: Global) -> Result<(), Refusal> {
+        for line in self.feeds.take_told(alloc) {
+            self.tell(line)?;
+        }
+        Ok(())
     }
 
     fn touch_all(&mut self, alloc: Global, keys: &[Key]) -> Result<(), Refusal> {

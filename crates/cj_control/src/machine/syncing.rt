@@ -3,7 +3,7 @@
 use crate::ledger::Ledger;
 use crate::line::{Line, LineKind};
 use crate::machine::driver::Driver;
-use crate::machine::finishing::settle;
+use crate::machine::finishing::{finish_key, settle};
 use crate::machine::reading::{found_job, parts_before, take_cron};
 use crate::machine::saying::{say_deleted, say_refused, say_started};
 use crate::machine::steps;
@@ -20,13 +20,7 @@ use serde_json::Value;
 use std::alloc::Global;
 
 // A sync of a CronJob, before its first step.
-fn task_of(
-    alloc: Global,
-    driver: &mut Driver,
-    key: Key,
-    number: u64,
-    by: HeldBy,
-) -> Result<Task, Refusal> {
+fn task_of(alloc: Global, driver: &Driver, key: Key, by: HeldBy) -> Result<Task, Refusal> {
     let name = full_name(alloc, key.namespace(), key.name())?;
     let parts = parts_before(alloc, &key, driver.options.api, by)?;
     let (is_live, waits) = match driver.memos.get(&key) {
@@ -36,7 +30,7 @@ fn task_of(
     Ok(Task {
         key,
         name,
-        number,
+        number: 0,
         is_live,
         stage: Stage::Reading,
         is_second: false,
@@ -60,17 +54,33 @@ fn copy_of(alloc: Global, waits: &Option<(Text, u64)>) -> Result<Option<(Text, u
     }
 }
 
-// A sync of this key begins.
-fn begin_task(
+// The sync of the first key in line, before it begins.
+fn next_task(alloc: Global, driver: &Driver, by: HeldBy) -> Result<Option<Task>, Refusal> {
+    match driver.queue.front() {
+        Some(key) => Ok(Some(task_of(alloc, driver, key.try_copy(alloc)?, by)?)),
+        None => Ok(None),
+    }
+}
+
+// A sync whose key was taken out of the line begins; where it can't, the key waits.
+fn begin(
     ledger: &mut Ledger,
     driver: &mut Driver,
     alloc: Global,
-    key: Key,
-    by: HeldBy,
-) -> Result<Option<Task>, Refusal> {
-    match steps::begin(ledger)? {
-        Some(number) => Ok(Some(task_of(alloc, driver, key, number, by)?)),
-        None => Ok(None),
+    zones: &ZoneTable,
+    task: Task,
+) -> Result<(), Refusal> {
+    let mut task = task;
+    match steps::begin(ledger) {
+        Ok(Some(number)) => {
+            task.number = number;
+            go(ledger, driver, alloc, zones, task)
+        }
+        Ok(None) => finish_key(driver, &task.key, &Again::Failed),
+        Err(refusal) => {
+            finish_key(driver, &task.key, &Again::Failed)?;
+            Err(refusal)
+        }
     }
 }
 
@@ -87,13 +97,11 @@ pub(crate) fn begin_next(
     if driver.is_stopping || !driver.feeds.is_synced() || !ledger.has_room() {
         return Ok(false);
     }
-    let Some(key) = driver.queue.take()? else {
+    let Some(task) = next_task(alloc, driver, by)? else {
         return Ok(false);
     };
-    match begin_task(ledger, driver, alloc, key, by)? {
-        Some(task) => go(ledger, driver, alloc, zones, task)?,
-        None => {}
-    }
+    let _taken = driver.queue.take()?;
+    begin(ledger, driver, alloc, zones, task)?;
     Ok(true)
 }
 
