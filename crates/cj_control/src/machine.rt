@@ -91,7 +91,7 @@ impl Machine {
     }
 
     /// The lines of the requests since the last call, without their ends. Where memory is wanting,
-    /// they are lost, and who asked waits for the answer in vain.
+    /// they are lost: a sync that asked ends after five minutes, a list or a watch waits in vain.
     pub fn take_out(&mut self, alloc: Global) -> Result<Vec<String>, Refusal> {
         let mut lines = Vec::new(alloc);
         let deeds = self.ledger.take_deeds(alloc);

@@ -11,6 +11,9 @@ use cj_base::{Millis, Refusal, Seconds, Text, TryCopy};
 use cj_types::Key;
 use std::alloc::Global;
 
+/// How many seconds an answer is waited for. A transport says before that that none came.
+const PATIENCE: u64 = 300;
+
 // A moment some milliseconds after the second.
 fn after(now: u64, wait: u64) -> u64 {
     now.saturating_mul(1_000).saturating_add(wait)
@@ -128,6 +131,7 @@ pub(crate) fn settle(
     let again = match went {
         Ok(Went::Waits(id)) => {
             task.id = Some(id);
+            task.asked_at = driver.now;
             return park(driver, task);
         }
         Ok(Went::Over(again)) => again,
@@ -148,13 +152,20 @@ fn park(driver: &mut Driver, task: Task) -> Result<(), Refusal> {
     driver.tasks.push(task).map_err(|_| Refusal::OutOfMemory)
 }
 
-/// Ends a sync that could not end where memory was wanting, if there is one; whether there was.
+// Whether a sync could not end where memory was wanting, or its answer is long overdue.
+fn is_stuck(task: &Task, now: u64) -> bool {
+    task.id.is_none() || task.asked_at.saturating_add(PATIENCE) < now
+}
+
+/// Ends a sync that could not end where memory was wanting, or whose answer is long overdue, if
+/// there is one; whether there was.
 pub(crate) fn end_stuck(
     ledger: &mut Ledger,
     driver: &mut Driver,
     alloc: Global,
 ) -> Result<bool, Refusal> {
-    let Some(place) = driver.tasks.iter().position(|task| task.id.is_none()) else {
+    let now = driver.now;
+    let Some(place) = driver.tasks.iter().position(|task| is_stuck(task, now)) else {
         return Ok(false);
     };
     let task = driver.tasks.swap_remove(place);
