@@ -4,7 +4,7 @@ use Rattle.std.specs.Prelude.{ℕ, ◌&&◌, List, codes, bytes_eq, Bool, true, 
 use Rattle.std.specs.Result.{result_ok}
 use Rattle.std.specs.FinMap as map
 use Rattle.std.specs.List.{starts_with}
-use Rattle.serde_json.specs.Data.{Data, Items, item, no_items, object}
+use Rattle.serde_json.specs.Data.{Data, Items, item, no_items}
 use Rattle.serde_json.specs.Find.{as_array, as_str}
 use Rattle.cj_types.specs.Keys.{Place, new_key, place_cmp}
 use Rattle.cj_types.specs.Names.{longest}
