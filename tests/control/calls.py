@@ -23,12 +23,13 @@ JOB_FIELDS = ("parallelism", "completions", "backoffLimit", "suspend", "activeDe
 class Side:
     """A server, with what it said of each name, newest last."""
 
-    def __init__(self, call, group):
-        self.call, self.group, self.known, self.order = call, group, {}, []
+    def __init__(self, call, group, namespace="calls"):
+        self.call, self.group, self.namespace = call, group, namespace
+        self.known, self.order = {}, []
 
     def path(self, resource, name=None, sub=None):
         group = self.group if resource == "cronjobs" else "batch/v1"
-        words = [f"/apis/{group}/namespaces/calls/{resource}", name, sub]
+        words = [f"/apis/{group}/namespaces/{self.namespace}/{resource}", name, sub]
         return "/".join(filter(None, words))
 
     def meta(self, resource, name, age):
@@ -79,7 +80,9 @@ class Side:
             for it in meta.get("ownerReferences") or []
         ]
         found = {"name": meta["name"], "uid": self.number(meta["uid"]), "owners": owners}
-        for field in ("labels", "annotations", "finalizers"):
+        labels = (meta.get("labels") or {}).items()
+        found["labels"] = {name: self.number(value) for name, value in labels}
+        for field in ("annotations", "finalizers"):
             found[field] = meta.get(field)
         found["leaving"] = "deletionTimestamp" in meta
         is_cron = item.get("kind") == "CronJob"

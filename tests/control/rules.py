@@ -35,6 +35,8 @@ class Refusal(Exception):
             "details": details or {},
             "code": code,
         }
+        if reason is None:
+            del self.body["reason"]
 
 
 def details(resource, name):
@@ -118,15 +120,30 @@ def job_spec(spec, minor):
     return defaults | {"parallelism": 1, "backoffLimit": 6} | spec | {"template": template}
 
 
+def with_own_references(meta):
+    """metadata without a reference to an owner that is there twice."""
+    found = []
+    for it in meta.get("ownerReferences") or []:
+        if it not in found:
+            found.append(it)
+    return meta | {"ownerReferences": found} if found else meta
+
+
+def with_pod_labels(job):
+    """A Job that has no labels has those of its Pods."""
+    labels = job["spec"]["template"]["metadata"].get("labels")
+    if job["metadata"].get("labels") or not labels:
+        return job
+    return job | {"metadata": job["metadata"] | {"labels": labels}}
+
+
 def with_labels(job, uid, name):
     """A new Job whose Pods carry its uid and its name as labels."""
     spec, own = job["spec"], {"controller-uid": uid, "job-name": name}
     meta = spec["template"]["metadata"]
     template = spec["template"] | {"metadata": meta | {"labels": (meta.get("labels") or {}) | own}}
     spec = spec | {"selector": {"matchLabels": {"controller-uid": uid}}, "template": template}
-    if meta.get("labels") and not job["metadata"].get("labels"):
-        job = job | {"metadata": job["metadata"] | {"labels": meta["labels"] | own}}
-    return job | {"spec": spec}
+    return with_pod_labels(job | {"spec": spec})
 
 
 # ---- what is refused

@@ -333,13 +333,12 @@ class Server:
         if not name and meta.get("generateName"):
             letters = self.dice.choices("bcdfghjklmnpqrstvwxz2456789", k=5)
             name = meta["generateName"] + "".join(letters)
-        if meta.get("resourceVersion"):
-            words = "resourceVersion should not be set on objects to be created"
-            raise Refusal(500, "InternalError", words)
+        version = meta.pop("resourceVersion", None)
         for field in ("deletionTimestamp", "deletionGracePeriodSeconds", "managedFields"):
             meta.pop(field, None)
         meta |= {"name": name, "namespace": route.namespace, "uid": self.new_uid()}
         meta |= {"generation": 1, "creationTimestamp": stamp(self.clock())}
+        meta = rules.with_own_references(meta)
         rules.check_meta(resource, name, meta)
         kind, group = KINDS[resource], f"batch/{route.version}"
         item = {"kind": kind, "apiVersion": group, "metadata": meta}
@@ -349,6 +348,9 @@ class Server:
             item = rules.with_labels(item, meta["uid"], name)
         else:
             rules.check_cron(name, item)
+        if version:
+            words = "resourceVersion should not be set on objects to be created"
+            raise Refusal(500, None, words)
         key = (route.namespace, name)
         if key in self.objects[resource]:
             raise rules.taken(resource, name)
@@ -397,6 +399,7 @@ class Server:
         for field in ("uid", "name", "namespace"):
             if meta.get(field) not in (None, was[field]):
                 raise rules.invalid(resource, name, f"metadata.{field}", "field is immutable")
+        meta = rules.with_own_references(meta)
         rules.check_meta(resource, name, meta)
         for field in (
             "name",
@@ -424,6 +427,7 @@ class Server:
                 meta["generation"] = was["generation"] + 1
             item |= {"spec": spec, "status": old["status"]}
         if resource == "jobs":
+            item = rules.with_pod_labels(item)
             rules.check_job(name, item)
             rules.check_job_change(name, old, item)
         else:
@@ -449,13 +453,16 @@ class Server:
                     f"record ({meta[field]}). The object might have been deleted and then recreated"
                 )
                 raise rules.conflict(route.resource, route.name, why)
-        policy = options.get("propagationPolicy") or self.default_policy(route.resource)
+        policy = options.get("propagationPolicy") or self.default_policy(route.resource, meta)
         if policy not in ("Orphan", "Background", "Foreground"):
             raise rules.invalid(route.resource, route.name, "propagationPolicy", "Unsupported")
         finalizers = [
             it for it in meta.get("finalizers") or [] if it not in ("orphan", "foregroundDeletion")
         ]
         finalizers += {"Orphan": ["orphan"], "Foreground": ["foregroundDeletion"]}.get(policy, [])
+        if not finalizers and meta.get("finalizers") and wanted.get("resourceVersion"):
+            # (real servers do so: they compare a version that they forgot meanwhile)
+            raise rules.conflict(route.resource, route.name, "ResourceVersion in precondition: ")
         if not finalizers:
             self.put(route.resource, key, old, None)
             said = rules.details(route.resource, route.name) | {"uid": meta["uid"]}
@@ -468,8 +475,12 @@ class Server:
             return old
         return self.put(route.resource, key, old, old | {"metadata": meta})
 
-    def default_policy(self, resource):
-        """Jobs of batch/v1 and CronJobs of batch/v1beta1 leave what they own, for old callers."""
+    def default_policy(self, resource, meta):
+        """What a finalizer says already. Else Jobs of batch/v1 and CronJobs of batch/v1beta1 leave
+        what they own, for old callers."""
+        for finalizer, policy in (("orphan", "Orphan"), ("foregroundDeletion", "Foreground")):
+            if finalizer in (meta.get("finalizers") or []):
+                return policy
         is_old = resource == "jobs" or self.groups[resource] == "v1beta1"
         return "Orphan" if is_old else "Background"
 
