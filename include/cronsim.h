@@ -1,34 +1,36 @@
 /*
- * libcronsim: due times of crontab schedules, as a Kubernetes CronJob has them, in any zone; and of
- * JSON what is wrong in a manifest, what the controller does with a CronJob at a moment, and what
- * is wrong in a cluster. What is answered is proved: the next due time is the least one, the
- * previous one the greatest, "none" is answered only where there is none, a manifest's faults are
- * all of them, a plan is the one of its scenario, and an audit finds exactly what is wrong.
+ * libcronsim computes due times of crontab schedules, as a Kubernetes CronJob has them, in any time
+ * zone. From JSON it checks manifests, plans what the controller does next, and audits a cluster.
+ * The answers are proved: the next due time is the least one, and the previous one the greatest.
+ * "None" means that there is none. A check finds all faults of a manifest, a plan is the one of its
+ * scenario, and an audit finds exactly what is wrong.
  *
- * Times are whole seconds since 1970-01-01T00:00:00Z, up to 253370764799, the last second of the
- * year 9998.
+ * Times are whole seconds since 1970-01-01T00:00:00Z. The greatest is 253370764799, the last second
+ * of the year 9998.
  *
- * Texts are bytes with their length. They need no zero at the end, are read during the call alone,
- * and may be of any content: what is no schedule, no rule, no zone file, no UTF-8 or no JSON of its
- * form is refused. The pointer isn't NULL, also where the length is 0, and there are as many bytes
- * as the length says; or, of a schedule, a rule and a zone file, the length is greater than the
- * most that a call takes, and at most PTRDIFF_MAX: then it is refused before a byte is read.
+ * A text is a pointer to bytes and their number. It needs no zero at the end and may have any
+ * content: the call refuses what is no schedule, rule, zone file, UTF-8 or JSON of its form. The
+ * library reads a text during the call alone. The pointer isn't NULL, even for length 0. It points
+ * to as many bytes as the length says, with one exception: the length of a schedule, a rule or a
+ * zone file may be greater than the call's limit, up to PTRDIFF_MAX. Then the call refuses the text
+ * and reads no byte.
  *
- * What a call writes to is initialised before it (a bool to false, a buffer to any bytes), and
- * stays as it is unless the call is done; where CRONSIM_REFUSED is answered the fault alone is
- * written, or the answer in JSON as below. No two pointers of a call overlap, and none is NULL.
+ * Initialise each place that a call writes to: a bool to false, a buffer to any bytes. The call
+ * writes there if it answers CRONSIM_DONE. If it answers CRONSIM_REFUSED, it writes only the fault,
+ * or the answer in JSON. CRONSIM_ROOM is explained below. After any other answer all stays as it
+ * was. No pointer of a call is NULL, and no two overlap.
  *
- * Memory comes from malloc, realloc and free; the calls that open, and those that answer with JSON,
- * ask for it, and no other; the latter have given all of it back when they return. A call that
- * finds none answers CRONSIM_MEMORY and leaves all as it was. But for what these three do, no call
- * prints, waits, locks, starts a thread, sets errno or ends the process, and none keeps a pointer
- * that it is given.
+ * Memory comes from malloc, realloc and free. Only the calls that open a handle and those that
+ * answer in JSON ask for it. The latter free all of it before they return. Where memory runs out,
+ * a call answers CRONSIM_MEMORY and changes nothing. No call prints, waits, locks, starts a thread,
+ * ends the process, or keeps a pointer that it is given. None sets errno, unless malloc, realloc or
+ * free does.
  *
- * Threads: calls on different handles may run at the same time, and so may calls that take none. A
- * handle is given to one call at a time, also to one that only looks for times, and may go from one
- * thread to another where the caller orders that, by a lock or a join. No call is made from a
- * signal handler, nor from the forked child of a process that has threads. No call was seen to take
- * more than 81 KiB of its thread's stack, also of JSON that nests as deep as it may.
+ * Threads: calls on different handles may run at the same time, and so may calls without a handle.
+ * Give a handle to one call at a time, even to one that only looks for times. It may move to
+ * another thread if you order that, by a lock or a join. Don't call from a signal handler, nor in
+ * the forked child of a process that has threads. No call was seen to take more than 81 KiB of
+ * stack, even for JSON that nests as deep as it may.
  */
 #ifndef CRONSIM_H
 #define CRONSIM_H
@@ -41,26 +43,26 @@
 extern "C" {
 #endif
 
-/* What a call answers. */
+/* The answer of a call. */
 enum {
     CRONSIM_DONE = 0,    /* done */
     CRONSIM_NONE = 1,    /* there is no such time */
-    CRONSIM_REFUSED = 2, /* a text is refused, as the fault or the answer says */
-    CRONSIM_MEMORY = 3,  /* memory was asked for and refused */
+    CRONSIM_REFUSED = 2, /* a text is refused: the fault or the answer says why */
+    CRONSIM_MEMORY = 3,  /* memory ran out */
     CRONSIM_RANGE = 4,   /* a time is after the year 9998 */
-    CRONSIM_CLOSED = 5,  /* nothing is kept behind the handle */
-    CRONSIM_ROOM = 6     /* the buffer has no room for the answer, whose length is told */
+    CRONSIM_CLOSED = 5,  /* the handle is empty */
+    CRONSIM_ROOM = 6     /* the buffer is too small; the length says what is needed */
 };
 
 /* Why a text is refused: the member `cause` of a fault. */
 enum {
     CRONSIM_LENGTH = 1, /* the schedule has more than 1,024 bytes */
-    CRONSIM_EMPTY = 2,  /* the schedule is nothing but blanks */
+    CRONSIM_EMPTY = 2,  /* the schedule is blank */
     CRONSIM_ZONE = 3,   /* the schedule begins with TZ= or CRON_TZ= */
-    CRONSIM_MACRO = 4,  /* the schedule begins with @ and is no macro */
-    CRONSIM_FIELDS = 5, /* there aren't five fields */
+    CRONSIM_MACRO = 4,  /* the schedule begins with @, but is no macro */
+    CRONSIM_FIELDS = 5, /* the schedule doesn't have five fields */
     CRONSIM_SYNTAX = 6, /* an element has none of the forms */
-    CRONSIM_NUMBER = 7, /* a number isn't one of its field */
+    CRONSIM_NUMBER = 7, /* a number is out of its field's range */
     CRONSIM_ORDER = 8,  /* a range ends before it begins */
     CRONSIM_STEP = 9,   /* a step is zero, or has more than nine digits */
     /* the rule (of at most 1,024 bytes) or the zone file (of at most 1,048,576) is refused */
@@ -68,121 +70,123 @@ enum {
     CRONSIM_NO_TEXT = 11 /* the schedule isn't UTF-8 */
 };
 
-/* A schedule in its zone, which was read once and is kept. The members are the library's own; a
- * copy is no handle. */
+/* A handle: it keeps a schedule in its zone, read once. The members belong to the library. A copy
+ * is no handle. */
 typedef struct cronsim_cron {
     void *at;
     bool full;
 } cronsim_cron;
 
-/* A handle with nothing behind it, which each handle is before its first call:
- * cronsim_cron cron = CRONSIM_CRON_INIT; */
+/* An empty handle. Initialise each handle so: cronsim_cron cron = CRONSIM_CRON_INIT; */
 #define CRONSIM_CRON_INIT {0, false}
 
-/* Where and why a text is refused. */
+/* Where a text has its fault, and which. */
 typedef struct cronsim_fault {
-    /* 1 for the minute to 5 for the day of the week, 0 for the whole schedule, 6 for the zone */
+    /* 1 (the minute) to 5 (the day of the week); 0 is the whole schedule, 6 the zone */
     uint32_t field;
     uint32_t cause; /* one of the causes above */
-    uint64_t byte;  /* where in the schedule, in bytes from 0, the faulty element begins; else 0 */
+    uint64_t byte;  /* the byte, from 0, at which the faulty element begins; else 0 */
 } cronsim_fault;
 
-/* How many times were missed, and the latest of them. */
+/* How many due times were missed, and the latest of them. */
 typedef struct cronsim_missed_times {
-    uint64_t count;  /* from 0 to 100, or 101 where they are more */
-    uint64_t latest; /* 0 where none was missed */
+    uint64_t count;  /* 0 to 100, or 101 for more than 100 */
+    uint64_t latest; /* 0 if none was missed */
 } cronsim_missed_times;
 
 /*
- * Keeps a schedule in UTC behind the handle, in the place of what was kept there. CRONSIM_DONE;
- * CRONSIM_REFUSED with the one fault of the schedule; CRONSIM_MEMORY. At the last two the handle
- * keeps what it kept.
+ * Opens a handle: it then keeps this schedule, in UTC, instead of what it kept. Answers
+ * CRONSIM_DONE; CRONSIM_REFUSED with the fault of the schedule; CRONSIM_MEMORY. After the last two
+ * the handle is as before.
  */
 uint32_t cronsim_open(cronsim_cron *cron, const uint8_t *schedule, size_t schedule_length,
                       cronsim_fault *fault);
 
-/* The same in the zone of a POSIX rule (POSIX.1-2017, section 8.3, TZ), as
+/* The same in the zone of a POSIX rule (POSIX.1-2017, section 8.3, TZ):
  * CET-1CEST,M3.5.0,M10.5.0/3. */
 uint32_t cronsim_open_rule(cronsim_cron *cron, const uint8_t *schedule, size_t schedule_length,
                            const uint8_t *rule, size_t rule_length, cronsim_fault *fault);
 
-/* The same in the zone of a compiled zone file (RFC 8536), as those below /usr/share/zoneinfo, of
- * which these are the bytes. */
+/* The same in the zone of a compiled zone file (RFC 8536), given by its bytes. Such files are below
+ * /usr/share/zoneinfo. */
 uint32_t cronsim_open_file(cronsim_cron *cron, const uint8_t *schedule, size_t schedule_length,
                            const uint8_t *bytes, size_t bytes_length, cronsim_fault *fault);
 
-/* Frees what the handle keeps, if anything. The handle may be opened again, and closed again. */
+/* Frees what the handle keeps, if anything. You may open the handle again, or close it again. */
 void cronsim_close(cronsim_cron *cron);
 
 /*
- * The least due time after `after` and within 3,000 days (259,200,000 seconds).
- * CRONSIM_DONE; CRONSIM_NONE, where there is none; CRONSIM_RANGE; CRONSIM_CLOSED.
+ * Finds the least due time after `after`, within 3,000 days (259,200,000 seconds). Answers
+ * CRONSIM_DONE; CRONSIM_NONE if there is none; CRONSIM_RANGE; CRONSIM_CLOSED.
  */
 uint32_t cronsim_next(cronsim_cron *cron, uint64_t after, uint64_t *due);
 
-/* The greatest due time after `after` and up to `until`. CRONSIM_DONE; CRONSIM_NONE; CRONSIM_RANGE;
- * CRONSIM_CLOSED. */
+/* Finds the greatest due time after `after` and up to `until`. Answers CRONSIM_DONE; CRONSIM_NONE;
+ * CRONSIM_RANGE; CRONSIM_CLOSED. */
 uint32_t cronsim_previous(cronsim_cron *cron, uint64_t after, uint64_t until, uint64_t *due);
 
-/* How many times are due after `after` and up to `until`, as a controller counts the times that it
- * missed, and the latest. CRONSIM_DONE; CRONSIM_RANGE; CRONSIM_CLOSED. */
+/* Counts the due times after `after` and up to `until`, as a controller counts the times that it
+ * missed, and finds the latest. Answers CRONSIM_DONE; CRONSIM_RANGE; CRONSIM_CLOSED. */
 uint32_t cronsim_missed(cronsim_cron *cron, uint64_t after, uint64_t until,
                         cronsim_missed_times *missed);
 
-/* Whether the zone's clock shows a minute that the schedule allows. CRONSIM_DONE; CRONSIM_RANGE;
- * CRONSIM_CLOSED. */
+/* Says whether the zone's clock shows a minute that the schedule allows. Answers CRONSIM_DONE;
+ * CRONSIM_RANGE; CRONSIM_CLOSED. */
 uint32_t cronsim_matches(cronsim_cron *cron, uint64_t at, bool *is_match);
 
 /*
- * The three calls below answer with one JSON value (RFC 8259), in UTF-8, on one line, with no byte
- * after it. It goes to the beginning of a buffer of the caller's, and its length in bytes to
- * `length`; the rest of the buffer stays as it is. Where the buffer of `capacity` bytes is too
- * small, CRONSIM_ROOM is answered, the buffer stays as it is, and `length` has the length that is
- * wanted: the same call with so much room is answered in full. A capacity of 0 asks for that alone.
- * Nothing is kept from one call to the next.
+ * The three calls below answer with one JSON value (RFC 8259): in UTF-8, on one line, and with no
+ * byte after it. It goes to the beginning of your buffer, and its length in bytes to `length`. The
+ * rest of the buffer stays as it is. If the buffer of `capacity` bytes is too small, the call
+ * answers CRONSIM_ROOM, leaves the buffer as it is, and writes the length that it needs to
+ * `length`. Call again with that much room. To ask for the length alone, give the capacity 0. The
+ * library keeps nothing from one call to the next.
  *
- * Where a text is refused, CRONSIM_REFUSED is answered, and the JSON is a list of the faults, each
- * with its `field` and its `cause`, as [{"cause":"Range","field":"spec.startingDeadlineSeconds"}].
- * The field is a path, or `$` for the whole text; the causes are Required, Type, NotSupported,
- * Fraction, TooLong, Format, Range, Zone, NotAllowed, and `Schedule FIELD BYTE CAUSE` with the
- * numbers of a fault above and the cause's name. Of a text as a whole there are two more: Syntax,
- * it is no JSON in UTF-8, or nests more than 127 deep; and Form, it is JSON of another form.
+ * If a text is refused, the call answers CRONSIM_REFUSED. The JSON value is then a list of faults,
+ * each with its `field` and its `cause`:
+ * [{"cause":"Range","field":"spec.startingDeadlineSeconds"}]. The field is a path, or `$` for the
+ * whole text. The causes are Required, Type, NotSupported, Fraction, TooLong, Format, Range, Zone,
+ * NotAllowed, and `Schedule FIELD BYTE CAUSE` with the numbers of a fault above and the cause's
+ * name. Of a text as a whole there are two more. Syntax: it isn't JSON in UTF-8, or nests more than
+ * 127 deep. Form: it is JSON of another form.
  *
- * `zones` is a JSON object from the names of zones to POSIX rules, as
- * {"Europe/Berlin":"CET-1CEST,M3.5.0,M10.5.0/3"}, or no byte, where only UTC and Etc/UTC are known.
- * It is looked at first; its faults have the field `zones`, and the cause Syntax or Zone.
+ * `zones` is a JSON object from names of zones to POSIX rules:
+ * {"Europe/Berlin":"CET-1CEST,M3.5.0,M10.5.0/3"}. With no byte, only UTC and Etc/UTC are known. The
+ * call looks at it first. Its faults have the field `zones`, and the cause Syntax or Zone.
  */
 
 /*
- * Checks the manifest of a CronJob or a Job. CRONSIM_DONE, with an object: its `kind`, `namespace`
- * and `name`, and in `warnings` the paths of the members that are dropped; CRONSIM_REFUSED, with
- * all its faults; CRONSIM_ROOM; CRONSIM_MEMORY.
+ * Checks the manifest of a CronJob or a Job. Answers CRONSIM_DONE with an object: its `kind`,
+ * `namespace` and `name`, and in `warnings` the paths of the fields that Kubernetes drops;
+ * CRONSIM_REFUSED with all faults; CRONSIM_ROOM; CRONSIM_MEMORY.
  */
 uint32_t cronsim_check(const uint8_t *manifest, size_t manifest_length, const uint8_t *zones,
                        size_t zones_length, uint8_t *answer, size_t capacity, size_t *length);
 
 /*
- * What a sync of the controller does with a CronJob at the moment `now`. The scenario is a JSON
- * object: in `manifest` the CronJob's, in `created` the time of its creation, in `last` its last
- * schedule time, in `jobs` a list of objects with a `time` and an `outcome` (Running, Complete or
- * Failed), in `zones` an object as above; the last three may be absent. Times in it are texts like
- * 2024-01-01T00:00:00Z. CRONSIM_DONE, with the plan, as `cronsim plan -o json` prints it: an object
- * with `claim`, the time that is claimed, or null; `drop`, the Jobs deleted before the new one;
- * `make`, the name of that one, or null; `clean`, the finished Jobs deleted after it; `reasons`,
- * why none is made; `status`, the status that is written at the end, or null; and `next`, when to
- * look again, or null. CRONSIM_REFUSED, with one fault, the first one of a manifest; CRONSIM_RANGE;
- * CRONSIM_ROOM; CRONSIM_MEMORY.
+ * Plans the next sync of a CronJob, at the moment `now`. The scenario is a JSON object. It has the
+ * CronJob's `manifest`, the time `created` of its creation, and maybe its `last` schedule time,
+ * its `jobs` and `zones`. `jobs` is a list of objects, each with a `time` and an `outcome`
+ * (Running, Complete or Failed); `zones` is an object as above. Times are texts like
+ * 2024-01-01T00:00:00Z.
+ *
+ * Answers CRONSIM_DONE with the plan that `cronsim plan -o json` prints: an object with `claim`,
+ * the time that the sync claims, or null; `drop`, the Jobs that it deletes before it makes one;
+ * `make`, the name of the Job that it makes, or null; `clean`, the finished Jobs that it deletes;
+ * `reasons`, why it makes none; `status`, the status that it writes at the end, or null; and
+ * `next`, when to look again, or null. CRONSIM_REFUSED with one fault, the first one of a manifest;
+ * CRONSIM_RANGE; CRONSIM_ROOM; CRONSIM_MEMORY.
  */
 uint32_t cronsim_plan(const uint8_t *scenario, size_t scenario_length, uint64_t now,
                       uint8_t *answer, size_t capacity, size_t *length);
 
 /*
- * What is wrong in a cluster, by what `kubectl get cronjobs,jobs -A -o json` prints of it.
- * CRONSIM_DONE, also where much is wrong, with what `cronsim audit -o json` prints: an object with
- * `cronJobs` and `jobs`, how many were looked at; `findings`, each with its `finding` (twice,
- * beside, undue, early, missing or stray), the `namespace` and `name` of the CronJob, the `time`,
- * and the names of the `jobs`; `manual`, the Jobs made by hand; and in `refused` and `others` the
- * items of the list that can't be used. CRONSIM_REFUSED, where it is no list; CRONSIM_ROOM;
+ * Audits a cluster. The list is the output of `kubectl get cronjobs,jobs -A -o json`. Answers
+ * CRONSIM_DONE, even if much is wrong, with what `cronsim audit -o json` prints: an object with
+ * `cronJobs` and `jobs`, how many it looked at; `findings`, each with its `finding` (twice, beside,
+ * undue, early, missing or stray), the `namespace` and `name` of the CronJob, the `time`, and the
+ * names of the `jobs`; `manual`, the Jobs that somebody made by hand; and in `refused` and `others`
+ * the items of the list that it can't use. CRONSIM_REFUSED if the text is no list; CRONSIM_ROOM;
  * CRONSIM_MEMORY.
  */
 uint32_t cronsim_audit(const uint8_t *list, size_t list_length, const uint8_t *zones,

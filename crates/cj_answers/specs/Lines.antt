@@ -3,7 +3,7 @@ use Rattle.std.specs.Prelude.{List, ℕ, [], ◌∷◌, ◌++◌, codes}
 use Rattle.cj_base.specs.declared.faults.FieldFault.{FieldFault}
 use Rattle.cj_base.specs.Field.{path_of}
 use Rattle.cj_types.specs.Keys.{Place}
-use Rattle.cj_views.specs.Faults.{cause_text}
+use Rattle.cj_audit.specs.Faults.{cause_text}
 
 -- `refused 2 FIELD CAUSE`, a line for each fault
 abbrev pub fault_line : FieldFault → List ℕ

@@ -2,10 +2,10 @@
 ghost use Rattle.std.specs.Prelude.{◌≡◌, IfOk, string_bytes};
 ghost use Rattle.cj_answers.specs.Lines.{fault_line, fault_lines, ok_line, warning_line, warning_lines};
 
+use cj_audit::cause_text;
 use cj_base::FieldFault;
 use cj_manifest::Warning;
 use cj_types::Key;
-use cj_views::cause_text;
 use std::alloc::{AllocError, Global};
 
 /// A fault, on a line of its own.

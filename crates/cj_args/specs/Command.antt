@@ -9,6 +9,7 @@ use Rattle.clap.specs.declared.builder.action.ArgAction.TheVariants.{Append, Set
 use Rattle.clap.specs.declared.builder.value_parser.ValueParser.TheVariants.{Unsigned}
 use Rattle.cj_args.specs.declared.request.AuditRequest.{AuditRequest}
 use Rattle.cj_args.specs.declared.request.CheckRequest.{CheckRequest}
+use Rattle.cj_args.specs.declared.request.ControlRequest.{ControlRequest}
 use Rattle.cj_args.specs.declared.request.DescribeRequest.{DescribeRequest}
 use Rattle.cj_args.specs.declared.request.NextRequest.{NextRequest}
 use Rattle.cj_args.specs.declared.request.PlanRequest.{PlanRequest}
@@ -18,7 +19,7 @@ use Rattle.cj_args.specs.declared.request.UpcomingRequest.{UpcomingRequest}
 use Rattle.cj_args.specs.declared.request.WhyRequest.{WhyRequest}
 use Rattle.cj_args.specs.declared.request.ZoneWords.{ZoneWords}
 use Rattle.cj_args.specs.declared.request.Request.{Request}
-use Rattle.cj_args.specs.declared.request.Request.TheVariants.{Audit, Check, Describe, Next, Plan, Replay, Run, Upcoming, Why}
+use Rattle.cj_args.specs.declared.request.Request.TheVariants.{Audit, Check, Control, Describe, Next, Plan, Replay, Run, Upcoming, Why}
 use Rattle.cj_args.specs.declared.word_fault.WordFault.{WordFault}
 use Rattle.cj_args.specs.declared.word_fault.WordFault.TheVariants.{Incomplete, OutOfMemory, Refused}
 
@@ -228,6 +229,48 @@ describe_app =
     time_zone_rule in
     with_folder (with_rule zoned lines_rule)
 
+-- an option with one value, whose long name is its id, and the value where nobody gives one
+abbrev pub usual_rule : Text → Text → Rule
+usual_rule id usual =
+    record (new_rule id) { long = Some id; value_names = 1; defaults = usual ∷ [] }
+
+-- an option with one value, which may be left out
+abbrev pub left_rule : Text → Rule
+left_rule id = record (new_rule id) { long = Some id; value_names = 1 }
+
+-- how many syncs may be under way at once
+-- rule: control-options
+abbrev pub syncs_rule : Rule
+syncs_rule = record (new_rule (codes "workers")) {
+  long = Some (codes "workers");
+  value_names = 1;
+  parser = Some (Unsigned 1 32);
+  defaults = codes "8" ∷ [];
+}
+
+-- labels, by the letter that `kubectl` has for them
+abbrev pub selector_rule : Rule
+selector_rule = record (new_rule (codes "selector"))
+    { long = Some (codes "selector"); short = Some 108; value_names = 1 }
+
+-- `cronsim control [--workers N] [-n NAMESPACE] [-l SELECTOR] [--only-annotated] [--dry-run] ..`
+abbrev pub chosen_app : App
+chosen_app =
+    let of = with_rule (with_rule (new_app (codes "control")) syncs_rule) namespace_rule in
+    with_rule (with_rule (with_rule of selector_rule) (flag_rule (codes "only-annotated")))
+    (flag_rule (codes "dry-run"))
+
+-- `.. [--api-version VERSION] [--replica NAME] [--log FORMAT] [--transcript FILE]
+-- [--check FILE] [--zoneinfo DIR] [--explain]`
+-- rule: control-options
+abbrev pub control_app : App
+control_app =
+    let of = with_rule chosen_app (usual_rule (codes "api-version") (codes "batch/v1")) in
+    let told = with_rule (with_rule of (left_rule (codes "replica")))
+    (usual_rule (codes "log") (codes "text")) in
+    with_folder (with_rule (with_rule told (left_rule (codes "transcript")))
+    (left_rule (codes "check")))
+
 -- the commands on a schedule and on a manifest
 abbrev pub reading_app : App
 reading_app =
@@ -249,9 +292,13 @@ abbrev pub clustered_app : App
 clustered_app = with_subcommand (with_subcommand acting_app why_app.top) audit_app.top
 
 -- those and the commands on the times to come
+abbrev pub asked_app : App
+asked_app = with_subcommand (with_subcommand clustered_app upcoming_app.top) describe_app.top
+
+-- those and the controller of a cluster
 -- rules: words, help
 abbrev pub cronsim_app : App
-cronsim_app = with_subcommand (with_subcommand clustered_app upcoming_app.top) describe_app.top
+cronsim_app = with_subcommand asked_app control_app.top
 
 -- the text is decimal digits, after a plus or none, that spell the number
 abbrev pub IsDecimal : Text → ℕ → Type 0
@@ -380,6 +427,25 @@ pub record IsDescribe (rows : List Row) (r : DescribeRequest) : Type 0 where
   pub folder : first_of (codes "zoneinfo") rows ≡ option_map (λ s. s.now) r.folder
   pub explain : r.explain ≡ is_given (codes "explain") rows
 
+-- and for those of `control`
+-- rule: control-options
+pub record IsControl (rows : List Row) (r : ControlRequest) : Type 0 where
+  pub workers : (text : Text) × (first_of (codes "workers") rows ≡ Some text)
+      × IsDecimal text r.workers
+  pub least : 1 ≤ r.workers
+  pub most : r.workers ≤ 32
+  pub namespace : first_of (codes "namespace") rows ≡ option_map (λ s. s.now) r.namespace
+  pub selector : first_of (codes "selector") rows ≡ option_map (λ s. s.now) r.selector
+  pub only_annotated : r.only_annotated ≡ is_given (codes "only-annotated") rows
+  pub dry_run : r.dry_run ≡ is_given (codes "dry-run") rows
+  pub api_version : first_of (codes "api-version") rows ≡ Some r.api_version.now
+  pub replica : first_of (codes "replica") rows ≡ option_map (λ s. s.now) r.replica
+  pub log : first_of (codes "log") rows ≡ Some r.log.now
+  pub transcript : first_of (codes "transcript") rows ≡ option_map (λ s. s.now) r.transcript
+  pub check : first_of (codes "check") rows ≡ option_map (λ s. s.now) r.check
+  pub folder : first_of (codes "zoneinfo") rows ≡ option_map (λ s. s.now) r.folder
+  pub explain : r.explain ≡ is_given (codes "explain") rows
+
 -- the request is of the subcommand with that name, and has the values of its arguments
 abbrev pub IsOfRows : Option (Text × List Row) → Request → Type 0
 IsOfRows found (Next r) = (rows : List Row) × (found ≡ Some (codes "next", rows)) × IsNext rows r
@@ -394,6 +460,8 @@ IsOfRows found (Upcoming r) =
     (rows : List Row) × (found ≡ Some (codes "upcoming", rows)) × IsUpcoming rows r
 IsOfRows found (Describe r) =
     (rows : List Row) × (found ≡ Some (codes "describe", rows)) × IsDescribe rows r
+IsOfRows found (Control r) =
+    (rows : List Row) × (found ≡ Some (codes "control", rows)) × IsControl rows r
 
 -- the request is of the subcommand that `clap` states for the words, with the values that it states
 -- rule: words
@@ -415,6 +483,7 @@ file_of (Why r) = Some r.file.now
 file_of (Audit r) = Some r.file.now
 file_of (Upcoming r) = first_file r.files.items
 file_of (Describe r) = None
+file_of (Control r) = option_map (λ s. s.now) r.check
 
 -- the zones that the words give, where a command takes them
 -- rule: zoneinfo
@@ -428,6 +497,7 @@ zones_of (Why r) = Some r.zones
 zones_of (Audit r) = Some r.zones
 zones_of (Upcoming r) = Some r.zones
 zones_of (Describe r) = None
+zones_of (Control r) = None
 
 -- the name of the folder in which a request has zones looked up, where one is given
 -- rule: zoneinfo
@@ -441,6 +511,7 @@ folder_of (Why r) = option_map (λ s. s.now) r.zones.folder
 folder_of (Audit r) = option_map (λ s. s.now) r.zones.folder
 folder_of (Upcoming r) = option_map (λ s. s.now) r.zones.folder
 folder_of (Describe r) = option_map (λ s. s.now) r.folder
+folder_of (Control r) = option_map (λ s. s.now) r.folder
 
 -- whether a request has its refusal explained
 -- rule: explain
@@ -454,6 +525,7 @@ explains (Why r) = r.explain
 explains (Audit r) = r.explain
 explains (Upcoming r) = r.explain
 explains (Describe r) = r.explain
+explains (Control r) = r.explain
 
 -- when words are refused: `clap` doesn't take them, or no request has the values that it states for
 -- them

@@ -1,6 +1,6 @@
 // The arguments of the commands.
 ghost use Rattle.cj_args.specs.Building.{IsArg, option_rule, positional_rule, required_rule};
-ghost use Rattle.cj_args.specs.Command.{count_rule, crons_rule, explain_rule, files_rule, flag_rule, length_rule, lines_rule, namespace_rule, output_rule, peaks_rule, workers_rule, zones_rule};
+ghost use Rattle.cj_args.specs.Command.{count_rule, crons_rule, explain_rule, files_rule, flag_rule, length_rule, lines_rule, namespace_rule, output_rule, peaks_rule, selector_rule, syncs_rule, usual_rule, workers_rule, zones_rule};
 
 use crate::help;
 use clap::builder::ValueParser;
@@ -40,9 +40,14 @@ pub(crate) fn required_arg<'a>(alloc: Global, id: &'a str, value: &'a str, help:
 pub(crate) fn count_arg<'a>(alloc: Global, usual: &'a str) -> Arg<'a>
     ensures { IsArg (count_rule usual.entry.now) result }
 {
-    option_arg(alloc, "count", "N", "How many due times, 1 to 1000")
-        .value_parser(ValueParser::unsigned(1, 1_000))
-        .default_value(usual)
+    option_arg(
+        alloc,
+        "count",
+        "N",
+        "How many due times to print, 1 to 1000",
+    )
+    .value_parser(ValueParser::unsigned(1, 1_000))
+    .default_value(usual)
 }
 
 /// How many of the fullest minutes are wanted.
@@ -69,9 +74,38 @@ pub(crate) fn workers_arg<'a>(alloc: Global) -> Arg<'a>
         alloc,
         "workers",
         "N",
-        "How many workers, 1 to 32, each in a thread of its own",
+        "How many workers to run, 1 to 32, each in its own thread",
     )
     .value_parser(ValueParser::unsigned(1, 32))
+}
+
+/// An option with one value, and the value that it has where nobody gives one.
+pub(crate) fn usual_arg<'a>(
+    alloc: Global,
+    id: &'a str,
+    value: &'a str,
+    usual: &'a str,
+    help: &'a str,
+) -> Arg<'a>
+    ensures { IsArg (usual_rule id.entry.now usual.entry.now) result }
+{
+    option_arg(alloc, id, value, help).default_value(usual)
+}
+
+/// How many syncs may be under way at once.
+pub(crate) fn syncs_arg<'a>(alloc: Global) -> Arg<'a>
+    ensures { IsArg syncs_rule result }
+{
+    option_arg(alloc, "workers", "N", help::SYNCS)
+        .value_parser(ValueParser::unsigned(1, 32))
+        .default_value("8")
+}
+
+/// The labels of the CronJobs that are looked after.
+pub(crate) fn selector_arg<'a>(alloc: Global) -> Arg<'a>
+    ensures { IsArg selector_rule result }
+{
+    option_arg(alloc, "selector", "SELECTOR", help::SELECTOR).short('l')
 }
 
 /// The zones that an input may name.
@@ -82,7 +116,7 @@ pub(crate) fn zones_arg<'a>(alloc: Global) -> Arg<'a>
         alloc,
         "zone",
         "NAME=RULE",
-        "A zone that the input may name, with its POSIX rule, as Europe/Berlin=CET-1CEST,M3.5.0,M10.5.0/3; may be given several times",
+        "A zone that the input may name, with its POSIX rule: Europe/Berlin=CET-1CEST,M3.5.0,M10.5.0/3. May be given several times",
     )
     .action(ArgAction::Append)
 }
@@ -141,6 +175,6 @@ pub(crate) fn explain_arg<'a>(alloc: Global) -> Arg<'a>
     flag_arg(
         alloc,
         "explain",
-        "Say of a refusal, on standard error after its line, what is wrong and what is wanted",
+        "Explain refusals on standard error: what is wrong, and what is wanted",
     )
 }

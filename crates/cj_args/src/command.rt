@@ -2,15 +2,19 @@
 ghost use Rattle.std.specs.Prelude.{◌≡◌, IfOk};
 ghost use Rattle.clap.specs.Words.{App, Rule, app_of, new_app, with_rule, with_subcommand};
 ghost use Rattle.cj_args.specs.Building.{IsArg, IsCommand, bare_app};
-ghost use Rattle.cj_args.specs.Command.{acting_app, audit_app, check_app, clustered_app, cronsim_app, deciding_app, describe_app, file_rule, next_app, plan_app, reading_app, replay_app, run_app, upcoming_app, why_app, with_folder, with_zones};
+ghost use Rattle.cj_args.specs.Command.{acting_app, asked_app, audit_app, check_app, chosen_app, clustered_app, control_app, cronsim_app, deciding_app, describe_app, file_rule, next_app, plan_app, reading_app, replay_app, run_app, upcoming_app, why_app, with_folder, with_zones};
 
 use crate::arguments::{
     count_arg, crons_arg, explain_arg, files_arg, flag_arg, length_arg, lines_arg, namespace_arg,
-    option_arg, output_arg, peaks_arg, positional_arg, required_arg, workers_arg, zones_arg,
+    option_arg, output_arg, peaks_arg, positional_arg, required_arg, selector_arg, syncs_arg,
+    usual_arg, workers_arg, zones_arg,
 };
 use crate::help;
 use clap::{Arg, Command};
 use std::alloc::{AllocError, Global};
+
+/// The version of the program.
+pub const VERSION: &str = "0.2.0";
 
 // A command with no arguments, and what help says of it.
 fn new_command<'a>(alloc: Global, name: &'a str, about: &'a str, after: &'a str) -> Command<'a>
@@ -139,7 +143,7 @@ fn replay_command<'a>(alloc: Global) -> Result<Command<'a>, AllocError>
     let command = file_command(
         alloc,
         "replay",
-        "Make the steps of a script on an empty world, and print what each is answered",
+        "Carry out the steps of a script in an empty world, and print every answer",
         help::REPLAY,
         help::SCRIPT,
     );
@@ -152,7 +156,7 @@ fn run_command<'a>(alloc: Global) -> Result<Command<'a>, AllocError>
     let command = file_command(
         alloc,
         "run",
-        "Run the whole controller under a simulated clock, and print what it leaves",
+        "Run the whole controller on a simulated clock, and print the result",
         help::RUN,
         help::COURSE,
     );
@@ -170,7 +174,7 @@ fn why_command<'a>(alloc: Global) -> Result<Command<'a>, AllocError>
     let command = file_command(
         alloc,
         "why",
-        "Say of each CronJob of a cluster what was missed and what its next sync does",
+        "Say what each CronJob of a cluster missed, and what its next sync does",
         help::WHY,
         help::CLUSTER,
     );
@@ -188,7 +192,7 @@ fn audit_command<'a>(alloc: Global) -> Result<Command<'a>, AllocError>
     let command = file_command(
         alloc,
         "audit",
-        "Look in a cluster for times with two Jobs, Jobs beside others, Jobs that weren't due, and due times without a Job",
+        "Find duplicate, overlapping, early and undue Jobs in a cluster, and due times without a Job",
         help::AUDIT,
         help::CLUSTER,
     );
@@ -203,7 +207,7 @@ fn upcoming_command<'a>(alloc: Global) -> Result<Command<'a>, AllocError>
     let command = new_command(
         alloc,
         "upcoming",
-        "Print what starts in the time to come, minute by minute, and which minutes are the fullest",
+        "Print what starts next, minute by minute, and which minutes are the fullest",
         help::UPCOMING,
     );
     let command = with_arg(Ok(command), files_arg(alloc, help::LISTS));
@@ -223,7 +227,7 @@ fn describe_command<'a>(alloc: Global) -> Result<Command<'a>, AllocError>
     let command = new_command(
         alloc,
         "describe",
-        "Say a schedule in a sentence, and print when it comes next by the clock of its zone",
+        "Put a schedule into a sentence, and print its next times by the clock of its zone",
         help::DESCRIBE,
     );
     let command = with_arg(
@@ -241,13 +245,60 @@ fn describe_command<'a>(alloc: Global) -> Result<Command<'a>, AllocError>
     with_folder(alloc, command)
 }
 
+// `control` with the options on which CronJobs it looks after, and on how many at once.
+fn chosen_command<'a>(alloc: Global) -> Result<Command<'a>, AllocError>
+    ensures { IfOk result (IsCommand chosen_app) }
+{
+    let command = new_command(
+        alloc,
+        "control",
+        "Run the CronJobs of a cluster: requests go out line by line, and answers come in",
+        help::CONTROL,
+    );
+    let command = with_arg(Ok(command), syncs_arg(alloc));
+    let command = with_arg(command, namespace_arg(alloc));
+    let command = with_arg(command, selector_arg(alloc));
+    let command = with_arg(
+        command,
+        flag_arg(alloc, "only-annotated", help::ONLY_ANNOTATED),
+    );
+    with_arg(command, flag_arg(alloc, "dry-run", help::DRY_RUN))
+}
+
+fn control_command<'a>(alloc: Global) -> Result<Command<'a>, AllocError>
+    ensures { IfOk result (IsCommand control_app) }
+{
+    let command = chosen_command(alloc);
+    let command = with_arg(
+        command,
+        usual_arg(
+            alloc,
+            "api-version",
+            "VERSION",
+            "batch/v1",
+            help::API_VERSION,
+        ),
+    );
+    let command = with_arg(command, option_arg(alloc, "replica", "NAME", help::REPLICA));
+    let command = with_arg(
+        command,
+        usual_arg(alloc, "log", "FORMAT", "text", help::LOG),
+    );
+    let command = with_arg(
+        command,
+        option_arg(alloc, "transcript", "FILE", help::TRANSCRIPT),
+    );
+    let command = with_arg(command, option_arg(alloc, "check", "FILE", help::REPEATED));
+    with_folder(alloc, command)
+}
+
 // The program's command line with no command yet.
 fn bare_command<'a>(alloc: Global) -> Command<'a>
     ensures { IsCommand bare_app result }
 {
     Command::new(alloc, "cronsim")
         .about("A CronJob controller that is proved: schedules, plans and runs")
-        .version("0.2.0")
+        .version(VERSION)
         .subcommand_required(true)
 }
 
@@ -282,10 +333,17 @@ fn clustered_command<'a>(alloc: Global) -> Result<Command<'a>, AllocError>
     with_command(command, audit_command(alloc))
 }
 
-/// The program's command line: those, and the commands on the times to come.
-pub fn cronsim_command<'a>(alloc: Global) -> Result<Command<'a>, AllocError>
-    ensures { IfOk result (λ c. app_of c ≡ cronsim_app) }
+// Those and the commands on the times to come.
+fn asked_command<'a>(alloc: Global) -> Result<Command<'a>, AllocError>
+    ensures { IfOk result (IsCommand asked_app) }
 {
     let command = with_command(clustered_command(alloc), upcoming_command(alloc));
     with_command(command, describe_command(alloc))
+}
+
+/// The program's command line: those, and the controller of a cluster.
+pub fn cronsim_command<'a>(alloc: Global) -> Result<Command<'a>, AllocError>
+    ensures { IfOk result (λ c. app_of c ≡ cronsim_app) }
+{
+    with_command(asked_command(alloc), control_command(alloc))
 }

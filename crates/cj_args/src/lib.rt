@@ -12,9 +12,10 @@ mod request;
 mod word_fault;
 mod words;
 
+pub use command::VERSION;
 pub use request::{
-    AuditRequest, CheckRequest, DescribeRequest, NextRequest, PlanRequest, ReplayRequest, Request,
-    RunRequest, UpcomingRequest, WhyRequest, ZoneWords,
+    AuditRequest, CheckRequest, ControlRequest, DescribeRequest, NextRequest, PlanRequest,
+    ReplayRequest, Request, RunRequest, UpcomingRequest, WhyRequest, ZoneWords,
 };
 pub use word_fault::WordFault;
 pub use words::parse_words;

@@ -23,6 +23,8 @@ pub enum Request<'a> {
     Upcoming(UpcomingRequest<'a>),
     /// A schedule in a sentence, and its next times.
     Describe(DescribeRequest<'a>),
+    /// The CronJobs of a cluster run, or a transcript of that checked.
+    Control(ControlRequest<'a>),
 }
 
 impl<'a> Request<'a> {
@@ -42,6 +44,7 @@ impl<'a> Request<'a> {
             Request::Audit(audit) => Some(audit.file),
             Request::Upcoming(upcoming) => first_file(upcoming.files.as_slice()),
             Request::Describe(_) => None,
+            Request::Control(control) => control.check,
         }
     }
 
@@ -59,6 +62,7 @@ impl<'a> Request<'a> {
             Request::Audit(audit) => Some(&audit.zones),
             Request::Upcoming(upcoming) => Some(&upcoming.zones),
             Request::Describe(_) => None,
+            Request::Control(_) => None,
         }
     }
 
@@ -76,6 +80,7 @@ impl<'a> Request<'a> {
             Request::Audit(audit) => audit.zones.folder,
             Request::Upcoming(upcoming) => upcoming.zones.folder,
             Request::Describe(describe) => describe.folder,
+            Request::Control(control) => control.folder,
         }
     }
 
@@ -93,6 +98,7 @@ impl<'a> Request<'a> {
             Request::Audit(audit) => audit.explain,
             Request::Upcoming(upcoming) => upcoming.explain,
             Request::Describe(describe) => describe.explain,
+            Request::Control(control) => control.explain,
         }
     }
 }
@@ -280,6 +286,37 @@ pub struct DescribeRequest<'a> {
     pub time_zone: Option<&'a str>,
     /// How the answer is printed: `lines` or `json`.
     pub output: &'a str,
+    /// The folder with compiled zone files.
+    pub folder: Option<&'a str>,
+    /// Whether a refusal is explained.
+    pub explain: bool,
+}
+
+/// The words of the command `control`, as they were given.
+#[derive(Debug, Drop)]
+pub struct ControlRequest<'a> {
+    /// How many syncs may be under way at once, 1 to 32.
+    pub workers: u8,
+    /// The namespace whose CronJobs are looked after; all of them where none is given.
+    pub namespace: Option<&'a str>,
+    /// The labels of the CronJobs that are looked after, as the API server's `labelSelector`; all
+    /// of them where none is given.
+    pub selector: Option<&'a str>,
+    /// Whether only CronJobs with the annotation `cronsim/run: "true"` are looked after.
+    pub only_annotated: bool,
+    /// Whether no write is asked for, and each is told in its place.
+    pub dry_run: bool,
+    /// The version of the API in which the server has CronJobs: any text.
+    pub api_version: &'a str,
+    /// What tells this replica from others; nothing where none is given.
+    pub replica: Option<&'a str>,
+    /// How the lines on standard error are printed: any text.
+    pub log: &'a str,
+    /// The name of the file into which all lines are written.
+    pub transcript: Option<&'a str>,
+    /// The name of the file with a transcript that is checked in place of running; `-` is standard
+    /// input.
+    pub check: Option<&'a str>,
     /// The folder with compiled zone files.
     pub folder: Option<&'a str>,
     /// Whether a refusal is explained.

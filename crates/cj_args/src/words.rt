@@ -1,13 +1,13 @@
 // The words of a command line, read as what they ask for.
 ghost use Rattle.std.specs.Prelude.{◌≡◌, ℕ, ◌≤◌, map, option_map, IfOk, IfErr, None, Some};
 ghost use Rattle.clap.specs.Words.{first_of, found_of, rows_of, subcommand_rows_of};
-ghost use Rattle.cj_args.specs.Command.{AreZones, IsAudit, IsCheck, IsDecimal, IsDescribe, IsNext, IsOf, IsOfRows, IsPlan, IsReplay, IsRunOf, IsUpcoming, IsWhy, Reads, RefusesWords, is_given, texts_of};
+ghost use Rattle.cj_args.specs.Command.{AreZones, IsAudit, IsCheck, IsControl, IsDecimal, IsDescribe, IsNext, IsOf, IsOfRows, IsPlan, IsReplay, IsRunOf, IsUpcoming, IsWhy, Reads, RefusesWords, is_given, texts_of};
 ghost use Rattle.cj_args.specs.declared.word_fault.WordFault.TheVariants.{Incomplete};
 
 use crate::command::cronsim_command;
 use crate::request::{
-    AuditRequest, CheckRequest, DescribeRequest, NextRequest, PlanRequest, ReplayRequest, Request,
-    RunRequest, UpcomingRequest, WhyRequest, ZoneWords,
+    AuditRequest, CheckRequest, ControlRequest, DescribeRequest, NextRequest, PlanRequest,
+    ReplayRequest, Request, RunRequest, UpcomingRequest, WhyRequest, ZoneWords,
 };
 use crate::word_fault::WordFault;
 use clap::ArgMatches;
@@ -273,6 +273,29 @@ fn describe_request<'a>(found: &ArgMatches<'a>) -> Result<DescribeRequest<'a>, W
     })
 }
 
+fn control_request<'a>(found: &ArgMatches<'a>) -> Result<ControlRequest<'a>, WordFault>
+    ensures reads { Reads (IsControl (rows_of (found_of found.now))) result }
+    ensures refused { IfErr result (λ e. e ≡ Incomplete) }
+{
+    let workers = workers(text(found, "workers")?)?;
+    let api_version = text(found, "api-version")?;
+    let log = text(found, "log")?;
+    Ok(ControlRequest {
+        workers,
+        namespace: optional_text(found, "namespace"),
+        selector: optional_text(found, "selector"),
+        only_annotated: is_given(found, "only-annotated"),
+        dry_run: is_given(found, "dry-run"),
+        api_version,
+        replica: optional_text(found, "replica"),
+        log,
+        transcript: optional_text(found, "transcript"),
+        check: optional_text(found, "check"),
+        folder: optional_text(found, "zoneinfo"),
+        explain: is_given(found, "explain"),
+    })
+}
+
 // What the words behind the name of a command ask for.
 fn request_named<'a>(
     alloc: Global,
@@ -291,6 +314,7 @@ fn request_named<'a>(
         "audit" => audit_request(alloc, found).map(Request::Audit),
         "upcoming" => upcoming_request(alloc, found).map(Request::Upcoming),
         "describe" => describe_request(found).map(Request::Describe),
+        "control" => control_request(found).map(Request::Control),
         _ => Err(WordFault::Incomplete),
     }
 }

@@ -12,3 +12,6 @@ pub mod Places
 pub mod Json
 pub mod Lines
 pub mod Words
+pub mod Faults
+pub mod Items
+pub mod Audit

@@ -1,16 +1,22 @@
 //! What is wrong in a cluster: Jobs that a correct controller of CronJobs would not have made, and
 //! due times for which it would have made one.
 //!
-//! Here belongs what a finding is, in which order findings come, and their lines and words. How a
-//! cluster is read belongs to `cj_cluster`. The commands rest on `audit`: exactly these findings,
-//! each once; and on `audit_text` and `audit_words`.
+//! Here belongs what a finding is, in which order findings come, and their lines and words; and the
+//! JSON values that the program prints and the library for other languages hands out: findings,
+//! faults of a manifest, items of a list that can't be used. How a cluster is read belongs to
+//! `cj_cluster`. The commands rest on `audit`: exactly these findings, each once; on `audit_text`
+//! and `audit_words`; and on `audit_value`, `faults_value` and `refused_value`, whose clauses name
+//! the value.
 #![tactic(auto)]
 
+mod answer;
 mod clock;
 mod cron;
 mod ending;
+mod faults;
 mod finding;
 mod findings;
+mod items;
 mod json;
 mod kind;
 mod lines;
@@ -25,8 +31,11 @@ mod stray;
 mod whole;
 mod words;
 
+pub use answer::audit_value;
+pub use faults::{cause_text, faults_value, one_fault};
 pub use finding::Finding;
 pub use findings::Findings;
+pub use items::{others_value, refused_value};
 pub use json::{findings_value, manual_value};
 pub use kind::{Exclusive, FindingKind};
 pub use lines::audit_text;

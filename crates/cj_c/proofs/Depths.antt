@@ -31,9 +31,9 @@ use Rattle.cj_types.specs.declared.policy.Reason.{Reason}
 use Rattle.cj_json.specs.Values.{time_or_null}
 use Rattle.cj_why.specs.reviews.PlanJson.{claim_data, jobs_data, make_data, plan_data, reasons_data, status_data, texts_data}
 use Rattle.cj_c.specs.answers.Check.{sound_data}
-use Rattle.cj_views.specs.Audit.{audit_data}
-use Rattle.cj_views.specs.Faults.{fault_data, faults_data}
-use Rattle.cj_views.specs.Items.{other_by, other_items, refused_by, refused_items}
+use Rattle.cj_audit.specs.Audit.{audit_data}
+use Rattle.cj_audit.specs.Faults.{fault_data, faults_data}
+use Rattle.cj_audit.specs.Items.{other_by, other_items, refused_by, refused_items}
 
 -- of a value by what it is
 pub within_as : (k : ℕ) (v d : Data) → v ≡ d → depth d ≤ k → depth v ≤ k

@@ -32,9 +32,9 @@ use Rattle.cj_types.specs.declared.policy.Reason.{Reason}
 use Rattle.cj_json.specs.Values.{time_or_null}
 use Rattle.cj_why.specs.reviews.PlanJson.{claim_data, jobs_data, make_data, plan_data, reasons_data, status_data, texts_data}
 use Rattle.cj_c.specs.answers.Check.{sound_data}
-use Rattle.cj_views.specs.Audit.{audit_data}
-use Rattle.cj_views.specs.Faults.{fault_data, faults_data}
-use Rattle.cj_views.specs.Items.{item_data, other_by, other_items, others_data, refused_by, refused_data, refused_items}
+use Rattle.cj_audit.specs.Audit.{audit_data}
+use Rattle.cj_audit.specs.Faults.{fault_data, faults_data}
+use Rattle.cj_audit.specs.Items.{item_data, other_by, other_items, others_data, refused_by, refused_data, refused_items}
 
 -- of a value by what it is
 pub free_as : (v d : Data) → v ≡ d → has_float d ≡ false → has_float v ≡ false

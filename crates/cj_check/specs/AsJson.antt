@@ -12,7 +12,7 @@ use Rattle.cj_manifest.specs.Reading.{IsReading, IsRefused}
 use Rattle.cj_types.specs.Keys.{Place}
 use Rattle.cj_zone.specs.declared.zone.Zone.{Zone}
 use Rattle.cj_answers.specs.as_json.Forms.{IsJsonLine}
-use Rattle.cj_views.specs.Faults.{fault_object, faults_data}
+use Rattle.cj_audit.specs.Faults.{fault_object, faults_data}
 use Rattle.cj_check.specs.Seen.{IsNoneSeen, NextItem}
 use Rattle.cj_check.specs.declared.seen.SeenKeys.{SeenKeys}
 

@@ -6,15 +6,15 @@ ghost use Rattle.cj_manifest.specs.Reading.{IsRefused};
 ghost use Rattle.cj_zone.specs.Table.{zones_of};
 ghost use Rattle.serde_json.specs.Data.{string};
 ghost use Rattle.serde_json.specs.View.{view};
-ghost use Rattle.cj_views.specs.Faults.{faults_data};
+ghost use Rattle.cj_audit.specs.Faults.{faults_data};
 ghost use Rattle.cj_answers.specs.as_json.Forms.{IsJsonLine};
 ghost use Rattle.cj_check.specs.AsJson.{IsItemData, check_data, fine_item, item_object, place_data, refused_item, syntax_item, taken_item, unread_line};
 
 use cj_answers::value_line;
+use cj_audit::faults_value;
 use cj_base::FieldFault;
 use cj_manifest::{Manifest, Warning};
 use cj_types::{Key, Refusal};
-use cj_views::faults_value;
 use cj_zone::ZoneTable;
 use serde_json::{Value, json};
 use std::alloc::{AllocError, Global};

@@ -7,7 +7,7 @@ use Rattle.serde_json.specs.View.{items_of}
 use Rattle.cj_manifest.specs.Members.{present}
 use Rattle.cj_cluster.specs.kubectl.Rows.{member_of}
 use Rattle.cj_control.specs.Objects.{annotation, controller, meta, status}
-use Rattle.cj_control.specs.Mirror.{api_text}
+use Rattle.cj_control.specs.Api.{api_text}
 use Rattle.cj_control.specs.declared.api.ApiVersion.{ApiVersion}
 use Rattle.cj_control.specs.declared.objects.head.Head.{Head}
 use Rattle.cj_control.specs.declared.created.MarkTexts.{MarkTexts}

@@ -1,13 +1,11 @@
+pub mod Api
 pub mod Answers
 pub mod Created
-pub mod Feeds
 pub mod Heard
 pub mod Lines
-pub mod Mirror
 pub mod Objects
 pub mod Requests
 pub mod Sent
 pub mod SentFor
 pub mod Parts
-pub mod Planning
 pub mod Syncs

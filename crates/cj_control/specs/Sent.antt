@@ -7,7 +7,7 @@ use Rattle.cj_control.specs.declared.api.ApiVersion.{ApiVersion}
 use Rattle.cj_control.specs.declared.sent.Request.{Request}
 use Rattle.cj_control.specs.declared.sent.Verb.{Verb}
 use Rattle.cj_control.specs.declared.sent.Verb.TheVariants as By
-use Rattle.cj_control.specs.Mirror.{api_text}
+use Rattle.cj_control.specs.Api.{api_text}
 
 -- the Jobs of a namespace
 abbrev pub jobs_path : List ℕ → List ℕ

@@ -1,6 +1,6 @@
 // Versions of the API.
 ghost use Rattle.std.specs.Prelude.{◌≡◌};
-ghost use Rattle.cj_control.specs.Mirror as mirror;
+ghost use Rattle.cj_control.specs.Api.{api_text};
 
 /// The version of the API in which a server has CronJobs. Jobs are of `batch/v1` in each.
 #[derive(Clone, Copy, Debug, PartialEq, Eq)]
@@ -14,7 +14,7 @@ pub enum ApiVersion {
 impl ApiVersion {
     /// The version as `apiVersion` and paths have it.
     pub fn text(self) -> &'static str
-        ensures { result.now ≡ mirror.api_text self }
+        ensures { result.now ≡ api_text self }
     {
         match self {
             ApiVersion::BatchV1 => "batch/v1",

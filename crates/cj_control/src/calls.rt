@@ -12,7 +12,9 @@ use crate::objects::{Head, member};
 use crate::request::{
     HeldBy, claim_body, delete_body, expire_body, reference, start_body, tidy_body,
 };
-use crate::sent::{Request, delete_job, get_cron, get_job, patch_job, patch_status, post_job};
+use crate::sent::{
+    Request, delete_job, get_cron, get_job, patch_job, patch_status, post_event, post_job,
+};
 use cj_base::{Refusal, Seconds, Text, TryCopy};
 use cj_fence::{Call, Claim, Job, Policy, Ref, Refs, Tidy};
 use cj_json::push_value;
@@ -257,4 +259,12 @@ pub fn request_of(
         }
         Call::CacheCron(_) | Call::CacheJob(_) | Call::ListJobs => Ok(None),
     }
+}
+
+/// The POST of an Event, which is of no sync.
+#[tactic(auto, using(crate::proofs::NameLemmas::event_of_no_sync))]
+pub fn event_request(alloc: Global, namespace: &str, body: Value) -> Result<Request, Refusal>
+    ensures { IfOk result sent.IsOfNoSync }
+{
+    post_event(alloc, namespace, body)
 }

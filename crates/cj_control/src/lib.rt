@@ -13,38 +13,33 @@ mod book;
 mod calls;
 mod created;
 mod deed;
-mod feed;
-mod feeds;
 mod hearing;
 mod laws;
 mod ledger;
 mod line;
-mod machine;
-mod mirror;
 mod names;
 mod objects;
 mod reply;
 mod request;
 mod rows;
 mod sent;
-mod source;
 
 pub use api::ApiVersion;
-pub use calls::{CronParts, request_of};
+pub use calls::{CronParts, event_request, request_of};
 pub use created::{MarkTexts, created_body};
 pub use deed::Deed;
-pub use feeds::Feeds;
 pub use laws::{created_law, follow_law};
 pub use ledger::Ledger;
 pub use line::{Line, LineFault, LineKind, read_line};
-pub use machine::{ControlOptions, Machine};
-pub use mirror::Mirror;
-pub use objects::{CronSaid, Head, JobMarks, read_cron, read_job};
+pub use names::parts;
+pub use objects::{
+    CronSaid, Head, JobMarks, annotation, full_name, is_text, list_of, meta, read_cron, read_head,
+    read_job, spec, text_at,
+};
 pub use reply::answer_in;
 pub use request::{HeldBy, claim_body, delete_body, expire_body, reference, start_body, tidy_body};
 pub use rows::FencedSync;
 pub use sent::{
-    Request, Verb, delete_job, get_cron, get_job, get_path, patch_job, patch_status, post_event,
-    post_job, request_line,
+    Request, Verb, delete_job, get_cron, get_job, get_path, patch_job, patch_status, post_job,
+    request_line,
 };
-pub use source::Source;

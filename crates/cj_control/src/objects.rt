@@ -7,8 +7,8 @@ mod marks;
 mod members;
 
 pub use cron::{CronSaid, read_cron};
-pub use head::Head;
-pub(crate) use head::read_head;
+pub use head::{Head, read_head};
 pub use job::read_job;
 pub use marks::JobMarks;
-pub(crate) use members::{annotation, full_name, is_text, list_of, member, meta, spec, text_at};
+pub(crate) use members::member;
+pub use members::{annotation, full_name, is_text, list_of, meta, spec, text_at};

@@ -6,6 +6,7 @@ ghost use Rattle.cj_program.specs.Answers.{IsOutcome};
 ghost use Rattle.cj_answers.specs.Outcome.{Outcome, outcome_of, status_of};
 ghost use Rattle.cj_program.specs.Writing.{IsCut, IsFailed, IsGiven, IsUnanswered};
 
+use crate::control::control_answer;
 use crate::replay::serve_replay;
 use crate::run::run_answer;
 use crate::writing::give;
@@ -90,6 +91,9 @@ pub fn serve<T: Threads + Wait + Sync, R: Read, W: Write, E: Write>(
         }
         Request::Describe(describe) => {
             give_answer(describe_answer(alloc, describe, files), out, err)
+        }
+        Request::Control(control) => {
+            give_answer(control_answer(alloc, control, files, input), out, err)
         }
     }
 }

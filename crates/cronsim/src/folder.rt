@@ -8,9 +8,9 @@ use std::fs::File;
 // The most bytes of a zone file.
 const MOST_ZONE_BYTES: usize = 1_048_576;
 
-// The file of a zone in the folder; none where there is no such file, or it is too large for a zone
-// file.
-fn file_of(rt: &HostRuntime, folder: &str, name: &str) -> Result<Option<ZoneFile>, Failure> {
+/// The file of a zone in the folder; none where there is no such file, or it is too large to be
+/// one.
+pub fn file_of(rt: &HostRuntime, folder: &str, name: &str) -> Result<Option<ZoneFile>, Failure> {
     let alloc = rt.alloc();
     let path = format!(in alloc; "{folder}/{name}")?;
     let Ok(mut file) = File::open(rt, path.as_str()) else {

@@ -5,6 +5,7 @@
 #![tactic(auto)]
 
 mod clock;
+mod control;
 mod folder;
 mod progress;
 mod several;
@@ -16,6 +17,7 @@ use cj_program::{
     read_input, serve, tell_failure, tell_fault,
 };
 use clock::moment_by_clock;
+use control::serve_control;
 use folder::{folder_set, input_files, named_file};
 use progress::{is_shown, serve_shown};
 use several::{serve_files, serve_upcoming_files};
@@ -39,7 +41,7 @@ fn most_bytes(request: &Request<'_>) -> usize {
 // commands on a cluster and on the times to come.
 fn tells_files(request: &Request<'_>) -> bool {
     match request {
-        Request::Why(_) | Request::Audit(_) | Request::Upcoming(_) => true,
+        Request::Why(_) | Request::Audit(_) | Request::Upcoming(_) | Request::Control(_) => true,
         _ => request.explains(),
     }
 }
@@ -55,7 +57,7 @@ fn tell_unread<E: Write>(request: &Request<'_>, status: ExitStatus, input: &Inpu
     let most = most_bytes(request);
     if let Some(cause) = input.cause() {
         let _ = writeln!(err, "{file}: {cause}");
-    } else if input.is_above(most) {
+    } else if input.is_above(most) && !matches!(request, Request::Control(_)) {
         let _ = writeln!(
             err,
             "{file}: longer than {most} bytes, the most that is read"
@@ -99,12 +101,14 @@ fn serve_with_folder<T: Threads + Wait + Sync>(
 }
 
 // The folder of zones where nobody gives one: the machine's own, for the commands on a cluster and
-// on the times to come.
+// on the times to come, and for the controller.
 fn machine_folder(request: &Request<'_>) -> Option<&'static str> {
     match request {
-        Request::Why(_) | Request::Audit(_) | Request::Upcoming(_) | Request::Describe(_) => {
-            Some("/usr/share/zoneinfo")
-        }
+        Request::Why(_)
+        | Request::Audit(_)
+        | Request::Upcoming(_)
+        | Request::Describe(_)
+        | Request::Control(_) => Some("/usr/share/zoneinfo"),
         _ => None,
     }
 }
@@ -135,6 +139,7 @@ fn serve_request<T: Threads + Wait + Sync>(
         (Request::Upcoming(upcoming), _) if upcoming.files.len() > 1 => {
             serve_upcoming_files(rt, upcoming, folder)
         }
+        (Request::Control(control), _) => serve_control(rt, control, folder, input),
         (Request::Next(_) | Request::Describe(_), Some(folder)) => {
             let files = named_file(rt, folder, time_zone(request).unwrap_or(""))?;
             let (out, err) = (&mut rt.stdout(), &mut rt.stderr());

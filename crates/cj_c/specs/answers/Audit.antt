@@ -8,8 +8,8 @@ use Rattle.cj_cluster.specs.declared.kubectl.fault.ListFault.{ListFault}
 use Rattle.cj_cluster.specs.declared.kubectl.fault.ListFault.TheVariants as Why
 use Rattle.cj_cluster.specs.declared.kubectl.list.ClusterList.{ClusterList}
 use Rattle.cj_zone.specs.declared.zone.Zone.{Zone}
-use Rattle.cj_views.specs.Audit.{audit_data}
-use Rattle.cj_views.specs.Faults.{one_fault}
+use Rattle.cj_audit.specs.Audit.{audit_data}
+use Rattle.cj_audit.specs.Faults.{one_fault}
 use Rattle.cj_c.specs.answers.Texts.{IsJsonText}
 use Rattle.cj_c.specs.answers.Zones.{AreZonesOf, IsZonesRefusal}
 

@@ -7,7 +7,7 @@ use Rattle.cj_manifest.specs.Either.{key_of, kind_of, manifest_draft, manifest_f
 use Rattle.cj_manifest.specs.Reading.{IsNoValue, IsReading, Reads}
 use Rattle.cj_types.specs.Keys.{Place}
 use Rattle.cj_zone.specs.declared.zone.Zone.{Zone}
-use Rattle.cj_views.specs.Faults.{faults_data, one_fault}
+use Rattle.cj_audit.specs.Faults.{faults_data, one_fault}
 use Rattle.cj_c.specs.answers.Texts.{IsJsonText}
 use Rattle.cj_c.specs.answers.Zones.{AreZonesOf, IsZonesRefusal}
 

@@ -13,7 +13,7 @@ use Rattle.cj_why.specs.reviews.PlanJson.{plan_data}
 use Rattle.cj_why.specs.reviews.ZoneFor.{zone_for}
 use Rattle.cj_zone.specs.Table.{zones_of}
 use Rattle.cj_c.specs.answers.Buffers.{IsAnswered, IsUnchanged}
-use Rattle.cj_views.specs.Faults.{faults_data, one_fault}
+use Rattle.cj_audit.specs.Faults.{faults_data, one_fault}
 use Rattle.cj_c.specs.answers.Texts.{IsJsonText}
 use Rattle.cj_c.specs.answers.Zones.{IsBare}
 

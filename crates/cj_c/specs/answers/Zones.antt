@@ -10,7 +10,7 @@ use Rattle.cj_scenario.specs.declared.fault.SceneFault.TheVariants as Why
 use Rattle.cj_zone.specs.declared.zone.Zone.{Zone}
 use Rattle.cj_zone.specs.Table.{local_zone, zones_of}
 use Rattle.cj_zone.specs.Zones.{utc_zone}
-use Rattle.cj_views.specs.Faults.{one_fault}
+use Rattle.cj_audit.specs.Faults.{one_fault}
 use Rattle.cj_c.specs.answers.Texts.{IsJsonText}
 
 -- nothing but UTC is given, which holds where no zone is named

@@ -5,10 +5,10 @@ ghost use Rattle.cj_zone.specs.Table.{zones_of};
 ghost use Rattle.cj_c.specs.answers.Zones.{AreZonesOf, IsBare, IsNoZones, IsZonesRefusal};
 
 use crate::answers::text::json_text;
+use cj_audit::one_fault;
 use cj_base::Refusal;
 use cj_io::GivenZones;
 use cj_scenario::{SceneFault, table_of, value_of};
-use cj_views::one_fault;
 use cj_zone::ZoneTable;
 use std::alloc::Global;
 

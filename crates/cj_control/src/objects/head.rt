@@ -20,7 +20,7 @@ pub struct Head {
 }
 
 /// The head of an object, or its field at fault.
-pub(crate) fn read_head(alloc: Global, value: &Value) -> Result<Head, Refusal>
+pub fn read_head(alloc: Global, value: &Value) -> Result<Head, Refusal>
     ensures ok { IfOk result (λ h. head (view value.now) ≡ Ok h) }
     ensures err { IfErr result (λ e. e ≢ OutOfMemory → head (view value.now) ≡ Err e) }
 {

@@ -21,18 +21,21 @@ pub(crate) fn member<'v>(value: Option<&'v Value>, name: &str) -> Option<&'v Val
     present(value?, name)
 }
 
-pub(crate) fn meta<'v>(value: &'v Value, name: &str) -> Option<&'v Value>
+/// A member of `metadata`.
+pub fn meta<'v>(value: &'v Value, name: &str) -> Option<&'v Value>
     ensures { option_map (λ v. view v.now) result ≡ seen.meta name.now (view value.now) }
 {
     member(present(value, "metadata"), name)
 }
 
-pub(crate) fn spec<'v>(value: &'v Value, name: &str) -> Option<&'v Value>
+/// A member of `spec`.
+pub fn spec<'v>(value: &'v Value, name: &str) -> Option<&'v Value>
     ensures { option_map (λ v. view v.now) result ≡ seen.spec name.now (view value.now) }
 {
     member(present(value, "spec"), name)
 }
 
+/// A member of `status`.
 pub(crate) fn status<'v>(value: &'v Value, name: &str) -> Option<&'v Value>
     ensures { option_map (λ v. view v.now) result ≡ seen.status name.now (view value.now) }
 {
@@ -40,21 +43,21 @@ pub(crate) fn status<'v>(value: &'v Value, name: &str) -> Option<&'v Value>
 }
 
 /// The text of an annotation.
-pub(crate) fn annotation<'v>(value: &'v Value, name: &str) -> Option<&'v str>
+pub fn annotation<'v>(value: &'v Value, name: &str) -> Option<&'v str>
     ensures { option_map (λ s. s.now) result ≡ seen.annotation name.now (view value.now) }
 {
     member(meta(value, "annotations"), name)?.as_str()
 }
 
 /// A text that is a member.
-pub(crate) fn text_at<'v>(value: &'v Value, name: &str) -> Option<&'v str>
+pub fn text_at<'v>(value: &'v Value, name: &str) -> Option<&'v str>
     ensures { option_map (λ s. s.now) result ≡ said.text_at name.now (view value.now) }
 {
     present(value, name)?.as_str()
 }
 
 /// Whether a text is there, and is this.
-pub(crate) fn is_text(name: &str, text: Option<&str>) -> bool
+pub fn is_text(name: &str, text: Option<&str>) -> bool
     ensures { result ≡ seen.is_text name.now (option_map (λ s. s.now) text.entry) }
 {
     match text {
@@ -64,7 +67,7 @@ pub(crate) fn is_text(name: &str, text: Option<&str>) -> bool
 }
 
 /// The values of an array; none where it isn't one.
-pub(crate) fn list_of(value: Option<&Value>) -> &[Value]
+pub fn list_of(value: Option<&Value>) -> &[Value]
     ensures { items_view result.now ≡ seen.list_or_none
         (option_and_then as_array (option_map (λ v. view v.now) value.entry)) }
 {
@@ -136,7 +139,7 @@ pub(crate) fn optional_text(
 }
 
 /// NAMESPACE/NAME.
-pub(crate) fn full_name(alloc: Global, namespace: &str, name: &str) -> Result<Text, Refusal>
+pub fn full_name(alloc: Global, namespace: &str, name: &str) -> Result<Text, Refusal>
     ensures ok { IfOk result (λ t. t ≡ seen.full_name namespace.now name.now) }
     ensures err { IfErr result (λ e. e ≡ OutOfMemory) }
 {

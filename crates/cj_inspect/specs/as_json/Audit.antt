@@ -5,7 +5,7 @@ use Rattle.cj_audit.specs.declared.finding.Finding.{Finding}
 use Rattle.cj_audit.specs.Lines.{audit_lines}
 use Rattle.cj_audit.specs.Manual.{manual_lines}
 use Rattle.cj_cluster.specs.declared.kubectl.list.ClusterList.{ClusterList}
-use Rattle.cj_views.specs.Audit.{audit_data}
+use Rattle.cj_audit.specs.Audit.{audit_data}
 use Rattle.cj_answers.specs.Clusters.{note_lines}
 use Rattle.cj_answers.specs.as_json.Forms.{IsJsonLine}
 

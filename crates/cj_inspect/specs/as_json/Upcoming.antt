@@ -18,7 +18,7 @@ use Rattle.cj_json.specs.Values.{time_data}
 use Rattle.cj_inspect.specs.declared.as_json.upcoming.Parts.{Parts}
 use Rattle.cj_inspect.specs.declared.cron_files.FileCrons.{FileCrons}
 use Rattle.cj_answers.specs.as_json.Forms.{IsJsonLine}
-use Rattle.cj_views.specs.Items.{others_data, refused_data}
+use Rattle.cj_audit.specs.Items.{others_data, refused_data}
 
 -- ---- the files
 

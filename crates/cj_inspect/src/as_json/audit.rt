@@ -1,14 +1,13 @@
 // What `audit` prints as JSON.
 ghost use Rattle.std.specs.Prelude.{◌≡◌, IfOk, IfErr, string_bytes};
 ghost use Rattle.cj_base.specs.declared.refusal.Refusal.TheVariants.{OutOfMemory};
-ghost use Rattle.cj_views.specs.Audit.{audit_data};
+ghost use Rattle.cj_audit.specs.Audit.{audit_data};
 ghost use Rattle.cj_answers.specs.as_json.Forms.{IsJsonLine};
 
 use cj_answers::value_line;
-use cj_audit::Findings;
+use cj_audit::{Findings, audit_value};
 use cj_base::Refusal;
 use cj_cluster::ClusterList;
-use cj_views::audit_value;
 use std::alloc::Global;
 
 /// The findings, what was looked at, and what couldn't be, as one JSON value.

@@ -12,11 +12,11 @@ ghost use Rattle.cj_inspect.specs.as_json.Why.{why_data, why_object};
 
 use cj_answers::{Answer, ending_by, is_read, note_words, value_line};
 use cj_args::WhyRequest;
+use cj_audit::{others_value, refused_value};
 use cj_base::{Refusal, both};
 use cj_cluster::{ClusterCron, ClusterList, ItemNote};
 use cj_io::Failure;
 use cj_types::{Seconds, Shared};
-use cj_views::{others_value, refused_value};
 use cj_why::{cron_values, problems};
 use cj_zone::{ZoneTable, time_text};
 use serde_json::{Value, json};

@@ -9,6 +9,7 @@ ghost use Rattle.cj_inspect.specs.as_json.Upcoming.{AreParts, IsIdleData, IsWind
 
 use crate::cron_files::FileCrons;
 use cj_answers::value_line;
+use cj_audit::{others_value, refused_value};
 use cj_base::{all_four, both};
 use cj_cluster::ClusterCron;
 use cj_json::{push_value, time_value};
@@ -17,7 +18,6 @@ use cj_upcoming::{
     Start, StartsFault, Window, peaks_value, standing_values, starts_value, upcoming,
     zone_changes_value,
 };
-use cj_views::{others_value, refused_value};
 use cj_zone::ZoneTable;
 use serde_json::{Value, json};
 use std::alloc::{AllocError, Global};

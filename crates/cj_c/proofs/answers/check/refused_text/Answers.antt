@@ -5,7 +5,7 @@ use Rattle.cj_base.specs.declared.faults.FieldFault.{FieldFault}
 use Rattle.cj_base.specs.declared.refusal.Refusal.{Refusal}
 use Rattle.cj_manifest.specs.Either as either
 use Rattle.cj_manifest.specs.Reading.{IsRefused}
-use Rattle.cj_views.specs.Faults.{faults_data}
+use Rattle.cj_audit.specs.Faults.{faults_data}
 use Rattle.cj_c.specs.answers.Texts.{IsJsonText}
 use Rattle.cj_c.proofs.answers.check.refused_text.Goals as goal
 

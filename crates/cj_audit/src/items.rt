@@ -1,0 +1,111 @@
+// The items of a list that can't be used, as JSON.
+ghost use Rattle.std.specs.Prelude.{◌≡◌, ◌++◌, map, IfOk, IfErr, OnOk};
+ghost use Rattle.cj_base.specs.declared.refusal.Refusal.TheVariants.{OutOfMemory};
+ghost use Rattle.serde_json.specs.View.{view};
+ghost use Rattle.cj_audit.specs.Items as json;
+
+use crate::faults::{faults_value, one_fault};
+use cj_base::{FieldFault, Refusal};
+use cj_cluster::{ItemNote, Said};
+use cj_json::push_value;
+use serde_json::{Value, json};
+use std::alloc::{AllocError, Global};
+
+fn item_object(alloc: Global, place: u64, faults: Value) -> Result<Value, AllocError>
+    ensures { IfOk result (λ v. view v ≡ json.item_object place (view faults)) }
+{
+    json!(in alloc; {"faults": faults, "item": place})
+}
+
+fn item_value(alloc: Global, place: u64, faults: &[FieldFault]) -> Result<Value, Refusal>
+    ensures ok { IfOk result (λ v. view v ≡ json.item_data place faults.now) }
+    ensures err { IfErr result (λ e. e ≡ OutOfMemory) }
+{
+    let faults = faults_value(alloc, faults)?;
+    Ok(item_object(alloc, place, faults)?)
+}
+
+// An item whose name an earlier item of its kind has.
+fn taken_value(alloc: Global, place: u64) -> Result<Value, Refusal>
+    ensures ok { IfOk result (λ v. view v ≡ json.taken_data place) }
+    ensures err { IfErr result (λ e. e ≡ OutOfMemory) }
+{
+    let faults = one_fault(alloc, "NotAllowed", "metadata.name")?;
+    Ok(item_object(alloc, place, faults)?)
+}
+
+fn kind_value(alloc: Global, place: u64, kind: &str) -> Result<Value, AllocError>
+    ensures { IfOk result (λ v. view v ≡ json.kind_data place kind.now) }
+{
+    json!(in alloc; {"item": place, "kind": kind})
+}
+
+fn push_refused(alloc: Global, values: &mut Vec<Value>, note: &ItemNote) -> Result<(), Refusal>
+    ensures ok { OnOk result (map view values.new.items ≡ map view values.old.items
+        ++ json.refused_by note.now.place note.now.said) }
+    ensures err { IfErr result (λ e. e ≡ OutOfMemory) }
+{
+    match &note.said {
+        Said::Kind(_) => Ok(()),
+        Said::Refused(faults) => {
+            let value = item_value(alloc, note.place, faults.as_slice())?;
+            push_value(values, value)
+        }
+        Said::Taken(_, _) => {
+            let value = taken_value(alloc, note.place)?;
+            push_value(values, value)
+        }
+    }
+}
+
+fn push_other(alloc: Global, values: &mut Vec<Value>, note: &ItemNote) -> Result<(), Refusal>
+    ensures ok { OnOk result (map view values.new.items ≡ map view values.old.items
+        ++ json.other_by note.now.place note.now.said) }
+    ensures err { IfErr result (λ e. e ≡ OutOfMemory) }
+{
+    match &note.said {
+        Said::Kind(kind) => {
+            let value = kind_value(alloc, note.place, kind.as_str())?;
+            push_value(values, value)
+        }
+        Said::Refused(_) | Said::Taken(_, _) => Ok(()),
+    }
+}
+
+fn refused_items(alloc: Global, notes: &[ItemNote]) -> Result<Vec<Value>, Refusal>
+    ensures ok { IfOk result (λ v. map view v.items ≡ json.refused_items notes.now) }
+    ensures err { IfErr result (λ e. e ≡ OutOfMemory) }
+{
+    let mut values = Vec::new(alloc);
+    for note in notes {
+        push_refused(alloc, &mut values, note)?;
+    }
+    Ok(values)
+}
+
+fn other_items(alloc: Global, notes: &[ItemNote]) -> Result<Vec<Value>, Refusal>
+    ensures ok { IfOk result (λ v. map view v.items ≡ json.other_items notes.now) }
+    ensures err { IfErr result (λ e. e ≡ OutOfMemory) }
+{
+    let mut values = Vec::new(alloc);
+    for note in notes {
+        push_other(alloc, &mut values, note)?;
+    }
+    Ok(values)
+}
+
+/// An array of the refused items, each with its place and its faults.
+pub fn refused_value(alloc: Global, notes: &[ItemNote]) -> Result<Value, Refusal>
+    ensures ok { IfOk result (λ v. view v ≡ json.refused_data notes.now) }
+    ensures err { IfErr result (λ e. e ≡ OutOfMemory) }
+{
+    Ok(Value::Array(refused_items(alloc, notes)?))
+}
+
+/// An array of the items that are neither a CronJob nor a Job, each with its place and its kind.
+pub fn others_value(alloc: Global, notes: &[ItemNote]) -> Result<Value, Refusal>
+    ensures ok { IfOk result (λ v. view v ≡ json.others_data notes.now) }
+    ensures err { IfErr result (λ e. e ≡ OutOfMemory) }
+{
+    Ok(Value::Array(other_items(alloc, notes)?))
+}

@@ -1,0 +1,137 @@
+// The options of a controller: of the words, and of a transcript.
+use cj_args::ControlRequest;
+use cj_base::{Refusal, Text};
+use cj_control::ApiVersion;
+use cj_machine::ControlOptions;
+use serde_json::{Value, json};
+use std::alloc::{AllocError, Global};
+
+/// Which option is refused.
+#[derive(Clone, Copy, Debug, PartialEq, Eq)]
+pub enum OptionFault {
+    /// `--api-version` is none that is known.
+    ApiVersion,
+    /// `--log` is no form.
+    Log,
+}
+
+impl OptionFault {
+    /// The line that names it.
+    pub fn line(self) -> &'static str {
+        match self {
+            OptionFault::ApiVersion => "cronsim: api-version\n",
+            OptionFault::Log => "cronsim: log\n",
+        }
+    }
+
+    /// What is wanted, for people.
+    pub fn explained(self) -> &'static str {
+        match self {
+            OptionFault::ApiVersion => "--api-version: want batch/v1 or batch/v1beta1\n",
+            OptionFault::Log => "--log: want text or json\n",
+        }
+    }
+}
+
+fn api_of(text: &str) -> Option<ApiVersion> {
+    match text {
+        "batch/v1" => Some(ApiVersion::BatchV1),
+        "batch/v1beta1" => Some(ApiVersion::BatchV1Beta1),
+        _ => None,
+    }
+}
+
+fn api_text(api: ApiVersion) -> &'static str {
+    match api {
+        ApiVersion::BatchV1 => "batch/v1",
+        ApiVersion::BatchV1Beta1 => "batch/v1beta1",
+    }
+}
+
+/// The version of the API and whether lines are told as JSON, or which of them is refused.
+pub fn forms_of(control: &ControlRequest<'_>) -> Result<(ApiVersion, bool), OptionFault> {
+    let Some(api) = api_of(control.api_version) else {
+        return Err(OptionFault::ApiVersion);
+    };
+    match control.log {
+        "text" => Ok((api, false)),
+        "json" => Ok((api, true)),
+        _ => Err(OptionFault::Log),
+    }
+}
+
+fn copied(alloc: Global, text: Option<&str>) -> Result<Option<Text>, Refusal> {
+    match text {
+        Some(text) => Ok(Some(Text::new(alloc, text)?)),
+        None => Ok(None),
+    }
+}
+
+/// What a controller is told at its start.
+pub fn options_of(
+    alloc: Global,
+    control: &ControlRequest<'_>,
+    api: ApiVersion,
+) -> Result<ControlOptions, Refusal> {
+    Ok(ControlOptions {
+        workers: u64::from(control.workers),
+        dry_run: control.dry_run,
+        namespace: copied(alloc, control.namespace)?,
+        selector: copied(alloc, control.selector)?,
+        only_annotated: control.only_annotated,
+        api,
+        replica: Text::new(alloc, control.replica.unwrap_or(""))?,
+    })
+}
+
+fn text_value(alloc: Global, text: &Option<Text>) -> Result<Value, AllocError> {
+    match text {
+        Some(text) => Value::try_from_str(alloc, text.as_str()),
+        None => Ok(Value::Null),
+    }
+}
+
+/// The options as a transcript has them.
+pub fn options_value(alloc: Global, options: &ControlOptions) -> Result<Value, AllocError> {
+    let namespace = text_value(alloc, &options.namespace)?;
+    let selector = text_value(alloc, &options.selector)?;
+    let api = api_text(options.api);
+    let (dry_run, only_annotated) = (options.dry_run, options.only_annotated);
+    let (workers, replica) = (options.workers, options.replica.as_str());
+    json!(in alloc; {
+        "apiVersion": api,
+        "dryRun": dry_run,
+        "namespace": namespace,
+        "onlyAnnotated": only_annotated,
+        "replica": replica,
+        "selector": selector,
+        "workers": workers
+    })
+}
+
+/// The options that a value of a transcript has; none where it has no such members.
+pub fn read_options(alloc: Global, value: &Value) -> Result<Option<ControlOptions>, Refusal> {
+    let api = value.get("apiVersion").and_then(Value::as_str);
+    let dry_run = value.get("dryRun").and_then(Value::as_bool);
+    let only_annotated = value.get("onlyAnnotated").and_then(Value::as_bool);
+    let replica = value.get("replica").and_then(Value::as_str);
+    let workers = value.get("workers").and_then(Value::as_u64);
+    let (Some(api), Some(dry_run), Some(only_annotated), Some(replica), Some(workers)) = (
+        api.and_then(api_of),
+        dry_run,
+        only_annotated,
+        replica,
+        workers,
+    ) else {
+        return Ok(None);
+    };
+    Ok(Some(ControlOptions {
+        workers,
+        dry_run,
+        namespace: copied(alloc, value.get("namespace").and_then(Value::as_str))?,
+        selector: copied(alloc, value.get("selector").and_then(Value::as_str))?,
+        only_annotated,
+        api,
+        replica: Text::new(alloc, replica)?,
+    }))
+}

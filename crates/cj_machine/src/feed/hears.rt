@@ -1,0 +1,130 @@
+// A feed hears a line.
+use crate::feed::answers::{Verdict, verdict_of};
+use crate::feed::notes::Asked;
+use crate::feed::{Feed, Notes, Scope, Stage};
+use crate::mirror::Shelf;
+use crate::source::Source;
+use cj_base::Refusal;
+use cj_control::LineKind;
+use cj_manifest::present;
+use cj_types::Key;
+use serde_json::Value;
+use std::alloc::Global;
+
+impl Feed {
+    fn asked(&self) -> Asked {
+        match &self.stage {
+            Stage::Listing(_) => Asked::List,
+            _ => Asked::Watch,
+        }
+    }
+
+    // The server answered 200.
+    fn done(
+        &mut self,
+        alloc: Global,
+        scope: &Scope,
+        source: Source,
+        shelf: &mut Shelf,
+        notes: &mut Notes,
+        value: &Value,
+        now: u64,
+    ) -> Result<Vec<Key>, Refusal> {
+        match self.asked() {
+            Asked::List => {
+                let body = present(value, "body");
+                self.hear_page(alloc, scope, source, shelf, notes, body, now)
+            }
+            Asked::Watch => {
+                self.pace = self.pace.met();
+                Ok(Vec::new(alloc))
+            }
+        }
+    }
+
+    fn refused(
+        &mut self,
+        alloc: Global,
+        scope: &Scope,
+        source: Source,
+        notes: &mut Notes,
+        status: u64,
+        value: &Value,
+        now: u64,
+    ) -> Result<Vec<Key>, Refusal> {
+        let asked = self.asked();
+        self.restart(now, 32);
+        notes.refused(alloc, scope, source, asked, status, present(value, "body"))?;
+        Ok(Vec::new(alloc))
+    }
+
+    fn answered(
+        &mut self,
+        alloc: Global,
+        scope: &Scope,
+        source: Source,
+        shelf: &mut Shelf,
+        notes: &mut Notes,
+        status: u64,
+        value: &Value,
+        now: u64,
+    ) -> Result<Vec<Key>, Refusal> {
+        match verdict_of(status) {
+            Verdict::Done => self.done(alloc, scope, source, shelf, notes, value, now),
+            Verdict::Expired => {
+                self.restart(now, 1);
+                Ok(Vec::new(alloc))
+            }
+            Verdict::Busy => {
+                self.pace = self.pace.missed(now);
+                Ok(Vec::new(alloc))
+            }
+            Verdict::Refused => self.refused(alloc, scope, source, notes, status, value, now),
+        }
+    }
+
+    // A watch that told an error has ended.
+    fn end_watch(&mut self, now: u64) {
+        if let Stage::Ending = &self.stage {
+            self.restart(now, 1);
+        }
+    }
+
+    /// A line for the request that was asked. Gives the CronJobs that are touched.
+    pub(crate) fn hear(
+        &mut self,
+        alloc: Global,
+        scope: &Scope,
+        source: Source,
+        shelf: &mut Shelf,
+        notes: &mut Notes,
+        kind: LineKind,
+        value: &Value,
+        now: u64,
+    ) -> Result<Vec<Key>, Refusal> {
+        if !self.waits {
+            return Ok(Vec::new(alloc));
+        }
+        match kind {
+            LineKind::Told(_) => {
+                let event = present(value, "event");
+                self.hear_event(alloc, scope, source, shelf, notes, event)
+            }
+            LineKind::Answered(_, status) => {
+                self.waits = false;
+                let touched = self.answered(
+                    alloc, scope, source, shelf, notes, status, value, now,
+                )?;
+                self.end_watch(now);
+                Ok(touched)
+            }
+            LineKind::Failed(_) => {
+                self.waits = false;
+                self.pace = self.pace.missed(now);
+                self.end_watch(now);
+                Ok(Vec::new(alloc))
+            }
+            _ => Ok(Vec::new(alloc)),
+        }
+    }
+}

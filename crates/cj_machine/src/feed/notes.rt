@@ -1,0 +1,118 @@
+// Lines for people.
+use crate::feed::scope::Scope;
+use crate::source::Source;
+use cj_base::Refusal;
+use cj_control::text_at;
+use serde_json::Value;
+use std::alloc::{AllocError, Global};
+use std::mem;
+
+/// What a request was for.
+#[derive(Clone, Copy)]
+pub(crate) enum Asked {
+    List,
+    Watch,
+}
+
+/// Lines for people, in the order in which they came.
+#[derive(Drop)]
+pub(crate) struct Notes {
+    lines: Vec<String>,
+}
+
+fn act(asked: Asked) -> &'static str {
+    match asked {
+        Asked::List => "list",
+        Asked::Watch => "watch",
+    }
+}
+
+fn plural(source: Source) -> &'static str {
+    match source {
+        Source::Crons => "CronJobs",
+        Source::Jobs => "Jobs",
+    }
+}
+
+// The objects, by kind and namespace.
+fn objects(alloc: Global, scope: &Scope, source: Source) -> Result<String, AllocError> {
+    let plural = plural(source);
+    match &scope.namespace {
+        Some(namespace) => {
+            let namespace = namespace.as_str();
+            format!(in alloc; "{plural} in namespace {namespace}")
+        }
+        None => format!(in alloc; "{plural}"),
+    }
+}
+
+// What a server says of a refusal, with a colon before it.
+fn reason(alloc: Global, body: Option<&Value>) -> Result<String, AllocError> {
+    let message = match body {
+        Some(body) => text_at(body, "message"),
+        None => None,
+    };
+    match message {
+        Some(message) => format!(in alloc; ": {message}"),
+        None => Ok(String::new(alloc)),
+    }
+}
+
+impl Notes {
+    pub(crate) fn new(alloc: Global) -> Notes {
+        Notes {
+            lines: Vec::new(alloc),
+        }
+    }
+
+    fn push(&mut self, line: String) -> Result<(), Refusal> {
+        self.lines.push(line).map_err(|_| Refusal::OutOfMemory)
+    }
+
+    /// The lines, each once.
+    pub(crate) fn take(&mut self, alloc: Global) -> Vec<String> {
+        mem::replace(&mut self.lines, Vec::new(alloc))
+    }
+
+    /// A line that the server refused a list or a watch by this status.
+    pub(crate) fn refused(
+        &mut self,
+        alloc: Global,
+        scope: &Scope,
+        source: Source,
+        asked: Asked,
+        status: u64,
+        body: Option<&Value>,
+    ) -> Result<(), Refusal> {
+        let act = act(asked);
+        let objects = objects(alloc, scope, source)?;
+        let reason = reason(alloc, body)?;
+        self.push(format!(in alloc;
+            "can't {act} {objects}: the API server answered {status}{reason}; trying again in 32 s"
+        )?)
+    }
+
+    /// A line that a page of a list can't be read.
+    pub(crate) fn unread_page(
+        &mut self,
+        alloc: Global,
+        scope: &Scope,
+        source: Source,
+    ) -> Result<(), Refusal> {
+        let objects = objects(alloc, scope, source)?;
+        self.push(format!(in alloc; "can't read the API server's list of {objects}; asking again")?)
+    }
+
+    /// A line that an event can't be read.
+    pub(crate) fn unread_event(
+        &mut self,
+        alloc: Global,
+        scope: &Scope,
+        source: Source,
+    ) -> Result<(), Refusal> {
+        let objects = objects(alloc, scope, source)?;
+        self.push(format!(in alloc;
+            "can't read an event of the watch of {objects}; it is left out"
+        )?)
+    }
+}

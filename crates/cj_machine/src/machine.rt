@@ -1,0 +1,274 @@
+// The controller: lines in, lines out.
+ghost use Rattle.std.specs.Prelude.{◌≡◌, IfOk, IfErr};
+ghost use Rattle.cj_base.specs.declared.refusal.Refusal.TheVariants.{OutOfMemory};
+ghost use Rattle.cj_control.specs.Syncs.{IsNew};
+
+mod choice;
+mod choosing;
+mod clearing;
+mod driver;
+mod events;
+mod finishing;
+mod hearing;
+mod listing;
+mod making;
+mod memo;
+mod options;
+mod planning;
+mod reading;
+mod saying;
+mod starting;
+mod steps;
+mod syncing;
+mod task;
+mod view;
+mod walking;
+
+use crate::machine::driver::Driver;
+use crate::machine::events::tell_event;
+use crate::machine::finishing::end_stuck;
+use crate::machine::syncing::{answered, begin_next};
+use crate::source::Source;
+use cj_base::{Millis, Refusal, Seconds, Text};
+use cj_control::{Deed, Ledger, Line, LineFault, LineKind, Request, read_line, request_line};
+use cj_zone::ZoneTable;
+pub use options::ControlOptions;
+use std::alloc::Global;
+use std::marker::Model;
+use std::mem;
+
+/// More syncs than begin at one line.
+const MOST_SYNCS: u64 = 1_000_000;
+
+/// A controller of CronJobs: a line in, and then the requests that are to be sent. Contracts see
+/// its ledger.
+pub struct Machine {
+    ledger: Ledger,
+    driver: Driver,
+}
+
+impl Drop for Machine {
+    fn drop(self) {
+        let Machine { ledger, driver } = self;
+        drop(ledger);
+        drop(driver);
+    }
+}
+
+impl Model for Machine {
+    ghost use Rattle.cj_control.specs.Syncs.{LedgerView, coded_ledger};
+
+    ghost Value = { LedgerView };
+
+    ghost coded = { coded_ledger };
+
+    ghost view = { λ m. m.ledger };
+}
+
+impl Machine {
+    /// A controller that has heard nothing yet.
+    pub fn new(alloc: Global, options: ControlOptions) -> Result<Machine, Refusal>
+        ensures ok { IfOk result (IsNew options.workers) }
+        ensures err { IfErr result (λ e. e ≡ OutOfMemory) }
+    {
+        let ledger = Ledger::new(alloc, options.workers);
+        let driver = Driver::new(alloc, options)?;
+        Ok(Machine { ledger, driver })
+    }
+
+    /// Takes a line, without its end. A line that is none is told to people. Where memory is
+    /// wanting, what the line said may be lost: a sync then ends, and a list begins anew.
+    pub fn line(&mut self, alloc: Global, bytes: &[u8], zones: &ZoneTable) -> Result<(), Refusal> {
+        let (ledger, driver) = (&mut self.ledger, &mut self.driver);
+        match read_line(alloc, bytes) {
+            Ok(line) => take(ledger, driver, alloc, zones, &line),
+            Err(LineFault::Memory) => Err(Refusal::OutOfMemory),
+            Err(_) => driver.tell(String::from_str(alloc, "passed over a line that is none")?),
+        }
+    }
+
+    /// The lines of the requests since the last call, without their ends. Where memory is wanting,
+    /// they are lost: a sync that asked ends after five minutes, and the lists begin anew.
+    pub fn take_out(&mut self, alloc: Global) -> Result<Vec<String>, Refusal> {
+        let lines = lines_of(alloc, self.ledger.take_deeds(alloc));
+        if lines.is_err() {
+            self.driver.forget_feeds();
+        }
+        lines
+    }
+
+    /// The lines for people since the last call.
+    pub fn take_told(&mut self, alloc: Global) -> Vec<String> {
+        mem::replace(&mut self.driver.told, Vec::new(alloc))
+    }
+
+    /// The names of zones that are wanted since the last call.
+    pub fn take_zones(&mut self, alloc: Global) -> Vec<Text> {
+        mem::replace(&mut self.driver.wanted, Vec::new(alloc))
+    }
+
+    /// Whether it was told to stop, and no sync is under way any more.
+    pub fn is_done(&self) -> bool {
+        self.driver.is_stopping && self.driver.tasks.is_empty()
+    }
+}
+
+// The line of a request.
+fn line_text(alloc: Global, id: u64, request: Request) -> Result<String, Refusal> {
+    let line = request_line(alloc, id, request)?;
+    Ok(line.to_string(alloc)?)
+}
+
+// The line of a deed that sends a request.
+fn deed_line(alloc: Global, deed: Deed) -> Result<Option<String>, Refusal> {
+    match deed {
+        Deed::Sends(_, id, _, request) => Ok(Some(line_text(alloc, id, request)?)),
+        Deed::Reads(id, request) => Ok(Some(line_text(alloc, id, request)?)),
+        Deed::Begins(_) | Deed::Asks(_, _) | Deed::Hears(_, _) | Deed::Ends(_) => Ok(None),
+    }
+}
+
+fn push_line(lines: &mut Vec<String>, line: Option<String>) -> Result<(), Refusal> {
+    match line {
+        Some(line) => lines.push(line).map_err(|_| Refusal::OutOfMemory),
+        None => Ok(()),
+    }
+}
+
+fn lines_of(alloc: Global, deeds: Vec<Deed>) -> Result<Vec<String>, Refusal> {
+    let mut lines = Vec::new(alloc);
+    for deed in deeds {
+        push_line(&mut lines, deed_line(alloc, deed)?)?;
+    }
+    Ok(lines)
+}
+
+// What a line says is done, and then what can begin.
+fn take(
+    ledger: &mut Ledger,
+    driver: &mut Driver,
+    alloc: Global,
+    zones: &ZoneTable,
+    line: &Line,
+) -> Result<(), Refusal> {
+    came(ledger, driver, alloc, zones, line)?;
+    begin_all(ledger, driver, alloc, zones)?;
+    follow(ledger, driver, alloc)
+}
+
+fn came(
+    ledger: &mut Ledger,
+    driver: &mut Driver,
+    alloc: Global,
+    zones: &ZoneTable,
+    line: &Line,
+) -> Result<(), Refusal> {
+    match line.kind {
+        LineKind::Clock(now) => clock(ledger, driver, alloc, now),
+        LineKind::Stop => {
+            driver.is_stopping = true;
+            Ok(())
+        }
+        LineKind::Answered(id, _) => came_for(ledger, driver, alloc, zones, id, line),
+        LineKind::Failed(id) => came_for(ledger, driver, alloc, zones, id, line),
+        LineKind::Told(id) => driver.told_for(alloc, id, line),
+    }
+}
+
+// An answer to the request of a number, or that none came.
+fn came_for(
+    ledger: &mut Ledger,
+    driver: &mut Driver,
+    alloc: Global,
+    zones: &ZoneTable,
+    id: u64,
+    line: &Line,
+) -> Result<(), Refusal> {
+    if driver.version_id == Some(id) {
+        driver.hear_version(line);
+        return Ok(());
+    }
+    match driver.feed_of(id) {
+        Some(source) => driver.hear_feed(alloc, source, line),
+        None => answered(ledger, driver, alloc, zones, id, line),
+    }
+}
+
+// The clock is at this second.
+fn clock(ledger: &mut Ledger, driver: &mut Driver, alloc: Global, now: u64) -> Result<(), Refusal> {
+    driver.set_clock(alloc, now)?;
+    end_stuck(ledger, driver, alloc)?;
+    match Seconds::new(now) {
+        Some(now) => driver.queue.tick(Millis::from(now)),
+        None => Ok(()),
+    }
+}
+
+// Syncs begin, as many as there are keys in line and workers.
+fn begin_all(
+    ledger: &mut Ledger,
+    driver: &mut Driver,
+    alloc: Global,
+    zones: &ZoneTable,
+) -> Result<(), Refusal> {
+    for _ in 0..MOST_SYNCS {
+        if !begin_next(ledger, driver, alloc, zones)? {
+            return Ok(());
+        }
+    }
+    Ok(())
+}
+
+// What is to be read of the cluster is asked for.
+fn follow(ledger: &mut Ledger, driver: &mut Driver, alloc: Global) -> Result<(), Refusal> {
+    if driver.is_stopping || driver.now == 0 {
+        return Ok(());
+    }
+    if driver.by.is_none() {
+        return ask_version(ledger, driver, alloc);
+    }
+    follow_source(ledger, driver, alloc, Source::Crons)?;
+    follow_source(ledger, driver, alloc, Source::Jobs)?;
+    tell_events(ledger, driver, alloc)
+}
+
+// The Events that are to be told are told, as many as this minute has room for.
+fn tell_events(ledger: &mut Ledger, driver: &mut Driver, alloc: Global) -> Result<(), Refusal> {
+    for _ in 0..MOST_SYNCS {
+        if !tell_event(ledger, driver, alloc)? {
+            return Ok(());
+        }
+    }
+    Ok(())
+}
+
+// The server's version is asked for.
+fn ask_version(ledger: &mut Ledger, driver: &mut Driver, alloc: Global) -> Result<(), Refusal> {
+    if driver.version_id.is_some() || driver.now < driver.version_at {
+        return Ok(());
+    }
+    driver.version_id = steps::read(ledger, Text::new(alloc, "/version")?)?;
+    Ok(())
+}
+
+// What a feed asks next is asked.
+fn follow_source(
+    ledger: &mut Ledger,
+    driver: &mut Driver,
+    alloc: Global,
+    source: Source,
+) -> Result<(), Refusal> {
+    let Some(path) = driver.next_path(alloc, source)? else {
+        return Ok(());
+    };
+    match steps::read(ledger, path) {
+        Ok(id) => {
+            driver.set_feed(source, id);
+            Ok(())
+        }
+        Err(refusal) => {
+            driver.feeds.forget_answer(source, driver.now);
+            Err(refusal)
+        }
+    }
+}

@@ -1,0 +1,128 @@
+// What a sync does next, by how far it has come.
+
+use crate::machine::choice::Choice;
+use crate::machine::clearing::{list, tidy, to_clear};
+use crate::machine::making::{hold, make, name_taken, not_adopted};
+use crate::machine::reading::{job_row, take_cron, value_of};
+use crate::machine::starting::start;
+use crate::machine::task::{Again, Stage, Task};
+use crate::machine::view::View;
+use cj_base::{Refusal, TryCopy};
+use cj_control::{parts, read_cron};
+use cj_fence::{Answer, At, Call, Job, Ref, Sync};
+use cj_types::Key;
+use std::alloc::Global;
+
+// The CronJob as lists and watches told it.
+fn cached_cron(alloc: Global, task: &mut Task, text: &str) -> Result<Choice, Refusal> {
+    let Some(value) = value_of(alloc, text)? else {
+        return Ok(Choice::End(Again::Never));
+    };
+    let row = match read_cron(alloc, &value) {
+        Ok(row) => row,
+        Err(Refusal::OutOfMemory) => return Err(Refusal::OutOfMemory),
+        Err(_) => return Ok(Choice::End(Again::Never)),
+    };
+    if !take_cron(alloc, task, &value)? {
+        return Ok(Choice::End(Again::Never));
+    }
+    let name = task.name.try_copy(alloc)?;
+    Ok(Choice::Look(Call::CacheCron(name), Answer::Cron(Some(row.object))))
+}
+
+// A sync that has called nothing reads its CronJob.
+fn fresh(alloc: Global, view: &View<'_>, task: &mut Task) -> Result<Choice, Refusal> {
+    if task.is_live {
+        return Ok(Choice::Send(Call::GetCron(task.name.try_copy(alloc)?)));
+    }
+    match view.mirror.cron(&task.key) {
+        Some(text) => cached_cron(alloc, task, text),
+        None => Ok(Choice::End(Again::Never)),
+    }
+}
+
+// The key of NAMESPACE/NAME, where it is one.
+fn key_of(alloc: Global, full: &str) -> Result<Option<Key>, Refusal> {
+    let (namespace, name) = parts(full);
+    match Key::new(alloc, namespace, name) {
+        Ok(key) => Ok(Some(key)),
+        Err(Refusal::OutOfMemory) => Err(Refusal::OutOfMemory),
+        Err(_) => Ok(None),
+    }
+}
+
+// A Job of `status.active` that lists and watches told to be dead or started, which stays so.
+fn settled(alloc: Global, view: &View<'_>, job: &Ref) -> Result<Option<Job>, Refusal> {
+    let Some(key) = key_of(alloc, job.name.as_str())? else {
+        return Ok(None);
+    };
+    let Some(text) = view.mirror.job(&key) else {
+        return Ok(None);
+    };
+    let Some(value) = value_of(alloc, text)? else {
+        return Ok(None);
+    };
+    let Some(row) = job_row(alloc, &value)? else {
+        return Ok(None);
+    };
+    let found = row.object;
+    let waits = found.held && !found.finished && !found.deleting;
+    if !waits && found.uid.as_str() == job.uid.as_str() {
+        Ok(Some(found))
+    } else {
+        Ok(None)
+    }
+}
+
+// A Job of `status.active` is read.
+fn look(alloc: Global, view: &View<'_>, job: &Ref) -> Result<Choice, Refusal> {
+    let name = job.name.try_copy(alloc)?;
+    match settled(alloc, view, job)? {
+        Some(found) => Ok(Choice::Look(Call::CacheJob(name), Answer::Job(Some(found)))),
+        None => Ok(Choice::Send(Call::GetJob(name))),
+    }
+}
+
+// Each Job of the status is dead or was started.
+fn ready(alloc: Global, view: &View<'_>, task: &mut Task, at: &At) -> Result<Choice, Refusal> {
+    match task.stage {
+        Stage::Reading => make(alloc, view, task, at),
+        Stage::Creating => name_taken(alloc, task, at),
+        Stage::Asking => not_adopted(alloc, task, at),
+        Stage::Starting => tidy(alloc, view, task, at),
+        Stage::Helping => Ok(Choice::End(Again::After(0))),
+        Stage::Tidying => list(alloc, view, task),
+    }
+}
+
+// What ended a sync says when the next one looks.
+fn over(task: &Task) -> Again {
+    match task.status {
+        404 | 409 | 422 => Again::After(300),
+        _ => Again::Failed,
+    }
+}
+
+/// What a sync does next, by how far it has come.
+pub(crate) fn choose(
+    alloc: Global,
+    view: &View<'_>,
+    task: &mut Task,
+    sync: &Sync,
+) -> Result<Choice, Refusal> {
+    match sync {
+        Sync::Fresh => fresh(alloc, view, task),
+        Sync::Looking(_, todo, _) => match todo.as_slice() {
+            [first, ..] => look(alloc, view, first),
+            [] => Ok(Choice::End(Again::Failed)),
+        },
+        Sync::Ready(at) => ready(alloc, view, task, at),
+        Sync::Holding(at, held) => hold(alloc, task, at, held),
+        Sync::Starting(at, held, drops) => { start(alloc, view, task, at, held, drops.as_slice()) }
+        Sync::Tidying(_, garbage, finished) => {
+            to_clear(alloc, view, task, garbage.as_slice(), finished.as_slice())
+        }
+        Sync::Gone => Ok(Choice::End(Again::Never)),
+        Sync::Over => Ok(Choice::End(over(task))),
+    }
+}

@@ -1,0 +1,93 @@
+// The status without the dead, and the Jobs that go.
+use crate::machine::choice::Choice;
+use crate::machine::listing::rows_of;
+use crate::machine::task::{Again, Stage, Task};
+use crate::machine::view::{View, rank};
+use cj_base::{Refusal, Same, TryCopy};
+use cj_control::parts;
+use cj_fence::{Answer, At, Call, Ref, Table, Tidy};
+use std::alloc::Global;
+
+/// The Jobs of the CronJob are listed.
+pub(crate) fn list(alloc: Global, view: &View<'_>, task: &mut Task) -> Result<Choice, Refusal> {
+    task.stage = Stage::Tidying;
+    let rows = rows_of(alloc, view, &task.key)?;
+    Ok(Choice::Look(Call::ListJobs, Answer::Jobs(Table::from_rows(rows))))
+}
+
+/// The status is written without the dead, where it names any; then the Jobs are listed.
+pub(crate) fn tidy(
+    alloc: Global,
+    view: &View<'_>,
+    task: &mut Task,
+    at: &At,
+) -> Result<Choice, Refusal> {
+    if at.alive.same(&at.cron.active) || is_due_soon(view, task) {
+        return list(alloc, view, task);
+    }
+    task.stage = Stage::Tidying;
+    let tidy = Tidy {
+        name: at.name.try_copy(alloc)?,
+        uid: at.cron.uid.try_copy(alloc)?,
+        version: at.cron.version.try_copy(alloc)?,
+        active: at.alive.try_copy(alloc)?,
+    };
+    Ok(Choice::Send(Call::Tidy(tidy)))
+}
+
+// Whether a time is due within a minute, whose claim writes the status anyway.
+fn is_due_soon(view: &View<'_>, task: &Task) -> bool {
+    match next_time(task) {
+        Some(next) => next <= view.now.saturating_add(60) && task.stage == Stage::Reading,
+        None => false,
+    }
+}
+
+fn next_time(task: &Task) -> Option<u64> {
+    match &task.plan {
+        Some(plan) => plan.next,
+        None => None,
+    }
+}
+
+// Whether the history limits let a Job go.
+fn is_surplus(task: &Task, job: &Ref) -> bool {
+    let (_, name) = parts(job.name.as_str());
+    match &task.plan {
+        Some(plan) => plan.surplus.iter().any(|it| it.as_str() == name),
+        None => false,
+    }
+}
+
+// The first of the garbage, or else of the finished Jobs that the history limits let go.
+fn first_to_go<'a>(task: &Task, garbage: &'a [Ref], finished: &'a [Ref]) -> Option<&'a Ref> {
+    match garbage {
+        [first, ..] => Some(first),
+        [] => finished.iter().find(|job| is_surplus(task, job)),
+    }
+}
+
+// When the CronJob is due again.
+fn next(view: &View<'_>, task: &Task) -> Again {
+    match next_time(task) {
+        Some(time) => {
+            let rank = rank(view.options.replica.as_str(), task.name.as_str());
+            Again::At(time.saturating_add(rank))
+        }
+        None => Again::Never,
+    }
+}
+
+/// A Job is deleted, or the sync ends.
+pub(crate) fn to_clear(
+    alloc: Global,
+    view: &View<'_>,
+    task: &Task,
+    garbage: &[Ref],
+    finished: &[Ref],
+) -> Result<Choice, Refusal> {
+    match first_to_go(task, garbage, finished) {
+        Some(job) => Ok(Choice::Send(Call::Delete(job.try_copy(alloc)?))),
+        None => Ok(Choice::End(next(view, task))),
+    }
+}

@@ -1,0 +1,170 @@
+// What a controller keeps beside its ledger.
+ghost use Rattle.std.specs.Prelude.{◌≡◌, IfErr};
+ghost use Rattle.cj_base.specs.declared.refusal.Refusal.TheVariants.{OutOfMemory};
+
+use crate::feeds::Feeds;
+use crate::machine::events::{EventNote, MOST_EVENTS};
+use crate::machine::memo::Memo;
+use crate::machine::options::ControlOptions;
+use crate::machine::task::Task;
+use crate::source::Source;
+use cj_base::{Refusal, Text, TryCopy};
+use cj_control::HeldBy;
+use cj_queue::Queue;
+use cj_table::Table;
+use std::alloc::Global;
+
+/// What a controller keeps beside its ledger.
+pub(crate) struct Driver {
+    pub options: ControlOptions,
+    pub feeds: Feeds,
+    pub queue: Queue,
+    /// The syncs under way.
+    pub tasks: Vec<Task>,
+    /// What is kept of a CronJob from one sync to the next.
+    pub memos: Table<Memo>,
+    /// Lines for people.
+    pub told: Vec<String>,
+    /// Events that are to be told, and how many may be told in this minute.
+    pub events: Vec<EventNote>,
+    pub events_left: u64,
+    /// How many Jobs were started since the last summary.
+    pub starts: u64,
+    /// Names of zones that are wanted, and those that were.
+    pub wanted: Vec<Text>,
+    pub known: Vec<Text>,
+    /// The numbers of the requests that are waited for: the server's version, and of each feed.
+    pub version_id: Option<u64>,
+    pub crons_id: Option<u64>,
+    pub jobs_id: Option<u64>,
+    /// What keeps a held Job from running, once the server's version is known.
+    pub by: Option<HeldBy>,
+    /// When the server's version is asked for again, in seconds since 1970.
+    pub version_at: u64,
+    /// The clock, in seconds since 1970; 0 before it is told.
+    pub now: u64,
+    pub is_stopping: bool,
+}
+
+impl Drop for Driver {
+    fn drop(self) {
+        let Driver {
+            options,
+            feeds,
+            queue,
+            tasks: _,
+            memos: _,
+            told: _,
+            events: _,
+            events_left: _,
+            starts: _,
+            wanted: _,
+            known: _,
+            version_id: _,
+            crons_id: _,
+            jobs_id: _,
+            by: _,
+            version_at: _,
+            now: _,
+            is_stopping: _,
+        } = self;
+        drop(options);
+        drop(feeds);
+        drop(queue);
+    }
+}
+
+impl Driver {
+    /// What a controller keeps that has heard nothing yet.
+    pub fn new(alloc: Global, options: ControlOptions) -> Result<Driver, Refusal>
+        ensures err { IfErr result (λ e. e ≡ OutOfMemory) }
+    {
+        let namespace = options.namespace.try_copy(alloc)?;
+        let selector = options.selector.try_copy(alloc)?;
+        let feeds = Feeds::new(alloc, options.api, namespace, selector);
+        Ok(Driver {
+            options,
+            feeds,
+            queue: Queue::new(alloc),
+            tasks: Vec::new(alloc),
+            memos: Table::new(alloc),
+            told: Vec::new(alloc),
+            events: Vec::new(alloc),
+            events_left: MOST_EVENTS,
+            starts: 0,
+            wanted: Vec::new(alloc),
+            known: Vec::new(alloc),
+            version_id: None,
+            crons_id: None,
+            jobs_id: None,
+            by: None,
+            version_at: 0,
+            now: 0,
+            is_stopping: false,
+        })
+    }
+
+    /// A line for people.
+    pub fn tell(&mut self, text: String) -> Result<(), Refusal> {
+        self.told.push(text).map_err(|_| Refusal::OutOfMemory)
+    }
+
+    /// The clock is at this second. Each minute people are told how things stand.
+    pub fn set_clock(&mut self, alloc: Global, now: u64) -> Result<(), Refusal> {
+        let is_new_minute = now / 60 != self.now / 60;
+        let is_first = self.now == 0;
+        self.now = now;
+        if !is_new_minute {
+            return Ok(());
+        }
+        self.events_left = MOST_EVENTS;
+        if is_first { Ok(()) } else { self.sum_up(alloc) }
+    }
+
+    // How things stand.
+    fn sum_up(&mut self, alloc: Global) -> Result<(), Refusal> {
+        let crons = self.feeds.mirror().cron_count();
+        let jobs = self.feeds.mirror().job_count();
+        let (starts, under_way) = (self.starts, self.tasks.len());
+        self.starts = 0;
+        let text = format!(in alloc;
+            "{crons} CronJobs, {jobs} Jobs; started {starts} in the last minute, {under_way} syncs under way"
+        )?;
+        self.tell(text)
+    }
+
+    /// Takes the sync out that waits for the answer to this request.
+    pub fn take_task(&mut self, id: u64) -> Option<Task> {
+        let place = self.tasks.iter().position(|task| task.id == Some(id))?;
+        Some(self.tasks.swap_remove(place))
+    }
+
+    /// Which feed waits for this request.
+    pub fn feed_of(&self, id: u64) -> Option<Source> {
+        if self.crons_id == Some(id) {
+            Some(Source::Crons)
+        } else if self.jobs_id == Some(id) {
+            Some(Source::Jobs)
+        } else {
+            None
+        }
+    }
+
+    /// Waits for no answer to a list, to a watch, or to the question for the server's version: all
+    /// are asked anew.
+    pub fn forget_feeds(&mut self) {
+        self.version_id = None;
+        self.crons_id = None;
+        self.jobs_id = None;
+        self.feeds.forget_answer(Source::Crons, self.now);
+        self.feeds.forget_answer(Source::Jobs, self.now);
+    }
+
+    /// Notes which request a feed waits for.
+    pub fn set_feed(&mut self, feed: Source, id: Option<u64>) {
+        match feed {
+            Source::Crons => self.crons_id = id,
+            Source::Jobs => self.jobs_id = id,
+        }
+    }
+}

@@ -1,0 +1,114 @@
+// What lists, watches and the server's version tell.
+use crate::machine::driver::Driver;
+use crate::machine::view::rank;
+use crate::source::Source;
+use cj_base::{Refusal, Text, TryCopy};
+use cj_control::{HeldBy, Line, LineKind, full_name};
+use cj_manifest::present;
+use cj_types::Key;
+use serde_json::Value;
+use std::alloc::Global;
+
+// The number that a text begins with.
+fn number_in(text: &str) -> u64 {
+    let mut number: u64 = 0;
+    for byte in text.as_bytes() {
+        if !byte.is_ascii_digit() {
+            return number;
+        }
+        number = number
+            .saturating_mul(10)
+            .saturating_add(u64::from(byte.saturating_sub(b'0')));
+    }
+    number
+}
+
+// What keeps a held Job from running on a server of this minor version: one before 1.24 may drop
+// `spec.suspend`.
+fn held_by(body: Option<&Value>) -> Option<HeldBy> {
+    let minor = present(body?, "minor")?.as_str()?;
+    if number_in(minor) >= 24 {
+        Some(HeldBy::Suspend)
+    } else {
+        Some(HeldBy::Parallelism)
+    }
+}
+
+impl Driver {
+    /// What the server says of its version.
+    pub fn hear_version(&mut self, line: &Line) {
+        self.version_id = None;
+        self.version_at = self.now.saturating_add(1);
+        if let LineKind::Answered(_, 200) = line.kind {
+            self.by = held_by(present(&line.value, "body"));
+        }
+    }
+
+    /// An event of a watch.
+    pub fn told_for(&mut self, alloc: Global, id: u64, line: &Line) -> Result<(), Refusal> {
+        match self.feed_of(id) {
+            Some(source) => self.hear_feed(alloc, source, line),
+            None => Ok(()),
+        }
+    }
+
+    /// A line for the request of a feed. The CronJobs that it touches are to be synced.
+    pub fn hear_feed(&mut self, alloc: Global, source: Source, line: &Line) -> Result<(), Refusal> {
+        if !matches!(line.kind, LineKind::Told(_)) {
+            self.set_feed(source, None);
+        }
+        match self
+            .feeds
+            .heard(alloc, source, line.kind, &line.value, self.now)
+        {
+            Ok(keys) => {
+                self.touch_all(alloc, keys.as_slice())?;
+                self.tell_notes(alloc)
+            }
+            Err(refusal) => {
+                self.set_feed(source, None);
+                self.feeds.forget_answer(source, self.now);
+                Err(refusal)
+            }
+        }
+    }
+
+    // What people are to know of lists and watches.
+    fn tell_notes(&mut self, alloc: Global) -> Result<(), Refusal> {
+        for line in self.feeds.take_told(alloc) {
+            self.tell(line)?;
+        }
+        Ok(())
+    }
+
+    fn touch_all(&mut self, alloc: Global, keys: &[Key]) -> Result<(), Refusal> {
+        for key in keys {
+            self.touch(alloc, key)?;
+        }
+        Ok(())
+    }
+
+    // A CronJob is to be synced, once it is this replica's turn, and not before the next second: so
+    // all that comes of it until then leads to one sync.
+    fn touch(&mut self, alloc: Global, key: &Key) -> Result<(), Refusal> {
+        let name = full_name(alloc, key.namespace(), key.name())?;
+        let rank = rank(self.options.replica.as_str(), name.as_str());
+        let at = self.now.saturating_add(rank.max(1));
+        self.queue.add_after(key, at.saturating_mul(1_000))
+    }
+
+    /// The path that a feed asks for next, if it asks.
+    pub fn next_path(&mut self, alloc: Global, source: Source) -> Result<Option<Text>, Refusal> {
+        match self.feeds.next_request(alloc, source, self.now)? {
+            Some(request) => Ok(Some(request.path)),
+            None => Ok(None),
+        }
+    }
+
+    /// A zone that a CronJob names and the table lacks is wanted, once.
+    pub fn want(&mut self, alloc: Global, name: &Text) -> Result<(), Refusal> {
+        let (one, other) = (name.try_copy(alloc)?, name.try_copy(alloc)?);
+        self.known.push(one).map_err(|_| Refusal::OutOfMemory)?;
+        self.wanted.push(other).map_err(|_| Refusal::OutOfMemory)
+    }
+}

@@ -1,0 +1,210 @@
+// A sync begins, and hears answers.
+
+use crate::machine::driver::Driver;
+use crate::machine::finishing::{finish_key, settle};
+use crate::machine::reading::{found_job, parts_before, take_cron};
+use crate::machine::saying::{say_deleted, say_refused, say_started};
+use crate::machine::steps;
+use crate::machine::task::{Again, Stage, Task};
+use crate::machine::walking::{Went, walk};
+use cj_base::{Refusal, Text, TryCopy};
+use cj_control::{HeldBy, Ledger, Line, LineKind, full_name};
+use cj_fence::Call;
+use cj_manifest::present;
+use cj_types::Key;
+use cj_zone::ZoneTable;
+use serde_json::Value;
+use std::alloc::Global;
+
+// A sync of a CronJob, before its first step.
+fn task_of(alloc: Global, driver: &Driver, key: Key, by: HeldBy) -> Result<Task, Refusal> {
+    let name = full_name(alloc, key.namespace(), key.name())?;
+    let parts = parts_before(alloc, &key, driver.options.api, by)?;
+    let (is_live, waits) = match driver.memos.get(&key) {
+        Some(memo) => (memo.is_live, copy_of(alloc, &memo.waits)?),
+        None => (false, None),
+    };
+    Ok(Task {
+        key,
+        name,
+        number: 0,
+        is_live,
+        stage: Stage::Reading,
+        is_second: false,
+        status: 0,
+        id: None,
+        parts,
+        cron: None,
+        plan: None,
+        found: None,
+        waits,
+        wants: None,
+        refused: None,
+        asked_at: driver.now,
+    })
+}
+
+fn copy_of(alloc: Global, waits: &Option<(Text, u64)>) -> Result<Option<(Text, u64)>, Refusal> {
+    match waits {
+        Some((uid, since)) => Ok(Some((uid.try_copy(alloc)?, *since))),
+        None => Ok(None),
+    }
+}
+
+// The sync of the first key in line, before it begins.
+fn next_task(alloc: Global, driver: &Driver, by: HeldBy) -> Result<Option<Task>, Refusal> {
+    match driver.queue.front() {
+        Some(key) => Ok(Some(task_of(alloc, driver, key.try_copy(alloc)?, by)?)),
+        None => Ok(None),
+    }
+}
+
+// A sync whose key was taken out of the line begins; where it can't, the key waits.
+fn begin(
+    ledger: &mut Ledger,
+    driver: &mut Driver,
+    alloc: Global,
+    zones: &ZoneTable,
+    task: Task,
+) -> Result<(), Refusal> {
+    let mut task = task;
+    match steps::begin(ledger) {
+        Ok(Some(number)) => {
+            task.number = number;
+            go(ledger, driver, alloc, zones, task)
+        }
+        Ok(None) => finish_key(driver, &task.key, &Again::Failed),
+        Err(refusal) => {
+            finish_key(driver, &task.key, &Again::Failed)?;
+            Err(refusal)
+        }
+    }
+}
+
+/// A sync of the first key in line begins, where there is a worker for it; whether one did.
+pub(crate) fn begin_next(
+    ledger: &mut Ledger,
+    driver: &mut Driver,
+    alloc: Global,
+    zones: &ZoneTable,
+) -> Result<bool, Refusal> {
+    let Some(by) = driver.by else {
+        return Ok(false);
+    };
+    if driver.is_stopping || !driver.feeds.is_synced() || !ledger.has_room() {
+        return Ok(false);
+    }
+    let Some(task) = next_task(alloc, driver, by)? else {
+        return Ok(false);
+    };
+    let _taken = driver.queue.take()?;
+    begin(ledger, driver, alloc, zones, task)?;
+    Ok(true)
+}
+
+// A sync goes as far as it can.
+fn go(
+    ledger: &mut Ledger,
+    driver: &mut Driver,
+    alloc: Global,
+    zones: &ZoneTable,
+    task: Task,
+) -> Result<(), Refusal> {
+    let mut task = task;
+    let went = walk(ledger, driver, alloc, zones, &mut task);
+    settle(ledger, driver, alloc, task, went)
+}
+
+fn status_of(kind: LineKind) -> u64 {
+    match kind {
+        LineKind::Answered(_, status) => status,
+        _ => 0,
+    }
+}
+
+// What an answer says beside what the protocol takes of it.
+fn note(
+    alloc: Global,
+    driver: &mut Driver,
+    task: &mut Task,
+    call: &Call,
+    body: Option<&Value>,
+) -> Result<(), Refusal> {
+    match call {
+        Call::GetCron(_) if task.status == 200 => note_cron(alloc, task, body),
+        Call::GetJob(_) if task.stage == Stage::Asking => note_job(alloc, task, body),
+        Call::Start(job) if task.status == 200 => {
+            say_started(alloc, driver, task, job.name.as_str())
+        }
+        Call::Delete(job) if is_done(task.status) => {
+            say_deleted(alloc, driver, task, job.name.as_str(), false)
+        }
+        Call::Expire(job, _, _) if is_done(task.status) => {
+            say_deleted(alloc, driver, task, job.name.as_str(), true)
+        }
+        _ => say_refused(alloc, driver, task, call),
+    }
+}
+
+fn is_done(status: u64) -> bool {
+    status == 200 || status == 202
+}
+
+fn note_cron(alloc: Global, task: &mut Task, body: Option<&Value>) -> Result<(), Refusal> {
+    if let Some(value) = body {
+        take_cron(alloc, task, value)?;
+    }
+    Ok(())
+}
+
+fn note_job(alloc: Global, task: &mut Task, body: Option<&Value>) -> Result<(), Refusal> {
+    let time = match &task.plan {
+        Some(plan) => plan.time,
+        None => None,
+    };
+    task.found = match (body, time) {
+        (Some(value), Some(time)) if task.status == 200 => {
+            found_job(alloc, value, &task.parts, time)?
+        }
+        _ => None,
+    };
+    Ok(())
+}
+
+// A sync hears an answer, and goes on.
+fn hear(
+    ledger: &mut Ledger,
+    driver: &mut Driver,
+    alloc: Global,
+    zones: &ZoneTable,
+    task: &mut Task,
+    line: &Line,
+) -> Result<Went, Refusal> {
+    let body = present(&line.value, "body");
+    task.status = status_of(line.kind);
+    let call = steps::asked(ledger, task.number)?;
+    if !steps::hear(ledger, alloc, task.number, line.kind, body)? {
+        return Ok(Went::Over(Again::Failed));
+    }
+    if let Some(call) = call {
+        note(alloc, driver, task, call.get(), body)?;
+    }
+    walk(ledger, driver, alloc, zones, task)
+}
+
+/// The sync that waits for the answer to this request hears it.
+pub(crate) fn answered(
+    ledger: &mut Ledger,
+    driver: &mut Driver,
+    alloc: Global,
+    zones: &ZoneTable,
+    id: u64,
+    line: &Line,
+) -> Result<(), Refusal> {
+    let Some(task) = driver.take_task(id) else {
+        return Ok(());
+    };
+    let mut task = task;
+    let went = hear(ledger, driver, alloc, zones, &mut task, line);
+    settle(ledger, driver, alloc, task, went)
+}

@@ -1,3 +1,0 @@
-pub mod Audit
-pub mod Faults
-pub mod Items

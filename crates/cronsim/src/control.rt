@@ -1,0 +1,71 @@
+use crate::folder::file_of;
+use crate::source::Input;
+use cj_program::{
+    ControlRequest, ExitStatus, Failure, FileBytes, ZoneSource, check_transcript, is_file_name,
+    run_session,
+};
+use std::fs::File;
+use std::io::Write;
+
+/// A folder with compiled zone files; the empty name is that of no folder.
+#[derive(Drop)]
+struct Folder<'a> {
+    rt: &'a HostRuntime,
+    name: &'a str,
+}
+
+impl<'a> ZoneSource for Folder<'a> {
+    fn find(&mut self, name: &str) -> Result<Option<FileBytes>, Failure> {
+        if self.name.is_empty() || !is_file_name(name) {
+            return Ok(None);
+        }
+        Ok(file_of(self.rt, self.name, name)?.map(|file| file.bytes))
+    }
+}
+
+// Runs a controller on the lines of the input, with this transcript, if any.
+fn run_on(
+    rt: &HostRuntime,
+    control: &ControlRequest<'_>,
+    folder: &str,
+    transcript: Option<File>,
+    input: &mut Input,
+) -> Result<ExitStatus, Failure> {
+    let mut source = Folder { rt, name: folder };
+    run_session(
+        rt.alloc(),
+        control,
+        &mut source,
+        transcript,
+        input,
+        &mut rt.stdout(),
+        &mut rt.stderr(),
+    )
+}
+
+/// Serves a request for a controller: the transcript's file is made anew first, if one is wanted.
+pub fn serve_control(
+    rt: &HostRuntime,
+    control: &ControlRequest<'_>,
+    folder: Option<&str>,
+    input: &mut Input,
+) -> Result<ExitStatus, Failure> {
+    if control.check.is_some() {
+        let (out, err) = (&mut rt.stdout(), &mut rt.stderr());
+        return check_transcript(rt.alloc(), control, input, out, err);
+    }
+    let folder = folder.unwrap_or("");
+    let Some(name) = control.transcript else {
+        return run_on(rt, control, folder, None, input);
+    };
+    match File::create(rt, name) {
+        Ok(file) => run_on(rt, control, folder, Some(file), input),
+        Err(error) => {
+            let failure = Failure::from(error);
+            if failure == Failure::Device {
+                let _ = writeln!(&mut rt.stderr(), "{name}: it can't be written");
+            }
+            Err(failure)
+        }
+    }
+}
