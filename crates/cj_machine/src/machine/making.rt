@@ -4,11 +4,10 @@ use crate::machine::choice::Choice;
 use crate::machine::clearing::tidy;
 use crate::machine::listing::list_text;
 use crate::machine::planning::{Decided, plan};
-use crate::machine::reading::mark_of;
 use crate::machine::task::{Again, CronRead, Stage, Task};
 use crate::machine::view::{View, rank};
 use cj_base::{Refusal, Seconds, Text, TryCopy};
-use cj_control::CronParts;
+use cj_control::{CronParts, mark_of};
 use cj_fence::{At, Call, Claim, Held, Job, Policy};
 use std::alloc::Global;
 
