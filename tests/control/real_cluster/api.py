@@ -1,10 +1,14 @@
 """A client of an API server that counts what it sends, and the server's own counts."""
 import json
 import re
+import sys
 import threading
 from collections import Counter
 
-from kubernetes import client, config
+try:
+    from kubernetes import client, config
+except ImportError:
+    sys.exit("cluster: no Python client of Kubernetes: install python3-kubernetes")
 
 MERGE = "application/merge-patch+json"
 RESOURCES = ("cronjobs", "jobs", "events")
