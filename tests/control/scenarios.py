@@ -245,3 +245,40 @@ EDITS = (
     Scenario.pin_name,
     Scenario.release_one,
 )
+
+
+class Beside(Scenario):
+    """A scenario for `--only-annotated`: all CronJobs are suspended and annotated, and somebody
+    else writes `status.active` as well, by what it has heard so far."""
+
+    def create(self, key):
+        self.later(0, self.annotate, key)
+        super().create(key)
+
+    def annotate(self, key):
+        path = f"{self.path('cronjobs', key)}/{key[1]}"
+        meta = {"annotations": {"cronsim/run": "true"}}
+        self.ask("PATCH", path, {"metadata": meta, "spec": {"suspend": True}}, MERGE)
+
+    def suspend(self, key):
+        self.annotate(key)
+
+    def begin(self, server, later):
+        super().begin(server, later)
+        for minute in range(int(self.storm // 60)):
+            for _ in range(self.dice.choice((0, 1, 2, 4))):
+                # (mostly soon after a claim)
+                wait = self.dice.choice((self.dice.uniform(0, 3), self.dice.uniform(0, 60)))
+                at = minute * 60 - self.start % 60 + wait
+                later(max(0, at), self.tidy_active, self.dice.choice(self.names))
+
+    def tidy_active(self, key):
+        """Takes Jobs out of `status.active`, as one does that doesn't know of them yet."""
+        cron = self.server.objects["cronjobs"].get(key)
+        active = ((cron or {}).get("status") or {}).get("active") or []
+        kept = [it for it in active if self.dice.random() < 0.3]
+        if len(kept) == len(active):
+            return
+        path = f"{self.path('cronjobs', key)}/{key[1]}/status"
+        meta = {it: cron["metadata"][it] for it in ("uid", "resourceVersion")}
+        self.ask("PATCH", path, {"metadata": meta, "status": {"active": kept or None}}, MERGE)

@@ -18,7 +18,7 @@ pub(crate) const TIME_ZONE: &str =
 
 /// The folder of zone files.
 pub(crate) const FOLDER: &str =
-    "Folder with compiled zone files. Without it, the environment variable CRONSIM_ZONEINFO names one; without that, why, audit, upcoming, describe and control look in /usr/share/zoneinfo";
+    "Folder with compiled zone files. Without it, the environment variable CRONSIM_ZONEINFO names one; without that, it is /usr/share/zoneinfo";
 
 /// The files of `check`.
 pub(crate) const MANIFESTS: &str =

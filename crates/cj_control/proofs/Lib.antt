@@ -1,3 +1,4 @@
+pub mod ComingLemmas
 mod CreatedLemmas
 mod FollowLemmas
 pub mod KeptLemmas

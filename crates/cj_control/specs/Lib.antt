@@ -1,5 +1,6 @@
 pub mod Api
 pub mod Answers
+pub mod Coming
 pub mod Created
 pub mod Heard
 pub mod Lines

@@ -1,6 +1,6 @@
 -- What is sent for a CronJob: the Job that is created is its template's, and a start gives back
 -- what its template says.
-use Rattle.std.specs.Prelude.{◌≡◌, ℕ, false, List, codes, Option, Some, None}
+use Rattle.std.specs.Prelude.{◌≡◌, ℕ, false, List, codes, Option, Some, None, Ok}
 use Rattle.serde_json.specs.Data.{Data, boolean, number, unsigned}
 use Rattle.serde_json.specs.View.{view}
 use Rattle.cj_zone.specs.TimeText.{time_text_of}
@@ -8,6 +8,7 @@ use Rattle.cj_manifest.specs.Members.{present}
 use Rattle.cj_cluster.specs.kubectl.Rows.{member_of}
 use Rattle.cj_fence.specs.declared.objects.Job.{Job}
 use Rattle.cj_fence.specs.declared.refs.Ref.{Ref}
+use Rattle.cj_control.specs.declared.api.ApiVersion.{ApiVersion}
 use Rattle.cj_control.specs.declared.calls.CronParts.{CronParts}
 use Rattle.cj_control.specs.declared.created.MarkTexts.{MarkTexts}
 use Rattle.cj_control.specs.declared.request.HeldBy.{HeldBy}
@@ -15,6 +16,7 @@ use Rattle.cj_control.specs.declared.request.HeldBy.TheVariants.{Parallelism, Su
 use Rattle.cj_control.specs.declared.sent.Request.{Request}
 use Rattle.cj_control.specs.declared.sent.Verb.TheVariants as By
 use Rattle.cj_control.specs.Created.{created_body}
+use Rattle.cj_control.specs.Objects.{head, spec}
 use Rattle.cj_control.specs.Requests.{start_body}
 use Rattle.cj_control.specs.Sent.{IsRequest, job_path, jobs_path}
 use Rattle.cj_control.specs.SentFor.{name_in, namespace_in, policy_text}
@@ -58,3 +60,11 @@ abbrev pub StartsIt : CronParts → Ref → Request → Type 0
 StartsIt s job r =
     IsRequest By.JsonPatch (job_path (namespace_in job.name) (name_in job.name))
     (Some (start_body job.uid s.by (start_value s))) r
+
+-- what its requests need, as the CronJob says it; the mark is a digest of the template
+-- rules: control-created, control-coming
+pub record ArePartsOf (api : ApiVersion) (by : HeldBy) (d : Data) (s : CronParts) : Type 0 where
+  pub api_is : s.api ≡ api
+  pub by_is : s.by ≡ by
+  pub head_is : head d ≡ Ok s.head
+  pub template_is : spec (codes "jobTemplate") d ≡ Some (view s.template)

@@ -82,3 +82,26 @@ line_by id verb path (Some body) = with_body id (method verb) path (content_type
 -- rule: control-requests
 abbrev pub line : ℕ → Request → Data
 line id r = line_by id r.verb r.path (option_map view r.body)
+
+-- ---- as people are shown it
+
+abbrev pub bare_request : List ℕ → List ℕ → Data
+bare_request method path = object (
+    member (codes "method") (string method) (
+    member (codes "path") (string path) no_members))
+
+abbrev pub full_request : List ℕ → List ℕ → List ℕ → Data → Data
+full_request method path kind body = object (
+    member (codes "body") body (
+    member (codes "contentType") (string kind) (
+    member (codes "method") (string method) (
+    member (codes "path") (string path) no_members))))
+
+abbrev pub request_data_by : Verb → List ℕ → Option Data → Data
+request_data_by verb path None = bare_request (method verb) path
+request_data_by verb path (Some body) = full_request (method verb) path (content_type verb) body
+
+-- a request, without a number
+-- rule: control-coming
+abbrev pub request_data : Request → Data
+request_data r = request_data_by r.verb r.path (option_map view r.body)

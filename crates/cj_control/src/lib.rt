@@ -11,6 +11,7 @@
 mod api;
 mod book;
 mod calls;
+mod coming;
 mod created;
 mod deed;
 mod hearing;
@@ -23,9 +24,11 @@ mod reply;
 mod request;
 mod rows;
 mod sent;
+mod template;
 
 pub use api::ApiVersion;
 pub use calls::{CronParts, event_request, request_of};
+pub use coming::{Ahead, Errand, calls_ahead, requests_for};
 pub use created::{MarkTexts, created_body};
 pub use deed::Deed;
 pub use laws::{created_law, follow_law};
@@ -41,5 +44,6 @@ pub use request::{HeldBy, claim_body, delete_body, expire_body, reference, start
 pub use rows::FencedSync;
 pub use sent::{
     Request, Verb, delete_job, get_cron, get_job, get_path, patch_job, patch_status, post_job,
-    request_line,
+    request_line, request_value,
 };
+pub use template::{mark_of, parts_of};

@@ -259,3 +259,43 @@ pub fn request_line(alloc: Global, id: u64, request: Request) -> Result<Value, R
         None => Ok(bare_object(alloc, id, method, path.as_str())?),
     }
 }
+
+fn bare_request(alloc: Global, method: &str, path: &str) -> Result<Value, AllocError>
+    ensures { IfOk result (λ v. view v ≡ sent.bare_request method.now path.now) }
+{
+    json!(in alloc; {"method": method, "path": path})
+}
+
+fn full_request(
+    alloc: Global,
+    method: &str,
+    path: &str,
+    kind: &str,
+    body: Value,
+) -> Result<Value, AllocError>
+    ensures { IfOk result (λ v. view v
+        ≡ sent.full_request method.now path.now kind.now (view body)) }
+{
+    json!(in alloc; {
+        "body": body,
+        "contentType": kind,
+        "method": method,
+        "path": path
+    })
+}
+
+/// A request as people are shown it: what is sent, without a number.
+pub fn request_value(alloc: Global, request: Request) -> Result<Value, Refusal>
+    ensures ok { IfOk result (λ v. view v ≡ sent.request_data request) }
+    ensures err { IfErr result (λ e. e ≡ OutOfMemory) }
+{
+    let Request { verb, path, body } = request;
+    let method = method(verb);
+    match body {
+        Some(body) => {
+            let kind = content_type(verb);
+            Ok(full_request(alloc, method, path.as_str(), kind, body)?)
+        }
+        None => Ok(bare_request(alloc, method, path.as_str())?),
+    }
+}

@@ -18,4 +18,4 @@ mod zone_source;
 
 pub use check::check_transcript;
 pub use session::run_session;
-pub use zone_source::{GivenFiles, ZoneSource};
+pub use zone_source::ZoneSource;

@@ -1,5 +1,5 @@
 // What people are told while a controller runs.
-use cj_io::write_and_flush;
+use cj_io::{Failure, write_and_flush, write_whole};
 use serde_json::json;
 use std::alloc::{AllocError, Global};
 use std::io::Write;
@@ -26,8 +26,14 @@ fn text_line(alloc: Global, words: &str) -> Result<String, AllocError> {
     Ok(text)
 }
 
+// A line, written without memory.
+fn write_bare<E: Write>(words: &str, err: &mut E) -> Result<(), Failure> {
+    write_whole(err, words.as_bytes())?;
+    write_and_flush(err, b"\n")
+}
+
 impl Remarks<'_> {
-    /// Says a line, as far as standard error takes it; without memory the words alone.
+    /// Says a line, as far as standard error takes it; without memory as text.
     pub fn say<E: Write>(&self, alloc: Global, words: &str, err: &mut E) {
         let line = if self.is_json {
             json_line(alloc, self.replica, words)
@@ -36,7 +42,7 @@ impl Remarks<'_> {
         };
         let _ = match line {
             Ok(line) => write_and_flush(err, line.as_bytes()),
-            Err(_) => write_and_flush(err, words.as_bytes()),
+            Err(_) => write_bare(words, err),
         };
     }
 }

@@ -1,6 +1,5 @@
 // Where the zones of CronJobs come from.
-use cj_io::{Failure, FileBytes, ZoneFile};
-use std::alloc::Global;
+use cj_io::{Failure, FileBytes};
 
 /// What has the files of zones.
 pub trait ZoneSource {
@@ -8,22 +7,4 @@ pub trait ZoneSource {
     ///
     /// `Memory` where memory was wanting, `Device` never.
     fn find(&mut self, name: &str) -> Result<Option<FileBytes>, Failure>;
-}
-
-/// Files that were read before.
-#[derive(Drop)]
-pub struct GivenFiles<'a> {
-    pub alloc: Global,
-    pub files: &'a [ZoneFile],
-}
-
-impl<'a> ZoneSource for GivenFiles<'a> {
-    fn find(&mut self, name: &str) -> Result<Option<FileBytes>, Failure> {
-        let files = self.files;
-        let Some(file) = files.iter().find(|file| file.name.as_str() == name) else {
-            return Ok(None);
-        };
-        let bytes = file.bytes.as_slice().to_vec(self.alloc)?;
-        Ok(Some(FileBytes::from_vec(bytes)))
-    }
 }

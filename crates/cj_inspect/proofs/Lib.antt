@@ -1,2 +1,3 @@
 pub mod AskedForms
+pub mod CallsLemmas
 pub mod FilesLemmas

@@ -1,4 +1,5 @@
 pub mod Audit
+pub mod Calls
 pub mod CronFiles
 pub mod Upcoming
 pub mod Why

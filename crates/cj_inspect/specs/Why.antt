@@ -22,6 +22,7 @@ use Rattle.cj_answers.specs.Moments.{asked_moment, moment_words}
 use Rattle.cj_answers.specs.Outcome.{Outcome, explained, refusal}
 use Rattle.cj_answers.specs.as_json.Forms.{IsJsonLine, is_json}
 use Rattle.cj_inspect.specs.as_json.Why.{why_data}
+use Rattle.cj_inspect.specs.Calls.{AreCallsJson}
 use Rattle.cj_why.specs.reviews.CronJson.{AreCronJson}
 use Rattle.serde_json.specs.Data.{Data}
 
@@ -158,13 +159,15 @@ pub record PrintsTable (r : WhyRequest) (zones : List Zone) (now : ℕ) (list : 
   pub laid : IsTable (is_full r) now (length (map.values list.cluster.crons)) rows table
   pub answer : o ≡ explained r.explain (note_words list.notes) (reviewed list.notes table)
 
--- what is known of these CronJobs, as one JSON value
--- rule: why-json
+-- what is known of these CronJobs, and what their next syncs would write, as one JSON value
+-- rules: why-json, why-calls
 pub record IsWhyJson (zones : List Zone) (now : ℕ) (list : ClusterList) (lined : List ClusterCron)
     (text : List ℕ) : Type 0 where
   pub crons : List Data
   pub are : AreCronJson zones list.cluster now lined crons
-  pub line : IsJsonLine (why_data now crons list.notes) text
+  pub calls : List Data
+  pub told : AreCallsJson zones list.cluster now lined calls
+  pub line : IsJsonLine (why_data now calls crons list.notes) text
 
 -- that alone is printed, and done where no item was refused
 -- rule: why-status

@@ -8,6 +8,7 @@
 
 mod as_json;
 mod audit;
+mod calls;
 mod cron_files;
 mod upcoming;
 mod why;

@@ -67,6 +67,7 @@ fn whole_reviewed(
     alloc: Global,
     why: &WhyRequest<'_>,
     zones: &ZoneTable,
+    bytes: &[u8],
     list: &ClusterList,
     all: usize,
     crons: &[Shared<ClusterCron>],
@@ -79,7 +80,7 @@ fn whole_reviewed(
         now list.now (outcome_of a)) }
 {
     if is_json(why.output) {
-        json_reviewed(alloc, why, zones, list, crons, now)
+        json_reviewed(alloc, why, zones, bytes, list, crons, now)
     } else {
         table_reviewed(alloc, why, zones, list, all, crons, now)
     }
@@ -90,6 +91,7 @@ fn reviewed(
     alloc: Global,
     why: &WhyRequest<'_>,
     zones: &ZoneTable,
+    bytes: &[u8],
     list: &ClusterList,
     all: usize,
     crons: &[Shared<ClusterCron>],
@@ -104,7 +106,7 @@ fn reviewed(
     if is_lines(why.output) {
         lines_reviewed(alloc, why, zones, list, crons, now)
     } else {
-        whole_reviewed(alloc, why, zones, list, all, crons, now)
+        whole_reviewed(alloc, why, zones, bytes, list, all, crons, now)
     }
 }
 
@@ -112,6 +114,7 @@ fn meant_reviewed(
     alloc: Global,
     why: &WhyRequest<'_>,
     zones: &ZoneTable,
+    bytes: &[u8],
     list: &ClusterList,
     crons: &[Shared<ClusterCron>],
     now: Seconds,
@@ -123,7 +126,7 @@ fn meant_reviewed(
 {
     let meant = meant_of(alloc, why, list, crons)?;
     let all = crons.len();
-    reviewed(alloc, why, zones, list, all, meant.as_slice(), now)
+    reviewed(alloc, why, zones, bytes, list, all, meant.as_slice(), now)
 }
 
 pub(crate) fn is_nothing(words: &str) -> bool
@@ -137,6 +140,7 @@ fn known_reviewed(
     alloc: Global,
     why: &WhyRequest<'_>,
     zones: &ZoneTable,
+    bytes: &[u8],
     list: &ClusterList,
     crons: &[Shared<ClusterCron>],
     unknown: &str,
@@ -148,7 +152,7 @@ fn known_reviewed(
         ⊎ PrintsKnown why.now (zones_of zones.now) now list.now unknown.now (outcome_of a)) }
 {
     if is_nothing(unknown) {
-        meant_reviewed(alloc, why, zones, list, crons, now)
+        meant_reviewed(alloc, why, zones, bytes, list, crons, now)
     } else {
         refused_unknown(alloc, why.explain, unknown)
     }
@@ -158,6 +162,7 @@ fn list_reviewed(
     alloc: Global,
     why: &WhyRequest<'_>,
     zones: &ZoneTable,
+    bytes: &[u8],
     list: &ClusterList,
     now: Seconds,
 ) -> Result<Answer, Failure>
@@ -171,6 +176,7 @@ fn list_reviewed(
         alloc,
         why,
         zones,
+        bytes,
         list,
         all.as_slice(),
         unknown.as_str(),
@@ -191,7 +197,7 @@ fn bytes_reviewed(
         (outcome_of a)) }
 {
     match read_cluster(alloc, bytes, zones) {
-        Ok(list) => list_reviewed(alloc, why, zones, &list, now),
+        Ok(list) => list_reviewed(alloc, why, zones, bytes, &list, now),
         Err(fault) => refused_list(alloc, why.explain, bytes, fault),
     }
 }

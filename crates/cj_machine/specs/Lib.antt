@@ -1,3 +1,4 @@
 pub mod Feeds
 pub mod Mirror
+pub mod Out
 pub mod Planning

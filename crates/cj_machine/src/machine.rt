@@ -1,7 +1,8 @@
 // The controller: lines in, lines out.
-ghost use Rattle.std.specs.Prelude.{◌≡◌, IfOk, IfErr};
+ghost use Rattle.std.specs.Prelude.{◌≡◌, [], IfOk, IfErr, map, string_bytes};
 ghost use Rattle.cj_base.specs.declared.refusal.Refusal.TheVariants.{OutOfMemory};
 ghost use Rattle.cj_control.specs.Syncs.{IsNew};
+ghost use Rattle.cj_machine.specs.Out.{AreLines};
 
 mod choice;
 mod choosing;
@@ -14,6 +15,8 @@ mod listing;
 mod making;
 mod memo;
 mod options;
+mod others;
+mod out;
 mod planning;
 mod reading;
 mod saying;
@@ -27,10 +30,11 @@ mod walking;
 use crate::machine::driver::Driver;
 use crate::machine::events::tell_event;
 use crate::machine::finishing::end_stuck;
+use crate::machine::out::lines_of;
 use crate::machine::syncing::{answered, begin_next};
 use crate::source::Source;
 use cj_base::{Millis, Refusal, Seconds, Text};
-use cj_control::{Deed, Ledger, Line, LineFault, LineKind, Request, read_line, request_line};
+use cj_control::{Ledger, Line, LineFault, LineKind, read_line};
 use cj_zone::ZoneTable;
 pub use options::ControlOptions;
 use std::alloc::Global;
@@ -89,7 +93,11 @@ impl Machine {
 
     /// The lines of the requests since the last call, without their ends. Where memory is wanting,
     /// they are lost: a sync that asked ends after five minutes, and the lists begin anew.
-    pub fn take_out(&mut self, alloc: Global) -> Result<Vec<String>, Refusal> {
+    pub fn take_out(&mut self, alloc: Global) -> Result<Vec<String>, Refusal>
+        ensures ok { IfOk result (λ ls. AreLines self.old.deeds (map string_bytes ls.items)) }
+        ensures err { IfErr result (λ e. e ≡ OutOfMemory) }
+        ensures after { self.new ≡ record self.old { deeds = [] } }
+    {
         let lines = lines_of(alloc, self.ledger.take_deeds(alloc));
         if lines.is_err() {
             self.driver.forget_feeds();
@@ -111,36 +119,6 @@ impl Machine {
     pub fn is_done(&self) -> bool {
         self.driver.is_stopping && self.driver.tasks.is_empty()
     }
-}
-
-// The line of a request.
-fn line_text(alloc: Global, id: u64, request: Request) -> Result<String, Refusal> {
-    let line = request_line(alloc, id, request)?;
-    Ok(line.to_string(alloc)?)
-}
-
-// The line of a deed that sends a request.
-fn deed_line(alloc: Global, deed: Deed) -> Result<Option<String>, Refusal> {
-    match deed {
-        Deed::Sends(_, id, _, request) => Ok(Some(line_text(alloc, id, request)?)),
-        Deed::Reads(id, request) => Ok(Some(line_text(alloc, id, request)?)),
-        Deed::Begins(_) | Deed::Asks(_, _) | Deed::Hears(_, _) | Deed::Ends(_) => Ok(None),
-    }
-}
-
-fn push_line(lines: &mut Vec<String>, line: Option<String>) -> Result<(), Refusal> {
-    match line {
-        Some(line) => lines.push(line).map_err(|_| Refusal::OutOfMemory),
-        None => Ok(()),
-    }
-}
-
-fn lines_of(alloc: Global, deeds: Vec<Deed>) -> Result<Vec<String>, Refusal> {
-    let mut lines = Vec::new(alloc);
-    for deed in deeds {
-        push_line(&mut lines, deed_line(alloc, deed)?)?;
-    }
-    Ok(lines)
 }
 
 // What a line says is done, and then what can begin.

@@ -1,5 +1,5 @@
 -- What each request is answered.
-use Rattle.std.specs.Prelude.{⊤, ℕ, List, Option}
+use Rattle.std.specs.Prelude.{ℕ, List, Option}
 use Rattle.cj_inspect.specs.Audit.{IsAuditOutcome}
 use Rattle.cj_check.specs.CheckOutcome.{IsCheckOutcome}
 use Rattle.cj_answers.specs.Describe.{IsDescribeOutcome}
@@ -10,17 +10,11 @@ use Rattle.cj_inspect.specs.Why.{IsWhyOutcome}
 use Rattle.cj_io.specs.declared.zone_files.file.ZoneFile.{ZoneFile}
 use Rattle.cj_program.specs.Replay.{IsReplayOutcome}
 use Rattle.cj_program.specs.Run.{IsRunOutcome}
-use Rattle.cj_args.specs.declared.request.ControlRequest.{ControlRequest}
 use Rattle.cj_args.specs.declared.request.Request.{Request}
 use Rattle.cj_args.specs.declared.request.Request.TheVariants.{Audit, Check, Control, Describe, Next, Plan, Replay, Run, Upcoming, Why}
 
--- No clause says what `control` writes. What it sends goes through the ledger of `cj_control`,
--- whose type keeps the protocol.
-abbrev pub IsControlOutcome : ControlRequest → List ZoneFile → Outcome → Type 0
-IsControlOutcome r files o = ⊤
-
 -- the outcome of a request, with the zone files that were read for it, on an input, where what it
--- holds is known
+-- holds is known; a controller has no outcome, since it reads and writes line after line
 -- rule: statuses
 abbrev pub IsOutcome : Request → List ZoneFile → Option (List ℕ) → Outcome → Type 0
 IsOutcome (Next r) files input o = IsNextOutcome r files o
@@ -32,4 +26,4 @@ IsOutcome (Why r) files input o = IsWhyOutcome r files input o
 IsOutcome (Audit r) files input o = IsAuditOutcome r files input o
 IsOutcome (Upcoming r) files input o = IsUpcomingOutcome r files input o
 IsOutcome (Describe r) files input o = IsDescribeOutcome r files o
-IsOutcome (Control r) files input o = IsControlOutcome r files o
+IsOutcome (Control r) files input o = ⊥

@@ -7,7 +7,6 @@
 #![tactic(auto)]
 
 mod as_json;
-mod control;
 mod remarks;
 mod replay;
 mod run;
@@ -20,7 +19,6 @@ mod writing;
 pub use cj_answers::{by_clock, next_text};
 pub use cj_args::{CheckRequest, ControlRequest, Request, UpcomingRequest, WordFault, parse_words};
 pub use cj_check::{FileAnswer, check_file_answer};
-pub use cj_dialogue::{ZoneSource, check_transcript, run_session};
 pub use cj_inspect::{CronFile, MOST_LIST_BYTES, MOST_LIST_READS};
 pub use cj_io::{
     ExitStatus, Failure, FileBytes, MOST_BYTES, MOST_READS, ZoneFile, is_file_name, read_input,

@@ -1,4 +1,4 @@
-ghost use Rattle.std.specs.Prelude.{◌≡◌, ◌≢◌, ◌⊎◌};
+ghost use Rattle.std.specs.Prelude.{◌≡◌, ◌≢◌, ◌⊎◌, IfOk};
 ghost use Rattle.std.specs.Result.{IsOkAnd};
 ghost use Rattle.std.specs.Io.KnownBytes.{Appends};
 ghost use Rattle.cj_io.specs.declared.exit_status.ExitStatus.TheVariants as Status;
@@ -6,7 +6,6 @@ ghost use Rattle.cj_program.specs.Answers.{IsOutcome};
 ghost use Rattle.cj_answers.specs.Outcome.{Outcome, outcome_of, status_of};
 ghost use Rattle.cj_program.specs.Writing.{IsCut, IsFailed, IsGiven, IsUnanswered};
 
-use crate::control::control_answer;
 use crate::replay::serve_replay;
 use crate::run::run_answer;
 use crate::writing::give;
@@ -57,9 +56,18 @@ pub(crate) fn give_answer<W: Write, E: Write>(
     }
 }
 
+// What `serve` has for a request that isn't served by one answer.
+fn no_answer() -> Result<Answer, Failure>
+    ensures { IfOk result (λ a. ⊥) }
+{
+    Err(Failure::UnexpectedRefusal)
+}
+
 /// Serves a request, for which these zone files were read, and answers the exit status: `Success`
 /// where it is done, `Refused` where what it asks about is refused, and `Failed` after a failure,
 /// which one line on standard error names. The meter shows meanwhile how far a run is.
+///
+/// A controller reads and writes line after line, so it isn't served here: `Failed`.
 pub fn serve<T: Threads + Wait + Sync, R: Read, W: Write, E: Write>(
     rt: &T,
     alloc: Global,
@@ -92,8 +100,6 @@ pub fn serve<T: Threads + Wait + Sync, R: Read, W: Write, E: Write>(
         Request::Describe(describe) => {
             give_answer(describe_answer(alloc, describe, files), out, err)
         }
-        Request::Control(control) => {
-            give_answer(control_answer(alloc, control, files, input), out, err)
-        }
+        Request::Control(_) => give_answer(no_answer(), out, err),
     }
 }

@@ -6,7 +6,9 @@ use Rattle.cj_program.specs.Answers.{IsOutcome}
 use Rattle.cj_args.specs.Command.{IsOf, RefusesWords, file_of}
 use Rattle.cj_answers.specs.Outcome.{Outcome, status_of}
 use Rattle.cj_program.specs.Told.{Telling, Tells}
+use Rattle.cj_args.specs.declared.request.ControlRequest.{ControlRequest}
 use Rattle.cj_args.specs.declared.request.Request.{Request}
+use Rattle.cj_args.specs.declared.request.Request.TheVariants.{Control}
 use Rattle.cj_args.specs.declared.word_fault.WordFault.{WordFault}
 use Rattle.cj_rows.specs.declared.run.Seen.{Seen}
 
@@ -27,11 +29,15 @@ pub record IsOutcomeOf (request : Request) (input : List ℕ) (g : Given) : Type
   pub printed : g.printed ≡ outcome.printed
   pub said : g.said ≡ outcome.said
 
+-- a request for a controller, of which no clause says what it writes
+abbrev pub IsControl : Request → Type 0
+IsControl request = (r : ControlRequest) × (request ≡ Control r)
+
 -- the request reads no file by its name, and another status than that of a failure comes with its
--- outcome
+-- outcome, unless it is for a controller
 pub record IsAnswered (request : Request) (input : List ℕ) (g : Given) : Type 0 where
   pub file : (file_of request ≡ None) ⊎ (file_of request ≡ Some (codes "-"))
-  pub outcome : g.status ≢ Failed → IsOutcomeOf request input g
+  pub outcome : (g.status ≢ Failed → IsOutcomeOf request input g) ⊎ IsControl request
 
 -- what words get that are no request
 pub record IsTelling (fault : WordFault) (g : Given) : Type 0 where

@@ -4,6 +4,7 @@
 //! by is stated in `specs/`.
 #![tactic(auto)]
 
+mod control;
 mod fault;
 mod golden;
 mod row;

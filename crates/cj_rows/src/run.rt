@@ -1,9 +1,11 @@
 // Running a row.
-ghost use Rattle.std.specs.Prelude.{◌≡◌, ◌⊎◌, map, None, Some, IfOk, OnOk, codes};
+ghost use Rattle.std.specs.Prelude.{◌≡◌, ◌≢◌, ◌⊎◌, map, None, Some, IfOk, OnOk, codes};
 ghost use Rattle.cj_args.specs.Command.{file_of};
 ghost use Rattle.cj_rows.specs.Row.{stated_of};
-ghost use Rattle.cj_rows.specs.Run.{IsAnswered, IsRun, IsRunOf, IsToldOf, given_of};
+ghost use Rattle.cj_io.specs.declared.exit_status.ExitStatus.TheVariants.{Failed};
+ghost use Rattle.cj_rows.specs.Run.{IsAnswered, IsOutcomeOf, IsRun, IsRunOf, IsToldOf, given_of};
 
+use crate::control::controlled;
 use crate::fault::Fault;
 use crate::row::Row;
 use cj_program::{ExitStatus, Meter, Request, WordFault, parse_words, serve, tell_fault};
@@ -36,16 +38,15 @@ fn reads_input(request: &Request<'_>) -> Result<(), Fault>
     }
 }
 
-// What a request that reads no file by its name is answered on that input.
+// What a request is answered on that input.
 fn served<T: Threads + Wait + Sync>(
     rt: &T,
     alloc: Global,
     request: &Request<'_>,
     input: &str,
-) -> Result<Seen, Fault>
-    ensures { IfOk result (λ s. IsAnswered request.now input.now (given_of s)) }
+) -> Seen
+    ensures { result.status ≢ Failed → IsOutcomeOf request.now input.now (given_of result) }
 {
-    reads_input(request)?;
     let mut input: &[u8] = input.as_bytes();
     let mut printed = Vec::new(alloc);
     let mut said = Vec::new(alloc);
@@ -59,11 +60,27 @@ fn served<T: Threads + Wait + Sync>(
         &mut said,
         &Meter::new(),
     );
-    Ok(Seen {
+    Seen {
         status,
         printed,
         said,
-    })
+    }
+}
+
+// What a request that reads no file by its name is answered on that input.
+fn answered<T: Threads + Wait + Sync>(
+    rt: &T,
+    alloc: Global,
+    request: &Request<'_>,
+    input: &str,
+) -> Result<Seen, Fault>
+    ensures { IfOk result (λ s. IsAnswered request.now input.now (given_of s)) }
+{
+    reads_input(request)?;
+    if let Request::Control(control) = request {
+        return Ok(controlled(alloc, control, input));
+    }
+    Ok(served(rt, alloc, request, input))
 }
 
 // What words get that are no request.
@@ -90,7 +107,7 @@ fn run_words<T: Threads + Wait + Sync>(
     ensures { IfOk result (λ s. IsRunOf (map (λ w. w.now) words.entry.now) input.now (given_of s)) }
 {
     match parse_words(alloc, words) {
-        Ok(request) => served(rt, alloc, &request, input),
+        Ok(request) => answered(rt, alloc, &request, input),
         Err(fault) => Ok(told(alloc, &fault)),
     }
 }

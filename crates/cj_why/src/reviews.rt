@@ -15,7 +15,7 @@ mod zone_for;
 
 pub use cron_json::cron_values;
 pub use plan_json::plan_value;
-pub use reviewing::{Reviewed, review};
+pub use reviewing::{Reviewed, plan_of, review};
 pub use rows::{CronRow, cron_rows, problems};
 pub use seen::{found, listed};
 pub use steps_text::plan_text;

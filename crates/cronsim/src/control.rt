@@ -1,9 +1,7 @@
 use crate::folder::file_of;
 use crate::source::Input;
-use cj_program::{
-    ControlRequest, ExitStatus, Failure, FileBytes, ZoneSource, check_transcript, is_file_name,
-    run_session,
-};
+use cj_dialogue::{ZoneSource, check_transcript, run_session};
+use cj_program::{ControlRequest, ExitStatus, Failure, FileBytes, is_file_name};
 use std::fs::File;
 use std::io::Write;
 
@@ -47,14 +45,13 @@ fn run_on(
 pub fn serve_control(
     rt: &HostRuntime,
     control: &ControlRequest<'_>,
-    folder: Option<&str>,
+    folder: &str,
     input: &mut Input,
 ) -> Result<ExitStatus, Failure> {
     if control.check.is_some() {
         let (out, err) = (&mut rt.stdout(), &mut rt.stderr());
         return check_transcript(rt.alloc(), control, input, out, err);
     }
-    let folder = folder.unwrap_or("");
     let Some(name) = control.transcript else {
         return run_on(rt, control, folder, None, input);
     };

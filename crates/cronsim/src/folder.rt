@@ -1,6 +1,7 @@
 use cj_program::{
     Failure, FileBytes, MOST_READS, Text, ZoneFile, is_file_name, read_input, zones_named,
 };
+use memchr::memmem;
 use std::env;
 use std::env::VarError;
 use std::fs::File;
@@ -58,6 +59,12 @@ pub fn named_file(rt: &HostRuntime, folder: &str, name: &str) -> Result<Vec<Zone
     Ok(files)
 }
 
+// Whether JSON may have a member `timeZone`: if it has the name as it is, or an escape that may
+// stand for a letter of it.
+fn may_name_zones(input: &[u8]) -> bool {
+    memmem::find(input, b"timeZone").is_some() || memmem::find(input, b"\\u").is_some()
+}
+
 /// Adds the files of the zones that an input names, but for zones that have one already.
 pub fn push_input_files(
     rt: &HostRuntime,
@@ -65,6 +72,9 @@ pub fn push_input_files(
     folder: &str,
     input: &[u8],
 ) -> Result<(), Failure> {
+    if !may_name_zones(input) {
+        return Ok(());
+    }
     let names = zones_named(rt.alloc(), input)?;
     for name in names.as_slice() {
         let name = name.as_str();

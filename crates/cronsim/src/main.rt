@@ -13,8 +13,8 @@ mod source;
 mod words;
 
 use cj_program::{
-    ExitStatus, Failure, MOST_BYTES, MOST_LIST_BYTES, MOST_LIST_READS, Meter, Request, parse_words,
-    read_input, serve, tell_failure, tell_fault,
+    ExitStatus, Failure, MOST_BYTES, MOST_LIST_BYTES, MOST_LIST_READS, MOST_READS, Meter, Request,
+    parse_words, read_input, serve, tell_failure, tell_fault,
 };
 use clock::moment_by_clock;
 use control::serve_control;
@@ -34,6 +34,14 @@ fn most_bytes(request: &Request<'_>) -> usize {
     match request {
         Request::Why(_) | Request::Audit(_) | Request::Upcoming(_) => MOST_LIST_BYTES,
         _ => MOST_BYTES,
+    }
+}
+
+// The most reads after which an input must have ended.
+fn most_reads(request: &Request<'_>) -> u32 {
+    match request {
+        Request::Why(_) | Request::Audit(_) | Request::Upcoming(_) => MOST_LIST_READS,
+        _ => MOST_READS,
     }
 }
 
@@ -77,7 +85,7 @@ fn serve_with_folder<T: Threads + Wait + Sync>(
 ) -> Result<ExitStatus, Failure> {
     let alloc = rt.alloc();
     let (out, err) = (&mut rt.stdout(), &mut rt.stderr());
-    match read_input(alloc, input, MOST_LIST_BYTES, MOST_LIST_READS) {
+    match read_input(alloc, input, most_bytes(request), most_reads(request)) {
         Ok(bytes) => {
             let files = input_files(rt, folder, bytes.as_slice())?;
             let mut rest = bytes.as_slice();
@@ -100,18 +108,8 @@ fn serve_with_folder<T: Threads + Wait + Sync>(
     }
 }
 
-// The folder of zones where nobody gives one: the machine's own, for the commands on a cluster and
-// on the times to come, and for the controller.
-fn machine_folder(request: &Request<'_>) -> Option<&'static str> {
-    match request {
-        Request::Why(_)
-        | Request::Audit(_)
-        | Request::Upcoming(_)
-        | Request::Describe(_)
-        | Request::Control(_) => Some("/usr/share/zoneinfo"),
-        _ => None,
-    }
-}
+// The folder of zones where nobody gives one: the machine's own.
+const MACHINE_FOLDER: &str = "/usr/share/zoneinfo";
 
 // The name of the zone that a request on one schedule asks for.
 fn time_zone<'a>(request: &Request<'a>) -> Option<&'a str> {
@@ -133,14 +131,14 @@ fn serve_request<T: Threads + Wait + Sync>(
     let alloc = rt.alloc();
     let set = folder_set(rt)?;
     let set = set.as_ref().map(|folder| folder.as_str());
-    let folder = request.folder().or(set).or(machine_folder(request));
-    match (request, folder) {
-        (Request::Check(check), _) if check.files.len() > 1 => serve_files(rt, check, folder),
-        (Request::Upcoming(upcoming), _) if upcoming.files.len() > 1 => {
+    let folder = request.folder().or(set).unwrap_or(MACHINE_FOLDER);
+    match request {
+        Request::Check(check) if check.files.len() > 1 => serve_files(rt, check, folder),
+        Request::Upcoming(upcoming) if upcoming.files.len() > 1 => {
             serve_upcoming_files(rt, upcoming, folder)
         }
-        (Request::Control(control), _) => serve_control(rt, control, folder, input),
-        (Request::Next(_) | Request::Describe(_), Some(folder)) => {
+        Request::Control(control) => serve_control(rt, control, folder, input),
+        Request::Next(_) | Request::Describe(_) => {
             let files = named_file(rt, folder, time_zone(request).unwrap_or(""))?;
             let (out, err) = (&mut rt.stdout(), &mut rt.stderr());
             Ok(serve(
@@ -154,11 +152,7 @@ fn serve_request<T: Threads + Wait + Sync>(
                 meter,
             ))
         }
-        (_, Some(folder)) => serve_with_folder(threads, rt, request, folder, input, meter),
-        (_, None) => {
-            let (out, err) = (&mut rt.stdout(), &mut rt.stderr());
-            Ok(serve(threads, alloc, request, &[], input, out, err, meter))
-        }
+        _ => serve_with_folder(threads, rt, request, folder, input, meter),
     }
 }
 

@@ -11,7 +11,7 @@ use std::io::Write;
 fn answer_of<'a>(
     rt: &HostRuntime,
     check: &CheckRequest<'a>,
-    folder: Option<&str>,
+    folder: &str,
     name: &'a str,
 ) -> Result<FileAnswer<'a>, Failure> {
     let alloc = rt.alloc();
@@ -21,7 +21,7 @@ fn answer_of<'a>(
         Err(Failure::Memory) => return Err(Failure::Memory),
         Err(_) => return Ok(FileAnswer { name, answer: None }),
     };
-    let files = input_files(rt, folder.unwrap_or(""), bytes.as_slice())?;
+    let files = input_files(rt, folder, bytes.as_slice())?;
     let answer = check_file_answer(alloc, check, name, files.as_slice(), &mut bytes.as_slice())?;
     Ok(FileAnswer {
         name,
@@ -33,7 +33,7 @@ fn answer_of<'a>(
 pub fn serve_files(
     rt: &HostRuntime,
     check: &CheckRequest<'_>,
-    folder: Option<&str>,
+    folder: &str,
 ) -> Result<ExitStatus, Failure> {
     let mut answers = Vec::new(rt.alloc());
     for name in check.files.as_slice() {
@@ -83,7 +83,7 @@ fn all_bytes(
 pub fn serve_upcoming_files(
     rt: &HostRuntime,
     upcoming: &UpcomingRequest<'_>,
-    folder: Option<&str>,
+    folder: &str,
 ) -> Result<ExitStatus, Failure> {
     let alloc = rt.alloc();
     let Some(all) = all_bytes(rt, upcoming)? else {
@@ -93,7 +93,7 @@ pub fn serve_upcoming_files(
     let mut sources = Vec::new(alloc);
     for (name, bytes) in upcoming.files.as_slice().iter().zip(all.as_slice()) {
         let bytes = bytes.as_slice();
-        push_input_files(rt, &mut zone_files, folder.unwrap_or(""), bytes)?;
+        push_input_files(rt, &mut zone_files, folder, bytes)?;
         sources.push(CronFile { name: *name, bytes })?;
     }
     Ok(serve_upcoming(

@@ -10,6 +10,7 @@ ghost use Rattle.cj_answers.specs.Outcome.{explained, outcome_of};
 ghost use Rattle.cj_inspect.specs.Why.{IsWhyJson, PrintsJson, meant_of, valued};
 ghost use Rattle.cj_inspect.specs.as_json.Why.{why_data, why_object};
 
+use crate::calls::calls_values;
 use cj_answers::{Answer, ending_by, is_read, note_words, value_line};
 use cj_args::WhyRequest;
 use cj_audit::{others_value, refused_value};
@@ -24,15 +25,17 @@ use std::alloc::{AllocError, Global};
 
 fn why_object(
     alloc: Global,
+    calls: Value,
     crons: Value,
     now: Value,
     others: Value,
     refused: Value,
 ) -> Result<Value, AllocError>
     ensures { IfOk result (λ v. view v
-        ≡ why_object (view crons) (view now) (view others) (view refused)) }
+        ≡ why_object (view calls) (view crons) (view now) (view others) (view refused)) }
 {
     json!(in alloc; {
+        "calls": calls,
         "cronJobs": crons,
         "now": now,
         "others": others,
@@ -43,22 +46,25 @@ fn why_object(
 fn why_value(
     alloc: Global,
     now: Seconds,
+    calls: Vec<Value>,
     crons: Vec<Value>,
     notes: &[ItemNote],
 ) -> Result<Value, Refusal>
-    ensures ok { IfOk result (λ v. view v ≡ why_data now (map view crons.items) notes.now) }
+    ensures ok { IfOk result (λ v. view v
+        ≡ why_data now (map view calls.items) (map view crons.items) notes.now) }
     ensures err { IfErr result (λ e. e ≡ OutOfMemory) }
 {
-    let crons = Value::Array(crons);
+    let (calls, crons) = (Value::Array(calls), Value::Array(crons));
     let now = Value::String(time_text(alloc, now)?);
     let (others, refused) = both(others_value(alloc, notes), refused_value(alloc, notes))?;
-    Ok(why_object(alloc, crons, now, others, refused)?)
+    Ok(why_object(alloc, calls, crons, now, others, refused)?)
 }
 
-// What is known of these CronJobs, on a line.
+// What is known of these CronJobs of a list that these bytes are, on a line.
 fn why_line(
     alloc: Global,
     zones: &ZoneTable,
+    bytes: &[u8],
     list: &ClusterList,
     lined: &[Shared<ClusterCron>],
     now: Seconds,
@@ -68,8 +74,9 @@ fn why_line(
         (string_bytes s)) }
     ensures err { IfErr result (λ e. e ≡ OutOfMemory) }
 {
+    let calls = calls_values(alloc, zones, bytes, &list.cluster, lined, now)?;
     let crons = cron_values(alloc, zones, &list.cluster, lined, now)?;
-    let value = why_value(alloc, now, crons, list.notes.as_slice())?;
+    let value = why_value(alloc, now, calls, crons, list.notes.as_slice())?;
     Ok(value_line(alloc, &value)?)
 }
 
@@ -96,6 +103,7 @@ fn all_valued(
     alloc: Global,
     why: &WhyRequest<'_>,
     zones: &ZoneTable,
+    bytes: &[u8],
     list: &ClusterList,
     lined: &[Shared<ClusterCron>],
     now: Seconds,
@@ -106,15 +114,17 @@ fn all_valued(
     ensures { IfOk result (λ a. PrintsJson why.now (zones_of zones.now) now list.now
         (outcome_of a)) }
 {
-    let line = why_line(alloc, zones, list, lined, now)?;
+    let line = why_line(alloc, zones, bytes, list, lined, now)?;
     Ok(valued(alloc, why.explain, list.notes.as_slice(), line)?)
 }
 
-/// What is printed of CronJobs as one JSON value, of all or of those that want a look.
+/// What is printed of CronJobs of a list that these bytes are, as one JSON value: of all, or of
+/// those that want a look.
 pub(crate) fn json_reviewed(
     alloc: Global,
     why: &WhyRequest<'_>,
     zones: &ZoneTable,
+    bytes: &[u8],
     list: &ClusterList,
     crons: &[Shared<ClusterCron>],
     now: Seconds,
@@ -126,8 +136,8 @@ pub(crate) fn json_reviewed(
 {
     if why.problems {
         let lined = problems(alloc, zones, &list.cluster, crons, now)?;
-        all_valued(alloc, why, zones, list, lined.as_slice(), now)
+        all_valued(alloc, why, zones, bytes, list, lined.as_slice(), now)
     } else {
-        all_valued(alloc, why, zones, list, crons, now)
+        all_valued(alloc, why, zones, bytes, list, crons, now)
     }
 }

@@ -91,6 +91,7 @@ fn ready(alloc: Global, view: &View<'_>, task: &mut Task, at: &At) -> Result<Cho
         Stage::Asking => not_adopted(alloc, task, at),
         Stage::Starting => tidy(alloc, view, task, at),
         Stage::Helping => Ok(Choice::End(Again::After(0))),
+        Stage::Listing => Ok(Choice::End(Again::Failed)),
         Stage::Tidying => list(alloc, view, task),
     }
 }

@@ -8,6 +8,10 @@ use cj_control::parts;
 use cj_fence::{Answer, At, Call, Ref, Table, Tidy};
 use std::alloc::Global;
 
+// After how many milliseconds a CronJob is looked at again of which a Job runs that its status
+// doesn't name.
+const HELD_BACK_MS: u64 = 5_000;
+
 /// The Jobs of the CronJob are listed.
 pub(crate) fn list(alloc: Global, view: &View<'_>, task: &mut Task) -> Result<Choice, Refusal> {
     task.stage = Stage::Tidying;
@@ -67,8 +71,11 @@ fn first_to_go<'a>(task: &Task, garbage: &'a [Ref], finished: &'a [Ref]) -> Opti
     }
 }
 
-// When the CronJob is due again.
+// When the CronJob is due again; soon where a Job was to be made, and another one runs.
 fn next(view: &View<'_>, task: &Task) -> Again {
+    if task.is_held_back {
+        return Again::After(HELD_BACK_MS);
+    }
     match next_time(task) {
         Some(time) => {
             let rank = rank(view.options.replica.as_str(), task.name.as_str());

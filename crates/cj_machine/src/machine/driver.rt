@@ -74,6 +74,15 @@ impl Drop for Driver {
     }
 }
 
+// A count with its word.
+fn counted(alloc: Global, count: u64, word: &str) -> Result<String, Refusal> {
+    if count == 1 {
+        Ok(format!(in alloc; "1 {word}")?)
+    } else {
+        Ok(format!(in alloc; "{count} {word}s")?)
+    }
+}
+
 impl Driver {
     /// What a controller keeps that has heard nothing yet.
     pub fn new(alloc: Global, options: ControlOptions) -> Result<Driver, Refusal>
@@ -127,8 +136,15 @@ impl Driver {
         let jobs = self.feeds.mirror().job_count();
         let (starts, under_way) = (self.starts, self.tasks.len());
         self.starts = 0;
+        let (crons, jobs) = (
+            counted(alloc, crons, "CronJob")?,
+            counted(alloc, jobs, "Job")?,
+        );
+        let (crons, jobs) = (crons.as_str(), jobs.as_str());
+        let syncs = counted(alloc, under_way as u64, "sync")?;
+        let syncs = syncs.as_str();
         let text = format!(in alloc;
-            "{crons} CronJobs, {jobs} Jobs; started {starts} in the last minute, {under_way} syncs under way"
+            "{crons}, {jobs}; started {starts} in the last minute, {syncs} under way"
         )?;
         self.tell(text)
     }

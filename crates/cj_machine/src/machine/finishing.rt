@@ -2,7 +2,7 @@
 
 use crate::machine::driver::Driver;
 use crate::machine::memo::Memo;
-use crate::machine::saying::{say_left, say_why};
+use crate::machine::saying::{say_held_back, say_left, say_why};
 use crate::machine::steps;
 use crate::machine::task::{Again, Task};
 use crate::machine::walking::Went;
@@ -74,12 +74,16 @@ fn say_reason(driver: &mut Driver, alloc: Global, task: &Task) -> Result<u64, Re
     let Some(plan) = &task.plan else {
         return Ok(last);
     };
-    let Some(reason) = plan.reason else {
+    if plan.reason.is_none() && !task.is_held_back {
         return Ok(0);
-    };
+    }
     let minute = driver.now / 60;
-    if minute != last {
-        say_why(alloc, driver, task, reason)?;
+    if minute == last {
+        return Ok(minute);
+    }
+    match plan.reason {
+        Some(reason) if !task.is_held_back => say_why(alloc, driver, task, reason)?,
+        _ => say_held_back(alloc, driver, task)?,
     }
     Ok(minute)
 }
@@ -118,8 +122,8 @@ fn end(
     finish_key(driver, &task.key, again)
 }
 
-/// A sync that went as far as it could is put back to wait, or ends. Where memory is wanting it is
-/// kept, and ends when the clock is told next.
+/// A sync that went as far as it could is put back to wait, or ends. Where memory was wanting it
+/// ends, and that is answered; one that can't even end is kept until the clock is told next.
 pub(crate) fn settle(
     ledger: &mut Ledger,
     driver: &mut Driver,
@@ -128,19 +132,19 @@ pub(crate) fn settle(
     went: Result<Went, Refusal>,
 ) -> Result<(), Refusal> {
     let mut task = task;
-    let again = match went {
+    let (again, given) = match went {
         Ok(Went::Waits(id)) => {
             task.id = Some(id);
             task.asked_at = driver.now;
             return park(driver, task);
         }
-        Ok(Went::Over(again)) => again,
-        Ok(Went::On) => Again::Failed,
-        Err(_) => Again::Failed,
+        Ok(Went::Over(again)) => (again, Ok(())),
+        Ok(Went::On) => (Again::Failed, Ok(())),
+        Err(refusal) => (Again::Failed, Err(refusal)),
     };
     task.id = None;
     match end(ledger, driver, alloc, &mut task, &again) {
-        Ok(()) => Ok(()),
+        Ok(()) => given,
         Err(refusal) => {
             park(driver, task)?;
             Err(refusal)

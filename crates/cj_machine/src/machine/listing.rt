@@ -45,7 +45,8 @@ pub(crate) fn rows_of(alloc: Global, view: &View<'_>, key: &Key) -> Result<Vec<R
     Ok(rows)
 }
 
-fn is_among(jobs: &[Ref], row: &Row<Job>) -> bool {
+/// Whether the Job is one of these.
+pub(crate) fn is_among(jobs: &[Ref], row: &Row<Job>) -> bool {
     jobs.iter()
         .any(|job| job.uid.as_str() == row.object.uid.as_str())
 }

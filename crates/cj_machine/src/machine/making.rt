@@ -3,12 +3,12 @@
 use crate::machine::choice::Choice;
 use crate::machine::clearing::tidy;
 use crate::machine::listing::list_text;
+use crate::machine::others;
 use crate::machine::planning::{Decided, plan};
-use crate::machine::reading::mark_of;
 use crate::machine::task::{Again, CronRead, Stage, Task};
 use crate::machine::view::{View, rank};
 use cj_base::{Refusal, Seconds, Text, TryCopy};
-use cj_control::CronParts;
+use cj_control::{CronParts, mark_of};
 use cj_fence::{At, Call, Claim, Held, Job, Policy};
 use std::alloc::Global;
 
@@ -114,6 +114,13 @@ fn make_planned(
     let from = time.saturating_add(rank(view.options.replica.as_str(), task.name.as_str()));
     if view.now < from {
         return Ok(Choice::End(Again::At(from)));
+    }
+    if others::wants_list(view, task, at) {
+        return others::list(alloc, task);
+    }
+    if others::is_held_back(task, at) {
+        task.is_held_back = true;
+        return tidy(alloc, view, task, at);
     }
     create(alloc, task, at)
 }

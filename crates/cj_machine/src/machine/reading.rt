@@ -2,12 +2,11 @@
 use crate::machine::task::{CronRead, FoundJob, Task};
 use cj_base::{Refusal, Text};
 use cj_control::{
-    ApiVersion, CronParts, Head, HeldBy, annotation, is_text, meta, read_head, read_job, spec,
+    ApiVersion, CronParts, Head, HeldBy, annotation, is_text, meta, parts_of, read_job, spec,
 };
 use cj_fence::{Job, Row};
 use cj_types::Key;
 use serde_json::Value;
-use sha2::{Digest, Sha256};
 use std::alloc::Global;
 
 /// The value of a text that was kept.
@@ -17,22 +16,6 @@ pub(crate) fn value_of(alloc: Global, text: &str) -> Result<Option<Value>, Refus
         Err(error) if error.is_memory() => Err(Refusal::OutOfMemory),
         Err(_) => Ok(None),
     }
-}
-
-// The first four bytes of a digest, as eight digits of hexadecimal.
-fn digits(alloc: Global, bytes: &[u8]) -> Result<String, Refusal> {
-    let mut text = String::new(alloc);
-    for byte in bytes.iter().take(6) {
-        let pair = format!(in alloc; "{byte:02x}")?;
-        text.push_str(pair.as_str())?;
-    }
-    Ok(text)
-}
-
-/// What tells a text from others: twelve digits of its SHA-256.
-pub(crate) fn mark_of(alloc: Global, text: &str) -> Result<Text, Refusal> {
-    let digest = Sha256::digest(text.as_bytes());
-    Ok(Text::from_string(digits(alloc, &digest)?))
 }
 
 /// What the requests of a CronJob need before it is read: its names.
@@ -54,31 +37,6 @@ pub(crate) fn parts_before(
         template: Value::Null,
         mark: Text::new(alloc, "")?,
     })
-}
-
-/// What the requests of a CronJob need; none where it has no template or no names.
-pub(crate) fn parts_of(
-    alloc: Global,
-    value: &Value,
-    api: ApiVersion,
-    by: HeldBy,
-) -> Result<Option<CronParts>, Refusal> {
-    let Some(template) = spec(value, "jobTemplate") else {
-        return Ok(None);
-    };
-    let text = template.to_string(alloc)?;
-    let head = match read_head(alloc, value) {
-        Ok(head) => head,
-        Err(Refusal::OutOfMemory) => return Err(Refusal::OutOfMemory),
-        Err(_) => return Ok(None),
-    };
-    Ok(Some(CronParts {
-        api,
-        by,
-        head,
-        template: template.clone()?,
-        mark: mark_of(alloc, text.as_str())?,
-    }))
 }
 
 fn zone_of(alloc: Global, value: &Value) -> Result<Option<Text>, Refusal> {

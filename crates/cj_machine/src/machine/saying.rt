@@ -126,6 +126,32 @@ pub(crate) fn say_why(
     note_event(alloc, driver, task, reason.name(), is_warning, message)
 }
 
+/// Says that no Job is started, since one runs, or may still be started, that the status doesn't
+/// name.
+pub(crate) fn say_held_back(
+    alloc: Global,
+    driver: &mut Driver,
+    task: &Task,
+) -> Result<(), Refusal> {
+    let message = String::from_str(
+        alloc,
+        "Not starting a job, since another one, which status.active doesn't name, has not ended",
+    )?;
+    note_event(alloc, driver, task, "JobAlreadyActive", false, message)
+}
+
+/// Says that the Jobs of a CronJob could not be listed.
+pub(crate) fn say_unlisted(alloc: Global, driver: &mut Driver, task: &Task) -> Result<(), Refusal> {
+    if !is_told(task.status) {
+        return Ok(());
+    }
+    let (name, status) = (task.name.as_str(), task.status);
+    let text = format!(in alloc;
+        "cronjob {name}: the API server answered {status} to the list of its Jobs"
+    )?;
+    driver.tell(text)
+}
+
 // Whether a status is a refusal that people should know of.
 fn is_told(status: u64) -> bool {
     !matches!(status, 0 | 200 | 201 | 202 | 404 | 409 | 410 | 422)

@@ -2,8 +2,9 @@
 
 use crate::machine::driver::Driver;
 use crate::machine::finishing::{finish_key, settle};
+use crate::machine::others::take_listed;
 use crate::machine::reading::{found_job, parts_before, take_cron};
-use crate::machine::saying::{say_deleted, say_refused, say_started};
+use crate::machine::saying::{say_deleted, say_refused, say_started, say_unlisted};
 use crate::machine::steps;
 use crate::machine::task::{Again, Stage, Task};
 use crate::machine::walking::{Went, walk};
@@ -37,6 +38,8 @@ fn task_of(alloc: Global, driver: &Driver, key: Key, by: HeldBy) -> Result<Task,
         cron: None,
         plan: None,
         found: None,
+        listed: None,
+        is_held_back: false,
         waits,
         wants: None,
         refused: None,
@@ -171,6 +174,23 @@ fn note_job(alloc: Global, task: &mut Task, body: Option<&Value>) -> Result<(), 
     Ok(())
 }
 
+// A sync hears which Jobs have the label of its CronJob; whether it can go on.
+fn hear_list(
+    alloc: Global,
+    driver: &mut Driver,
+    task: &mut Task,
+    body: Option<&Value>,
+) -> Result<bool, Refusal> {
+    task.stage = Stage::Reading;
+    match body {
+        Some(value) if task.status == 200 => take_listed(alloc, task, value),
+        _ => {
+            say_unlisted(alloc, driver, task)?;
+            Ok(false)
+        }
+    }
+}
+
 // A sync hears an answer, and goes on.
 fn hear(
     ledger: &mut Ledger,
@@ -182,6 +202,12 @@ fn hear(
 ) -> Result<Went, Refusal> {
     let body = present(&line.value, "body");
     task.status = status_of(line.kind);
+    if task.stage == Stage::Listing {
+        if !hear_list(alloc, driver, task, body)? {
+            return Ok(Went::Over(Again::Failed));
+        }
+        return walk(ledger, driver, alloc, zones, task);
+    }
     let call = steps::asked(ledger, task.number)?;
     if !steps::hear(ledger, alloc, task.number, line.kind, body)? {
         return Ok(Went::Over(Again::Failed));

@@ -1,6 +1,7 @@
 // The errand of a sync: what it is at, beside what the protocol knows of it.
 use cj_base::Text;
 use cj_control::CronParts;
+use cj_fence::{Job, Row};
 use cj_types::{Key, Reason};
 
 /// What a sync is at.
@@ -8,6 +9,8 @@ use cj_types::{Key, Reason};
 pub(crate) enum Stage {
     /// The CronJob is read, and the Jobs of its status.
     Reading,
+    /// All Jobs with the label of the CronJob are being listed.
+    Listing,
     /// A held Job is being created.
     Creating,
     /// The name was taken: the Job that has it is being read.
@@ -115,6 +118,10 @@ pub(crate) struct Task {
     pub cron: Option<CronRead>,
     pub plan: Option<Planned>,
     pub found: Option<FoundJob>,
+    /// The Jobs with the label of the CronJob, once they were listed.
+    pub listed: Option<Vec<Row<Job>>>,
+    /// Whether one of these runs, or may still be started, that the status doesn't name.
+    pub is_held_back: bool,
     /// The Job that waits to be helped, and since when.
     pub waits: Option<(Text, u64)>,
     /// A zone that is wanted.
@@ -140,6 +147,8 @@ impl Drop for Task {
             cron,
             plan,
             found: _,
+            listed,
+            is_held_back: _,
             waits: _,
             wants: _,
             refused: _,
@@ -150,5 +159,6 @@ impl Drop for Task {
         drop(parts);
         drop(cron);
         drop(plan);
+        drop(listed);
     }
 }

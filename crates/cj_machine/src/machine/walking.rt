@@ -7,7 +7,7 @@ use crate::machine::saying::say_would;
 use crate::machine::steps;
 use crate::machine::task::{Again, Task};
 use crate::machine::view::View;
-use cj_base::Refusal;
+use cj_base::{Refusal, Text};
 use cj_control::Ledger;
 use cj_fence::{Answer, Call, Sync};
 use cj_zone::ZoneTable;
@@ -74,6 +74,14 @@ fn send(
     }
 }
 
+// A sync asks for what is at a path.
+fn read(ledger: &mut Ledger, path: Text) -> Result<Went, Refusal> {
+    match steps::read(ledger, path)? {
+        Some(id) => Ok(Went::Waits(id)),
+        None => Ok(Went::Over(Again::Failed)),
+    }
+}
+
 // A sync takes a step.
 fn walk_on(
     ledger: &mut Ledger,
@@ -89,6 +97,7 @@ fn walk_on(
     match choice {
         Choice::Look(call, answer) => look(ledger, alloc, task.number, call, answer),
         Choice::Send(call) => send(ledger, driver, alloc, task, call),
+        Choice::Read(path) => read(ledger, path),
         Choice::End(again) => Ok(Went::Over(again)),
     }
 }

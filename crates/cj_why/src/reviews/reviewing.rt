@@ -29,7 +29,7 @@ pub struct Reviewed {
 }
 
 /// The plan of the CronJob's next sync.
-pub(crate) fn plan_of(
+pub fn plan_of(
     alloc: Global,
     zones: &ZoneTable,
     cluster: &Cluster,

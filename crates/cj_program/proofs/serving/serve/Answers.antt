@@ -98,10 +98,10 @@ returns-in-Describe-clause-failed g c = λ e. failed_at c.args.request.now c.arg
 pub returns-in-Control-clause-served : goal.returns-in-Control-clause-served
 returns-in-Control-clause-served g c = λ lt. served_at c.args.request.now c.args.files.now
     (g.R.Read.remaining c.args.input.now) _ _ _ _ _
-    c.in-Control.is c.control_answer.result _ c.control_answer.ensures (c.give_answer-in-Control.ensures.given lt)
+    c.in-Control.is c.no_answer.result _ c.no_answer.ensures (c.give_answer-in-Control.ensures.given lt)
 
 pub returns-in-Control-clause-failed : goal.returns-in-Control-clause-failed
 returns-in-Control-clause-failed g c = λ e. failed_at c.args.request.now c.args.files.now
     (g.R.Read.remaining c.args.input.now) _ _ _ _ _
-    c.in-Control.is (cut _ _ _ _ _ _ _ c.control_answer.result c.control_answer.ensures
+    c.in-Control.is (cut _ _ _ _ _ _ _ c.no_answer.result c.no_answer.ensures
     (c.give_answer-in-Control.ensures.failed e))
