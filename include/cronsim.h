@@ -21,10 +21,10 @@
  * was. No pointer of a call is NULL, and no two overlap.
  *
  * Memory comes from malloc, realloc and free. Only the calls that open a handle and those that
- * answer in JSON ask for it. The latter free all of it before they return. Where memory runs out,
- * a call answers CRONSIM_MEMORY and changes nothing. No call prints, waits, locks, starts a thread,
- * ends the process, or keeps a pointer that it is given. None sets errno, unless malloc, realloc or
- * free does.
+ * answer with a text ask for it. The latter free all of it before they return. Where memory runs
+ * out, a call answers CRONSIM_MEMORY and changes nothing. No call prints, waits, locks, starts a
+ * thread, ends the process, or keeps a pointer that it is given. None sets errno, unless malloc,
+ * realloc or free does.
  *
  * Threads: calls on different handles may run at the same time, and so may calls without a handle.
  * Give a handle to one call at a time, even to one that only looks for times. It may move to
@@ -43,10 +43,13 @@
 extern "C" {
 #endif
 
+/* The version of this header; cronsim_version gives that of the library. */
+#define CRONSIM_VERSION "0.2.0"
+
 /* The answer of a call. */
 enum {
     CRONSIM_DONE = 0,    /* done */
-    CRONSIM_NONE = 1,    /* there is no such time */
+    CRONSIM_NONE = 1,    /* there is no such time, or no such text */
     CRONSIM_REFUSED = 2, /* a text is refused: the fault or the answer says why */
     CRONSIM_MEMORY = 3,  /* memory ran out */
     CRONSIM_RANGE = 4,   /* a time is after the year 9998 */
@@ -70,14 +73,24 @@ enum {
     CRONSIM_NO_TEXT = 11 /* the schedule isn't UTF-8 */
 };
 
-/* A handle: it keeps a schedule in its zone, read once. The members belong to the library. A copy
- * is no handle. */
+/*
+ * A handle: it keeps a schedule in its zone, read once. The members belong to the library.
+ *
+ * A handle of zero bytes is empty, as a static one is, or one that CRONSIM_CRON_INIT, {0}, memset
+ * or calloc makes. So is a closed one. A call that looks in an empty handle answers CRONSIM_CLOSED
+ * and writes nothing. Closing it does nothing, however often. Opening fills it.
+ *
+ * Two things the library can't know, and both are undefined behaviour. The bytes of the handle were
+ * never set: it may seem full. And it was copied: once one of the two is closed or opened again,
+ * the other points to memory that is free. You may move a handle, by a copy after which the old
+ * place isn't used again.
+ */
 typedef struct cronsim_cron {
     void *at;
     bool full;
 } cronsim_cron;
 
-/* An empty handle. Initialise each handle so: cronsim_cron cron = CRONSIM_CRON_INIT; */
+/* An empty handle: cronsim_cron cron = CRONSIM_CRON_INIT; */
 #define CRONSIM_CRON_INIT {0, false}
 
 /* Where a text has its fault, and which. */
@@ -112,7 +125,8 @@ uint32_t cronsim_open_rule(cronsim_cron *cron, const uint8_t *schedule, size_t s
 uint32_t cronsim_open_file(cronsim_cron *cron, const uint8_t *schedule, size_t schedule_length,
                            const uint8_t *bytes, size_t bytes_length, cronsim_fault *fault);
 
-/* Frees what the handle keeps, if anything. You may open the handle again, or close it again. */
+/* Frees what the handle keeps, if anything, and leaves it empty. You may open it again, or close it
+ * again. */
 void cronsim_close(cronsim_cron *cron);
 
 /*
@@ -135,12 +149,31 @@ uint32_t cronsim_missed(cronsim_cron *cron, uint64_t after, uint64_t until,
 uint32_t cronsim_matches(cronsim_cron *cron, uint64_t at, bool *is_match);
 
 /*
- * The three calls below answer with one JSON value (RFC 8259): in UTF-8, on one line, and with no
- * byte after it. It goes to the beginning of your buffer, and its length in bytes to `length`. The
- * rest of the buffer stays as it is. If the buffer of `capacity` bytes is too small, the call
- * answers CRONSIM_ROOM, leaves the buffer as it is, and writes the length that it needs to
- * `length`. Call again with that much room. To ask for the length alone, give the capacity 0. The
- * library keeps nothing from one call to the next.
+ * The calls below answer with a text: in UTF-8, on one line, and with no byte after it. It goes to
+ * the beginning of your buffer, and its length in bytes to `length`. The rest of the buffer stays
+ * as it is. If the buffer of `capacity` bytes is too small, the call answers CRONSIM_ROOM, leaves
+ * the buffer as it is, and writes the length that it needs to `length`. Call again with that much
+ * room. To ask for the length alone, give the capacity 0. The library keeps nothing from one call
+ * to the next.
+ */
+
+/* Gives the version of the library, which should be that of the header, CRONSIM_VERSION. Answers
+ * CRONSIM_DONE; CRONSIM_ROOM. */
+uint32_t cronsim_version(uint8_t *answer, size_t capacity, size_t *length);
+
+/*
+ * Says what is wrong with a schedule, in the words of `cronsim next --explain`:
+ * schedule: field 1 (minute), byte 0: '60' is outside 0 to 59
+ * Give the schedule that was refused, and the fault that the call wrote. Answers CRONSIM_DONE;
+ * CRONSIM_NONE if there are no such words: the fault is the zone's, the schedule isn't UTF-8, or no
+ * call writes such a fault; CRONSIM_ROOM; CRONSIM_MEMORY.
+ */
+uint32_t cronsim_fault_text(const uint8_t *schedule, size_t schedule_length,
+                            const cronsim_fault *fault, uint8_t *answer, size_t capacity,
+                            size_t *length);
+
+/*
+ * The text of each of the three calls below is one JSON value (RFC 8259).
  *
  * If a text is refused, the call answers CRONSIM_REFUSED. The JSON value is then a list of faults,
  * each with its `field` and its `cause`:

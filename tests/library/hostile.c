@@ -43,19 +43,93 @@ static void want_fault(const char *what, uint32_t status, cronsim_fault fault, u
     want(what, fault.byte, 0);
 }
 
-// A handle with nothing behind it answers so, and leaves what a call would write to.
-static void closed(void) {
-    cronsim_cron cron = CRONSIM_CRON_INIT;
+// A handle with nothing behind it answers so, leaves what a call would write to, and may be closed.
+static void want_empty(cronsim_cron *cron) {
     cronsim_missed_times missed = {7, 8};
     uint64_t due = 9;
     bool is_match = true;
-    want("next, closed", cronsim_next(&cron, 0, &due), CRONSIM_CLOSED);
-    want("previous, closed", cronsim_previous(&cron, 0, 60, &due), CRONSIM_CLOSED);
-    want("missed, closed", cronsim_missed(&cron, 0, 60, &missed), CRONSIM_CLOSED);
-    want("matches, closed", cronsim_matches(&cron, 0, &is_match), CRONSIM_CLOSED);
+    want("next, closed", cronsim_next(cron, 0, &due), CRONSIM_CLOSED);
+    want("previous, closed", cronsim_previous(cron, 0, 60, &due), CRONSIM_CLOSED);
+    want("missed, closed", cronsim_missed(cron, 0, 60, &missed), CRONSIM_CLOSED);
+    want("matches, closed", cronsim_matches(cron, 0, &is_match), CRONSIM_CLOSED);
+    want("next past the end, closed", cronsim_next(cron, UINT64_MAX, &due), CRONSIM_CLOSED);
     want("nothing written", due == 9 && is_match && missed.count == 7 && missed.latest == 8, 1);
-    cronsim_close(&cron);
-    cronsim_close(&cron);
+    cronsim_close(cron);
+    cronsim_close(cron);
+}
+
+// Handles that were never opened, in each way to set their bytes to zero; one that was refused; and
+// one that was closed, which opens again.
+static void closed(void) {
+    static cronsim_cron fixed;
+    cronsim_cron made = CRONSIM_CRON_INIT, zero = {0}, set;
+    cronsim_cron *asked_for = calloc(1, sizeof *asked_for);
+    cronsim_fault fault = {0, 0, 0};
+    uint64_t due = 0;
+    memset(&set, 0, sizeof set);
+    cronsim_cron *all[] = {&fixed, &made, &zero, &set, asked_for};
+    for (size_t i = 0; i < sizeof all / sizeof *all; i++) {
+        want_empty(all[i]);
+        want_empty(all[i]);
+        want_fault("refused", cronsim_open(all[i], text(" "), 1, &fault), fault, 0, CRONSIM_EMPTY);
+        want_empty(all[i]);
+        want("opened", cronsim_open(all[i], text("0 0 * * *"), 9, &fault), CRONSIM_DONE);
+        want("midnight", cronsim_next(all[i], 1, &due) == CRONSIM_DONE && due == 86400, 1);
+        cronsim_close(all[i]);
+        want_empty(all[i]);
+    }
+    free(asked_for);
+}
+
+// The version is the header's. Nothing is written without room for it.
+static void version(void) {
+    uint8_t answer[16];
+    size_t wanted = strlen(CRONSIM_VERSION), size = 0;
+    memset(answer, 7, sizeof answer);
+    want("version, no room", cronsim_version(answer, wanted - 1, &size), CRONSIM_ROOM);
+    want("version, what it needs", size == wanted && answer[0] == 7, 1);
+    want("version", cronsim_version(answer, sizeof answer, &size), CRONSIM_DONE);
+    want("that of the header", size == wanted && !memcmp(answer, CRONSIM_VERSION, wanted), 1);
+    want("no byte after it", answer[wanted], 7);
+}
+
+// The sentence of a fault, with the request for memory of this number refused; tells whether one
+// was.
+static bool says(void) {
+    static const char words[] = "schedule: field 1 (minute), byte 0: '60' is outside 0 to 59";
+    const cronsim_fault fault = {1, CRONSIM_NUMBER, 0};
+    uint8_t answer[128];
+    size_t size = 9;
+    memset(answer, 7, sizeof answer);
+    asked = 0;
+    uint32_t status =
+        cronsim_fault_text(text("60 * * * *"), 10, &fault, answer, sizeof answer, &size);
+    bool was_refused = asked >= refused_one;
+    want("said", status, was_refused ? CRONSIM_MEMORY : CRONSIM_DONE);
+    if (was_refused)
+        want("nothing written", size == 9 && answer[0] == 7, 1);
+    else
+        want("the words", size == sizeof words - 1 && !memcmp(answer, words, size), 1);
+    return was_refused;
+}
+
+// Faults that no call told of a schedule have no sentence, whatever their numbers.
+static void sentences(void) {
+    const cronsim_fault none[] = {{6, CRONSIM_NO_ZONE, 0}, {0, CRONSIM_NO_TEXT, 0},
+                                  {0, 0, 0},               {6, CRONSIM_SYNTAX, 0},
+                                  {256, CRONSIM_STEP, 0},  {UINT32_MAX, UINT32_MAX, UINT64_MAX}};
+    const cronsim_fault far = {5, CRONSIM_ORDER, UINT64_MAX};
+    uint8_t answer[128] = {7};
+    size_t size = 9;
+    for (size_t i = 0; i < sizeof none / sizeof *none; i++)
+        want("no sentence",
+             cronsim_fault_text(text("* * * * *"), 9, &none[i], answer, sizeof answer, &size),
+             CRONSIM_NONE);
+    want("no UTF-8", cronsim_fault_text(text("\xff"), 1, &far, answer, sizeof answer, &size),
+         CRONSIM_NONE);
+    want("nothing written", size == 9 && answer[0] == 7, 1);
+    want("past the text", cronsim_fault_text(text("*"), 1, &far, answer, sizeof answer, &size),
+         CRONSIM_DONE);
 }
 
 // Lengths of 0 and of a thousand million, and bytes that aren't UTF-8, beside a handle that keeps
@@ -315,6 +389,8 @@ int main(int count, char **words) {
              "{\"manifest\":%s,\"created\":\"2024-01-01T00:00:00Z\",\"zones\":%s}", manifest,
              zones);
     closed();
+    version();
+    sentences();
     lengths();
     ranges();
     texts();
@@ -326,6 +402,7 @@ int main(int count, char **words) {
     }
     for (int call = 0; call < 8; call++)
         for (refused_one = 1; tells(call); refused_one++) refusals++;
+    for (refused_one = 1; says(); refused_one++) refusals++;
     printf("library: hostile: each answer as stated, with %ld requests for memory refused\n",
            refusals);
     return refusals ? 0 : 1;

@@ -63,6 +63,20 @@ static void refused(uint32_t status, cronsim_fault fault, uint64_t field, uint64
     want("cause", fault.cause, cause);
 }
 
+// The sentence of the fault is this one, if one is asked for.
+static void sentence(const char *schedule, size_t length, const cronsim_fault *fault,
+                     char *wanted) {
+    static uint8_t answer[1024];
+    size_t size = 0;
+    if (!wanted) return;
+    size_t wanted_size = bytes_of(wanted);
+    want("sentence",
+         cronsim_fault_text((const uint8_t *)schedule, length, fault, answer, sizeof answer, &size),
+         CRONSIM_DONE);
+    want("length of the sentence", size, wanted_size);
+    want("words of the sentence", memcmp(answer, wanted, size), 0);
+}
+
 static uint64_t number(void) {
     return strtoull(strtok(NULL, "\t\n"), NULL, 10);
 }
@@ -88,6 +102,7 @@ static void run(char *line, cronsim_cron *cron) {
     } else if (strcmp(outcome, "fault") == 0) {
         uint64_t field = number(), byte = number();
         refused(status, fault, field, byte, number());
+        sentence(schedule, schedule_length, &fault, strtok(NULL, "\t\n"));
     } else {
         refused(status, fault, 6, 0, CRONSIM_NO_ZONE);
     }

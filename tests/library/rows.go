@@ -91,6 +91,36 @@ func times(cron *C.cronsim_cron, after uint64, wanted []string) bool {
 	return status == C.CRONSIM_DONE && int(missed.count) == told && missed.latest == latest
 }
 
+// What is said of a fault; nothing where there are no words.
+func sentence(schedule []byte, fault C.cronsim_fault) string {
+	answer, length := make([]byte, 1024), C.size_t(0)
+	size, room, to := C.size_t(len(schedule)), C.size_t(len(answer)), start(answer[:0])
+	status := C.cronsim_fault_text(start(schedule), size, &fault, to, room, &length)
+	if status != C.CRONSIM_DONE {
+		return ""
+	}
+	return string(answer[:length])
+}
+
+// Whether a handle answers that it is closed, and may be closed again.
+func isEmpty(cron *C.cronsim_cron) bool {
+	due, isMatch := C.uint64_t(7), C.bool(true)
+	missed := C.cronsim_missed_times{7, 7}
+	statuses := []C.uint32_t{
+		C.cronsim_next(cron, 0, &due),
+		C.cronsim_previous(cron, 0, 60, &due),
+		C.cronsim_missed(cron, 0, 60, &missed),
+		C.cronsim_matches(cron, 0, &isMatch),
+	}
+	C.cronsim_close(cron)
+	for _, status := range statuses {
+		if status != C.CRONSIM_CLOSED {
+			return false
+		}
+	}
+	return due == 7 && missed.count == 7 && missed.latest == 7
+}
+
 func isRight(cron *C.cronsim_cron, line string) bool {
 	words := strings.Split(line, "\t")
 	status, fault := open(cron, text(words[0]), words[1])
@@ -99,13 +129,19 @@ func isRight(cron *C.cronsim_cron, line string) bool {
 	case "times":
 		return status == C.CRONSIM_DONE && times(cron, number(words[2]), words[5:])
 	case "fault":
-		return status == C.CRONSIM_REFUSED && strings.Join(told, " ") == strings.Join(words[5:], " ")
+		if len(words) > 8 && sentence(text(words[0]), fault) != string(text(words[8])) {
+			return false
+		}
+		return status == C.CRONSIM_REFUSED && strings.Join(told, " ") == strings.Join(words[5:8], " ")
 	}
 	return status == C.CRONSIM_REFUSED && strings.Join(told, " ") == "6 0 10"
 }
 
 func main() {
 	var cron C.cronsim_cron
+	if !isEmpty(&cron) {
+		panic("a handle of zero bytes isn't empty")
+	}
 	count := 0
 	lines := bufio.NewScanner(os.Stdin)
 	lines.Buffer(nil, 1<<20)
@@ -117,6 +153,9 @@ func main() {
 		}
 	}
 	C.cronsim_close(&cron)
+	if !isEmpty(&cron) {
+		panic("a closed handle isn't empty")
+	}
 	fmt.Printf("library: Go: %d rows\n", count)
 	if count == 0 {
 		os.Exit(1)

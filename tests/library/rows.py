@@ -14,9 +14,10 @@ from ctypes import (
     c_uint32,
     c_uint64,
     c_void_p,
+    create_string_buffer,
 )
 
-DONE, NONE, REFUSED = 0, 1, 2
+DONE, NONE, REFUSED, CLOSED = 0, 1, 2, 5
 NO_ZONE = 10
 
 
@@ -51,6 +52,8 @@ def loaded(path):
     library.cronsim_previous.argtypes = [cron, c_uint64, c_uint64, number]
     library.cronsim_missed.argtypes = [cron, c_uint64, c_uint64, POINTER(Missed)]
     library.cronsim_matches.argtypes = [cron, c_uint64, POINTER(c_bool)]
+    answer = [c_char_p, c_size_t, POINTER(c_size_t)]
+    library.cronsim_fault_text.argtypes = [c_char_p, c_size_t, POINTER(Fault), *answer]
     return library
 
 
@@ -107,18 +110,44 @@ def times(library, cron, after, wanted):
     return (status, missed.count, missed.latest) == (DONE, min(count, 101), at if count else 0)
 
 
+def sentence(library, schedule, fault):
+    """What is said of a fault, and with which status."""
+    answer, length = create_string_buffer(1024), c_size_t(0)
+    status = library.cronsim_fault_text(
+        schedule, len(schedule), byref(fault), answer, len(answer), byref(length)
+    )
+    return status, answer.raw[: length.value]
+
+
+def is_empty(library, cron):
+    """Whether a handle answers that it is closed, and may be closed again."""
+    due, missed, is_match = c_uint64(7), Missed(7, 7), c_bool(True)
+    statuses = {
+        library.cronsim_next(byref(cron), 0, byref(due)),
+        library.cronsim_previous(byref(cron), 0, 60, byref(due)),
+        library.cronsim_missed(byref(cron), 0, 60, byref(missed)),
+        library.cronsim_matches(byref(cron), 0, byref(is_match)),
+    }
+    library.cronsim_close(byref(cron))
+    return statuses == {CLOSED} and due.value == missed.count == missed.latest == 7
+
+
 def is_right(library, cron, line, by_file):
     schedule, rule, after, _, outcome, *rest = line.rstrip("\n").split("\t")
     fault = Fault(0, 0, 0)
     status = opened(library, cron, text(schedule), rule, fault, by_file)
     if outcome == "times":
         return status == DONE and times(library, cron, int(after), rest)
-    wanted = [int(word) for word in rest] if outcome == "fault" else [6, 0, NO_ZONE]
+    wanted = [int(word) for word in rest[:3]] if outcome == "fault" else [6, 0, NO_ZONE]
+    if len(rest) > 3 and sentence(library, text(schedule), fault) != (DONE, text(rest[3])):
+        return False
     return status == REFUSED and [fault.field, fault.byte, fault.cause] == wanted
 
 
 def main():
     library, cron, count, files = loaded(sys.argv[1]), Cron(), 0, 0
+    if not is_empty(library, cron):
+        sys.exit("library: Python: a handle of zero bytes isn't empty")
     for line in sys.stdin:
         count += 1
         # (a zone file may have no rule at its end)
@@ -129,6 +158,8 @@ def main():
         ):
             sys.exit(f"library: Python: case {count}: {line}")
     library.cronsim_close(byref(cron))
+    if not is_empty(library, cron):
+        sys.exit("library: Python: a closed handle isn't empty")
     print(f"library: Python: {count} rows, {files} of them with a zone file too")
     sys.exit(0 if files else 1)
 

@@ -39,6 +39,14 @@ extern "C" {
     fn cronsim_previous(cron: &mut Cron, after: u64, until: u64, due: &mut u64) -> u32;
     fn cronsim_missed(cron: &mut Cron, after: u64, until: u64, missed: &mut Missed) -> u32;
     fn cronsim_matches(cron: &mut Cron, at: u64, is_match: &mut bool) -> u32;
+    fn cronsim_fault_text(
+        schedule: *const u8,
+        length: usize,
+        fault: &Fault,
+        answer: *mut u8,
+        capacity: usize,
+        size: &mut usize,
+    ) -> u32;
 }
 
 const DONE: u32 = 0;
@@ -123,6 +131,17 @@ fn times(cron: &mut Timetable, after: u64, wanted: &[&str]) -> bool {
     cron.missed(after, at) == (DONE, count.min(101), if count == 0 { 0 } else { at })
 }
 
+/// What is said of a fault; nothing where there are no words.
+fn sentence(schedule: &[u8], fault: &Fault) -> Vec<u8> {
+    let (mut answer, mut size) = (vec![0; 1024], 0);
+    let (start, length, room) = (schedule.as_ptr(), schedule.len(), answer.len());
+    let status = unsafe {
+        cronsim_fault_text(start, length, fault, answer.as_mut_ptr(), room, &mut size)
+    };
+    answer.truncate(if status == DONE { size } else { 0 });
+    answer
+}
+
 fn is_right(cron: &mut Timetable, line: &str) -> Option<bool> {
     let words: Vec<&str> = line.split('\t').collect();
     let rule = if words[1] == "-" { None } else { Some(text(words[1])?) };
@@ -132,8 +151,12 @@ fn is_right(cron: &mut Timetable, line: &str) -> Option<bool> {
     Some(match words[4] {
         "times" => status == DONE && times(cron, words[2].parse().ok()?, rest),
         "fault" => {
-            let wanted = rest.iter().map(|word| word.to_string());
-            status == REFUSED && told.iter().map(u64::to_string).eq(wanted)
+            let wanted = rest[..3].iter().map(|word| word.to_string());
+            let is_said = match rest.get(3) {
+                Some(said) => sentence(&text(words[0])?, &fault) == text(said)?,
+                None => true,
+            };
+            is_said && status == REFUSED && told.iter().map(u64::to_string).eq(wanted)
         }
         _ => status == REFUSED && told == [6, 0, NO_ZONE],
     })

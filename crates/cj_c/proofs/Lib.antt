@@ -1,4 +1,5 @@
 mod Depths
+mod Lines
 mod NoFloats
 mod ZonesTold
 pub mod HeldSteps

@@ -19,6 +19,17 @@ cause_code Range = 7
 cause_code Order = 8
 cause_code Step = 9
 
+-- of a zone that is refused
+-- rule: library-faults
+abbrev pub no_zone : ℕ
+no_zone = 10
+
+-- of a text that isn't UTF-8
+-- rule: library-faults
+abbrev pub no_text : ℕ
+no_text = 11
+
+-- the fault of a text as a whole
 abbrev pub whole : ℕ → CronFault
 whole cause = record { field = 0; cause = cause; byte = 0 }
 
@@ -36,5 +47,5 @@ IsFaultTold text told = (fault : ScheduleFault) × IsFault text fault × (told �
 -- rule: library-faults
 abbrev pub IsTextRefused : List ℕ → CronFault → Type 0
 IsTextRefused text told =
-    ((1024 < length text) × (told ≡ whole 1))
-    ⊎ ((¬ (IsUtf8 text) × (told ≡ whole 11)) ⊎ IsFaultTold text told)
+    ((1024 < length text) × (told ≡ whole (cause_code Length)))
+    ⊎ ((¬ (IsUtf8 text) × (told ≡ whole no_text)) ⊎ IsFaultTold text told)

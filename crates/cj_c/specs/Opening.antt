@@ -15,7 +15,8 @@ use Rattle.cj_c.specs.declared.opening.Unopened.TheVariants as Why
 use Rattle.cj_c.specs.declared.timetable.Timetable.{Timetable}
 use Rattle.cj_c.specs.declared.zones.Unzoned.{Unzoned}
 use Rattle.cj_c.specs.declared.zones.Unzoned.TheVariants as Reason
-use Rattle.cj_c.specs.Faults.{IsTextRefused}
+use Rattle.cj_c.specs.Faults.{IsTextRefused, no_zone}
+use Rattle.cj_c.specs.Status.{done, memory, refused}
 
 -- the zone of the rule; and why there is none
 abbrev pub IsRuleZone : List ℕ → Zone → Type 0
@@ -34,9 +35,14 @@ HasNoFileZone bytes = (1_048_576 < length bytes) ⊎ IsNotFile bytes
 abbrev pub IsUtcZone : Zone → Type 0
 IsUtcZone z = z ≡ utc_zone (codes "UTC")
 
+-- the zone, among the fields of a schedule
+-- rule: library-faults
+abbrev pub zone_field : ℕ
+zone_field = 6
+
 -- the fault of a zone that is refused
 abbrev pub zone_fault : CronFault
-zone_fault = record { field = 6; cause = 10; byte = 0 }
+zone_fault = record { field = zone_field; cause = no_zone; byte = 0 }
 
 -- the fault is the schedule's, or the zone's
 -- rule: library-faults
@@ -66,9 +72,9 @@ HasZone schedule zone t = IsSchedule schedule t.schedule × (zone ≡ Ok t.zone)
 -- as its zone
 abbrev pub Opens : List ℕ → Result Zone Unzoned → Held → Held → CronFault → CronFault → ℕ → Type 0
 Opens schedule zone old new told tells status =
-    ((status ≡ 0) × (new.full ≡ true) × HasZone schedule zone new.timetable × (tells ≡ told))
-    ⊎ (((status ≡ 2) × (new ≡ old) × IsFaultIn schedule zone tells)
-    ⊎ ((status ≡ 3) × (new ≡ old) × (tells ≡ told)))
+    ((status ≡ done) × (new.full ≡ true) × HasZone schedule zone new.timetable × (tells ≡ told))
+    ⊎ (((status ≡ refused) × (new ≡ old) × IsFaultIn schedule zone tells)
+    ⊎ ((status ≡ memory) × (new ≡ old) × (tells ≡ told)))
 
 -- the timetable has this schedule and a zone of this kind
 -- rule: library-open
@@ -80,6 +86,7 @@ IsTimetable schedule IsZone t = IsSchedule schedule t.schedule × IsZone t.zone
 abbrev pub IsOpened : List ℕ → (Zone → Type 0) → Type 0 → Held → Held → CronFault → CronFault → ℕ
     → Type 0
 IsOpened schedule IsZone NoZone old new told tells status =
-    ((status ≡ 0) × (new.full ≡ true) × IsTimetable schedule IsZone new.timetable × (tells ≡ told))
-    ⊎ (((status ≡ 2) × (new ≡ old) × IsOpenFault schedule NoZone tells)
-    ⊎ ((status ≡ 3) × (new ≡ old) × (tells ≡ told)))
+    ((status ≡ done) × (new.full ≡ true) × IsTimetable schedule IsZone new.timetable
+    × (tells ≡ told))
+    ⊎ (((status ≡ refused) × (new ≡ old) × IsOpenFault schedule NoZone tells)
+    ⊎ ((status ≡ memory) × (new ≡ old) × (tells ≡ told)))

@@ -2,6 +2,7 @@
 use Rattle.std.specs.Prelude.{◌≡◌, ◌⊎◌, ℕ, ◌+◌, ◌<◌, ◌≤◌}
 use Rattle.cj_base.specs.Instant.{last_second}
 use Rattle.cj_due.specs.Due.{reach, missed_count, IsQuiet, IsLeastDue, IsLatestDue}
+use Rattle.cj_c.specs.Status.{done, none, range}
 use Rattle.cj_c.specs.declared.times.CronMissed.{CronMissed}
 use Rattle.cj_c.specs.declared.timetable.Timetable.{Timetable}
 
@@ -10,9 +11,9 @@ use Rattle.cj_c.specs.declared.timetable.Timetable.{Timetable}
 -- rule: library-next
 abbrev pub IsNextDue : Timetable → ℕ → ℕ → ℕ → ℕ → Type 0
 IsNextDue t after old new status =
-    ((status ≡ 0) × IsLeastDue t.schedule t.zone after (after + reach) new)
-    ⊎ (((status ≡ 1) × IsQuiet t.schedule t.zone after (after + reach) × (new ≡ old))
-    ⊎ ((status ≡ 4) × (last_second < after) × (new ≡ old)))
+    ((status ≡ done) × IsLeastDue t.schedule t.zone after (after + reach) new)
+    ⊎ (((status ≡ none) × IsQuiet t.schedule t.zone after (after + reach) × (new ≡ old))
+    ⊎ ((status ≡ range) × (last_second < after) × (new ≡ old)))
 
 -- one of two instants is out of range
 abbrev pub IsPastEnd : ℕ → ℕ → Type 0
@@ -23,9 +24,9 @@ IsPastEnd lo hi = (last_second < lo) ⊎ (last_second < hi)
 -- rule: library-previous
 abbrev pub IsPreviousDue : Timetable → ℕ → ℕ → ℕ → ℕ → ℕ → Type 0
 IsPreviousDue t lo hi old new status =
-    ((status ≡ 0) × IsLatestDue t.schedule t.zone lo hi new)
-    ⊎ (((status ≡ 1) × IsQuiet t.schedule t.zone lo hi × (new ≡ old))
-    ⊎ ((status ≡ 4) × IsPastEnd lo hi × (new ≡ old)))
+    ((status ≡ done) × IsLatestDue t.schedule t.zone lo hi new)
+    ⊎ (((status ≡ none) × IsQuiet t.schedule t.zone lo hi × (new ≡ old))
+    ⊎ ((status ≡ range) × IsPastEnd lo hi × (new ≡ old)))
 
 -- none, given as 0; or their number, from 1 to 100, and the greatest; or more than 100, given as
 -- 101, and the greatest
@@ -41,5 +42,5 @@ IsMissedTold t lo hi m =
 -- rule: library-missed
 abbrev pub IsMissedDue : Timetable → ℕ → ℕ → CronMissed → CronMissed → ℕ → Type 0
 IsMissedDue t lo hi old new status =
-    ((status ≡ 0) × IsMissedTold t lo hi new)
-    ⊎ ((status ≡ 4) × IsPastEnd lo hi × (new ≡ old))
+    ((status ≡ done) × IsMissedTold t lo hi new)
+    ⊎ ((status ≡ range) × IsPastEnd lo hi × (new ≡ old))

@@ -19,7 +19,9 @@ mod times;
 mod timetable;
 mod zones;
 
-pub use answers::{cronsim_audit, cronsim_check, cronsim_plan};
+pub use answers::{
+    cronsim_audit, cronsim_check, cronsim_fault_text, cronsim_plan, cronsim_version,
+};
 pub use fault::CronFault;
 pub use held::Held;
 pub use opening::{cronsim_close, cronsim_open, cronsim_open_file, cronsim_open_rule};

@@ -1,5 +1,6 @@
 ghost use Rattle.std.specs.Prelude.{◌≡◌, ◌⊎◌, true, false};
 ghost use Rattle.cj_c.specs.Shown.{IsMatch};
+ghost use Rattle.cj_c.specs.Status.{closed};
 
 use crate::held::Held;
 use crate::status::{CLOSED, DONE, RANGE};
@@ -30,7 +31,7 @@ pub extern "C" fn cronsim_matches(
     ensures stays { cron.old.full ≡ true → cron.new.timetable ≡ cron.old.timetable }
     ensures found { cron.old.full ≡ true →
         IsMatch cron.old.timetable at is_match.old is_match.new result }
-    ensures closed { cron.old.full ≡ false → (result ≡ 5) × (is_match.new ≡ is_match.old) }
+    ensures closed { cron.old.full ≡ false → (result ≡ closed) × (is_match.new ≡ is_match.old) }
 {
     let Some(timetable) = cron.take(alloc) else {
         return CLOSED;

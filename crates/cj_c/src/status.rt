@@ -2,7 +2,7 @@
 
 /// Done.
 pub(crate) const DONE: u32 = 0;
-/// There is no such time.
+/// There is no such time, or no such text.
 pub(crate) const NONE: u32 = 1;
 /// A text is refused, as the fault says.
 pub(crate) const REFUSED: u32 = 2;

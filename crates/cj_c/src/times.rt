@@ -1,4 +1,5 @@
 ghost use Rattle.std.specs.Prelude.{◌≡◌, ◌⊎◌, true, false};
+ghost use Rattle.cj_c.specs.Status.{closed};
 ghost use Rattle.cj_c.specs.Times.{IsNextDue, IsPreviousDue, IsMissedDue, IsMissedTold};
 
 use crate::held::Held;
@@ -91,7 +92,7 @@ pub extern "C" fn cronsim_next(alloc: Global, cron: &mut Held, after: u64, due: 
     ensures stays { cron.old.full ≡ true → cron.new.timetable ≡ cron.old.timetable }
     ensures found { cron.old.full ≡ true →
         IsNextDue cron.old.timetable after due.old due.new result }
-    ensures closed { cron.old.full ≡ false → (result ≡ 5) × (due.new ≡ due.old) }
+    ensures closed { cron.old.full ≡ false → (result ≡ closed) × (due.new ≡ due.old) }
 {
     let Some(timetable) = cron.take(alloc) else {
         return CLOSED;
@@ -114,7 +115,7 @@ pub extern "C" fn cronsim_previous(
     ensures stays { cron.old.full ≡ true → cron.new.timetable ≡ cron.old.timetable }
     ensures found { cron.old.full ≡ true →
         IsPreviousDue cron.old.timetable after until due.old due.new result }
-    ensures closed { cron.old.full ≡ false → (result ≡ 5) × (due.new ≡ due.old) }
+    ensures closed { cron.old.full ≡ false → (result ≡ closed) × (due.new ≡ due.old) }
 {
     let Some(timetable) = cron.take(alloc) else {
         return CLOSED;
@@ -137,7 +138,7 @@ pub extern "C" fn cronsim_missed(
     ensures stays { cron.old.full ≡ true → cron.new.timetable ≡ cron.old.timetable }
     ensures found { cron.old.full ≡ true →
         IsMissedDue cron.old.timetable after until told.old told.new result }
-    ensures closed { cron.old.full ≡ false → (result ≡ 5) × (told.new ≡ told.old) }
+    ensures closed { cron.old.full ≡ false → (result ≡ closed) × (told.new ≡ told.old) }
 {
     let Some(timetable) = cron.take(alloc) else {
         return CLOSED;

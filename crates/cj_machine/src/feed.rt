@@ -12,7 +12,7 @@ use crate::mirror::Shelf;
 use crate::source::Source;
 use cj_base::{Refusal, Text};
 use cj_control::{Request, Verb};
-pub(crate) use notes::Notes;
+pub(crate) use notes::{Notes, no_version};
 use pace::Pace;
 pub(crate) use scope::Scope;
 use std::alloc::Global;

@@ -163,8 +163,7 @@ fn came_for(
     line: &Line,
 ) -> Result<(), Refusal> {
     if driver.version_id == Some(id) {
-        driver.hear_version(line);
-        return Ok(());
+        return driver.hear_version(alloc, line);
     }
     match driver.feed_of(id) {
         Some(source) => driver.hear_feed(alloc, source, line),

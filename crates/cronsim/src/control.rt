@@ -1,9 +1,9 @@
 use crate::folder::file_of;
 use crate::source::Input;
 use cj_dialogue::{ZoneSource, check_transcript, run_session};
-use cj_program::{ControlRequest, ExitStatus, Failure, FileBytes, is_file_name};
+use cj_program::{ControlRequest, ExitStatus, Failure, FileBytes, is_file_name, tell_failure};
 use std::fs::File;
-use std::io::Write;
+use std::io::{IsTerminal, Write};
 
 /// A folder with compiled zone files; the empty name is that of no folder.
 #[derive(Drop)]
@@ -41,8 +41,18 @@ fn run_on(
     )
 }
 
-/// Serves a request for a controller: the transcript's file is made anew first, if one is wanted.
-pub fn serve_control(
+// Says to whoever runs the command by hand that it waits for lines.
+fn tell_terminal(rt: &HostRuntime) {
+    if rt.stdin().is_terminal() {
+        let _ = writeln!(
+            &mut rt.stderr(),
+            "cronsim: control reads lines of JSON; cronsim-control starts it and carries them"
+        );
+    }
+}
+
+// Runs a controller, or checks a transcript.
+fn run_control(
     rt: &HostRuntime,
     control: &ControlRequest<'_>,
     folder: &str,
@@ -52,6 +62,7 @@ pub fn serve_control(
         let (out, err) = (&mut rt.stdout(), &mut rt.stderr());
         return check_transcript(rt.alloc(), control, input, out, err);
     }
+    tell_terminal(rt);
     let Some(name) = control.transcript else {
         return run_on(rt, control, folder, None, input);
     };
@@ -64,5 +75,18 @@ pub fn serve_control(
             }
             Err(failure)
         }
+    }
+}
+
+/// Serves a request for a controller: the transcript's file is made anew first, if one is wanted.
+pub fn serve_control(
+    rt: &HostRuntime,
+    control: &ControlRequest<'_>,
+    folder: &str,
+    input: &mut Input,
+) -> ExitStatus {
+    match run_control(rt, control, folder, input) {
+        Ok(status) => status,
+        Err(failure) => tell_failure(failure, &mut rt.stderr()),
     }
 }

@@ -137,7 +137,7 @@ fn serve_request<T: Threads + Wait + Sync>(
         Request::Upcoming(upcoming) if upcoming.files.len() > 1 => {
             serve_upcoming_files(rt, upcoming, folder)
         }
-        Request::Control(control) => serve_control(rt, control, folder, input),
+        Request::Control(control) => Ok(serve_control(rt, control, folder, input)),
         Request::Next(_) | Request::Describe(_) => {
             let files = named_file(rt, folder, time_zone(request).unwrap_or(""))?;
             let (out, err) = (&mut rt.stdout(), &mut rt.stderr());

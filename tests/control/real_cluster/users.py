@@ -22,8 +22,9 @@ def cron(version, name, policy, run, image="none"):
 class Users:
     """They make the CronJobs, and edit them until it is calm."""
 
-    def __init__(self, api, observer, namespace, seed):
+    def __init__(self, api, observer, namespace, seed, is_beside=False):
         self.api, self.observer, self.namespace = api, observer, namespace
+        self.is_beside = bool(is_beside)
         self.dice = random.Random(f"users {seed}")
 
     def path(self, resource, name=""):
@@ -33,6 +34,9 @@ class Users:
         for number in range(count):
             policy = POLICIES[number % 3]
             body = cron(self.api.cron_version, f"c{number}-{policy.lower()}", policy, run)
+            if self.is_beside:
+                body["metadata"]["annotations"] = {"cronsim/run": "true"}
+                body["spec"]["suspend"] = True
             status, said = self.api.call("POST", self.path("cronjobs"), body)
             if status != 201:
                 raise OSError(f"{body['metadata']['name']}: {status} {said}")
@@ -77,4 +81,6 @@ class Users:
         self.api.call("DELETE", self.path("cronjobs", name), BACKGROUND)
         time.sleep(self.dice.choice((0, 0, 1, 3)))
         body = {"apiVersion": self.api.cron_version, "kind": "CronJob", "metadata": {"name": name}}
+        if self.is_beside:
+            body["metadata"]["annotations"] = {"cronsim/run": "true"}
         self.api.call("POST", self.path("cronjobs"), body | {"spec": spec})

@@ -16,6 +16,10 @@ has finished or is gone. A CronJob is told by its uid. Counted are:
     garbage        a held Job that stands at the end, of a time that can't be claimed any more
     early          the same, of a time after the last one, which can (no fault)
     held again     a Job that ran, and was held later
+
+Counted too, and no fault: `taken out`, an unfinished Job that stood, taken out of status.active
+(by the order of the server's resource versions), and `never held`, a Job that was made without a
+hold, which ours never is. Beside the cluster's own controller a claimed Job may be lost.
 """
 import json
 import sys
@@ -37,6 +41,9 @@ WRONG = (
     "garbage",
     "held again",
 )
+OTHERS = ("early", "taken out", "never held")
+# What may happen beside the cluster's own controller.
+ALLOWED_BESIDE = ("lost",)
 
 
 @lru_cache(4096)
@@ -70,6 +77,14 @@ def holds(item):
     return "cronsim/held" in said or spec.get("suspend") is True or spec.get("parallelism") == 0
 
 
+def uids_of(status):
+    return {it.get("uid") for it in status.get("active") or []}
+
+
+def version_of(item):
+    return int(item["metadata"]["resourceVersion"])
+
+
 def has_finished(item):
     conditions = (item.get("status") or {}).get("conditions") or []
     return any(it["type"] in ("Complete", "Failed") and it["status"] == "True" for it in conditions)
@@ -80,6 +95,8 @@ class Job:
         self.item, self.seen = item, at
         self.owner, self.time, self.name = owner_of(item), time_of(item), item["metadata"]["name"]
         self.ran = self.ended = self.gone = None
+        # (the version from which on it has finished or is gone)
+        self.over = None
 
     def runs(self):
         return self.ran is not None and self.ended is None and self.gone is None
@@ -107,7 +124,8 @@ class Cron:
 class Verdict:
     """Goes through a log, entry after entry."""
 
-    def __init__(self):
+    def __init__(self, is_beside=False):
+        self.is_beside, self.removed = is_beside, []
         self.jobs, self.crons, self.ran = {}, {}, defaultdict(list)
         self.owned = defaultdict(list)
         self.counts, self.found, self.delays = Counter(), [], []
@@ -116,7 +134,8 @@ class Verdict:
 
     def tell(self, kind, text):
         self.counts[kind] += 1
-        self.found.append(f"{kind}: {clock(self.now)} {text}")
+        if not (self.is_beside and kind in ALLOWED_BESIDE):
+            self.found.append(f"{kind}: {clock(self.now)} {text}")
 
     def read(self, lines):
         for line in lines:
@@ -147,11 +166,12 @@ class Verdict:
         policy = item["spec"]["concurrencyPolicy"]
         if not cron.policies or cron.policies[-1][1] != policy:
             cron.policies.append((self.now, policy))
-        status = item.get("status") or {}
+        status, before = item.get("status") or {}, cron.item.get("status") or {}
+        gone = uids_of(before) - uids_of(status) if kind not in ("DELETED", "GONE") else ()
+        self.removed += [(it, version_of(item)) for it in gone]
         last = status.get("lastScheduleTime")
         if last and (not cron.claims or cron.claims[-1][1] != second_of(last)):
-            uids = {it.get("uid") for it in status.get("active") or []}
-            cron.claims.append((self.now, second_of(last), uids))
+            cron.claims.append((self.now, second_of(last), uids_of(status)))
         cron.item = item
 
     def see_job(self, kind, item):
@@ -159,8 +179,12 @@ class Verdict:
         if uid not in self.jobs:
             self.jobs[uid] = Job(item, self.now)
             self.owned[owner_of(item)].append(self.jobs[uid])
+            if kind == "ADDED" and not holds(item) and self.now > self.begin > 0:
+                self.counts["never held"] += 1
         job = self.jobs[uid]
         job.item = item
+        if job.over is None and (kind in ("DELETED", "GONE") or has_finished(item)):
+            job.over = version_of(item)
         if kind in ("DELETED", "GONE"):
             job.gone = self.now
         elif holds(item):
@@ -200,6 +224,10 @@ class Verdict:
     # ---- the end
 
     def close(self):
+        for uid, version in self.removed:
+            job = self.jobs.get(uid)
+            if job is not None and (job.over is None or job.over > version):
+                self.counts["taken out"] += 1
         for uid, cron in self.crons.items():
             if cron.gone is None and "deletionTimestamp" not in cron.item["metadata"]:
                 self.find_unstarted(uid, cron)
@@ -233,7 +261,9 @@ class Verdict:
     def find_stuck(self, uid, cron):
         own = self.owned[uid]
         last = max([cron.seen, *(it.ran or 0 for it in own)])
-        if cron.item["spec"]["concurrencyPolicy"] == "Forbid":
+        # (beside another controller also one under Replace may wait for the end of a Job)
+        waits = ("Forbid", "Replace") if self.is_beside else ("Forbid",)
+        if cron.item["spec"]["concurrencyPolicy"] in waits:
             last = max([last, *(it.last_ran(self.now) for it in own)])
         if self.now - last > STUCK:
             self.tell("stuck", f"{cron.name}: nothing since {clock(last)}")
@@ -253,7 +283,7 @@ class Verdict:
 
     def summary(self):
         edits = {it[8:]: n for it, n in self.counts.items() if it.startswith("edited: ")}
-        others = ("early", "troubles of the observer")
+        others = (*OTHERS, "troubles of the observer")
         counts = {it: self.counts[it] for it in ("starts", *WRONG, *others)}
         return {"due": self.due()} | counts | {"edits": edits, "delay": self.figures()}
 

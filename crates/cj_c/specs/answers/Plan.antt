@@ -12,6 +12,7 @@ use Rattle.cj_scenario.specs.declared.scene.Scene.{Scene}
 use Rattle.cj_why.specs.reviews.PlanJson.{plan_data}
 use Rattle.cj_why.specs.reviews.ZoneFor.{zone_for}
 use Rattle.cj_zone.specs.Table.{zones_of}
+use Rattle.cj_c.specs.Status.{range}
 use Rattle.cj_c.specs.answers.Buffers.{IsAnswered, IsUnchanged}
 use Rattle.cj_audit.specs.Faults.{faults_data, one_fault}
 use Rattle.cj_c.specs.answers.Texts.{IsJsonText}
@@ -58,4 +59,4 @@ pub record IsPlanRefusal (bytes text : List ℕ) : Type 0 where
 abbrev pub IsPlanAnswered : List ℕ → ℕ → List ℕ → List ℕ → ℕ → ℕ → ℕ → Type 0
 IsPlanAnswered bytes now old new was is status =
     IsAnswered (IsPlanned bytes now) (IsPlanRefusal bytes) old new was is status
-    ⊎ ((status ≡ 4) × (last_second < now) × IsUnchanged old new was is)
+    ⊎ ((status ≡ range) × (last_second < now) × IsUnchanged old new was is)

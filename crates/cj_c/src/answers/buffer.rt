@@ -16,8 +16,8 @@ fn fill(buffer: &mut [u8], text: &[u8])
     front.copy_from_slice(text);
 }
 
-// Gives the text where it has room, with the status; its length anyway.
-fn give(text: &[u8], done: u32, buffer: &mut [u8], size: &mut usize) -> u32
+/// Gives the text where it has room, with the status; its length anyway.
+pub(crate) fn give(text: &[u8], done: u32, buffer: &mut [u8], size: &mut usize) -> u32
     ensures { IsGiven text.now done buffer.old buffer.new size.new result }
 {
     *size = text.len();

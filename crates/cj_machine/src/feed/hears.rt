@@ -11,6 +11,9 @@ use cj_types::Key;
 use serde_json::Value;
 use std::alloc::Global;
 
+// From which wait on, in seconds, people are told that a list or a watch fails.
+const TOLD_FROM: u64 = 4;
+
 impl Feed {
     fn asked(&self) -> Asked {
         match &self.stage {
@@ -58,6 +61,26 @@ impl Feed {
         Ok(Vec::new(alloc))
     }
 
+    // The server gave no answer, or none that helps: the same is asked again later. People are told
+    // from the third time in a row on.
+    fn missed(
+        &mut self,
+        alloc: Global,
+        scope: &Scope,
+        source: Source,
+        notes: &mut Notes,
+        status: Option<u64>,
+        value: &Value,
+        now: u64,
+    ) -> Result<Vec<Key>, Refusal> {
+        let (asked, wait) = (self.asked(), self.pace.wait());
+        self.pace = self.pace.missed(now);
+        if wait >= TOLD_FROM {
+            notes.failing(alloc, scope, source, asked, status, value, wait)?;
+        }
+        Ok(Vec::new(alloc))
+    }
+
     fn answered(
         &mut self,
         alloc: Global,
@@ -75,10 +98,7 @@ impl Feed {
                 self.restart(now, 1);
                 Ok(Vec::new(alloc))
             }
-            Verdict::Busy => {
-                self.pace = self.pace.missed(now);
-                Ok(Vec::new(alloc))
-            }
+            Verdict::Busy => { self.missed(alloc, scope, source, notes, Some(status), value, now) }
             Verdict::Refused => self.refused(alloc, scope, source, notes, status, value, now),
         }
     }
@@ -120,9 +140,9 @@ impl Feed {
             }
             LineKind::Failed(_) => {
                 self.waits = false;
-                self.pace = self.pace.missed(now);
+                let touched = self.missed(alloc, scope, source, notes, None, value, now)?;
                 self.end_watch(now);
-                Ok(Vec::new(alloc))
+                Ok(touched)
             }
             _ => Ok(Vec::new(alloc)),
         }

@@ -2,7 +2,8 @@
 use crate::feed::scope::Scope;
 use crate::source::Source;
 use cj_base::Refusal;
-use cj_control::text_at;
+use cj_control::{ApiVersion, text_at};
+use cj_manifest::present;
 use serde_json::Value;
 use std::alloc::{AllocError, Global};
 use std::mem;
@@ -58,6 +59,37 @@ fn reason(alloc: Global, body: Option<&Value>) -> Result<String, AllocError> {
     }
 }
 
+// What came of a request: what the server answered, or why no answer came.
+fn outcome(alloc: Global, status: Option<u64>, value: &Value) -> Result<String, AllocError> {
+    if let Some(status) = status {
+        let reason = reason(alloc, present(value, "body"))?;
+        return format!(in alloc; "the API server answered {status}{reason}");
+    }
+    match text_at(value, "error") {
+        Some(cause) => format!(in alloc; "no answer came: {cause}"),
+        None => String::from_str(alloc, "no answer came"),
+    }
+}
+
+/// A line that the server's version could not be read.
+pub(crate) fn no_version(
+    alloc: Global,
+    status: Option<u64>,
+    value: &Value,
+) -> Result<String, AllocError> {
+    let outcome = outcome(alloc, status, value)?;
+    format!(in alloc; "can't read the API server's /version: {outcome}; trying again each second")
+}
+
+// What may help where a list is not found.
+fn tip(scope: &Scope, source: Source, status: u64) -> &'static str {
+    match (source, scope.api, status) {
+        (Source::Crons, ApiVersion::BatchV1, 404) =>
+            " (before Kubernetes 1.21 give --api-version batch/v1beta1)",
+        _ => "",
+    }
+}
+
 impl Notes {
     pub(crate) fn new(alloc: Global) -> Notes {
         Notes {
@@ -87,8 +119,28 @@ impl Notes {
         let act = act(asked);
         let objects = objects(alloc, scope, source)?;
         let reason = reason(alloc, body)?;
+        let tip = tip(scope, source, status);
         self.push(format!(in alloc;
-            "can't {act} {objects}: the API server answered {status}{reason}; trying again in 32 s"
+            "can't {act} {objects}: the API server answered {status}{reason}{tip}; trying again in 32 s"
+        )?)
+    }
+
+    /// A line that a list or a watch has failed again, and is tried again after so many seconds.
+    pub(crate) fn failing(
+        &mut self,
+        alloc: Global,
+        scope: &Scope,
+        source: Source,
+        asked: Asked,
+        status: Option<u64>,
+        value: &Value,
+        seconds: u64,
+    ) -> Result<(), Refusal> {
+        let act = act(asked);
+        let objects = objects(alloc, scope, source)?;
+        let outcome = outcome(alloc, status, value)?;
+        self.push(format!(in alloc;
+            "can't {act} {objects}: {outcome}; trying again in {seconds} s"
         )?)
     }
 

@@ -43,6 +43,11 @@ impl Pace {
         }
     }
 
+    /// How many seconds are waited after a request that is in vain now.
+    pub(crate) fn wait(self) -> u64 {
+        delay(self.misses)
+    }
+
     /// The last request was in vain.
     pub(crate) fn missed(self, now: u64) -> Pace {
         Pace {

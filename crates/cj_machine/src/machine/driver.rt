@@ -39,8 +39,12 @@ pub(crate) struct Driver {
     pub jobs_id: Option<u64>,
     /// What keeps a held Job from running, once the server's version is known.
     pub by: Option<HeldBy>,
-    /// When the server's version is asked for again, in seconds since 1970.
+    /// When the server's version is asked for again, in seconds since 1970, and how often in a row
+    /// that was in vain.
     pub version_at: u64,
+    pub version_misses: u64,
+    /// Whether all lists came to their end once.
+    pub was_synced: bool,
     /// The clock, in seconds since 1970; 0 before it is told.
     pub now: u64,
     pub is_stopping: bool,
@@ -65,6 +69,8 @@ impl Drop for Driver {
             jobs_id: _,
             by: _,
             version_at: _,
+            version_misses: _,
+            was_synced: _,
             now: _,
             is_stopping: _,
         } = self;
@@ -108,6 +114,8 @@ impl Driver {
             jobs_id: None,
             by: None,
             version_at: 0,
+            version_misses: 0,
+            was_synced: false,
             now: 0,
             is_stopping: false,
         })
@@ -130,21 +138,24 @@ impl Driver {
         if is_first { Ok(()) } else { self.sum_up(alloc) }
     }
 
+    /// How many objects there are, in words.
+    pub fn counts(&self, alloc: Global) -> Result<String, Refusal> {
+        let mirror = self.feeds.mirror();
+        let crons = counted(alloc, mirror.cron_count(), "CronJob")?;
+        let jobs = counted(alloc, mirror.job_count(), "Job")?;
+        let (crons, jobs) = (crons.as_str(), jobs.as_str());
+        Ok(format!(in alloc; "{crons}, {jobs}")?)
+    }
+
     // How things stand.
     fn sum_up(&mut self, alloc: Global) -> Result<(), Refusal> {
-        let crons = self.feeds.mirror().cron_count();
-        let jobs = self.feeds.mirror().job_count();
-        let (starts, under_way) = (self.starts, self.tasks.len());
-        self.starts = 0;
-        let (crons, jobs) = (
-            counted(alloc, crons, "CronJob")?,
-            counted(alloc, jobs, "Job")?,
-        );
-        let (crons, jobs) = (crons.as_str(), jobs.as_str());
-        let syncs = counted(alloc, under_way as u64, "sync")?;
+        let (counts, starts) = (self.counts(alloc)?, self.starts);
+        let counts = counts.as_str();
+        let syncs = counted(alloc, self.tasks.len() as u64, "sync")?;
         let syncs = syncs.as_str();
+        self.starts = 0;
         let text = format!(in alloc;
-            "{crons}, {jobs}; started {starts} in the last minute, {syncs} under way"
+            "{counts}; started {starts} in the last minute, {syncs} under way"
         )?;
         self.tell(text)
     }

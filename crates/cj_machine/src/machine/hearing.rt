@@ -1,4 +1,5 @@
 // What lists, watches and the server's version tell.
+use crate::feed::no_version;
 use crate::machine::driver::Driver;
 use crate::machine::view::rank;
 use crate::source::Source;
@@ -34,13 +35,32 @@ fn held_by(body: Option<&Value>) -> Option<HeldBy> {
     }
 }
 
+// The status of an answer; none where none came.
+fn answered_by(kind: LineKind) -> Option<u64> {
+    match kind {
+        LineKind::Answered(_, status) => Some(status),
+        _ => None,
+    }
+}
+
 impl Driver {
-    /// What the server says of its version.
-    pub fn hear_version(&mut self, line: &Line) {
+    /// What the server says of its version. People are told at once where it says none, and then
+    /// each 32nd time.
+    pub fn hear_version(&mut self, alloc: Global, line: &Line) -> Result<(), Refusal> {
         self.version_id = None;
         self.version_at = self.now.saturating_add(1);
         if let LineKind::Answered(_, 200) = line.kind {
             self.by = held_by(present(&line.value, "body"));
+        }
+        if self.by.is_some() {
+            return Ok(());
+        }
+        let is_told = self.version_misses % 32 == 0;
+        self.version_misses = self.version_misses.saturating_add(1);
+        if is_told {
+            self.tell(no_version(alloc, answered_by(line.kind), &line.value)?)
+        } else {
+            Ok(())
         }
     }
 
@@ -63,7 +83,8 @@ impl Driver {
         {
             Ok(keys) => {
                 self.touch_all(alloc, keys.as_slice())?;
-                self.tell_notes(alloc)
+                self.tell_notes(alloc)?;
+                self.tell_synced(alloc)
             }
             Err(refusal) => {
                 self.set_feed(source, None);
@@ -71,6 +92,22 @@ impl Driver {
                 Err(refusal)
             }
         }
+    }
+
+    // That all lists came to their end, the first time.
+    fn tell_synced(&mut self, alloc: Global) -> Result<(), Refusal> {
+        if self.was_synced || !self.feeds.is_synced() {
+            return Ok(());
+        }
+        self.was_synced = true;
+        let counts = self.counts(alloc)?;
+        let counts = counts.as_str();
+        let words = if self.options.dry_run {
+            "; dry run: nothing is written"
+        } else {
+            ""
+        };
+        self.tell(format!(in alloc; "watching {counts}{words}")?)
     }
 
     // What people are to know of lists and watches.

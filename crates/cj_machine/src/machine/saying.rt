@@ -114,6 +114,22 @@ fn why(reason: Reason) -> &'static str {
     }
 }
 
+// Tells an Event that no Job is started; without writes, in a line instead.
+fn say_skipped(
+    alloc: Global,
+    driver: &mut Driver,
+    task: &Task,
+    reason: &'static str,
+    is_warning: bool,
+    message: String,
+) -> Result<(), Refusal> {
+    if !driver.options.dry_run {
+        return note_event(alloc, driver, task, reason, is_warning, message);
+    }
+    let (name, words) = (task.name.as_str(), message.as_str());
+    driver.tell(format!(in alloc; "cronjob {name}: {words}")?)
+}
+
 /// Says why no Job is started.
 pub(crate) fn say_why(
     alloc: Global,
@@ -123,7 +139,7 @@ pub(crate) fn say_why(
 ) -> Result<(), Refusal> {
     let message = String::from_str(alloc, why(reason))?;
     let is_warning = reason != Reason::JobAlreadyActive;
-    note_event(alloc, driver, task, reason.name(), is_warning, message)
+    say_skipped(alloc, driver, task, reason.name(), is_warning, message)
 }
 
 /// Says that no Job is started, since one runs, or may still be started, that the status doesn't
@@ -137,7 +153,7 @@ pub(crate) fn say_held_back(
         alloc,
         "Not starting a job, since another one, which status.active doesn't name, has not ended",
     )?;
-    note_event(alloc, driver, task, "JobAlreadyActive", false, message)
+    say_skipped(alloc, driver, task, "JobAlreadyActive", false, message)
 }
 
 /// Says that the Jobs of a CronJob could not be listed.
