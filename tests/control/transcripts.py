@@ -1,5 +1,7 @@
 """The transcripts of a program's replicas: each must be what the program does, by its own
-`--check`, and none that somebody has changed."""
+`--check`, and none that somebody has changed. And in none a CronJob has two syncs at a time."""
+import json
+import re
 import subprocess
 
 PATIENCE = 120
@@ -30,6 +32,7 @@ class Transcripts:
             status, printed, said = self.check(file)
             if status != 0 or not printed.endswith(AGREES):
                 found.append(("transcript", f"{file.name}: {status}: {printed}{said}"[:600]))
+            found += [("two syncs", f"{file.name}: {it}") for it in at_once(file.read_text())]
             for what, text in tampered(file.read_text().splitlines(keepends=True)):
                 file.write_text(text)
                 status, printed, _ = self.check(file)
@@ -38,6 +41,34 @@ class Transcripts:
             file.unlink()
         self.files = []
         return found
+
+
+def cron_of(request):
+    """The CronJob that a request of a sync is for; none of another request."""
+    body, path = request.get("body"), request["path"].partition("?")[0]
+    name = body["metadata"]["name"] if request["method"] == "POST" and "/jobs" in path else ""
+    found = re.search(r"/namespaces/(\w+)/(?:cronjobs|jobs)/(c\d+)", f"{path}/{name}")
+    return found and found.group(1, 2)
+
+
+def at_once(text):
+    """Each request of a sync that goes out while one for the same CronJob waits for its answer."""
+    waits, found = {}, []
+    for line in text.splitlines():
+        try:
+            entry = json.loads(line)
+        except ValueError:
+            # (the end, which a kill cut off)
+            continue
+        request, answer = entry.get("out"), entry.get("in")
+        if isinstance(answer, dict) and "event" not in answer:
+            waits.pop(answer.get("id"), None)
+        key = cron_of(request) if isinstance(request, dict) else None
+        if key and key in waits.values():
+            found.append(f"{request['method']} {request['path']}")
+        if key:
+            waits[request["id"]] = key
+    return found
 
 
 def tampered(lines):
