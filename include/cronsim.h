@@ -10,7 +10,7 @@
  *
  * A text is a pointer to bytes and their number. It needs no zero at the end and may have any
  * content: the call refuses what is no schedule, rule, zone file, UTF-8 or JSON of its form. The
- * library reads a text during the call alone. The pointer isn't NULL, even for length 0. It points
+ * library reads a text during the call alone. The pointer may be NULL for length 0. Else it points
  * to as many bytes as the length says, with one exception: the length of a schedule, a rule or a
  * zone file may be greater than the call's limit, up to PTRDIFF_MAX. Then the call refuses the text
  * and reads no byte.
@@ -18,7 +18,8 @@
  * Initialise each place that a call writes to: a bool to false, a buffer to any bytes. The call
  * writes there if it answers CRONSIM_DONE. If it answers CRONSIM_REFUSED, it writes only the fault,
  * or the answer in JSON. CRONSIM_ROOM is explained below. After any other answer all stays as it
- * was. No pointer of a call is NULL, and no two overlap.
+ * was. The pointer to a buffer may be NULL for capacity 0. No other pointer of a call is NULL, and
+ * no two overlap, but two texts may.
  *
  * Memory comes from malloc, realloc and free. Only the calls that open a handle and those that
  * answer with a text ask for it. The latter free all of it before they return. Where memory runs
@@ -153,8 +154,8 @@ uint32_t cronsim_matches(cronsim_cron *cron, uint64_t at, bool *is_match);
  * the beginning of your buffer, and its length in bytes to `length`. The rest of the buffer stays
  * as it is. If the buffer of `capacity` bytes is too small, the call answers CRONSIM_ROOM, leaves
  * the buffer as it is, and writes the length that it needs to `length`. Call again with that much
- * room. To ask for the length alone, give the capacity 0. The library keeps nothing from one call
- * to the next.
+ * room. To ask for the length alone, give NULL and the capacity 0. The library keeps nothing from
+ * one call to the next.
  */
 
 /* Gives the version of the library, which should be that of the header, CRONSIM_VERSION. Answers

@@ -132,6 +132,43 @@ static void sentences(void) {
          CRONSIM_DONE);
 }
 
+// NULL is a text of no byte, and a buffer of none: each call answers as for another place of none.
+static void nulls(void) {
+    cronsim_cron cron = CRONSIM_CRON_INIT;
+    cronsim_fault fault = {0, 0, 0}, other = {1, CRONSIM_NUMBER, 0};
+    const char *midnight = "0 0 * * *", *pods = "{\"kind\":\"List\",\"items\":[]}";
+    size_t size = 0, same = 0;
+    uint64_t due = 0;
+    want_fault("no schedule", cronsim_open(&cron, NULL, 0, &fault), fault, 0, CRONSIM_EMPTY);
+    want_fault("no schedule, a rule", cronsim_open_rule(&cron, NULL, 0, text("UTC0"), 4, &fault),
+               fault, 0, CRONSIM_EMPTY);
+    want_fault("neither", cronsim_open_rule(&cron, NULL, 0, NULL, 0, &fault), fault, 0,
+               CRONSIM_EMPTY);
+    want_fault("no rule", cronsim_open_rule(&cron, text(midnight), 9, NULL, 0, &fault), fault, 6,
+               CRONSIM_NO_ZONE);
+    want_fault("no file", cronsim_open_file(&cron, text(midnight), 9, NULL, 0, &fault), fault, 6,
+               CRONSIM_NO_ZONE);
+    want("the handle stays empty", cronsim_next(&cron, 1, &due), CRONSIM_CLOSED);
+    want("version", cronsim_version(NULL, 0, &size), CRONSIM_ROOM);
+    want("its length", size, strlen(CRONSIM_VERSION));
+    want("fault text", cronsim_fault_text(text("60 * * * *"), 10, &other, NULL, 0, &size),
+         CRONSIM_ROOM);
+    want("fault text of none", cronsim_fault_text(NULL, 0, &other, NULL, 0, &size), CRONSIM_ROOM);
+    want("check of none", cronsim_check(NULL, 0, NULL, 0, NULL, 0, &size), CRONSIM_ROOM);
+    want("as of no byte", cronsim_check(text(""), 0, text(""), 0, NULL, 0, &same), CRONSIM_ROOM);
+    want("the same length", size, same);
+    want("plan of none", cronsim_plan(NULL, 0, 0, NULL, 0, &size), CRONSIM_ROOM);
+    want("audit of none", cronsim_audit(NULL, 0, NULL, 0, NULL, 0, &size), CRONSIM_ROOM);
+    want("audit", cronsim_audit(text(pods), strlen(pods), NULL, 0, NULL, 0, &size), CRONSIM_ROOM);
+    want("as with zones of no byte",
+         cronsim_audit(text(pods), strlen(pods), text(""), 0, NULL, 0, &same), CRONSIM_ROOM);
+    want("the same length", size, same);
+    uint8_t answer[256];
+    want("with no zones", cronsim_audit(text(pods), strlen(pods), NULL, 0, answer, 256, &size),
+         CRONSIM_DONE);
+    want("as long as it was", size, same);
+}
+
 // Lengths of 0 and of a thousand million, and bytes that aren't UTF-8, beside a handle that keeps
 // what it kept.
 static void lengths(void) {
@@ -391,6 +428,7 @@ int main(int count, char **words) {
     closed();
     version();
     sentences();
+    nulls();
     lengths();
     ranges();
     texts();

@@ -27,6 +27,11 @@ static size_t bytes_of(char *digits) {
     return count;
 }
 
+// Where a text begins: NULL where it is empty.
+static const uint8_t *start(const char *bytes, size_t length) {
+    return length ? (const uint8_t *)bytes : NULL;
+}
+
 // The times that have to come, each by the call for the next one, and the same looked at from the
 // other end.
 static void times(cronsim_cron *cron, uint64_t after) {
@@ -71,7 +76,7 @@ static void sentence(const char *schedule, size_t length, const cronsim_fault *f
     if (!wanted) return;
     size_t wanted_size = bytes_of(wanted);
     want("sentence",
-         cronsim_fault_text((const uint8_t *)schedule, length, fault, answer, sizeof answer, &size),
+         cronsim_fault_text(start(schedule, length), length, fault, answer, sizeof answer, &size),
          CRONSIM_DONE);
     want("length of the sentence", size, wanted_size);
     want("words of the sentence", memcmp(answer, wanted, size), 0);
@@ -90,11 +95,11 @@ static void run(char *line, cronsim_cron *cron) {
     cronsim_fault fault = {0, 0, 0};
     uint32_t status;
     if (strcmp(rule, "-") == 0) {
-        status = cronsim_open(cron, (const uint8_t *)schedule, schedule_length, &fault);
+        status = cronsim_open(cron, start(schedule, schedule_length), schedule_length, &fault);
     } else {
         rule_length = bytes_of(rule);
-        status = cronsim_open_rule(cron, (const uint8_t *)schedule, schedule_length,
-                                   (const uint8_t *)rule, rule_length, &fault);
+        status = cronsim_open_rule(cron, start(schedule, schedule_length), schedule_length,
+                                   start(rule, rule_length), rule_length, &fault);
     }
     if (strcmp(outcome, "times") == 0) {
         want("opened", status, CRONSIM_DONE);

@@ -16,9 +16,12 @@ import (
 	"unsafe"
 )
 
-// Where a text begins: never nil, also where it is empty.
+// Where a text begins: nil where it is empty.
 func start(text []byte) *C.uint8_t {
-	return (*C.uint8_t)(unsafe.Pointer(&append(text, 0)[0]))
+	if len(text) == 0 {
+		return nil
+	}
+	return (*C.uint8_t)(unsafe.Pointer(&text[0]))
 }
 
 func text(digits string) []byte {
@@ -94,7 +97,7 @@ func times(cron *C.cronsim_cron, after uint64, wanted []string) bool {
 // What is said of a fault; nothing where there are no words.
 func sentence(schedule []byte, fault C.cronsim_fault) string {
 	answer, length := make([]byte, 1024), C.size_t(0)
-	size, room, to := C.size_t(len(schedule)), C.size_t(len(answer)), start(answer[:0])
+	size, room, to := C.size_t(len(schedule)), C.size_t(len(answer)), start(answer)
 	status := C.cronsim_fault_text(start(schedule), size, &fault, to, room, &length)
 	if status != C.CRONSIM_DONE {
 		return ""

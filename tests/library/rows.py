@@ -58,7 +58,13 @@ def loaded(path):
 
 
 def text(digits):
+    """The bytes of hexadecimal digits."""
     return b"" if digits == "." else bytes.fromhex(digits)
+
+
+def start(data):
+    """What a call is given for bytes: NULL where there are none."""
+    return data or None
 
 
 def zone_file(rule):
@@ -71,15 +77,15 @@ def zone_file(rule):
 
 def opened(library, cron, schedule, rule, fault, by_file):
     if rule == "-":
-        return library.cronsim_open(byref(cron), schedule, len(schedule), byref(fault))
+        return library.cronsim_open(byref(cron), start(schedule), len(schedule), byref(fault))
     rule = text(rule)
     if by_file:
         file = zone_file(rule)
         return library.cronsim_open_file(
-            byref(cron), schedule, len(schedule), file, len(file), byref(fault)
+            byref(cron), start(schedule), len(schedule), file, len(file), byref(fault)
         )
     return library.cronsim_open_rule(
-        byref(cron), schedule, len(schedule), rule, len(rule), byref(fault)
+        byref(cron), start(schedule), len(schedule), start(rule), len(rule), byref(fault)
     )
 
 
@@ -114,7 +120,7 @@ def sentence(library, schedule, fault):
     """What is said of a fault, and with which status."""
     answer, length = create_string_buffer(1024), c_size_t(0)
     status = library.cronsim_fault_text(
-        schedule, len(schedule), byref(fault), answer, len(answer), byref(length)
+        start(schedule), len(schedule), byref(fault), answer, len(answer), byref(length)
     )
     return status, answer.raw[: length.value]
 

@@ -22,7 +22,7 @@ struct text {
 // The bytes of hexadecimal digits, in their place.
 static struct text bytes_of(char *digits) {
     struct text it = {(uint8_t *)digits, 0};
-    if (strcmp(digits, ".") == 0) return it;
+    if (strcmp(digits, ".") == 0) return (struct text){NULL, 0};
     for (const char *at = digits; at[0] && at[1]; at += 2) {
         char pair[3] = {at[0], at[1], 0};
         it.bytes[it.length++] = (uint8_t)strtoul(pair, NULL, 16);
@@ -49,7 +49,9 @@ static uint32_t made(const struct call *c, uint8_t *answer, size_t capacity, siz
 static void answer(const struct call *c) {
     uint8_t one = 7;
     size_t length = 0, room = 0, same = 0;
-    want("with no room", made(c, &one, 0, &length), CRONSIM_ROOM);
+    want("with no buffer", made(c, NULL, 0, &length), CRONSIM_ROOM);
+    want("with no room", made(c, &one, 0, &same), CRONSIM_ROOM);
+    want("the same length", same, length);
     want("no byte written", one, 7);
     room = length + 8;
     uint8_t *bytes = malloc(room);

@@ -17,9 +17,12 @@ import (
 	"unsafe"
 )
 
-// Where a text begins: never nil, also where it is empty.
+// Where a text begins: nil where it is empty.
 func start(text []byte) *C.uint8_t {
-	return (*C.uint8_t)(unsafe.Pointer(&append(text, 0)[0]))
+	if len(text) == 0 {
+		return nil
+	}
+	return (*C.uint8_t)(unsafe.Pointer(&text[0]))
 }
 
 func text(digits string) []byte {
@@ -37,10 +40,10 @@ func text(digits string) []byte {
 func told(
 	call func(answer *C.uint8_t, room C.size_t, length *C.size_t) C.uint32_t,
 ) (C.uint32_t, []byte) {
-	room, length := C.size_t(400), C.size_t(0)
+	room, length := C.size_t(0), C.size_t(0)
 	for {
 		answer := make([]byte, room)
-		status := call(start(answer[:0]), room, &length)
+		status := call(start(answer), room, &length)
 		if status != C.CRONSIM_ROOM {
 			return status, answer[:length]
 		}

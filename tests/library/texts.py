@@ -18,10 +18,11 @@ def loaded(path):
 
 
 def told(call, *words):
-    """What a call answers: at most twice, since it tells how much room it wants."""
-    room, length = 400, c_size_t(0)
+    """What a call answers: made twice, the first time with no buffer, since it tells how much room
+    it wants."""
+    room, length = 0, c_size_t(0)
     while True:
-        answer = create_string_buffer(room)
+        answer = create_string_buffer(room) if room else None
         status = call(*words, answer, room, byref(length))
         if status != ROOM:
             return status, answer.raw[: length.value]
@@ -34,11 +35,11 @@ def main():
         name, known, digits = line.split()
         text = b"" if digits == "." else bytes.fromhex(digits)
         if name == "plan":
-            status, answer = told(library.cronsim_plan, text, len(text), int(known))
+            status, answer = told(library.cronsim_plan, text or None, len(text), int(known))
         else:
             zones = b"" if known == "." else bytes.fromhex(known)
             call = library.cronsim_check if name == "check" else library.cronsim_audit
-            status, answer = told(call, text, len(text), zones, len(zones))
+            status, answer = told(call, text or None, len(text), zones or None, len(zones))
         print(status, answer.decode())
 
 

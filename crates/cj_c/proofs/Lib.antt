@@ -1,6 +1,8 @@
+mod Copies
 mod Depths
 mod Lines
 mod NoFloats
+mod Nowhere
 mod ZonesTold
 pub mod HeldSteps
 mod Openings

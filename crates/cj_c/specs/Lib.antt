@@ -1,4 +1,6 @@
 pub mod Held
+pub mod Lending
+pub mod Lent
 pub mod Faults
 pub mod Opening
 pub mod Shown

@@ -59,6 +59,11 @@ abbrev pub IsFaultIn : List ℕ → Result Zone Unzoned → CronFault → Type 0
 IsFaultIn schedule zone told =
     IsTextRefused schedule told ⊎ ((zone ≡ Err Reason.Refused) × (told ≡ zone_fault))
 
+-- why no schedule was read: the fault of its text, or want of memory
+abbrev pub IsUnread : List ℕ → Unopened → Type 0
+IsUnread schedule (Why.Fault told) = IsTextRefused schedule told
+IsUnread schedule Why.Memory = Unit {0}
+
 -- why there is no timetable: such a fault, or want of memory
 abbrev pub IsUnopened : List ℕ → Result Zone Unzoned → Unopened → Type 0
 IsUnopened schedule zone (Why.Fault told) = IsFaultIn schedule zone told

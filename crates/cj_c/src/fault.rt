@@ -1,7 +1,8 @@
 ghost use Rattle.std.specs.Prelude.{◌≡◌, IfOk, IfErr, IfSome, IsNone};
 ghost use Rattle.std.specs.Str.{IsUtf8};
 ghost use Rattle.cj_schedule.specs.Grammar.{IsSchedule};
-ghost use Rattle.cj_c.specs.Faults.{IsFaultTold, IsTextRefused, cause_code, fault_told};
+ghost use Rattle.cj_base.specs.declared.schedule_fault.ScheduleCause.TheVariants.{Length};
+ghost use Rattle.cj_c.specs.Faults.{IsFaultTold, IsTextRefused, cause_code, fault_told, whole};
 
 use cj_base::{ScheduleCause, ScheduleFault};
 use cj_schedule::Schedule;
@@ -72,6 +73,17 @@ fn parsed(text: &str) -> Result<Schedule, CronFault>
     }
 }
 
+/// The fault of a schedule that is too long.
+pub(crate) fn too_long() -> CronFault
+    ensures { result ≡ whole (cause_code Length) }
+{
+    CronFault {
+        field: 0,
+        cause: 1,
+        byte: 0,
+    }
+}
+
 /// The schedule of these bytes, or why they are refused. More than 1,024 bytes are refused before
 /// they are looked at.
 pub(crate) fn read_schedule(bytes: &[u8]) -> Result<Schedule, CronFault>
@@ -79,11 +91,7 @@ pub(crate) fn read_schedule(bytes: &[u8]) -> Result<Schedule, CronFault>
     ensures err { IfErr result (λ f. IsTextRefused bytes.now f) }
 {
     if bytes.len() > MAX_TEXT {
-        return Err(CronFault {
-            field: 0,
-            cause: 1,
-            byte: 0,
-        });
+        return Err(too_long());
     }
     match text_of(bytes) {
         Some(text) => parsed(text),

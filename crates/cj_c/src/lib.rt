@@ -1,16 +1,18 @@
 //! `libcronsim`: due times, and manifests, plans and audits as JSON, for callers that aren't
 //! Rattle, by the names of C.
 //!
-//! Here belongs what an exported function takes and gives, what such a caller keeps, a schedule in
-//! its zone, behind a handle, and (`answers`) the JSON in its buffer. Which times are due belongs
-//! to `cj_due`, which texts are schedules to `cj_schedule`, and what a zone is to `cj_zone`, whose
-//! clauses the exports state again. `include/cronsim.h` declares them for C, and says what a caller
-//! owes. Nothing here prints, waits, locks or keeps a pointer of its caller.
+//! Here belongs what an exported function takes and gives, what such a caller lends for a call
+//! (`lent`), what it keeps, a schedule in its zone, behind a handle, and (`answers`) the text in
+//! its buffer. Which times are due belongs to `cj_due`, which texts are schedules to `cj_schedule`,
+//! and what a zone is to `cj_zone`, whose clauses the exports state again. `include/cronsim.h`
+//! declares them for C, and says what a caller owes. Nothing here prints, waits, locks or keeps a
+//! pointer of its caller.
 #![tactic(auto)]
 
 mod answers;
 mod fault;
 mod held;
+mod lent;
 mod opening;
 mod parts;
 mod shown;
@@ -24,6 +26,7 @@ pub use answers::{
 };
 pub use fault::CronFault;
 pub use held::Held;
+pub use lent::{Answer, LentRoom, LentText, OpenFault};
 pub use opening::{cronsim_close, cronsim_open, cronsim_open_file, cronsim_open_rule};
 pub use shown::cronsim_matches;
 pub use times::{CronMissed, cronsim_missed, cronsim_next, cronsim_previous};

@@ -7,9 +7,11 @@ ghost use Rattle.cj_zone.specs.declared.zone.Zone.{Zone};
 ghost use Rattle.cj_zone.specs.Made.{IsMade, IsNotFile};
 ghost use Rattle.cj_zone.specs.Table.{local_zone};
 ghost use Rattle.cj_zone.specs.Zones.{utc_zone};
+ghost use Rattle.cj_c.specs.Lending.{IsTextAt};
 ghost use Rattle.cj_c.specs.Opening.{IsRuleZone, HasNoRuleZone, IsFileZone, HasNoFileZone, IsUtcZone, IsUnzoned};
 
 use crate::fault::{MAX_TEXT, text_of};
+use crate::lent::LentText;
 use cj_base::{Refusal, TryCopy};
 use cj_zone::{Zone, ZoneTable};
 use std::alloc::Global;
@@ -118,5 +120,48 @@ pub(crate) fn of_file(alloc: Global, bytes: &[u8]) -> Result<Zone, Unzoned>
         Ok(zone) => Ok(zone),
         Err(Refusal::OutOfMemory) => Err(Unzoned::Memory),
         Err(_) => Err(Unzoned::Refused),
+    }
+}
+
+/// The zone of a POSIX rule that is lent. More than 1,024 bytes are refused before one is read.
+pub(crate) fn lent_rule(
+    alloc: Global,
+    rule: &mut LentText,
+    at: *const u8,
+    count: usize,
+) -> Result<Zone, Unzoned>
+    requires { IsTextAt rule.old at count }
+    ensures ok { IfOk result (λ z. IsRuleZone rule.old.bytes z) }
+    ensures err { IfErr result (λ e. IsUnzoned (HasNoRuleZone rule.old.bytes) e) }
+    ensures same { rule.new ≡ rule.old }
+{
+    if count > MAX_TEXT {
+        return Err(Unzoned::Refused);
+    }
+    match rule.copied(alloc, at, count) {
+        Ok(bytes) => of_rule(alloc, bytes.as_slice()),
+        Err(_) => Err(Unzoned::Memory),
+    }
+}
+
+/// The zone of a zone file's bytes that are lent. More than 1,048,576 are refused before one is
+/// read.
+pub(crate) fn lent_file(
+    alloc: Global,
+    file: &mut LentText,
+    at: *const u8,
+    count: usize,
+) -> Result<Zone, Unzoned>
+    requires { IsTextAt file.old at count }
+    ensures ok { IfOk result (λ z. IsFileZone file.old.bytes z) }
+    ensures err { IfErr result (λ e. IsUnzoned (HasNoFileZone file.old.bytes) e) }
+    ensures same { file.new ≡ file.old }
+{
+    if count > MAX_FILE {
+        return Err(Unzoned::Refused);
+    }
+    match file.copied(alloc, at, count) {
+        Ok(bytes) => of_file(alloc, bytes.as_slice()),
+        Err(_) => Err(Unzoned::Memory),
     }
 }

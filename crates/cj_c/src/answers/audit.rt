@@ -8,6 +8,7 @@ ghost use Rattle.cj_zone.specs.Table.{zones_of};
 ghost use Rattle.serde_json.specs.View.{view};
 ghost use Rattle.cj_audit.specs.Audit.{audit_data};
 ghost use Rattle.cj_c.specs.answers.Audit.{IsAuditRefusal, IsAudited, list_fault_data};
+ghost use Rattle.cj_c.specs.Lending.{AreBack, IsRoomAt, IsTextAt};
 ghost use Rattle.cj_c.specs.answers.Buffers.{IsAnswered, IsTold};
 ghost use Rattle.cj_c.specs.answers.Texts.{IsJsonText};
 ghost use Rattle.cj_c.specs.answers.Zones.{AreZonesOf};
@@ -16,6 +17,8 @@ use crate::answers::buffer::leave;
 use crate::answers::text::json_text;
 use crate::answers::told::Told;
 use crate::answers::zones::{refused_zones, zones_of_text};
+use crate::lent::Answer;
+use crate::status::MEMORY;
 use cj_audit::{audit, audit_value, one_fault};
 use cj_base::Refusal;
 use cj_cluster::{ClusterList, ListFault, read_cluster};
@@ -80,19 +83,57 @@ fn audited(alloc: Global, bytes: &[u8], zones: &[u8]) -> Result<Told, Refusal>
     }
 }
 
+// The same, left in the buffer.
+fn answered(
+    alloc: Global,
+    list: &[u8],
+    zones: &[u8],
+    at: *mut u8,
+    capacity: usize,
+    answer: &mut Answer,
+) -> u32
+    requires { IsRoomAt answer.old.room at capacity }
+    ensures answered { IsAnswered (IsAudited list.now zones.now) (IsAuditRefusal list.now zones.now)
+        answer.old.room.bytes answer.new.room.bytes answer.old.length answer.new.length result }
+    ensures back { AreBack answer.old answer.new }
+{
+    leave(audited(alloc, list, zones), at, capacity, answer)
+}
+
 /// What is wrong in what `kubectl get cronjobs,jobs -o json` prints, under UTC and the zones of an
 /// object from names to POSIX rules, or no text: each Job, and each two, that a correct controller
 /// would not have made, as JSON; or why there is no such list.
 #[unsafe(no_mangle)]
 pub extern "C" fn cronsim_audit(
     alloc: Global,
-    list: &[u8],
-    zones: &[u8],
-    answer: &mut [u8],
-    length: &mut usize,
+    list: *const u8,
+    list_length: usize,
+    zones: *const u8,
+    zones_length: usize,
+    answer: *mut u8,
+    capacity: usize,
+    length: &mut Answer,
 ) -> u32
-    ensures { IsAnswered (IsAudited list.now zones.now) (IsAuditRefusal list.now zones.now)
-        answer.old answer.new length.old length.new result }
+    requires list { IsTextAt length.old.first list list_length }
+    requires zones { IsTextAt length.old.second zones zones_length }
+    requires answer { IsRoomAt length.old.room answer capacity }
+    ensures answered { IsAnswered (IsAudited length.old.first.bytes length.old.second.bytes)
+        (IsAuditRefusal length.old.first.bytes length.old.second.bytes) length.old.room.bytes
+        length.new.room.bytes length.old.length length.new.length result }
+    ensures back { AreBack length.old length.new }
 {
-    leave(audited(alloc, list, zones), answer, length)
+    let Ok(list) = length.first.copied(alloc, list, list_length) else {
+        return MEMORY;
+    };
+    let Ok(zones) = length.second.copied(alloc, zones, zones_length) else {
+        return MEMORY;
+    };
+    answered(
+        alloc,
+        list.as_slice(),
+        zones.as_slice(),
+        answer,
+        capacity,
+        length,
+    )
 }

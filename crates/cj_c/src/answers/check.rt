@@ -7,6 +7,7 @@ ghost use Rattle.cj_zone.specs.Table.{zones_of};
 ghost use Rattle.cj_zone.specs.declared.zone.Zone.{Zone};
 ghost use Rattle.serde_json.specs.Data.{string};
 ghost use Rattle.serde_json.specs.View.{view};
+ghost use Rattle.cj_c.specs.Lending.{AreBack, IsRoomAt, IsTextAt};
 ghost use Rattle.cj_c.specs.answers.Buffers.{IsAnswered, IsTold};
 ghost use Rattle.cj_c.specs.answers.Check.{IsCheckRefusal, IsSound, sound_data, sound_object};
 ghost use Rattle.cj_audit.specs.Faults.{faults_data, one_fault};
@@ -17,6 +18,8 @@ use crate::answers::buffer::leave;
 use crate::answers::text::json_text;
 use crate::answers::told::Told;
 use crate::answers::zones::{refused_zones, zones_of_text};
+use crate::lent::Answer;
+use crate::status::MEMORY;
 use cj_audit::{faults_value, one_fault};
 use cj_base::{FieldFault, Refusal};
 use cj_json::push_value;
@@ -132,19 +135,58 @@ fn checked(alloc: Global, bytes: &[u8], zones: &[u8]) -> Result<Told, Refusal>
     }
 }
 
+// The same, left in the buffer.
+fn answered(
+    alloc: Global,
+    manifest: &[u8],
+    zones: &[u8],
+    at: *mut u8,
+    capacity: usize,
+    answer: &mut Answer,
+) -> u32
+    requires { IsRoomAt answer.old.room at capacity }
+    ensures answered { IsAnswered (IsSound manifest.now zones.now)
+        (IsCheckRefusal manifest.now zones.now) answer.old.room.bytes answer.new.room.bytes
+        answer.old.length answer.new.length result }
+    ensures back { AreBack answer.old answer.new }
+{
+    leave(checked(alloc, manifest, zones), at, capacity, answer)
+}
+
 /// Checks the manifest of a CronJob or a Job, as JSON, under UTC and the zones of an object from
 /// names to POSIX rules, or no text: its kind, namespace and name, with the members that are
 /// dropped; or all its faults.
 #[unsafe(no_mangle)]
 pub extern "C" fn cronsim_check(
     alloc: Global,
-    manifest: &[u8],
-    zones: &[u8],
-    answer: &mut [u8],
-    length: &mut usize,
+    manifest: *const u8,
+    manifest_length: usize,
+    zones: *const u8,
+    zones_length: usize,
+    answer: *mut u8,
+    capacity: usize,
+    length: &mut Answer,
 ) -> u32
-    ensures { IsAnswered (IsSound manifest.now zones.now) (IsCheckRefusal manifest.now zones.now)
-        answer.old answer.new length.old length.new result }
+    requires manifest { IsTextAt length.old.first manifest manifest_length }
+    requires zones { IsTextAt length.old.second zones zones_length }
+    requires answer { IsRoomAt length.old.room answer capacity }
+    ensures answered { IsAnswered (IsSound length.old.first.bytes length.old.second.bytes)
+        (IsCheckRefusal length.old.first.bytes length.old.second.bytes) length.old.room.bytes
+        length.new.room.bytes length.old.length length.new.length result }
+    ensures back { AreBack length.old length.new }
 {
-    leave(checked(alloc, manifest, zones), answer, length)
+    let Ok(manifest) = length.first.copied(alloc, manifest, manifest_length) else {
+        return MEMORY;
+    };
+    let Ok(zones) = length.second.copied(alloc, zones, zones_length) else {
+        return MEMORY;
+    };
+    answered(
+        alloc,
+        manifest.as_slice(),
+        zones.as_slice(),
+        answer,
+        capacity,
+        length,
+    )
 }

@@ -2,10 +2,12 @@
 ghost use Rattle.std.specs.Prelude.{◌≡◌, ◌⊎◌, ◌<◌, ◌++◌, ℕ, List, length, IfSome, IsNone, codes};
 ghost use Rattle.cj_c.specs.Faults.{cause_code, fault_told};
 ghost use Rattle.cj_c.specs.declared.fault.CronFault.{CronFault as Told};
+ghost use Rattle.cj_c.specs.Lending.{AreBack, IsRoomAt, IsTextAt};
 ghost use Rattle.cj_c.specs.answers.FaultText.{IsFaultTextAnswered, IsNoneOf};
 
 use crate::answers::buffer::give;
 use crate::fault::{CronFault, text_of};
+use crate::lent::Answer;
 use crate::status::{DONE, MEMORY, NONE};
 use cj_base::{ScheduleCause, ScheduleFault};
 use cj_explain::explain_schedule;
@@ -58,15 +60,42 @@ fn sentence(
     alloc: Global,
     schedule: &str,
     fault: ScheduleFault,
-    answer: &mut [u8],
-    length: &mut usize,
+    at: *mut u8,
+    capacity: usize,
+    answer: &mut Answer,
 ) -> u32
-    ensures { (told : Told) → told ≡ fault_told fault →
-        IsFaultTextAnswered schedule.now told answer.old answer.new length.old length.new result }
+    requires { IsRoomAt answer.old.room at capacity }
+    ensures said { (told : Told) → told ≡ fault_told fault →
+        IsFaultTextAnswered schedule.now told answer.old.room.bytes answer.new.room.bytes
+        answer.old.length answer.new.length result }
+    ensures back { AreBack answer.old answer.new }
 {
     match explain_schedule(alloc, schedule, fault) {
-        Ok(line) => give(without_end(line.as_bytes()), DONE, answer, length),
+        Ok(line) => give(without_end(line.as_bytes()), DONE, at, capacity, answer),
         Err(_) => MEMORY,
+    }
+}
+
+// The sentence for a fault that was told of these bytes.
+fn said(
+    alloc: Global,
+    schedule: &[u8],
+    fault: &CronFault,
+    at: *mut u8,
+    capacity: usize,
+    answer: &mut Answer,
+) -> u32
+    requires { IsRoomAt answer.old.room at capacity }
+    ensures said { IsFaultTextAnswered schedule.now fault.now answer.old.room.bytes
+        answer.new.room.bytes answer.old.length answer.new.length result }
+    ensures back { AreBack answer.old answer.new }
+{
+    let Some(text) = text_of(schedule) else {
+        return NONE;
+    };
+    match fault_of(fault) {
+        Some(found) => sentence(alloc, text, found, at, capacity, answer),
+        None => NONE,
     }
 }
 
@@ -74,19 +103,21 @@ fn sentence(
 #[unsafe(no_mangle)]
 pub extern "C" fn cronsim_fault_text(
     alloc: Global,
-    schedule: &[u8],
+    schedule: *const u8,
+    schedule_length: usize,
     fault: &CronFault,
-    answer: &mut [u8],
-    length: &mut usize,
+    answer: *mut u8,
+    capacity: usize,
+    length: &mut Answer,
 ) -> u32
-    ensures { IsFaultTextAnswered schedule.now fault.now answer.old answer.new length.old length.new
-        result }
+    requires schedule { IsTextAt length.old.first schedule schedule_length }
+    requires answer { IsRoomAt length.old.room answer capacity }
+    ensures said { IsFaultTextAnswered length.old.first.bytes fault.now length.old.room.bytes
+        length.new.room.bytes length.old.length length.new.length result }
+    ensures back { AreBack length.old length.new }
 {
-    let Some(text) = text_of(schedule) else {
-        return NONE;
-    };
-    match fault_of(fault) {
-        Some(found) => sentence(alloc, text, found, answer, length),
-        None => NONE,
+    match length.first.copied(alloc, schedule, schedule_length) {
+        Ok(bytes) => said(alloc, bytes.as_slice(), fault, answer, capacity, length),
+        Err(_) => MEMORY,
     }
 }

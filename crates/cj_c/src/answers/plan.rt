@@ -6,6 +6,7 @@ ghost use Rattle.cj_scenario.specs.declared.fault.SceneFault.TheVariants.{Memory
 ghost use Rattle.cj_why.specs.reviews.PlanJson.{plan_data};
 ghost use Rattle.cj_zone.specs.Table.{local_zone};
 ghost use Rattle.cj_zone.specs.Zones.{utc_zone};
+ghost use Rattle.cj_c.specs.Lending.{AreBack, IsRoomAt, IsTextAt};
 ghost use Rattle.cj_c.specs.answers.Buffers.{IsTold};
 ghost use Rattle.cj_audit.specs.Faults.{faults_data};
 ghost use Rattle.serde_json.specs.View.{view};
@@ -17,7 +18,8 @@ use crate::answers::buffer::leave;
 use crate::answers::text::json_text;
 use crate::answers::told::Told;
 use crate::answers::zones::bare;
-use crate::status::RANGE;
+use crate::lent::Answer;
+use crate::status::{MEMORY, RANGE};
 use cj_audit::{faults_value, one_fault};
 use cj_base::{FieldFault, Refusal, Seconds};
 use cj_decide::{Plan, Steps, decide};
@@ -120,15 +122,27 @@ fn told(alloc: Global, bytes: &[u8], now: Seconds) -> Result<Told, Refusal>
 #[unsafe(no_mangle)]
 pub extern "C" fn cronsim_plan(
     alloc: Global,
-    scenario: &[u8],
+    scenario: *const u8,
+    scenario_length: usize,
     now: u64,
-    answer: &mut [u8],
-    length: &mut usize,
+    answer: *mut u8,
+    capacity: usize,
+    length: &mut Answer,
 ) -> u32
-    ensures { IsPlanAnswered scenario.now now answer.old answer.new length.old length.new result }
+    requires scenario { IsTextAt length.old.first scenario scenario_length }
+    requires answer { IsRoomAt length.old.room answer capacity }
+    ensures answered { IsPlanAnswered length.old.first.bytes now length.old.room.bytes
+        length.new.room.bytes length.old.length length.new.length result }
+    ensures back { AreBack length.old length.new }
 {
     let Some(now) = Seconds::new(now) else {
         return RANGE;
     };
-    leave(told(alloc, scenario, now), answer, length)
+    match length.first.copied(alloc, scenario, scenario_length) {
+        Ok(scenario) => {
+            let told = told(alloc, scenario.as_slice(), now);
+            leave(told, answer, capacity, length)
+        }
+        Err(_) => MEMORY,
+    }
 }

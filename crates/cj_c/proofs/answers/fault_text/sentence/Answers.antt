@@ -1,11 +1,11 @@
 -- sentence: its ensures, where there is memory.
-use Rattle.std.proofs.Common.{◌≡◌, ◌∙◌, ap, sym, subst, inl, ℕ, List, ◌++◌, codes}
+use Rattle.std.proofs.Common.{◌∙◌, ap, sym, subst, inl, ℕ, List, ◌++◌, codes}
 use Rattle.cj_explain.specs.Schedules.{IsExplained}
 use Rattle.cj_c.proofs.Lines.{line_of}
 use Rattle.cj_c.proofs.answers.fault_text.sentence.Goals as goal
 
-pub returns-in-Ok : goal.returns-in-Ok
-returns-in-Ok c = λ told is.
+pub returns-in-Ok-clause-said : goal.returns-in-Ok-clause-said
+returns-in-Ok-clause-said c = λ told is.
     let split = line_of c.args.schedule.now c.args.fault _ c.in-Ok.ensures in
     let same = c.without_end.ensures split.0 (c.as_bytes.ensures.value ∙ split.1) in
     inl (
@@ -17,5 +17,5 @@ returns-in-Ok c = λ told is.
             subst (λ (line : List ℕ). IsExplained c.args.schedule.now c.args.fault line)
             (split.1 ∙ ap (λ (text : List ℕ). text ++ codes "\n") (sym same)) c.in-Ok.ensures;
       },
-      c.give.ensures,
+      c.give.ensures.given,
     )
