@@ -1,5 +1,5 @@
 -- What opening a schedule leaves, by the kind of its zone.
-use Rattle.std.proofs.Common.{◌≡◌, ◌⊎◌, inl, inr, ℕ, List, Result, IfOk, IfErr, subst}
+use Rattle.std.proofs.Common.{inl, inr, ℕ, List, Result, IfOk, IfErr, subst}
 use Rattle.cj_zone.specs.declared.zone.Zone.{Zone}
 use Rattle.cj_c.specs.Opening.{IsOpened, IsUnzoned, Opens}
 use Rattle.cj_c.specs.declared.fault.CronFault.{CronFault}

@@ -16,7 +16,7 @@ use Rattle.cj_answers.specs.Json.{IsJsonWords, yaml_words}
 use Rattle.cj_answers.specs.Advice.{IsAdvice, dropped_words_all}
 use Rattle.cj_answers.specs.Lines.{fault_lines, ok_line, warning_lines}
 use Rattle.cj_answers.specs.Moments.{asked_moment}
-use Rattle.cj_answers.specs.Outcome.{Outcome, explained, refusal}
+use Rattle.cj_answers.specs.Outcome.{Outcome, explained}
 
 -- how a manifest with these warnings ends: a warning refuses it where that is wanted
 -- rule: check-strict

@@ -1,6 +1,6 @@
 -- What `check` says of a list of manifests, as a client prints it: what it says of each alone, one
 -- after another.
-use Rattle.std.specs.Prelude.{◌≡◌, ◌⊎◌, ℕ, ◌+◌, ◌-◌, ◌==◌, ◌&&◌, Bool, true, false, List, [], ◌∷◌, ◌++◌, length, codes, decimal, string_bytes, Option, None, Some}
+use Rattle.std.specs.Prelude.{◌≡◌, ◌⊎◌, ℕ, ◌+◌, ◌-◌, ◌&&◌, Bool, true, false, List, [], ◌∷◌, ◌++◌, length, codes, decimal, string_bytes, Option, None, Some}
 use Rattle.std.specs.List.{count_by, list_all}
 use Rattle.cj_args.specs.declared.request.CheckRequest.{CheckRequest}
 use Rattle.cj_cluster.specs.kubectl.Texts.{IsNoList, IsSplit}

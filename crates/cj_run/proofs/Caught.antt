@@ -1,5 +1,5 @@
 -- What a world at rest says of the times that came: no CronJob whose sync ended well has its next one up to then.
-use Rattle.std.proofs.Common.{◌≡◌, ◌∙◌, ◌+◌, ◌-◌, ◌*◌, ◌<◌, ◌≤◌, ◌||◌, ℕ, ◌==◌, Bool, true, false, List, [], ◌∷◌, ◌++◌, refl, sym, ap, subst, arith}
+use Rattle.std.proofs.Common.{◌≡◌, ◌∙◌, ◌+◌, ◌-◌, ◌*◌, ◌<◌, ◌≤◌, ◌||◌, ℕ, Bool, true, false, List, [], ◌∷◌, ◌++◌, refl, sym, ap, subst, arith}
 use Rattle.std.specs.Prelude.{Result, Ok, if◌then◌else◌, max}
 use Rattle.std.proofs.lemmas.Bool.{eqb-true, false≢true}
 use Rattle.cj_base.specs.declared.refusal.Refusal.{Refusal}
@@ -14,7 +14,6 @@ use Rattle.cj_calls.specs.declared.reply.Reply.{Reply}
 use Rattle.cj_calls.specs.declared.reply.Reply.TheVariants as Is
 use Rattle.cj_state.specs.Legal.{IsLegal, answer_of, state_of}
 use Rattle.cj_world_laws.specs.legal.InFlightSyncs.{sync}
-use Rattle.cj_history.specs.progress.Kept.{IsDone}
 use Rattle.cj_history.specs.queue.Answers.{Says}
 use Rattle.cj_history.specs.queue.Deeds.{Deed, adds, ends, fails, nothing, shuts, takes, ticks, deed, operations}
 use Rattle.cj_history.specs.queue.LookBacks.{mark, marks}
@@ -23,7 +22,7 @@ use Rattle.cj_history.proofs.QueueLemmas.Answered.{answers_agree}
 use Rattle.cj_script.specs.simulation.Spans.{SpanView, instant}
 use Rattle.cj_run.specs.Turns.{begins, edits, is_moment, progress, progress_of, turn}
 use Rattle.cj_run.specs.Turns as turns
-use Rattle.cj_run.specs.Upkeep.{ComesToRest, IsCaughtUp, KeepsUp, is_over_with}
+use Rattle.cj_run.specs.Upkeep.{ComesToRest, KeepsUp}
 use Rattle.cj_run.specs.declared.turns.Progress.{Progress}
 use Rattle.cj_run.proofs.Ordered.{both_left, both_right}
 

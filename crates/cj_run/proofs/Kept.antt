@@ -22,10 +22,9 @@ use Rattle.cj_calls.specs.declared.reply.Reply.{Reply}
 use Rattle.cj_calls.specs.declared.reply.Reply.TheVariants as Is
 use Rattle.cj_state.specs.Legal.{IsLegal, state_of}
 use Rattle.cj_state.specs.Step.{step_of}
-use Rattle.cj_state.specs.WorkerCalls.{sync_of}
 use Rattle.cj_state.specs.declared.phases.sync.InFlight.{InFlight}
 use Rattle.cj_state.specs.declared.phases.sync.Phase.{Phase}
-use Rattle.cj_state.specs.declared.phases.sync.Phase.TheVariants.{Checked, Held, Listed, Seen, Works}
+use Rattle.cj_state.specs.declared.phases.sync.Phase.TheVariants.{Listed, Seen, Works}
 use Rattle.cj_world_laws.specs.legal.InFlightSyncs.{accepted, checking, going, listing, on, sync, sync_after}
 use Rattle.cj_world_laws.specs.legal.Rest.{IsAtRest}
 use Rattle.cj_world_laws.proofs.LegalLemmas.HeldSyncs.{syncs_agree}

@@ -1,5 +1,5 @@
 -- The zones of what a history claims, whichever entry comes first.
-use Rattle.std.proofs.Common.{◌≡◌, Bool, List, [], ◌∷◌, ◌++◌, sym, subst}
+use Rattle.std.proofs.Common.{Bool, List, [], ◌∷◌, sym, subst}
 use mathlib.Core.List.{reverse}
 use Rattle.std.proofs.lemmas.List.{reverse-append, reverse-reverse}
 use Rattle.std.proofs.lemmas.List.Elements.{All-append, All-cons, All-head, All-nil, All-tail}

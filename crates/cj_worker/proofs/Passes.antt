@@ -1,6 +1,5 @@
 -- Passes as threads hand them back.
 use Rattle.std.proofs.Common.{◌≡◌, List, [], ◌∷◌, ◌++◌, Bool, Option, IfSome, map, refl, ap, sym, subst, ◌∙◌, inl, inr, append_assoc}
-use Rattle.std.specs.List.{AllZip}
 use Rattle.cj_types.specs.Keys.{Place}
 use Rattle.cj_zone.specs.declared.table.ZoneTable.{ZoneTable}
 use Rattle.cj_calls.specs.Rows.{Told}

@@ -1,5 +1,5 @@
 -- A world as its callers see it, and what one call adds to it.
-use Rattle.std.specs.Prelude.{◌≡◌, ◌≢◌, ◌↔◌, ◌≤◌, true, false, List, [], ◌∷◌, length, Result, Err, Option, Some, None, if◌then◌else◌}
+use Rattle.std.specs.Prelude.{◌≡◌, ◌≢◌, ◌↔◌, ◌≤◌, true, false, List, ◌∷◌, length, Result, Err, Option, Some, None, if◌then◌else◌}
 use Rattle.cj_base.specs.declared.refusal.Refusal.{Refusal}
 use Rattle.cj_base.specs.declared.refusal.Refusal.TheVariants.{Empty, HistoryFull}
 use Rattle.cj_types.specs.WorldLimits.{Kept, last_history}

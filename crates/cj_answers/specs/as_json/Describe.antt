@@ -1,12 +1,11 @@
 -- A schedule in a sentence and its next times, as JSON. The members of an object are in the order
 -- of their names.
-use Rattle.std.specs.Prelude.{◌≡◌, ℕ, ◌==◌, nat_lt, List, length, Bool, true, false, codes, if◌then◌else◌}
+use Rattle.std.specs.Prelude.{ℕ, ◌==◌, nat_lt, List, length, Bool, true, false, codes, if◌then◌else◌}
 use Rattle.std.specs.List.{before_first, position_or_len}
 use Rattle.serde_json.specs.Data.{Data, string, array, object, member, no_members}
 use Rattle.serde_json.specs.View.{items_of}
 use Rattle.cj_schedule.specs.Matches.{Sets}
 use Rattle.cj_zone.specs.declared.zone.Zone.{Zone}
-use Rattle.cj_upcoming.specs.Coming.{AreComing}
 use Rattle.cj_upcoming.specs.Sentence.{sentence}
 use Rattle.cj_upcoming.specs.json.Coming.{AreTimes, changes_along, times_data}
 use Rattle.cj_json.specs.Values.{time_data}

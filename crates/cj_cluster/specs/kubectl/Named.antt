@@ -1,6 +1,6 @@
 -- The CronJob that an item is of, as far as its value says: Kubernetes, "Objects In Kubernetes",
 -- "Names and IDs".
-use Rattle.std.specs.Prelude.{ℕ, ◌&&◌, List, ◌++◌, codes, bytes_eq, Bool, true, false, Option, Some, None, option_and_then, unwrap_or, if◌then◌else◌}
+use Rattle.std.specs.Prelude.{ℕ, ◌&&◌, List, ◌++◌, codes, bytes_eq, Bool, true, false, Option, Some, None, option_and_then, unwrap_or}
 use Rattle.std.specs.List.{list_any}
 use Rattle.serde_json.specs.Data.{Data}
 use Rattle.serde_json.specs.Find.{as_str}

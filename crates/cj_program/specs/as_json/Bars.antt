@@ -2,7 +2,6 @@
 use Rattle.std.specs.Prelude.{ℕ, List, codes, map, Option, None, Some}
 use Rattle.serde_json.specs.Data.{Data, null, string, array, object, member, no_members}
 use Rattle.serde_json.specs.View.{items_of}
-use Rattle.cj_types.specs.declared.job.Job.{Job}
 use Rattle.cj_types.specs.Objects.{cron_of}
 use Rattle.cj_report.specs.declared.timeline.bar.Bar.{Bar}
 use Rattle.cj_report.specs.declared.timeline.bar.BarEnd.{BarEnd}

@@ -1,6 +1,6 @@
 -- The CronJobs of a cluster at a moment, a row each: how many times each missed, what its next sync
 -- does, in a word, and when to look again.
-use Rattle.std.specs.Prelude.{◌≡◌, ℕ, List, [], ◌∷◌, ◌++◌, ◌||◌, map, not, Bool, true, false, Option, Some, is_some, string_bytes}
+use Rattle.std.specs.Prelude.{◌≡◌, ℕ, List, [], ◌∷◌, ◌++◌, ◌||◌, map, not, Bool, true, false, Some, is_some, string_bytes}
 use Rattle.cj_zone.specs.declared.zone.Zone.{Zone}
 use Rattle.cj_decide.specs.declared.steps.Steps.{Steps}
 use Rattle.cj_decide.specs.Decision.{IsPlan}

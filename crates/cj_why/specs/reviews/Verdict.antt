@@ -1,7 +1,7 @@
 -- In a word, why a CronJob starts a Job at a moment, or why not, and which CronJobs want a look:
 -- Kubernetes CronJob documentation, "Schedule suspension", "Deadline for delayed Job start", "Time
 -- zones" and "Concurrency policy".
-use Rattle.std.specs.Prelude.{ℕ, ◌<◌, nat_lt, List, [], ◌∷◌, ◌&&◌, not, Bool, true, false, Option, None, Some, codes, is_some}
+use Rattle.std.specs.Prelude.{ℕ, nat_lt, List, ◌&&◌, not, Bool, true, false, Option, None, Some, codes, is_some}
 use Rattle.std.specs.List.{list_any}
 use Rattle.std.specs.FinMap as maps
 use Rattle.cj_types.specs.declared.cron.CronSpec.{CronSpec}

@@ -1,6 +1,6 @@
 -- Accepted calls of a sync are a worker's, so that numbers alone tell workers apart.
-use Rattle.std.proofs.Common.{◌≡◌, ◌⊎◌, inl, inr, ℕ, ◌==◌, Bool, true, false, ◌&&◌, List, [], ◌∷◌, refl, sym, ap, ◌∙◌}
-use Rattle.std.specs.Prelude.{◌≢◌, Option, Some, None, Result, Ok, Err, if◌then◌else◌}
+use Rattle.std.proofs.Common.{◌≡◌, ℕ, ◌==◌, Bool, true, false, ◌&&◌, List, [], ◌∷◌, refl, sym, ap, ◌∙◌}
+use Rattle.std.specs.Prelude.{◌≢◌, Option, None, Result, Ok, Err, if◌then◌else◌}
 use Rattle.cj_base.specs.declared.refusal.Refusal.{Refusal}
 use Rattle.cj_store.specs.Content.{Content}
 use Rattle.cj_calls.specs.declared.caller.Caller.{Caller}
@@ -13,9 +13,9 @@ use Rattle.cj_calls.specs.Rows.{Told}
 use Rattle.cj_state.specs.declared.phases.sync.InFlight.{InFlight}
 use Rattle.cj_state.specs.declared.state.State.{State}
 use Rattle.cj_state.specs.Step.{step_of, by_role, by_user, by_runner, by_informer}
-use Rattle.cj_state.specs.Legal.{IsLegal, answer_of, state_of}
+use Rattle.cj_state.specs.Legal.{IsLegal, state_of}
 use Rattle.cj_world_laws.specs.legal.InFlightSyncs.{accepted, sync, sync_after}
-use Rattle.cj_world_laws.specs.legal.Callers.{is_of_sync, WorkersAlone, same_role, same_caller, sync_by, claim_by, worker, AreOfCallers, CallerLaw}
+use Rattle.cj_world_laws.specs.legal.Callers.{is_of_sync, WorkersAlone, same_role, same_caller, sync_by, claim_by, worker, CallerLaw}
 use Rattle.cj_world_laws.specs.once.Once.{Claimed, claim_after, claim_of, is_ok}
 
 -- ---- who makes the calls of a sync

@@ -1,5 +1,5 @@
 -- sentence: its ensures, where there is memory.
-use Rattle.std.proofs.Common.{◌≡◌, ◌∙◌, ap, sym, subst, inl, ℕ, List, ◌++◌, codes}
+use Rattle.std.proofs.Common.{◌∙◌, ap, sym, subst, inl, ℕ, List, ◌++◌, codes}
 use Rattle.cj_explain.specs.Schedules.{IsExplained}
 use Rattle.cj_c.proofs.Lines.{line_of}
 use Rattle.cj_c.proofs.answers.fault_text.sentence.Goals as goal

@@ -1,5 +1,4 @@
 -- cron_rows: its loop, turn after turn, and its clause ok, as all rows stand there behind the last CronJob.
-use Rattle.std.proofs.Common.{rules}
 use Rattle.cj_zone.specs.Table.{zones_of}
 use Rattle.cj_why.proofs.ReviewsLemmas.Rows.{grows_over, grows_rest}
 use Rattle.cj_why.proofs.reviews.rows.cron_rows.Goals as goal

@@ -1,5 +1,5 @@
 -- push_blanks: its loop, a turn of which puts one blank more behind.
-use Rattle.std.proofs.Common.{◌≡◌, ◌++◌, ◌+◌, ◌∙◌, ◌∷◌, [], ℕ, List, ap, sym, string_bytes, replicate}
+use Rattle.std.proofs.Common.{◌≡◌, ◌++◌, ◌+◌, ◌∙◌, ◌∷◌, [], ℕ, List, ap, replicate}
 use Rattle.std.proofs.lemmas.List.{append_assoc, replicate-append-replicate}
 use Rattle.cj_why.proofs.reviews.table.push_blanks.Goals as goal
 
