@@ -14,14 +14,14 @@ use Rattle.cj_control.specs.declared.deed.Deed.{Deed}
 use Rattle.cj_control.specs.declared.deed.Deed.TheVariants.{Asks, Begins, Ends, Hears, Reads, Sends}
 use Rattle.cj_control.specs.declared.rows.FencedSync.{FencedSync}
 use Rattle.cj_control.specs.declared.sent.Request.{Request}
-use Rattle.cj_control.specs.Syncs.{Rows, Syncs, nothing, fresh, HasBegun, HasAsked, HasSent, HasRead, HasHeard, HasEnded, RowAsks, Moves, Path, heard, own, FollowLaw}
+use Rattle.cj_control.specs.Syncs.{Rows, Syncs, nothing, fresh, HasBegun, HasAsked, HasSent, HasRead, HasHeard, HasEnded, RowAsks, Moves, Path, heard, own}
 
 -- Two numbers are equal by the order's test just where they are by the test of numbers.
 same_number : (q k : ℕ) → eq_by_cmp nat_cmp q k ≡ (q == k)
 same_number q k = grind (arith, nat_tests)
 
 -- Numbers that the test takes for equal are equal.
-number_is : (q k : ℕ) → (q == k) ≡ true → q ≡ k
+pub number_is : (q k : ℕ) → (q == k) ≡ true → q ≡ k
 number_is q k e = grind (arith, nat_tests)
 
 -- a call whose answer isn't heard yet
@@ -39,7 +39,7 @@ Fits None os = Follows os
 Fits (Some f) os = FitsAt f.asked f.sync os
 
 -- Whatever is kept of a sync, it followed the protocol.
-follows : (o : Option FencedSync) (os : List Own) → Fits o os → Follows os
+pub follows : (o : Option FencedSync) (os : List Own) → Fits o os → Follows os
 follows None os f = f
 follows (Some f) os x = by f.asked x
   where
@@ -59,11 +59,11 @@ pub record Inv (o : ℕ → List Own) (s : Syncs) : Type 0 where
 
 module _ (m : map.FinMap nat_cmp FencedSync) (k : ℕ) (v : FencedSync) where
   -- After a put its key has what was put, and each other one what it had.
-  put_at : (q : ℕ) → map.get (map.insert m k v) q ≡ cond (q == k) (Some v) (map.get m q)
+  pub put_at : (q : ℕ) → map.get (map.insert m k v) q ≡ cond (q == k) (Some v) (map.get m q)
   put_at q = map.get-insert nat_cmp_total m k v q ∙ ap (λ b. cond b (Some v) (map.get m q)) (same_number q k)
 
 -- After a removal its key has nothing, and each other one what it had.
-removed_at : (m : map.FinMap nat_cmp FencedSync) (k q : ℕ)
+pub removed_at : (m : map.FinMap nat_cmp FencedSync) (k q : ℕ)
     → map.get (map.remove m k) q ≡ cond (q == k) None (map.get m q)
 removed_at m k q = map.get-remove nat_cmp_total m k q ∙ ap (λ b. cond b None (map.get m q)) (same_number q k)
 
@@ -94,17 +94,17 @@ pub record SameCounts (s t : Syncs) : Type 0 where
   pub workers : t.workers ≡ s.workers
 
 -- what a sync did, with a call more that isn't answered
-abbrev asking : ℕ → Call → (ℕ → List Own) → ℕ → List Own
+abbrev pub asking : ℕ → Call → (ℕ → List Own) → ℕ → List Own
 asking y call o q = if q == y then unheard call ∷ o q else o q
 
 -- and with the answer to its last call
-abbrev hearing : ℕ → Answer → (ℕ → List Own) → ℕ → List Own
+abbrev pub hearing : ℕ → Answer → (ℕ → List Own) → ℕ → List Own
 hearing y a o q = if q == y then heard a (o q) else o q
 
 module _ (o : ℕ → List Own) (s t : Syncs) (i : Inv o s) where
   -- A sync that begins did nothing before.
-  begun_kept : (y : ℕ) → HasBegun y s t → Inv o t
-  begun_kept y b = record {
+  begun_kept : (y : ℕ) (n : List ℕ) → HasBegun y n s t → Inv o t
+  begun_kept y n b = record {
     each = λ q. subst (λ (x : Option FencedSync). Fits x (o q))
         (sym (rows q)) (by q (q == y) refl);
     none = λ q le. i.none q (past q le);
@@ -117,11 +117,11 @@ module _ (o : ℕ → List Own) (s t : Syncs) (i : Inv o s) where
     where
       counted : map.len t.rows ≡ t.live
       counted = ap (λ (x : Syncs). map.len x.rows) b.after
-          ∙ put_new s.rows y fresh (ap (map.get s.rows) b.number ∙ i.absent s.begun (omega arith))
+          ∙ put_new s.rows y (fresh n) (ap (map.get s.rows) b.number ∙ i.absent s.begun (omega arith))
           ∙ ap (λ n. n + 1) i.count ∙ sym (ap (λ (x : Syncs). x.live) b.after)
 
-      rows : (q : ℕ) → map.get t.rows q ≡ cond (q == y) (Some fresh) (map.get s.rows q)
-      rows q = ap (λ (x : Syncs). map.get x.rows q) b.after ∙ put_at s.rows y fresh q
+      rows : (q : ℕ) → map.get t.rows q ≡ cond (q == y) (Some (fresh n)) (map.get s.rows q)
+      rows q = ap (λ (x : Syncs). map.get x.rows q) b.after ∙ put_at s.rows y (fresh n) q
 
       count : t.begun ≡ s.begun + 1
       count = ap (λ (x : Syncs). x.begun) b.after
@@ -129,15 +129,15 @@ module _ (o : ℕ → List Own) (s t : Syncs) (i : Inv o s) where
       past : (q : ℕ) → t.begun ≤ q → s.begun ≤ q
       past q le = let e : t.begun ≡ s.begun + 1 = count in omega (arith, le, e)
 
-      by : (q : ℕ) (c : Bool) → (q == y) ≡ c → Fits (cond c (Some fresh) (map.get s.rows q)) (o q)
+      by : (q : ℕ) (c : Bool) → (q == y) ≡ c → Fits (cond c (Some (fresh n)) (map.get s.rows q)) (o q)
       by q true e =
           let same : q ≡ s.begun = number_is q y e ∙ b.number in
           let le : s.begun ≤ q = omega (arith, same) in
-          subst (λ (os : List Own). FitsAt None fresh.sync os) (sym (i.none q le)) (tt, refl)
+          subst (λ (os : List Own). FitsAt None (fresh n).sync os) (sym (i.none q le)) (tt, refl)
       by q false e = i.each q
 
       other : (q : ℕ) (c : Bool) → (q == y) ≡ c → t.begun ≤ q
-          → cond c (Some fresh) (map.get s.rows q) ≡ None
+          → cond c (Some (fresh n)) (map.get s.rows q) ≡ None
       other q true e le =
           let same : q ≡ s.begun = number_is q y e ∙ b.number in
           let more : t.begun ≡ s.begun + 1 = count in
@@ -217,7 +217,7 @@ module _ (o : ℕ → List Own) (s t : Syncs) (i : Inv o s) where
           let r : s.live ≤ s.workers = i.few in omega (arith, e, f, r)
 
       now : FencedSync
-      now = record { sync = advanced a.row.sync.sync a.row.call answer; asked = None; id = None }
+      now = record a.row.sync { sync = advanced a.row.sync.sync a.row.call answer; asked = None; id = None }
 
       rows : (q : ℕ) → map.get t.rows q ≡ cond (q == y) (Some now) (map.get s.rows q)
       rows q = ap (λ (x : Rows). map.get x q) a.row.after ∙ put_at s.rows y now q
@@ -309,7 +309,7 @@ counts_sent y id call r s t a = record {
 -- Each deed keeps the invariant.
 kept : (ds : List Deed) (s t : Syncs) → Inv (λ q. own q ds) s → (d : Deed) → Moves d s t
     → Inv (λ q. own q (d ∷ ds)) t
-kept ds s t i (Begins y) m = begun_kept (λ q. own q ds) s t i y m
+kept ds s t i (Begins y n) m = begun_kept (λ q. own q ds) s t i y n m
 kept ds s t i (Asks y call) m =
     asked_kept (λ q. own q ds) s t i y call None m.row (counts_asked y call s t m)
 kept ds s t i (Sends y id call r) m =
@@ -329,13 +329,13 @@ at_start workers = record {
 }
 
 -- After all deeds the invariant holds.
-always : (workers : ℕ) (ds : List Deed) (s : Syncs) → Path ds (nothing workers) s → Inv (λ q. own q ds) s
+pub always : (workers : ℕ) (ds : List Deed) (s : Syncs) → Path ds (nothing workers) s → Inv (λ q. own q ds) s
 always workers [] s p = subst (Inv (λ q. own q [])) (sym p) (at_start workers)
 always workers (d ∷ ds) s p = kept ds p.0 s (always workers ds p.0 p.1) d p.2
 
 -- A deed changes nothing of how many may be under way.
 pub same_workers : (d : Deed) (s t : Syncs) → Moves d s t → t.workers ≡ s.workers
-same_workers (Begins y) s t m = ap (λ (x : Syncs). x.workers) m.after
+same_workers (Begins y n) s t m = ap (λ (x : Syncs). x.workers) m.after
 same_workers (Asks y call) s t m = ap (λ (x : Syncs). x.workers) m.after
 same_workers (Sends y id call r) s t m = ap (λ (x : Syncs). x.workers) m.after
 same_workers (Reads id r) s t m = ap (λ (x : Syncs). x.workers) m.after
@@ -343,16 +343,6 @@ same_workers (Hears y a) s t m = ap (λ (x : Syncs). x.workers) m.after
 same_workers (Ends y) s t m = ap (λ (x : Syncs). x.workers) m.after
 
 -- So after all deeds as many may be under way as at the start.
-workers_are : (workers : ℕ) (ds : List Deed) (s : Syncs) → Path ds (nothing workers) s → s.workers ≡ workers
+pub workers_are : (workers : ℕ) (ds : List Deed) (s : Syncs) → Path ds (nothing workers) s → s.workers ≡ workers
 workers_are workers [] s p = ap (λ (x : Syncs). x.workers) p
 workers_are workers (d ∷ ds) s p = same_workers d p.0 s p.2 ∙ workers_are workers ds p.0 p.1
-
--- For follow_law.
-pub all_follow : FollowLaw
-all_follow workers ds s p = record {
-  follows = λ y. follows (map.get s.rows y) (own y ds) ((always workers ds s p).each y);
-  few = let i = always workers ds s p in
-      let e : map.len s.rows ≡ s.live = i.count in
-      let f : s.live ≤ s.workers = i.few in
-      let w : s.workers ≡ workers = workers_are workers ds s p in omega (arith, e, f, w);
-}

@@ -1,3 +1,4 @@
+mod AloneLemmas
 pub mod ComingLemmas
 mod CreatedLemmas
 mod FollowLemmas

@@ -1,15 +1,20 @@
 -- What the entries of a map with numbers for keys are as a finite map.
-use Rattle.std.proofs.Common.{◌≡◌, ℕ, arith, List, [], ◌∷◌, Bool, true, false, Some, None, cond, refl, sym, ap, ◌∙◌}
+use Rattle.std.proofs.Common.{◌≡◌, ℕ, arith, List, [], ◌∷◌, Bool, true, false, Some, None, cond, refl, sym, ap, subst, ◌∙◌}
 use Rattle.std.specs.Ordering.{nat_cmp, eq_by_cmp}
 use Rattle.std.specs.FinMap as map
 use Rattle.std.specs.FinMap.{find, nat_cmp-IsAntisymmetric}
 use Rattle.std.specs.Map.{lookup}
-use Rattle.std.specs.BTreeMap.{is_at}
+use Rattle.std.specs.BTreeMap.{BTreeMap, is_at}
+use Rattle.std.specs.BTreeMap as tree
 use Rattle.std.specs.Cmp.{nat_cmp_total, eq_by_cmp_equiv}
-use Rattle.std.specs.Prelude.{Option}
+use Rattle.std.specs.Prelude.{All, Contains, IfSome, Option}
+use Rattle.std.proofs.lemmas.List.Elements.{All-contains_itself, All-map, All-weaker}
+use Rattle.std.proofs.lemmas.Map.Lookups.{exact_unsigned}
+use Rattle.std.proofs.lemmas.Map.Views.{IfSome-lookup_from_All, btree_map_get_iff}
+use Rattle.cj_control.specs.declared.rows.FencedSync.{FencedSync}
 use Rattle.std.proofs.lemmas.Bool.Decides.{nat_tests}
 use Rattle.cj_fence.specs.declared.call.Call.{Call}
-use Rattle.cj_control.specs.Syncs.{RowAsks, Rows, Waits}
+use Rattle.cj_control.specs.Syncs.{IsFree, RowAsks, Rows, Waits}
 
 -- What a finite map finds at a number among entries is what a look-up in them finds.
 find-lookup : {X : Type 0} (es : List (ℕ × X)) (q : ℕ) → find nat_cmp q es ≡ lookup (is_at (nat_cmp q)) es
@@ -71,3 +76,21 @@ asked_waits y call id m n a = record {
   asked = refl;
   by = refl;
 }
+
+-- For SyncRows::is_free: the names of the values are those of the rows.
+module _ (m : BTreeMap ℕ FencedSync) (sorted : tree.IsOrdered nat_cmp m) (n : List ℕ) where
+  abbrev IsOther : FencedSync → Type 0
+  IsOther f = f.name ≡ n → ⊥
+
+  pub free_there : All IsOther (tree.values m) → IsFree n (map.from_entries m.entries)
+  free_there a y f is =
+      subst (λ (o : Option FencedSync). IfSome o IsOther) (sym (found_row m.entries y) ∙ is)
+      (IfSome-lookup_from_All IsOther (is_at (nat_cmp y)) m.entries a)
+
+  pub free_back : IsFree n (map.from_entries m.entries) → All IsOther (tree.values m)
+  free_back free = All-map IsOther (λ e. e.1) m.entries
+      (All-weaker (Contains m.entries) (λ e. IsOther e.1) each m.entries (All-contains_itself m.entries))
+    where
+      each : (e : ℕ × FencedSync) → Contains m.entries e → IsOther e.1
+      each (k, f) there = free k f (found_row m.entries k
+          ∙ (btree_map_get_iff nat_cmp_total exact_unsigned m sorted k f).1 there)

@@ -1,11 +1,12 @@
 -- The syncs of one controller: which are under way, what each asked last, and what became of them.
-use Rattle.std.specs.Prelude.{◌≡◌, ◌⊎◌, ℕ, ◌+◌, ◌-◌, ◌<◌, ◌≤◌, refl, ◌==◌, List, [], ◌∷◌, ◌++◌, reverse, Option, Some, None, if◌then◌else◌}
+use Rattle.std.specs.Prelude.{◌≡◌, ◌⊎◌, ℕ, ◌+◌, ◌-◌, ◌<◌, ◌≤◌, refl, ◌==◌, All, List, [], ◌∷◌, ◌++◌, reverse, Option, Some, None, if◌then◌else◌}
 use Rattle.std.specs.Ordering.{nat_cmp}
 use Rattle.std.specs.FinMap.{FinMap, code, empty, get, insert, len, remove}
 use Rattle.std.specs.Coded.{Coded, code_by, coded×, coded_list, coded_ℕ}
 use Rattle.cj_control.specs.contracts.rows.FencedSync.{the_row as fenced_sync}
 use Rattle.cj_control.specs.contracts.deed.Deed.{the_row as deed}
 use Rattle.cj_fence.specs.declared.call.Call.{Call}
+use Rattle.cj_fence.specs.declared.call.Call.TheVariants as Of
 use Rattle.cj_fence.specs.declared.answer.Answer.{Answer}
 use Rattle.cj_fence.specs.declared.answer.Answer.TheVariants.{Lost}
 use Rattle.cj_fence.specs.declared.sync.Sync.TheVariants.{Fresh}
@@ -50,9 +51,9 @@ coded_syncs =
 abbrev pub nothing : ℕ → Syncs
 nothing workers = record { rows = empty; begun = 0; live = 0; workers = workers; next = 1 }
 
--- one that has asked nothing yet
-abbrev pub fresh : FencedSync
-fresh = record { sync = Fresh; asked = None; id = None }
+-- one of a CronJob that has asked nothing yet
+abbrev pub fresh : List ℕ → FencedSync
+fresh n = record { name = n; sync = Fresh; asked = None; id = None }
 
 -- the greatest number that a sync or a request may have
 abbrev pub greatest : ℕ
@@ -65,20 +66,37 @@ pub record HasRoom (s : Syncs) : Type 0 where
   pub worker : s.live < s.workers
   pub number : s.begun < greatest
 
--- the next one begins, where there is a worker for it
-pub record HasBegun (y : ℕ) (s t : Syncs) : Type 0 where
+-- none under way is of that CronJob
+-- rule: control-one-sync
+abbrev pub IsFree : List ℕ → Rows → Type 0
+IsFree n m = (y : ℕ) (sync : FencedSync) → get m y ≡ Some sync → sync.name ≡ n → ⊥
+
+-- the next one begins, where there is a worker for it and none of its CronJob is under way
+-- rule: control-one-sync
+pub record HasBegun (y : ℕ) (n : List ℕ) (s t : Syncs) : Type 0 where
   pub number : y ≡ s.begun
   pub room : s.live < s.workers
+  pub free : IsFree n s.rows
   pub after : t
-      ≡ record s { rows = insert s.rows y fresh; begun = s.begun + 1; live = s.live + 1 }
+      ≡ record s { rows = insert s.rows y (fresh n); begun = s.begun + 1; live = s.live + 1 }
 
--- one waits for no answer, and the protocol lets it ask this
--- rule: control-follows
+-- a call that names a CronJob names this one
+-- rule: control-one-sync
+abbrev pub IsOf : List ℕ → Call → Type 0
+IsOf n (Of.GetCron m) = m ≡ n
+IsOf n (Of.CacheCron m) = m ≡ n
+IsOf n (Of.Claim w) = w.name ≡ n
+IsOf n (Of.Tidy w) = w.name ≡ n
+IsOf n call = Unit {0}
+
+-- one waits for no answer, and the protocol lets it ask this, of its own CronJob
+-- rules: control-follows, control-one-sync
 pub record MayAsk (y : ℕ) (call : Call) (m : Rows) : Type 0 where
   pub sync : FencedSync
   pub is : get m y ≡ Some sync
   pub idle : sync.asked ≡ None
   pub may : May sync.sync call
+  pub its : IsOf sync.name call
 
 -- it asks this, by the request of that number or of a cache
 -- rule: control-follows
@@ -87,6 +105,7 @@ pub record RowAsks (y : ℕ) (call : Call) (id : Option ℕ) (m n : Rows) : Type
   pub is : get m y ≡ Some sync
   pub idle : sync.asked ≡ None
   pub may : May sync.sync call
+  pub its : IsOf sync.name call
   pub after : n ≡ insert m y (record sync { asked = Some call; id = id })
 
 -- one that asked hears an answer
@@ -96,7 +115,8 @@ pub record RowHears (y : ℕ) (a : Answer) (m n : Rows) : Type 0 where
   pub is : get m y ≡ Some sync
   pub call : Call
   pub asked : sync.asked ≡ Some call
-  pub after : n ≡ insert m y (record { sync = advanced sync.sync call a; asked = None; id = None })
+  pub after : n
+      ≡ insert m y (record sync { sync = advanced sync.sync call a; asked = None; id = None })
 
 -- one ends, wherever it is
 pub record RowEnds (y : ℕ) (m n : Rows) : Type 0 where
@@ -135,7 +155,7 @@ pub record HasEnded (y : ℕ) (s t : Syncs) : Type 0 where
 -- what a deed changes
 -- rule: control-follows
 abbrev pub Moves : Deed → Syncs → Syncs → Type 0
-Moves (Begins y) s t = HasBegun y s t
+Moves (Begins y n) s t = HasBegun y n s t
 Moves (Asks y call) s t = HasAsked y call s t
 Moves (Sends y id call r) s t = HasSent y id call r s t
 Moves (Reads id r) s t = HasRead id r s t
@@ -160,7 +180,7 @@ heard a (o ∷ os) = record { call = o.call; answer = a } ∷ os
 -- rule: control-follows
 abbrev pub own : ℕ → List Deed → List Own
 own y [] = []
-own y (Begins x ∷ ds) = own y ds
+own y (Begins x n ∷ ds) = own y ds
 own y (Asks x call ∷ ds) = if y == x then record { call = call; answer = Lost }
     ∷ own y ds else own y ds
 own y (Sends x id call r ∷ ds) = if y == x then record { call = call; answer = Lost }
@@ -169,10 +189,20 @@ own y (Reads id r ∷ ds) = own y ds
 own y (Hears x a ∷ ds) = if y == x then heard a (own y ds) else own y ds
 own y (Ends x ∷ ds) = own y ds
 
--- each sync follows the protocol, and no more than that number are under way
--- rules: control-follows, control-workers
+-- no two of them are of one CronJob
+-- rule: control-one-sync
+abbrev pub AreAlone : Rows → Type 0
+AreAlone m = (y z : ℕ) (f g : FencedSync) → get m y ≡ Some f → get m z ≡ Some g
+    → f.name ≡ g.name → y ≡ z
+
+-- each sync follows the protocol; those under way are of different CronJobs, each asks of its own,
+-- and no more than that number are under way
+-- rules: control-follows, control-one-sync, control-workers
 pub record AreKept (workers : ℕ) (ds : List Deed) (s : Syncs) : Type 0 where
   pub follows : (y : ℕ) → Follows (own y ds)
+  pub alone : AreAlone s.rows
+  pub its : (y : ℕ) (sync : FencedSync) → get s.rows y ≡ Some sync
+      → All (λ o. IsOf sync.name o.call) (own y ds)
   pub few : len s.rows ≤ workers
 
 -- whatever the syncs hear

@@ -1,15 +1,15 @@
-ghost use Rattle.std.specs.Prelude.{◌≡◌, ◌↔◌, ◌<◌, ℕ, Option, [], Some, None, IfOk, IfErr, IsTrue, OnOk, OnErr, option_copied};
+ghost use Rattle.std.specs.Prelude.{◌≡◌, ◌↔◌, ◌<◌, ◌≤◌, ℕ, Option, [], Some, None, IfOk, IfErr, IsTrue, OnOk, OnErr, option_copied};
 ghost use Rattle.std.specs.FinMap as map;
 ghost use Rattle.cj_base.specs.declared.refusal.Refusal.TheVariants.{OutOfMemory};
 ghost use Rattle.cj_control.specs.declared.deed.Deed.TheVariants.{Asks, Begins, Ends, Hears, Reads, Sends};
 ghost use Rattle.cj_control.specs.declared.rows.FencedSync.{FencedSync};
 ghost use Rattle.cj_control.specs.SentFor.{IsOfNoSync, IsSentFor};
-ghost use Rattle.cj_control.specs.Syncs.{Adds, GaveUp, HasRoom, IsAsked, IsNew, MayAsk, Waits, greatest};
+ghost use Rattle.cj_control.specs.Syncs.{Adds, GaveUp, HasRoom, IsAsked, IsFree, IsNew, MayAsk, Waits, greatest};
 
 use crate::Deed;
 use crate::rows::{FencedSync, SyncRows};
 use crate::sent::Request;
-use cj_base::{Refusal, Shared};
+use cj_base::{Refusal, Shared, Text, TryCopy};
 use cj_fence::{Answer, Call, Sync};
 use std::alloc::Global;
 use std::marker::Model;
@@ -86,30 +86,44 @@ impl Book {
         self.next < u64::MAX
     }
 
-    /// A sync begins; its number. Where memory is wanting, all stays as it was.
-    pub fn begin(&mut self) -> Result<u64, Refusal>
-        requires { HasRoom self.old.syncs }
-        ensures ok { IfOk result (λ y. Adds (Begins y) self.old self.new) }
+    /// Whether a request of this number was sent.
+    pub fn has_sent(&self, id: u64) -> bool
+        ensures { IsTrue result ↔ ((1 ≤ id) × (id < self.now.syncs.next)) }
+    {
+        1 <= id && id < self.next
+    }
+
+    /// Whether no sync under way is of the CronJob.
+    pub fn is_free(&self, name: &Text) -> bool
+        ensures { IsTrue result ↔ IsFree name.now self.now.syncs.rows }
+    {
+        self.rows.is_free(name)
+    }
+
+    /// A sync of the CronJob begins; its number. Where memory is wanting, all stays as it was.
+    pub fn begin(&mut self, alloc: Global, name: Text) -> Result<u64, Refusal>
+        requires room { HasRoom self.old.syncs }
+        requires free { IsFree name self.old.syncs.rows }
+        ensures ok { IfOk result (λ y. Adds (Begins y name) self.old self.new) }
         ensures err { OnErr result (self.new ≡ self.old) }
         ensures memory { IfErr result (λ e. e ≡ OutOfMemory) }
     {
         let number = self.begun;
         self.deeds.reserve(1)?;
-        self.rows.insert(
-            number,
-            FencedSync {
-                sync: Sync::Fresh,
-                asked: None,
-                id: None,
-            },
-        )?;
+        let row = FencedSync {
+            name: name.try_copy(alloc)?,
+            sync: Sync::Fresh,
+            asked: None,
+            id: None,
+        };
+        self.rows.insert(number, row)?;
         self.begun = number + 1;
         self.live += 1;
-        self.deeds.push_reserved(Deed::Begins(number));
+        self.deeds.push_reserved(Deed::Begins(number, name));
         Ok(number)
     }
 
-    /// Whether a sync waits for no answer, and the protocol lets it ask this.
+    /// Whether a sync waits for no answer, and the protocol lets it ask this of its own CronJob.
     pub fn may_ask(&self, number: u64, call: &Call) -> bool
         ensures { IsTrue result ↔ MayAsk number call.now self.now.syncs.rows }
     {

@@ -1,12 +1,12 @@
 use crate::sent::Request;
-use cj_base::Shared;
+use cj_base::{Shared, Text};
 use cj_fence::{Answer, Call};
 
 /// What becomes of a sync, which is known by its number.
 #[derive(Drop)]
 pub enum Deed {
-    /// It begins.
-    Begins(u64),
+    /// It begins, of the CronJob NAMESPACE/NAME.
+    Begins(u64, Text),
     /// It asks what lists and watches told.
     Asks(u64, Shared<Call>),
     /// It asks the API server, by the request of the second number.

@@ -1,8 +1,8 @@
 ghost use Rattle.cj_control.specs.Created.{CreatedLaw};
 ghost use Rattle.cj_control.specs.Syncs.{FollowLaw};
 
-/// Whatever a controller's syncs hear: each follows the protocol of the fenced start, and asks one
-/// thing at a time.
+/// Whatever a controller's syncs hear: each follows the protocol of the fenced start and asks one
+/// thing at a time, and of a CronJob one at most is under way.
 pub fn follow_law()
     ensures { FollowLaw }
 {}

@@ -1,12 +1,14 @@
-ghost use Rattle.std.specs.Prelude.{◌≡◌, ◌↔◌, None, Some, IfOk, IfErr, IsTrue, ℕ, Option, OnOk, OnErr, option_copied};
+ghost use Rattle.std.specs.Prelude.{◌≡◌, ◌↔◌, All, None, Some, IfOk, IfErr, IsTrue, ℕ, Option, OnOk, OnErr, option_copied};
+ghost use Rattle.std.specs.BTreeMap as tree;
 ghost use Rattle.std.specs.FinMap as map;
+ghost use Rattle.std.specs.Ordering.{nat_cmp};
 ghost use Rattle.cj_base.specs.declared.refusal.Refusal.TheVariants.{OutOfMemory};
 ghost use Rattle.cj_fence.specs.declared.call.Call.{Call};
 ghost use Rattle.cj_fence.specs.Protocol.{May, advanced};
 ghost use Rattle.cj_control.specs.declared.rows.FencedSync.{FencedSync};
-ghost use Rattle.cj_control.specs.Syncs.{MayAsk, RowAsks, RowEnds, RowHears, Waits};
+ghost use Rattle.cj_control.specs.Syncs.{IsFree, IsOf, MayAsk, RowAsks, RowEnds, RowHears, Waits};
 
-use cj_base::{Refusal, Shared};
+use cj_base::{Refusal, Shared, Text};
 use cj_fence::{Answer, Call, Sync};
 use std::alloc::Global;
 use std::collections::BTreeMap;
@@ -14,6 +16,8 @@ use std::marker::Model;
 
 /// A sync under way.
 pub struct FencedSync {
+    /// NAMESPACE/NAME of its CronJob.
+    pub name: Text,
     /// How far it has come.
     pub sync: Sync,
     /// What it asked, where it waits for an answer.
@@ -24,19 +28,54 @@ pub struct FencedSync {
 
 impl Drop for FencedSync {
     fn drop(self) {
-        let FencedSync { sync, asked, id: _ } = self;
+        let FencedSync {
+            name,
+            sync,
+            asked,
+            id: _,
+        } = self;
+        drop(name);
         drop(sync);
         drop(asked);
     }
 }
 
+// Whether a call that names a CronJob names this one.
+fn is_of(name: &Text, call: &Call) -> bool
+    ensures { IsTrue result ↔ IsOf name.now call.now }
+{
+    match call {
+        Call::GetCron(asked) => asked == name,
+        Call::CacheCron(asked) => asked == name,
+        Call::Claim(claim) => claim.name == *name,
+        Call::Tidy(tidy) => tidy.name == *name,
+        _ => true,
+    }
+}
+
+// Whether a sync is of another CronJob.
+fn is_of_another(row: &FencedSync, name: &Text) -> bool
+    ensures { IsTrue result ↔ (row.now.name ≡ name.now → ⊥) }
+{
+    row.name != *name
+}
+
+// Whether all syncs are of other CronJobs. The numbers of a map ascend.
+fn are_others(rows: &BTreeMap<u64, FencedSync>, name: &Text) -> bool
+    ensures each { IsTrue result ↔ All (λ f. f.name ≡ name.now → ⊥) (tree.values rows.now) }
+    ensures ordered { tree.IsOrdered nat_cmp rows.now }
+{
+    rows.values().all(|row| is_of_another(row, name))
+}
+
 impl FencedSync {
-    /// Whether the sync waits for no answer, and may ask this.
+    /// Whether the sync waits for no answer, and may ask this of its own CronJob.
     pub fn may_ask(&self, call: &Call) -> bool
-        ensures { IsTrue result ↔ ((self.now.asked ≡ None) × May self.now.sync call.now) }
+        ensures { IsTrue result ↔ ((self.now.asked ≡ None) × May self.now.sync call.now
+            × IsOf self.now.name call.now) }
     {
         let may = self.sync.may(call);
-        self.asked.is_none() && may
+        self.asked.is_none() && may && is_of(&self.name, call)
     }
 
     /// The sync that waits for the answer to this call.
@@ -44,11 +83,13 @@ impl FencedSync {
         ensures { result ≡ record self { asked = Some call; id = id } }
     {
         let FencedSync {
+            name,
             sync,
             asked: _,
             id: _,
         } = self;
         FencedSync {
+            name,
             sync,
             asked: Some(call),
             id,
@@ -58,15 +99,25 @@ impl FencedSync {
     /// The sync after the answer to what it asked.
     pub fn hearing(self, alloc: Global, answer: &Answer) -> Result<FencedSync, Refusal>
         ensures ok { IfOk result (λ f. (call : Call) → self.asked ≡ Some call
-            → f ≡ record { sync = advanced self.sync call answer.now; asked = None; id = None }) }
+            → f ≡ record self {
+              sync = advanced self.sync call answer.now;
+              asked = None;
+              id = None;
+            }) }
         ensures memory { IfErr result (λ e. e ≡ OutOfMemory) }
     {
-        let FencedSync { sync, asked, id: _ } = self;
+        let FencedSync {
+            name,
+            sync,
+            asked,
+            id: _,
+        } = self;
         let next = match asked {
             Some(call) => sync.advance(alloc, call.get(), answer)?,
             None => sync,
         };
         Ok(FencedSync {
+            name,
             sync: next,
             asked: None,
             id: None,
@@ -115,6 +166,13 @@ impl SyncRows {
         ensures { option_copied result ≡ map.get self.now number }
     {
         self.rows.get(&number)
+    }
+
+    /// Whether no sync under way is of the CronJob.
+    pub fn is_free(&self, name: &Text) -> bool
+        ensures { IsTrue result ↔ IsFree name.now self.now }
+    {
+        are_others(&self.rows, name)
     }
 
     /// Puts a sync under the number, in place of what was there. Where memory is wanting, all stays

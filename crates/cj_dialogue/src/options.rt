@@ -3,6 +3,7 @@ use cj_args::ControlRequest;
 use cj_base::{Refusal, Text};
 use cj_control::ApiVersion;
 use cj_machine::ControlOptions;
+use cj_types::Key;
 use serde_json::{Value, json};
 use std::alloc::{AllocError, Global};
 
@@ -13,6 +14,8 @@ pub enum OptionFault {
     ApiVersion,
     /// `--log` is no form.
     Log,
+    /// `--namespace` is no name of a namespace.
+    Namespace,
 }
 
 impl OptionFault {
@@ -21,6 +24,7 @@ impl OptionFault {
         match self {
             OptionFault::ApiVersion => "cronsim: api-version\n",
             OptionFault::Log => "cronsim: log\n",
+            OptionFault::Namespace => "cronsim: namespace\n",
         }
     }
 
@@ -29,6 +33,8 @@ impl OptionFault {
         match self {
             OptionFault::ApiVersion => "--api-version: want batch/v1 or batch/v1beta1\n",
             OptionFault::Log => "--log: want text or json\n",
+            OptionFault::Namespace =>
+                "--namespace: want one namespace's name, of a-z, 0-9 and '-', as in default\n",
         }
     }
 }
@@ -45,6 +51,18 @@ fn api_text(api: ApiVersion) -> &'static str {
     match api {
         ApiVersion::BatchV1 => "batch/v1",
         ApiVersion::BatchV1Beta1 => "batch/v1beta1",
+    }
+}
+
+/// Whether the namespace, if one is given, has a name that a namespace may have.
+pub fn is_placed(alloc: Global, control: &ControlRequest<'_>) -> Result<bool, Refusal> {
+    let Some(namespace) = control.namespace else {
+        return Ok(true);
+    };
+    match Key::new(alloc, namespace, "any") {
+        Ok(_) => Ok(true),
+        Err(Refusal::OutOfMemory) => Err(Refusal::OutOfMemory),
+        Err(_) => Ok(false),
     }
 }
 

@@ -1,5 +1,5 @@
 // A controller that runs.
-use crate::options::{forms_of, options_of};
+use crate::options::{OptionFault, forms_of, is_placed, options_of};
 use crate::prefix::{error_line, id_of};
 use crate::recorder::Recorder;
 use crate::remarks::Remarks;
@@ -251,13 +251,16 @@ pub fn run_session<Z: ZoneSource, T: Write + Drop, R: Read, W: Write, E: Write>(
     out: &mut W,
     err: &mut E,
 ) -> Result<ExitStatus, Failure> {
-    let (api, is_json) = match forms_of(control) {
+    let forms = if is_placed(alloc, control)? {
+        forms_of(control)
+    } else {
+        Err(OptionFault::Namespace)
+    };
+    let (api, is_json) = match forms {
         Ok(forms) => forms,
         Err(fault) => {
             write_whole(err, fault.line().as_bytes())?;
-            if control.explain {
-                write_whole(err, fault.explained().as_bytes())?;
-            }
+            write_whole(err, fault.explained().as_bytes())?;
             return Ok(ExitStatus::Refused);
         }
     };

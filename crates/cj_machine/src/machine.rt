@@ -141,6 +141,11 @@ fn came(
     zones: &ZoneTable,
     line: &Line,
 ) -> Result<(), Refusal> {
+    if let Some(id) = unsent(ledger, line.kind) {
+        return driver.tell(format!(in alloc;
+            "passed over an answer to request {id}, which was never sent"
+        )?);
+    }
     match line.kind {
         LineKind::Clock(now) => clock(ledger, driver, alloc, now),
         LineKind::Stop => {
@@ -151,6 +156,15 @@ fn came(
         LineKind::Failed(id) => came_for(ledger, driver, alloc, zones, id, line),
         LineKind::Told(id) => driver.told_for(alloc, id, line),
     }
+}
+
+// The number of a request that a line is about though it was never sent.
+fn unsent(ledger: &Ledger, kind: LineKind) -> Option<u64> {
+    let id = match kind {
+        LineKind::Answered(id, _) | LineKind::Failed(id) | LineKind::Told(id) => id,
+        LineKind::Clock(_) | LineKind::Stop => return None,
+    };
+    if ledger.has_sent(id) { None } else { Some(id) }
 }
 
 // An answer to the request of a number, or that none came.

@@ -25,32 +25,37 @@ pub(crate) fn entry_of(
     Ok(Entry { text, cron })
 }
 
-// Puts an item of a list; one that has no key is passed over.
+// Puts an item of a list, unless it has no key; whether it has one.
 fn put_item(
     alloc: Global,
     api: ApiVersion,
     source: Source,
     shelf: &mut Shelf,
     item: &Value,
-) -> Result<(), Refusal> {
+) -> Result<bool, Refusal> {
     let Some(key) = key_in(alloc, item)? else {
-        return Ok(());
+        return Ok(false);
     };
     let entry = entry_of(alloc, api, source, &key, item)?;
-    shelf.put(alloc, &key, entry)
+    shelf.put(alloc, &key, entry)?;
+    Ok(true)
 }
 
+// Puts the items of a list; how many have no key.
 fn put_items(
     alloc: Global,
     api: ApiVersion,
     source: Source,
     shelf: &mut Shelf,
     items: &[Value],
-) -> Result<(), Refusal> {
+) -> Result<u64, Refusal> {
+    let mut unnamed: u64 = 0;
     for item in items {
-        put_item(alloc, api, source, shelf, item)?;
+        if !put_item(alloc, api, source, shelf, item)? {
+            unnamed = unnamed.saturating_add(1);
+        }
     }
-    Ok(())
+    Ok(unnamed)
 }
 
 // The CronJobs of all objects of either shelf.
@@ -97,14 +102,18 @@ impl Feed {
     fn take_page(
         &mut self,
         alloc: Global,
-        api: ApiVersion,
+        scope: &Scope,
         source: Source,
         shelf: &mut Shelf,
+        notes: &mut Notes,
         page: Page<'_>,
         now: u64,
     ) -> Result<Vec<Key>, Refusal> {
         self.begin_list(alloc);
-        put_items(alloc, api, source, &mut self.coming, page.items)?;
+        let unnamed = put_items(alloc, scope.api, source, &mut self.coming, page.items)?;
+        if unnamed > 0 {
+            notes.unnamed(alloc, scope, source, unnamed)?;
+        }
         match page.next {
             Some(token) => self.go_on(alloc, token, now),
             None => self.end_list(alloc, shelf, page.version, now),
@@ -123,7 +132,7 @@ impl Feed {
         now: u64,
     ) -> Result<Vec<Key>, Refusal> {
         match page_in(body) {
-            Some(page) => self.take_page(alloc, scope.api, source, shelf, page, now),
+            Some(page) => self.take_page(alloc, scope, source, shelf, notes, page, now),
             None => {
                 self.pace = self.pace.missed(now);
                 notes.unread_page(alloc, scope, source)?;

@@ -155,6 +155,20 @@ impl Notes {
         self.push(format!(in alloc; "can't read the API server's list of {objects}; asking again")?)
     }
 
+    /// A line that so many objects of a list have no name.
+    pub(crate) fn unnamed(
+        &mut self,
+        alloc: Global,
+        scope: &Scope,
+        source: Source,
+        count: u64,
+    ) -> Result<(), Refusal> {
+        let objects = objects(alloc, scope, source)?;
+        self.push(format!(in alloc;
+            "left out {count} of the API server's list of {objects}: no namespace or no name"
+        )?)
+    }
+
     /// A line that an event can't be read.
     pub(crate) fn unread_event(
         &mut self,

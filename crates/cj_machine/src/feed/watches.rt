@@ -53,35 +53,43 @@ fn remove(
     Ok(touched)
 }
 
-// What an event does; an object that has no key is passed over.
+// What an event does to the object at its key.
 fn change_shelf(
     alloc: Global,
     api: ApiVersion,
     source: Source,
     shelf: &mut Shelf,
+    key: &Key,
     event: Event<'_>,
 ) -> Result<Vec<Key>, Refusal> {
-    let Some(key) = key_in(alloc, event.object)? else {
-        return Ok(Vec::new(alloc));
-    };
     match event.change {
-        Change::Put => put(alloc, api, source, shelf, &key, event.object),
-        Change::Gone => remove(alloc, source, shelf, &key, event.object),
+        Change::Put => put(alloc, api, source, shelf, key, event.object),
+        Change::Gone => remove(alloc, source, shelf, key, event.object),
         Change::Bookmark => Ok(Vec::new(alloc)),
     }
 }
 
 impl Feed {
+    // What an event says; one of an object that has no key is told.
     fn take_event(
         &mut self,
         alloc: Global,
-        api: ApiVersion,
+        scope: &Scope,
         source: Source,
         shelf: &mut Shelf,
+        notes: &mut Notes,
         event: Event<'_>,
     ) -> Result<Vec<Key>, Refusal> {
         let version = Text::new(alloc, event.version)?;
-        let touched = change_shelf(alloc, api, source, shelf, event)?;
+        let touched = match key_in(alloc, event.object)? {
+            Some(key) => change_shelf(alloc, scope.api, source, shelf, &key, event)?,
+            None => {
+                if event.change != Change::Bookmark {
+                    notes.unread_event(alloc, scope, source)?;
+                }
+                Vec::new(alloc)
+            }
+        };
         self.stage = Stage::Watching(version);
         self.pace = self.pace.met();
         Ok(touched)
@@ -112,7 +120,7 @@ impl Feed {
             return Ok(Vec::new(alloc));
         }
         match event_in(event) {
-            Some(event) => self.take_event(alloc, scope.api, source, shelf, event),
+            Some(event) => self.take_event(alloc, scope, source, shelf, notes, event),
             None => {
                 notes.unread_event(alloc, scope, source)?;
                 Ok(Vec::new(alloc))

@@ -101,13 +101,22 @@ impl Driver {
         }
         self.was_synced = true;
         let counts = self.counts(alloc)?;
-        let counts = counts.as_str();
+        let (counts, scope) = (counts.as_str(), self.scope_words());
         let words = if self.options.dry_run {
             "; dry run: nothing is written"
         } else {
             ""
         };
-        self.tell(format!(in alloc; "watching {counts}{words}")?)
+        self.tell(format!(in alloc; "watching {counts}{scope}{words}")?)
+    }
+
+    // Which of the CronJobs are looked after, where not all are.
+    fn scope_words(&self) -> &'static str {
+        if self.options.only_annotated {
+            "; only CronJobs with the annotation cronsim/run=true are looked after"
+        } else {
+            ""
+        }
     }
 
     // What people are to know of lists and watches.

@@ -24,7 +24,7 @@ fn deed_line(alloc: Global, deed: Deed) -> Result<Option<String>, Refusal>
     match deed {
         Deed::Sends(_, id, _, request) => Ok(Some(line_text(alloc, id, request)?)),
         Deed::Reads(id, request) => Ok(Some(line_text(alloc, id, request)?)),
-        Deed::Begins(_) | Deed::Asks(_, _) | Deed::Hears(_, _) | Deed::Ends(_) => Ok(None),
+        Deed::Begins(_, _) | Deed::Asks(_, _) | Deed::Hears(_, _) | Deed::Ends(_) => Ok(None),
     }
 }
 

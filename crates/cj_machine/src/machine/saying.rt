@@ -168,6 +168,19 @@ pub(crate) fn say_unlisted(alloc: Global, driver: &mut Driver, task: &Task) -> R
     driver.tell(text)
 }
 
+/// Says that the list of the Jobs of a CronJob has one that can't be read.
+pub(crate) fn say_unread_list(
+    alloc: Global,
+    driver: &mut Driver,
+    task: &Task,
+) -> Result<(), Refusal> {
+    let name = task.name.as_str();
+    let text = format!(in alloc;
+        "cronjob {name}: can't read the API server's list of its Jobs; asking again later"
+    )?;
+    driver.tell(text)
+}
+
 // Whether a status is a refusal that people should know of.
 fn is_told(status: u64) -> bool {
     !matches!(status, 0 | 200 | 201 | 202 | 404 | 409 | 410 | 422)

@@ -2,7 +2,7 @@
 ghost use Rattle.std.specs.Prelude.{IfOk};
 ghost use Rattle.cj_control.specs.SentFor.{IsOfNoSync};
 
-use cj_base::{Refusal, Shared, Text};
+use cj_base::{Refusal, Shared, Text, TryCopy};
 use cj_control::{CronParts, Ledger, LineKind, Request, event_request, get_path, request_of};
 use cj_fence::{Answer, Call};
 use serde_json::Value;
@@ -67,12 +67,17 @@ pub(crate) fn hear(
     Ok(true)
 }
 
-/// A sync begins, where there is room; its number.
-pub(crate) fn begin(ledger: &mut Ledger) -> Result<Option<u64>, Refusal> {
-    if !ledger.has_room() {
+/// A sync of the CronJob begins, where there is room and none of it is under way; its number.
+pub(crate) fn begin(
+    ledger: &mut Ledger,
+    alloc: Global,
+    name: &Text,
+) -> Result<Option<u64>, Refusal> {
+    if !ledger.has_room() || !ledger.is_free(name) {
         return Ok(None);
     }
-    Ok(Some(ledger.begin()?))
+    let name = name.try_copy(alloc)?;
+    Ok(Some(ledger.begin(alloc, name)?))
 }
 
 /// A sync ends, if it is under way.

@@ -4,7 +4,9 @@ use crate::machine::driver::Driver;
 use crate::machine::finishing::{finish_key, settle};
 use crate::machine::others::take_listed;
 use crate::machine::reading::{found_job, parts_before, take_cron};
-use crate::machine::saying::{say_deleted, say_refused, say_started, say_unlisted};
+use crate::machine::saying::{
+    say_deleted, say_refused, say_started, say_unlisted, say_unread_list,
+};
 use crate::machine::steps;
 use crate::machine::task::{Again, Stage, Task};
 use crate::machine::walking::{Went, walk};
@@ -71,7 +73,7 @@ fn begin(
     task: Task,
 ) -> Result<(), Refusal> {
     let mut task = task;
-    match steps::begin(ledger) {
+    match steps::begin(ledger, alloc, &task.name) {
         Ok(Some(number)) => {
             task.number = number;
             go(ledger, driver, alloc, zones, task)
@@ -182,13 +184,15 @@ fn hear_list(
     body: Option<&Value>,
 ) -> Result<bool, Refusal> {
     task.stage = Stage::Reading;
-    match body {
-        Some(value) if task.status == 200 => take_listed(alloc, task, value),
-        _ => {
-            say_unlisted(alloc, driver, task)?;
-            Ok(false)
-        }
+    let Some(value) = body.filter(|_| task.status == 200) else {
+        say_unlisted(alloc, driver, task)?;
+        return Ok(false);
+    };
+    let is_read = take_listed(alloc, task, value)?;
+    if !is_read {
+        say_unread_list(alloc, driver, task)?;
     }
+    Ok(is_read)
 }
 
 // A sync hears an answer, and goes on.
