@@ -158,7 +158,7 @@ module _ (o : ℕ → List Own) (s t : Syncs) (i : Named o s.rows) where
       -- one that was there is of another CronJob
       other : (q z : ℕ) (f g : FencedSync) → (q == y) ≡ true → map.get t.rows q ≡ Some f
           → map.get s.rows z ≡ Some g → f.name ≡ g.name → ⊥
-      other q z f g e is has same = b.free z g has (sym same
+      other q z f g e is has same = b.free.none z g has (sym same
           ∙ ap (λ (x : FencedSync). x.name) (some_is f (fresh n) (map.get t.rows q) is (at q true e)))
 
       alone : AreAlone t.rows

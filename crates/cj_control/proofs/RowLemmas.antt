@@ -83,14 +83,15 @@ module _ (m : BTreeMap ℕ FencedSync) (sorted : tree.IsOrdered nat_cmp m) (n : 
   IsOther f = f.name ≡ n → ⊥
 
   pub free_there : All IsOther (tree.values m) → IsFree n (map.from_entries m.entries)
-  free_there a y f is =
-      subst (λ (o : Option FencedSync). IfSome o IsOther) (sym (found_row m.entries y) ∙ is)
-      (IfSome-lookup_from_All IsOther (is_at (nat_cmp y)) m.entries a)
+  free_there a = record {
+    none = λ y f is. subst (λ (o : Option FencedSync). IfSome o IsOther) (sym (found_row m.entries y) ∙ is)
+        (IfSome-lookup_from_All IsOther (is_at (nat_cmp y)) m.entries a);
+  }
 
   pub free_back : IsFree n (map.from_entries m.entries) → All IsOther (tree.values m)
   free_back free = All-map IsOther (λ e. e.1) m.entries
       (All-weaker (Contains m.entries) (λ e. IsOther e.1) each m.entries (All-contains_itself m.entries))
     where
       each : (e : ℕ × FencedSync) → Contains m.entries e → IsOther e.1
-      each (k, f) there = free k f (found_row m.entries k
+      each (k, f) there = free.none k f (found_row m.entries k
           ∙ (btree_map_get_iff nat_cmp_total exact_unsigned m sorted k f).1 there)

@@ -68,8 +68,8 @@ pub record HasRoom (s : Syncs) : Type 0 where
 
 -- none under way is of that CronJob
 -- rule: control-one-sync
-abbrev pub IsFree : List ℕ → Rows → Type 0
-IsFree n m = (y : ℕ) (sync : FencedSync) → get m y ≡ Some sync → sync.name ≡ n → ⊥
+pub record IsFree (n : List ℕ) (m : Rows) : Type 0 where
+  pub none : (y : ℕ) (sync : FencedSync) → get m y ≡ Some sync → sync.name ≡ n → ⊥
 
 -- the next one begins, where there is a worker for it and none of its CronJob is under way
 -- rule: control-one-sync
