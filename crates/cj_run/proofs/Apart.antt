@@ -37,12 +37,12 @@ use Rattle.cj_worker.specs.Zoned.{zone_for}
 use Rattle.cj_history.specs.progress.Every.{IsNew, looked_upto}
 use Rattle.cj_history.specs.progress.Apart.{Holds, IsFree, ClaimsOnTime, Spares, KeepsApart, KeepApart, IsClock, HaveSynced}
 use Rattle.cj_history.proofs.ProgressLemmas.Makers.{Good, earlier}
-use Rattle.cj_history.proofs.ProgressLemmas.Since.{fresh_new}
+use Rattle.cj_history.proofs.ProgressLemmas.Since.{fresh_new, every_time_since}
 use Rattle.cj_history.proofs.ProgressLemmas.Apart.{syncs_go_on}
 use Rattle.cj_history.proofs.ProgressLemmas.Spared.{is_users, no_user, cron_spared, job_spared}
 use Rattle.cj_script.specs.simulation.Spans.{SpanView, instant}
 use Rattle.cj_run.specs.Runs.{IsRun}
-use Rattle.cj_run.specs.Syncs.{moment, HasFreeName, IsUntroubled, AreUntroubled, RunSyncs}
+use Rattle.cj_run.specs.Syncs.{moment, HasFreeName, IsUntroubled, AreUntroubled, AreSyncs, RunSyncs}
 use Rattle.cj_run.specs.Turns.{are_timely, begins, edits, ends, is_before, is_moment, is_timely, is_within, progress, progress_after, progress_of, turn}
 use Rattle.cj_run.specs.Upkeep.{ComesToRest, KeepsUp, is_over_with}
 use Rattle.cj_run.specs.Zones.{AreZoned, HasZone}
@@ -278,7 +278,8 @@ module _ (window : ℕ) (s : SpanView) (zones : ZoneTable) (k : Place) (cron : C
           free : Holds h k e.caller → ⊥
           free g =
               let number : e.caller.number ≡ c.number =
-              one_holder window h good.legal.2 e.caller.number c.number _ _ g.sync f.sync refl in
+              one_holder window h good.legal.2 e.caller.number c.number (record { key = k; phase = g.phase })
+              (record { key = k; phase = f.phase }) g.sync f.sync refl in
               not (ap (λ (n : ℕ). record { number = n; role = e.caller.role }) number
               ∙ ap (λ (r : Role). record { number = c.number; role = r }) (g.role ∙ sym f.role))
 
@@ -286,8 +287,10 @@ module _ (window : ℕ) (s : SpanView) (zones : ZoneTable) (k : Place) (cron : C
           at (inl d) = y.drops d free t
           at (inr d) =
               job_spared window h e k good
-              (no_user_then window s e h good.legal timely rests c.number _ f.sync) free t
-              (no_runner_then window s e h good.legal timely rests c.number _ f.sync) d
+              (no_user_then window s e h good.legal timely rests c.number (record { key = k; phase = f.phase })
+              f.sync) free t
+              (no_runner_then window s e h good.legal timely rests c.number (record { key = k; phase = f.phase })
+              f.sync) d
 
   -- So does each.
   keep_apart : (more start : List Told) → Good window (more ++ start) → are_timely s (more ++ start) ≡ true
@@ -368,8 +371,13 @@ run_syncs c workers w text start more k cron s z run is short new created zone c
     let over : IsFree k g = λ n f.
     cc (sym f.sync ∙ none_off window c.span g good.legal timely rests
     (sym (ap (λ (h : List Told). (progress_of c.span h).on) is) ∙ run.time.over) n.number) in
-    subst (λ (h : List Told). HaveSynced window k cron z (moment c.span h) start h) (sym is)
-    (syncs_go_on window start more k cron s z (moment c.span) good.short good.legal good.planned fresh.begun free over
+    let syncs : HaveSynced window k cron z (moment c.span g) start g =
+    syncs_go_on window start more k cron s z (moment c.span) good.short good.legal good.planned fresh.begun free over
     (is_clock c.span) low
     (keep_apart window c.span c.zones k cron z zone more start good timely rests
-    (subst (AreZoned c.zones) is run.zones) calm))
+    (subst (AreZoned c.zones) is run.zones) calm) in
+    subst (λ (h : List Told). AreSyncs window k cron s z (moment c.span h) start h) (sym is) (record {
+      are = syncs;
+      made = every_time_since window start g k cron s z syncs.moments good.short good.legal good.planned new syncs.on
+          syncs.synced;
+    })

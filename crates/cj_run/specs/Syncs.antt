@@ -17,7 +17,7 @@ use Rattle.cj_state.specs.Legal.{state_of}
 use Rattle.cj_world_laws.specs.once.Once.{is_ok}
 use Rattle.cj_world.specs.Worlds.{WorldLog}
 use Rattle.cj_worker.specs.Zoned.{zone_for}
-use Rattle.cj_history.specs.progress.Every.{name_of, IsNew}
+use Rattle.cj_history.specs.progress.Every.{name_of, made_for, AreLatest, IsNew}
 use Rattle.cj_history.specs.progress.Apart.{Holds, EndsWell, Spares, HaveSynced}
 use Rattle.cj_script.specs.simulation.Spans.{SpanView, instant}
 use Rattle.cj_script.specs.declared.simulation.scenario.Simulation.{Simulation}
@@ -53,9 +53,18 @@ AreUntroubled window k [] start = Unit {0}
 AreUntroubled window k (e ∷ es) start = IsUntroubled window k (es ++ start) e
     × AreUntroubled window k es start
 
--- in a run, from the creation of a CronJob on, by then, whose zone the scenario's table has, there
--- were whole syncs of it and nothing else that wrote it, if no entry troubles it; as long as there
--- are uids
+-- from a history to another there were whole syncs of the CronJob, up to the moment, and the Jobs
+-- that were made for it are one for the greatest due time of each interval between those moments at
+-- which its policy let one start, and no others
+-- rule: run-syncs
+pub record AreSyncs (window : ℕ) (k : Place) (cron : CronJob) (s : Sets) (z : Zone) (now : ℕ)
+    (start g : List Told) : Type 0 where
+  pub are : HaveSynced window k cron z now start g
+  pub made : AreLatest s z cron are.moments (made_for window cron.meta.uid g)
+
+-- in a run there were, from the creation of a CronJob on to the last instant: if its zone is the one
+-- of the scenario's table, it was created by the moment of an instant, and no entry troubles it; as
+-- long as there are uids
 -- rule: run-syncs
 abbrev pub RunSyncs : Type 0
 RunSyncs = (c : Simulation) (workers : ℕ) (w : WorldLog) (text : List ℕ) (start more : List Told)
@@ -63,4 +72,4 @@ RunSyncs = (c : Simulation) (workers : ℕ) (w : WorldLog) (text : List ℕ) (st
     → IsRun c workers w text → w.history ≡ more ++ start → length w.history ≤ last_uid
     → IsNew start k cron s → cron.meta.created ≤ moment c.span start
     → zone_for c.zones (Some cron) ≡ Some z → AreUntroubled w.limits.window k more start
-    → HaveSynced w.limits.window k cron z (moment c.span w.history) start w.history
+    → AreSyncs w.limits.window k cron s z (moment c.span w.history) start w.history

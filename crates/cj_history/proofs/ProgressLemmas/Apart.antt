@@ -80,6 +80,11 @@ is_caller w c = by (w == c.number) refl c.role refl
     by false n role r = inr (λ e.
         cc (sym n ∙ ap (λ (x : Caller). w == x.number) e ∙ same_nat w))
 
+-- the key of a sync, if there is one, or another
+abbrev key_in : Place → Option InFlight → Place
+key_in other None = other
+key_in other (Some x) = x.key
+
 -- What an entry leaves of a worker's sync: a key that was taken by it, or is still held.
 pub came : (o : Option InFlight) (call : Call) (a : Result Reply Refusal) (y : InFlight) → sync_after o call a ≡ Some y
     → ((x : InFlight) × (o ≡ Some x) × (x.key ≡ y.key)) ⊎ ((call ≡ Of.Take) × (a ≡ Ok (Is.Key y.key)))
@@ -89,23 +94,23 @@ came o call (Ok r) y at = by o call r at
     by : (p : Option InFlight) (c : Call) (r : Reply) → accepted p c r ≡ Some y
         → ((x : InFlight) × (p ≡ Some x) × (x.key ≡ y.key))
         ⊎ ((c ≡ Of.Take) × (◌≡◌ {A = Result Reply Refusal} (Ok r) (Ok (Is.Key y.key))))
-    by p Of.Take (Is.Key k) f = inr (refl, ap (λ (q : Place). Ok (Is.Key q)) (cc f))
+    by p Of.Take (Is.Key k) f = inr (refl, ap (λ (o : Option InFlight). Ok (Is.Key (key_in y.key o))) f)
     by None Of.SeeCron (Is.SeenCron c) f = absurd (cc f)
-    by (Some x) Of.SeeCron (Is.SeenCron c) f = inl (x, refl, cc f)
+    by (Some x) Of.SeeCron (Is.SeenCron c) f = inl (x, refl, ap (key_in y.key) f)
     by None Of.SeeJobs (Is.SeenJobs js) f = absurd (cc f)
-    by (Some x) Of.SeeJobs (Is.SeenJobs js) f = inl (x, refl, cc f)
+    by (Some x) Of.SeeJobs (Is.SeenJobs js) f = inl (x, refl, ap (key_in y.key) f)
     by None Of.SeeActive (Is.SeenActive ks) f = absurd (cc f)
-    by (Some x) Of.SeeActive (Is.SeenActive ks) f = inl (x, refl, cc f)
+    by (Some x) Of.SeeActive (Is.SeenActive ks) f = inl (x, refl, ap (key_in y.key) f)
     by None (Of.Claim plan) (Is.Claimed None) f = absurd (cc f)
-    by (Some x) (Of.Claim plan) (Is.Claimed None) f = inl (x, refl, cc f)
+    by (Some x) (Of.Claim plan) (Is.Claimed None) f = inl (x, refl, ap (key_in y.key) f)
     by None (Of.Claim plan) (Is.Claimed (Some c)) f = absurd (cc f)
-    by (Some x) (Of.Claim plan) (Is.Claimed (Some c)) f = inl (x, refl, cc f)
+    by (Some x) (Of.Claim plan) (Is.Claimed (Some c)) f = inl (x, refl, ap (key_in y.key) f)
     by None Of.DropNext (Is.Dropped d) f = absurd (cc f)
-    by (Some x) Of.DropNext (Is.Dropped d) f = inl (x, refl, cc f)
+    by (Some x) Of.DropNext (Is.Dropped d) f = inl (x, refl, ap (key_in y.key) f)
     by None Of.MakeNext (Is.Job j) f = absurd (cc f)
-    by (Some x) Of.MakeNext (Is.Job j) f = inl (x, refl, cc f)
+    by (Some x) Of.MakeNext (Is.Job j) f = inl (x, refl, ap (key_in y.key) f)
     by None Of.SetStatus (Is.Version v) f = absurd (cc f)
-    by (Some x) Of.SetStatus (Is.Version v) f = inl (x, refl, cc f)
+    by (Some x) Of.SetStatus (Is.Version v) f = inl (x, refl, ap (key_in y.key) f)
     by p (Of.Finish end rs) Is.Done f = absurd (cc f)
     by p c r f = inl (y, f, refl)
 

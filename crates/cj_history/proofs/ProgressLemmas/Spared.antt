@@ -52,7 +52,7 @@ use Rattle.cj_world_laws.proofs.LegalLemmas.Inputs.{rests_exactly}
 use Rattle.cj_world_laws.specs.once.Once.{claim_of, makes as makes_of}
 use Rattle.cj_world_laws.proofs.OnceLemmas.Facts.{SyncFact}
 use Rattle.cj_world_laws.proofs.OnceLemmas.Lists.{in_all_makes}
-use Rattle.cj_history.specs.store.Written.{current_cron, current_job, status_set, job_deleted, job_ended}
+use Rattle.cj_history.specs.store.Written.{current_cron, current_job, new_meta, written_again, status_set, job_deleted, job_ended}
 use Rattle.cj_history.specs.store.Writes.{claimed, stepped, stepped_in, stepped_by, written_by, entry_written, writes}
 use Rattle.cj_history.specs.progress.Undisturbed.{worker, object_of, is_of}
 use Rattle.cj_history.specs.progress.Apart.{Holds, Spares}
@@ -79,16 +79,18 @@ digit_none n = by (nat_lt (n % 10) 10)
     by true e = omega (arith, e)
     by false e = omega (arith, e)
 
+-- Where each of two texts has none, the one of them has none.
+either : (ys zs : List ℕ) (b : Bool) → HasNone ys → HasNone zs → HasNone (if b then ys else zs)
+either ys zs true f g = f
+either ys zs false f g = g
+
 -- Digits that are put before a text without a hyphen have none.
 digits_none : (k n : ℕ) (xs : List ℕ) → HasNone xs → HasNone (digits_onto k 10 false n xs)
 digits_none zero n xs a = a
 digits_none (suc k) n xs a =
     let d = digit_glyph false (n % 10) in
-    either (n / 10 == 0) (digit_none n, a) (digits_none k (n / 10) (d ∷ xs) (digit_none n, a))
-  where
-    either : {ys zs : List ℕ} → (b : Bool) → HasNone ys → HasNone zs → HasNone (if b then ys else zs)
-    either true f g = f
-    either false f g = g
+    either (d ∷ xs) (digits_onto k 10 false (n / 10) (d ∷ xs)) (n / 10 == 0) (digit_none n, a)
+    (digits_none k (n / 10) (d ∷ xs) (digit_none n, a))
 
 -- The decimal of a number has none.
 decimal_none : (n : ℕ) → HasNone (decimal n)
@@ -240,8 +242,9 @@ module _ (ws : List Event) (k : Place) (q : Option Place) where
       where
         by : (o : Option Job) → current_job ws r.key ≡ o → AreSpared (option_map (job_deleted ws) o)
         by None e = tt
-        by (Some j) e = job_off _ (subst (IsOff q) (sym (job_keyed ws r.key j e)) f)
-    step_spared p (Some (makes d)) f = job_off _ f
+        by (Some j) e = job_off (record j { meta = written_again ws j.meta }) (subst (IsOff q) (sym (job_keyed ws r.key j e)) f)
+    step_spared p (Some (makes d)) f =
+        job_off (record { key = d.key; meta = new_meta ws d.meta p.at; owners = d.owners; spec = d.spec; outcome = None }) f
     step_spared p (Some (sets st)) f = status_spared st
 
 
@@ -287,6 +290,8 @@ module _ (ws : List Event) (k : Place) (q : Option Place) where
   call_spared o Of.DropNext (Is.Dropped (Some d)) f u e = sync_spared o (f refl)
   call_spared o Of.MakeNext r f u e = sync_spared o (f refl)
   call_spared o Of.SetStatus r f u e = sync_spared o (f refl)
+  call_spared o (Of.Claim p) r f u e = tt
+  call_spared o Of.DropNext r f u e = tt
   call_spared o call r f u e = tt
 
 -- ---- the plan that is worked off
@@ -295,6 +300,16 @@ module _ (ws : List Event) (k : Place) (q : Option Place) where
 pub record IsPlanOf (k : Place) (p : Planned) : Type 0 where
   pub decided : IsDecided p
   pub key : (c : CronJob) → p.cron ≡ Some c → c.key ≡ k
+
+-- the phase of a sync, if there is one
+abbrev phase_of : Option InFlight → Option Phase
+phase_of None = None
+phase_of (Some x) = Some x.phase
+
+-- the plan that is worked off in a phase, or another
+abbrev plan_in : Planned → Phase → Planned
+plan_in other (Works work) = work.plan
+plan_in other p = other
 
 -- For worked: it is so with one entry more.
 module _ (window : ℕ) (e : Told) (h : List Told) (good : Good window (e ∷ h))
@@ -312,23 +327,23 @@ module _ (window : ℕ) (e : Told) (h : List Told) (good : Good window (e ∷ h)
       (subst (SyncFact a.home (state_of window h).store (makes_of window h) (claim_of window h w) x.key) p fact).seen.key
 
   by_move : (x : InFlight) → sync h w ≡ Some x → Moves x.key x.phase e.call (sync (e ∷ h) w) → IsPlanOf k work.plan
-  by_move x was (sees c p call o) = absurd (cc (sym at ∙ o))
-  by_move x was (lists c js p call o) = absurd (cc (sym at ∙ o))
-  by_move x was (checks c js ks p call o) = absurd (cc (sym at ∙ o))
+  by_move x was (sees c p call o) = absurd (cc (ap phase_of (sym at ∙ o)))
+  by_move x was (lists c js p call o) = absurd (cc (ap phase_of (sym at ∙ o)))
+  by_move x was (checks c js ks p call o) = absurd (cc (ap phase_of (sym at ∙ o)))
   by_move x was (ends other reasons p n call o) = absurd (cc (sym at ∙ o))
   by_move x was (gives_up now reasons call o) = absurd (cc (sym at ∙ o))
   by_move x was (goes_on other n p is call o) =
       let now : in_flight x.key (Works (record { plan = other.plan; version = other.version; place = other.place + 1 }))
       ≡ in_flight k (Works work) = cc (sym o ∙ at) in
       let key : x.key ≡ k = ap (λ (y : InFlight). y.key) now in
-      let plan : other.plan ≡ work.plan = cc now in
+      let plan : other.plan ≡ work.plan = ap (λ (y : InFlight). plan_in work.plan y.phase) now in
       let here = before w x.key other (was ∙ ap (λ (r : Phase). Some (in_flight x.key r)) p) in
       subst (IsPlanOf k) plan (subst (λ (i : Place). IsPlanOf i other.plan) key here)
   by_move x was (starts c js ks plan v p call rests o) =
       let now : in_flight x.key (Works (record { plan = plan; version = v; place = 0 }))
       ≡ in_flight k (Works work) = cc (sym o ∙ at) in
       let key : x.key ≡ k = ap (λ (y : InFlight). y.key) now in
-      let same : plan ≡ work.plan = cc now in
+      let same : plan ≡ work.plan = ap (λ (y : InFlight). plan_in work.plan y.phase) now in
       let three = (rests_exactly plan c js ks).0 rests in
       subst (IsPlanOf k) same (record {
         decided = subst IsPlanned call good.planned.0;
@@ -340,9 +355,9 @@ module _ (window : ℕ) (e : Told) (h : List Told) (good : Good window (e ∷ h)
   none_works : ((x : InFlight) × (None ≡ Some x) × (x.key ≡ k)) ⊎ ((e.call ≡ Of.Take) × (e.answer ≡ Ok (Is.Key k)))
       → sync_after None e.call e.answer ≡ Some (in_flight k (Works work)) → IsPlanOf k work.plan
   none_works (inl (x, f, g)) after = absurd (cc f)
-  none_works (inr (f, g)) after = absurd (cc (
+  none_works (inr (f, g)) after = absurd (cc (ap phase_of (
       ap (λ (a : Result Reply Refusal). sync_after None Of.Take a) (sym g)
-      ∙ ap (λ (c : Call). sync_after None c e.answer) (sym f) ∙ after))
+      ∙ ap (λ (c : Call). sync_after None c e.answer) (sym f) ∙ after)))
 
   -- The sync of the entry's number, after it.
   own_sync : (w == e.caller.number) ≡ true → sync (e ∷ h) w ≡ sync_after (sync h w) e.call e.answer
@@ -385,39 +400,42 @@ worked window [] good w k work at = absurd (cc at)
 worked window (e ∷ h) good w k work at =
     by_number window e h good (worked window h (earlier window (e ∷ []) h good)) w k work at (w == e.caller.number) refl
 
--- The Job that is made next has a name that is made for the CronJob whose key is held.
-made_for_own : (k : Place) (p : Planned) (place : ℕ) (d : JobDraft) → IsPlanOf k p
-    → step_at p.steps place ≡ Some (makes d)
-    → (t : ℕ) × (d.key ≡ made_place k t)
+-- What stands at a place of a list is in it.
+stands_in_it : (xs : List Step) (i : ℕ) (x : Step) → slice_get xs i ≡ Some x → IsIn x xs
+stands_in_it [] zero x f = absurd (cc f)
+stands_in_it [] (suc i) x f = absurd (cc f)
+stands_in_it (y ∷ ys) zero x f = inl (cc f)
+stands_in_it (y ∷ ys) (suc i) x f = inr (stands_in_it ys i x f)
+
+-- A making that is next is of the draft that the plan makes.
+made_next : (p : Planned) (place : ℕ) (d : JobDraft) → step_at p.steps place ≡ Some (makes d) → p.steps.make ≡ Some d
 unfolding step_at
-made_for_own k p place d plan is = by_cron p.cron refl
+made_next p place d is = in_all_makes p.steps d (stands_in_it (all_steps p.steps) place (makes d) is)
+
+-- the key of a draft, if there is one, or another
+abbrev key_or : Place → Option JobDraft → Place
+key_or other None = other
+key_or other (Some d) = d.key
+
+-- The Job that is made next has a name that is made for the CronJob whose key is held.
+made_for_own : (k : Place) (p : Planned) (d : JobDraft) → IsPlanOf k p → p.steps.make ≡ Some d
+    → (t : ℕ) × (d.key ≡ made_place k t)
+made_for_own k p d plan made = by_cron p.cron refl
   where
-    at : (xs : List Step) (i : ℕ) (x : Step) → slice_get xs i ≡ Some x → IsIn x xs
-    at [] zero x f = absurd (cc f)
-    at [] (suc i) x f = absurd (cc f)
-    at (y ∷ ys) zero x f = inl (cc f)
-    at (y ∷ ys) (suc i) x f = inr (at ys i x f)
-
-    made : p.steps.make ≡ Some d
-    made = in_all_makes p.steps d (at (all_steps p.steps) place (makes d) is)
-
-    by_claim : (c : CronJob) → p.cron ≡ Some c → (o : Option Claim) → p.steps.claim ≡ o → (t : ℕ) × (d.key ≡ made_place k t)
+    by_claim : (c : CronJob) → p.cron ≡ Some c → (o : Option Claim) → p.steps.claim ≡ o
+        → (t : ℕ) × (d.key ≡ made_place k t)
     by_claim c seen None none =
         absurd (cc (sym made
         ∙ (no_claim (Some c) p.jobs p.active p.at p.zone p.steps (plan_of p c plan.decided seen) none).make))
     by_claim c seen (Some y) claim =
-        let start : Starting p c y = starting p c y plan.decided seen claim in
-        let key : d.key ≡ made_place c.key y.time =
-        ap (λ (o : Option JobDraft). unwrap_key o) (sym made ∙ start.make) in
-        (y.time, key ∙ ap (λ (j : Place). made_place j y.time) (plan.key c seen))
-      where
-        unwrap_key : Option JobDraft → Place
-        unwrap_key None = k
-        unwrap_key (Some x) = x.key
+        let start : Starting p c y = starting p c y plan.decided seen claim in (
+          y.time,
+          ap (key_or k) (sym made ∙ start.make) ∙ ap (λ (j : Place). made_place j y.time) (plan.key c seen),
+        )
 
     by_cron : (o : Option CronJob) → p.cron ≡ o → (t : ℕ) × (d.key ≡ made_place k t)
     by_cron None seen =
-        let clear = subst (FitsFor p) seen (decided_fits p plan.decided) in
+        let clear : FitsFor p None = subst (FitsFor p) seen (decided_fits p plan.decided) in
         absurd (cc (sym made ∙ clear.makes))
     by_cron (Some c) seen = by_claim c seen p.steps.claim refl
 
@@ -510,7 +528,7 @@ module _ (window : ℕ) (h : List Told) (e : Told) (k : Place) (good : Good wind
         let at_works : sync h e.caller.number ≡ Some (in_flight x.key (Works work)) =
         was ∙ ap (λ (y : Phase). Some (in_flight x.key y)) p in
         let plan = worked window h (earlier window (e ∷ []) h good) e.caller.number x.key work at_works in
-        let name = made_for_own x.key work.plan work.place d plan is in
+        let name = made_for_own x.key work.plan d plan (made_next work.plan work.place d is) in
         let off = made_apart x.key d.key name.0 (key_off x role was) name.1 in
         call_spared (writes h) k q (Some x) e.call r
         (λ i. (key_off x role was, subst (λ (y : Phase). IfSome (next_of y) (IsStepOff q)) (sym p)
@@ -541,9 +559,9 @@ module _ (window : ℕ) (h : List Told) (e : Told) (k : Place) (good : Good wind
         caller_is e.caller.number e.caller (same_nat e.caller.number) (is_worker (ap is_ok f) i) in
         by_sync r f own (sync h e.caller.number) refl
     by_role r f false i =
-        call_spared (writes h) k q (sync h e.caller.number) e.call r (λ t. absurd (cc (sym t ∙ i)))
+        call_spared (writes h) k q (sync h e.caller.number) e.call r (λ j. absurd (cc (sym j ∙ i)))
         (no_user window e h good.legal user (ap is_ok f))
-        (λ t. absurd (cc (sym t ∙ no_runner window e h good.legal runner (ap is_ok f))))
+        (λ j. absurd (cc (sym j ∙ no_runner window e h good.legal runner (ap is_ok f))))
 
     -- It spares a Job of a name that is made for the CronJob.
     pub job_spared : Spares h e k q
