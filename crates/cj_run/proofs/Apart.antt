@@ -1,7 +1,7 @@
 -- In a run nobody but workers and the informer calls while a key is held, so that a CronJob is left
 -- to its syncs.
 use Rattle.std.proofs.Common.{◌≡◌, ◌≢◌, ◌⊎◌, inl, inr, ◌∙◌, ◌+◌, ◌-◌, ◌*◌, ◌≤◌, ◌==◌, ◌&&◌, ◌||◌, ℕ, zero, suc, Bool, true, false, List, [], ◌∷◌, ◌++◌, length, Option, Some, None, unwrap_or, refl, sym, ap, subst, arith}
-use Rattle.std.specs.Prelude.{All, IfSome, Result, Ok, Err, if◌then◌else◌}
+use Rattle.std.specs.Prelude.{All, Result, Ok, Err, if◌then◌else◌}
 use Rattle.std.specs.FinMap as map
 use Rattle.std.specs.Ordering.{nat_cmp}
 use Rattle.std.proofs.lemmas.Bool.{eqb-true, false≢true}
@@ -13,7 +13,6 @@ use Rattle.cj_types.specs.Uids.{last_uid}
 use Rattle.cj_types.specs.declared.cron.CronJob.{CronJob}
 use Rattle.cj_types.specs.declared.cron.CronJobDraft.{CronJobDraft}
 use Rattle.cj_types.specs.declared.cron.CronSpec.{CronSpec}
-use Rattle.cj_schedule.specs.Matches.{Sets}
 use Rattle.cj_zone.specs.declared.table.ZoneTable.{ZoneTable}
 use Rattle.cj_zone.specs.declared.zone.Zone.{Zone}
 use Rattle.cj_decide.specs.Decision.{Planned}
@@ -32,18 +31,16 @@ use Rattle.cj_world_laws.specs.legal.Rest.{IsAtRest}
 use Rattle.cj_world_laws.specs.once.Once.{is_ok}
 use Rattle.cj_world_laws.proofs.LegalLemmas.Callers.{idle}
 use Rattle.cj_world_laws.proofs.LegalLemmas.HeldSyncs.{syncs_agree, one_holder}
-use Rattle.cj_world.specs.Worlds.{WorldLog}
 use Rattle.cj_worker.specs.Zoned.{zone_for}
-use Rattle.cj_history.specs.progress.Every.{IsNew, looked_upto}
+use Rattle.cj_history.specs.progress.Every.{looked_upto}
 use Rattle.cj_history.specs.progress.Apart.{Holds, IsFree, ClaimsOnTime, Spares, KeepsApart, KeepApart, IsClock, HaveSynced}
 use Rattle.cj_history.proofs.ProgressLemmas.Makers.{Good, earlier}
 use Rattle.cj_history.proofs.ProgressLemmas.Since.{fresh_new, every_time_since}
 use Rattle.cj_history.proofs.ProgressLemmas.Apart.{syncs_go_on}
 use Rattle.cj_history.proofs.ProgressLemmas.Spared.{is_users, no_user, cron_spared, job_spared}
 use Rattle.cj_script.specs.simulation.Spans.{SpanView, instant}
-use Rattle.cj_run.specs.Runs.{IsRun}
 use Rattle.cj_run.specs.Syncs.{moment, HasFreeName, IsUntroubled, AreUntroubled, AreSyncs, RunSyncs}
-use Rattle.cj_run.specs.Turns.{are_timely, begins, edits, ends, is_before, is_moment, is_timely, is_within, progress, progress_after, progress_of, turn}
+use Rattle.cj_run.specs.Turns.{are_timely, begins, edits, ends, is_before, is_moment, is_timely, is_within, progress, progress_of, turn}
 use Rattle.cj_run.specs.Upkeep.{ComesToRest, KeepsUp, is_over_with}
 use Rattle.cj_run.specs.Zones.{AreZoned, HasZone}
 use Rattle.cj_run.specs.declared.turns.Progress.{Progress}
@@ -339,6 +336,7 @@ timely_front : (s : SpanView) (more h : List Told) → are_timely s (more ++ h) 
 timely_front s [] h t = t
 timely_front s (e ∷ more) h t = timely_front s more h (both_left (are_timely s (more ++ h)) _ t)
 
+-- Who comes to rest did so all along.
 rests_back : (window : ℕ) (s : SpanView) (more h : List Told) → ComesToRest window s (more ++ h)
     → ComesToRest window s h
 rests_back window s [] h r = r

@@ -8,7 +8,6 @@ use Rattle.cj_base.specs.declared.refusal.Refusal.{Refusal}
 use Rattle.cj_types.specs.Keys.{Place}
 use Rattle.cj_types.specs.Made.{made_place}
 use Rattle.cj_types.specs.declared.cron.CronJob.{CronJob}
-use Rattle.cj_types.specs.declared.cron.CronSpec.{CronSpec}
 use Rattle.cj_types.specs.declared.job.Job.{Job}
 use Rattle.cj_types.specs.declared.job.JobDraft.{JobDraft}
 use Rattle.cj_types.specs.declared.event.Event.{Event}
@@ -31,7 +30,7 @@ use Rattle.cj_calls.specs.declared.caller.Role.{Role}
 use Rattle.cj_calls.specs.declared.caller.Role.TheVariants.{User, Runner, Informer, Worker}
 use Rattle.cj_calls.specs.declared.call.Call.{Call}
 use Rattle.cj_calls.specs.declared.call.Call.TheVariants as Of
-use Rattle.cj_calls.specs.declared.end.End.TheVariants.{Again, Well}
+use Rattle.cj_calls.specs.declared.end.End.TheVariants.{Well}
 use Rattle.cj_calls.specs.declared.reply.Reply.{Reply}
 use Rattle.cj_calls.specs.declared.reply.Reply.TheVariants as Is
 use Rattle.cj_state.proofs.PhasesLemmas.Places.{steps_left}
@@ -41,17 +40,16 @@ use Rattle.cj_state.specs.declared.phases.sync.Work.{Work}
 use Rattle.cj_state.specs.declared.phases.sync.Phase.{Phase}
 use Rattle.cj_state.specs.declared.phases.sync.Phase.TheVariants.{Held, Seen, Listed, Checked, Works}
 use Rattle.cj_state.specs.declared.phases.sync.InFlight.{InFlight}
-use Rattle.cj_state.specs.WorkerCalls.{sync_of, works, further}
+use Rattle.cj_state.specs.WorkerCalls.{works, further}
 use Rattle.cj_state.specs.Step.{step_of}
-use Rattle.cj_state.specs.Legal.{IsLegal, IsPlanned, ArePlanned, state_of}
+use Rattle.cj_state.specs.Legal.{IsLegal, IsPlanned, state_of}
 use Rattle.cj_world_laws.specs.legal.InFlightSyncs.{accepted, sync, sync_after}
-use Rattle.cj_world_laws.specs.once.Once.{is_ok}
 use Rattle.cj_world_laws.proofs.LegalLemmas.HeldSyncs.{syncs_agree, one_holder}
 use Rattle.cj_world_laws.proofs.LegalLemmas.Inputs.{rests_exactly}
 use Rattle.cj_history.specs.store.Writes.{entry_written, writes}
 use Rattle.cj_history.specs.progress.Undisturbed.{worker, object_of, is_of, AreAside, entry}
 use Rattle.cj_history.specs.progress.Syncs.{call_of, calls_left, readings, works_off, IsReady, IsFor, IsLet}
-use Rattle.cj_history.specs.progress.Every.{Moment, lets, forbids, instant_of, IsSaid, Led, name_of, IsSync, AreOthers, Synced, looked_upto, last_moment, GoOn, IsBegun}
+use Rattle.cj_history.specs.progress.Every.{Moment, lets, forbids, instant_of, IsSaid, Led, name_of, IsSync, Synced, looked_upto, last_moment, GoOn, IsBegun}
 use Rattle.cj_history.specs.progress.Apart.{Holds, IsFree, EndsWell, IsOnTime, ClaimsOnTime, Spares, KeepsApart, KeepApart, IsClock, HaveSynced, SyncsGoOn}
 use Rattle.cj_history.proofs.StoreLemmas.Stores.{store_agrees}
 use Rattle.cj_history.proofs.StoreLemmas.Answered.{cron_keyed}

@@ -3,16 +3,16 @@ use Rattle.std.proofs.Common.{◌≡◌, ℕ, Bool, true, false, List, ◌∷◌
 use Rattle.std.specs.Prelude.{Result, Ok, Err, if◌then◌else◌}
 use Rattle.std.specs.FinMap as map
 use Rattle.cj_base.specs.declared.refusal.Refusal.{Refusal}
-use Rattle.cj_base.specs.declared.refusal.Refusal.TheVariants.{Empty, ShutDown, Stale}
+use Rattle.cj_base.specs.declared.refusal.Refusal.TheVariants.{Stale}
 use Rattle.cj_types.specs.Keys.{Place}
 use Rattle.cj_types.specs.Events.{version_of}
 use Rattle.cj_types.specs.declared.cron.CronJob.{CronJob}
 use Rattle.cj_types.specs.declared.job.Job.{Job}
 use Rattle.cj_types.specs.declared.event.Event.{Event}
 use Rattle.cj_types.specs.declared.policy.Reason.{Reason}
-use Rattle.cj_store.specs.Change.{map_ok, cron_modified, job_added, job_gone}
+use Rattle.cj_store.specs.Change.{map_ok, cron_modified, job_added}
 use Rattle.cj_store.specs.Crons.{status_set}
-use Rattle.cj_store.specs.Jobs.{job_made, job_deleted}
+use Rattle.cj_store.specs.Jobs.{job_made}
 use Rattle.cj_queue.specs.Queue.{Queue, first, finished_ok, finished_retry}
 use Rattle.cj_decide.specs.Decision.{Planned}
 use Rattle.cj_decide.specs.declared.start.Claim.{Claim}

@@ -1,12 +1,9 @@
 -- What others than users write, beside a CronJob whose key they don't hold: neither it, nor a Job of
 -- a name that is made for it, unless they drop one.
-use Rattle.std.proofs.Common.{◌≡◌, ◌≢◌, ◌⊎◌, inl, inr, ℕ, zero, suc, ◌+◌, ◌<◌, ◌/◌, ◌%◌, ◌==◌, nat_lt, Bool, true, false, cond, List, [], ◌∷◌, ◌++◌, Option, Some, None, option_map, decimal, refl, sym, ap, subst, ◌∙◌, arith}
+use Rattle.std.proofs.Common.{◌≡◌, ◌≢◌, ◌⊎◌, inl, inr, ℕ, zero, suc, ◌+◌, ◌/◌, ◌%◌, ◌==◌, nat_lt, Bool, true, false, List, [], ◌∷◌, ◌++◌, Option, Some, None, option_map, decimal, refl, sym, ap, subst, ◌∙◌, arith}
 use Rattle.std.specs.Prelude.{IfSome, Result, Ok, Err, if◌then◌else◌}
 use Rattle.std.specs.Fmt.{digit_glyph, digits, digits_onto}
 use Rattle.std.specs.List.{AllByRecursion, slice_get}
-use Rattle.std.specs.FinMap as map
-use Rattle.std.proofs.lemmas.Bool.{eqb-true}
-use Rattle.std.proofs.lemmas.Bool.Decides.{nat_tests}
 use Rattle.cj_base.specs.declared.refusal.Refusal.{Refusal}
 use Rattle.cj_types.specs.Keys.{Place}
 use Rattle.cj_types.specs.Made.{made_place}
@@ -16,10 +13,8 @@ use Rattle.cj_types.specs.declared.job.Job.{Job}
 use Rattle.cj_types.specs.declared.job.JobDraft.{JobDraft}
 use Rattle.cj_types.specs.declared.event.Event.{Event}
 use Rattle.cj_types.specs.declared.event.Object.TheVariants as Kind
-use Rattle.cj_types.specs.declared.policy.Reason.{Reason}
 use Rattle.cj_queue.specs.Parts.{key_eq}
 use Rattle.cj_queue.proofs.Sets.{eq_true, eq_self}
-use Rattle.cj_status.specs.declared.refs.JobRef.{JobRef}
 use Rattle.cj_decide.specs.Decision.{Planned, IsDecided}
 use Rattle.cj_decide.specs.declared.start.Claim.{Claim}
 use Rattle.cj_decide.specs.laws.Fits.{FitsFor}
@@ -34,11 +29,10 @@ use Rattle.cj_calls.specs.declared.call.Call.{Call}
 use Rattle.cj_calls.specs.declared.call.Call.TheVariants as Of
 use Rattle.cj_calls.specs.declared.reply.Reply.{Reply}
 use Rattle.cj_calls.specs.declared.reply.Reply.TheVariants as Is
-use Rattle.cj_state.specs.phases.Inputs.{rests_on}
 use Rattle.cj_state.specs.phases.Steps.{Step, drops, makes, sets, step_at, all_steps}
 use Rattle.cj_state.specs.declared.phases.sync.Work.{Work}
 use Rattle.cj_state.specs.declared.phases.sync.Phase.{Phase}
-use Rattle.cj_state.specs.declared.phases.sync.Phase.TheVariants.{Held, Seen, Listed, Checked, Works}
+use Rattle.cj_state.specs.declared.phases.sync.Phase.TheVariants.{Checked, Works}
 use Rattle.cj_state.specs.declared.phases.sync.InFlight.{InFlight}
 use Rattle.cj_state.specs.declared.state.State.{State}
 use Rattle.cj_state.specs.Step.{by_role, step_of}
@@ -184,6 +178,7 @@ unfolding step_of
 no_user window e h l n ok =
     users_alone (state_of window h) e.caller.role e.caller.number e.call n (ap is_ok (sym l.0) ∙ ok)
 
+-- And of the end of a Job.
 pub no_runner : (window : ℕ) (e : Told) (h : List Told) → IsLegal window (e ∷ h) → e.caller.role ≢ Runner
     → is_ok e.answer ≡ true → is_end e.call ≡ false
 unfolding step_of
@@ -381,14 +376,14 @@ module _ (window : ℕ) (e : Told) (h : List Told) (good : Good window (e ∷ h)
   others n not =
       before w k work (sym (own_sync n ∙ (idle window e h good.legal not).syncs (sync h w)) ∙ at)
 
-  by_role : (w == e.caller.number) ≡ true → (r : Role) → e.caller.role ≡ r → IsPlanOf k work.plan
-  by_role n Worker f = by_answer n (caller_is w e.caller n f) e.answer refl
-  by_role n User f = others n (λ g. cc (sym f ∙ g))
-  by_role n Runner f = others n (λ g. cc (sym f ∙ g))
-  by_role n Informer f = others n (λ g. cc (sym f ∙ g))
+  by_caller : (w == e.caller.number) ≡ true → (r : Role) → e.caller.role ≡ r → IsPlanOf k work.plan
+  by_caller n Worker f = by_answer n (caller_is w e.caller n f) e.answer refl
+  by_caller n User f = others n (λ g. cc (sym f ∙ g))
+  by_caller n Runner f = others n (λ g. cc (sym f ∙ g))
+  by_caller n Informer f = others n (λ g. cc (sym f ∙ g))
 
   by_number : (b : Bool) → (w == e.caller.number) ≡ b → IsPlanOf k work.plan
-  by_number true n = by_role n e.caller.role refl
+  by_number true n = by_caller n e.caller.role refl
   by_number false n =
       before w k work
       (sym (ap (λ (b : Bool). if b then sync_after (sync h w) e.call e.answer else sync h w) n) ∙ at)
@@ -504,27 +499,27 @@ module _ (window : ℕ) (h : List Told) (e : Told) (k : Place) (good : Good wind
             absurd (cc (sym f ∙ ap (λ (j : Place). key_eq j k) same ∙ eq_self k))
 
     -- By what a sync's own call is, its next step isn't of the Job.
-    by_move : (r : Reply) → e.answer ≡ Ok r → (x : InFlight) → e.caller.role ≡ Worker
+    move_spared : (r : Reply) → e.answer ≡ Ok r → (x : InFlight) → e.caller.role ≡ Worker
         → sync h e.caller.number ≡ Some x
         → Moves x.key x.phase e.call (sync (e ∷ h) e.caller.number)
         → AreSpared (writes h) k q (written_by (writes h) (Some x) e.call r)
-    by_move r f x role was (gives_up now reasons call o) =
+    move_spared r f x role was (gives_up now reasons call o) =
         subst (λ (c : Call). AreSpared (writes h) k q (written_by (writes h) (Some x) c r)) (sym call) tt
-    by_move r f x role was (sees c p call o) =
+    move_spared r f x role was (sees c p call o) =
         subst (λ (c : Call). AreSpared (writes h) k q (written_by (writes h) (Some x) c r)) (sym call) tt
-    by_move r f x role was (lists c js p call o) =
+    move_spared r f x role was (lists c js p call o) =
         subst (λ (c : Call). AreSpared (writes h) k q (written_by (writes h) (Some x) c r)) (sym call) tt
-    by_move r f x role was (checks c js ks p call o) =
+    move_spared r f x role was (checks c js ks p call o) =
         subst (λ (c : Call). AreSpared (writes h) k q (written_by (writes h) (Some x) c r)) (sym call) tt
-    by_move r f x role was (ends work reasons p n call o) =
+    move_spared r f x role was (ends work reasons p n call o) =
         subst (λ (c : Call). AreSpared (writes h) k q (written_by (writes h) (Some x) c r)) (sym call) tt
-    by_move r f x role was (starts c js ks plan v p call rests o) =
+    move_spared r f x role was (starts c js ks plan v p call rests o) =
         call_spared (writes h) k q (Some x) e.call r
         (λ i. (key_off x role was, subst (λ (y : Phase). IfSome (next_of y) (IsStepOff q)) (sym p) tt))
         (no_user window e h good.legal user (ap is_ok f))
         (λ i. absurd (cc (sym i ∙ ap is_end call)))
-    by_move r f x role was (goes_on work (drops d) p is call o) = absurd (drop call)
-    by_move r f x role was (goes_on work (makes d) p is call o) =
+    move_spared r f x role was (goes_on work (drops d) p is call o) = absurd (drop call)
+    move_spared r f x role was (goes_on work (makes d) p is call o) =
         let at_works : sync h e.caller.number ≡ Some (in_flight x.key (Works work)) =
         was ∙ ap (λ (y : Phase). Some (in_flight x.key y)) p in
         let plan = worked window h (earlier window (e ∷ []) h good) e.caller.number x.key work at_works in
@@ -535,30 +530,30 @@ module _ (window : ℕ) (h : List Told) (e : Told) (k : Place) (good : Good wind
         (subst (λ (n : Option Step). IfSome n (IsStepOff q)) (sym is) off)))
         (no_user window e h good.legal user (ap is_ok f))
         (λ i. absurd (cc (sym i ∙ ap is_end call)))
-    by_move r f x role was (goes_on work (sets st) p is call o) =
+    move_spared r f x role was (goes_on work (sets st) p is call o) =
         call_spared (writes h) k q (Some x) e.call r
         (λ i. (key_off x role was, subst (λ (y : Phase). IfSome (next_of y) (IsStepOff q)) (sym p)
         (subst (λ (n : Option Step). IfSome n (IsStepOff q)) (sym is) tt)))
         (no_user window e h good.legal user (ap is_ok f))
         (λ i. absurd (cc (sym i ∙ ap is_end call)))
 
-    by_sync : (r : Reply) → e.answer ≡ Ok r → e.caller ≡ worker e.caller.number → (o : Option InFlight)
+    own_spared : (r : Reply) → e.answer ≡ Ok r → e.caller ≡ worker e.caller.number → (o : Option InFlight)
         → sync h e.caller.number ≡ o
         → AreSpared (writes h) k q (written_by (writes h) o e.call r)
-    by_sync r f own None was =
+    own_spared r f own None was =
         call_spared (writes h) k q None e.call r (λ i. tt) (no_user window e h good.legal user (ap is_ok f))
         (λ i. absurd (cc (sym i ∙ no_runner window e h good.legal runner (ap is_ok f))))
-    by_sync r f own (Some x) was =
-        by_move r f x (ap (λ (c : Caller). c.role) own) was
+    own_spared r f own (Some x) was =
+        move_spared r f x (ap (λ (c : Caller). c.role) own) was
         (moves window h e e.caller.number x.key x.phase good.legal own was (ap is_ok f))
 
-    by_role : (r : Reply) → e.answer ≡ Ok r → (b : Bool) → is_of_sync e.call ≡ b
+    called_spared : (r : Reply) → e.answer ≡ Ok r → (b : Bool) → is_of_sync e.call ≡ b
         → AreSpared (writes h) k q (written_by (writes h) (sync h e.caller.number) e.call r)
-    by_role r f true i =
+    called_spared r f true i =
         let own : e.caller ≡ worker e.caller.number =
         caller_is e.caller.number e.caller (same_nat e.caller.number) (is_worker (ap is_ok f) i) in
-        by_sync r f own (sync h e.caller.number) refl
-    by_role r f false i =
+        own_spared r f own (sync h e.caller.number) refl
+    called_spared r f false i =
         call_spared (writes h) k q (sync h e.caller.number) e.call r (λ j. absurd (cc (sym j ∙ i)))
         (no_user window e h good.legal user (ap is_ok f))
         (λ j. absurd (cc (sym j ∙ no_runner window e h good.legal runner (ap is_ok f))))
@@ -571,4 +566,4 @@ module _ (window : ℕ) (h : List Told) (e : Told) (k : Place) (good : Good wind
             → IfSome (entry_written (writes h) (sync h e.caller.number) e.call a)
             (λ x. is_of k (Some (made_place k t)) (object_of x) ≡ false)
         by (Err x) f = tt
-        by (Ok r) f = by_role r f (is_of_sync e.call) refl
+        by (Ok r) f = called_spared r f (is_of_sync e.call) refl
