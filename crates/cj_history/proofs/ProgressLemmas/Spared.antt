@@ -242,7 +242,6 @@ module _ (ws : List Event) (k : Place) (q : Option Place) where
         job_off (record { key = d.key; meta = new_meta ws d.meta p.at; owners = d.owners; spec = d.spec; outcome = None }) f
     step_spared p (Some (sets st)) f = status_spared st
 
-
   -- A claim of another key spares them.
   claim_spared : (o : Option InFlight) (y : Option Claim) → IsSyncOff k q o → AreSpared (claimed ws o y)
   claim_spared None y f = tt
@@ -526,14 +525,20 @@ module _ (window : ℕ) (h : List Told) (e : Told) (k : Place) (good : Good wind
         let name = made_for_own x.key work.plan d plan (made_next work.plan work.place d is) in
         let off = made_apart x.key d.key name.0 (key_off x role was) name.1 in
         call_spared (writes h) k q (Some x) e.call r
-        (λ i. (key_off x role was, subst (λ (y : Phase). IfSome (next_of y) (IsStepOff q)) (sym p)
-        (subst (λ (n : Option Step). IfSome n (IsStepOff q)) (sym is) off)))
+        (λ i. (
+          key_off x role was,
+          subst (λ (y : Phase). IfSome (next_of y) (IsStepOff q)) (sym p)
+              (subst (λ (n : Option Step). IfSome n (IsStepOff q)) (sym is) off),
+        ))
         (no_user window e h good.legal user (ap is_ok f))
         (λ i. absurd (cc (sym i ∙ ap is_end call)))
     move_spared r f x role was (goes_on work (sets st) p is call o) =
         call_spared (writes h) k q (Some x) e.call r
-        (λ i. (key_off x role was, subst (λ (y : Phase). IfSome (next_of y) (IsStepOff q)) (sym p)
-        (subst (λ (n : Option Step). IfSome n (IsStepOff q)) (sym is) tt)))
+        (λ i. (
+          key_off x role was,
+          subst (λ (y : Phase). IfSome (next_of y) (IsStepOff q)) (sym p)
+              (subst (λ (n : Option Step). IfSome n (IsStepOff q)) (sym is) tt),
+        ))
         (no_user window e h good.legal user (ap is_ok f))
         (λ i. absurd (cc (sym i ∙ ap is_end call)))
 
