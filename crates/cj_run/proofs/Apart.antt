@@ -98,7 +98,7 @@ unmoved window e h l why n = by (n == e.caller.number) why
     by : (b : Bool) → (e.caller.role ≢ Worker) ⊎ (is_ok e.answer ≡ false)
         → (if b then sync_after (sync h n) e.call e.answer else sync h n) ≡ sync h n
     by true (inl not) = (idle window e h l not).syncs (sync h n)
-    by true (inr no) = refused e.answer refl no
+    by true (inr off) = refused e.answer refl off
     by false w = refl
 
 -- Between two instants an entry is of one who is no worker, or is refused.
@@ -208,7 +208,8 @@ at_moment s e h plan timely role call =
     subst (λ (c : Call). is_timely s p Worker c e.answer ≡ true) call
     (subst (λ (r : Role). is_timely s p r e.call e.answer ≡ true) role timely) in
     let within : is_moment s (p.begun - 1) (plan.at * 1000) ≡ true = by p.on t in
-    let same = eqb-true (instant s (p.begun - 1) * 1000) (plan.at * 1000) (both_right _ _ within) in
+    let same : instant s (p.begun - 1) * 1000 ≡ plan.at * 1000 =
+    eqb-true (instant s (p.begun - 1) * 1000) (plan.at * 1000) (both_right _ _ within) in
     omega (arith, same)
   where
     by : (on : Bool) → ((on && is_moment s ((progress_of s h).begun - 1) (plan.at * 1000)) || false) ≡ true
