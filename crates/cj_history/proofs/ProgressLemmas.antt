@@ -28,3 +28,6 @@ pub mod Runs
 pub mod HourSample
 pub mod EverySample
 pub mod ForbidSample
+pub mod Moves
+pub mod Apart
+pub mod Spared

@@ -2,3 +2,4 @@ pub mod Kept
 pub mod Undisturbed
 pub mod Syncs
 pub mod Every
+pub mod Apart

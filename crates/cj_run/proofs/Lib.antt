@@ -8,3 +8,4 @@ pub mod Zoned
 pub mod Noted
 pub mod Reported
 pub mod Went
+pub mod Apart

@@ -13,3 +13,4 @@ pub mod Zones
 pub mod Upkeep
 pub mod Readings
 pub mod Runs
+pub mod Syncs

@@ -16,6 +16,7 @@ mod clock;
 mod drive;
 mod ends;
 mod error;
+mod laws;
 mod made;
 mod meter;
 mod participants;
@@ -29,6 +30,7 @@ mod validation;
 mod work;
 mod zones;
 
+pub use laws::run_syncs_law;
 pub use meter::Meter;
 pub use run::{Ran, run_simulation};
 pub use turns::Progress;

@@ -1,5 +1,5 @@
 -- Before its creation nothing was made for a CronJob.
-use Rattle.std.proofs.Common.{◌≡◌, ℕ, ◌+◌, ◌≤◌, ◌==◌, Bool, true, false, cond, List, [], ◌∷◌, ◌++◌, Option, Some, is_some, refl, sym, ap, subst, ◌∙◌, arith}
+use Rattle.std.proofs.Common.{◌≡◌, ℕ, ◌+◌, ◌≤◌, ◌==◌, Bool, true, false, cond, List, [], ◌∷◌, ◌++◌, Option, Some, None, is_some, refl, sym, ap, subst, ◌∙◌, arith}
 use Rattle.std.specs.Prelude.{Ok, Err, IfSome, if◌then◌else◌}
 use Rattle.std.specs.List.{AllByRecursion}
 use Rattle.std.specs.FinMap as map
@@ -90,6 +90,7 @@ synced_begun window k z start (m ∷ ms) g good (before, after, es, rest, sync, 
 pub record Fresh (window : ℕ) (h : List Told) (k : Place) (cron : CronJob) (s : Sets) : Type 0 where
   pub begun : IsBegun window h k cron s
   pub none : made_for window cron.meta.uid h ≡ []
+  pub last : cron.status.last_schedule_time ≡ None
 
 -- It does.
 fresh : (window : ℕ) (h : List Told) (k : Place) (cron : CronJob) (s : Sets) (n : IsNew h k cron s)
@@ -117,14 +118,21 @@ fresh window h k cron s n good =
             (sym (ap (λ (c : CronJob). c.status.last_schedule_time) m.0)) tt;
       };
       none = none;
+      last = ap (λ (x : CronJob). x.status.last_schedule_time) m.0;
     }
+
+-- The same of a history that begins with the creation.
+pub fresh_new : (window : ℕ) (start : List Told) (k : Place) (cron : CronJob) (s : Sets) → Good window start
+    → IsNew start k cron s → Fresh window start k cron s
+fresh_new window start k cron s good n =
+    subst (λ (h : List Told). Fresh window h k cron s) (sym n.is)
+    (fresh window start k cron s n (subst (Good window) n.is good))
 
 -- In a history that begins with the creation, it holds after that.
 pub fresh_in : (window : ℕ) (start g : List Told) (k : Place) (cron : CronJob) (s : Sets) (z : Zone) (ms : List Moment)
     → Good window g → IsNew start k cron s → Synced window k z start ms g → Fresh window start k cron s
 fresh_in window start g k cron s z ms good n y =
-    subst (λ (h : List Told). Fresh window h k cron s) (sym n.is)
-    (fresh window start k cron s n (subst (Good window) n.is (synced_begun window k z start ms g good y)))
+    fresh_new window start k cron s (synced_begun window k z start ms g good y) n
 
 -- For every_time_law: from the creation on they are all Jobs that are made for the CronJob.
 pub every_time_since : EveryTimeSince

@@ -1,3 +1,4 @@
+ghost use Rattle.cj_history.specs.progress.Apart.{SyncsGoOn};
 ghost use Rattle.cj_history.specs.progress.Every.{EachDueTime, EachEnded, EachMinute, EveryTime};
 ghost use Rattle.cj_history.specs.progress.Every.{EveryTimeSince, ForbiddenHoldsBack, LetsAlways};
 ghost use Rattle.cj_history.specs.progress.Kept.{NoKeyIsLost};
@@ -56,4 +57,15 @@ pub fn every_time_law()
     ensures each { EachDueTime }
     ensures minutely { EachMinute }
     ensures ended { EachEnded }
+{}
+
+/// A CronJob stands and nobody holds its key. From then on no call of a worker that holds it is
+/// refused, no sync of it is tried again, and each tells the reasons of its plan. Each plan that is
+/// claimed for it is of the moment that a clock tells, which doesn't go back, and of one zone, and
+/// finds the name of its Job free. Nobody else writes the CronJob, nor, while somebody holds its
+/// key, a Job of a name that is made for it. Then, when nobody holds the key in the end, there were
+/// whole syncs of it that nobody disturbed, at moments none of which is before the one before it or
+/// after the clock's last, and nothing else wrote the CronJob.
+pub fn syncs_law()
+    ensures { SyncsGoOn }
 {}

@@ -1,0 +1,76 @@
+-- That a run keeps up with a CronJob to the end: its syncs are whole ones that nobody disturbs, one
+-- after the other, so that the Jobs that are made for it are known (cj_history, Every).
+use Rattle.std.specs.Prelude.{◌≡◌, ℕ, ◌-◌, ◌≤◌, true, List, [], ◌∷◌, ◌++◌, length, Some, None, IfSome}
+use Rattle.std.specs.FinMap as map
+use Rattle.cj_types.specs.Keys.{Place}
+use Rattle.cj_types.specs.Made.{made_place}
+use Rattle.cj_types.specs.Uids.{last_uid}
+use Rattle.cj_types.specs.declared.cron.CronJob.{CronJob}
+use Rattle.cj_schedule.specs.Matches.{Sets}
+use Rattle.cj_zone.specs.declared.zone.Zone.{Zone}
+use Rattle.cj_store.specs.Content.{Content}
+use Rattle.cj_calls.specs.Rows.{Told}
+use Rattle.cj_calls.specs.declared.call.Call.{Call}
+use Rattle.cj_calls.specs.declared.call.Call.TheVariants as Of
+use Rattle.cj_calls.specs.declared.caller.Role.TheVariants.{User}
+use Rattle.cj_state.specs.Legal.{state_of}
+use Rattle.cj_world_laws.specs.once.Once.{is_ok}
+use Rattle.cj_world.specs.Worlds.{WorldLog}
+use Rattle.cj_worker.specs.Zoned.{zone_for}
+use Rattle.cj_history.specs.progress.Every.{name_of, made_for, AreLatest, IsNew}
+use Rattle.cj_history.specs.progress.Apart.{Holds, EndsWell, Spares, HaveSynced}
+use Rattle.cj_script.specs.simulation.Spans.{SpanView, instant}
+use Rattle.cj_script.specs.declared.simulation.scenario.Simulation.{Simulation}
+use Rattle.cj_run.specs.Runs.{IsRun}
+use Rattle.cj_run.specs.Turns.{turn}
+
+-- the moment of the last instant that began, if one did
+abbrev pub moment : SpanView → List Told → ℕ
+moment s h = instant s (turn s h - 1)
+
+-- a plan that is claimed makes a Job whose name isn't taken, or none
+-- rule: run-syncs
+abbrev pub HasFreeName : Content → Call → Type 0
+HasFreeName s (Of.Claim plan) = IfSome (name_of plan) (λ q. map.get s.jobs q ≡ None)
+HasFreeName s call = Unit {0}
+
+-- the entry after the history doesn't trouble the CronJob at the key: no call of a worker that
+-- holds the key is refused, its sync isn't to be tried again, and tells the plan's reasons; its
+-- Job's name isn't taken; the user doesn't write the CronJob, and the sync of another deletes no
+-- Job of a name that is made for it
+-- rule: run-syncs
+pub record IsUntroubled (window : ℕ) (k : Place) (h : List Told) (e : Told) : Type 0 where
+  pub accepted : Holds h k e.caller → is_ok e.answer ≡ true
+  pub ends : (y : Holds h k e.caller) → EndsWell e.call y.phase
+  pub free : Holds h k e.caller → HasFreeName (state_of window h).store e.call
+  pub edits : e.caller.role ≡ User → Spares h e k None
+  pub drops : e.call ≡ Of.DropNext → (Holds h k e.caller → ⊥) → (t : ℕ)
+      → Spares h e k (Some (made_place k t))
+
+-- nor does each of these entries after the history
+-- rule: run-syncs
+abbrev pub AreUntroubled : ℕ → Place → List Told → List Told → Type 0
+AreUntroubled window k [] start = Unit {0}
+AreUntroubled window k (e ∷ es) start = IsUntroubled window k (es ++ start) e
+    × AreUntroubled window k es start
+
+-- from a history to another there were whole syncs of the CronJob, up to the moment, and the Jobs
+-- that were made for it are one for the greatest due time of each interval between those moments at
+-- which its policy let one start, and no others
+-- rule: run-syncs
+pub record AreSyncs (window : ℕ) (k : Place) (cron : CronJob) (s : Sets) (z : Zone) (now : ℕ)
+    (start g : List Told) : Type 0 where
+  pub are : HaveSynced window k cron z now start g
+  pub made : AreLatest s z cron are.moments (made_for window cron.meta.uid g)
+
+-- in a run there were, from the creation of a CronJob on to the last instant: if its zone is the
+-- one of the scenario's table, it was created by the moment of an instant, and no entry troubles
+-- it; as long as there are uids
+-- rule: run-syncs
+abbrev pub RunSyncs : Type 0
+RunSyncs = (c : Simulation) (workers : ℕ) (w : WorldLog) (text : List ℕ) (start more : List Told)
+    (k : Place) (cron : CronJob) (s : Sets) (z : Zone)
+    → IsRun c workers w text → w.history ≡ more ++ start → length w.history ≤ last_uid
+    → IsNew start k cron s → cron.meta.created ≤ moment c.span start
+    → zone_for c.zones (Some cron) ≡ Some z → AreUntroubled w.limits.window k more start
+    → AreSyncs w.limits.window k cron s z (moment c.span w.history) start w.history
