@@ -1,7 +1,7 @@
 -- In a run nobody but workers and the informer calls while a key is held, so that a CronJob is left
 -- to its syncs.
 use Rattle.std.proofs.Common.{◌≡◌, ◌≢◌, ◌⊎◌, inl, inr, ◌∙◌, ◌+◌, ◌-◌, ◌*◌, ◌≤◌, ◌==◌, ◌&&◌, ◌||◌, ℕ, zero, suc, Bool, true, false, List, [], ◌∷◌, ◌++◌, length, Option, Some, None, unwrap_or, refl, sym, ap, subst, arith}
-use Rattle.std.specs.Prelude.{All, Result, Ok, Err, if◌then◌else◌}
+use Rattle.std.specs.Prelude.{Result, Ok, Err, if◌then◌else◌}
 use Rattle.std.specs.FinMap as map
 use Rattle.std.specs.Ordering.{nat_cmp}
 use Rattle.std.proofs.lemmas.Bool.{eqb-true, false≢true}
@@ -162,7 +162,8 @@ none_off window s [] l timely rests off n = refl
 none_off window s (e ∷ h) l timely rests off n =
     off_more window s e h l (both_right (are_timely s h) _ timely) rests
     (none_off window s h l.2 (both_left (are_timely s h) _ timely) (rests_front window s e h rests))
-    (progress_of s h).on (begins s (progress_of s h) e.caller.role e.call) (ends e.caller.role e.call) refl refl refl off n
+    (progress_of s h).on (begins s (progress_of s h) e.caller.role e.call) (ends e.caller.role e.call) refl refl refl
+    off n
 
 -- e is an entry after h of a run that comes to rest; somebody has a sync.
 module _ (window : ℕ) (s : SpanView) (e : Told) (h : List Told) (l : IsLegal window (e ∷ h))

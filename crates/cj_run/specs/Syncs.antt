@@ -34,17 +34,18 @@ abbrev pub HasFreeName : Content → Call → Type 0
 HasFreeName s (Of.Claim plan) = IfSome (name_of plan) (λ q. map.get s.jobs q ≡ None)
 HasFreeName s call = Unit {0}
 
--- the entry after the history doesn't trouble the CronJob at the key: no call of a worker that holds
--- the key is refused, its sync isn't to be tried again, and tells the plan's reasons; its Job's name
--- isn't taken; the user doesn't write the CronJob, and the sync of another deletes no Job of a name
--- that is made for it
+-- the entry after the history doesn't trouble the CronJob at the key: no call of a worker that
+-- holds the key is refused, its sync isn't to be tried again, and tells the plan's reasons; its
+-- Job's name isn't taken; the user doesn't write the CronJob, and the sync of another deletes no
+-- Job of a name that is made for it
 -- rule: run-syncs
 pub record IsUntroubled (window : ℕ) (k : Place) (h : List Told) (e : Told) : Type 0 where
   pub accepted : Holds h k e.caller → is_ok e.answer ≡ true
   pub ends : (y : Holds h k e.caller) → EndsWell e.call y.phase
   pub free : Holds h k e.caller → HasFreeName (state_of window h).store e.call
   pub edits : e.caller.role ≡ User → Spares h e k None
-  pub drops : e.call ≡ Of.DropNext → (Holds h k e.caller → ⊥) → (t : ℕ) → Spares h e k (Some (made_place k t))
+  pub drops : e.call ≡ Of.DropNext → (Holds h k e.caller → ⊥) → (t : ℕ)
+      → Spares h e k (Some (made_place k t))
 
 -- nor does each of these entries after the history
 -- rule: run-syncs
@@ -62,9 +63,9 @@ pub record AreSyncs (window : ℕ) (k : Place) (cron : CronJob) (s : Sets) (z : 
   pub are : HaveSynced window k cron z now start g
   pub made : AreLatest s z cron are.moments (made_for window cron.meta.uid g)
 
--- in a run there were, from the creation of a CronJob on to the last instant: if its zone is the one
--- of the scenario's table, it was created by the moment of an instant, and no entry troubles it; as
--- long as there are uids
+-- in a run there were, from the creation of a CronJob on to the last instant: if its zone is the
+-- one of the scenario's table, it was created by the moment of an instant, and no entry troubles
+-- it; as long as there are uids
 -- rule: run-syncs
 abbrev pub RunSyncs : Type 0
 RunSyncs = (c : Simulation) (workers : ℕ) (w : WorldLog) (text : List ℕ) (start more : List Told)

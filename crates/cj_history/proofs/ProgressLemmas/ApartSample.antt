@@ -32,7 +32,7 @@ use Rattle.cj_history.specs.store.Writes.{entry_written, writes}
 use Rattle.cj_history.specs.progress.Undisturbed.{worker, entry, Leads, object_of, is_of}
 use Rattle.cj_history.specs.progress.Syncs.{calls_left, readings, works_off, IsFor}
 use Rattle.cj_history.specs.progress.Every.{name_of}
-use Rattle.cj_history.specs.progress.Apart.{Holds, EndsWell, IsOnTime, ClaimsOnTime, KeepsApart, KeepApart}
+use Rattle.cj_history.specs.progress.Apart.{EndsWell, IsOnTime, ClaimsOnTime, KeepsApart, KeepApart}
 use Rattle.cj_history.proofs.StoreLemmas.Sample.{a, told, created, new}
 use Rattle.cj_history.proofs.ProgressLemmas.Calls.{in_flight}
 use Rattle.cj_history.proofs.ProgressLemmas.Aside.{ok_entered}
