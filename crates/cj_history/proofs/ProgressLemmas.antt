@@ -31,3 +31,4 @@ pub mod ForbidSample
 pub mod Moves
 pub mod Apart
 pub mod Spared
+pub mod ApartSample

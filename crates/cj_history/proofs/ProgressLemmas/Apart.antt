@@ -434,7 +434,8 @@ module _ (window : ℕ) (start : List Told) (k : Place) (cron : CronJob) (s : Se
       claims : e.caller ≡ worker w → (c : Option CronJob) (js : List Job) (ks : List (Option Job)) (plan : Planned)
           (v : ℕ)
           → p ≡ Checked c js ks → e.call ≡ Of.Claim plan → rests_on plan c js ks ≡ true
-          → sync (e ∷ h) w ≡ Some (in_flight k (works plan v 0)) → IsOnTime cron z (clock h) (state_of window h).store plan
+          → sync (e ∷ h) w ≡ Some (in_flight k (works plan v 0))
+          → IsOnTime cron z (clock h) (state_of window h).store plan
           → Going (e ∷ h)
       claims by c js ks plan v phase call rests sits time =
           let now : Good window (x.others ++ x.since) = subst (Good window) x.is old in
@@ -456,7 +457,8 @@ module _ (window : ℕ) (start : List Told) (k : Place) (cron : CronJob) (s : Se
           ∙ ap (λ (r : Phase). Some (in_flight k r)) (phase ∙ same) in
           let seen : plan.cron ≡ Some y.seen =
           sym (ap seen_in (sym read.sync ∙ (syncs_agree window x.since here.legal w ∙ rests_then))) in
-          let has : Has window k cron y.before = has_synced window start k cron s z b y.moments y.before y.good y.synced in
+          let has : Has window k cron y.before =
+          has_synced window start k cron s z b y.moments y.before y.good y.synced in
           let stood : has.now ≡ y.seen = cc (sym has.stands ∙ y.ready.stands) in
           let spec : y.seen.spec ≡ cron.spec = ap (λ (j : CronJob). j.spec) (sym stood) ∙ has.same.spec in
           let key : y.seen.key ≡ k =
@@ -621,8 +623,8 @@ module _ (window : ℕ) (start : List Told) (k : Place) (cron : CronJob) (s : Se
       working_own by f in_work (ends other reasons phase is call sits) =
           let same : other ≡ work = cc (sym phase) in
           let well : reasons ≡ p.steps.reasons =
-          subst (EndsWell (Of.Finish Well reasons)) in_work (subst (λ (c : Call). EndsWell c f.phase) call (keeps.ends f))
-          in
+          subst (EndsWell (Of.Finish Well reasons)) in_work
+          (subst (λ (c : Call). EndsWell c f.phase) call (keeps.ends f)) in
           ends_it by (subst (λ (j : Work). step_at j.plan.steps j.place ≡ None) same is)
           (call ∙ ap (λ (rs : List Reason). Of.Finish Well rs) well) sits
       working_own by f in_work (gives_up now reasons call sits) =

@@ -52,15 +52,19 @@ module _ (d : CronJobDraft) (runs : d.spec.suspend ≡ false) (s : Sets) (reads 
         → IsStarted (state_of 3 g).store a (new d 1 1) time
 
   -- the history after the readings
-  abbrev seen : List Told
+  abbrev pub seen : List Told
   seen = after.seen 3 5 a (new d 1 1) (ready d) (legal_ready d) (is_ready d) runs s reads
+
+  -- It is legal.
+  pub legal_seen : IsLegal 3 seen
+  legal_seen = (after.after_readings 3 5 a (new d 1 1) (ready d) (legal_ready d) (is_ready d) runs s reads).0
 
   -- No Job stands.
   none_stands : (q : Place) → map.get (state_of 3 seen).store.jobs q ≡ None
   none_stands q = after.same_jobs 3 5 a (new d 1 1) (ready d) (legal_ready d) (is_ready d) runs s reads q
 
   -- No name is taken.
-  all_free : (o : Option Place) → IfSome o (λ q. map.get (state_of 3 seen).store.jobs q ≡ None)
+  pub all_free : (o : Option Place) → IfSome o (λ q. map.get (state_of 3 seen).store.jobs q ≡ None)
   all_free None = tt
   all_free (Some q) = none_stands q
 

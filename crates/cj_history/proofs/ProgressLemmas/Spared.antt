@@ -237,9 +237,11 @@ module _ (ws : List Event) (k : Place) (q : Option Place) where
       where
         by : (o : Option Job) → current_job ws r.key ≡ o → AreSpared (option_map (job_deleted ws) o)
         by None e = tt
-        by (Some j) e = job_off (record j { meta = written_again ws j.meta }) (subst (IsOff q) (sym (job_keyed ws r.key j e)) f)
+        by (Some j) e =
+            job_off (record j { meta = written_again ws j.meta }) (subst (IsOff q) (sym (job_keyed ws r.key j e)) f)
     step_spared p (Some (makes d)) f =
-        job_off (record { key = d.key; meta = new_meta ws d.meta p.at; owners = d.owners; spec = d.spec; outcome = None }) f
+        job_off
+        (record { key = d.key; meta = new_meta ws d.meta p.at; owners = d.owners; spec = d.spec; outcome = None }) f
     step_spared p (Some (sets st)) f = status_spared st
 
   -- A claim of another key spares them.
@@ -318,7 +320,8 @@ module _ (window : ℕ) (e : Told) (h : List Told) (good : Good window (e ∷ h)
   seen_key x was d js ks p =
       let a = facts window h old in
       let fact = a.now.inv.facts w x (syncs_agree window h old.legal w ∙ was) in
-      (subst (SyncFact a.home (state_of window h).store (makes_of window h) (claim_of window h w) x.key) p fact).seen.key
+      (subst (SyncFact a.home (state_of window h).store (makes_of window h) (claim_of window h w) x.key) p
+      fact).seen.key
 
   by_move : (x : InFlight) → sync h w ≡ Some x → Moves x.key x.phase e.call (sync (e ∷ h) w) → IsPlanOf k work.plan
   by_move x was (sees c p call o) = absurd (cc (ap phase_of (sym at ∙ o)))

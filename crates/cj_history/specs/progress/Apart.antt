@@ -81,7 +81,8 @@ pub record KeepsApart (window : ℕ) (k : Place) (cron : CronJob) (z : Zone) (no
   pub ends : (y : Holds h k e.caller) → EndsWell e.call y.phase
   pub claims : Holds h k e.caller → ClaimsOnTime cron z now (state_of window h).store e.call
   pub alone : (Holds h k e.caller → ⊥) → Spares h e k None
-  pub aside : (c : Caller) → Holds h k c → e.caller ≢ c → (t : ℕ) → Spares h e k (Some (made_place k t))
+  pub aside : (c : Caller) → Holds h k c → e.caller ≢ c → (t : ℕ)
+      → Spares h e k (Some (made_place k t))
 
 -- so does each of these entries after the history, by a clock that tells a moment for each history
 -- rule: syncs-go-on
@@ -112,7 +113,8 @@ pub record HaveSynced (window : ℕ) (k : Place) (cron : CronJob) (z : Zone) (no
 abbrev pub SyncsGoOn : Type 0
 SyncsGoOn = (window : ℕ) (start more : List Told) (k : Place) (cron : CronJob) (s : Sets) (z : Zone)
     (clock : List Told → ℕ)
-    → length (more ++ start) ≤ last_uid → IsLegal window (more ++ start) → ArePlanned (more ++ start)
+    → length (more ++ start) ≤ last_uid → IsLegal window (more ++ start)
+    → ArePlanned (more ++ start)
     → IsBegun window start k cron s → IsFree k start → IsFree k (more ++ start)
     → IsClock clock → looked_upto cron [] ≤ clock start
     → KeepApart window k cron z clock more start
