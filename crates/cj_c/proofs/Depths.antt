@@ -114,12 +114,13 @@ status_within k (Some s) =
     (max-le (time_within (suc k) s.last_successful_time) (least (suc k)))))
 
 -- of a plan
-pub plan_within : (p : Steps) → depth (plan_data p) ≤ 127
-plan_within p =
-    up 126 _ (max-le (claim_within 126 p.claim) (max-le (jobs_within 125 p.cleanup)
-    (max-le (jobs_within 125 p.drop_first)
-    (max-le (make_within 126 p.make) (max-le (time_within 126 p.next) (max-le (reasons_within 125 p.reasons)
-    (max-le (status_within 124 p.status) (least 126))))))))
+pub plan_within : (k : ℕ) (p : Steps) → depth (plan_data p) ≤ suc (suc (suc k))
+plan_within k p =
+    up (suc (suc k)) _ (max-le (claim_within (suc (suc k)) p.claim) (max-le (jobs_within (suc k) p.cleanup)
+    (max-le (jobs_within (suc k) p.drop_first)
+    (max-le (make_within (suc (suc k)) p.make) (max-le (time_within (suc (suc k)) p.next)
+    (max-le (reasons_within (suc k) p.reasons)
+    (max-le (status_within k p.status) (least (suc (suc k))))))))))
 
 -- ---- an audit
 

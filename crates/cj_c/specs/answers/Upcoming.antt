@@ -1,0 +1,143 @@
+-- The text for the list of a cluster's objects and a window of time: what starts in it. The members
+-- of an object are in the order of their names.
+use Rattle.std.specs.Prelude.{◌≡◌, ◌⊎◌, ℕ, ◌+◌, ◌<◌, List, [], ◌∷◌, codes, length}
+use Rattle.std.specs.FinMap as map
+use Rattle.serde_json.specs.Data.{Data, null, number, unsigned, array, object, member, no_members}
+use Rattle.serde_json.specs.View.{items_of}
+use Rattle.cj_audit.specs.Faults.{one_fault}
+use Rattle.cj_audit.specs.Items.{others_data, refused_data}
+use Rattle.cj_base.specs.Instant.{last_second}
+use Rattle.cj_cluster.specs.declared.cron.ClusterCron.{ClusterCron}
+use Rattle.cj_cluster.specs.kubectl.Reading.{IsClusterList}
+use Rattle.cj_cluster.specs.declared.kubectl.list.ClusterList.{ClusterList}
+use Rattle.cj_cluster.specs.declared.kubectl.notes.ItemNote.{ItemNote}
+use Rattle.cj_due.specs.Due.{reach}
+use Rattle.cj_json.specs.Values.{time_data}
+use Rattle.cj_upcoming.specs.Minutes.{IsPeaks, minutes}
+use Rattle.cj_upcoming.specs.Upcoming.{HasMore, IsUpcoming}
+use Rattle.cj_upcoming.specs.Window.{Span}
+use Rattle.cj_upcoming.specs.Zones.{named}
+use Rattle.cj_upcoming.specs.declared.minute.Minute.{Minute}
+use Rattle.cj_upcoming.specs.declared.start.Start.{Start}
+use Rattle.cj_upcoming.specs.json.Changes.{zone_changes_data}
+use Rattle.cj_upcoming.specs.json.Minutes.{minutes_data}
+use Rattle.cj_upcoming.specs.json.Standings.{AreStandingData}
+use Rattle.cj_zone.specs.declared.zone.Zone.{Zone}
+use Rattle.cj_c.specs.Status.{range}
+use Rattle.cj_c.specs.answers.Buffers.{IsAnswered, IsUnchanged}
+use Rattle.cj_c.specs.answers.Lists.{IsListRefusal}
+use Rattle.cj_c.specs.answers.Texts.{IsJsonText}
+use Rattle.cj_c.specs.answers.Zones.{AreZonesOf}
+
+-- the items of the list that can't be used; it has no name
+abbrev pub file_object : Data → Data → Data
+file_object others refused = object (
+    member (codes "file") null (
+    member (codes "others") others (
+    member (codes "refused") refused no_members)))
+
+abbrev pub files_data : List ItemNote → Data
+files_data notes = array (items_of (file_object (others_data notes) (refused_data notes) ∷ []))
+
+-- the CronJobs that start nothing
+abbrev pub IsIdleData : List Zone → ℕ → List ClusterCron → Data → Type 0
+IsIdleData zones from crons d =
+    (idle : List Data) × AreStandingData zones from crons idle × (d ≡ array (items_of idle))
+
+-- the fullest minutes
+abbrev pub IsPeaksData : ℕ → List ClusterCron → List Start → Data → Type 0
+IsPeaksData most crons starts d =
+    (peaks : List Minute) × IsPeaks most (minutes starts) peaks
+    × (d ≡ minutes_data crons starts peaks)
+
+abbrev pub upcoming_object : Data → ℕ → Data → Data → Data → Data → Data → ℕ → Data → Data
+upcoming_object changes crons files from idle all_minutes peaks starts to = object (
+    member (codes "changes") changes (
+    member (codes "cronJobs") (number (unsigned crons)) (
+    member (codes "files") files (
+    member (codes "from") from (
+    member (codes "idle") idle (
+    member (codes "minutes") all_minutes (
+    member (codes "peaks") peaks (
+    member (codes "starts") (number (unsigned starts)) (
+    member (codes "to") to no_members)))))))))
+
+-- where clocks are put, how many CronJobs there are, the items that can't be used, the window's
+-- start, the CronJobs that start nothing, the minutes in which something starts, the fullest of
+-- them, how many starts there are, and the window's end
+-- rule: library-upcoming
+abbrev pub upcoming_data : List Zone → Span → List ClusterCron → List Start → List ItemNote → Data
+    → Data → Data
+upcoming_data zones w crons starts notes idle peaks =
+    upcoming_object (zone_changes_data zones w (named [] crons)) (length crons) (files_data notes)
+    (time_data w.from) idle (minutes_data crons starts (minutes starts)) peaks (length starts)
+    (time_data w.end)
+
+-- of these starts of a window
+-- rule: library-upcoming
+pub record TellsStarts (zones : List Zone) (w : Span) (crons : List ClusterCron)
+    (notes : List ItemNote) (most : ℕ) (starts : List Start) (text : List ℕ) : Type 0 where
+  pub idle : Data
+  pub idle_is : IsIdleData zones w.from crons idle
+  pub peaks : Data
+  pub peaks_are : IsPeaksData most crons starts peaks
+  pub printed : IsJsonText (upcoming_data zones w crons starts notes idle peaks) text
+
+-- all that starts in the window, of these CronJobs
+-- rule: library-upcoming
+pub record IsWindowTold (zones : List Zone) (w : Span) (crons : List ClusterCron)
+    (notes : List ItemNote) (most : ℕ) (text : List ℕ) : Type 0 where
+  pub starts : List Start
+  pub upcoming : IsUpcoming zones w crons starts
+  pub tells : TellsStarts zones w crons notes most starts text
+
+-- the greatest number of starts that are told
+-- rule: library-upcoming
+abbrev pub most_starts : ℕ
+most_starts = 4_000_000
+
+-- they start more
+pub record IsTooMany (zones : List Zone) (w : Span) (crons : List ClusterCron) (text : List ℕ)
+    : Type 0 where
+  pub more : HasMore zones w crons most_starts
+  pub printed : IsJsonText (one_fault (codes "TooMany") (codes "$")) text
+
+-- of what the bytes list, under the zones
+-- rule: library-upcoming
+pub record IsForetold (bytes zones_text : List ℕ) (w : Span) (most : ℕ) (text : List ℕ)
+    : Type 0 where
+  pub zones : List Zone
+  pub zones_are : AreZonesOf zones_text zones
+  pub list : ClusterList
+  pub read : IsClusterList zones bytes list
+  pub told : IsWindowTold zones w (map.values list.cluster.crons) list.notes most text
+
+pub record HasTooMany (bytes zones_text : List ℕ) (w : Span) (text : List ℕ) : Type 0 where
+  pub zones : List Zone
+  pub zones_are : AreZonesOf zones_text zones
+  pub list : ClusterList
+  pub read : IsClusterList zones bytes list
+  pub many : IsTooMany zones w (map.values list.cluster.crons) text
+
+-- why it is refused: there is no such list, or too much starts in the window
+-- rule: library-upcoming
+abbrev pub IsUpcomingRefusal : List ℕ → List ℕ → Span → List ℕ → Type 0
+IsUpcomingRefusal bytes zones_text w text =
+    IsListRefusal bytes zones_text text ⊎ HasTooMany bytes zones_text w text
+
+-- the window from an instant on, of that many seconds
+abbrev pub window_of : ℕ → ℕ → Span
+window_of from span = record { from = from; end = from + span }
+
+-- it is longer than 3,000 days, or ends after the year 9998
+-- rule: library-upcoming
+abbrev pub HasNoWindow : ℕ → ℕ → Type 0
+HasNoWindow from span = (reach < span) ⊎ (last_second < from + span)
+
+-- what the call leaves: that, or there is no such window, and all stays as it was
+-- rule: library-upcoming
+abbrev pub IsUpcomingAnswered : List ℕ → List ℕ → ℕ → ℕ → ℕ → List ℕ → List ℕ → ℕ → ℕ → ℕ → Type 0
+IsUpcomingAnswered bytes zones_text from span most old new was is status =
+    IsAnswered (IsForetold bytes zones_text (window_of from span) most)
+    (IsUpcomingRefusal bytes zones_text (window_of from span)) old new was is status
+    ⊎ ((status ≡ range) × HasNoWindow from span × IsUnchanged old new was is)

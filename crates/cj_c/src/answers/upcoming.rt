@@ -1,0 +1,270 @@
+// What starts in a window of time, of the CronJobs of a list.
+ghost use Rattle.std.specs.Prelude.{◌≡◌, ◌∷◌, ℕ, List, [], IfOk, IfErr, IfSome, IsNone, string_bytes};
+ghost use Rattle.std.specs.FinMap as finmap;
+ghost use Rattle.cj_base.specs.declared.refusal.Refusal.TheVariants.{OutOfMemory};
+ghost use Rattle.cj_json.specs.Values.{time_data};
+ghost use Rattle.cj_upcoming.specs.Minutes.{minutes};
+ghost use Rattle.cj_upcoming.specs.Zones.{named};
+ghost use Rattle.cj_upcoming.specs.json.Changes.{zone_changes_data};
+ghost use Rattle.cj_upcoming.specs.json.Minutes.{minutes_data};
+ghost use Rattle.cj_zone.specs.Table.{zones_of};
+ghost use Rattle.serde_json.specs.Data.{array};
+ghost use Rattle.serde_json.specs.View.{items_of, view};
+ghost use Rattle.cj_c.specs.answers.Buffers.{IsTold};
+ghost use Rattle.cj_c.specs.answers.Upcoming.{HasNoWindow, IsForetold, IsIdleData, IsPeaksData, IsTooMany, IsUpcomingAnswered, IsUpcomingRefusal, IsWindowTold, TellsStarts, file_object, files_data, upcoming_object, window_of};
+ghost use Rattle.cj_c.specs.answers.Zones.{AreZonesOf};
+
+use crate::answers::buffer::leave;
+use crate::answers::lists::refused_list;
+use crate::answers::text::{json_text, one_fault_text};
+use crate::answers::told::Told;
+use crate::answers::zones::{refused_zones, zones_of_text};
+use crate::status::RANGE;
+use cj_audit::{others_value, refused_value};
+use cj_base::{Refusal, Seconds, all_four, all_three, both};
+use cj_cluster::{ClusterCron, ClusterList, ItemNote, read_cluster};
+use cj_json::time_value;
+use cj_types::Shared;
+use cj_upcoming::{
+    Start, StartsFault, Window, peaks_value, standing_values, starts_value, upcoming,
+    zone_changes_value,
+};
+use cj_zone::ZoneTable;
+use serde_json::{Value, json};
+use std::alloc::{AllocError, Global};
+
+/// The greatest number of starts that are told.
+const MOST_STARTS: usize = 4_000_000;
+
+fn files_object(alloc: Global, others: Value, refused: Value) -> Result<Value, AllocError>
+    ensures { IfOk result (λ v. view v
+        ≡ array (items_of (file_object (view others) (view refused) ∷ []))) }
+{
+    json!(in alloc; [{"file": null, "others": others, "refused": refused}])
+}
+
+// The items of the list that can't be used.
+fn files_value(alloc: Global, notes: &[ItemNote]) -> Result<Value, Refusal>
+    ensures ok { IfOk result (λ v. view v ≡ files_data notes.now) }
+    ensures err { IfErr result (λ e. e ≡ OutOfMemory) }
+{
+    let (others, refused) = both(others_value(alloc, notes), refused_value(alloc, notes))?;
+    Ok(files_object(alloc, others, refused)?)
+}
+
+fn idle_value(
+    alloc: Global,
+    zones: &ZoneTable,
+    from: Seconds,
+    crons: &[Shared<ClusterCron>],
+) -> Result<Value, Refusal>
+    ensures ok { IfOk result (λ v. IsIdleData (zones_of zones.now) from crons.now (view v)) }
+    ensures err { IfErr result (λ e. e ≡ OutOfMemory) }
+{
+    Ok(Value::Array(standing_values(alloc, zones, from, crons)?))
+}
+
+// Where clocks are put, the CronJobs that start nothing, the minutes in which something starts, and
+// the fullest of them.
+fn parts_of(
+    alloc: Global,
+    zones: &ZoneTable,
+    window: &Window,
+    crons: &[Shared<ClusterCron>],
+    starts: &[Start],
+    most: usize,
+) -> Result<(Value, Value, Value, Value), Refusal>
+    ensures changes { IfOk result (λ p. view p.0
+        ≡ zone_changes_data (zones_of zones.now) window.now (named [] crons.now)) }
+    ensures idle { IfOk result (λ p. IsIdleData (zones_of zones.now) window.now.from crons.now
+        (view p.1)) }
+    ensures minutes { IfOk result (λ p. view p.2
+        ≡ minutes_data crons.now starts.now (minutes starts.now)) }
+    ensures peaks { IfOk result (λ p. IsPeaksData most crons.now starts.now (view p.3)) }
+    ensures err { IfErr result (λ e. e ≡ OutOfMemory) }
+{
+    all_four(
+        zone_changes_value(alloc, zones, window, crons),
+        idle_value(alloc, zones, window.from(), crons),
+        starts_value(alloc, crons, starts),
+        peaks_value(alloc, crons, starts, most),
+    )
+}
+
+fn upcoming_object(
+    alloc: Global,
+    files: Value,
+    ends: (Value, Value),
+    counts: (usize, usize),
+    parts: (Value, Value, Value, Value),
+) -> Result<Value, AllocError>
+    ensures { IfOk result (λ v. view v ≡ upcoming_object (view parts.0) counts.0 (view files)
+        (view ends.0) (view parts.1) (view parts.2) (view parts.3) counts.1 (view ends.1)) }
+{
+    let (from, to) = ends;
+    let (crons, starts) = counts;
+    let (changes, idle, all_minutes, peaks) = parts;
+    json!(in alloc; {
+        "changes": changes,
+        "cronJobs": crons,
+        "files": files,
+        "from": from,
+        "idle": idle,
+        "minutes": all_minutes,
+        "peaks": peaks,
+        "starts": starts,
+        "to": to
+    })
+}
+
+// The value of these starts of a window, with these parts.
+fn upcoming_value(
+    alloc: Global,
+    window: &Window,
+    notes: &[ItemNote],
+    counts: (usize, usize),
+    parts: (Value, Value, Value, Value),
+) -> Result<Value, Refusal>
+    ensures ok { IfOk result (λ v. view v ≡ upcoming_object (view parts.0) counts.0
+        (files_data notes.now) (time_data window.now.from) (view parts.1) (view parts.2)
+        (view parts.3) counts.1 (time_data window.now.end)) }
+    ensures err { IfErr result (λ e. e ≡ OutOfMemory) }
+{
+    let (files, from, to) = all_three(
+        files_value(alloc, notes),
+        time_value(alloc, window.from()),
+        time_value(alloc, window.end()),
+    )?;
+    Ok(upcoming_object(alloc, files, (from, to), counts, parts)?)
+}
+
+// The text of these starts of a window.
+fn starts_text(
+    alloc: Global,
+    zones: &ZoneTable,
+    window: &Window,
+    crons: &[Shared<ClusterCron>],
+    notes: &[ItemNote],
+    starts: &[Start],
+    most: usize,
+) -> Result<String, Refusal>
+    ensures ok { IfOk result (λ s. TellsStarts (zones_of zones.now) window.now crons.now notes.now
+        most starts.now (string_bytes s)) }
+    ensures err { IfErr result (λ e. e ≡ OutOfMemory) }
+{
+    let parts = parts_of(alloc, zones, window, crons, starts, most)?;
+    let counts = (crons.len(), starts.len());
+    let value = upcoming_value(alloc, window, notes, counts, parts)?;
+    json_text(alloc, &value)
+}
+
+// What is told of a window for these CronJobs.
+fn window_told(
+    alloc: Global,
+    zones: &ZoneTable,
+    window: &Window,
+    crons: &[Shared<ClusterCron>],
+    notes: &[ItemNote],
+    most: usize,
+) -> Result<Told, Refusal>
+    ensures ok { IfOk result (IsTold (IsWindowTold (zones_of zones.now) window.now crons.now
+        notes.now most) (IsTooMany (zones_of zones.now) window.now crons.now)) }
+    ensures err { IfErr result (λ e. e ≡ OutOfMemory) }
+{
+    match upcoming(alloc, zones, window, crons, MOST_STARTS) {
+        Ok(starts) => {
+            let starts = starts.as_slice();
+            let text = starts_text(alloc, zones, window, crons, notes, starts, most)?;
+            Ok(Told::Done(text))
+        }
+        Err(StartsFault::TooMany) => Ok(Told::Refused(one_fault_text(alloc, "TooMany", "$")?)),
+        Err(StartsFault::Memory) => Err(Refusal::OutOfMemory),
+    }
+}
+
+// The same for the CronJobs of a list.
+fn list_told(
+    alloc: Global,
+    zones: &ZoneTable,
+    window: &Window,
+    list: &ClusterList,
+    most: usize,
+) -> Result<Told, Refusal>
+    ensures ok { IfOk result (IsTold (IsWindowTold (zones_of zones.now) window.now
+        (finmap.values list.now.cluster.crons) list.now.notes most)
+        (IsTooMany (zones_of zones.now) window.now (finmap.values list.now.cluster.crons))) }
+    ensures err { IfErr result (λ e. e ≡ OutOfMemory) }
+{
+    let crons = list.cluster.crons(alloc)?;
+    let notes = list.notes.as_slice();
+    window_told(alloc, zones, window, crons.as_slice(), notes, most)
+}
+
+// The answer for the bytes of a list under these zones.
+fn foretold_under(
+    alloc: Global,
+    bytes: &[u8],
+    zones: &ZoneTable,
+    window: &Window,
+    most: usize,
+) -> Result<Told, Refusal>
+    ensures ok { (zones_text : List ℕ) → AreZonesOf zones_text (zones_of zones.now) →
+        IfOk result (IsTold (IsForetold bytes.now zones_text window.now most)
+        (IsUpcomingRefusal bytes.now zones_text window.now)) }
+    ensures err { IfErr result (λ e. e ≡ OutOfMemory) }
+{
+    match read_cluster(alloc, bytes, zones) {
+        Ok(list) => list_told(alloc, zones, window, &list, most),
+        Err(fault) => Ok(Told::Refused(refused_list(alloc, fault)?)),
+    }
+}
+
+fn foretold(
+    alloc: Global,
+    bytes: &[u8],
+    zones: &[u8],
+    window: &Window,
+    most: usize,
+) -> Result<Told, Refusal>
+    ensures ok { IfOk result (IsTold (IsForetold bytes.now zones.now window.now most)
+        (IsUpcomingRefusal bytes.now zones.now window.now)) }
+    ensures err { IfErr result (λ e. e ≡ OutOfMemory) }
+{
+    match zones_of_text(alloc, zones) {
+        Ok(zones) => foretold_under(alloc, bytes, &zones, window, most),
+        Err(fault) => Ok(Told::Refused(refused_zones(alloc, fault)?)),
+    }
+}
+
+fn window_from(from: u64, span: u64) -> Option<Window>
+    ensures some { IfSome result (λ w. w ≡ window_of from span) }
+    ensures none { IsNone result → HasNoWindow from span }
+{
+    let from = Seconds::new(from)?;
+    Window::new(from, span)
+}
+
+/// What the CronJobs in what `kubectl get cronjobs,jobs -o json` prints start in the `span` seconds
+/// from an instant on, under UTC and the zones of an object from names to POSIX rules, or no text:
+/// each minute with its CronJobs, the `peaks` fullest minutes, where clocks are put, and the
+/// CronJobs that start nothing, as JSON; or why that isn't told.
+#[unsafe(no_mangle)]
+pub extern "C" fn cronsim_upcoming(
+    alloc: Global,
+    list: &[u8],
+    zones: &[u8],
+    from: u64,
+    span: u64,
+    peaks: u32,
+    answer: &mut [u8],
+    length: &mut usize,
+) -> u32
+    ensures { IsUpcomingAnswered list.now zones.now from span peaks answer.old answer.new length.old
+        length.new result }
+{
+    let Some(window) = window_from(from, span) else {
+        return RANGE;
+    };
+    let told = foretold(alloc, list, zones, &window, peaks as usize);
+    leave(told, answer, length)
+}
