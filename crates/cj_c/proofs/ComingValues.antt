@@ -20,14 +20,14 @@ use Rattle.cj_upcoming.specs.declared.minute.Minute.{Minute}
 use Rattle.cj_upcoming.specs.declared.standing.Standing.{Standing}
 use Rattle.cj_upcoming.specs.declared.standing.Standing.TheVariants.{Comes, Suspended, Never, Unread}
 use Rattle.cj_upcoming.specs.declared.start.Start.{Start}
-use Rattle.cj_upcoming.specs.json.Changes.{change_data, changes_data, changes_where, zone_changes, zone_changes_data}
+use Rattle.cj_upcoming.specs.json.Changes.{change_data, changes_data, changes_where, zone_changes}
 use Rattle.cj_upcoming.specs.json.Coming.{changes_along, coming_data, times_data}
 use Rattle.cj_upcoming.specs.json.Minutes.{cron_at, crons_in, minute_data, minutes_data}
 use Rattle.cj_upcoming.specs.json.Standings.{AreStandingData, standing_data}
 use Rattle.cj_zone.specs.Zones.{zone_named}
 use Rattle.cj_zone.specs.declared.zone.Zone.{Zone}
 use Rattle.cj_c.specs.answers.Describe.{describe_data, zone_data, zone_where}
-use Rattle.cj_c.specs.answers.Upcoming.{IsIdleData, IsPeaksData, files_data, upcoming_data}
+use Rattle.cj_c.specs.answers.Upcoming.{AreParts, IsIdleData, IsPeaksData, Telling, files_data, upcoming_data}
 use Rattle.cj_c.proofs.Depths as deep
 use Rattle.cj_c.proofs.Depths.{AreWithin, least, others_within, refused_within, up, within_as}
 use Rattle.cj_c.proofs.NoFloats.{AreFree, free_as, joined, mapped, neither, others_free, refused_free}
@@ -108,15 +108,17 @@ files_free notes =
     (neither (has_float (refused_data notes)) false (refused_free notes) refl)) refl
 
 -- of a window
-pub upcoming_free : (zones : List Zone) (w : Span) (crons : List ClusterCron) (starts : List Start)
-    (notes : List ItemNote) (idle peaks : Data) (most : ℕ) → IsIdleData zones w.from crons idle
-    → IsPeaksData most crons starts peaks
-    → has_float (upcoming_data zones w crons starts notes idle peaks) ≡ false
-upcoming_free zones w crons starts notes idle peaks most idle_is peaks_are =
-    neither _ _ (zones_free zones w (named [] crons)) (neither (has_float (files_data notes)) _ (files_free notes)
-    (neither (has_float idle) _ (idle_free zones w.from crons idle idle_is)
-    (neither (has_float (minutes_data crons starts (minutes starts))) _ (minutes_free crons starts (minutes starts))
-    (neither (has_float peaks) false (peaks_free most crons starts peaks peaks_are) refl))))
+pub upcoming_free : (zones : List Zone) (w : Span) (crons : List ClusterCron) (most : ℕ) (starts : List Start)
+    (notes : List ItemNote) (p : Telling) (files : Data) → files ≡ files_data notes
+    → AreParts zones w crons most starts p
+    → has_float (upcoming_data w (length crons) (length starts) files p) ≡ false
+upcoming_free zones w crons most starts notes p files files_are are =
+    neither (has_float p.changes) _ (free_as p.changes _ are.changes (zones_free zones w (named [] crons)))
+    (neither (has_float files) _ (free_as files _ files_are (files_free notes))
+    (neither (has_float p.idle) _ (idle_free zones w.from crons p.idle are.idle)
+    (neither (has_float p.all_minutes) _
+    (free_as p.all_minutes _ are.all_minutes (minutes_free crons starts (minutes starts)))
+    (neither (has_float p.peaks) false (peaks_free most crons starts p.peaks are.peaks) refl))))
 
 -- of times
 times_free : (z : Zone) (after : ℕ) (ts : List ℕ) → has_float (times_data z after ts) ≡ false
@@ -228,15 +230,16 @@ files_within notes =
     (max-le (up 123 _ (refused_within 120 notes)) (least 124))))) (least 125))
 
 -- of a window
-pub upcoming_within : (zones : List Zone) (w : Span) (crons : List ClusterCron) (starts : List Start)
-    (notes : List ItemNote) (idle peaks : Data) (most : ℕ) → IsIdleData zones w.from crons idle
-    → IsPeaksData most crons starts peaks
-    → depth (upcoming_data zones w crons starts notes idle peaks) ≤ 127
-upcoming_within zones w crons starts notes idle peaks most idle_is peaks_are =
-    up 126 _ (max-le (up 125 _ (zones_within 124 zones w (named [] crons))) (max-le (least 126)
-    (max-le (files_within notes) (max-le (least 126) (max-le (idle_within 124 zones w.from crons idle idle_is)
-    (max-le (minutes_within 122 crons starts (minutes starts))
-    (max-le (peaks_within 122 most crons starts peaks peaks_are)
+pub upcoming_within : (zones : List Zone) (w : Span) (crons : List ClusterCron) (most : ℕ) (starts : List Start)
+    (notes : List ItemNote) (p : Telling) (files : Data) → files ≡ files_data notes
+    → AreParts zones w crons most starts p
+    → depth (upcoming_data w (length crons) (length starts) files p) ≤ 127
+upcoming_within zones w crons most starts notes p files files_are are =
+    up 126 _ (max-le (within_as 126 p.changes _ are.changes (up 125 _ (zones_within 124 zones w (named [] crons))))
+    (max-le (least 126) (max-le (within_as 126 files _ files_are (files_within notes)) (max-le (least 126)
+    (max-le (idle_within 124 zones w.from crons p.idle are.idle)
+    (max-le (within_as 126 p.all_minutes _ are.all_minutes (minutes_within 122 crons starts (minutes starts)))
+    (max-le (peaks_within 122 most crons starts p.peaks are.peaks)
     (max-le (least 126) (max-le (least 126) (least 126))))))))))
 
 -- of times

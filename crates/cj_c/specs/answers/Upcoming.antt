@@ -3,7 +3,7 @@
 use Rattle.std.specs.Prelude.{◌≡◌, ◌⊎◌, ℕ, ◌+◌, ◌<◌, List, [], ◌∷◌, codes, length}
 use Rattle.std.specs.FinMap as map
 use Rattle.serde_json.specs.Data.{Data, null, number, unsigned, array, object, member, no_members}
-use Rattle.serde_json.specs.View.{items_of}
+use Rattle.serde_json.specs.View.{items_of, view}
 use Rattle.cj_audit.specs.Faults.{one_fault}
 use Rattle.cj_audit.specs.Items.{others_data, refused_data}
 use Rattle.cj_base.specs.Instant.{last_second}
@@ -28,6 +28,7 @@ use Rattle.cj_c.specs.answers.Buffers.{IsAnswered, IsUnchanged}
 use Rattle.cj_c.specs.answers.Lists.{IsListRefusal}
 use Rattle.cj_c.specs.answers.Texts.{IsJsonText}
 use Rattle.cj_c.specs.answers.Zones.{AreZonesOf}
+use Rattle.cj_c.specs.declared.answers.upcoming.Parts.{Parts}
 
 -- the items of the list that can't be used; it has no name
 abbrev pub file_object : Data → Data → Data
@@ -50,15 +51,40 @@ IsPeaksData most crons starts d =
     (peaks : List Minute) × IsPeaks most (minutes starts) peaks
     × (d ≡ minutes_data crons starts peaks)
 
-abbrev pub upcoming_object : Data → ℕ → Data → Data → Data → Data → Data → ℕ → Data → Data
-upcoming_object changes crons files from idle all_minutes peaks starts to = object (
-    member (codes "changes") changes (
+-- where clocks are put, the CronJobs that start nothing, all minutes, and the fullest of them
+pub record Telling : Type 0 where
+  pub changes : Data
+  pub idle : Data
+  pub all_minutes : Data
+  pub peaks : Data
+
+abbrev pub told_in : Parts → Telling
+told_in p =
+    record {
+      changes = view p.changes;
+      idle = view p.idle;
+      all_minutes = view p.all_minutes;
+      peaks =
+          view p.peaks;
+    }
+
+-- the members of the value for these starts
+pub record AreParts (zones : List Zone) (w : Span) (crons : List ClusterCron) (most : ℕ)
+    (starts : List Start) (p : Telling) : Type 0 where
+  pub changes : p.changes ≡ zone_changes_data zones w (named [] crons)
+  pub idle : IsIdleData zones w.from crons p.idle
+  pub all_minutes : p.all_minutes ≡ minutes_data crons starts (minutes starts)
+  pub peaks : IsPeaksData most crons starts p.peaks
+
+abbrev pub upcoming_object : Data → Data → ℕ → ℕ → Data → Telling → Data
+upcoming_object from to crons starts files p = object (
+    member (codes "changes") p.changes (
     member (codes "cronJobs") (number (unsigned crons)) (
     member (codes "files") files (
     member (codes "from") from (
-    member (codes "idle") idle (
-    member (codes "minutes") all_minutes (
-    member (codes "peaks") peaks (
+    member (codes "idle") p.idle (
+    member (codes "minutes") p.all_minutes (
+    member (codes "peaks") p.peaks (
     member (codes "starts") (number (unsigned starts)) (
     member (codes "to") to no_members)))))))))
 
@@ -66,22 +92,18 @@ upcoming_object changes crons files from idle all_minutes peaks starts to = obje
 -- start, the CronJobs that start nothing, the minutes in which something starts, the fullest of
 -- them, how many starts there are, and the window's end
 -- rule: library-upcoming
-abbrev pub upcoming_data : List Zone → Span → List ClusterCron → List Start → List ItemNote → Data
-    → Data → Data
-upcoming_data zones w crons starts notes idle peaks =
-    upcoming_object (zone_changes_data zones w (named [] crons)) (length crons) (files_data notes)
-    (time_data w.from) idle (minutes_data crons starts (minutes starts)) peaks (length starts)
-    (time_data w.end)
+abbrev pub upcoming_data : Span → ℕ → ℕ → Data → Telling → Data
+upcoming_data w crons starts files p =
+    upcoming_object (time_data w.from) (time_data w.end) crons starts files p
 
 -- of these starts of a window
 -- rule: library-upcoming
 pub record TellsStarts (zones : List Zone) (w : Span) (crons : List ClusterCron)
     (notes : List ItemNote) (most : ℕ) (starts : List Start) (text : List ℕ) : Type 0 where
-  pub idle : Data
-  pub idle_is : IsIdleData zones w.from crons idle
-  pub peaks : Data
-  pub peaks_are : IsPeaksData most crons starts peaks
-  pub printed : IsJsonText (upcoming_data zones w crons starts notes idle peaks) text
+  pub parts : Telling
+  pub are : AreParts zones w crons most starts parts
+  pub printed : IsJsonText (upcoming_data w (length crons) (length starts) (files_data notes) parts)
+      text
 
 -- all that starts in the window, of these CronJobs
 -- rule: library-upcoming

@@ -6,6 +6,7 @@ use Rattle.serde_json.specs.Data.{Data, array, object, member, no_members}
 use Rattle.serde_json.specs.View.{items_of}
 use Rattle.cj_audit.specs.Items.{others_data, refused_data}
 use Rattle.cj_base.specs.Instant.{last_second}
+use Rattle.cj_cluster.specs.declared.cron.ClusterCron.{ClusterCron}
 use Rattle.cj_cluster.specs.kubectl.Reading.{IsClusterList}
 use Rattle.cj_cluster.specs.declared.kubectl.list.ClusterList.{ClusterList}
 use Rattle.cj_cluster.specs.declared.kubectl.notes.ItemNote.{ItemNote}
@@ -31,16 +32,22 @@ abbrev pub why_data : ℕ → List Data → List ItemNote → Data
 why_data now crons notes =
     why_object (array (items_of crons)) (time_data now) (others_data notes) (refused_data notes)
 
--- of all CronJobs that the bytes list, under the zones, in the order of their keys
+-- of these CronJobs of a list
+-- rule: library-why
+pub record TellsCrons (zones : List Zone) (list : ClusterList) (now : ℕ) (crons : List ClusterCron)
+    (text : List ℕ) : Type 0 where
+  pub told : List Data
+  pub are : AreCronJson zones list.cluster now crons told
+  pub printed : IsJsonText (why_data now told list.notes) text
+
+-- of all that the bytes list, under the zones, in the order of their keys
 -- rule: library-why
 pub record IsReviewed (bytes zones_text : List ℕ) (now : ℕ) (text : List ℕ) : Type 0 where
   pub zones : List Zone
   pub zones_are : AreZonesOf zones_text zones
   pub list : ClusterList
   pub read : IsClusterList zones bytes list
-  pub crons : List Data
-  pub are : AreCronJson zones list.cluster now (map.values list.cluster.crons) crons
-  pub printed : IsJsonText (why_data now crons list.notes) text
+  pub tells : TellsCrons zones list now (map.values list.cluster.crons) text
 
 -- what the call leaves: that, or the moment is out of range, and all stays as it was
 -- rule: library-why

@@ -2,16 +2,11 @@
 ghost use Rattle.std.specs.Prelude.{◌≡◌, ◌∷◌, ℕ, List, [], IfOk, IfErr, IfSome, IsNone, string_bytes};
 ghost use Rattle.std.specs.FinMap as finmap;
 ghost use Rattle.cj_base.specs.declared.refusal.Refusal.TheVariants.{OutOfMemory};
-ghost use Rattle.cj_json.specs.Values.{time_data};
-ghost use Rattle.cj_upcoming.specs.Minutes.{minutes};
-ghost use Rattle.cj_upcoming.specs.Zones.{named};
-ghost use Rattle.cj_upcoming.specs.json.Changes.{zone_changes_data};
-ghost use Rattle.cj_upcoming.specs.json.Minutes.{minutes_data};
 ghost use Rattle.cj_zone.specs.Table.{zones_of};
 ghost use Rattle.serde_json.specs.Data.{array};
 ghost use Rattle.serde_json.specs.View.{items_of, view};
 ghost use Rattle.cj_c.specs.answers.Buffers.{IsTold};
-ghost use Rattle.cj_c.specs.answers.Upcoming.{HasNoWindow, IsForetold, IsIdleData, IsPeaksData, IsTooMany, IsUpcomingAnswered, IsUpcomingRefusal, IsWindowTold, TellsStarts, file_object, files_data, upcoming_object, window_of};
+ghost use Rattle.cj_c.specs.answers.Upcoming.{AreParts, HasNoWindow, IsForetold, IsIdleData, IsTooMany, IsUpcomingAnswered, IsUpcomingRefusal, IsWindowTold, TellsStarts, file_object, files_data, told_in, upcoming_data, upcoming_object, window_of};
 ghost use Rattle.cj_c.specs.answers.Zones.{AreZonesOf};
 
 use crate::answers::buffer::leave;
@@ -21,7 +16,7 @@ use crate::answers::told::Told;
 use crate::answers::zones::{refused_zones, zones_of_text};
 use crate::status::RANGE;
 use cj_audit::{others_value, refused_value};
-use cj_base::{Refusal, Seconds, all_four, all_three, both};
+use cj_base::{Refusal, Seconds, all_four, both};
 use cj_cluster::{ClusterCron, ClusterList, ItemNote, read_cluster};
 use cj_json::time_value;
 use cj_types::Shared;
@@ -40,7 +35,8 @@ fn files_object(alloc: Global, others: Value, refused: Value) -> Result<Value, A
     ensures { IfOk result (λ v. view v
         ≡ array (items_of (file_object (view others) (view refused) ∷ []))) }
 {
-    json!(in alloc; [{"file": null, "others": others, "refused": refused}])
+    let name = Value::Null;
+    json!(in alloc; [{"file": name, "others": others, "refused": refused}])
 }
 
 // The items of the list that can't be used.
@@ -64,8 +60,16 @@ fn idle_value(
     Ok(Value::Array(standing_values(alloc, zones, from, crons)?))
 }
 
-// Where clocks are put, the CronJobs that start nothing, the minutes in which something starts, and
-// the fullest of them.
+// What a window's value is made of.
+#[derive(Drop)]
+struct Parts {
+    changes: Value,
+    idle: Value,
+    all_minutes: Value,
+    peaks: Value,
+}
+
+// The members of the value for these starts.
 fn parts_of(
     alloc: Global,
     zones: &ZoneTable,
@@ -73,37 +77,43 @@ fn parts_of(
     crons: &[Shared<ClusterCron>],
     starts: &[Start],
     most: usize,
-) -> Result<(Value, Value, Value, Value), Refusal>
-    ensures changes { IfOk result (λ p. view p.0
-        ≡ zone_changes_data (zones_of zones.now) window.now (named [] crons.now)) }
-    ensures idle { IfOk result (λ p. IsIdleData (zones_of zones.now) window.now.from crons.now
-        (view p.1)) }
-    ensures minutes { IfOk result (λ p. view p.2
-        ≡ minutes_data crons.now starts.now (minutes starts.now)) }
-    ensures peaks { IfOk result (λ p. IsPeaksData most crons.now starts.now (view p.3)) }
+) -> Result<Parts, Refusal>
+    ensures ok { IfOk result (λ p. AreParts (zones_of zones.now) window.now crons.now most
+        starts.now (told_in p)) }
     ensures err { IfErr result (λ e. e ≡ OutOfMemory) }
 {
-    all_four(
+    let (changes, idle, all_minutes, peaks) = all_four(
         zone_changes_value(alloc, zones, window, crons),
         idle_value(alloc, zones, window.from(), crons),
         starts_value(alloc, crons, starts),
         peaks_value(alloc, crons, starts, most),
-    )
+    )?;
+    Ok(Parts {
+        changes,
+        idle,
+        all_minutes,
+        peaks,
+    })
 }
 
 fn upcoming_object(
     alloc: Global,
-    files: Value,
     ends: (Value, Value),
     counts: (usize, usize),
-    parts: (Value, Value, Value, Value),
+    files: Value,
+    parts: Parts,
 ) -> Result<Value, AllocError>
-    ensures { IfOk result (λ v. view v ≡ upcoming_object (view parts.0) counts.0 (view files)
-        (view ends.0) (view parts.1) (view parts.2) (view parts.3) counts.1 (view ends.1)) }
+    ensures { IfOk result (λ v. view v ≡ upcoming_object (view ends.0) (view ends.1) counts.0
+        counts.1 (view files) (told_in parts)) }
 {
     let (from, to) = ends;
     let (crons, starts) = counts;
-    let (changes, idle, all_minutes, peaks) = parts;
+    let Parts {
+        changes,
+        idle,
+        all_minutes,
+        peaks,
+    } = parts;
     json!(in alloc; {
         "changes": changes,
         "cronJobs": crons,
@@ -117,25 +127,22 @@ fn upcoming_object(
     })
 }
 
-// The value of these starts of a window, with these parts.
 fn upcoming_value(
     alloc: Global,
     window: &Window,
-    notes: &[ItemNote],
     counts: (usize, usize),
-    parts: (Value, Value, Value, Value),
+    files: Value,
+    parts: Parts,
 ) -> Result<Value, Refusal>
-    ensures ok { IfOk result (λ v. view v ≡ upcoming_object (view parts.0) counts.0
-        (files_data notes.now) (time_data window.now.from) (view parts.1) (view parts.2)
-        (view parts.3) counts.1 (time_data window.now.end)) }
+    ensures ok { IfOk result (λ v. view v
+        ≡ upcoming_data window.now counts.0 counts.1 (view files) (told_in parts)) }
     ensures err { IfErr result (λ e. e ≡ OutOfMemory) }
 {
-    let (files, from, to) = all_three(
-        files_value(alloc, notes),
+    let ends = both(
         time_value(alloc, window.from()),
         time_value(alloc, window.end()),
     )?;
-    Ok(upcoming_object(alloc, files, (from, to), counts, parts)?)
+    Ok(upcoming_object(alloc, ends, counts, files, parts)?)
 }
 
 // The text of these starts of a window.
@@ -152,9 +159,10 @@ fn starts_text(
         most starts.now (string_bytes s)) }
     ensures err { IfErr result (λ e. e ≡ OutOfMemory) }
 {
+    let files = files_value(alloc, notes)?;
     let parts = parts_of(alloc, zones, window, crons, starts, most)?;
     let counts = (crons.len(), starts.len());
-    let value = upcoming_value(alloc, window, notes, counts, parts)?;
+    let value = upcoming_value(alloc, window, counts, files, parts)?;
     json_text(alloc, &value)
 }
 

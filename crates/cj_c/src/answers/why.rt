@@ -2,15 +2,12 @@
 ghost use Rattle.std.specs.Prelude.{◌≡◌, ℕ, List, IfOk, IfErr, Some, codes, map, string_bytes};
 ghost use Rattle.std.specs.FinMap as finmap;
 ghost use Rattle.cj_base.specs.declared.refusal.Refusal.TheVariants.{OutOfMemory};
-ghost use Rattle.cj_why.specs.reviews.CronJson.{AreCronJson};
 ghost use Rattle.cj_zone.specs.Table.{local_zone, zones_of};
 ghost use Rattle.cj_zone.specs.Zones.{utc_zone};
-ghost use Rattle.serde_json.specs.Data.{Data};
 ghost use Rattle.serde_json.specs.View.{view};
 ghost use Rattle.cj_c.specs.answers.Buffers.{IsTold};
 ghost use Rattle.cj_c.specs.answers.Lists.{IsListRefusal};
-ghost use Rattle.cj_c.specs.answers.Texts.{IsJsonText};
-ghost use Rattle.cj_c.specs.answers.Why.{IsReviewed, IsWhyAnswered, why_data, why_object};
+ghost use Rattle.cj_c.specs.answers.Why.{IsReviewed, IsWhyAnswered, TellsCrons, why_data, why_object};
 ghost use Rattle.cj_c.specs.answers.Zones.{AreZonesOf};
 
 use crate::answers::buffer::leave;
@@ -21,8 +18,9 @@ use crate::answers::zones::{refused_zones, zones_of_text};
 use crate::status::RANGE;
 use cj_audit::{others_value, refused_value};
 use cj_base::{Refusal, Seconds, all_three};
-use cj_cluster::{ClusterList, ItemNote, read_cluster};
+use cj_cluster::{ClusterCron, ClusterList, ItemNote, read_cluster};
 use cj_json::time_value;
+use cj_types::Shared;
 use cj_why::cron_values;
 use cj_zone::ZoneTable;
 use serde_json::{Value, json};
@@ -63,24 +61,38 @@ fn why_value(
     Ok(why_object(alloc, Value::Array(crons), now, others, refused)?)
 }
 
-// The text for a list under these zones.
+// The text for these CronJobs of a list under these zones.
 fn why_text(
     alloc: Global,
-    list: &ClusterList,
     zones: &ZoneTable,
+    list: &ClusterList,
+    crons: &[Shared<ClusterCron>],
     now: Seconds,
 ) -> Result<String, Refusal>
     requires { local_zone zones.now ≡ Some (utc_zone (codes "UTC")) }
-    ensures ok { IfOk result (λ s. (crons : List Data)
-        × AreCronJson (zones_of zones.now) list.now.cluster now
-        (finmap.values list.now.cluster.crons) crons
-        × IsJsonText (why_data now crons list.now.notes) (string_bytes s)) }
+    ensures ok { IfOk result (λ s. TellsCrons (zones_of zones.now) list.now now crons.now
+        (string_bytes s)) }
     ensures err { IfErr result (λ e. e ≡ OutOfMemory) }
 {
-    let all = list.cluster.crons(alloc)?;
-    let crons = cron_values(alloc, zones, &list.cluster, all.as_slice(), now)?;
-    let value = why_value(alloc, now, crons, list.notes.as_slice())?;
+    let values = cron_values(alloc, zones, &list.cluster, crons, now)?;
+    let value = why_value(alloc, now, values, list.notes.as_slice())?;
     json_text(alloc, &value)
+}
+
+// The text for a list under these zones.
+fn list_text(
+    alloc: Global,
+    zones: &ZoneTable,
+    list: &ClusterList,
+    now: Seconds,
+) -> Result<String, Refusal>
+    requires { local_zone zones.now ≡ Some (utc_zone (codes "UTC")) }
+    ensures ok { IfOk result (λ s. TellsCrons (zones_of zones.now) list.now now
+        (finmap.values list.now.cluster.crons) (string_bytes s)) }
+    ensures err { IfErr result (λ e. e ≡ OutOfMemory) }
+{
+    let crons = list.cluster.crons(alloc)?;
+    why_text(alloc, zones, list, crons.as_slice(), now)
 }
 
 // The answer for the bytes of a list under these zones.
@@ -97,7 +109,7 @@ fn reviewed_under(
     ensures err { IfErr result (λ e. e ≡ OutOfMemory) }
 {
     match read_cluster(alloc, bytes, zones) {
-        Ok(list) => Ok(Told::Done(why_text(alloc, &list, zones, now)?)),
+        Ok(list) => Ok(Told::Done(list_text(alloc, zones, &list, now)?)),
         Err(fault) => Ok(Told::Refused(refused_list(alloc, fault)?)),
     }
 }

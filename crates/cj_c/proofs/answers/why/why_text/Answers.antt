@@ -8,8 +8,8 @@ pub json_text-requires : goal.json_text-requires
 json_text-requires c = record {
   exact =
       free_as _ _ c.in_ok-value.ensures.ok (why_free c.args.now _ c.args.list.now.notes
-      (crons_free _ _ _ _ _ c.in_ok-crons.ensures.ok));
+      (crons_free _ _ _ _ _ c.in_ok-values.ensures.ok));
   flat =
       within_as 127 _ _ c.in_ok-value.ensures.ok (why_within c.args.now _ c.args.list.now.notes
-      (crons_within 121 _ _ _ _ _ c.in_ok-crons.ensures.ok));
+      (crons_within 121 _ _ _ _ _ c.in_ok-values.ensures.ok));
 }
