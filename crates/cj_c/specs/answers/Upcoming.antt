@@ -1,6 +1,6 @@
 -- The text for the list of a cluster's objects and a window of time: what starts in it. The members
 -- of an object are in the order of their names.
-use Rattle.std.specs.Prelude.{◌≡◌, ◌⊎◌, ℕ, ◌+◌, ◌<◌, List, [], ◌∷◌, codes, length}
+use Rattle.std.specs.Prelude.{◌≡◌, ◌⊎◌, ℕ, ◌+◌, ◌<◌, ◌≤◌, List, [], ◌∷◌, codes, length}
 use Rattle.std.specs.FinMap as map
 use Rattle.serde_json.specs.Data.{Data, null, number, unsigned, array, object, member, no_members}
 use Rattle.serde_json.specs.View.{items_of, view}
@@ -147,19 +147,27 @@ abbrev pub IsUpcomingRefusal : List ℕ → List ℕ → Span → List ℕ → T
 IsUpcomingRefusal bytes zones_text w text =
     IsListRefusal bytes zones_text text ⊎ HasTooMany bytes zones_text w text
 
--- the window from an instant on, of that many seconds
-abbrev pub window_of : ℕ → ℕ → Span
-window_of from span = record { from = from; end = from + span }
+-- the window from an instant on has that many seconds
+-- rule: library-upcoming
+abbrev pub IsWindow : ℕ → ℕ → Span → Type 0
+IsWindow from span w = (w.from ≡ from) × (w.end ≡ from + span)
 
--- it is longer than 3,000 days, or ends after the year 9998
+-- there is none: it begins too late, or it is longer than 3,000 days or ends after the year 9998
 -- rule: library-upcoming
 abbrev pub HasNoWindow : ℕ → ℕ → Type 0
-HasNoWindow from span = (reach < span) ⊎ (last_second < from + span)
+HasNoWindow from span =
+    (last_second < from) ⊎ ((span ≤ reach) × (from + span ≤ last_second) → ⊥)
+
+-- what the call leaves for a window
+abbrev pub IsWindowAnswered : List ℕ → List ℕ → Span → ℕ → List ℕ → List ℕ → ℕ → ℕ → ℕ → Type 0
+IsWindowAnswered bytes zones_text w most old new was is status =
+    IsAnswered (IsForetold bytes zones_text w most) (IsUpcomingRefusal bytes zones_text w) old new
+    was is status
 
 -- what the call leaves: that, or there is no such window, and all stays as it was
 -- rule: library-upcoming
 abbrev pub IsUpcomingAnswered : List ℕ → List ℕ → ℕ → ℕ → ℕ → List ℕ → List ℕ → ℕ → ℕ → ℕ → Type 0
 IsUpcomingAnswered bytes zones_text from span most old new was is status =
-    IsAnswered (IsForetold bytes zones_text (window_of from span) most)
-    (IsUpcomingRefusal bytes zones_text (window_of from span)) old new was is status
+    ((w : Span) × IsWindow from span w
+    × IsWindowAnswered bytes zones_text w most old new was is status)
     ⊎ ((status ≡ range) × HasNoWindow from span × IsUnchanged old new was is)

@@ -1,12 +1,12 @@
 // What starts in a window of time, of the CronJobs of a list.
-ghost use Rattle.std.specs.Prelude.{◌≡◌, ◌∷◌, ℕ, List, [], IfOk, IfErr, IfSome, IsNone, string_bytes};
+ghost use Rattle.std.specs.Prelude.{◌≡◌, ◌∷◌, ℕ, List, [], IfOk, IfErr, string_bytes};
 ghost use Rattle.std.specs.FinMap as finmap;
 ghost use Rattle.cj_base.specs.declared.refusal.Refusal.TheVariants.{OutOfMemory};
 ghost use Rattle.cj_zone.specs.Table.{zones_of};
 ghost use Rattle.serde_json.specs.Data.{array};
 ghost use Rattle.serde_json.specs.View.{items_of, view};
 ghost use Rattle.cj_c.specs.answers.Buffers.{IsTold};
-ghost use Rattle.cj_c.specs.answers.Upcoming.{AreParts, HasNoWindow, IsForetold, IsIdleData, IsTooMany, IsUpcomingAnswered, IsUpcomingRefusal, IsWindowTold, TellsStarts, file_object, files_data, told_in, upcoming_data, upcoming_object, window_of};
+ghost use Rattle.cj_c.specs.answers.Upcoming.{AreParts, IsForetold, IsIdleData, IsTooMany, IsUpcomingAnswered, IsUpcomingRefusal, IsWindowTold, TellsStarts, file_object, files_data, told_in, upcoming_data, upcoming_object};
 ghost use Rattle.cj_c.specs.answers.Zones.{AreZonesOf};
 
 use crate::answers::buffer::leave;
@@ -244,14 +244,6 @@ fn foretold(
     }
 }
 
-fn window_from(from: u64, span: u64) -> Option<Window>
-    ensures some { IfSome result (λ w. w ≡ window_of from span) }
-    ensures none { IsNone result → HasNoWindow from span }
-{
-    let from = Seconds::new(from)?;
-    Window::new(from, span)
-}
-
 /// What the CronJobs in what `kubectl get cronjobs,jobs -o json` prints start in the `span` seconds
 /// from an instant on, under UTC and the zones of an object from names to POSIX rules, or no text:
 /// each minute with its CronJobs, the `peaks` fullest minutes, where clocks are put, and the
@@ -270,7 +262,10 @@ pub extern "C" fn cronsim_upcoming(
     ensures { IsUpcomingAnswered list.now zones.now from span peaks answer.old answer.new length.old
         length.new result }
 {
-    let Some(window) = window_from(from, span) else {
+    let Some(from) = Seconds::new(from) else {
+        return RANGE;
+    };
+    let Some(window) = Window::new(from, span) else {
         return RANGE;
     };
     let told = foretold(alloc, list, zones, &window, peaks as usize);
