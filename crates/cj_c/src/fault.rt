@@ -101,6 +101,8 @@ pub(crate) fn read_schedule(bytes: &[u8]) -> Result<Schedule, CronFault>
     ensures ok { IfOk result (λ s. IsSchedule bytes.now s) }
     ensures err { IfErr result (λ f. IsTextRefused bytes.now f) }
 {
-    let (_, schedule) = read_text(bytes)?;
-    Ok(schedule)
+    match read_text(bytes) {
+        Ok((_, schedule)) => Ok(schedule),
+        Err(fault) => Err(fault),
+    }
 }
