@@ -32,10 +32,17 @@ abbrev pub sure_lines : Bool → Steps → List ℕ
 sure_lines true p = plan_lines p
 sure_lines false p = word_line (codes "next") (time_value p.next)
 
+-- whether the plan is that of the CronJob's controller: of its Jobs none is unknown that it would
+-- rest on
 -- rule: why-lacks
-abbrev pub lines_for : List (List ℕ) → Policy → Steps → List ℕ
-lines_for lacking policy p =
-    lack_lines lacking ++ sure_lines (not (lacks_any lacking) || is_sure policy p.claim) p
+abbrev pub is_known : List (List ℕ) → Policy → Steps → Bool
+is_known unknown policy p = not (lacks_any unknown) || is_sure policy p.claim
+
+-- by the names that the list lacks, and those of which nothing is known
+-- rule: why-lacks
+abbrev pub lines_for : List (List ℕ) → List (List ℕ) → Policy → Steps → List ℕ
+lines_for lacking unknown policy p =
+    lack_lines lacking ++ sure_lines (is_known unknown policy p) p
 
 -- ---- what never starts a Job
 

@@ -18,7 +18,7 @@ use Rattle.cj_why.specs.Running.{lacks_any}
 use Rattle.cj_why.specs.Why.{is_never}
 use Rattle.cj_why.specs.reviews.Lacking.{is_sure}
 use Rattle.cj_why.specs.declared.reviews.verdict.Verdict.{Verdict}
-use Rattle.cj_why.specs.declared.reviews.verdict.Verdict.TheVariants.{LacksJobs, NameTaken, NeverDue, NeverInTime, NothingMissed, Replaces, SkippedRunning, Starts, Suspended, ZoneUnknown}
+use Rattle.cj_why.specs.declared.reviews.verdict.Verdict.TheVariants.{LacksJobs, NameTaken, NeverDue, NeverInTime, NothingMissed, Replaces, SkippedRunning, Starts, Suspended, TooLate, ZoneUnknown}
 
 -- the list has a Job of the name that is made
 abbrev pub is_taken : Content → Option JobDraft → Bool
@@ -39,38 +39,49 @@ starting false true replaces = NameTaken
 starting false false true = Replaces
 starting false false false = Starts
 
--- nothing is started: whether that is since a Job runs, and when the schedule comes next
-abbrev pub resting : Bool → Option ℕ → Verdict
-resting true next = SkippedRunning
-resting false None = NeverDue
-resting false (Some time) = NothingMissed
+-- nothing is started: whether that is since a Job runs, when the schedule comes next, and whether
+-- times came too late for the deadline
+abbrev pub resting : Bool → Option ℕ → Bool → Verdict
+resting true next late = SkippedRunning
+resting false None late = NeverDue
+resting false (Some time) true = TooLate
+resting false (Some time) false = NothingMissed
 
-abbrev pub by_claim : Option Claim → Bool → Bool → Steps → Verdict
-by_claim None lacks taken p = resting (list_any is_skipped p.reasons) p.next
-by_claim (Some claim) lacks taken p = starting lacks taken (has_any p.drop_first)
+abbrev pub by_claim : Option Claim → Bool → Bool → Bool → Steps → Verdict
+by_claim None lacks taken late p = resting (list_any is_skipped p.reasons) p.next late
+by_claim (Some claim) lacks taken late p = starting lacks taken (has_any p.drop_first)
 
 -- whether the zone is known
-abbrev pub by_zone : Bool → Bool → Bool → Steps → Verdict
-by_zone false lacks taken p = ZoneUnknown
-by_zone true lacks taken p = by_claim p.claim lacks taken p
+abbrev pub by_zone : Bool → Bool → Bool → Bool → Steps → Verdict
+by_zone false lacks taken late p = ZoneUnknown
+by_zone true lacks taken late p = by_claim p.claim lacks taken late p
 
 -- whether no time is ever in time
-abbrev pub by_deadline : Bool → Bool → Bool → Bool → Steps → Verdict
-by_deadline true known lacks taken p = NeverInTime
-by_deadline false known lacks taken p = by_zone known lacks taken p
+abbrev pub by_deadline : Bool → Bool → Bool → Bool → Bool → Steps → Verdict
+by_deadline true known lacks taken late p = NeverInTime
+by_deadline false known lacks taken late p = by_zone known lacks taken late p
 
--- the first of these cases that holds
+-- the first of these cases that holds: it is suspended, its deadline lets no time in, its zone
+-- isn't known, or by its plan
 -- rule: why-verdict
-abbrev pub by_suspension : Bool → Bool → Bool → Bool → Bool → Steps → Verdict
-by_suspension true never known lacks taken p = Suspended
-by_suspension false never known lacks taken p = by_deadline never known lacks taken p
+abbrev pub by_suspension : Bool → Bool → Bool → Bool → Bool → Bool → Steps → Verdict
+by_suspension true never known lacks taken late p = Suspended
+by_suspension false never known lacks taken late p = by_deadline never known lacks taken late p
 
--- of a CronJob's plan: whether its zone is known, and the names of the Jobs that the list lacks
+-- there are such times
+abbrev pub is_some_missed : Missed → Bool
+is_some_missed Kind.None = false
+is_some_missed (Kind.Some count latest) = true
+is_some_missed (Kind.Many latest) = true
+
+-- of a CronJob's plan: whether its zone is known, the names of the Jobs of which nothing is known,
+-- and the times that came too late
 -- rule: why-verdict
-abbrev pub verdict_of : CronSpec → Bool → List (List ℕ) → Content → Steps → Verdict
-verdict_of spec known lacking content p =
+abbrev pub verdict_of : CronSpec → Bool → List (List ℕ) → Missed → Content → Steps → Verdict
+verdict_of spec known unknown late content p =
     by_suspension spec.suspend (is_never spec.starting_deadline_seconds) known
-    (lacks_any lacking && not (is_sure spec.policy p.claim)) (is_taken content p.make) p
+    (lacks_any unknown && not (is_sure spec.policy p.claim)) (is_taken content p.make)
+    (is_some_missed late) p
 
 -- ---- which want a look
 
@@ -80,7 +91,7 @@ is_behind Kind.None = false
 is_behind (Kind.Some count latest) = nat_lt 1 count
 is_behind (Kind.Many latest) = true
 
--- a suspended CronJob is as somebody wants it
+-- a CronJob that is suspended is as somebody wants it
 -- rule: why-problems
 abbrev pub is_problem : Verdict → Missed → Bool
 is_problem Starts missed = is_behind missed
@@ -93,6 +104,7 @@ is_problem LacksJobs missed = true
 is_problem NeverInTime missed = true
 is_problem NeverDue missed = true
 is_problem ZoneUnknown missed = true
+is_problem TooLate missed = true
 
 -- ---- in words
 
@@ -108,3 +120,4 @@ verdict_text LacksJobs = codes "lacks Jobs"
 verdict_text NeverInTime = codes "never: spec.startingDeadlineSeconds"
 verdict_text NeverDue = codes "never: spec.schedule"
 verdict_text ZoneUnknown = codes "zone unknown"
+verdict_text TooLate = codes "too late: spec.startingDeadlineSeconds"

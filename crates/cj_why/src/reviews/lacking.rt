@@ -1,7 +1,7 @@
 // What is printed of a plan where the list lacks Jobs, and what never starts one.
 ghost use Rattle.std.specs.Prelude.{◌≡◌, ◌++◌, IfOk, IfErr, string_bytes};
 ghost use Rattle.cj_base.specs.declared.refusal.Refusal.TheVariants.{OutOfMemory};
-ghost use Rattle.cj_why.specs.reviews.Lacking.{is_sure, lack_lines, lines_for, never_by, never_line, sure_lines};
+ghost use Rattle.cj_why.specs.reviews.Lacking.{is_known, is_sure, lack_lines, lines_for, never_by, never_line, sure_lines};
 
 use crate::reviews::steps_text::{plan_text, push_line, push_time};
 use crate::running::lacks_any;
@@ -45,20 +45,32 @@ fn sure_lines(alloc: Global, sure: bool, steps: &Steps) -> Result<String, Refusa
     Ok(text)
 }
 
-/// The names that the list lacks, and the lines of the plan, where that doesn't rest on them.
+/// Whether the plan is that of the CronJob's controller, by the names of its Jobs of which nothing
+/// is known.
+pub(crate) fn is_known(unknown: &[ObjectName], policy: Policy, steps: &Steps) -> bool
+    ensures { result ≡ is_known unknown.now policy steps.now }
+{
+    let has_all = !lacks_any(unknown);
+    let is_sure = is_sure(policy, &steps.claim);
+    has_all || is_sure
+}
+
+/// The names that the list lacks, and the lines of the plan, where it doesn't rest on those of
+/// which nothing is known.
 pub(crate) fn lines_for(
     alloc: Global,
     lacking: &[ObjectName],
+    unknown: &[ObjectName],
     policy: Policy,
     steps: &Steps,
 ) -> Result<String, Refusal>
-    ensures ok { IfOk result (λ s. string_bytes s ≡ lines_for lacking.now policy steps.now) }
+    ensures ok { IfOk result (λ s. string_bytes s
+        ≡ lines_for lacking.now unknown.now policy steps.now) }
     ensures err { IfErr result (λ e. e ≡ OutOfMemory) }
 {
     let mut text = lack_lines(alloc, lacking)?;
-    let has_all = !lacks_any(lacking);
-    let is_sure = is_sure(policy, &steps.claim);
-    let lines = sure_lines(alloc, has_all || is_sure, steps)?;
+    let known = is_known(unknown, policy, steps);
+    let lines = sure_lines(alloc, known, steps)?;
     text.push_str(lines.as_str())?;
     Ok(text)
 }
