@@ -8,5 +8,6 @@ pub mod RunsIn
 pub mod Controls
 pub mod OfCron
 pub mod Marking
+pub mod Rows
 pub mod Gaps
 pub mod Audited
