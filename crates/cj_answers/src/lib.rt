@@ -29,6 +29,7 @@ pub use advice::{all_dropped_words, manifest_advice};
 pub use answer::{Answer, Ending};
 pub use as_json::{is_form, is_json, refused_form, value_line};
 pub use clusters::{ending_by, is_read, item_prefix, note_lines, note_words, refused_list};
+pub use coming::schedule_advice;
 pub use describe::describe_answer;
 pub use given::{given_for, given_zones, refused_pair};
 pub use json::{json_words, yaml_words};

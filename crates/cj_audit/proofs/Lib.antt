@@ -1,6 +1,7 @@
 pub mod Members
 pub mod Orders
 pub mod Noting
+pub mod Untold
 pub mod Walks
 pub mod PairsIn
 pub mod InMaps

@@ -1,7 +1,7 @@
 -- What is wrong in a cluster: Jobs that a correct controller would not have made, and due times for
 -- which it would have made one (Kubernetes CronJob documentation, "Concurrency policy" and "CronJob
 -- limitations").
-use Rattle.std.specs.Prelude.{◌≡◌, ◌⊎◌, ℕ, Bool, false, List, Option, Some, None, All, Contains}
+use Rattle.std.specs.Prelude.{◌≡◌, ◌⊎◌, ℕ, ◌||◌, Bool, true, false, List, [], ◌∷◌, Option, Some, None, All, Contains, is_some}
 use Rattle.std.specs.List.{list_any}
 use Rattle.std.specs.List.Sorted.{IsStrictlySortedBy}
 use Rattle.std.specs.FinMap as map
@@ -76,6 +76,17 @@ IsFindingOf zones content c f =
 abbrev pub has_cron : Content → Job → Bool
 has_cron content job = list_any (λ c. is_of c job) (map.values content.crons)
 
+abbrev pub has_any : {A : Type 0} → List A → Bool
+has_any [] = false
+has_any (x ∷ xs) = true
+
+-- the list has a CronJob, be it one that can't be used; a list of Jobs alone says of none whether
+-- it is there
+-- rule: audit-stray
+abbrev pub tells_crons : Content → List ItemNote → Bool
+tells_crons content notes =
+    has_any (map.values content.crons) || list_any (λ note. is_some note.cron) notes
+
 -- the finding on a Job whose controller reference names a CronJob
 abbrev pub stray_finding : Job → List ℕ → Finding
 stray_finding job name = record {
@@ -89,7 +100,7 @@ stray_finding job name = record {
 
 -- the controller reference of the Job names a CronJob of batch/v1, and no CronJob of the cluster
 -- controls the Job: none is at that key, or one with another uid; nor is it that of an item that
--- can't be used, and nobody made it by hand
+-- can't be used, and nobody made it by hand; where the list has CronJobs at all
 -- rule: audit-stray
 pub record IsStrayJob (content : Content) (notes : List ItemNote) (job : Job) (f : Finding)
     : Type 0 where
@@ -98,7 +109,10 @@ pub record IsStrayJob (content : Content) (notes : List ItemNote) (job : Job) (f
   pub made : is_manual content.times job ≡ false
   pub unlisted : is_of_refused notes job ≡ false
   pub free : has_cron content job ≡ false
+  pub told : tells_crons content notes ≡ true
   pub is : f ≡ stray_finding job name
+
+-- ---- all of them
 
 -- what is wrong with the Jobs of a CronJob of the cluster
 pub record IsFindingIn (zones : List Zone) (content : Content) (f : Finding) : Type 0 where

@@ -38,7 +38,7 @@ fn note_crons(
 /// What is wrong in the cluster: each Job, and each two, that a correct controller would not have
 /// made, and each due time for which it would have made one. The zones are those that its CronJobs
 /// may name; one that names none goes by UTC. A Job of a CronJob whose item can't be used, by these
-/// notes, is no stray.
+/// notes, is no stray; nor is any in a list without a CronJob.
 pub fn audit(
     alloc: Global,
     zones: &ZoneTable,

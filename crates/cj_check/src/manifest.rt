@@ -8,12 +8,12 @@ ghost use Rattle.cj_zone.specs.Table.{zones_of};
 ghost use Rattle.cj_answers.specs.Advice.{dropped_words_all};
 ghost use Rattle.cj_answers.specs.Lines.{fault_lines, ok_line, warning_lines};
 ghost use Rattle.cj_answers.specs.Outcome.{explained, outcome_of};
-ghost use Rattle.cj_check.specs.Check.{IsChecked, IsNoJson, ended, faulty, fine_ending, is_alone, pod_words};
+ghost use Rattle.cj_check.specs.Check.{IsChecked, IsComingWords, IsNoJson, ended, faulty, fine_ending, is_alone, is_harmless, is_no_text, pod_words, strict_words};
 
 use crate::fault_words::fault_words;
 use cj_answers::{
     Answer, Ending, all_dropped_words, asked_moment, json_words, manifest_advice, print_faults,
-    print_ok, print_warnings, yaml_words,
+    print_ok, print_warnings, schedule_advice, yaml_words,
 };
 use cj_args::CheckRequest;
 use cj_base::{FieldFault, Refusal};
@@ -38,14 +38,51 @@ fn fine_lines(
     Ok(printed)
 }
 
-// The ending for a manifest with these warnings: `--strict` refuses any.
-fn fine_ending(strict: bool, warnings: &[Warning]) -> Ending
-    ensures { result ≡ fine_ending strict warnings.now }
+// The name of the template, which `kubectl create cronjob` writes, and which no Job gets.
+fn is_harmless(warning: &Warning) -> bool
+    ensures { result ≡ is_harmless warning.now }
 {
-    if strict && !warnings.is_empty() {
+    warning.path() == "spec.jobTemplate.metadata.name"
+}
+
+fn is_no_text(text: &str) -> bool
+    ensures { result ≡ is_no_text text.now }
+{
+    text.is_empty()
+}
+
+// The ending for a manifest with these warnings: `--strict` refuses any that isn't harmless, and a
+// schedule that never comes, of which these words tell.
+fn fine_ending(strict: bool, warnings: &[Warning], coming: &str) -> Ending
+    ensures { result ≡ fine_ending strict warnings.now coming.now }
+{
+    let has_harm = warnings.iter().any(|warning| !is_harmless(warning));
+    let comes = is_no_text(coming);
+    if strict && (has_harm || !comes) {
         Ending::Refused
     } else {
         Ending::Done
+    }
+}
+
+// Those words, where `--strict` refuses the schedule and `--explain` doesn't say them anyway.
+fn strict_words<'a>(strict: bool, explain: bool, coming: &'a str) -> &'a str
+    ensures { result.now ≡ strict_words strict explain coming.now }
+{
+    match (strict, explain) {
+        (true, false) => coming,
+        (true, true) => "",
+        (false, _) => "",
+    }
+}
+
+// Whether the schedule of a CronJob comes at all.
+fn coming_words(zones: &ZoneTable, manifest: &Manifest) -> &'static str
+    ensures { IsComingWords manifest.now (zones_of zones.now) result.now }
+{
+    match manifest {
+        Manifest::CronJob(draft) => schedule_advice(zones, &draft.spec),
+        Manifest::Job(_) => "",
     }
 }
 
@@ -91,17 +128,20 @@ fn fine(
     manifest: &Manifest,
     warnings: &[Warning],
     advice: &str,
+    coming: &str,
 ) -> Result<Answer, Failure>
     ensures { IfOk result (λ a. outcome_of a ≡ explained check.now.explain
         (dropped_words_all warnings.now ++ (advice.now ++ pod_words alone))
-        (ended (fine_ending check.now.strict warnings.now)
+        (ended (fine_ending check.now.strict warnings.now coming.now)
+        (strict_words check.now.strict check.now.explain coming.now)
         (ok_line (kind_of manifest.now) (key_of manifest.now) ++ warning_lines warnings.now))) }
 {
     let words = fine_words(alloc, alone, warnings, advice)?;
+    let said = strict_words(check.strict, check.explain, coming);
     let answer = Answer {
-        ending: fine_ending(check.strict, warnings),
+        ending: fine_ending(check.strict, warnings, coming),
         printed: fine_lines(alloc, manifest, warnings)?,
-        said: String::new(alloc),
+        said: String::from_str(alloc, said)?,
     };
     Ok(answer.explained(check.explain, words.as_str())?)
 }
@@ -192,7 +232,9 @@ pub(crate) fn fine_answer(
 {
     let moment = asked_moment(alloc, check.moment)?;
     let words = manifest_advice(alloc, zones, manifest, moment)?;
-    fine(alloc, check, alone, manifest, warnings, words.as_str())
+    let coming = coming_words(zones, manifest);
+    let words = words.as_str();
+    fine(alloc, check, alone, manifest, warnings, words, coming)
 }
 
 /// The answer for bytes that are refused, alone or among others.
