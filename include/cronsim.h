@@ -217,10 +217,10 @@ uint32_t cronsim_plan(const uint8_t *scenario, size_t scenario_length, uint64_t 
  * Audits a cluster. The list is the output of `kubectl get cronjobs,jobs -A -o json`. Answers
  * CRONSIM_DONE, even if much is wrong, with what `cronsim audit -o json` prints: an object with
  * `cronJobs` and `jobs`, how many it looked at; `findings`, each with its `finding` (twice, beside,
- * undue, early, missing or stray), the `namespace` and `name` of the CronJob, the `time`, and the
- * names of the `jobs`; `manual`, the Jobs that somebody made by hand; and in `refused` and `others`
- * the items of the list that it can't use. CRONSIM_REFUSED if the text is no list; CRONSIM_ROOM;
- * CRONSIM_MEMORY.
+ * undue, early, missing, stray or stuck), the `namespace` and `name` of the CronJob, the `time`,
+ * and the names of the `jobs`; `manual`, the Jobs that somebody made by hand; and in `refused` and
+ * `others` the items of the list that it can't use. CRONSIM_REFUSED if the text is no list;
+ * CRONSIM_ROOM; CRONSIM_MEMORY.
  */
 uint32_t cronsim_audit(const uint8_t *list, size_t list_length, const uint8_t *zones,
                        size_t zones_length, uint8_t *answer, size_t capacity, size_t *length);

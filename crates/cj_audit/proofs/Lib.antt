@@ -12,3 +12,4 @@ pub mod Marking
 pub mod Rows
 pub mod Gaps
 pub mod Audited
+pub mod Untold

@@ -5,7 +5,7 @@ use Rattle.cj_zone.specs.declared.zone.Zone.{Zone}
 use Rattle.cj_audit.specs.declared.finding.Finding.{Finding}
 use Rattle.cj_audit.specs.Findings.{IsAudit}
 use Rattle.cj_audit.specs.Manual.{manual_lines}
-use Rattle.cj_audit.specs.Told.{has_jobs_alone}
+use Rattle.cj_audit.specs.Told.{has_jobs_alone, times_words}
 use Rattle.cj_audit.specs.Words.{audit_words}
 use Rattle.cj_cluster.specs.kubectl.Reading.{IsClusterList}
 use Rattle.cj_cluster.specs.declared.kubectl.list.ClusterList.{ClusterList}
@@ -50,14 +50,14 @@ abbrev pub manual_words : List ℕ → List ℕ
 manual_words [] = []
 manual_words (x ∷ xs) = codes "manual: somebody made such a Job, as kubectl create job --from does; no controller did, so no finding is of it\n"
 
--- what is wrong with the items that can't be used, what a Job made by hand means, and what the
--- findings do
+-- what is wrong with the items that can't be used, what a Job made by hand means, how many tell
+-- their time otherwise, and what the findings mean
 -- rule: audit-explained
 abbrev pub words_of : ClusterList → List Finding → List ℕ
 words_of list findings =
     note_words list.notes
     ++ (manual_words (manual_lines list.cluster.times (map.values list.cluster.jobs))
-    ++ audit_words findings)
+    ++ (times_words list.cluster.times (map.values list.cluster.jobs) ++ audit_words findings))
 
 -- of a list that was read, in a picture or else as JSON or in lines
 pub record AuditsList (explain svg json : Bool) (zones : List Zone) (bytes : List ℕ) (o : Outcome)

@@ -107,6 +107,20 @@ unknown_of r list =
 abbrev pub meant_of : WhyRequest → ClusterList → List ClusterCron
 meant_of r list = chosen (within_of r) r.crons.items (map.values list.cluster.crons)
 
+-- an item that can't be used is told of: where CronJobs are named, one that is of such a CronJob
+-- rule: why-named
+abbrev pub is_told : Option (List ℕ) → List (Bor (List ℕ)) → ItemNote → Bool
+is_told within texts note =
+    is_nothing texts || list_any (λ t. is_noted within t.now note.cron) texts
+
+-- the list with the items that are told of
+-- rule: why-named
+abbrev pub narrowed : WhyRequest → ClusterList → ClusterList
+narrowed r list = record {
+  cluster = list.cluster;
+  notes = filter (is_told (within_of r) r.crons.items) list.notes;
+}
+
 -- ---- what is told beside the answer
 
 -- the item that can't be used is a CronJob of that namespace
@@ -276,7 +290,7 @@ pub record ReviewsList (r : WhyRequest) (zones : List Zone) (now : ℕ) (bytes :
     : Type 0 where
   pub list : ClusterList
   pub read : IsClusterList zones bytes list
-  pub reviewed : IsListReviewed r zones now list o
+  pub reviewed : IsListReviewed r zones now (narrowed r list) o
 
 -- what the bytes of a list are answered
 abbrev pub IsReviewed : WhyRequest → List Zone → ℕ → List ℕ → Outcome → Type 0

@@ -5,6 +5,7 @@ ghost use Rattle.cj_base.specs.declared.refusal.Refusal.TheVariants.{OutOfMemory
 ghost use Rattle.cj_zone.specs.Table.{zones_of};
 ghost use Rattle.cj_audit.specs.Lines.{audit_lines};
 ghost use Rattle.cj_audit.specs.Manual.{manual_lines};
+ghost use Rattle.cj_audit.specs.Told.{times_words};
 ghost use Rattle.cj_audit.specs.Words.{audit_words};
 ghost use Rattle.cj_cluster.specs.kubectl.Reading.{IsClusterList};
 ghost use Rattle.cj_inspect.specs.Audit.{AuditsList, IsAuditAnswer, alone_line, IsAuditOutcome, IsAuditedOf, audited, is_clean, manual_words, words_of};
@@ -21,7 +22,7 @@ use cj_answers::{
 };
 use cj_args::AuditRequest;
 use cj_audit::{
-    Finding, Findings, audit, audit_text, audit_words, has_jobs_alone, manual_text,
+    Finding, Findings, audit, audit_text, audit_words, has_jobs_alone, manual_text, times_text,
 };
 use cj_base::{Refusal, both};
 use cj_cluster::{ClusterList, read_cluster};
@@ -149,12 +150,15 @@ fn manual_words(lines: &str) -> &'static str
 fn found_words(alloc: Global, list: &ClusterList, findings: &Findings) -> Result<String, Refusal>
     ensures ok { IfOk result (λ s. string_bytes s
         ≡ manual_words (manual_lines list.now.cluster.times (map.values list.now.cluster.jobs))
-        ++ audit_words findings.now) }
+        ++ (times_words list.now.cluster.times (map.values list.now.cluster.jobs)
+        ++ audit_words findings.now)) }
     ensures err { IfErr result (λ e. e ≡ OutOfMemory) }
 {
     let lines = manual_text(alloc, &list.cluster)?;
+    let mut rest = times_text(alloc, &list.cluster)?;
     let found = audit_words(alloc, findings)?;
-    Ok(joined(alloc, manual_words(lines.as_str()), found.as_str())?)
+    rest.push_str(found.as_str())?;
+    Ok(joined(alloc, manual_words(lines.as_str()), rest.as_str())?)
 }
 
 fn words(alloc: Global, list: &ClusterList, findings: &Findings) -> Result<String, Failure>

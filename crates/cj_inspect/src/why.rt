@@ -14,7 +14,7 @@ mod table;
 
 use crate::as_json::clusters::json_reviewed;
 use crate::why::lines::lines_reviewed;
-use crate::why::naming::{meant_of, unknown_of};
+use crate::why::naming::{meant_of, narrowed, unknown_of};
 use crate::why::notices::with_notices;
 use crate::why::table::table_reviewed;
 use cj_answers::{
@@ -218,7 +218,10 @@ fn bytes_reviewed(
         (outcome_of a)) }
 {
     match read_cluster(alloc, bytes, zones) {
-        Ok(list) => list_reviewed(alloc, why, zones, bytes, &list, now),
+        Ok(list) => {
+            let list = narrowed(why, list);
+            list_reviewed(alloc, why, zones, bytes, &list, now)
+        }
         Err(fault) => refused_list(alloc, why.explain, bytes, fault),
     }
 }

@@ -12,7 +12,7 @@ use Rattle.cj_cluster.specs.declared.kubectl.item.Item.{Item}
 use Rattle.cj_cluster.specs.declared.kubectl.item.Item.TheVariants as Read
 use Rattle.cj_cluster.specs.declared.kubectl.times.CronTimes.{CronTimes}
 use Rattle.cj_cluster.specs.kubectl.Objects.{cron_made}
-use Rattle.cj_cluster.specs.kubectl.Reading.{Unless, cron_at}
+use Rattle.cj_cluster.specs.kubectl.Reading.{Unless, cron_at, marks_of}
 use Rattle.cj_cluster.specs.kubectl.Rows.{active_of}
 
 -- An item with faults is refused with just these.
@@ -31,14 +31,14 @@ unless_clear (f ∷ rest) r Further is further = absurd (cc is)
 pub cron_is : (place : ℕ) (d : Data) (draft same : CronJobDraft) (times : CronTimes) (names : List (List ℕ))
     (active : Result (List (List ℕ)) Cause) (cron : ClusterCron)
     → cron ≡ cron_made place same (unwrap_or same.meta.uid []) (value_or 0 times.created) names (given times.last)
-    (given times.success)
+    (given times.success) (marks_of d)
     → same ≡ draft → names ≡ value_or [] active → active ≡ active_of d → cron ≡ cron_at place d draft times
 cron_is place d draft same times names active cron is draft_is names_are active_is =
     is
     ∙ ap (λ x. cron_made place x (unwrap_or x.meta.uid []) (value_or 0 times.created) names (given times.last)
-    (given times.success)) draft_is
+    (given times.success) (marks_of d)) draft_is
     ∙ ap (λ x. cron_made place draft (unwrap_or draft.meta.uid []) (value_or 0 times.created) x (given times.last)
-    (given times.success)) (names_are ∙ ap (value_or []) active_is)
+    (given times.success) (marks_of d)) (names_are ∙ ap (value_or []) active_is)
 
 -- A list whose length tests as 0 is empty.
 is_nil : (seen : List FieldFault) → (length seen == 0) ≡ true → seen ≡ []

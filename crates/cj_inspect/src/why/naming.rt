@@ -3,10 +3,10 @@ ghost use Rattle.std.specs.Prelude.{◌≡◌, ◌++◌, IfOk, OnOk, codes, opti
 ghost use Rattle.std.specs.List.{list_any};
 ghost use Rattle.std.specs.FinMap as map;
 ghost use Rattle.cj_cluster.specs.kubectl.Named.{key_text};
-ghost use Rattle.cj_inspect.specs.Why.{chosen, is_called, is_meant, is_noted, is_nothing, is_unknown, is_within, line_of, line_where, meant_of, unknown_end, unknown_line, unknown_lines, unknown_of};
+ghost use Rattle.cj_inspect.specs.Why.{chosen, is_called, is_meant, is_noted, is_nothing, is_told, is_unknown, is_within, line_of, line_where, meant_of, narrowed, unknown_end, unknown_line, unknown_lines, unknown_of};
 
 use cj_args::WhyRequest;
-use cj_cluster::{ClusterCron, ClusterList, CronName, ItemNote};
+use cj_cluster::{ClusterCron, ClusterList, CronName, ItemNote, ItemNotes};
 use cj_types::{Key, Refusal, Shared};
 use std::alloc::{AllocError, Global};
 use std::slice;
@@ -219,6 +219,29 @@ fn unknown_lines(
         push_unknown(alloc, &mut lines, within, text, crons, notes)?;
     }
     Ok(lines)
+}
+
+fn is_told(within: Option<&str>, texts: &[&str], note: &ItemNote) -> bool
+    ensures { result
+        ≡ is_told (option_map (λ s. s.now) within.entry) texts.now note.now }
+{
+    let has_no_text = has_no_text(texts);
+    let is_noted = texts.iter().any(|text| is_noted(within, text, &note.cron));
+    has_no_text || is_noted
+}
+
+/// The list with the notes of the items that are told of.
+pub(crate) fn narrowed(why: &WhyRequest<'_>, list: ClusterList) -> ClusterList
+    ensures { result ≡ narrowed why.now list }
+{
+    let (within, texts) = (why.namespace, why.crons.as_slice());
+    let (cluster, notes) = list.into_parts();
+    let mut items = notes.into_items();
+    items.retain(|note| is_told(within, texts, note));
+    ClusterList {
+        cluster,
+        notes: ItemNotes::of(items),
+    }
 }
 
 /// Those of the list's CronJobs that are meant.

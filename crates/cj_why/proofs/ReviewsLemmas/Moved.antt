@@ -9,7 +9,7 @@ use Rattle.cj_why.specs.reviews.Otherwise.{otherwise_words}
 use Rattle.cj_why.specs.reviews.Words.{IsLateLine, title_line, zone_title}
 use Rattle.cj_why.specs.reviews.ZoneFor.{zone_for}
 
--- For reason_of: why the same CronJob starts a Job, by what was found for the same names and what is lacking.
+-- For seen_why: why the same CronJob starts a Job, by what was found for the same names and what is lacking.
 pub why_moved : (cron other : CronJob) (zones : List Zone) (found live : List (Option Job))
     (lacking hidden : List (List ℕ)) (now : ℕ) (words : List ℕ) → other ≡ cron → live ≡ found → hidden ≡ lacking
     → IsWhy other (zone_for other.spec.time_zone zones) (running_of other live) hidden now words

@@ -1,10 +1,9 @@
 -- In a word, why a CronJob starts a Job at a moment, or why not, and which CronJobs want a look:
 -- Kubernetes CronJob documentation, "Schedule suspension", "Deadline for delayed Job start", "Time
 -- zones" and "Concurrency policy".
-use Rattle.std.specs.Prelude.{ℕ, nat_lt, List, ◌&&◌, not, Bool, true, false, Option, None, Some, codes, is_some}
+use Rattle.std.specs.Prelude.{ℕ, ◌<◌, nat_lt, List, [], ◌∷◌, ◌&&◌, not, Bool, true, false, if◌then◌else◌, Option, None, Some, codes, is_some}
 use Rattle.std.specs.List.{list_any}
 use Rattle.std.specs.FinMap as maps
-use Rattle.cj_types.specs.declared.cron.CronSpec.{CronSpec}
 use Rattle.cj_types.specs.declared.job.JobDraft.{JobDraft}
 use Rattle.cj_types.specs.declared.policy.Reason.{Reason}
 use Rattle.cj_types.specs.declared.policy.Reason.TheVariants as Cause
@@ -13,12 +12,13 @@ use Rattle.cj_due.specs.declared.answer.Missed.{Missed}
 use Rattle.cj_due.specs.declared.answer.Missed.TheVariants as Kind
 use Rattle.cj_decide.specs.declared.start.Claim.{Claim}
 use Rattle.cj_decide.specs.declared.steps.Steps.{Steps}
-use Rattle.cj_cluster.specs.Content.{Content}
+use Rattle.cj_cluster.specs.Content.{Content, is_halted}
+use Rattle.cj_cluster.specs.declared.cron.ClusterCron.{ClusterCron}
 use Rattle.cj_why.specs.Running.{lacks_any}
 use Rattle.cj_why.specs.Why.{is_never}
 use Rattle.cj_why.specs.reviews.Lacking.{is_sure}
 use Rattle.cj_why.specs.declared.reviews.verdict.Verdict.{Verdict}
-use Rattle.cj_why.specs.declared.reviews.verdict.Verdict.TheVariants.{LacksJobs, NameTaken, NeverDue, NeverInTime, NothingMissed, Replaces, SkippedRunning, Starts, Suspended, TooLate, ZoneUnknown}
+use Rattle.cj_why.specs.declared.reviews.verdict.Verdict.TheVariants.{Deleting, LacksJobs, NameTaken, NeverDue, NeverInTime, NothingMissed, Replaces, SkippedRunning, Starts, Stuck, Suspended, TooLate, ZoneUnknown}
 
 -- the list has a Job of the name that is made
 abbrev pub is_taken : Content → Option JobDraft → Bool
@@ -61,12 +61,16 @@ abbrev pub by_deadline : Bool → Bool → Bool → Bool → Bool → Steps → 
 by_deadline true known lacks taken late p = NeverInTime
 by_deadline false known lacks taken late p = by_zone known lacks taken late p
 
--- the first of these cases that holds: it is suspended, its deadline lets no time in, its zone
--- isn't known, or by its plan
--- rule: why-verdict
 abbrev pub by_suspension : Bool → Bool → Bool → Bool → Bool → Bool → Steps → Verdict
 by_suspension true never known lacks taken late p = Suspended
 by_suspension false never known lacks taken late p = by_deadline never known lacks taken late p
+
+-- the first of these cases that holds: it is being deleted, it is stuck, or by its plan
+-- rule: why-verdict
+abbrev pub by_marks : Bool → Bool → Verdict → Verdict
+by_marks true stuck verdict = Deleting
+by_marks false true verdict = Stuck
+by_marks false false verdict = verdict
 
 -- there are such times
 abbrev pub is_some_missed : Missed → Bool
@@ -77,11 +81,17 @@ is_some_missed (Kind.Many latest) = true
 -- of a CronJob's plan: whether its zone is known, the names of the Jobs of which nothing is known,
 -- and the times that came too late
 -- rule: why-verdict
-abbrev pub verdict_of : CronSpec → Bool → List (List ℕ) → Missed → Content → Steps → Verdict
-verdict_of spec known unknown late content p =
-    by_suspension spec.suspend (is_never spec.starting_deadline_seconds) known
-    (lacks_any unknown && not (is_sure spec.policy p.claim)) (is_taken content p.make)
-    (is_some_missed late) p
+abbrev pub verdict_of : ClusterCron → Bool → List (List ℕ) → Missed → Content → Steps → Verdict
+verdict_of c known unknown late content p =
+    by_marks c.marks.is_deleting c.marks.is_stuck (by_suspension c.cron.spec.suspend
+    (is_never c.cron.spec.starting_deadline_seconds) known
+    (lacks_any unknown && not (is_sure c.cron.spec.policy p.claim)) (is_taken content p.make)
+    (is_some_missed late) p)
+
+-- when to look again: of one that starts nothing, never
+-- rule: why-verdict
+abbrev pub next_of : ClusterCron → Steps → Option ℕ
+next_of c p = if is_halted c.marks then None else p.next
 
 -- ---- which want a look
 
@@ -91,12 +101,13 @@ is_behind Kind.None = false
 is_behind (Kind.Some count latest) = nat_lt 1 count
 is_behind (Kind.Many latest) = true
 
--- a CronJob that is suspended is as somebody wants it
+-- a CronJob that is suspended or being deleted is as somebody wants it
 -- rule: why-problems
 abbrev pub is_problem : Verdict → Missed → Bool
 is_problem Starts missed = is_behind missed
 is_problem Replaces missed = is_behind missed
 is_problem NothingMissed missed = false
+is_problem Deleting missed = false
 is_problem Suspended missed = false
 is_problem SkippedRunning missed = true
 is_problem NameTaken missed = true
@@ -105,6 +116,7 @@ is_problem NeverInTime missed = true
 is_problem NeverDue missed = true
 is_problem ZoneUnknown missed = true
 is_problem TooLate missed = true
+is_problem Stuck missed = true
 
 -- ---- in words
 
@@ -121,3 +133,5 @@ verdict_text NeverInTime = codes "never: spec.startingDeadlineSeconds"
 verdict_text NeverDue = codes "never: spec.schedule"
 verdict_text ZoneUnknown = codes "zone unknown"
 verdict_text TooLate = codes "too late: spec.startingDeadlineSeconds"
+verdict_text Deleting = codes "being deleted"
+verdict_text Stuck = codes "stuck: status.active"

@@ -35,6 +35,21 @@ abbrev pub gone_lines : List (List ℕ) → List ℕ
 gone_lines [] = []
 gone_lines (name ∷ names) = gone_line name ++ gone_lines names
 
+abbrev pub deleting_words : List ℕ
+deleting_words = codes "start: none, since metadata.deletionTimestamp is set: the CronJob is being deleted\n"
+
+abbrev pub stuck_words : List ℕ
+stuck_words = codes "start: none, since a reference in status.active has no name, so that each sync of Kubernetes' controller fails; kubectl edit --subresource=status takes it out\n"
+
+-- why it starts nothing, or else by its spec, its Jobs and the times that it missed
+-- rules: why-explained, cluster-deleting, cluster-stuck
+abbrev pub IsReason : Bool → Bool → List Zone → Content → ℕ → ClusterCron → List ℕ → Type 0
+IsReason true stuck zones content now c why = why ≡ deleting_words
+IsReason false true zones content now c why = why ≡ stuck_words
+IsReason false false zones content now c why =
+    IsWhy c.cron (zone_for c.cron.spec.time_zone zones) (running_of c.cron (found content c))
+    (unknown content c) now why
+
 -- the line of the times that came too late
 pub record IsLateLine (zones : List Zone) (now : ℕ) (cron : CronJob) (text : List ℕ) : Type 0 where
   pub late : Missed
@@ -49,9 +64,7 @@ pub record IsCronWords (zones : List Zone) (content : Content) (now : ℕ) (c : 
   pub late : List ℕ
   pub too_late : IsLateLine zones now c.cron late
   pub why : List ℕ
-  pub reason : IsWhy c.cron (zone_for c.cron.spec.time_zone zones)
-      (running_of c.cron (found content c))
-      (unknown content c) now why
+  pub reason : IsReason c.marks.is_deleting c.marks.is_stuck zones content now c why
   pub are : text ≡ (title_line c.cron.key (zone_title c.cron.spec.time_zone)
       ++ (gone_lines (gone content c)
       ++ (late ++ why)))

@@ -14,20 +14,21 @@ ghost use Rattle.cj_due.specs.declared.answer.Missed.{Missed};
 ghost use Rattle.cj_why.specs.reviews.Late.{base_of};
 ghost use Rattle.cj_why.specs.reviews.Review.{IsMissedOf};
 ghost use Rattle.cj_why.specs.reviews.Seen as seen;
+ghost use Rattle.cj_why.specs.reviews.Verdict.{next_of};
 ghost use Rattle.cj_why.specs.reviews.ZoneFor.{zone_for};
 
 use crate::reviews::lacking::is_known;
 use crate::reviews::late::{base_of, late_of};
 use crate::reviews::plan_json::{jobs_value, names_value, plan_value};
 use crate::reviews::reviewing::plan_of;
-use crate::reviews::rows::row_verdict;
+use crate::reviews::rows::{next_of, row_verdict};
 use crate::reviews::seen::{found, lacking, unknown};
 use crate::reviews::since::{missed_of, since};
 use crate::reviews::verdict::Verdict;
 use crate::reviews::words::cron_words;
 use crate::reviews::zone_for::zone_of;
 use cj_base::{all_three, both};
-use cj_cluster::{Cluster, ClusterCron};
+use cj_cluster::{Cluster, ClusterCron, CronMarks};
 use cj_decide::Steps;
 use cj_due::Missed;
 use cj_json::{push_value, time_or_null, time_value};
@@ -96,17 +97,21 @@ fn plan_where(alloc: Global, is_sure: bool, steps: &Steps) -> Result<Value, Refu
     }
 }
 
-// The plan, where it doesn't rest on Jobs of which nothing is known.
+// The plan, where there is one and it doesn't rest on Jobs of which nothing is known.
 fn plan_for(
     alloc: Global,
+    marks: CronMarks,
     unknown: &[ObjectName],
     policy: Policy,
     steps: &Steps,
 ) -> Result<Value, Refusal>
-    ensures ok { IfOk result (λ v. view v ≡ json.plan_for unknown.now policy steps.now) }
+    ensures ok { IfOk result (λ v. view v
+        ≡ json.plan_for marks unknown.now policy steps.now) }
     ensures err { IfErr result (λ e. e ≡ OutOfMemory) }
 {
-    plan_where(alloc, is_known(unknown, policy, steps), steps)
+    let goes_on = !marks.is_halted();
+    let is_known = is_known(unknown, policy, steps);
+    plan_where(alloc, goes_on && is_known, steps)
 }
 
 fn running_value(alloc: Global, cluster: &Cluster, cron: &ClusterCron) -> Result<Value, Refusal>
@@ -129,8 +134,8 @@ fn jobs_values(
     ensures lacks { IfOk result (λ v. view v.0 ≡ texts_data (seen.lacking cluster.now cron.now)) }
     ensures running { IfOk result (λ v. view v.1
         ≡ jobs_data (running_of cron.now.cron (seen.found cluster.now cron.now))) }
-    ensures plan { IfOk result (λ v. view v.2 ≡ json.plan_for (seen.unknown cluster.now cron.now)
-        cron.now.cron.spec.policy steps.now) }
+    ensures plan { IfOk result (λ v. view v.2 ≡ json.plan_for cron.now.marks
+        (seen.unknown cluster.now cron.now) cron.now.cron.spec.policy steps.now) }
     ensures err { IfErr result (λ e. e ≡ OutOfMemory) }
 {
     let (lacking, unknown) = both(lacking(alloc, cluster, cron), unknown(alloc, cluster, cron))?;
@@ -138,7 +143,7 @@ fn jobs_values(
     all_three(
         names_value(alloc, lacking.as_slice()),
         running_value(alloc, cluster, cron),
-        plan_for(alloc, unknown.as_slice(), policy, steps),
+        plan_for(alloc, cron.marks, unknown.as_slice(), policy, steps),
     )
 }
 
@@ -155,7 +160,7 @@ fn times_values(
     ensures missed { IfOk result (λ v. (missed : Missed)
         × IsMissedOf cron.now.cron (zone_for cron.now.cron.spec.time_zone (zones_of zones.now)) now
         missed × (view v.0 ≡ json.missed_data missed (window_of cron.now.cron now))) }
-    ensures next { IfOk result (λ v. view v.1 ≡ time_or_null steps.now.next) }
+    ensures next { IfOk result (λ v. view v.1 ≡ time_or_null (next_of cron.now steps.now)) }
     ensures late { IfOk result (λ v. view v.2
         ≡ json.missed_data late (base_of cron.now.cron)) }
     ensures err { IfErr result (λ e. e ≡ OutOfMemory) }
@@ -164,7 +169,7 @@ fn times_values(
     let missed = missed_of(cron.cron.get(), zone, now);
     all_three(
         missed_value(alloc, missed, since(cron.cron.get(), now)),
-        time_or_null(alloc, steps.next),
+        time_or_null(alloc, next_of(cron, steps)),
         missed_value(alloc, late, base_of(cron.cron.get())),
     )
 }

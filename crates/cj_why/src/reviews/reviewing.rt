@@ -56,16 +56,22 @@ fn told_lines(
     cron: &ClusterCron,
     steps: &Steps,
 ) -> Result<String, Refusal>
-    ensures ok { IfOk result (λ s. string_bytes s ≡ never_line cron.now.cron.spec steps.now.next
-        ++ lines_for (seen.lacking cluster.now cron.now) (seen.unknown cluster.now cron.now)
-        cron.now.cron.spec.policy steps.now) }
+    ensures ok { IfOk result (λ s. string_bytes s ≡ never_line cron.now.marks cron.now.cron.spec
+        steps.now.next ++ lines_for cron.now.marks (seen.lacking cluster.now cron.now)
+        (seen.unknown cluster.now cron.now) cron.now.cron.spec.policy steps.now) }
     ensures err { IfErr result (λ e. e ≡ OutOfMemory) }
 {
     let (lacking, unknown) = both(lacking(alloc, cluster, cron), unknown(alloc, cluster, cron))?;
-    let spec = cron.cron.spec.get();
-    let (names, unknown) = (lacking.as_slice(), unknown.as_slice());
-    let lines = lines_for(alloc, names, unknown, spec.policy, steps)?;
-    let mut text = String::from_str(alloc, never_line(spec, steps.next))?;
+    let (marks, spec) = (cron.marks, cron.cron.spec.get());
+    let lines = lines_for(
+        alloc,
+        marks,
+        lacking.as_slice(),
+        unknown.as_slice(),
+        spec.policy,
+        steps,
+    )?;
+    let mut text = String::from_str(alloc, never_line(marks, spec, steps.next))?;
     text.push_str(lines.as_str())?;
     Ok(text)
 }

@@ -46,15 +46,25 @@ pub(crate) fn row_verdict(
     steps: &Steps,
 ) -> Result<Verdict, Refusal>
     requires { local_zone zones.now ≡ Some (utc_zone (codes "UTC")) }
-    ensures ok { IfOk result (λ v. v ≡ word.verdict_of cron.now.cron.spec
+    ensures ok { IfOk result (λ v. v ≡ word.verdict_of cron.now
         (is_some (zone_for cron.now.cron.spec.time_zone (zones_of zones.now)))
         (seen.unknown cluster.now cron.now) late cluster.now steps.now) }
     ensures err { IfErr result (λ e. e ≡ OutOfMemory) }
 {
     let unknown = unknown(alloc, cluster, cron)?;
     let known = zone_of(zones, &cron.cron.spec.time_zone).is_some();
-    let spec = cron.cron.spec.get();
-    Ok(verdict_of(cluster, spec, known, unknown.as_slice(), late, steps))
+    Ok(verdict_of(cluster, cron, known, unknown.as_slice(), late, steps))
+}
+
+/// When to look again, by the CronJob's plan.
+pub(crate) fn next_of(cron: &ClusterCron, steps: &Steps) -> Option<Seconds>
+    ensures { result ≡ word.next_of cron.now steps.now }
+{
+    if cron.marks.is_halted() {
+        None
+    } else {
+        steps.next
+    }
 }
 
 fn row_of(
@@ -80,7 +90,7 @@ fn row_of(
         cron: cron.share()?,
         missed,
         verdict,
-        next: plan.steps().next,
+        next: next_of(object, plan.steps()),
         words,
     })
 }

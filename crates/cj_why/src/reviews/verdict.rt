@@ -1,15 +1,15 @@
 // In a word, why a CronJob starts a Job at a moment, or why not.
 ghost use Rattle.std.specs.Prelude.{◌≡◌};
 ghost use Rattle.std.specs.List.{list_any};
-ghost use Rattle.cj_why.specs.reviews.Verdict.{by_claim, by_deadline, by_suspension, by_zone, is_behind, is_problem, is_skipped, is_some_missed, is_taken, resting, starting, verdict_of, verdict_text};
+ghost use Rattle.cj_why.specs.reviews.Verdict.{by_claim, by_deadline, by_marks, by_suspension, by_zone, is_behind, is_problem, is_skipped, is_some_missed, is_taken, resting, starting, verdict_of, verdict_text};
 
 use crate::reviews::lacking::is_sure;
 use crate::running::lacks_any;
 use crate::start::is_never;
-use cj_cluster::Cluster;
+use cj_cluster::{Cluster, ClusterCron, CronMarks};
 use cj_decide::Steps;
 use cj_due::Missed;
-use cj_types::{CronSpec, JobDraft, ObjectName, Reason, Seconds};
+use cj_types::{JobDraft, ObjectName, Reason, Seconds};
 
 /// Why a CronJob starts a Job at a moment, or why not.
 #[derive(Clone, Copy, Debug)]
@@ -37,6 +37,11 @@ pub enum Verdict {
     /// No time was missed that is still in time, but some that came too late for
     /// `spec.startingDeadlineSeconds`.
     TooLate,
+    /// It is being deleted: it has a `metadata.deletionTimestamp`.
+    Deleting,
+    /// A reference in its `status.active` names no Job, so that each sync of Kubernetes' controller
+    /// fails.
+    Stuck,
 }
 
 impl Verdict {
@@ -56,6 +61,8 @@ impl Verdict {
             Verdict::NeverDue => "never: spec.schedule",
             Verdict::ZoneUnknown => "zone unknown",
             Verdict::TooLate => "too late: spec.startingDeadlineSeconds",
+            Verdict::Deleting => "being deleted",
+            Verdict::Stuck => "stuck: status.active",
         }
     }
 }
@@ -163,6 +170,16 @@ fn by_suspension(suspend: bool, never: bool, known: Known, steps: &Steps) -> Ver
     }
 }
 
+fn by_marks(marks: CronMarks, verdict: Verdict) -> Verdict
+    ensures { result ≡ by_marks marks.is_deleting marks.is_stuck verdict }
+{
+    match (marks.is_deleting, marks.is_stuck) {
+        (true, _) => Verdict::Deleting,
+        (false, true) => Verdict::Stuck,
+        (false, false) => verdict,
+    }
+}
+
 fn is_some_missed(missed: Missed) -> bool
     ensures { result ≡ is_some_missed missed }
 {
@@ -177,14 +194,15 @@ fn is_some_missed(missed: Missed) -> bool
 /// of which nothing is known, and by the times that came too late for its deadline.
 pub(crate) fn verdict_of(
     cluster: &Cluster,
-    spec: &CronSpec,
+    cron: &ClusterCron,
     zone: bool,
     unknown: &[ObjectName],
     late: Missed,
     steps: &Steps,
 ) -> Verdict
-    ensures { result ≡ verdict_of spec.now zone unknown.now late cluster.now steps.now }
+    ensures { result ≡ verdict_of cron.now zone unknown.now late cluster.now steps.now }
 {
+    let spec = cron.cron.spec.get();
     let never = is_never(spec.starting_deadline_seconds);
     let is_sure = is_sure(spec.policy, &steps.claim);
     let lacks = lacks_any(unknown) && !is_sure;
@@ -196,7 +214,7 @@ pub(crate) fn verdict_of(
         taken,
         late,
     };
-    by_suspension(spec.suspend, never, known, steps)
+    by_marks(cron.marks, by_suspension(spec.suspend, never, known, steps))
 }
 
 fn is_behind(missed: Missed) -> bool
@@ -215,13 +233,14 @@ pub(crate) fn is_problem(verdict: Verdict, missed: Missed) -> bool
 {
     match verdict {
         Verdict::Starts | Verdict::Replaces => is_behind(missed),
-        Verdict::NothingMissed | Verdict::Suspended => false,
+        Verdict::NothingMissed | Verdict::Suspended | Verdict::Deleting => false,
         Verdict::SkippedRunning
         | Verdict::NameTaken
         | Verdict::LacksJobs
         | Verdict::NeverInTime
         | Verdict::NeverDue
         | Verdict::ZoneUnknown
-        | Verdict::TooLate => true,
+        | Verdict::TooLate
+        | Verdict::Stuck => true,
     }
 }

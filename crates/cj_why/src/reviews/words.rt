@@ -1,5 +1,5 @@
 // What `why` says of a CronJob of a cluster.
-ghost use Rattle.std.specs.Prelude.{◌≡◌, ◌++◌, codes, Some, IfOk, IfErr, OnOk, string_bytes};
+ghost use Rattle.std.specs.Prelude.{◌≡◌, ◌++◌, false, codes, Some, IfOk, IfErr, OnOk, string_bytes};
 ghost use Rattle.cj_decide.specs.Decision.{running_of};
 ghost use Rattle.cj_why.specs.Why.{IsWhy};
 ghost use Rattle.cj_why.specs.reviews.ZoneFor.{zone_for};
@@ -7,8 +7,8 @@ ghost use Rattle.cj_base.specs.declared.refusal.Refusal.TheVariants.{OutOfMemory
 ghost use Rattle.cj_zone.specs.Table.{local_zone, zones_of};
 ghost use Rattle.cj_zone.specs.Zones.{utc_zone};
 ghost use Rattle.cj_why.specs.reviews.Otherwise.{otherwise_words};
-ghost use Rattle.cj_why.specs.reviews.Seen as seen;
-ghost use Rattle.cj_why.specs.reviews.Words.{IsAskedWords, IsCronWords, IsLateLine, gone_line, gone_lines, title_line, zone_title};
+ghost use Rattle.cj_why.specs.reviews.Seen.{gone};
+ghost use Rattle.cj_why.specs.reviews.Words.{IsAskedWords, IsCronWords, IsLateLine, IsReason, gone_line, gone_lines, title_line, zone_title};
 
 use crate::reviews::late::{late_of, late_words};
 use crate::reviews::otherwise::otherwise_words;
@@ -80,7 +80,26 @@ fn why_of(
     why(alloc, cron, zone, found, unknown, now)
 }
 
-// Why a CronJob of a cluster starts a Job, or why not.
+// The same of a CronJob that isn't being deleted and isn't stuck.
+fn seen_why(
+    alloc: Global,
+    zones: &ZoneTable,
+    cluster: &Cluster,
+    cron: &ClusterCron,
+    now: Seconds,
+) -> Result<String, Refusal>
+    requires { local_zone zones.now ≡ Some (utc_zone (codes "UTC")) }
+    ensures ok { IfOk result (λ s. IsReason false false (zones_of zones.now) cluster.now now
+        cron.now (string_bytes s)) }
+    ensures err { IfErr result (λ e. e ≡ OutOfMemory) }
+{
+    let found = found(alloc, cluster, cron)?;
+    let unknown = unknown(alloc, cluster, cron)?;
+    let (live, names) = (found.as_slice(), unknown.as_slice());
+    why_of(alloc, zones, cron.cron.get(), live, names, now)
+}
+
+// Why a CronJob starts a Job, or why not.
 fn reason_of(
     alloc: Global,
     zones: &ZoneTable,
@@ -89,16 +108,21 @@ fn reason_of(
     now: Seconds,
 ) -> Result<String, Refusal>
     requires { local_zone zones.now ≡ Some (utc_zone (codes "UTC")) }
-    ensures ok { IfOk result (λ s. IsWhy cron.now.cron
-        (zone_for cron.now.cron.spec.time_zone (zones_of zones.now))
-        (running_of cron.now.cron (seen.found cluster.now cron.now))
-        (seen.unknown cluster.now cron.now) now (string_bytes s)) }
+    ensures ok { IfOk result (λ s. IsReason cron.now.marks.is_deleting cron.now.marks.is_stuck
+        (zones_of zones.now) cluster.now now cron.now (string_bytes s)) }
     ensures err { IfErr result (λ e. e ≡ OutOfMemory) }
 {
-    let found = found(alloc, cluster, cron)?;
-    let unknown = unknown(alloc, cluster, cron)?;
-    let (live, names) = (found.as_slice(), unknown.as_slice());
-    why_of(alloc, zones, cron.cron.get(), live, names, now)
+    match (cron.marks.is_deleting, cron.marks.is_stuck) {
+        (true, _) => Ok(String::from_str(
+            alloc,
+            "start: none, since metadata.deletionTimestamp is set: the CronJob is being deleted\n",
+        )?),
+        (false, true) => Ok(String::from_str(
+            alloc,
+            "start: none, since a reference in status.active has no name, so that each sync of Kubernetes' controller fails; kubectl edit --subresource=status takes it out\n",
+        )?),
+        (false, false) => seen_why(alloc, zones, cluster, cron, now),
+    }
 }
 
 // What Kubernetes' own controller does otherwise with it.
@@ -137,7 +161,7 @@ fn titled(
 
 // The lines of the Jobs that are gone.
 fn gone_of(alloc: Global, cluster: &Cluster, cron: &ClusterCron) -> Result<String, Refusal>
-    ensures ok { IfOk result (λ s. string_bytes s ≡ gone_lines (seen.gone cluster.now cron.now)) }
+    ensures ok { IfOk result (λ s. string_bytes s ≡ gone_lines (gone cluster.now cron.now)) }
     ensures err { IfErr result (λ e. e ≡ OutOfMemory) }
 {
     let names = gone(alloc, cluster, cron)?;

@@ -1,7 +1,7 @@
--- standing_of: its ensures where there is no schedule, and where one comes or doesn't.
+-- spec_standing: its ensures where there is no schedule, and where one comes or doesn't.
 use Rattle.std.proofs.Common.{◌≡◌, ◌∙◌, Some, None, refl, sym}
 use Rattle.cj_schedule.specs.Matches.{Sets}
-use Rattle.cj_upcoming.proofs.standing.standing_of.Goals as goal
+use Rattle.cj_upcoming.proofs.standing.spec_standing.Goals as goal
 
 -- A schedule isn't none.
 some_none : (s : Sets) → None ≡ Some s → ⊥

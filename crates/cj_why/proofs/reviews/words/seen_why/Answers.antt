@@ -1,10 +1,10 @@
--- reason_of: its clause ok, from that of why_of for the CronJob itself and what was found.
+-- seen_why: its clause ok, from that of why_of for the CronJob itself and what was found.
 use Rattle.std.proofs.Common.{rules, string_bytes}
 use Rattle.std.proofs.lemmas.Result.{IfOk-weaker}
 use Rattle.cj_zone.specs.Table.{zones_of}
 use Rattle.cj_why.specs.reviews.Seen.{found, unknown}
 use Rattle.cj_why.proofs.ReviewsLemmas.Moved.{why_moved}
-use Rattle.cj_why.proofs.reviews.words.reason_of.Goals as goal
+use Rattle.cj_why.proofs.reviews.words.seen_why.Goals as goal
 
 pub returns-clause-ok : goal.returns-clause-ok
 returns-clause-ok c =
