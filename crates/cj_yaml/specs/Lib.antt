@@ -1,0 +1,3 @@
+pub mod Escapes
+pub mod Places
+pub mod Words
