@@ -28,5 +28,6 @@ coded_char c =
     (cond (is_coded c) (code_escape c) (encode_utf8 c)))
 
 -- the text in double quotes
+-- rule: yaml-printed
 abbrev pub coded_text : List ℕ → List ℕ
 coded_text t = (34 ∷ []) ++ flat_map coded_char (chars t) ++ (34 ∷ [])

@@ -38,9 +38,11 @@ abbrev pub start : Place
 start = record { line = 1; column = 1 }
 
 -- the place of the byte at an offset: the line and the column in characters, both from 1
+-- rule: yaml-place
 abbrev pub place_at : List ℕ → ℕ → Place
 place_at text at = place_after text (mark_len text) (at - mark_len text) start
 
 -- a place lies in a text: it is that of a byte, or of the end
+-- rule: yaml-place
 abbrev pub IsPlaceIn : List ℕ → Place → Type 0
 IsPlaceIn text p = (at : ℕ) × (at ≤ length text) × (p ≡ place_at text at)

@@ -10,6 +10,7 @@ use Rattle.cj_yaml.specs.declared.resolve.Plain.TheVariants.{Null, Bool as Truth
 use Rattle.cj_yaml.specs.Escapes.{coded_text}
 
 -- a text that begins with a digit, a sign or a dot, as numbers do
+-- rule: yaml-words
 abbrev pub begins_number : List ℕ → Bool
 begins_number t =
     (nat_le 48 (slice_index t 0) && nat_le (slice_index t 0) 57)
@@ -40,6 +41,7 @@ is_old_false t =
     || bytes_eq t (codes "off") || bytes_eq t (codes "Off") || bytes_eq t (codes "OFF")
 
 -- what it is: nothing, a boolean, or a text, of which YAML 1.1 may read another
+-- rule: yaml-words
 abbrev pub word_of : List ℕ → Plain
 word_of t =
     cond (is_null t) Null
@@ -48,6 +50,7 @@ word_of t =
     (cond (is_old_true t || is_old_false t) (Text (Some Boolean)) (Text None))))
 
 -- a text that is one where it stands without quotes, in YAML 1.1 too
+-- rules: yaml-printed, yaml-reads-back
 pub record IsPlainText (t : List ℕ) : Type 0 where
   pub begins : begins_number t ≡ false
   pub word : word_of t ≡ Text None
@@ -61,11 +64,13 @@ begins_odd a b c =
     || ((a == 239) && (((b == 187) && (c == 191)) || ((b == 191) && nat_lt 189 c)))
 
 -- such a character is in a text
+-- rule: yaml-printed
 abbrev pub has_odd : List ℕ → Bool
 has_odd [] = false
 has_odd (a ∷ rest) = begins_odd a (slice_index rest 0) (slice_index rest 1) || has_odd rest
 
 -- how a text is printed: as it is, as JSON has it, or with codes where it has such characters
+-- rule: yaml-printed
 pub data IsPrinted : List ℕ → List ℕ → Type 0 where
   plain : {t : List ℕ} → IsPlainText t → IsPrinted t t
   as_json : {t printed : List ℕ} → has_odd t ≡ false → printed ≡ compact_text (string t)
