@@ -1,3 +1,5 @@
+pub mod CodedTexts
 pub mod Depths
 pub mod JsonTexts
 pub mod Odd
+pub mod PrintedTexts

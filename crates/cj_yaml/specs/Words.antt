@@ -72,7 +72,7 @@ has_odd (a ∷ rest) = begins_odd a (slice_index rest 0) (slice_index rest 1) ||
 -- how a text is printed: as it is, as JSON has it, or with codes where it has such characters
 -- rule: yaml-printed
 pub data IsPrinted : List ℕ → List ℕ → Type 0 where
-  plain : {t : List ℕ} → IsPlainText t → IsPrinted t t
+  plain : {t printed : List ℕ} → IsPlainText t → printed ≡ t → IsPrinted t printed
   as_json : {t printed : List ℕ} → has_odd t ≡ false → printed ≡ compact_text (string t)
     → IsPrinted t printed
   coded : {t printed : List ℕ} → has_odd t ≡ true → printed ≡ coded_text t → IsPrinted t printed

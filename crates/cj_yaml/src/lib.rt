@@ -25,6 +25,7 @@ mod escape;
 mod fault;
 mod flow;
 mod grow;
+mod law;
 mod mark;
 mod notes;
 mod place;
@@ -38,6 +39,7 @@ mod stream;
 mod writer;
 
 pub use fault::{Fault, FaultKind};
+pub use law::printed_texts_law;
 pub use mark::{Warning, WarningKind};
 pub use place::Place;
 pub use places::{Places, Step};

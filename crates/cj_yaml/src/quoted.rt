@@ -1,8 +1,8 @@
 // Quoted texts (YAML 1.2.2, 7.3).
-ghost use Rattle.std.specs.Prelude.{◌≡◌, ℕ, List, IfOk, IfErr, IsSomeAnd, IsUtf8, string_bytes};
+ghost use Rattle.std.specs.Prelude.{◌≡◌, ℕ, List, Some, IfOk, IfErr, IsSomeAnd, IsUtf8, string_bytes};
 ghost use Rattle.serde_json.specs.View.{view};
 ghost use Rattle.serde_json.specs.Data.{string};
-ghost use Rattle.serde_json.specs.Written.{compact_text};
+ghost use Rattle.serde_json.specs.Read.{read};
 ghost use Rattle.cj_yaml.specs.declared.fault.FaultKind.TheVariants.{OutOfMemory};
 
 use crate::chars::{byte, part};
@@ -86,10 +86,9 @@ fn text_of(value: Value) -> Option<String>
     }
 }
 
-// The text that JSON reads of a text in double quotes, where it does. What JSON prints of a text
-// reads as that text.
+// The text that JSON reads of a text in double quotes, where it does.
 fn json_text(alloc: Global, raw: &[u8]) -> Result<Option<String>, Stop>
-    ensures read { (t : List ℕ) → IsUtf8 raw.now → raw.now ≡ compact_text (string t)
+    ensures read { (t : List ℕ) → IsUtf8 raw.now → read raw.now ≡ Some (string t)
         → IfOk result (λ o. IsSomeAnd o (λ s. string_bytes s ≡ t)) }
     ensures memory { IfErr result (λ e. e.kind ≡ OutOfMemory) }
 {

@@ -1,11 +1,9 @@
--- json_text: what JSON printed of a text reads as that text, so it is the value that was read.
-use Rattle.std.proofs.Common.{◌≡◌, ◌↔◌, List, ℕ, Bool, true, false, IsTrue, Some, None, sym, ap, ◌∙◌, subst, arith}
+-- json_text: what JSON reads as a text is that value.
+use Rattle.std.proofs.Common.{◌≡◌, ◌↔◌, List, ℕ, Bool, true, false, IsTrue, Some, None, sym, ◌∙◌, subst, arith}
 use Rattle.serde_json.specs.Errors.{IsMemory}
 use Rattle.serde_json.specs.declared.error.Error.{Error}
 use Rattle.serde_json.specs.Data.{Data, string}
-use Rattle.serde_json.specs.Read.{read}
 use Rattle.serde_json.specs.View.{view}
-use Rattle.cj_yaml.proofs.JsonTexts.{string_again}
 use Rattle.cj_yaml.proofs.quoted.json_text.Goals as goal
 
 -- Two values that are the same where they may be missing are the same.
@@ -25,10 +23,10 @@ other_error e f false same is off m =
 pub returns-in-Ok-clause-read : goal.returns-in-Ok-clause-read
 returns-in-Ok-clause-read c t utf8 same =
     c.text_of.ensures t
-    (same_data (view c.in-Ok.value) (string t) (sym c.in-Ok.ensures.ok.1 ∙ ap read same ∙ string_again t))
+    (same_data (view c.in-Ok.value) (string t) (sym c.in-Ok.ensures.ok.1 ∙ same))
 
 pub returns-in-Err-2-clause-read : goal.returns-in-Err-2-clause-read
 returns-in-Err-2-clause-read c t utf8 same =
     let one : c.in-Err.error ≡ c.in-Err-2.field-0 = cc in
     let other = other_error c.in-Err.error c.in-Err-2.field-0 c.is_memory.result one c.is_memory.ensures c.if-is_memory.false in
-    not_none (string t) (sym (ap read same ∙ string_again t) ∙ c.in-Err-2.ensures.err other utf8)
+    not_none (string t) (sym same ∙ c.in-Err-2.ensures.err other utf8)
