@@ -3,3 +3,4 @@ pub mod Depths
 pub mod JsonTexts
 pub mod Odd
 pub mod PrintedTexts
+pub mod Printing

@@ -1,6 +1,6 @@
 // How a text is printed: plain where it can be, else in double quotes.
 ghost use Rattle.std.specs.Bool.{OnTrue};
-ghost use Rattle.std.specs.Prelude.{◌≡◌, ◌++◌, OnOk, string_bytes, None, flat_map, chars};
+ghost use Rattle.std.specs.Prelude.{◌≡◌, ◌++◌, OnOk, string_bytes, None, false, true, flat_map, chars};
 ghost use Rattle.serde_json.specs.Data.{string};
 ghost use Rattle.serde_json.specs.Written.{compact_text};
 ghost use Rattle.cj_yaml.specs.Escapes.{code_escape, coded_char, coded_text, hex_digit, is_coded};
@@ -79,12 +79,38 @@ pub(crate) fn push_text(alloc: Global, out: &mut String, text: &str) -> Result<(
     ensures { OnOk result (GrowsByPrinted text.now (string_bytes out.old) (string_bytes out.new)) }
 {
     if is_plain(text) {
-        out.push_str(text)?;
-    } else if has_odd(text.as_bytes()) {
-        push_coded(out, text)?;
-    } else {
-        push_json(alloc, out, text)?;
+        return push_plain(out, text);
     }
+    if has_odd(text.as_bytes()) {
+        return push_odd(out, text);
+    }
+    push_quoted(alloc, out, text)
+}
+
+// Appends a text without quotes.
+fn push_plain(out: &mut String, text: &str) -> Result<(), AllocError>
+    requires { IsPlainText text.now }
+    ensures { OnOk result (GrowsByPrinted text.now (string_bytes out.old) (string_bytes out.new)) }
+{
+    out.push_str(text)?;
+    Ok(())
+}
+
+// Appends a text in double quotes that has such a character.
+fn push_odd(out: &mut String, text: &str) -> Result<(), AllocError>
+    requires { has_odd text.now ≡ true }
+    ensures { OnOk result (GrowsByPrinted text.now (string_bytes out.old) (string_bytes out.new)) }
+{
+    push_coded(out, text)?;
+    Ok(())
+}
+
+// Appends a text in double quotes that has none.
+fn push_quoted(alloc: Global, out: &mut String, text: &str) -> Result<(), AllocError>
+    requires { has_odd text.now ≡ false }
+    ensures { OnOk result (GrowsByPrinted text.now (string_bytes out.old) (string_bytes out.new)) }
+{
+    push_json(alloc, out, text)?;
     Ok(())
 }
 
