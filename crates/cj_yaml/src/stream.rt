@@ -1,5 +1,6 @@
-ghost use Rattle.std.specs.Prelude.{◌≤◌, IfErr};
+ghost use Rattle.std.specs.Prelude.{◌≡◌, ◌≤◌, IfErr, IsErrAnd, IsUtf8, OnOk};
 ghost use Rattle.cj_yaml.specs.Places.{IsPlaceIn};
+ghost use Rattle.cj_yaml.specs.declared.fault.FaultKind.TheVariants.{NotUtf8};
 ghost use Rattle.serde_json.specs.Data.{depth};
 ghost use Rattle.serde_json.specs.Read.{max_depth};
 ghost use Rattle.serde_json.specs.View.{view};
@@ -33,6 +34,21 @@ pub struct Document {
 /// The documents of a stream, or its first fault.
 pub fn read(alloc: Global, bytes: &[u8]) -> Result<Vec<Document>, Fault>
     ensures place { IfErr result (λ f. IsPlaceIn bytes.now f.place) }
+    ensures text { OnOk result (IsUtf8 bytes.now) }
+    ensures no_text { ¬ (IsUtf8 bytes.now) → IsErrAnd result (λ f. f.kind ≡ NotUtf8) }
+{
+    if let Err(error) = simdutf8::compat::from_utf8(bytes) {
+        return Err(Fault {
+            kind: FaultKind::NotUtf8,
+            place: Place::of(bytes, error.valid_up_to()),
+        });
+    }
+    read_text(alloc, bytes)
+}
+
+// The documents of bytes in UTF-8.
+fn read_text(alloc: Global, bytes: &[u8]) -> Result<Vec<Document>, Fault>
+    ensures place { IfErr result (λ f. IsPlaceIn bytes.now f.place) }
 {
     match read_stream(alloc, bytes) {
         Ok(documents) => Ok(documents),
@@ -44,7 +60,7 @@ pub fn read(alloc: Global, bytes: &[u8]) -> Result<Vec<Document>, Fault>
 }
 
 fn read_stream(alloc: Global, bytes: &[u8]) -> Result<Vec<Document>, Stop> {
-    check_bytes(bytes)?;
+    check_controls(bytes)?;
     let mut documents = Vec::new(alloc);
     let mut from = mark_len(bytes);
     for number in 0..=bytes.len() {
@@ -57,12 +73,8 @@ fn read_stream(alloc: Global, bytes: &[u8]) -> Result<Vec<Document>, Stop> {
     Ok(documents)
 }
 
-// Refuses bytes that are no text, and control characters other than tab, line feed and carriage
-// return (5.1).
-fn check_bytes(bytes: &[u8]) -> Result<(), Stop> {
-    if let Err(error) = simdutf8::compat::from_utf8(bytes) {
-        return Err(Stop::new(FaultKind::NotUtf8, error.valid_up_to()));
-    }
+// Refuses control characters other than tab, line feed and carriage return (5.1).
+fn check_controls(bytes: &[u8]) -> Result<(), Stop> {
     let is_control = |b: &u8| (*b < 32 && !matches!(*b, b'\t' | b'\n' | b'\r')) || *b == 127;
     match bytes.iter().position(is_control) {
         Some(at) => Err(Stop::new(FaultKind::Control, at)),
