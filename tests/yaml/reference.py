@@ -98,8 +98,11 @@ def scalar(event):
 
 def key_text(event):
     """The text of a key."""
+    if isinstance(event, yaml.AliasEvent):
+        raise Refused("KeyProperty")
     if not isinstance(event, yaml.ScalarEvent):
-        raise Refused("KeyProperty" if isinstance(event, yaml.AliasEvent) else "ComplexKey")
+        # (a key in it may be refused first)
+        raise Refused("ComplexKey", "NumberKey", "NullKey", "KeyProperty", "MergeKey")
     if event.tag is not None or event.anchor is not None:
         raise Refused("KeyProperty", "MappingHere")
     if event.style:
@@ -156,6 +159,12 @@ class Builder:
                 raise Refused("DuplicateKey")
             inner[key] = self.node(next(self.events), depth + 1)
         return Place({k: v.value for k, v in inner.items()}, event.start_mark, inner)
+
+
+def parse(data):
+    """Reads the events of a text to its end."""
+    for _ in yaml.parse(data, Loader=Parser):
+        pass
 
 
 def read(data):

@@ -1,7 +1,6 @@
 -- A text that is printed with codes is read as that text, as JSON has it.
-use Rattle.std.proofs.Common.{◌≡◌, ℕ, suc, ◌+◌, ◌*◌, ◌/◌, ◌%◌, ◌<◌, ◌≤◌, Bool, true, false, cond, ◌==◌, ◌||◌, ◌⊎◌, inl, inr, List, [], ◌∷◌, ◌++◌, Option, Some, None, refl, sym, ap, ap₂, ◌∙◌, subst, arith, append_assoc, append-nil, get_or, length, flat_map, IsUtf8, chars}
-use Rattle.std.proofs.lemmas.Bool.{cases_eq, cases_lt, ne_eqb, le-ltb, lt-ltb}
-use Rattle.std.proofs.lemmas.Bool.Decides.{nat_tests}
+use Rattle.std.proofs.Common.{◌≡◌, ℕ, suc, ◌+◌, ◌*◌, ◌/◌, ◌%◌, ◌<◌, ◌≤◌, Bool, true, false, cond, ◌||◌, leb, ltb, ◌⊎◌, inl, inr, List, [], ◌∷◌, ◌++◌, Option, Some, None, refl, sym, ap, ap₂, ◌∙◌, subst, arith, append_assoc, append-nil, get_or, length, flat_map, IsUtf8, chars}
+use Rattle.std.proofs.lemmas.Bool.{and_left, and_parts, and_right, cases_eq, cases_lt, eqb-true, le-ltb, leb-true, lt-leb, lt-ltb, ltb-false, ltb-true, ne_eqb, or_parts}
 use Rattle.std.proofs.lemmas.Str.{encode_ascii, inside_one, digit_value-digit_char, chars-encodes}
 use Rattle.std.specs.Char.{digit_char, digit_value}
 use lib.Utf8.{encode, encodes}
@@ -79,7 +78,7 @@ passes_high (x ∷ xs) h =
 -- A character that needs no escape passes as itself.
 passes_plain : (c : ℕ) → (c ≡ 34 → ⊥) → (c ≡ 92 → ⊥) → 32 ≤ c → Passes (encode c) (encode c)
 passes_plain c q b l = elim (cases_lt c 128) [
-  | inl small ↦ subst (λ bs. Passes bs bs) (sym (encode_ascii c small)) (passes_byte c q b l)
+  | inl small ↦ subst (λ (bs : List ℕ). Passes bs bs) (sym (encode_ascii c small)) (passes_byte c q b l)
   | inr big ↦ passes_high (encode c)
       (λ k below. elim (cases_lt (get_or (encode c) k 0) 128) [
         | inl low ↦ absurd (omega (arith, inside_one c [] (encode c) k (sym (append-nil _)) below low))
@@ -116,7 +115,7 @@ spelled a b c d x y z w p q r s hx hy hz hw =
     rw (p, q, r, s) (rw (lt-ltb x 16 hx, lt-ltb y 16 hy, lt-ltb z 16 hz, lt-ltb w 16 hw))
 
 -- The digits of a number below 65536 make it up.
-digits_sum : (c : ℕ) → c < 65536 → c / 4096 % 16 * 4096 + c / 256 % 16 * 256 + c / 16 % 16 * 16 + c % 16 ≡ c
+digits_sum : (c : ℕ) → c < 65536 → ((c / 4096) % 16) * 4096 + ((c / 256) % 16) * 256 + ((c / 16) % 16) * 16 + c % 16 ≡ c
 digits_sum c h = omega arith
 
 -- JSON reads four digits behind `\u` as the character.
@@ -135,24 +134,24 @@ lex_code a b c d r aq ab bq bb cq cb dq db =
 -- A character of 16 bits that is no surrogate passes by its code.
 passes_code : (c : ℕ) → c < 65536 → is_high_surrogate c ≡ false → is_low_surrogate c ≡ false → Passes (code_escape c) (encode c)
 passes_code c h high low =
-    let x = digit_char (c / 4096 % 16) in
-    let y = digit_char (c / 256 % 16) in
-    let z = digit_char (c / 16 % 16) in
+    let x = digit_char ((c / 4096) % 16) in
+    let y = digit_char ((c / 256) % 16) in
+    let z = digit_char ((c / 16) % 16) in
     let w = digit_char (c % 16) in
-    let bx = digit_bounds (c / 4096 % 16) (omega arith) in
-    let by = digit_bounds (c / 256 % 16) (omega arith) in
-    let bz = digit_bounds (c / 16 % 16) (omega arith) in
+    let bx = digit_bounds ((c / 4096) % 16) (omega arith) in
+    let by = digit_bounds ((c / 256) % 16) (omega arith) in
+    let bz = digit_bounds ((c / 16) % 16) (omega arith) in
     let bw = digit_bounds (c % 16) (omega arith) in
     let same : code_escape c ≡ 92 ∷ 117 ∷ x ∷ y ∷ z ∷ w ∷ [] =
         joined (hex_digit (c / 4096)) (hex_digit (c / 256)) (hex_digit (c / 16)) (hex_digit c) x y z w
         (one_digit (c / 4096)) (one_digit (c / 256)) (one_digit (c / 16)) (one_digit c) in
     let unit : code_unit x y z w ≡ Some c =
-        spelled x y z w (c / 4096 % 16) (c / 256 % 16) (c / 16 % 16) (c % 16)
-        (digit_value-digit_char (c / 4096 % 16) (omega arith)) (digit_value-digit_char (c / 256 % 16) (omega arith))
-        (digit_value-digit_char (c / 16 % 16) (omega arith)) (digit_value-digit_char (c % 16) (omega arith))
+        spelled x y z w ((c / 4096) % 16) ((c / 256) % 16) ((c / 16) % 16) (c % 16)
+        (digit_value-digit_char ((c / 4096) % 16) (omega arith)) (digit_value-digit_char ((c / 256) % 16) (omega arith))
+        (digit_value-digit_char ((c / 16) % 16) (omega arith)) (digit_value-digit_char (c % 16) (omega arith))
         (omega arith) (omega arith) (omega arith) (omega arith)
         ∙ ap Some (digits_sum c h) in
-    subst (λ bytes. Passes bytes (encode c)) (sym same)
+    subst (λ (bytes : List ℕ). Passes bytes (encode c)) (sym same)
     (record {
       says = λ r. read_code x y z w c r unit high low;
       lexed = λ r.
@@ -171,18 +170,53 @@ passes_backslash : Passes (coded_char 92) (encode 92)
 unfolding content lex short_escape encode
 passes_backslash = record { says = λ r. refl; lexed = λ r. refl }
 
--- What has a code is no surrogate, and has 16 bits.
-coded_range : (c : ℕ) → is_coded c ≡ true → (c < 65536) × ((c < 55296) ⊎ (57344 ≤ c))
-coded_range c e = grind (arith, nat_tests)
+-- What follows from each of two tests follows from either.
+either : {P : Type 0} (x y : Bool) → (x ≡ true → P) → (y ≡ true → P) → (x || y) ≡ true → P
+either true y f g e = f refl
+either false y f g e = g e
+
+-- A number of 16 bits that is no surrogate.
+abbrev InRange : ℕ → Type 0
+InRange c = (c < 65536) × ((c < 55296) ⊎ (57344 ≤ c))
+
+-- For coded_range: below the surrogates, and above them.
+range_below : (c : ℕ) → c < 55296 → InRange c
+range_below c h = (omega arith, inl h)
+
+range_above : (c : ℕ) → 57344 ≤ c → c < 65536 → InRange c
+range_above c g h = (h, inr g)
+
+-- What has a code is in that range.
+coded_range : (c : ℕ) → is_coded c ≡ true → InRange c
+coded_range c e =
+    either _ _
+    (either _ _
+    (either _ _
+    (either _ _
+    (either _ _
+    (either _ _ (λ t. range_below c (omega (arith, ltb-true c 32 t)))
+    (λ t. range_below c (omega (arith, leb-true c 159 (and_parts _ _ t).1))))
+    (λ t. range_below c (omega (arith, eqb-true c 8232 t))))
+    (λ t. range_below c (omega (arith, eqb-true c 8233 t))))
+    (λ t. range_above c (omega (arith, eqb-true c 65279 t)) (omega (arith, eqb-true c 65279 t))))
+    (λ t. range_above c (omega (arith, eqb-true c 65534 t)) (omega (arith, eqb-true c 65534 t))))
+    (λ t. range_above c (omega (arith, eqb-true c 65535 t)) (omega (arith, eqb-true c 65535 t)))
+    e
 
 -- What has no code is no control character.
 plain_range : (c : ℕ) → is_coded c ≡ false → 32 ≤ c
-plain_range c e = grind (arith, nat_tests)
+plain_range c e =
+    ltb-false c 32
+    (or_parts _ _ (or_parts _ _ (or_parts _ _ (or_parts _ _ (or_parts _ _ (or_parts _ _ e).0).0).0).0).0).0
 
 -- What is no surrogate is tested as none.
 no_surrogate : (c : ℕ) → (c < 55296) ⊎ (57344 ≤ c) → (is_high_surrogate c ≡ false) × (is_low_surrogate c ≡ false)
-no_surrogate c (inl l) = grind (arith, nat_tests)
-no_surrogate c (inr g) = grind (arith, nat_tests)
+no_surrogate c (inl l) =
+    (and_left (leb 55296 c) (ltb c 56320) (lt-leb 55296 c l),
+    and_left (leb 56320 c) (ltb c 57344) (lt-leb 56320 c (omega arith)))
+no_surrogate c (inr g) =
+    (and_right (leb 55296 c) (ltb c 56320) (le-ltb c 56320 (omega arith)),
+    and_right (leb 56320 c) (ltb c 57344) (le-ltb c 57344 g))
 
 -- A character that is no quote or backslash passes, by its code or as itself.
 passes_other : (c : ℕ) (b : Bool) → is_coded c ≡ b → (c ≡ 34 → ⊥) → (c ≡ 92 → ⊥) → Passes (cond b (code_escape c) (encode c)) (encode c)
@@ -199,10 +233,10 @@ is_other c q b = rw (ne_eqb c 34 q, ne_eqb c 92 b)
 -- Every character passes as it stands in quotes.
 passes_char : (c : ℕ) → Passes (coded_char c) (encode c)
 passes_char c = elim (cases_eq c 34) [
-  | inl e ↦ subst (λ d. Passes (coded_char d) (encode d)) (sym e) passes_quote
+  | inl e ↦ subst (λ (d : ℕ). Passes (coded_char d) (encode d)) (sym e) passes_quote
   | inr q ↦ elim (cases_eq c 92) [
-      | inl e ↦ subst (λ d. Passes (coded_char d) (encode d)) (sym e) passes_backslash
-      | inr b ↦ subst (λ bytes. Passes bytes (encode c)) (sym (is_other c q b)) (passes_other c (is_coded c) refl q b)
+      | inl e ↦ subst (λ (d : ℕ). Passes (coded_char d) (encode d)) (sym e) passes_backslash
+      | inr b ↦ subst (λ (bytes : List ℕ). Passes bytes (encode c)) (sym (is_other c q b)) (passes_other c (is_coded c) refl q b)
     ]
 ]
 
@@ -218,7 +252,7 @@ content_coded : (t : List ℕ) → IsUtf8 t → content plain (flat_map coded_ch
 unfolding content
 content_coded t u =
     let same : chars t ≡ u.0 = ap chars (sym u.1.1) ∙ chars-encodes u.0 u.1.0 in
-    ap (λ cs. content plain (flat_map coded_char cs ++ 34 ∷ [])) same
+    ap (λ (cs : List ℕ). content plain (flat_map coded_char cs ++ 34 ∷ [])) same
     ∙ (passes_all u.0).says (34 ∷ []) ∙ ap Some (append-nil (encodes u.0) ∙ u.1.1)
 
 -- What the lexer makes of them.
@@ -229,7 +263,7 @@ lex_coded t = (passes_all (chars t)).lexed (34 ∷ [])
 -- The tokens of a text with codes are that text alone.
 tokens_coded : (t : List ℕ) → IsUtf8 t → tokens (coded_text t) ≡ json_tokens (outline (string t))
 unfolding lex punctuate
-tokens_coded t u = ap₂ (λ o l. punctuate fresh (lexeme.token (string_token o) ∷ l)) (content_coded t u) (lex_coded t)
+tokens_coded t u = ap₂ (λ (o : Option (List ℕ)) (l : List Lexeme). punctuate fresh (lexeme.token (string_token o) ∷ l)) (content_coded t u) (lex_coded t)
 
 -- A text with codes reads as the text.
 pub coded_again : (t : List ℕ) → IsUtf8 t → read (coded_text t) ≡ Some (string t)
