@@ -18,7 +18,7 @@ tokens_again t =
     ∙ tokens-print (json_tokens (outline (string t))) (ArePrintable-json_tokens (outline (string t)) tt)
 
 -- The value of what was parsed, where nothing is left behind it; a name for this part of read.
-pub last_alone : Option (json.Json × List Token) → Option Data
+unfoldable pub last_alone : Option (json.Json × List Token) → Option Data
 last_alone o = option_and_then of_json (option_and_then (λ p. json.if_last p.0 p.1) o)
 
 -- The text in quotes reads as the text.

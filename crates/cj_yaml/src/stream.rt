@@ -37,28 +37,22 @@ pub fn read(alloc: Global, bytes: &[u8]) -> Result<Vec<Document>, Fault>
     ensures text { OnOk result (IsUtf8 bytes.now) }
     ensures no_text { ¬ (IsUtf8 bytes.now) → IsErrAnd result (λ f. f.kind ≡ NotUtf8) }
 {
-    if let Err(error) = simdutf8::compat::from_utf8(bytes) {
-        return Err(Fault {
+    match simdutf8::compat::from_utf8(bytes) {
+        Ok(_) => match read_stream(alloc, bytes) {
+            Ok(documents) => Ok(documents),
+            Err(stop) => Err(Fault {
+                kind: stop.kind,
+                place: Place::of(bytes, stop.at),
+            }),
+        },
+        Err(error) => Err(Fault {
             kind: FaultKind::NotUtf8,
             place: Place::of(bytes, error.valid_up_to()),
-        });
-    }
-    read_text(alloc, bytes)
-}
-
-// The documents of bytes in UTF-8.
-fn read_text(alloc: Global, bytes: &[u8]) -> Result<Vec<Document>, Fault>
-    ensures place { IfErr result (λ f. IsPlaceIn bytes.now f.place) }
-{
-    match read_stream(alloc, bytes) {
-        Ok(documents) => Ok(documents),
-        Err(stop) => Err(Fault {
-            kind: stop.kind,
-            place: Place::of(bytes, stop.at),
         }),
     }
 }
 
+// The documents of bytes in UTF-8.
 fn read_stream(alloc: Global, bytes: &[u8]) -> Result<Vec<Document>, Stop> {
     check_controls(bytes)?;
     let mut documents = Vec::new(alloc);
