@@ -1,5 +1,5 @@
 -- A text that is printed with codes is read as that text, as JSON has it.
-use Rattle.std.proofs.Common.{◌≡◌, ℕ, suc, ◌+◌, ◌*◌, ◌/◌, ◌%◌, ◌<◌, ◌≤◌, Bool, true, false, cond, ◌||◌, leb, ltb, ◌⊎◌, inl, inr, List, [], ◌∷◌, ◌++◌, Option, Some, None, refl, sym, ap, ap₂, ◌∙◌, subst, arith, append_assoc, append-nil, get_or, length, flat_map, IsUtf8, chars}
+use Rattle.std.proofs.Common.{◌≡◌, ℕ, suc, ◌+◌, ◌*◌, ◌/◌, ◌%◌, ◌<◌, ◌≤◌, Bool, true, false, cond, ◌&&◌, ◌||◌, eqb, leb, ltb, ◌⊎◌, inl, inr, List, [], ◌∷◌, ◌++◌, Option, Some, None, refl, sym, ap, ap₂, ◌∙◌, subst, arith, append_assoc, append-nil, get_or, length, flat_map, IsUtf8, chars}
 use Rattle.std.proofs.lemmas.Bool.{and_left, and_parts, and_right, cases_eq, cases_lt, eqb-true, le-ltb, leb-true, lt-leb, lt-ltb, ltb-false, ltb-true, ne_eqb, or_parts}
 use Rattle.std.proofs.lemmas.Str.{encode_ascii, inside_one, digit_value-digit_char, chars-encodes}
 use Rattle.std.specs.Char.{digit_char, digit_value}
@@ -11,7 +11,7 @@ use Rattle.json.specs.Lex as lexeme
 use Rattle.json.specs.Json as json
 use Rattle.json.specs.Tree.{json_tokens}
 use Rattle.json.proofs.Printed.Trees.{value-json_tokens}
-use Rattle.serde_json.specs.Data.{Data, string}
+use Rattle.serde_json.specs.Data.{string}
 use Rattle.serde_json.specs.Read.{max_depth, read}
 use Rattle.serde_json.specs.Written.{outline}
 use Rattle.cj_yaml.specs.Escapes.{hex_digit, code_escape, is_coded, coded_char, coded_text}
@@ -161,11 +161,12 @@ passes_code c h high low =
 
 -- ---- characters
 
--- A quote and a backslash pass by their escapes.
+-- A quote passes by its escape.
 passes_quote : Passes (coded_char 34) (encode 34)
 unfolding content lex short_escape encode
 passes_quote = record { says = λ r. refl; lexed = λ r. refl }
 
+-- A backslash passes by its escape.
 passes_backslash : Passes (coded_char 92) (encode 92)
 unfolding content lex short_escape encode
 passes_backslash = record { says = λ r. refl; lexed = λ r. refl }
@@ -179,10 +180,11 @@ either false y f g e = g e
 abbrev InRange : ℕ → Type 0
 InRange c = (c < 65536) × ((c < 55296) ⊎ (57344 ≤ c))
 
--- For coded_range: below the surrogates, and above them.
+-- For coded_range: below the surrogates.
 range_below : (c : ℕ) → c < 55296 → InRange c
 range_below c h = (omega arith, inl h)
 
+-- For coded_range: above the surrogates.
 range_above : (c : ℕ) → 57344 ≤ c → c < 65536 → InRange c
 range_above c g h = (h, inr g)
 
@@ -194,13 +196,13 @@ coded_range c e =
     (either _ _
     (either _ _
     (either _ _
-    (either _ _ (λ t. range_below c (omega (arith, ltb-true c 32 t)))
-    (λ t. range_below c (omega (arith, leb-true c 159 (and_parts _ _ t).1))))
-    (λ t. range_below c (omega (arith, eqb-true c 8232 t))))
-    (λ t. range_below c (omega (arith, eqb-true c 8233 t))))
-    (λ t. range_above c (omega (arith, eqb-true c 65279 t)) (omega (arith, eqb-true c 65279 t))))
-    (λ t. range_above c (omega (arith, eqb-true c 65534 t)) (omega (arith, eqb-true c 65534 t))))
-    (λ t. range_above c (omega (arith, eqb-true c 65535 t)) (omega (arith, eqb-true c 65535 t)))
+    (either _ _ (λ (t : ltb c 32 ≡ true). range_below c (omega (arith, ltb-true c 32 t)))
+    (λ (t : (leb 127 c && leb c 159) ≡ true). range_below c (omega (arith, leb-true c 159 (and_parts _ _ t).1))))
+    (λ (t : eqb c 8232 ≡ true). range_below c (omega (arith, eqb-true c 8232 t))))
+    (λ (t : eqb c 8233 ≡ true). range_below c (omega (arith, eqb-true c 8233 t))))
+    (λ (t : eqb c 65279 ≡ true). range_above c (omega (arith, eqb-true c 65279 t)) (omega (arith, eqb-true c 65279 t))))
+    (λ (t : eqb c 65534 ≡ true). range_above c (omega (arith, eqb-true c 65534 t)) (omega (arith, eqb-true c 65534 t))))
+    (λ (t : eqb c 65535 ≡ true). range_above c (omega (arith, eqb-true c 65535 t)) (omega (arith, eqb-true c 65535 t)))
     e
 
 -- What has no code is no control character.

@@ -1,7 +1,7 @@
 -- What is printed of a text reads back.
-use Rattle.std.proofs.Common.{◌≡◌, inl, inr, sym, ap, ◌∙◌, subst}
+use Rattle.std.proofs.Common.{inl, inr, sym, ap, ◌∙◌, subst}
 use Rattle.serde_json.specs.Read.{read}
-use Rattle.cj_yaml.specs.Words.{IsPlainText, IsPrinted, plain, as_json, coded}
+use Rattle.cj_yaml.specs.Words.{IsPlainText, plain, as_json, coded}
 use Rattle.cj_yaml.specs.ReadsBack.{PrintedReadsBack}
 use Rattle.cj_yaml.proofs.CodedTexts.{coded_again}
 use Rattle.cj_yaml.proofs.JsonTexts.{string_again}

@@ -62,7 +62,6 @@ fn begins_odd(a: u8, b: u8, c: u8) -> bool
 }
 
 // Whether such a character is in a text.
-#[tactic(auto, using(crate::proofs::Odd::odd_at))]
 fn has_odd(bytes: &[u8]) -> bool
     ensures { result ≡ has_odd bytes.now }
 {
