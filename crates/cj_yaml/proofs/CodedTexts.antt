@@ -41,8 +41,8 @@ passes_then : (a x b y : List ℕ) → Passes a x → Passes b y → Passes (a +
 passes_then a x b y p q =
     record {
       says = λ r.
-        ap (content plain) (append_assoc a b r) ∙ p.says (b ++ r) ∙ ap (prepend x) (q.says r)
-        ∙ prepend_twice x y (content plain r);
+          ap (content plain) (append_assoc a b r) ∙ p.says (b ++ r) ∙ ap (prepend x) (q.says r)
+          ∙ prepend_twice x y (content plain r);
       lexed = λ r. ap (lex in_string) (append_assoc a b r) ∙ p.lexed (b ++ r) ∙ q.lexed r;
     }
 
@@ -119,20 +119,24 @@ digits_sum : (c : ℕ) → c < 65536 → ((c / 4096) % 16) * 4096 + ((c / 256) %
 digits_sum c h = omega arith
 
 -- JSON reads four digits behind `\u` as the character.
-read_code : (a b c d u : ℕ) (r : List ℕ) → code_unit a b c d ≡ Some u → is_high_surrogate u ≡ false → is_low_surrogate u ≡ false
+read_code : (a b c d u : ℕ) (r : List ℕ) → code_unit a b c d ≡ Some u → is_high_surrogate u ≡ false
+    → is_low_surrogate u ≡ false
     → content plain (92 ∷ 117 ∷ a ∷ b ∷ c ∷ d ∷ r) ≡ prepend (encode u) (content plain r)
 unfolding content
 read_code a b c d u r e high low = rw (e, high, low)
 
 -- The lexer passes them.
-lex_code : (a b c d : ℕ) (r : List ℕ) → (a ≡ 34 → ⊥) → (a ≡ 92 → ⊥) → (b ≡ 34 → ⊥) → (b ≡ 92 → ⊥) → (c ≡ 34 → ⊥) → (c ≡ 92 → ⊥)
+lex_code : (a b c d : ℕ) (r : List ℕ) → (a ≡ 34 → ⊥) → (a ≡ 92 → ⊥) → (b ≡ 34 → ⊥) → (b ≡ 92 → ⊥)
+    → (c ≡ 34 → ⊥) → (c ≡ 92 → ⊥)
     → (d ≡ 34 → ⊥) → (d ≡ 92 → ⊥) → lex in_string (92 ∷ 117 ∷ a ∷ b ∷ c ∷ d ∷ r) ≡ lex in_string r
 unfolding lex
 lex_code a b c d r aq ab bq bb cq cb dq db =
-    lex_inside a (b ∷ c ∷ d ∷ r) aq ab ∙ lex_inside b (c ∷ d ∷ r) bq bb ∙ lex_inside c (d ∷ r) cq cb ∙ lex_inside d r dq db
+    lex_inside a (b ∷ c ∷ d ∷ r) aq ab ∙ lex_inside b (c ∷ d ∷ r) bq bb
+    ∙ lex_inside c (d ∷ r) cq cb ∙ lex_inside d r dq db
 
 -- A character of 16 bits that is no surrogate passes by its code.
-passes_code : (c : ℕ) → c < 65536 → is_high_surrogate c ≡ false → is_low_surrogate c ≡ false → Passes (code_escape c) (encode c)
+passes_code : (c : ℕ) → c < 65536 → is_high_surrogate c ≡ false → is_low_surrogate c ≡ false
+    → Passes (code_escape c) (encode c)
 passes_code c h high low =
     let x = digit_char ((c / 4096) % 16) in
     let y = digit_char ((c / 256) % 16) in
@@ -143,20 +147,20 @@ passes_code c h high low =
     let bz = digit_bounds ((c / 16) % 16) (omega arith) in
     let bw = digit_bounds (c % 16) (omega arith) in
     let same : code_escape c ≡ 92 ∷ 117 ∷ x ∷ y ∷ z ∷ w ∷ [] =
-        joined (hex_digit (c / 4096)) (hex_digit (c / 256)) (hex_digit (c / 16)) (hex_digit c) x y z w
-        (one_digit (c / 4096)) (one_digit (c / 256)) (one_digit (c / 16)) (one_digit c) in
+    joined (hex_digit (c / 4096)) (hex_digit (c / 256)) (hex_digit (c / 16)) (hex_digit c) x y z w
+    (one_digit (c / 4096)) (one_digit (c / 256)) (one_digit (c / 16)) (one_digit c) in
     let unit : code_unit x y z w ≡ Some c =
-        spelled x y z w ((c / 4096) % 16) ((c / 256) % 16) ((c / 16) % 16) (c % 16)
-        (digit_value-digit_char ((c / 4096) % 16) (omega arith)) (digit_value-digit_char ((c / 256) % 16) (omega arith))
-        (digit_value-digit_char ((c / 16) % 16) (omega arith)) (digit_value-digit_char (c % 16) (omega arith))
-        (omega arith) (omega arith) (omega arith) (omega arith)
-        ∙ ap Some (digits_sum c h) in
+    spelled x y z w ((c / 4096) % 16) ((c / 256) % 16) ((c / 16) % 16) (c % 16)
+    (digit_value-digit_char ((c / 4096) % 16) (omega arith)) (digit_value-digit_char ((c / 256) % 16) (omega arith))
+    (digit_value-digit_char ((c / 16) % 16) (omega arith)) (digit_value-digit_char (c % 16) (omega arith))
+    (omega arith) (omega arith) (omega arith) (omega arith)
+    ∙ ap Some (digits_sum c h) in
     subst (λ (bytes : List ℕ). Passes bytes (encode c)) (sym same)
     (record {
       says = λ r. read_code x y z w c r unit high low;
       lexed = λ r.
-        lex_code x y z w r (λ e. omega (arith, bx.0, e)) bx.2 (λ e. omega (arith, by.0, e)) by.2
-        (λ e. omega (arith, bz.0, e)) bz.2 (λ e. omega (arith, bw.0, e)) bw.2;
+          lex_code x y z w r (λ e. omega (arith, bx.0, e)) bx.2 (λ e. omega (arith, by.0, e)) by.2
+          (λ e. omega (arith, bz.0, e)) bz.2 (λ e. omega (arith, bw.0, e)) bw.2;
     })
 
 -- ---- characters
@@ -213,15 +217,18 @@ plain_range c e =
 
 -- What is no surrogate is tested as none.
 no_surrogate : (c : ℕ) → (c < 55296) ⊎ (57344 ≤ c) → (is_high_surrogate c ≡ false) × (is_low_surrogate c ≡ false)
-no_surrogate c (inl l) =
-    (and_left (leb 55296 c) (ltb c 56320) (lt-leb 55296 c l),
-    and_left (leb 56320 c) (ltb c 57344) (lt-leb 56320 c (omega arith)))
-no_surrogate c (inr g) =
-    (and_right (leb 55296 c) (ltb c 56320) (le-ltb c 56320 (omega arith)),
-    and_right (leb 56320 c) (ltb c 57344) (le-ltb c 57344 g))
+no_surrogate c (inl l) = (
+  and_left (leb 55296 c) (ltb c 56320) (lt-leb 55296 c l),
+  and_left (leb 56320 c) (ltb c 57344) (lt-leb 56320 c (omega arith)),
+)
+no_surrogate c (inr g) = (
+  and_right (leb 55296 c) (ltb c 56320) (le-ltb c 56320 (omega arith)),
+  and_right (leb 56320 c) (ltb c 57344) (le-ltb c 57344 g),
+)
 
 -- A character that is no quote or backslash passes, by its code or as itself.
-passes_other : (c : ℕ) (b : Bool) → is_coded c ≡ b → (c ≡ 34 → ⊥) → (c ≡ 92 → ⊥) → Passes (cond b (code_escape c) (encode c)) (encode c)
+passes_other : (c : ℕ) (b : Bool) → is_coded c ≡ b → (c ≡ 34 → ⊥) → (c ≡ 92 → ⊥)
+    → Passes (cond b (code_escape c) (encode c)) (encode c)
 passes_other c true e q k =
     let range = coded_range c e in
     let none = no_surrogate c range.1 in
@@ -232,20 +239,27 @@ passes_other c false e q k = passes_plain c q k (plain_range c e)
 is_other : (c : ℕ) → (c ≡ 34 → ⊥) → (c ≡ 92 → ⊥) → coded_char c ≡ cond (is_coded c) (code_escape c) (encode c)
 is_other c q b = rw (ne_eqb c 34 q, ne_eqb c 92 b)
 
+-- For passes_char: one that is no quote or backslash, as it stands in quotes.
+passes_bare : (c : ℕ) → (c ≡ 34 → ⊥) → (c ≡ 92 → ⊥) → Passes (coded_char c) (encode c)
+passes_bare c q b =
+    subst (λ (bytes : List ℕ). Passes bytes (encode c)) (sym (is_other c q b))
+    (passes_other c (is_coded c) refl q b)
+
 -- Every character passes as it stands in quotes.
 passes_char : (c : ℕ) → Passes (coded_char c) (encode c)
 passes_char c = elim (cases_eq c 34) [
   | inl e ↦ subst (λ (d : ℕ). Passes (coded_char d) (encode d)) (sym e) passes_quote
   | inr q ↦ elim (cases_eq c 92) [
-      | inl e ↦ subst (λ (d : ℕ). Passes (coded_char d) (encode d)) (sym e) passes_backslash
-      | inr b ↦ subst (λ (bytes : List ℕ). Passes bytes (encode c)) (sym (is_other c q b)) (passes_other c (is_coded c) refl q b)
-    ]
+    | inl e ↦ subst (λ (d : ℕ). Passes (coded_char d) (encode d)) (sym e) passes_backslash
+    | inr b ↦ passes_bare c q b
+  ]
 ]
 
 -- So do characters one behind another.
 passes_all : (cs : List ℕ) → Passes (flat_map coded_char cs) (encodes cs)
 passes_all [] = passes_nil
-passes_all (c ∷ cs) = passes_then (coded_char c) (encode c) (flat_map coded_char cs) (encodes cs) (passes_char c) (passes_all cs)
+passes_all (c ∷ cs) =
+    passes_then (coded_char c) (encode c) (flat_map coded_char cs) (encodes cs) (passes_char c) (passes_all cs)
 
 -- ---- texts
 
@@ -265,7 +279,9 @@ lex_coded t = (passes_all (chars t)).lexed (34 ∷ [])
 -- The tokens of a text with codes are that text alone.
 tokens_coded : (t : List ℕ) → IsUtf8 t → tokens (coded_text t) ≡ json_tokens (outline (string t))
 unfolding lex punctuate
-tokens_coded t u = ap₂ (λ (o : Option (List ℕ)) (l : List Lexeme). punctuate fresh (lexeme.token (string_token o) ∷ l)) (content_coded t u) (lex_coded t)
+tokens_coded t u =
+    ap₂ (λ (o : Option (List ℕ)) (l : List Lexeme). punctuate fresh (lexeme.token (string_token o) ∷ l))
+    (content_coded t u) (lex_coded t)
 
 -- A text with codes reads as the text.
 pub coded_again : (t : List ℕ) → IsUtf8 t → read (coded_text t) ≡ Some (string t)

@@ -9,7 +9,8 @@ behind s i k n e = get_or-drop i s k 0 ∙ ap (λ (j : ℕ). get_or s j 0) e
 
 -- What is left has such a character if one begins it, or if one is behind its first byte.
 odd_at : (s : List ℕ) (i : ℕ) → i < length s
-    → has_odd (drop i s) ≡ (begins_odd (get_or s i 0) (get_or s (i + 1) 0) (get_or s (i + 2) 0) || has_odd (drop (i + 1) s))
+    → has_odd (drop i s)
+    ≡ (begins_odd (get_or s i 0) (get_or s (i + 1) 0) (get_or s (i + 2) 0) || has_odd (drop (i + 1) s))
 odd_at s i h =
     let one : get_or (drop (i + 1) s) 0 0 ≡ get_or s (i + 1) 0 = behind s (i + 1) 0 (i + 1) (omega arith) in
     let two : get_or (drop (i + 1) s) 1 0 ≡ get_or s (i + 2) 0 = behind s (i + 1) 1 (i + 2) (omega arith) in
@@ -20,14 +21,14 @@ begins_same : (a b c x y z : ℕ) → a ≡ x → b ≡ y → c ≡ z → begins
 begins_same a b c x y z p q r = rw (p, q, r)
 
 -- For has_odd: one is found.
-pub odd_found : (s : List ℕ) (i a b c : ℕ) → i < length s → a ≡ get_or s i 0 → b ≡ get_or s (i + 1) 0 → c ≡ get_or s (i + 2) 0
-    → begins_odd a b c ≡ true → has_odd (drop i s) ≡ true
+pub odd_found : (s : List ℕ) (i a b c : ℕ) → i < length s → a ≡ get_or s i 0 → b ≡ get_or s (i + 1) 0
+    → c ≡ get_or s (i + 2) 0 → begins_odd a b c ≡ true → has_odd (drop i s) ≡ true
 odd_found s i a b c h p q r t =
     odd_at s i h ∙ ap (λ x. x || has_odd (drop (i + 1) s)) (begins_same a b c _ _ _ p q r ∙ t)
 
 -- For has_odd: none begins there.
-pub odd_passed : (s : List ℕ) (i a b c : ℕ) → i < length s → a ≡ get_or s i 0 → b ≡ get_or s (i + 1) 0 → c ≡ get_or s (i + 2) 0
-    → begins_odd a b c ≡ false → has_odd (drop i s) ≡ has_odd (drop (i + 1) s)
+pub odd_passed : (s : List ℕ) (i a b c : ℕ) → i < length s → a ≡ get_or s i 0 → b ≡ get_or s (i + 1) 0
+    → c ≡ get_or s (i + 2) 0 → begins_odd a b c ≡ false → has_odd (drop i s) ≡ has_odd (drop (i + 1) s)
 odd_passed s i a b c h p q r t =
     odd_at s i h ∙ ap (λ x. x || has_odd (drop (i + 1) s)) (begins_same a b c _ _ _ p q r ∙ t)
 

@@ -10,7 +10,8 @@ pub grows_plain : (t old new : List ℕ) → IsPlainText t → new ≡ old ++ t 
 grows_plain t old new p e = record { printed = t; grows = e; is = plain p refl }
 
 -- For push_text: by one as JSON has it.
-pub grows_as_json : (t old new : List ℕ) → has_odd t ≡ false → new ≡ old ++ compact_text (string t) → GrowsByPrinted t old new
+pub grows_as_json : (t old new : List ℕ) → has_odd t ≡ false → new ≡ old ++ compact_text (string t)
+    → GrowsByPrinted t old new
 grows_as_json t old new h e = record { printed = compact_text (string t); grows = e; is = as_json h refl }
 
 -- For push_text: by one with codes.

@@ -11,7 +11,8 @@ hex_digit n = encode_utf8 (digit_char (n % 16))
 -- the escape of a character by its code of four digits (ns-esc-16-bit)
 abbrev pub code_escape : ℕ → List ℕ
 code_escape c =
-    (92 ∷ 117 ∷ []) ++ hex_digit (c / 4096) ++ hex_digit (c / 256) ++ hex_digit (c / 16) ++ hex_digit c
+    (92 ∷ 117 ∷ []) ++ hex_digit (c / 4096) ++ hex_digit (c / 256) ++ hex_digit (c / 16)
+    ++ hex_digit c
 
 -- a character that isn't printed, or that readers of YAML 1.1 take for a line break: a control
 -- character, U+2028, U+2029, U+FEFF, U+FFFE and U+FFFF

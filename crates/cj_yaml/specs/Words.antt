@@ -74,7 +74,7 @@ has_odd (a ∷ rest) = begins_odd a (slice_index rest 0) (slice_index rest 1) ||
 pub data IsPrinted : List ℕ → List ℕ → Type 0 where
   plain : {t printed : List ℕ} → IsPlainText t → printed ≡ t → IsPrinted t printed
   as_json : {t printed : List ℕ} → has_odd t ≡ false → printed ≡ compact_text (string t)
-    → IsPrinted t printed
+      → IsPrinted t printed
   coded : {t printed : List ℕ} → has_odd t ≡ true → printed ≡ coded_text t → IsPrinted t printed
 
 -- a text has grown by one that is printed

@@ -99,8 +99,8 @@ pub(crate) fn plain_key(alloc: Global, text: String, at: usize) -> Result<String
     }
 }
 
-// The text of a key that is a number. Kubernetes' reader has another text for a float than JSON, and
-// refuses a whole number above those of `i64`.
+// The text of a key that is a number. Kubernetes' reader has another text for a float than JSON,
+// and refuses a whole number above those of `i64`.
 fn number_key(alloc: Global, number: Number, at: usize) -> Result<String, Stop> {
     if !number.is_i64() {
         return Err(Stop::new(FaultKind::NumberKey, at));

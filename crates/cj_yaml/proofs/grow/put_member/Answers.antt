@@ -10,7 +10,8 @@ pub returns : goal.returns
 returns c =
     let old = c.args.members.now.entries in
     let is = ap members_view c.in_ok-insert.ensures.entries ∙ members_view-insert_entry old c.args.key c.args.value in
-    let grown : members_depth (members_view c.insert.new.self.entries) ≤ max (depth (view c.args.value)) (members_depth (members_view old)) =
-        rw is (put_depth (string_bytes c.args.key) (view c.args.value) (members_view old)
+    let grown : members_depth (members_view c.insert.new.self.entries)
+    ≤ max (depth (view c.args.value)) (members_depth (members_view old)) =
+    rw is (put_depth (string_bytes c.args.key) (view c.args.value) (members_view old)
     (max (depth (view c.args.value)) (members_depth (members_view old))) (omega arith) (omega arith)) in
     record { nests = grown }

@@ -28,5 +28,6 @@ returns-in-Ok-clause-read c t utf8 same =
 pub returns-in-Err-2-clause-read : goal.returns-in-Err-2-clause-read
 returns-in-Err-2-clause-read c t utf8 same =
     let one : c.in-Err.error ≡ c.in-Err-2.field-0 = cc in
-    let other = other_error c.in-Err.error c.in-Err-2.field-0 c.is_memory.result one c.is_memory.ensures c.if-is_memory.false in
+    let other =
+    other_error c.in-Err.error c.in-Err-2.field-0 c.is_memory.result one c.is_memory.ensures c.if-is_memory.false in
     not_none (string t) (sym same ∙ c.in-Err-2.ensures.err other utf8)
