@@ -1,5 +1,5 @@
 -- nests: the items with the new one.
-use Rattle.std.proofs.Common.{◌≡◌, ◌≤◌, max, arith}
+use Rattle.std.proofs.Common.{◌≤◌, max, arith}
 use Rattle.serde_json.specs.Data.{depth, items_depth}
 use Rattle.serde_json.specs.View.{view, items_view}
 use Rattle.cj_yaml.proofs.Depths.{push_depth}

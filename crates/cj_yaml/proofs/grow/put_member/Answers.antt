@@ -1,6 +1,6 @@
 -- nests: the members with the new one.
-use Rattle.std.proofs.Common.{◌≡◌, ◌≤◌, max, string_bytes, ap, ◌∙◌, arith}
-use Rattle.serde_json.specs.Data.{put, depth, members_depth}
+use Rattle.std.proofs.Common.{◌≤◌, max, string_bytes, ap, ◌∙◌, arith}
+use Rattle.serde_json.specs.Data.{depth, members_depth}
 use Rattle.serde_json.specs.View.{view, members_view}
 use Rattle.serde_json.proofs.Views.{members_view-insert_entry}
 use Rattle.cj_yaml.proofs.Depths.{put_depth}

@@ -1,5 +1,5 @@
 -- json_text: what JSON reads as a text is that value.
-use Rattle.std.proofs.Common.{◌≡◌, ◌↔◌, List, ℕ, Bool, true, false, IsTrue, Some, None, sym, ◌∙◌, subst, arith}
+use Rattle.std.proofs.Common.{◌≡◌, ◌↔◌, Bool, true, false, IsTrue, Some, None, sym, ◌∙◌, subst, arith}
 use Rattle.serde_json.specs.Errors.{IsMemory}
 use Rattle.serde_json.specs.declared.error.Error.{Error}
 use Rattle.serde_json.specs.Data.{Data, string}
