@@ -1,24 +1,27 @@
 /*
  * libcronsim computes due times of crontab schedules, as a Kubernetes CronJob has them, in any time
- * zone. From JSON it checks manifests, plans what the controller does next, and audits a cluster.
- * The answers are proved: the next due time is the least one, and the previous one the greatest.
- * "None" means that there is none. A check finds all faults of a manifest, a plan is the one of its
- * scenario, and an audit finds exactly what is wrong.
+ * zone. It says a schedule in a sentence. From JSON it checks manifests, plans what the controller
+ * does next, audits a cluster, says why its CronJobs start a Job or not, and lists what they start
+ * in a window of time. The answers are proved: the next due time is the least one, and the previous
+ * one the greatest. "None" means that there is none. A check finds all faults of a manifest, a plan
+ * is the one of its scenario, and an audit finds exactly what is wrong.
  *
  * Times are whole seconds since 1970-01-01T00:00:00Z. The greatest is 253370764799, the last second
  * of the year 9998.
  *
  * A text is a pointer to bytes and their number. It needs no zero at the end and may have any
  * content: the call refuses what is no schedule, rule, zone file, UTF-8 or JSON of its form. The
- * library reads a text during the call alone. The pointer isn't NULL, even for length 0. It points
- * to as many bytes as the length says, with one exception: the length of a schedule, a rule or a
- * zone file may be greater than the call's limit, up to PTRDIFF_MAX. Then the call refuses the text
- * and reads no byte.
+ * library reads a text during the call alone. It points to as many bytes as the length says, with
+ * one exception: the length of a schedule, a rule or a zone file may be greater than the call's
+ * limit, up to PTRDIFF_MAX. Then the call refuses the text and reads no byte.
+ *
+ * No pointer of a call is NULL, even for length 0. If one of yours may be, pass cronsim_text(at),
+ * of a buffer cronsim_buffer(at): NULL becomes the place of no byte, and all else stays.
  *
  * Initialise each place that a call writes to: a bool to false, a buffer to any bytes. The call
  * writes there if it answers CRONSIM_DONE. If it answers CRONSIM_REFUSED, it writes only the fault,
  * or the answer in JSON. CRONSIM_ROOM is explained below. After any other answer all stays as it
- * was. No pointer of a call is NULL, and no two overlap.
+ * was. No two pointers of a call overlap.
  *
  * Memory comes from malloc, realloc and free. Only the calls that open a handle and those that
  * answer with a text ask for it. The latter free all of it before they return. Where memory runs
@@ -27,8 +30,9 @@
  * realloc or free does.
  *
  * Threads: calls on different handles may run at the same time, and so may calls without a handle.
- * Give a handle to one call at a time, even to one that only looks for times. It may move to
- * another thread if you order that, by a lock or a join. Don't call from a signal handler, nor in
+ * Give a handle to one call at a time, even to one that only looks for times, which keeps what is
+ * in it: where threads look at once, each opens a handle of its own. A handle may move to another
+ * thread if you order that, by a lock or a join. Don't call from a signal handler, nor in
  * the forked child of a process that has threads. No call was seen to take more than 81 KiB of
  * stack, even for JSON that nests as deep as it may.
  */
@@ -92,6 +96,17 @@ typedef struct cronsim_cron {
 
 /* An empty handle: cronsim_cron cron = CRONSIM_CRON_INIT; */
 #define CRONSIM_CRON_INIT {0, false}
+
+/* The place of a text, or, for NULL, of no byte. */
+static inline const uint8_t *cronsim_text(const void *at) {
+    return at ? (const uint8_t *)at : (const uint8_t *)"";
+}
+
+/* The same of a buffer, whose capacity is 0 where it is NULL. */
+static inline uint8_t *cronsim_buffer(void *at) {
+    static uint8_t none;
+    return at ? (uint8_t *)at : &none;
+}
 
 /* Where a text has its fault, and which. */
 typedef struct cronsim_fault {
@@ -173,7 +188,7 @@ uint32_t cronsim_fault_text(const uint8_t *schedule, size_t schedule_length,
                             size_t *length);
 
 /*
- * The text of each of the three calls below is one JSON value (RFC 8259).
+ * The text of each of the calls below is one JSON value (RFC 8259).
  *
  * If a text is refused, the call answers CRONSIM_REFUSED. The JSON value is then a list of faults,
  * each with its `field` and its `cause`:
@@ -217,13 +232,54 @@ uint32_t cronsim_plan(const uint8_t *scenario, size_t scenario_length, uint64_t 
  * Audits a cluster. The list is the output of `kubectl get cronjobs,jobs -A -o json`. Answers
  * CRONSIM_DONE, even if much is wrong, with what `cronsim audit -o json` prints: an object with
  * `cronJobs` and `jobs`, how many it looked at; `findings`, each with its `finding` (twice, beside,
- * undue, early, missing or stray), the `namespace` and `name` of the CronJob, the `time`, and the
- * names of the `jobs`; `manual`, the Jobs that somebody made by hand; and in `refused` and `others`
- * the items of the list that it can't use. CRONSIM_REFUSED if the text is no list; CRONSIM_ROOM;
- * CRONSIM_MEMORY.
+ * undue, early, missing, stray or stuck), the `namespace` and `name` of the CronJob, the `time`,
+ * and the names of the `jobs`; `manual`, the Jobs that somebody made by hand; and in `refused` and
+ * `others` the items of the list that it can't use. CRONSIM_REFUSED if the text is no list;
+ * CRONSIM_ROOM; CRONSIM_MEMORY.
  */
 uint32_t cronsim_audit(const uint8_t *list, size_t list_length, const uint8_t *zones,
                        size_t zones_length, uint8_t *answer, size_t capacity, size_t *length);
+
+/*
+ * Says why each CronJob of a cluster starts a Job at the moment `now`, or not. The list is as for
+ * cronsim_audit. Answers CRONSIM_DONE with what `cronsim why -o json` prints, without its member
+ * `calls`: an object with `now`; `cronJobs`, each with its `namespace` and `name`, the `verdict` in
+ * a word, `why` in sentences, the times that it `missed`, the names of its `running` Jobs and of
+ * those that the list `lacks`, its `plan`, as cronsim_plan gives it, or null, and when to look
+ * again, `next`, or null; and in `refused` and `others` the items of the list that it can't use.
+ * CRONSIM_REFUSED if the text is no list; CRONSIM_RANGE; CRONSIM_ROOM; CRONSIM_MEMORY.
+ */
+uint32_t cronsim_why(const uint8_t *list, size_t list_length, const uint8_t *zones,
+                     size_t zones_length, uint64_t now, uint8_t *answer, size_t capacity,
+                     size_t *length);
+
+/*
+ * Lists what a cluster's CronJobs start in the `span` seconds from `from` on. The list is as for
+ * cronsim_audit. Answers CRONSIM_DONE with what `cronsim upcoming -o json` prints of it: an object
+ * with `from`, `to`, and how many `cronJobs` and `starts` there are; `minutes`, each with its
+ * `time`, a `count` and its `cronJobs`; in `peaks` the fullest minutes, as many as `peaks` says; in
+ * `idle` the CronJobs that start nothing; in `changes` where the clocks of their zones are put; and
+ * in `files` the items of the list that it can't use.
+ * CRONSIM_REFUSED if the text is no list, or, with the cause TooMany, if it has more than 4,000,000
+ * starts; CRONSIM_RANGE if the window is longer than 3,000 days or ends after the year 9998;
+ * CRONSIM_ROOM; CRONSIM_MEMORY.
+ */
+uint32_t cronsim_upcoming(const uint8_t *list, size_t list_length, const uint8_t *zones,
+                          size_t zones_length, uint64_t from, uint64_t span, uint32_t peaks,
+                          uint8_t *answer, size_t capacity, size_t *length);
+
+/*
+ * Says a schedule in a sentence, and finds its next times after `after`, at most `count`, in the
+ * zone of a POSIX rule; with no byte, or `UTC`, in UTC. Answers CRONSIM_DONE with what `cronsim
+ * describe -o json` prints: an object with the `schedule`, its `sentence`, `timeZone`, which is the
+ * rule or null, `after`, the `times`, and in `changes` where the clock is put on the way.
+ * CRONSIM_REFUSED with one fault: of the field `schedule`, with a cause as above, or Format if it
+ * isn't UTF-8; or of the field `zone`, with the cause Zone. CRONSIM_RANGE; CRONSIM_ROOM;
+ * CRONSIM_MEMORY.
+ */
+uint32_t cronsim_describe(const uint8_t *schedule, size_t schedule_length, const uint8_t *rule,
+                          size_t rule_length, uint64_t after, uint16_t count, uint8_t *answer,
+                          size_t capacity, size_t *length);
 
 #ifdef __cplusplus
 }

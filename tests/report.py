@@ -44,7 +44,11 @@ def is_long(row):
     """Whether a row runs a scenario over many instants."""
     if row["words"][:1] != ["run"] or row["status"] != 0 or not row["input"]:
         return False
-    said = json.loads(row["input"])
+    try:
+        said = json.loads(row["input"])
+    except ValueError:
+        # (YAML, whose rows are short)
+        return False
     start, end = (
         datetime.fromisoformat(said[it].replace("Z", "+00:00")) for it in ("start", "end")
     )

@@ -213,21 +213,44 @@ static const char plan[] = "{\"claim\":null,\"clean\":[],\"drop\":[],\"make\":nu
                            "01-01T01:30:00Z\",\"reasons\":[],\"status\":null}";
 static const char empty_audit[] = "{\"cronJobs\":0,\"findings\":[],\"jobs\":0,\"manual\":[],"
                                   "\"others\":[{\"item\":1,\"kind\":\"Pod\"}],\"refused\":[]}";
+static const char empty_why[] = "{\"cronJobs\":[],\"now\":\"2024-01-01T00:00:00Z\","
+                                "\"others\":[{\"item\":1,\"kind\":\"Pod\"}],\"refused\":[]}";
+static const char empty_upcoming[] =
+    "{\"changes\":[],\"cronJobs\":0,\"files\":[{\"file\":null,\"others\":[{\"item\":1,"
+    "\"kind\":\"Pod\"}],\"refused\":[]}],\"from\":\"2024-01-01T00:00:00Z\",\"idle\":[],"
+    "\"minutes\":[],\"peaks\":[],\"starts\":0,\"to\":\"2024-01-01T01:00:00Z\"}";
+static const char midnight[] =
+    "{\"after\":\"2024-01-01T00:00:00Z\",\"changes\":[],\"schedule\":\"0 0 * * *\","
+    "\"sentence\":\"At 00:00, by the clock of UTC\",\"timeZone\":\"UTC\",\"times\":[{"
+    "\"inSeconds\":86400,\"local\":\"2024-01-02T00:00\",\"offset\":\"+00:00\","
+    "\"utc\":\"2024-01-02T00:00:00Z\",\"weekday\":\"Tuesday\"}]}";
 static char scenario[1024];
 
 enum call {
     CHECK,
     PLAN,
-    AUDIT
+    AUDIT,
+    WHY,
+    UPCOMING,
+    DESCRIBE
 };
 
-// Makes one of the calls that answer with JSON; the zones, or none, and of a plan the moment
-// 2024-01-01T00:00:00Z.
+// Makes one of the calls that answer with JSON; the zones, or none, or of a schedule the rule. The
+// moment is 2024-01-01T00:00:00Z, and the window an hour.
 static uint32_t told(enum call call, const char *bytes, size_t length, const char *by,
                      uint8_t *answer, size_t room, size_t *size) {
-    if (call == PLAN) return cronsim_plan(text(bytes), length, 1704067200, answer, room, size);
-    return (call == CHECK ? cronsim_check : cronsim_audit)(text(bytes), length, text(by),
-                                                           strlen(by), answer, room, size);
+    const uint64_t now = 1704067200;
+    const uint8_t *words = text(bytes), *zones = text(by);
+    size_t many = strlen(by);
+    switch (call) {
+    case CHECK: return cronsim_check(words, length, zones, many, answer, room, size);
+    case PLAN: return cronsim_plan(words, length, now, answer, room, size);
+    case AUDIT: return cronsim_audit(words, length, zones, many, answer, room, size);
+    case WHY: return cronsim_why(words, length, zones, many, now, answer, room, size);
+    case UPCOMING:
+        return cronsim_upcoming(words, length, zones, many, now, 3600, 1, answer, room, size);
+    default: return cronsim_describe(words, length, zones, many, now, 1, answer, room, size);
+    }
 }
 
 // The answer is this one; nothing is written without room for it, nor behind it.
@@ -252,7 +275,7 @@ static void texts(void) {
     static char deep[400];
     memset(deep, '[', 200);
     memset(deep + 200, ']', 200);
-    for (enum call call = CHECK; call <= AUDIT; call++) {
+    for (enum call call = CHECK; call <= UPCOMING; call++) {
         want_told("no bytes", call, "", 0, "", CRONSIM_REFUSED, no_json);
         want_told("no UTF-8", call, "\"\xff\"", 3, "", CRONSIM_REFUSED, no_json);
         want_told("a zero byte", call, "\0", 1, "", CRONSIM_REFUSED, no_json);
@@ -275,13 +298,66 @@ static void texts(void) {
     want_told("a scenario", PLAN, scenario, strlen(scenario), "", CRONSIM_DONE, plan);
     const char *pods = "{\"kind\":\"List\",\"items\":[{\"kind\":\"Pod\"}]}";
     want_told("a Pod", AUDIT, pods, strlen(pods), zones, CRONSIM_DONE, empty_audit);
+    want_told("a Pod", WHY, pods, strlen(pods), zones, CRONSIM_DONE, empty_why);
+    want_told("a Pod", UPCOMING, pods, strlen(pods), zones, CRONSIM_DONE, empty_upcoming);
+}
+
+// Moments past the last one, and windows that are too long or end too late.
+static void moments(void) {
+    const uint64_t end = 253370764800u, days = 259200000;
+    const uint8_t *none = text("");
     uint8_t answer[8] = {7};
     size_t size = 9;
-    want("past the end",
-         cronsim_plan(text(scenario), strlen(scenario), 253370764800u, answer, 8, &size),
+    want("plan, past the end",
+         cronsim_plan(text(scenario), strlen(scenario), end, answer, 8, &size), CRONSIM_RANGE);
+    want("plan, UINT64_MAX", cronsim_plan(none, 0, UINT64_MAX, answer, 8, &size), CRONSIM_RANGE);
+    want("why, past the end", cronsim_why(none, 0, none, 0, end, answer, 8, &size), CRONSIM_RANGE);
+    want("describe, past the end", cronsim_describe(none, 0, none, 0, end, 1, answer, 8, &size),
          CRONSIM_RANGE);
-    want("UINT64_MAX", cronsim_plan(text(""), 0, UINT64_MAX, answer, 8, &size), CRONSIM_RANGE);
+    for (uint64_t from = 0; from <= 1; from++)
+        want("a long window",
+             cronsim_upcoming(none, 0, none, 0, from, days + 1 - from, 0, answer, 8, &size),
+             from ? CRONSIM_ROOM : CRONSIM_RANGE);
+    want("its length", size, sizeof no_json - 1);
+    size = 9;
+    want("a window to the end",
+         cronsim_upcoming(none, 0, none, 0, end - 1, 1, 0, answer, 8, &size), CRONSIM_RANGE);
+    want("UINT64_MAX + UINT64_MAX",
+         cronsim_upcoming(none, 0, none, 0, UINT64_MAX, UINT64_MAX, 0, answer, 8, &size),
+         CRONSIM_RANGE);
     want("nothing written", size == 9 && answer[0] == 7, 1);
+}
+
+// Schedules and rules that are refused, and a sentence.
+static void schedules(void) {
+    static char many[1025];
+    memset(many, '*', sizeof many);
+    want_told("a schedule", DESCRIBE, "0 0 * * *", 9, "UTC", CRONSIM_DONE, midnight);
+    want_told("no bytes", DESCRIBE, "", 0, "", CRONSIM_REFUSED,
+              "[{\"cause\":\"Schedule 0 0 Empty\",\"field\":\"schedule\"}]");
+    want_told("too long", DESCRIBE, many, sizeof many, "", CRONSIM_REFUSED,
+              "[{\"cause\":\"Schedule 0 0 Length\",\"field\":\"schedule\"}]");
+    want_told("no UTF-8", DESCRIBE, "* * * * \xff", 9, "", CRONSIM_REFUSED,
+              "[{\"cause\":\"Format\",\"field\":\"schedule\"}]");
+    const char *rules[] = {"rule", "\xff", "Etc/UTC", "Local", "UTC0\n"};
+    for (size_t i = 0; i < sizeof rules / sizeof *rules; i++)
+        want_told("no rule", DESCRIBE, "* * * * *", 9, rules[i], CRONSIM_REFUSED,
+                  "[{\"cause\":\"Zone\",\"field\":\"zone\"}]");
+}
+
+// NULL is no byte, by the words of the header for it; of a text and of a buffer.
+static void nulls(void) {
+    cronsim_cron cron = CRONSIM_CRON_INIT;
+    cronsim_fault fault = {0, 0, 0};
+    size_t size = 0;
+    want_fault("NULL", cronsim_open(&cron, cronsim_text(NULL), 0, &fault), fault, 0, CRONSIM_EMPTY);
+    want("no zones",
+         cronsim_check(text("{"), 1, cronsim_text(NULL), 0, cronsim_buffer(NULL), 0, &size),
+         CRONSIM_ROOM);
+    want("its length", size, sizeof no_json - 1);
+    uint8_t byte = 7;
+    want("the same text", cronsim_text(&byte) == &byte, 1);
+    want("the same buffer", cronsim_buffer(&byte) == &byte, 1);
 }
 
 // One of those calls with the request for memory of this number refused; tells whether one was.
@@ -293,7 +369,13 @@ static bool tells(int number_of_call) {
     } all[] = {{CHECK, manifest, zones, CRONSIM_DONE}, {CHECK, manifest, "", CRONSIM_REFUSED},
                {CHECK, "{", zones, CRONSIM_REFUSED},   {CHECK, "{}", "[]", CRONSIM_REFUSED},
                {PLAN, scenario, "", CRONSIM_DONE},     {PLAN, "{}", "", CRONSIM_REFUSED},
-               {AUDIT, manifest, zones, CRONSIM_DONE}, {AUDIT, "1", zones, CRONSIM_REFUSED}};
+               {AUDIT, manifest, zones, CRONSIM_DONE}, {AUDIT, "1", zones, CRONSIM_REFUSED},
+               {WHY, manifest, zones, CRONSIM_DONE},   {WHY, "1", zones, CRONSIM_REFUSED},
+               {UPCOMING, manifest, zones, CRONSIM_DONE},
+               {UPCOMING, "1", zones, CRONSIM_REFUSED},
+               {DESCRIBE, "30 2 * * *", "CET-1CEST,M3.5.0,M10.5.0/3", CRONSIM_DONE},
+               {DESCRIBE, "30 2 * *", "", CRONSIM_REFUSED},
+               {DESCRIBE, "30 2 * * *", "rule", CRONSIM_REFUSED}};
     uint8_t answer[1024];
     size_t size = 9;
     memset(answer, 7, sizeof answer);
@@ -394,13 +476,16 @@ int main(int count, char **words) {
     lengths();
     ranges();
     texts();
+    moments();
+    schedules();
+    nulls();
     threads();
     long refusals = 0;
     for (int call = 0; call < 4; call++) {
         if (call == 2 && !file_length) continue;
         for (refused_one = 1; opens(call, file, file_length); refused_one++) refusals++;
     }
-    for (int call = 0; call < 8; call++)
+    for (int call = 0; call < 15; call++)
         for (refused_one = 1; tells(call); refused_one++) refusals++;
     for (refused_one = 1; says(); refused_one++) refusals++;
     printf("library: hostile: each answer as stated, with %ld requests for memory refused\n",

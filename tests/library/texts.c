@@ -32,18 +32,27 @@ static struct text bytes_of(char *digits) {
 
 struct call {
     const char *name;
-    uint64_t now;
     struct text zones, text;
+    uint64_t numbers[3];
 };
 
 static uint32_t made(const struct call *c, uint8_t *answer, size_t capacity, size_t *length) {
+    const uint8_t *text = c->text.bytes, *zones = c->zones.bytes;
+    size_t size = c->text.length, many = c->zones.length;
+    const uint64_t *n = c->numbers;
     if (strcmp(c->name, "plan") == 0)
-        return cronsim_plan(c->text.bytes, c->text.length, c->now, answer, capacity, length);
+        return cronsim_plan(text, size, n[0], answer, capacity, length);
     if (strcmp(c->name, "check") == 0)
-        return cronsim_check(c->text.bytes, c->text.length, c->zones.bytes, c->zones.length, answer,
-                             capacity, length);
-    return cronsim_audit(c->text.bytes, c->text.length, c->zones.bytes, c->zones.length, answer,
-                         capacity, length);
+        return cronsim_check(text, size, zones, many, answer, capacity, length);
+    if (strcmp(c->name, "why") == 0)
+        return cronsim_why(text, size, zones, many, n[0], answer, capacity, length);
+    if (strcmp(c->name, "upcoming") == 0)
+        return cronsim_upcoming(text, size, zones, many, n[0], n[1], (uint32_t)n[2], answer,
+                                capacity, length);
+    if (strcmp(c->name, "describe") == 0)
+        return cronsim_describe(text, size, zones, many, n[0], (uint16_t)n[1], answer, capacity,
+                                length);
+    return cronsim_audit(text, size, zones, many, answer, capacity, length);
 }
 
 static void answer(const struct call *c) {
@@ -69,13 +78,12 @@ int main(void) {
     static char line[1 << 22];
     while (fgets(line, sizeof line, stdin)) {
         line_number++;
-        struct call c = {strtok(line, "\t\n"), 0, {(uint8_t *)"", 0}, {NULL, 0}};
-        char *known = strtok(NULL, "\t\n");
-        if (strcmp(c.name, "plan") == 0)
-            c.now = strtoull(known, NULL, 10);
-        else
-            c.zones = bytes_of(known);
-        c.text = bytes_of(strtok(NULL, "\t\n"));
+        struct call c = {strtok(line, "\t\n"), {NULL, 0}, {NULL, 0}, {0, 0, 0}};
+        char *zones = strtok(NULL, "\t\n"), *text = strtok(NULL, "\t\n"), *number;
+        for (int at = 0; at < 3 && (number = strtok(NULL, "\t\n")); at++)
+            c.numbers[at] = strtoull(number, NULL, 10);
+        c.zones = bytes_of(zones);
+        c.text = bytes_of(text);
         answer(&c);
     }
     return line_number ? 0 : 1;

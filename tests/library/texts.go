@@ -48,23 +48,37 @@ func told(
 	}
 }
 
-func answer(words []string) (C.uint32_t, []byte) {
-	input := text(words[2])
-	size := C.size_t(len(input))
-	if words[0] == "plan" {
-		now, err := strconv.ParseUint(words[1], 10, 64)
-		if err != nil {
-			panic(err)
-		}
-		return told(func(answer *C.uint8_t, room C.size_t, length *C.size_t) C.uint32_t {
-			return C.cronsim_plan(start(input), size, C.uint64_t(now), answer, room, length)
-		})
+// The number at a place behind a call's texts; 0 where there is none.
+func number(words []string, at int) uint64 {
+	if len(words) <= 3+at {
+		return 0
 	}
-	zones := text(words[1])
-	many := C.size_t(len(zones))
+	found, err := strconv.ParseUint(words[3+at], 10, 64)
+	if err != nil {
+		panic(err)
+	}
+	return found
+}
+
+func answer(words []string) (C.uint32_t, []byte) {
+	zones, input := text(words[1]), text(words[2])
+	many, size := C.size_t(len(zones)), C.size_t(len(input))
+	first, second, third := number(words, 0), number(words, 1), number(words, 2)
 	return told(func(answer *C.uint8_t, room C.size_t, length *C.size_t) C.uint32_t {
-		if words[0] == "check" {
+		switch words[0] {
+		case "plan":
+			return C.cronsim_plan(start(input), size, C.uint64_t(first), answer, room, length)
+		case "check":
 			return C.cronsim_check(start(input), size, start(zones), many, answer, room, length)
+		case "why":
+			return C.cronsim_why(start(input), size, start(zones), many, C.uint64_t(first),
+				answer, room, length)
+		case "upcoming":
+			return C.cronsim_upcoming(start(input), size, start(zones), many, C.uint64_t(first),
+				C.uint64_t(second), C.uint32_t(third), answer, room, length)
+		case "describe":
+			return C.cronsim_describe(start(input), size, start(zones), many, C.uint64_t(first),
+				C.uint16_t(second), answer, room, length)
 		}
 		return C.cronsim_audit(start(input), size, start(zones), many, answer, room, length)
 	})

@@ -2,7 +2,8 @@
 answer on a line: the status and the JSON."""
 import ctypes
 import sys
-from ctypes import POINTER, byref, c_char_p, c_size_t, c_uint64, create_string_buffer
+from ctypes import POINTER, byref, c_char_p, c_size_t, c_uint16, c_uint32, c_uint64
+from ctypes import create_string_buffer
 
 ROOM = 6
 
@@ -10,10 +11,13 @@ ROOM = 6
 def loaded(path):
     """The library, with the types of its calls, so that a wrong one is an error."""
     library = ctypes.CDLL(path)
-    answer = [c_char_p, c_size_t, POINTER(c_size_t)]
-    library.cronsim_plan.argtypes = [c_char_p, c_size_t, c_uint64, *answer]
-    library.cronsim_check.argtypes = [c_char_p, c_size_t, c_char_p, c_size_t, *answer]
+    text, answer = [c_char_p, c_size_t], [c_char_p, c_size_t, POINTER(c_size_t)]
+    library.cronsim_plan.argtypes = [*text, c_uint64, *answer]
+    library.cronsim_check.argtypes = [*text, *text, *answer]
     library.cronsim_audit.argtypes = library.cronsim_check.argtypes
+    library.cronsim_why.argtypes = [*text, *text, c_uint64, *answer]
+    library.cronsim_upcoming.argtypes = [*text, *text, c_uint64, c_uint64, c_uint32, *answer]
+    library.cronsim_describe.argtypes = [*text, *text, c_uint64, c_uint16, *answer]
     return library
 
 
@@ -31,14 +35,11 @@ def told(call, *words):
 def main():
     library = loaded(sys.argv[1])
     for line in sys.stdin:
-        name, known, digits = line.split()
-        text = b"" if digits == "." else bytes.fromhex(digits)
-        if name == "plan":
-            status, answer = told(library.cronsim_plan, text, len(text), int(known))
-        else:
-            zones = b"" if known == "." else bytes.fromhex(known)
-            call = library.cronsim_check if name == "check" else library.cronsim_audit
-            status, answer = told(call, text, len(text), zones, len(zones))
+        name, *digits = line.split()[:3]
+        numbers = [int(word) for word in line.split()[3:]]
+        zones, text = (b"" if it == "." else bytes.fromhex(it) for it in digits)
+        words = [text, len(text)] + ([] if name == "plan" else [zones, len(zones)])
+        status, answer = told(getattr(library, f"cronsim_{name}"), *words, *numbers)
         print(status, answer.decode())
 
 

@@ -6,7 +6,12 @@ const ROOM: u32 = 6;
 
 unsafe extern "C" {
     fn cronsim_plan(
-        text: *const u8, size: usize, now: u64, answer: *mut u8, room: usize, length: &mut usize,
+        text: *const u8,
+        size: usize,
+        now: u64,
+        answer: *mut u8,
+        room: usize,
+        length: &mut usize,
     ) -> u32;
     fn cronsim_check(
         text: *const u8,
@@ -22,6 +27,39 @@ unsafe extern "C" {
         size: usize,
         zones: *const u8,
         zones_size: usize,
+        answer: *mut u8,
+        room: usize,
+        length: &mut usize,
+    ) -> u32;
+    fn cronsim_why(
+        text: *const u8,
+        size: usize,
+        zones: *const u8,
+        zones_size: usize,
+        now: u64,
+        answer: *mut u8,
+        room: usize,
+        length: &mut usize,
+    ) -> u32;
+    fn cronsim_upcoming(
+        text: *const u8,
+        size: usize,
+        zones: *const u8,
+        zones_size: usize,
+        from: u64,
+        span: u64,
+        peaks: u32,
+        answer: *mut u8,
+        room: usize,
+        length: &mut usize,
+    ) -> u32;
+    fn cronsim_describe(
+        text: *const u8,
+        size: usize,
+        zones: *const u8,
+        zones_size: usize,
+        after: u64,
+        count: u16,
         answer: *mut u8,
         room: usize,
         length: &mut usize,
@@ -50,26 +88,24 @@ fn told(call: impl Fn(&mut [u8], &mut usize) -> u32) -> (u32, Vec<u8>) {
 }
 
 fn answer(words: &[&str]) -> (u32, Vec<u8>) {
-    let input = text(words[2]);
-    if words[0] == "plan" {
-        let now = words[1].parse().expect("a moment");
-        return told(|answer, length| unsafe {
-            let (room, size) = (answer.len(), input.len());
-            cronsim_plan(input.as_ptr(), size, now, answer.as_mut_ptr(), room, length)
-        });
-    }
-    let zones = text(words[1]);
-    let call = if words[0] == "check" { cronsim_check } else { cronsim_audit };
+    let (zones, input) = (text(words[1]), text(words[2]));
+    let numbers: Vec<u64> = words[3..].iter().map(|it| it.parse().expect("a number")).collect();
+    let (at, size) = (input.as_ptr(), input.len());
+    let (by, many) = (zones.as_ptr(), zones.len());
     told(|answer, length| unsafe {
-        call(
-            input.as_ptr(),
-            input.len(),
-            zones.as_ptr(),
-            zones.len(),
-            answer.as_mut_ptr(),
-            answer.len(),
-            length,
-        )
+        let (to, room) = (answer.as_mut_ptr(), answer.len());
+        match (words[0], &numbers[..]) {
+            ("plan", &[now]) => cronsim_plan(at, size, now, to, room, length),
+            ("check", _) => cronsim_check(at, size, by, many, to, room, length),
+            ("why", &[now]) => cronsim_why(at, size, by, many, now, to, room, length),
+            ("upcoming", &[from, span, peaks]) => {
+                cronsim_upcoming(at, size, by, many, from, span, peaks as u32, to, room, length)
+            }
+            ("describe", &[after, count]) => {
+                cronsim_describe(at, size, by, many, after, count as u16, to, room, length)
+            }
+            _ => cronsim_audit(at, size, by, many, to, room, length),
+        }
     })
 }
 

@@ -1,67 +1,17 @@
 -- What `describe` answers of a schedule.
-use Rattle.std.specs.Prelude.{◌≡◌, ◌⊎◌, ℕ, List, Option, None, Some, IsNone, Bool, true, false, codes}
-use Rattle.std.specs.Borrow.{Bor}
-use Rattle.jiff_tz.specs.PosixReader.{read_whole}
+use Rattle.std.specs.Prelude.{◌≡◌, ◌⊎◌, ℕ, List, None, Some, codes}
 use Rattle.cj_base.specs.declared.schedule_fault.ScheduleFault.{ScheduleFault}
 use Rattle.cj_schedule.specs.Matches.{Sets}
 use Rattle.cj_schedule.specs.Grammar.{IsSchedule}
 use Rattle.cj_schedule.specs.Reading.{fault_of}
-use Rattle.cj_zone.specs.declared.source.Source.TheVariants.{Rule}
 use Rattle.cj_zone.specs.declared.zone.Zone.{Zone}
-use Rattle.cj_zone.specs.Made.{IsMade}
-use Rattle.cj_zone.specs.Zones.{is_refused_name, utc_zone}
 use Rattle.cj_io.specs.declared.zone_files.file.ZoneFile.{ZoneFile}
-use Rattle.cj_io.specs.zone_files.Rules.{utc_zones}
 use Rattle.cj_args.specs.declared.request.DescribeRequest.{DescribeRequest}
 use Rattle.cj_answers.specs.Moments.{asked_moment}
-use Rattle.cj_answers.specs.Outcome.{IsInForm, IsLookedUp, IsScheduleRefusal, Outcome, RefusesForm, done, explained, is_utc, next_zone_words, refusal}
+use Rattle.cj_answers.specs.Outcome.{IsInForm, IsScheduleRefusal, Outcome, RefusesForm, done, explained, next_zone_words, refusal}
 use Rattle.cj_answers.specs.as_json.Describe.{IsDescribePrinted}
 use Rattle.cj_answers.specs.as_json.Forms.{is_json}
-
--- ---- the zone
-
--- a zone whose clock is what `jiff` makes of the rule, and whose name is the rule
-pub record IsRuled (rule : List ℕ) (zone : Zone) : Type 0 where
-  pub name : zone.name ≡ rule
-  pub source : zone.source ≡ Rule rule
-  pub made : IsMade (Rule rule)
-
--- there is none: the rule is a name that no zone may have, or `jiff` refuses it
-abbrev pub IsNoRuled : List ℕ → Type 0
-IsNoRuled rule = (is_refused_name utc_zones rule ≡ true) ⊎ IsNone (read_whole rule)
-
--- UTC by its name, else by the rule
-abbrev pub IsZoneBy : Bool → List ℕ → Zone → Type 0
-IsZoneBy true rule zone = zone ≡ utc_zone (codes "UTC")
-IsZoneBy false rule zone = IsRuled rule zone
-
-abbrev pub IsNoZoneBy : Bool → List ℕ → Type 0
-IsNoZoneBy true rule = ⊥
-IsNoZoneBy false rule = IsNoRuled rule
-
--- UTC where no rule is given
-abbrev pub IsRuleZone : Option (Bor (List ℕ)) → Zone → Type 0
-IsRuleZone None zone = zone ≡ utc_zone (codes "UTC")
-IsRuleZone (Some rule) zone = IsZoneBy (is_utc rule.now) rule.now zone
-
-abbrev pub IsNoRuleZone : Option (Bor (List ℕ)) → Type 0
-IsNoRuleZone None = ⊥
-IsNoRuleZone (Some rule) = IsNoZoneBy (is_utc rule.now) rule.now
-
--- by the name of the zone, or by its rule, not by both
--- rules: describe-zone, zoneinfo
-abbrev pub IsZoneFor : Option (Bor (List ℕ)) → Option (Bor (List ℕ)) → List ZoneFile → Zone → Type 0
-IsZoneFor None rule files zone = IsRuleZone rule zone
-IsZoneFor (Some name) None files zone = IsLookedUp name.now files (Some zone)
-IsZoneFor (Some name) (Some rule) files zone = ⊥
-
--- there is no zone of the rule or of the name, or both are given
-abbrev pub IsNoZoneFor : Option (Bor (List ℕ)) → Option (Bor (List ℕ)) → List ZoneFile → Type 0
-IsNoZoneFor None rule files = IsNoRuleZone rule
-IsNoZoneFor (Some name) None files = IsLookedUp name.now files None
-IsNoZoneFor (Some name) (Some rule) files = Unit {0}
-
--- ---- the answer
+use Rattle.cj_answers.specs.Zoning.{IsNoZoneFor, IsZoneFor}
 
 -- what a start has to be
 -- rules: explain, moment-text

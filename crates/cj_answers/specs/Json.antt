@@ -1,10 +1,13 @@
 -- What `--explain` says of bytes that are no JSON (RFC 8259).
-use Rattle.std.specs.Prelude.{◌≡◌, ◌⊎◌, ℕ, ◌<◌, ◌==◌, ◌||◌, Bool, not, List, [], ◌++◌, length, take, Option, None, Some, codes, decimal, if◌then◌else◌}
+use Rattle.std.specs.Prelude.{◌≡◌, ◌⊎◌, ℕ, ◌<◌, ◌==◌, ◌||◌, Bool, false, not, List, [], ◌∷◌, ◌++◌, length, take, Option, None, Some, codes, decimal, if◌then◌else◌}
 use Rattle.std.specs.List.{find}
 use Rattle.serde_json.specs.Data.{Data}
 use Rattle.cj_manifest.specs.Reading.{Reads}
+use Rattle.cj_yaml.specs.declared.place.Place.{Place}
+use Rattle.cj_yaml.specs.Places.{IsPlaceIn}
 use Rattle.cj_answers.specs.declared.json.TextShape.{TextShape}
-use Rattle.cj_answers.specs.declared.json.TextShape.TheVariants.{Empty, Braced, Plain}
+use Rattle.cj_answers.specs.Suggestion.{begins, behind}
+use Rattle.cj_answers.specs.declared.json.TextShape.TheVariants.{Empty, Braced, Marked, Plain}
 
 -- ---- what the text looks like
 
@@ -23,10 +26,22 @@ shape_by (Some byte) = if is_brace byte then Braced else Plain
 abbrev pub first_byte : List ℕ → Option ℕ
 first_byte bytes = find (λ byte. not (is_blank byte)) bytes
 
+-- the text begins so
+abbrev pub is_braced : Option ℕ → Bool
+is_braced None = false
+is_braced (Some byte) = is_brace byte
+
+-- it begins so behind a byte order mark
+-- rule: explain-json
+abbrev pub is_marked : List ℕ → Bool
+is_marked bytes =
+    if begins (239 ∷ 187 ∷ 191 ∷ []) bytes
+    then is_braced (first_byte (behind (239 ∷ 187 ∷ 191 ∷ []) bytes)) else false
+
 -- by the first byte that is no blank
 -- rule: explain-json
 abbrev pub shape_of : List ℕ → TextShape
-shape_of bytes = shape_by (first_byte bytes)
+shape_of bytes = if is_marked bytes then Marked else shape_by (first_byte bytes)
 
 -- ---- what is said of it
 
@@ -44,11 +59,34 @@ abbrev pub several_words : List ℕ
 several_words =
     codes "FILE: one JSON value behind another, as kubectl get -w prints them; one is wanted, as it prints without -w\n"
 
--- that YAML isn't read, and what makes JSON of it without a cluster
+-- what is said of JSON behind a byte order mark
+-- rule: explain-json
+abbrev pub marked_words : List ℕ
+marked_words = codes "FILE: a byte order mark is before the JSON, which has none\n"
+
+-- the line on a place at which a text is no YAML, and why
 -- rule: explain-yaml
-abbrev pub no_yaml_words : List ℕ
-no_yaml_words =
-    codes "FILE: YAML isn't read; python3 -c 'import json, sys, yaml; json.dump(yaml.safe_load(sys.stdin), sys.stdout, default=str)' <FILE makes JSON of it, and so does yq -o=json FILE, or yq . FILE where yq is Python's\n"
+abbrev pub yaml_line : Place → List ℕ → List ℕ
+yaml_line place why = codes "FILE: no YAML at line "
+    ++ (decimal place.line
+    ++ (codes ", column " ++ (decimal place.column ++ (codes ": " ++ (why ++ codes "\n")))))
+
+-- that it is YAML, but neither a mapping nor a list
+-- rule: explain-yaml
+abbrev pub scalar_words : List ℕ
+scalar_words = codes "FILE: neither a mapping nor a list of YAML\n"
+
+-- the place is one in the text; why it is no YAML isn't stated
+-- rule: explain-yaml
+pub record IsNoYaml (bytes words : List ℕ) : Type 0 where
+  pub place : Place
+  pub why : List ℕ
+  pub inside : IsPlaceIn bytes place
+  pub are : words ≡ yaml_line place why
+
+-- rule: explain-yaml
+abbrev pub IsYamlWords : List ℕ → List ℕ → Type 0
+IsYamlWords bytes words = (words ≡ scalar_words) ⊎ IsNoYaml bytes words
 
 -- the bytes begin with a JSON value, and go on behind it
 -- rule: explain-json
@@ -76,19 +114,9 @@ pub record IsPlaced (More : List ℕ → Type 0) (words : List ℕ) : Type 0 whe
 abbrev pub IsWordsFor : TextShape → List ℕ → List ℕ → Type 0
 IsWordsFor Empty bytes words = words ≡ empty_words
 IsWordsFor Braced bytes words = IsPlaced (IsMore bytes) words
-IsWordsFor Plain bytes words = IsPlaced (λ more. more ≡ no_yaml_words) words
+IsWordsFor Marked bytes words = IsPlaced (λ more. more ≡ marked_words) words
+IsWordsFor Plain bytes words = IsPlaced (IsYamlWords bytes) words
 
 -- rule: explain-json
 abbrev pub IsJsonWords : List ℕ → List ℕ → Type 0
 IsJsonWords bytes words = IsWordsFor (shape_of bytes) bytes words
-
--- how a manifest in YAML turns into one
-abbrev pub yaml_words_for : TextShape → List ℕ
-yaml_words_for Plain =
-    codes "FILE: of YAML, kubectl create --dry-run=client -o json -f FILE makes JSON\n"
-yaml_words_for Empty = []
-yaml_words_for Braced = []
-
--- rule: explain-json
-abbrev pub yaml_words : List ℕ → List ℕ
-yaml_words bytes = yaml_words_for (shape_of bytes)

@@ -5,6 +5,8 @@ pub mod Coming
 pub mod Describe
 pub mod DescribeText
 pub mod Given
+pub mod Hints
+pub mod Inputs
 pub mod Json
 pub mod Lines
 pub mod Marks
@@ -12,6 +14,8 @@ pub mod Moments
 pub mod Nearest
 pub mod NextText
 pub mod Outcome
+pub mod Shapes
 pub mod Suggestion
 pub mod Times
+pub mod Zoning
 pub mod as_json

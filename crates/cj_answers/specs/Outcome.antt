@@ -1,27 +1,24 @@
 -- What the program answers to a request.
-use Rattle.std.specs.Prelude.{◌≡◌, ◌≢◌, ◌⊎◌, ℕ, ◌≤◌, List, [], ◌++◌, Option, None, Some, IsNone, Bool, true, false, bytes_eq, codes, decimal, string_bytes}
+use Rattle.std.specs.Prelude.{◌≡◌, ◌≢◌, ◌⊎◌, ℕ, ◌≤◌, List, [], ◌++◌, Option, None, Some, Bool, true, false, codes, decimal, string_bytes}
 use Rattle.std.specs.Borrow.{Bor}
-use Rattle.jiff_tz.specs.PosixReader.{read_whole}
 use Rattle.cj_base.specs.Instant.{last_second}
 use Rattle.cj_base.specs.ScheduleCause.{cause_name}
 use Rattle.cj_base.specs.declared.schedule_fault.ScheduleFault.{ScheduleFault}
 use Rattle.cj_schedule.specs.Matches.{Sets}
 use Rattle.cj_schedule.specs.Grammar.{IsSchedule}
 use Rattle.cj_schedule.specs.Reading.{fault_of}
-use Rattle.cj_zone.specs.declared.source.Source.TheVariants.{Rule}
 use Rattle.cj_zone.specs.declared.zone.Zone.{Zone}
-use Rattle.cj_zone.specs.Made.{IsMade}
-use Rattle.cj_zone.specs.Zones.{utc_zone, zone_named}
 use Rattle.cj_zone.specs.TimeText.{time_text_of}
 use Rattle.cj_io.specs.declared.exit_status.ExitStatus.{ExitStatus}
 use Rattle.cj_io.specs.declared.exit_status.ExitStatus.TheVariants as Status
 use Rattle.cj_io.specs.declared.zone_files.file.ZoneFile.{ZoneFile}
-use Rattle.cj_io.specs.zone_files.Files.{IsTableWith}
 use Rattle.cj_explain.specs.Schedules.{IsExplained}
 use Rattle.cj_answers.specs.ClockWords.{IsClockWords, clock_mark}
+use Rattle.cj_answers.specs.Hints.{schedule_hint}
 use Rattle.cj_answers.specs.as_json.Forms.{form_words, is_form, is_json}
 use Rattle.cj_answers.specs.as_json.Next.{IsNextPrinted}
 use Rattle.cj_answers.specs.Times.{IsTimeWords}
+use Rattle.cj_answers.specs.Zoning.{IsNoZoneFor, IsZoneFor}
 use Rattle.cj_answers.specs.declared.answer.Answer.{Answer}
 use Rattle.cj_answers.specs.declared.answer.Ending.{Ending}
 use Rattle.cj_answers.specs.declared.answer.Ending.TheVariants.{Done, Refused}
@@ -84,51 +81,14 @@ pub record IsTime (text : List ℕ) (t : ℕ) : Type 0 where
   pub in_range : t ≤ last_second
   pub printed : text ≡ time_text_of t
 
-abbrev pub is_utc : List ℕ → Bool
-is_utc rule = bytes_eq rule (codes "UTC")
-
--- the rule is one that is given, isn't `UTC`, and `jiff` refuses it
-abbrev pub IsNoRule : Option (Bor (List ℕ)) → Type 0
-IsNoRule None = ⊥
-IsNoRule (Some rule) = (is_utc rule.now ≡ false) × IsNone (read_whole rule.now)
-
--- UTC by its name, else a zone whose clock is what `jiff` makes of the rule
-abbrev pub IsZoneBy : Bool → List ℕ → Zone → Type 0
-IsZoneBy true rule zone = zone ≡ utc_zone (codes "UTC")
-IsZoneBy false rule zone = (zone.source ≡ Rule rule) × IsMade (Rule rule)
-
--- UTC where no rule is given, else the zone of the rule
-abbrev pub IsZoneOf : Option (Bor (List ℕ)) → Zone → Type 0
-IsZoneOf None zone = zone ≡ utc_zone (codes "UTC")
-IsZoneOf (Some rule) zone = IsZoneBy (is_utc rule.now) rule.now zone
-
--- what a table of these files has by that name
--- rule: zoneinfo
-pub record IsLookedUp (name : List ℕ) (files : List ZoneFile) (zone : Option Zone) : Type 0 where
-  pub zones : List Zone
-  pub table : IsTableWith [] files zones
-  pub is : zone_named name zones ≡ zone
-
--- by the name of the zone, or by its rule, not by both
--- rule: zoneinfo
-abbrev pub IsNextZone : Option (Bor (List ℕ)) → Option (Bor (List ℕ)) → List ZoneFile → Zone
-    → Type 0
-IsNextZone None rule files zone = IsZoneOf rule zone
-IsNextZone (Some name) None files zone = IsLookedUp name.now files (Some zone)
-IsNextZone (Some name) (Some rule) files zone = ⊥
-
--- there is no zone of the rule or of the name, or both are given
-abbrev pub IsNoNextZone : Option (Bor (List ℕ)) → Option (Bor (List ℕ)) → List ZoneFile → Type 0
-IsNoNextZone None rule files = IsNoRule rule
-IsNoNextZone (Some name) None files = IsLookedUp name.now files None
-IsNoNextZone (Some name) (Some rule) files = Unit {0}
-
--- the line of a schedule's fault, and what is wrong with the text
+-- the line of a schedule's fault, what is wrong with the text, and what people may have overlooked
+-- rule: explain-hint
 pub record IsScheduleRefusal (explain : Bool) (text : List ℕ) (fault : ScheduleFault) (o : Outcome)
     : Type 0 where
   pub words : List ℕ
   pub are : IsExplained text fault words
-  pub answer : o ≡ explained explain words (refusal (schedule_line fault))
+  pub answer : o ≡ explained explain (words ++ schedule_hint text fault)
+      (refusal (schedule_line fault))
 
 -- a time is refused, with what is wanted of it and what may be meant
 -- rule: explain-time
@@ -176,7 +136,7 @@ pub record RefusesZone (r : NextRequest) (files : List ZoneFile) (o : Outcome) :
   pub schedule : IsSchedule r.schedule.now sets
   pub after : ℕ
   pub start : IsTime r.after.now after
-  pub none : IsNoNextZone r.time_zone r.zone files
+  pub none : IsNoZoneFor r.time_zone r.zone files
   pub answer : o ≡ explained r.explain (next_zone_words r.time_zone)
       (refusal (codes "cronsim: zone\n"))
 
@@ -197,7 +157,7 @@ pub record PrintsTimes (r : NextRequest) (files : List ZoneFile) (o : Outcome) :
   pub after : ℕ
   pub start : IsTime r.after.now after
   pub zone : Zone
-  pub is_zone : IsNextZone r.time_zone r.zone files zone
+  pub is_zone : IsZoneFor r.time_zone r.zone files zone
   pub tells : TellsTimes r sets zone after o
 
 -- what `next` answers in a form that there is

@@ -61,7 +61,7 @@ fn zone_of<'t>(zones: &'t ZoneTable, name: &Option<Text>) -> Option<&'t Zone>
 }
 
 /// A line where the schedule of a CronJob never comes; none where it comes.
-pub(crate) fn schedule_advice(zones: &ZoneTable, spec: &CronSpec) -> &'static str
+pub fn schedule_advice(zones: &ZoneTable, spec: &CronSpec) -> &'static str
     ensures { IsScheduleAdvice spec.now (zones_of zones.now) result.now }
 {
     match zone_of(zones, &spec.time_zone) {

@@ -1,9 +1,7 @@
 // What `describe` answers of a schedule.
-ghost use Rattle.std.specs.Prelude.{◌≡◌, ◌⊎◌, IfErr, IfOk, Some, codes, string_bytes};
+ghost use Rattle.std.specs.Prelude.{◌≡◌, IfErr, IfOk, codes, string_bytes};
 ghost use Rattle.cj_base.specs.declared.refusal.Refusal.TheVariants.{OutOfMemory};
-ghost use Rattle.cj_zone.specs.declared.zone.Zone.{Zone};
-ghost use Rattle.cj_zone.specs.Table.{local_zone};
-ghost use Rattle.cj_answers.specs.Describe.{IsDescribeAnswer, IsDescribeOutcome, IsNoRuleZone, IsNoRuled, IsNoZoneFor, IsRuleZone, IsRuled, IsZoneFor, since_words};
+ghost use Rattle.cj_answers.specs.Describe.{IsDescribeAnswer, IsDescribeOutcome, since_words};
 ghost use Rattle.cj_answers.specs.DescribeText.{IsDescribed};
 ghost use Rattle.cj_answers.specs.Outcome.{explained, outcome_of, refusal};
 ghost use Rattle.cj_answers.specs.as_json.Describe.{IsDescribePrinted};
@@ -12,58 +10,16 @@ ghost use Rattle.cj_answers.specs.as_json.Forms.{is_json};
 use crate::answer::{Answer, Ending};
 use crate::as_json::{describe_json, is_form, is_json, refused_form};
 use crate::moments::asked_moment;
-use crate::next::{refused_schedule, refused_zone, utc, zone_words, zones_of_name};
+use crate::next::{refused_schedule, refused_zone, zone_words};
+use crate::zoning::zones_for;
 use cj_args::DescribeRequest;
 use cj_base::Refusal;
 use cj_io::{Failure, ZoneFile};
 use cj_schedule::Schedule;
 use cj_types::Seconds;
 use cj_upcoming::{coming_text, sentence};
-use cj_zone::{Zone, ZoneTable};
+use cj_zone::Zone;
 use std::alloc::{AllocError, Global};
-
-// A table whose local zone is the one of the rule, which is its name too.
-fn zones_of_rule(alloc: Global, rule: &str) -> Result<ZoneTable, Refusal>
-    ensures ok { IfOk result (λ table. (zone : Zone) → local_zone table ≡ Some zone →
-        IsRuled rule.now zone) }
-    ensures err { IfErr result (λ e. (e ≡ OutOfMemory) ⊎ IsNoRuled rule.now) }
-{
-    let mut table = ZoneTable::new(alloc)?;
-    table.add_rule(rule, rule)?;
-    table.set_local(rule)?;
-    Ok(table)
-}
-
-// One of the rule, or of UTC where that is its name or there is none.
-fn zones_by(alloc: Global, rule: Option<&str>) -> Result<ZoneTable, Refusal>
-    ensures ok { IfOk result (λ table. (zone : Zone) → local_zone table ≡ Some zone →
-        IsRuleZone rule.entry zone) }
-    ensures err { IfErr result (λ e. (e ≡ OutOfMemory) ⊎ IsNoRuleZone rule.entry) }
-{
-    match rule {
-        Some(rule) if rule != "UTC" => zones_of_rule(alloc, rule),
-        _ => utc(alloc),
-    }
-}
-
-// A table whose local zone is the one that is asked for.
-fn zones_for(
-    alloc: Global,
-    name: Option<&str>,
-    rule: Option<&str>,
-    files: &[ZoneFile],
-) -> Result<ZoneTable, Refusal>
-    ensures ok { IfOk result (λ table. (zone : Zone) → local_zone table ≡ Some zone →
-        IsZoneFor name.entry rule.entry files.now zone) }
-    ensures err { IfErr result (λ e. (e ≡ OutOfMemory)
-        ⊎ IsNoZoneFor name.entry rule.entry files.now) }
-{
-    match (name, rule) {
-        (None, rule) => zones_by(alloc, rule),
-        (Some(name), None) => zones_of_name(alloc, name, files),
-        (Some(_), Some(_)) => Err(Refusal::NotFound),
-    }
-}
 
 // What a start has to be.
 const SINCE_WORDS: &str =

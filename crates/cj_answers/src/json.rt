@@ -1,9 +1,12 @@
 // What `--explain` says of bytes that are no JSON.
-ghost use Rattle.std.specs.Prelude.{◌≡◌, ◌++◌, IfOk, string_bytes, true};
+ghost use Rattle.std.specs.Bool.{OnTrue};
+ghost use Rattle.std.specs.Prelude.{◌≡◌, ◌++◌, IfOk, string_bytes, false, true};
 ghost use Rattle.serde_json.specs.Data.{Data};
-ghost use Rattle.cj_manifest.specs.Reading.{Reads};
-ghost use Rattle.cj_answers.specs.Json.{IsJsonWords, IsMore, IsPlaced, first_byte, is_blank, is_brace, json_line, no_yaml_words, shape_by, shape_of, yaml_words, yaml_words_for};
+ghost use Rattle.cj_manifest.specs.Reading.{IsNoValue, Reads};
+ghost use Rattle.cj_answers.specs.declared.json.TextShape.TheVariants.{Plain};
+ghost use Rattle.cj_answers.specs.Json.{IsJsonWords, IsMore, IsPlaced, IsYamlWords, first_byte, is_blank, is_brace, is_braced, is_marked, json_line, marked_words, shape_by, shape_of};
 
+use crate::yaml_words::yaml_words;
 use cj_io::Failure;
 use cj_scenario::{SceneFault, value_of};
 use serde_json::Value;
@@ -16,6 +19,8 @@ pub(crate) enum TextShape {
     Empty,
     /// It begins as an object or a list of JSON does.
     Braced,
+    /// It begins so behind a byte order mark.
+    Marked,
     /// It begins otherwise, as YAML does.
     Plain,
 }
@@ -54,11 +59,44 @@ fn shape_by(first: Option<u8>) -> TextShape
     }
 }
 
+fn is_braced(first: Option<u8>) -> bool
+    ensures { result ≡ is_braced first }
+{
+    match first {
+        None => false,
+        Some(byte) => is_brace(byte),
+    }
+}
+
+// Whether it begins as an object or a list of JSON does, behind a byte order mark.
+fn is_marked(bytes: &[u8]) -> bool
+    ensures { result ≡ is_marked bytes.now }
+{
+    match bytes.strip_prefix(b"\xef\xbb\xbf") {
+        Some(rest) => is_braced(first_byte(rest)),
+        None => false,
+    }
+}
+
 // What it looks like, by that byte.
 fn shape_of(bytes: &[u8]) -> TextShape
     ensures { result ≡ shape_of bytes.now }
 {
-    shape_by(first_byte(bytes))
+    if is_marked(bytes) {
+        TextShape::Marked
+    } else {
+        shape_by(first_byte(bytes))
+    }
+}
+
+/// Whether bytes may be YAML: they are no JSON, and look neither empty nor like JSON.
+pub(crate) fn may_be_yaml(alloc: Global, bytes: &[u8]) -> Result<bool, Failure>
+    ensures { IfOk result (λ b. OnTrue b (IsNoValue bytes.now × (shape_of bytes.now ≡ Plain))) }
+{
+    match shape_of(bytes) {
+        TextShape::Plain => Ok(!is_value(alloc, bytes)?),
+        TextShape::Empty | TextShape::Braced | TextShape::Marked => Ok(false),
+    }
 }
 
 /// A line and a column of a text, from 1.
@@ -96,16 +134,16 @@ fn bytes_before(bytes: &[u8], place: TextPlace) -> usize {
     start.saturating_add(place.column.saturating_sub(1))
 }
 
-// That YAML isn't read, and what makes JSON of it without a cluster.
-const NO_YAML_WORDS: &str =
-    "FILE: YAML isn't read; python3 -c 'import json, sys, yaml; json.dump(yaml.safe_load(sys.stdin), sys.stdout, default=str)' <FILE makes JSON of it, and so does yq -o=json FILE, or yq . FILE where yq is Python's\n";
+// What is said of JSON behind a byte order mark.
+const MARKED_WORDS: &str = "FILE: a byte order mark is before the JSON, which has none\n";
 
 const SEVERAL_WORDS: &str =
     "FILE: one JSON value behind another, as kubectl get -w prints them; one is wanted, as it prints without -w\n";
 
 // Whether the bytes are a value.
 fn is_value(alloc: Global, bytes: &[u8]) -> Result<bool, Failure>
-    ensures { IfOk result (λ b. b ≡ true → (d : Data) × Reads bytes.now d) }
+    ensures yes { IfOk result (λ b. b ≡ true → (d : Data) × Reads bytes.now d) }
+    ensures no { IfOk result (λ b. b ≡ false → IsNoValue bytes.now) }
 {
     match value_of(alloc, bytes) {
         Ok(_) => Ok(true),
@@ -148,40 +186,31 @@ fn braced_words(alloc: Global, bytes: &[u8]) -> Result<String, Failure>
     Ok(placed(alloc, place, more)?)
 }
 
-fn plain_words(alloc: Global, bytes: &[u8]) -> Result<String, Failure>
-    ensures { IfOk result (λ s. IsPlaced (λ more. more ≡ no_yaml_words) (string_bytes s)) }
+fn marked_words(alloc: Global, bytes: &[u8]) -> Result<String, Failure>
+    ensures { IfOk result (λ s. IsPlaced (λ more. more ≡ marked_words) (string_bytes s)) }
 {
     let place = place_of(alloc, bytes)?;
-    Ok(placed(alloc, place, NO_YAML_WORDS)?)
+    Ok(placed(alloc, place, MARKED_WORDS)?)
+}
+
+fn plain_words(alloc: Global, bytes: &[u8]) -> Result<String, Failure>
+    ensures { IfOk result (λ s. IsPlaced (IsYamlWords bytes.now) (string_bytes s)) }
+{
+    let place = place_of(alloc, bytes)?;
+    let more = yaml_words(alloc, bytes)?;
+    Ok(placed(alloc, place, more.as_str())?)
 }
 
 /// What is said of bytes that are no JSON, by what they look like: that they are empty; or the
 /// place at which `serde_json` finds that they are none, with a line where one value is behind
-/// another, or on YAML.
+/// another or a byte order mark is in front, or on why they are no YAML.
 pub fn json_words(alloc: Global, bytes: &[u8]) -> Result<String, Failure>
     ensures { IfOk result (λ s. IsJsonWords bytes.now (string_bytes s)) }
 {
     match shape_of(bytes) {
         TextShape::Empty => Ok(String::from_str(alloc, "FILE: empty; JSON is wanted\n")?),
         TextShape::Braced => braced_words(alloc, bytes),
+        TextShape::Marked => marked_words(alloc, bytes),
         TextShape::Plain => plain_words(alloc, bytes),
     }
-}
-
-fn yaml_words_for(shape: TextShape) -> &'static str
-    ensures { result.now ≡ yaml_words_for shape }
-{
-    match shape {
-        TextShape::Plain => {
-            "FILE: of YAML, kubectl create --dry-run=client -o json -f FILE makes JSON\n"
-        }
-        TextShape::Empty | TextShape::Braced => "",
-    }
-}
-
-/// How a manifest turns into JSON that may be YAML.
-pub fn yaml_words(bytes: &[u8]) -> &'static str
-    ensures { result.now ≡ yaml_words bytes.now }
-{
-    yaml_words_for(shape_of(bytes))
 }

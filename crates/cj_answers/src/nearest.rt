@@ -5,8 +5,9 @@ ghost use Rattle.cj_answers.specs.Nearest.{edits, meant};
 use std::alloc::{AllocError, Global};
 use strsim::generic_levenshtein;
 
+/// How many bytes are put in, left out or changed to make the name of the text.
 #[tactic(auto, unfolding(crate::specs::Nearest::edits))]
-fn edits(alloc: Global, text: &[u8], name: &str) -> Result<usize, AllocError>
+pub(crate) fn edits(alloc: Global, text: &[u8], name: &str) -> Result<usize, AllocError>
     ensures { IfOk result (λ d. d ≡ edits text.now name.now) }
 {
     generic_levenshtein(alloc, text, name.as_bytes())

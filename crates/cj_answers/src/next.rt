@@ -1,26 +1,22 @@
-ghost use Rattle.std.specs.Prelude.{◌≡◌, ◌⊎◌, IfOk, IfErr, IsNone, None, Some, codes, string_bytes};
-ghost use Rattle.jiff_tz.specs.PosixReader.{read_whole};
+ghost use Rattle.std.specs.Prelude.{◌≡◌, IfOk, IfErr, codes, string_bytes};
 ghost use Rattle.cj_base.specs.declared.refusal.Refusal.TheVariants.{OutOfMemory};
-ghost use Rattle.cj_zone.specs.declared.source.Source.TheVariants.{Rule};
-ghost use Rattle.cj_zone.specs.declared.zone.Zone.{Zone};
-ghost use Rattle.cj_zone.specs.Made.{IsMade};
-ghost use Rattle.cj_zone.specs.Table.{local_zone};
-ghost use Rattle.cj_zone.specs.Zones.{utc_zone};
-ghost use Rattle.cj_answers.specs.Outcome.{IsLookedUp, IsNextAnswer, IsNextOutcome, IsNextZone, IsNoNextZone, IsNoRule, IsScheduleRefusal, IsZoneOf, TellsTimes, done, explained, next_zone_words, outcome_of, refusal, schedule_line};
+ghost use Rattle.cj_answers.specs.Outcome.{IsNextAnswer, IsNextOutcome, IsScheduleRefusal, TellsTimes, done, explained, next_zone_words, outcome_of, refusal, schedule_line};
 ghost use Rattle.cj_answers.specs.as_json.Forms.{is_json};
 ghost use Rattle.cj_answers.specs.as_json.Next.{IsNextPrinted};
 
 use crate::answer::{Answer, Ending};
 use crate::as_json::{is_form, is_json, next_json, refused_form};
 use crate::clock_words::{clock_mark, clock_words};
+use crate::hints::schedule_hint;
 use crate::next_lines::next_text;
 use crate::times::refused_time;
+use crate::zoning::zones_for;
 use cj_args::NextRequest;
 use cj_base::{Refusal, ScheduleFault, Seconds};
 use cj_explain::explain_schedule;
-use cj_io::{Failure, ZoneFile, table_with};
+use cj_io::{Failure, ZoneFile};
 use cj_schedule::Schedule;
-use cj_zone::{Zone, ZoneTable, read_time};
+use cj_zone::{Zone, read_time};
 use std::alloc::{AllocError, Global};
 
 fn fault_text(alloc: Global, fault: ScheduleFault) -> Result<String, AllocError>
@@ -40,7 +36,8 @@ pub(crate) fn refused_schedule(
     ensures { IfOk result (λ a. IsScheduleRefusal explain text.now fault (outcome_of a)) }
 {
     let line = fault_text(alloc, fault)?;
-    let words = explain_schedule(alloc, text, fault)?;
+    let mut words = explain_schedule(alloc, text, fault)?;
+    words.push_str(schedule_hint(text, fault))?;
     Answer::refused(alloc, line.as_str())?.explained(explain, words.as_str())
 }
 
@@ -68,77 +65,6 @@ pub(crate) fn refused_zone(alloc: Global, explain: bool, words: &str) -> Result<
         (refusal (codes "cronsim: zone\n"))) }
 {
     Answer::refused(alloc, "cronsim: zone\n")?.explained(explain, words)
-}
-
-const RULE_NAME: &str = "rule";
-
-// A table whose local zone is the one of the rule.
-fn zones_of_rule(alloc: Global, rule: &str) -> Result<ZoneTable, Refusal>
-    ensures ok { IfOk result (λ table. (zone : Zone) → local_zone table ≡ Some zone →
-        (zone.source ≡ Rule rule.now) × IsMade (Rule rule.now)) }
-    ensures err { IfErr result (λ e. (e ≡ OutOfMemory) ⊎ IsNone (read_whole rule.now)) }
-{
-    let mut table = ZoneTable::new(alloc)?;
-    table.add_rule(RULE_NAME, rule)?;
-    table.set_local(RULE_NAME)?;
-    Ok(table)
-}
-
-// One whose local zone is UTC.
-pub(crate) fn utc(alloc: Global) -> Result<ZoneTable, Refusal>
-    ensures ok { IfOk result (λ table. (zone : Zone) → local_zone table ≡ Some zone →
-        zone ≡ utc_zone (codes "UTC")) }
-    ensures err { IfErr result (λ e. e ≡ OutOfMemory) }
-{
-    ZoneTable::new(alloc)
-}
-
-// A table whose local zone is that of the rule, or UTC where no rule is given.
-fn zones(alloc: Global, rule: Option<&str>) -> Result<ZoneTable, Refusal>
-    ensures ok { IfOk result (λ table. (zone : Zone) → local_zone table ≡ Some zone →
-        IsZoneOf rule.entry zone) }
-    ensures err { IfErr result (λ e. (e ≡ OutOfMemory) ⊎ IsNoRule rule.entry) }
-{
-    match rule {
-        Some(rule) if rule != "UTC" => zones_of_rule(alloc, rule),
-        _ => utc(alloc),
-    }
-}
-
-// A table whose local zone is the one of that name among those of the files.
-pub(crate) fn zones_of_name(
-    alloc: Global,
-    name: &str,
-    files: &[ZoneFile],
-) -> Result<ZoneTable, Refusal>
-    ensures ok { IfOk result (λ table. (zone : Zone) → local_zone table ≡ Some zone →
-        IsLookedUp name.now files.now (Some zone)) }
-    ensures err { IfErr result (λ e. (e ≡ OutOfMemory) ⊎ IsLookedUp name.now files.now None) }
-{
-    let Ok(mut table) = table_with(alloc, &[], files) else {
-        return Err(Refusal::OutOfMemory);
-    };
-    table.set_local(name)?;
-    Ok(table)
-}
-
-// A table whose local zone is the one that is asked for.
-fn next_zones(
-    alloc: Global,
-    name: Option<&str>,
-    rule: Option<&str>,
-    files: &[ZoneFile],
-) -> Result<ZoneTable, Refusal>
-    ensures ok { IfOk result (λ table. (zone : Zone) → local_zone table ≡ Some zone →
-        IsNextZone name.entry rule.entry files.now zone) }
-    ensures err { IfErr result (λ e. (e ≡ OutOfMemory)
-        ⊎ IsNoNextZone name.entry rule.entry files.now) }
-{
-    match (name, rule) {
-        (None, rule) => zones(alloc, rule),
-        (Some(name), None) => zones_of_name(alloc, name, files),
-        (Some(_), Some(_)) => Err(Refusal::NotFound),
-    }
 }
 
 fn printed(alloc: Global, text: String) -> Answer
@@ -206,7 +132,7 @@ fn form_answer(alloc: Global, next: &NextRequest<'_>, files: &[ZoneFile]) -> Res
     let Some(after) = read_time(next.after) else {
         return refused_time(alloc, next.explain, AFTER_WORDS, "--after", next.after);
     };
-    let table = match next_zones(alloc, next.time_zone, next.zone, files) {
+    let table = match zones_for(alloc, next.time_zone, next.zone, files) {
         Ok(table) => table,
         Err(Refusal::OutOfMemory) => return Err(Failure::Memory),
         Err(_) => {

@@ -13,13 +13,14 @@ use Rattle.cj_args.specs.declared.request.ControlRequest.{ControlRequest}
 use Rattle.cj_args.specs.declared.request.DescribeRequest.{DescribeRequest}
 use Rattle.cj_args.specs.declared.request.NextRequest.{NextRequest}
 use Rattle.cj_args.specs.declared.request.PlanRequest.{PlanRequest}
+use Rattle.cj_args.specs.declared.report.ReportRequest.{ReportRequest}
 use Rattle.cj_args.specs.declared.request.ReplayRequest.{ReplayRequest}
 use Rattle.cj_args.specs.declared.request.RunRequest.{RunRequest}
 use Rattle.cj_args.specs.declared.request.UpcomingRequest.{UpcomingRequest}
 use Rattle.cj_args.specs.declared.request.WhyRequest.{WhyRequest}
 use Rattle.cj_args.specs.declared.request.ZoneWords.{ZoneWords}
 use Rattle.cj_args.specs.declared.request.Request.{Request}
-use Rattle.cj_args.specs.declared.request.Request.TheVariants.{Audit, Check, Control, Describe, Next, Plan, Replay, Run, Upcoming, Why}
+use Rattle.cj_args.specs.declared.request.Request.TheVariants.{Audit, Check, Control, Describe, Next, Plan, Replay, Report, Run, Upcoming, Why}
 use Rattle.cj_args.specs.declared.word_fault.WordFault.{WordFault}
 use Rattle.cj_args.specs.declared.word_fault.WordFault.TheVariants.{Incomplete, OutOfMemory, Refused}
 
@@ -171,20 +172,24 @@ namespace_rule =
     record (new_rule (codes "namespace"))
     { long = Some (codes "namespace"); short = Some 110; value_names = 1 }
 
--- `cronsim why FILE [--now TIME] [--cron [NAMESPACE/]NAME].. [-n NAMESPACE] [-o FORMAT]
+-- a flag that changes nothing, by the letter that `kubectl` has for it: all namespaces
+abbrev pub all_rule : Rule
+all_rule = record (flag_rule (codes "all-namespaces")) { short = Some 65 }
+
+-- `cronsim why FILE [--now TIME] [--cron [NAMESPACE/]NAME].. [-n NAMESPACE] [-A] [-o FORMAT]
 -- [--problems] [--zone NAME=RULE].. [--zoneinfo DIR] [--explain]`
 abbrev pub why_app : App
 why_app =
     let of = with_rule (with_rule (new_app (codes "why")) file_rule) moment_rule in
-    let named = with_rule (with_rule of crons_rule) namespace_rule in
+    let named = with_rule (with_rule (with_rule of crons_rule) namespace_rule) all_rule in
     with_zones (with_rule (with_rule named (output_rule (codes "table")))
     (flag_rule (codes "problems")))
 
--- `cronsim audit FILE [-o FORMAT] [--svg] [--zone NAME=RULE].. [--zoneinfo DIR] [--explain]`
+-- `cronsim audit FILE [-A] [-o FORMAT] [--svg] [--zone NAME=RULE].. [--zoneinfo DIR] [--explain]`
 abbrev pub audit_app : App
 audit_app =
-    let of = with_rule (with_rule (new_app (codes "audit")) file_rule) lines_rule in
-    with_zones (with_rule of (flag_rule (codes "svg")))
+    let of = with_rule (with_rule (new_app (codes "audit")) file_rule) all_rule in
+    with_zones (with_rule (with_rule of lines_rule) (flag_rule (codes "svg")))
 
 -- the start of a window, which may be left out
 abbrev pub from_rule : Rule
@@ -208,13 +213,13 @@ peaks_rule = record (new_rule (codes "peaks")) {
 }
 
 -- `cronsim upcoming FILE.. [--from TIME] [--for LENGTH] [--cron [NAMESPACE/]NAME].. [-n NAMESPACE]
--- [--peaks N] [-o FORMAT] [--svg] [--zone NAME=RULE].. [--zoneinfo DIR] [--explain]`
+-- [-A] [--peaks N] [-o FORMAT] [--svg] [--zone NAME=RULE].. [--zoneinfo DIR] [--explain]`
 abbrev pub upcoming_app : App
 upcoming_app =
     let of = with_rule (with_rule (with_rule (new_app (codes "upcoming")) files_rule) from_rule)
     length_rule in
-    let named = with_rule (with_rule (with_rule of crons_rule) namespace_rule) peaks_rule in
-    with_zones (with_rule (with_rule named lines_rule) (flag_rule (codes "svg")))
+    let named = with_rule (with_rule (with_rule of crons_rule) namespace_rule) all_rule in
+    with_zones (with_rule (with_rule (with_rule named peaks_rule) lines_rule) (flag_rule (codes "svg")))
 
 -- a start that may be left out
 abbrev pub since_rule : Rule
@@ -237,6 +242,14 @@ usual_rule id usual =
 -- an option with one value, which may be left out
 abbrev pub left_rule : Text → Rule
 left_rule id = record (new_rule id) { long = Some id; value_names = 1 }
+
+-- `cronsim report FILE.. [--since TIME] [--now TIME] [--zone NAME=RULE].. [--zoneinfo DIR]
+-- [--explain]`
+-- rule: report
+abbrev pub report_app : App
+report_app =
+    let of = with_rule (with_rule (new_app (codes "report")) files_rule) (left_rule (codes "since")) in
+    with_zones (with_rule of moment_rule)
 
 -- how many syncs may be under way at once
 -- rule: control-options
@@ -295,10 +308,14 @@ clustered_app = with_subcommand (with_subcommand acting_app why_app.top) audit_a
 abbrev pub asked_app : App
 asked_app = with_subcommand (with_subcommand clustered_app upcoming_app.top) describe_app.top
 
+-- those and the command that prints a page
+abbrev pub reported_app : App
+reported_app = with_subcommand asked_app report_app.top
+
 -- those and the controller of a cluster
 -- rules: words, help
 abbrev pub cronsim_app : App
-cronsim_app = with_subcommand asked_app control_app.top
+cronsim_app = with_subcommand reported_app control_app.top
 
 -- the text is decimal digits, after a plus or none, that spell the number
 abbrev pub IsDecimal : Text → ℕ → Type 0
@@ -427,6 +444,15 @@ pub record IsDescribe (rows : List Row) (r : DescribeRequest) : Type 0 where
   pub folder : first_of (codes "zoneinfo") rows ≡ option_map (λ s. s.now) r.folder
   pub explain : r.explain ≡ is_given (codes "explain") rows
 
+-- and for those of `report`
+-- rule: report
+pub record IsReport (rows : List Row) (r : ReportRequest) : Type 0 where
+  pub files : texts_of (codes "file") rows ≡ map (λ s. s.now) r.files.items
+  pub since : first_of (codes "since") rows ≡ option_map (λ s. s.now) r.since
+  pub moment : first_of (codes "now") rows ≡ option_map (λ s. s.now) r.moment
+  pub zones : AreZones rows r.zones
+  pub explain : r.explain ≡ is_given (codes "explain") rows
+
 -- and for those of `control`
 -- rule: control-options
 pub record IsControl (rows : List Row) (r : ControlRequest) : Type 0 where
@@ -460,6 +486,8 @@ IsOfRows found (Upcoming r) =
     (rows : List Row) × (found ≡ Some (codes "upcoming", rows)) × IsUpcoming rows r
 IsOfRows found (Describe r) =
     (rows : List Row) × (found ≡ Some (codes "describe", rows)) × IsDescribe rows r
+IsOfRows found (Report r) =
+    (rows : List Row) × (found ≡ Some (codes "report", rows)) × IsReport rows r
 IsOfRows found (Control r) =
     (rows : List Row) × (found ≡ Some (codes "control", rows)) × IsControl rows r
 
@@ -483,6 +511,7 @@ file_of (Why r) = Some r.file.now
 file_of (Audit r) = Some r.file.now
 file_of (Upcoming r) = first_file r.files.items
 file_of (Describe r) = None
+file_of (Report r) = first_file r.files.items
 file_of (Control r) = option_map (λ s. s.now) r.check
 
 -- the zones that the words give, where a command takes them
@@ -497,6 +526,7 @@ zones_of (Why r) = Some r.zones
 zones_of (Audit r) = Some r.zones
 zones_of (Upcoming r) = Some r.zones
 zones_of (Describe r) = None
+zones_of (Report r) = Some r.zones
 zones_of (Control r) = None
 
 -- the name of the folder in which a request has zones looked up, where one is given
@@ -511,6 +541,7 @@ folder_of (Why r) = option_map (λ s. s.now) r.zones.folder
 folder_of (Audit r) = option_map (λ s. s.now) r.zones.folder
 folder_of (Upcoming r) = option_map (λ s. s.now) r.zones.folder
 folder_of (Describe r) = option_map (λ s. s.now) r.folder
+folder_of (Report r) = option_map (λ s. s.now) r.zones.folder
 folder_of (Control r) = option_map (λ s. s.now) r.folder
 
 -- whether a request has its refusal explained
@@ -525,6 +556,7 @@ explains (Why r) = r.explain
 explains (Audit r) = r.explain
 explains (Upcoming r) = r.explain
 explains (Describe r) = r.explain
+explains (Report r) = r.explain
 explains (Control r) = r.explain
 
 -- when words are refused: `clap` doesn't take them, or no request has the values that it states for

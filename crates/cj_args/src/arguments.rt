@@ -1,6 +1,6 @@
 // The arguments of the commands.
 ghost use Rattle.cj_args.specs.Building.{IsArg, option_rule, positional_rule, required_rule};
-ghost use Rattle.cj_args.specs.Command.{count_rule, crons_rule, explain_rule, files_rule, flag_rule, length_rule, lines_rule, namespace_rule, output_rule, peaks_rule, selector_rule, syncs_rule, usual_rule, workers_rule, zones_rule};
+ghost use Rattle.cj_args.specs.Command.{all_rule, count_rule, crons_rule, explain_rule, files_rule, flag_rule, length_rule, lines_rule, namespace_rule, output_rule, peaks_rule, selector_rule, syncs_rule, usual_rule, workers_rule, zones_rule};
 
 use crate::help;
 use clap::builder::ValueParser;
@@ -116,7 +116,7 @@ pub(crate) fn zones_arg<'a>(alloc: Global) -> Arg<'a>
         alloc,
         "zone",
         "NAME=RULE",
-        "A zone that the input may name, with its POSIX rule: Europe/Berlin=CET-1CEST,M3.5.0,M10.5.0/3. May be given several times",
+        "A zone that the input may name, with its POSIX rule: Europe/Berlin=CET-1CEST,M3.5.0,M10.5.0/3. Zones of the folder of zone files need none. May be given several times",
     )
     .action(ArgAction::Append)
 }
@@ -133,6 +133,13 @@ pub(crate) fn namespace_arg<'a>(alloc: Global) -> Arg<'a>
     ensures { IsArg namespace_rule result }
 {
     option_arg(alloc, "namespace", "NAMESPACE", help::NAMESPACE).short('n')
+}
+
+/// That all namespaces are meant, as they are without it: for those who know it from `kubectl`.
+pub(crate) fn all_arg<'a>(alloc: Global) -> Arg<'a>
+    ensures { IsArg all_rule result }
+{
+    flag_arg(alloc, "all-namespaces", help::ALL).short('A')
 }
 
 /// How the answer is printed, and how it is where nobody says so.

@@ -2,29 +2,35 @@
 ghost use Rattle.std.specs.Prelude.{◌≡◌, IfOk};
 ghost use Rattle.clap.specs.Words.{App, Rule, app_of, new_app, with_rule, with_subcommand};
 ghost use Rattle.cj_args.specs.Building.{IsArg, IsCommand, bare_app};
-ghost use Rattle.cj_args.specs.Command.{acting_app, asked_app, audit_app, check_app, chosen_app, clustered_app, control_app, cronsim_app, deciding_app, describe_app, file_rule, next_app, plan_app, reading_app, replay_app, run_app, upcoming_app, why_app, with_folder, with_zones};
+ghost use Rattle.cj_args.specs.Command.{acting_app, asked_app, audit_app, check_app, chosen_app, clustered_app, control_app, cronsim_app, deciding_app, describe_app, file_rule, next_app, plan_app, reading_app, replay_app, reported_app, run_app, upcoming_app, why_app, with_folder, with_zones};
 
 use crate::arguments::{
-    count_arg, crons_arg, explain_arg, files_arg, flag_arg, length_arg, lines_arg, namespace_arg,
-    option_arg, output_arg, peaks_arg, positional_arg, required_arg, selector_arg, syncs_arg,
-    usual_arg, workers_arg, zones_arg,
+    all_arg, count_arg, crons_arg, explain_arg, files_arg, flag_arg, length_arg, lines_arg,
+    namespace_arg, option_arg, output_arg, peaks_arg, positional_arg, required_arg, selector_arg,
+    syncs_arg, usual_arg, workers_arg, zones_arg,
 };
 use crate::help;
+use crate::report::report_command;
 use clap::{Arg, Command};
 use std::alloc::{AllocError, Global};
 
 /// The version of the program.
 pub const VERSION: &str = "0.2.0";
 
-// A command with no arguments, and what help says of it.
-fn new_command<'a>(alloc: Global, name: &'a str, about: &'a str, after: &'a str) -> Command<'a>
+/// A command with no arguments, and what help says of it.
+pub(crate) fn new_command<'a>(
+    alloc: Global,
+    name: &'a str,
+    about: &'a str,
+    after: &'a str,
+) -> Command<'a>
     ensures { IsCommand (new_app name.entry.now) result }
 {
     Command::new(alloc, name).about(about).after_help(after)
 }
 
-// The command with one more argument, where it could be made.
-fn with_arg<'a>(
+/// The command with one more argument, where it could be made.
+pub(crate) fn with_arg<'a>(
     command: Result<Command<'a>, AllocError>,
     arg: Arg<'a>,
 ) -> Result<Command<'a>, AllocError>
@@ -57,8 +63,8 @@ fn with_folder<'a>(
     with_arg(command, explain_arg(alloc))
 }
 
-// The command with the options of those whose input may name zones.
-fn with_zones<'a>(
+/// The command with the options of those whose input may name zones.
+pub(crate) fn with_zones<'a>(
     alloc: Global,
     command: Result<Command<'a>, AllocError>,
 ) -> Result<Command<'a>, AllocError>
@@ -181,6 +187,7 @@ fn why_command<'a>(alloc: Global) -> Result<Command<'a>, AllocError>
     let command = with_arg(command, option_arg(alloc, "now", "TIME", help::NOW));
     let command = with_arg(command, crons_arg(alloc));
     let command = with_arg(command, namespace_arg(alloc));
+    let command = with_arg(command, all_arg(alloc));
     let command = with_arg(command, output_arg(alloc, "table", help::OUTPUT));
     let command = with_arg(command, flag_arg(alloc, "problems", help::PROBLEMS));
     with_zones(alloc, command)
@@ -196,6 +203,7 @@ fn audit_command<'a>(alloc: Global) -> Result<Command<'a>, AllocError>
         help::AUDIT,
         help::CLUSTER,
     );
+    let command = with_arg(command, all_arg(alloc));
     let command = with_arg(command, lines_arg(alloc));
     let command = with_arg(command, flag_arg(alloc, "svg", help::DRAWN));
     with_zones(alloc, command)
@@ -215,6 +223,7 @@ fn upcoming_command<'a>(alloc: Global) -> Result<Command<'a>, AllocError>
     let command = with_arg(command, length_arg(alloc));
     let command = with_arg(command, crons_arg(alloc));
     let command = with_arg(command, namespace_arg(alloc));
+    let command = with_arg(command, all_arg(alloc));
     let command = with_arg(command, peaks_arg(alloc));
     let command = with_arg(command, lines_arg(alloc));
     let command = with_arg(command, flag_arg(alloc, "svg", help::DRAWN));
@@ -341,9 +350,16 @@ fn asked_command<'a>(alloc: Global) -> Result<Command<'a>, AllocError>
     with_command(command, describe_command(alloc))
 }
 
+// Those and the command that prints a page.
+fn reported_command<'a>(alloc: Global) -> Result<Command<'a>, AllocError>
+    ensures { IfOk result (IsCommand reported_app) }
+{
+    with_command(asked_command(alloc), report_command(alloc))
+}
+
 /// The program's command line: those, and the controller of a cluster.
 pub fn cronsim_command<'a>(alloc: Global) -> Result<Command<'a>, AllocError>
     ensures { IfOk result (λ c. app_of c ≡ cronsim_app) }
 {
-    with_command(asked_command(alloc), control_command(alloc))
+    with_command(reported_command(alloc), control_command(alloc))
 }

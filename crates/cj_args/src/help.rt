@@ -10,7 +10,7 @@ pub(crate) const AFTER: &str = "Print times after this one, in UTC: 2024-01-01T0
 
 /// The rule of its zone.
 pub(crate) const ZONE: &str =
-    "POSIX rule of the time zone: CET-1CEST,M3.5.0,M10.5.0/3. Without it, UTC";
+    "Time zone: its name, if the folder of zone files has it (Europe/Berlin), its POSIX rule (CET-1CEST,M3.5.0,M10.5.0/3), or NAME=RULE. Without it, UTC";
 
 /// The name of its zone.
 pub(crate) const TIME_ZONE: &str =
@@ -97,6 +97,9 @@ pub(crate) const CRON: &str =
 
 /// Their namespace.
 pub(crate) const NAMESPACE: &str = "Only CronJobs in this namespace";
+
+/// All of them.
+pub(crate) const ALL: &str = "Taken as kubectl has it; all namespaces are read anyway";
 
 /// How CronJobs are printed.
 pub(crate) const OUTPUT: &str =

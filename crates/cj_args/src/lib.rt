@@ -8,14 +8,18 @@
 mod arguments;
 mod command;
 mod help;
+mod report;
 mod request;
+mod tips;
 mod word_fault;
 mod words;
 
 pub use command::VERSION;
+pub use report::ReportRequest;
 pub use request::{
     AuditRequest, CheckRequest, ControlRequest, DescribeRequest, NextRequest, PlanRequest,
     ReplayRequest, Request, RunRequest, UpcomingRequest, WhyRequest, ZoneWords,
 };
+pub use tips::word_tips;
 pub use word_fault::WordFault;
 pub use words::parse_words;

@@ -2,6 +2,8 @@
 ghost use Rattle.std.specs.Prelude.{◌≡◌, option_map};
 ghost use Rattle.cj_args.specs.Command.{first_file};
 
+use crate::report::ReportRequest;
+
 /// What a command line asks for.
 #[derive(Debug, Drop)]
 pub enum Request<'a> {
@@ -23,6 +25,8 @@ pub enum Request<'a> {
     Upcoming(UpcomingRequest<'a>),
     /// A schedule in a sentence, and its next times.
     Describe(DescribeRequest<'a>),
+    /// A page on a cluster.
+    Report(ReportRequest<'a>),
     /// The CronJobs of a cluster run, or a transcript of that checked.
     Control(ControlRequest<'a>),
 }
@@ -44,6 +48,7 @@ impl<'a> Request<'a> {
             Request::Audit(audit) => Some(audit.file),
             Request::Upcoming(upcoming) => first_file(upcoming.files.as_slice()),
             Request::Describe(_) => None,
+            Request::Report(report) => first_file(report.files.as_slice()),
             Request::Control(control) => control.check,
         }
     }
@@ -62,6 +67,7 @@ impl<'a> Request<'a> {
             Request::Audit(audit) => Some(&audit.zones),
             Request::Upcoming(upcoming) => Some(&upcoming.zones),
             Request::Describe(_) => None,
+            Request::Report(report) => Some(&report.zones),
             Request::Control(_) => None,
         }
     }
@@ -80,6 +86,7 @@ impl<'a> Request<'a> {
             Request::Audit(audit) => audit.zones.folder,
             Request::Upcoming(upcoming) => upcoming.zones.folder,
             Request::Describe(describe) => describe.folder,
+            Request::Report(report) => report.zones.folder,
             Request::Control(control) => control.folder,
         }
     }
@@ -98,6 +105,7 @@ impl<'a> Request<'a> {
             Request::Audit(audit) => audit.explain,
             Request::Upcoming(upcoming) => upcoming.explain,
             Request::Describe(describe) => describe.explain,
+            Request::Report(report) => report.explain,
             Request::Control(control) => control.explain,
         }
     }

@@ -5,6 +5,7 @@ ghost use Rattle.cj_args.specs.Command.{AreZones, IsAudit, IsCheck, IsControl, I
 ghost use Rattle.cj_args.specs.declared.word_fault.WordFault.TheVariants.{Incomplete};
 
 use crate::command::cronsim_command;
+use crate::report::report_request;
 use crate::request::{
     AuditRequest, CheckRequest, ControlRequest, DescribeRequest, NextRequest, PlanRequest,
     ReplayRequest, Request, RunRequest, UpcomingRequest, WhyRequest, ZoneWords,
@@ -13,8 +14,8 @@ use crate::word_fault::WordFault;
 use clap::ArgMatches;
 use std::alloc::{AllocError, Global};
 
-// The value of an argument that may be left out.
-fn optional_text<'a>(found: &ArgMatches<'a>, id: &str) -> Option<&'a str>
+/// The value of an argument that may be left out.
+pub(crate) fn optional_text<'a>(found: &ArgMatches<'a>, id: &str) -> Option<&'a str>
     ensures { first_of id.now (rows_of (found_of found.now)) ≡ option_map (λ s. s.now) result }
 {
     found.get_str(id)
@@ -32,8 +33,8 @@ fn text<'a>(found: &ArgMatches<'a>, id: &str) -> Result<&'a str, WordFault>
     }
 }
 
-// Whether a flag is given.
-fn is_given(found: &ArgMatches<'_>, id: &str) -> bool
+/// Whether a flag is given.
+pub(crate) fn is_given(found: &ArgMatches<'_>, id: &str) -> bool
     ensures { result ≡ is_given id.now (rows_of (found_of found.now)) }
 {
     match optional_text(found, id) {
@@ -83,8 +84,12 @@ fn workers(text: &str) -> Result<u8, WordFault>
     }
 }
 
-// The values of an argument that may be given several times, in their order.
-fn texts<'a>(alloc: Global, found: &ArgMatches<'a>, id: &str) -> Result<Vec<&'a str>, AllocError>
+/// The values of an argument that may be given several times, in their order.
+pub(crate) fn texts<'a>(
+    alloc: Global,
+    found: &ArgMatches<'a>,
+    id: &str,
+) -> Result<Vec<&'a str>, AllocError>
     ensures { IfOk result (λ v. texts_of id.now (rows_of (found_of found.now))
         ≡ map (λ s. s.now) v.items) }
 {
@@ -94,8 +99,11 @@ fn texts<'a>(alloc: Global, found: &ArgMatches<'a>, id: &str) -> Result<Vec<&'a 
     }
 }
 
-// The zones that an input may name.
-fn zone_words<'a>(alloc: Global, found: &ArgMatches<'a>) -> Result<ZoneWords<'a>, AllocError>
+/// The zones that an input may name.
+pub(crate) fn zone_words<'a>(
+    alloc: Global,
+    found: &ArgMatches<'a>,
+) -> Result<ZoneWords<'a>, AllocError>
     ensures { IfOk result (AreZones (rows_of (found_of found.now))) }
 {
     let rules = texts(alloc, found, "zone")?;
@@ -314,6 +322,7 @@ fn request_named<'a>(
         "audit" => audit_request(alloc, found).map(Request::Audit),
         "upcoming" => upcoming_request(alloc, found).map(Request::Upcoming),
         "describe" => describe_request(found).map(Request::Describe),
+        "report" => report_request(alloc, found).map(Request::Report),
         "control" => control_request(found).map(Request::Control),
         _ => Err(WordFault::Incomplete),
     }

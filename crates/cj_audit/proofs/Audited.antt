@@ -13,7 +13,7 @@ use Rattle.cj_cluster.specs.declared.kubectl.notes.ItemNote.{ItemNote}
 use Rattle.cj_audit.specs.declared.finding.Finding.{Finding}
 use Rattle.cj_audit.specs.Order.{finding_cmp, findings_total}
 use Rattle.cj_audit.specs.Notes.{AnyOf, Notes}
-use Rattle.cj_audit.specs.Findings.{IsAudit, IsFinding, IsFindingIn, IsFindingOf, IsStrayJob}
+use Rattle.cj_audit.specs.Findings.{IsAudit, IsFinding, IsFindingIn, IsFindingOf, IsStrayJob, IsStuck, IsStuckCron}
 use Rattle.cj_audit.proofs.Members.{IsIn, all_in, any_true, contains_in, in_contains}
 use Rattle.cj_audit.proofs.Noting.{notes_then, tie}
 use Rattle.cj_audit.proofs.Orders.{findings_exact}
@@ -38,10 +38,11 @@ have_keys : (f : Finding) (s : BTreeSet Finding) → IsIn f s.keys → contains 
 have_keys f s h = any_true (is_at (finding_cmp f)) f s.keys h (ap is_eq (tied_itself findings_total f))
 
 module _ (zones : List Zone) (content : Content) (refused : List ItemNote) where
-  -- what is noted of CronJobs, then of Jobs
+  -- what is noted of CronJobs, then of Jobs, then of CronJobs that are stuck
   abbrev Noted : Finding → Type 0
-  Noted f = AnyOf (IsFindingOf zones content) (map.values content.crons) f
-      ⊎ AnyOf (IsStrayJob content refused) (map.values content.jobs) f
+  Noted f = (AnyOf (IsFindingOf zones content) (map.values content.crons) f
+      ⊎ AnyOf (IsStrayJob content refused) (map.values content.jobs) f)
+      ⊎ AnyOf IsStuckCron (map.values content.crons) f
 
   -- For finding_of: of a CronJob that stands in the cluster.
   in_cron : (f : Finding) → (c : ClusterCron) × (IsIn c (map.values content.crons) × IsFindingOf zones content c f)
@@ -49,33 +50,46 @@ module _ (zones : List Zone) (content : Content) (refused : List ItemNote) where
   in_cron f (c, (i, h)) =
       record { cron = c; there = in_contains c (map.values content.crons) i; finding = h }
 
+  -- For finding_of: one that is stuck.
+  in_stuck : (f : Finding) → (c : ClusterCron) × (IsIn c (map.values content.crons) × IsStuckCron c f)
+      → IsStuck content f
+  in_stuck f (c, (i, h)) =
+      record { cron = c; there = in_contains c (map.values content.crons) i; stuck = h }
+
   -- What is noted is a finding.
   finding_of : (f : Finding) → Noted f → IsFinding zones content refused f
-  finding_of f (inl h) = inl (in_cron f (any_in (IsFindingOf zones content) (map.values content.crons) f h))
-  finding_of f (inr h) =
+  finding_of f (inl (inl h)) = inl (in_cron f (any_in (IsFindingOf zones content) (map.values content.crons) f h))
+  finding_of f (inl (inr h)) =
       let k = any_in (IsStrayJob content refused) (map.values content.jobs) f h in
-      inr (record { job = k.0; there = in_contains k.0 (map.values content.jobs) (k.1).0; stray = (k.1).1 })
+      inr (inl (record { job = k.0; there = in_contains k.0 (map.values content.jobs) (k.1).0; stray = (k.1).1 }))
+  finding_of f (inr h) = inr (inr (in_stuck f (any_in IsStuckCron (map.values content.crons) f h)))
 
   -- A finding is noted.
   of_finding : (f : Finding) → IsFinding zones content refused f → Noted f
-  of_finding f (inl h) = inl (in_any (IsFindingOf zones content) (map.values content.crons) f h.cron
-      (contains_in h.cron (map.values content.crons) h.there) h.finding)
-  of_finding f (inr h) = inr (in_any (IsStrayJob content refused) (map.values content.jobs) f h.job
-      (contains_in h.job (map.values content.jobs) h.there) h.stray)
+  of_finding f (inl h) = inl (inl (in_any (IsFindingOf zones content) (map.values content.crons) f h.cron
+      (contains_in h.cron (map.values content.crons) h.there) h.finding))
+  of_finding f (inr (inl h)) = inl (inr (in_any (IsStrayJob content refused) (map.values content.jobs) f h.job
+      (contains_in h.job (map.values content.jobs) h.there) h.stray))
+  of_finding f (inr (inr h)) = inr (in_any IsStuckCron (map.values content.crons) f h.cron
+      (contains_in h.cron (map.values content.crons) h.there) h.stuck)
 
   -- For audit: what is noted in an empty set is what is wrong in the cluster.
-  pub audited : (a b c : BTreeSet Finding) → a.keys ≡ []
+  pub audited : (a b c d : BTreeSet Finding) → a.keys ≡ []
       → Notes (AnyOf (IsFindingOf zones content) (map.values content.crons)) a b
-      → Notes (AnyOf (IsStrayJob content refused) (map.values content.jobs)) b c → IsOrdered finding_cmp c
-      → IsAudit zones content refused c.keys
-  audited a b c empty n m ordered =
-      let both = notes_then (AnyOf (IsFindingOf zones content) (map.values content.crons))
+      → Notes (AnyOf (IsStrayJob content refused) (map.values content.jobs)) b c
+      → Notes (AnyOf IsStuckCron (map.values content.crons)) c d → IsOrdered finding_cmp d
+      → IsAudit zones content refused d.keys
+  audited a b c d empty n m o ordered =
+      let two = notes_then (AnyOf (IsFindingOf zones content) (map.values content.crons))
       (AnyOf (IsStrayJob content refused) (map.values content.jobs)) a b c n m in
+      let all = notes_then (λ f. AnyOf (IsFindingOf zones content) (map.values content.crons) f
+      ⊎ AnyOf (IsStrayJob content refused) (map.values content.jobs) f)
+      (AnyOf IsStuckCron (map.values content.crons)) a c d two o in
       record {
-        each = all_in (IsFinding zones content refused) c.keys (λ f i. elim (both.found f (have_keys f c i)) [
+        each = all_in (IsFinding zones content refused) d.keys (λ f i. elim (all.found f (have_keys f d i)) [
           | inl was ↦ absurd (subst (λ xs. IsIn f xs) empty (keys_have f a was))
           | inr h ↦ finding_of f h
         ]);
-        all = λ f h. in_contains f c.keys (keys_have f c (both.noted f (of_finding f h)));
+        all = λ f h. in_contains f d.keys (keys_have f d (all.noted f (of_finding f h)));
         rises = ordered;
       }

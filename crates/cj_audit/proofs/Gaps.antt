@@ -1,14 +1,13 @@
 -- The due times that have no Job, as they are noted and as they are defined.
-use Rattle.std.proofs.Common.{◌≡◌, ◌⊎◌, inl, inr, ◌<◌, ◌+◌, ℕ, Bool, true, false, ◌&&◌, ◌||◌, not, nat_lt, cond, List, [], ◌∷◌, Option, Some, None, filter, length, refl, sym, ap, ◌∙◌, subst, arith}
+use Rattle.std.proofs.Common.{◌≡◌, ◌⊎◌, inl, inr, ◌<◌, ℕ, Bool, true, false, ◌&&◌, ◌||◌, not, nat_lt, cond, List, [], ◌∷◌, Option, Some, filter, length, refl, sym, ap, ◌∙◌, subst, arith}
 use Rattle.std.proofs.lemmas.Bool.Decides.{nat_tests}
 use Rattle.std.specs.List.{list_any}
-use Rattle.std.specs.BTreeSet.{BTreeSet}
+use Rattle.std.specs.BTreeSet.{BTreeSet, contains}
+use Rattle.std.specs.Ordering.{nat_cmp}
 use Rattle.std.specs.FinMap as map
-use Rattle.cj_types.specs.declared.cron.CronSpec.{CronSpec}
 use Rattle.cj_types.specs.declared.job.Job.{Job}
 use Rattle.cj_schedule.specs.Matches.{Sets}
 use Rattle.cj_zone.specs.declared.zone.Zone.{Zone}
-use Rattle.cj_due.specs.Due.{due, reach, IsLeastDue, IsQuiet}
 use Rattle.cj_table.specs.jobs.Owners.{is_job_of, owned_by}
 use Rattle.cj_cluster.specs.declared.cron.ClusterCron.{ClusterCron}
 use Rattle.cj_cluster.specs.Content.{Content, is_of}
@@ -17,33 +16,19 @@ use Rattle.cj_audit.specs.declared.ending.Ending.TheVariants.{Success, Failure}
 use Rattle.cj_audit.specs.declared.marks.Marks.{Marks}
 use Rattle.cj_audit.specs.declared.finding.Finding.{Finding}
 use Rattle.cj_audit.specs.declared.run.Run.{Run}
-use Rattle.cj_audit.specs.Marks.{kept_in, AreMarks, IsGap, IsGapNote, IsMissingIn}
-use Rattle.cj_audit.specs.Missing.{ended_count, ends, is_at, is_behind, is_ended, is_older, limit_of, missing_finding, HasRun, IsKept, IsMissingOf}
+use Rattle.cj_audit.specs.Marks.{kept_in, AreMarks, IsGapNote, IsMissingIn}
+use Rattle.cj_audit.specs.Missing.{ended_count, ends, is_at, is_behind, is_ended, is_older, limit_of, row_most, HasRun, IsInRow, IsKept, IsMissingOf}
 use Rattle.cj_audit.specs.Notes.{AnyOf, Notes}
 use Rattle.cj_audit.specs.Runs.{AreRunsOf, IsRunOf}
 use Rattle.cj_audit.specs.Times.{zone_for}
 use Rattle.cj_audit.proofs.Marking.{marks_lack}
 use Rattle.cj_audit.proofs.Members.{IsIn, any_true, contains_in, in_all, in_contains}
-use Rattle.cj_audit.proofs.Noting.{notes_as, notes_none}
+use Rattle.cj_audit.proofs.Noting.{notes_as}
 use Rattle.cj_audit.proofs.OfCron.{IsRead}
 use Rattle.cj_audit.proofs.PairsIn.{first_of, second_of}
+use Rattle.cj_audit.proofs.Rows.{row_map}
 use Rattle.cj_audit.proofs.RunsIn.{of_key}
 use Rattle.cj_audit.proofs.Walks.{any_in, in_any}
-
--- A test of two numbers is the order of them.
-below : (x y : ℕ) → nat_lt x y ≡ true → x < y
-below x y h = grind (arith, nat_tests)
-
--- There is one least due time.
-least_same : (s : Sets) (z : Zone) (lo hi t u : ℕ) → IsLeastDue s z lo hi t → IsLeastDue s z lo hi u → t ≡ u
-least_same s z lo hi t u a b = by (nat_lt t u) (nat_lt u t) refl refl
-  where
-    by : (p q : Bool) → nat_lt t u ≡ p → nat_lt u t ≡ q → t ≡ u
-    by true q e f = let low : due s z t ≡ false = b.least t a.above (below t u e) in
-        let high : due s z t ≡ true = a.is_due in absurd (cc (low, high))
-    by false true e f = let low : due s z u ≡ false = a.least u b.above (below u t f) in
-        let high : due s z u ≡ true = b.is_due in absurd (cc (low, high))
-    by false false e f = grind (arith, nat_tests)
 
 -- Where any of a list passes the test, one that stands in it does.
 any_found : (p : Run → Bool) (xs : List Run) → list_any p xs ≡ true → (run : Run) × (IsIn run xs × (p run ≡ true))
@@ -173,7 +158,9 @@ module _ (zones : List Zone) (content : Content) (c : ClusterCron) (s : Option S
           zone = h.zone;
           reads = read.found h.schedule h.is_schedule;
           in_zone = sym in_zone ∙ h.is_zone;
-          least = h.least;
+          row = row_map h.schedule h.zone (λ t. not (list_any (is_at t) runs) ≡ true)
+              (λ t. HasRun content c (is_at t) → ⊥) (λ t k. none_of content c runs are (is_at t) k) row_most h.last
+              h.time h.row;
         };
         none = none_of content c runs are (is_at h.time) (first_of Free (Done && Bad) rest);
         later = has_of content c runs are (is_behind h.time) (first_of Behind (Free && (Done && Bad)) h.lacks);
@@ -207,7 +194,9 @@ module _ (zones : List Zone) (content : Content) (c : ClusterCron) (s : Option S
         last = h.last;
         scheduled = h.scheduled;
         time = h.time;
-        least = h.next.least;
+        row = row_map h.next.schedule h.next.zone (λ t. HasRun content c (is_at t) → ⊥)
+            (λ t. not (list_any (is_at t) runs) ≡ true) (λ t k. of_none content c runs are (is_at t) k) row_most h.last
+            h.time h.next.row;
         starts = h.starts;
         lacks = both Behind (Free && (Done && Bad)) (of_has content c runs are (is_behind h.time) h.later)
             (both Free (Done && Bad) (of_none content c runs are (is_at h.time) h.none)
@@ -234,14 +223,23 @@ module _ (s : Sets) (z : Zone) (c : ClusterCron) (runs : List Run) (jobs : List 
     awake = awake;
     run = run;
     run_in = in_contains run runs i;
-    last = h.gap.last;
-    scheduled = h.gap.scheduled;
-    time = h.time;
-    least = h.gap.least;
-    starts = h.gap.starts;
-    lacks = sym (marks_lack c runs jobs m are h.time) ∙ h.gap.lacks;
-    is = h.is;
+    last = h.last;
+    scheduled = h.scheduled;
+    time = h.note.time;
+    row = row_map s z (λ t. contains nat_cmp m.times t ≡ false) (λ t. not (list_any (is_at t) runs) ≡ true)
+        (λ t k. ap not (sym (are.times.has t) ∙ k)) row_most h.last h.note.time h.note.row;
+    starts = h.note.hole.starts;
+    lacks = sym (marks_lack c runs jobs m are h.note.time) ∙ h.note.hole.lacks;
+    is = h.note.hole.is;
   }
+
+  -- For of_gap: a time that no Job of the list has isn't among their times.
+  free_in : (t : ℕ) → not (list_any (is_at t) runs) ≡ true → contains nat_cmp m.times t ≡ false
+  free_in t k = are.times.has t ∙ not_true (list_any (is_at t) runs) k
+    where
+      not_true : (b : Bool) → not b ≡ true → b ≡ false
+      not_true true e = absurd (cc e)
+      not_true false e = refl
 
   -- And the other way round.
   of_gap : (f : Finding) → IsMissingIn (Some s) (Some z) c runs jobs f → AnyOf (IsGapNote s z c m) runs f
@@ -249,16 +247,21 @@ module _ (s : Sets) (z : Zone) (c : ClusterCron) (runs : List Run) (jobs : List 
       let same_schedule : h.schedule ≡ s = cc h.is_schedule in
       let same_zone : h.zone ≡ z = cc h.is_zone in
       in_any (IsGapNote s z c m) runs f h.run (contains_in h.run runs h.run_in) (record {
-        time = h.time;
-        gap = record {
-          last = h.last;
-          scheduled = h.scheduled;
-          least = subst (λ y. IsLeastDue s y h.last (h.last + reach) h.time) same_zone
-              (subst (λ x. IsLeastDue x h.zone h.last (h.last + reach) h.time) same_schedule h.least);
-          starts = h.starts;
-          lacks = marks_lack c runs jobs m are h.time ∙ h.lacks;
+        last = h.last;
+        scheduled = h.scheduled;
+        note = record {
+          time = h.time;
+          row = row_map s z (λ t. not (list_any (is_at t) runs) ≡ true) (λ t. contains nat_cmp m.times t ≡ false)
+              free_in row_most h.last h.time
+              (subst (λ y. IsInRow row_most s y (λ t. not (list_any (is_at t) runs) ≡ true) h.last h.time) same_zone
+              (subst (λ x. IsInRow row_most x h.zone (λ t. not (list_any (is_at t) runs) ≡ true) h.last h.time)
+              same_schedule h.row));
+          hole = record {
+            starts = h.starts;
+            lacks = marks_lack c runs jobs m are h.time ∙ h.lacks;
+            is = h.is;
+          };
         };
-        is = h.is;
       })
 
   -- For note_missing: the gaps after the Jobs are what is noted of them.
@@ -275,54 +278,3 @@ pub missing_by : (zones : List Zone) (content : Content) (c : ClusterCron) (s t 
 missing_by zones content c s t z runs read in_zone are e a b n =
     all_missing zones content c s z runs read in_zone are a b
     (subst (λ x. Notes (IsMissingIn x z c runs (owned_by content.jobs c.cron.key)) a b) e n)
-
-module _ (s : Sets) (z : Zone) (spec : CronSpec) (m : Marks) (run : Run) where
-  -- For gap_after: a Job whose time isn't known has no gap behind it.
-  pub gap_untimed : (t : ℕ) → run.times.scheduled ≡ None → IsGap s z spec m run t → ⊥
-  gap_untimed t none h = let is = h.scheduled in cc (none, is)
-
-  -- A gap is the least due time after the Job's own.
-  gap_least : (t last : ℕ) → run.times.scheduled ≡ Some last → IsGap s z spec m run t
-      → IsLeastDue s z last (last + reach) t
-  gap_least t last timed h =
-      let is = h.scheduled in
-      let same : h.last ≡ last = cc (timed, is) in
-      subst (λ n. IsLeastDue s z n (n + reach) t) same h.least
-
-  -- For gap_after: where nothing is due there is no gap.
-  pub gap_quiet : (t last : ℕ) → run.times.scheduled ≡ Some last → IsQuiet s z last (last + reach)
-      → IsGap s z spec m run t → ⊥
-  gap_quiet t last timed quiet h =
-      let least = gap_least t last timed h in
-      let none : due s z t ≡ false = quiet t least.above least.within in
-      let is : due s z t ≡ true = least.is_due in
-      cc (none, is)
-
-  -- For gap_after: a gap is the one that was looked for.
-  pub gap_same : (t last time : ℕ) → run.times.scheduled ≡ Some last → IsLeastDue s z last (last + reach) time
-      → IsGap s z spec m run t → t ≡ time
-  gap_same t last time timed least h = least_same s z last (last + reach) t time (gap_least t last timed h) least
-
-module _ (s : Sets) (z : Zone) (c : ClusterCron) (m : Marks) (run : Run) (spec : CronSpec) (same : spec ≡ c.cron.spec)
-    (o : Option ℕ) where
-  -- For note_gap: where there is a gap it is what is noted.
-  pub gap_noted : (time : ℕ) (f : Finding) (a b : BTreeSet Finding) → o ≡ Some time
-      → ((t : ℕ) → o ≡ Some t → IsGap s z spec m run t) → ((t : ℕ) → IsGap s z spec m run t → o ≡ Some t)
-      → f ≡ missing_finding c time → Notes (λ g. g ≡ f) a b → Notes (IsGapNote s z c m run) a b
-  gap_noted time f a b is found only told n =
-      notes_as (λ g. g ≡ f) (IsGapNote s z c m run) a b
-      (λ g h. record {
-        time = time;
-        gap = subst (λ x. IsGap s z x m run time) same (found time is);
-        is = h ∙ told;
-      })
-      (λ g h.
-      let other = only h.time (subst (λ x. IsGap s z x m run h.time) (sym same) h.gap) in
-      let one : h.time ≡ time = cc (other, is) in
-      h.is ∙ ap (missing_finding c) one ∙ sym told) n
-
-  -- For note_gap: where there is none nothing is noted.
-  pub gap_unnoted : (a : BTreeSet Finding) → o ≡ None → ((t : ℕ) → IsGap s z spec m run t → o ≡ Some t)
-      → Notes (IsGapNote s z c m run) a a
-  gap_unnoted a none only = notes_none (IsGapNote s z c m run) a (λ f h.
-      let some = only h.time (subst (λ x. IsGap s z x m run h.time) (sym same) h.gap) in cc (some, none))

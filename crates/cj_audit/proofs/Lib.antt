@@ -1,6 +1,7 @@
 pub mod Members
 pub mod Orders
 pub mod Noting
+pub mod Untold
 pub mod Walks
 pub mod PairsIn
 pub mod InMaps
@@ -8,5 +9,6 @@ pub mod RunsIn
 pub mod Controls
 pub mod OfCron
 pub mod Marking
+pub mod Rows
 pub mod Gaps
 pub mod Audited

@@ -10,7 +10,7 @@ use Rattle.std.specs.FinMap.{IsAntisymmetric, slice_cmp-IsAntisymmetric, nat_cmp
 use Rattle.std.proofs.lemmas.Cmp.{nat_cmp_total, nat_list_cmp_total, on_total, then_total, ranked}
 use Rattle.std.proofs.lemmas.List.Sorted.{ranks_by}
 use Rattle.cj_audit.specs.declared.kind.Exclusive.TheVariants.{UnderForbid, UnderReplace}
-use Rattle.cj_audit.specs.declared.kind.FindingKind.TheVariants.{Twice, Beside, Undue, Early, Missing, Stray}
+use Rattle.cj_audit.specs.declared.kind.FindingKind.TheVariants.{Twice, Beside, Undue, Early, Missing, Stray, Stuck}
 use Rattle.cj_audit.specs.declared.pairing.Pairing.{Pairing}
 use Rattle.cj_audit.specs.declared.run.Run.{Run}
 use Rattle.cj_audit.specs.Order.{finding_cmp, kind_cmp}
@@ -31,7 +31,14 @@ kinds_exact Undue Undue e = refl
 kinds_exact Early Early e = refl
 kinds_exact Missing Missing e = refl
 kinds_exact Stray Stray e = refl
-kinds_exact a b e = absurd (cc e)
+kinds_exact Stuck Stuck e = refl
+kinds_exact Twice b e = absurd (cc e)
+kinds_exact (Beside x) b e = absurd (cc e)
+kinds_exact Undue b e = absurd (cc e)
+kinds_exact Early b e = absurd (cc e)
+kinds_exact Missing b e = absurd (cc e)
+kinds_exact Stray b e = absurd (cc e)
+kinds_exact Stuck b e = absurd (cc e)
 
 -- Texts that compare alike are one.
 texts_exact : IsAntisymmetric (slice_cmp nat_cmp)

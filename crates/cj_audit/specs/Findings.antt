@@ -1,7 +1,7 @@
 -- What is wrong in a cluster: Jobs that a correct controller would not have made, and due times for
 -- which it would have made one (Kubernetes CronJob documentation, "Concurrency policy" and "CronJob
 -- limitations").
-use Rattle.std.specs.Prelude.{◌≡◌, ◌⊎◌, ℕ, Bool, false, List, Option, Some, None, All, Contains}
+use Rattle.std.specs.Prelude.{◌≡◌, ◌⊎◌, ℕ, ◌||◌, Bool, true, false, List, [], ◌∷◌, Option, Some, None, All, Contains, is_some, unwrap_or}
 use Rattle.std.specs.List.{list_any}
 use Rattle.std.specs.List.Sorted.{IsStrictlySortedBy}
 use Rattle.std.specs.FinMap as map
@@ -13,7 +13,7 @@ use Rattle.cj_cluster.specs.Content.{Content, is_of}
 use Rattle.cj_cluster.specs.declared.kubectl.notes.ItemNote.{ItemNote}
 use Rattle.cj_cluster.specs.kubectl.Named.{is_of_refused}
 use Rattle.cj_audit.specs.declared.kind.Exclusive.{Exclusive}
-use Rattle.cj_audit.specs.declared.kind.FindingKind.TheVariants.{Stray}
+use Rattle.cj_audit.specs.declared.kind.FindingKind.TheVariants.{Stray, Stuck}
 use Rattle.cj_audit.specs.declared.finding.Finding.{Finding}
 use Rattle.cj_audit.specs.declared.pairing.Pairing.{Pairing}
 use Rattle.cj_audit.specs.declared.pairing.Pairing.TheVariants.{SameTime, SideBySide}
@@ -76,6 +76,17 @@ IsFindingOf zones content c f =
 abbrev pub has_cron : Content → Job → Bool
 has_cron content job = list_any (λ c. is_of c job) (map.values content.crons)
 
+abbrev pub has_any : {A : Type 0} → List A → Bool
+has_any [] = false
+has_any (x ∷ xs) = true
+
+-- the list has a CronJob, be it one that can't be used; a list of Jobs alone says of none whether
+-- it is there
+-- rule: audit-stray
+abbrev pub tells_crons : Content → List ItemNote → Bool
+tells_crons content notes =
+    has_any (map.values content.crons) || list_any (λ note. is_some note.cron) notes
+
 -- the finding on a Job whose controller reference names a CronJob
 abbrev pub stray_finding : Job → List ℕ → Finding
 stray_finding job name = record {
@@ -89,7 +100,7 @@ stray_finding job name = record {
 
 -- the controller reference of the Job names a CronJob of batch/v1, and no CronJob of the cluster
 -- controls the Job: none is at that key, or one with another uid; nor is it that of an item that
--- can't be used, and nobody made it by hand
+-- can't be used, and nobody made it by hand; where the list has CronJobs at all
 -- rule: audit-stray
 pub record IsStrayJob (content : Content) (notes : List ItemNote) (job : Job) (f : Finding)
     : Type 0 where
@@ -98,7 +109,33 @@ pub record IsStrayJob (content : Content) (notes : List ItemNote) (job : Job) (f
   pub made : is_manual content.times job ≡ false
   pub unlisted : is_of_refused notes job ≡ false
   pub free : has_cron content job ≡ false
+  pub told : tells_crons content notes ≡ true
   pub is : f ≡ stray_finding job name
+
+-- ---- a CronJob that is stuck
+
+-- its last scheduled time, and without one its creation
+abbrev pub since : ClusterCron → ℕ
+since c = unwrap_or c.cron.status.last_schedule_time c.cron.meta.created
+
+-- the finding on a CronJob, which names no Job
+abbrev pub stuck_finding : ClusterCron → Finding
+stuck_finding c = record {
+  namespace = c.cron.key.namespace;
+  cron = c.cron.key.name;
+  time = since c;
+  first = [];
+  second = None;
+  kind = Stuck;
+}
+
+-- a reference in its `status.active` names no Job, so that it starts nothing
+-- rule: audit-stuck
+pub record IsStuckCron (c : ClusterCron) (f : Finding) : Type 0 where
+  pub stuck : c.marks.is_stuck ≡ true
+  pub is : f ≡ stuck_finding c
+
+-- ---- all of them
 
 -- what is wrong with the Jobs of a CronJob of the cluster
 pub record IsFindingIn (zones : List Zone) (content : Content) (f : Finding) : Type 0 where
@@ -113,8 +150,16 @@ pub record IsStray (content : Content) (notes : List ItemNote) (f : Finding) : T
   pub there : Contains (map.values content.jobs) job
   pub stray : IsStrayJob content notes job f
 
+-- a CronJob of the cluster that is stuck
+-- rule: audit-stuck
+pub record IsStuck (content : Content) (f : Finding) : Type 0 where
+  pub cron : ClusterCron
+  pub there : Contains (map.values content.crons) cron
+  pub stuck : IsStuckCron cron f
+
 abbrev pub IsFinding : List Zone → Content → List ItemNote → Finding → Type 0
-IsFinding zones content notes f = IsFindingIn zones content f ⊎ IsStray content notes f
+IsFinding zones content notes f =
+    IsFindingIn zones content f ⊎ (IsStray content notes f ⊎ IsStuck content f)
 
 -- what the list has are all findings and nothing else, each once, in their order; the notes are
 -- those of the items that can't be used

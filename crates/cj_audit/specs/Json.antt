@@ -8,7 +8,7 @@ use Rattle.cj_types.specs.declared.job.Job.{Job}
 use Rattle.cj_zone.specs.TimeText.{time_text_of}
 use Rattle.cj_cluster.specs.declared.times.JobTimes.{JobTimes}
 use Rattle.cj_audit.specs.declared.kind.FindingKind.{FindingKind}
-use Rattle.cj_audit.specs.declared.kind.FindingKind.TheVariants.{Twice, Beside, Undue, Early, Missing, Stray}
+use Rattle.cj_audit.specs.declared.kind.FindingKind.TheVariants.{Twice, Beside, Undue, Early, Missing, Stray, Stuck}
 use Rattle.cj_audit.specs.declared.finding.Finding.{Finding}
 use Rattle.cj_audit.specs.Manual.{is_manual}
 
@@ -21,13 +21,14 @@ kind_word Undue = codes "undue"
 kind_word Early = codes "early"
 kind_word Missing = codes "missing"
 kind_word Stray = codes "stray"
+kind_word Stuck = codes "stuck"
 
 -- the name of the Job, or of both
 abbrev pub names_data : List ℕ → Option (List ℕ) → Data
 names_data first None = array (items_of (string first ∷ []))
 names_data first (Some second) = array (items_of (string first ∷ (string second ∷ [])))
 
--- those of a finding, which of a time that has no Job are none
+-- those of a finding, which of a time that has no Job, and of a CronJob, are none
 -- rule: audit-json
 abbrev pub jobs_data : FindingKind → List ℕ → Option (List ℕ) → Data
 jobs_data Twice first second = names_data first second
@@ -36,6 +37,7 @@ jobs_data Undue first second = names_data first second
 jobs_data Early first second = names_data first second
 jobs_data Missing first second = array (items_of [])
 jobs_data Stray first second = names_data first second
+jobs_data Stuck first second = array (items_of [])
 
 abbrev pub finding_object : Finding → Data → Data → Data
 finding_object f jobs time = object (

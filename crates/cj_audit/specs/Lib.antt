@@ -15,3 +15,4 @@ pub mod Words
 pub mod Faults
 pub mod Items
 pub mod Audit
+pub mod Told

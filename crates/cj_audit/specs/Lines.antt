@@ -2,7 +2,7 @@
 use Rattle.std.specs.Prelude.{ℕ, List, [], ◌∷◌, ◌++◌, codes, decimal, length, unwrap_or}
 use Rattle.cj_zone.specs.TimeText.{time_text_of}
 use Rattle.cj_audit.specs.declared.kind.FindingKind.{FindingKind}
-use Rattle.cj_audit.specs.declared.kind.FindingKind.TheVariants.{Twice, Beside, Undue, Early, Missing, Stray}
+use Rattle.cj_audit.specs.declared.kind.FindingKind.TheVariants.{Twice, Beside, Undue, Early, Missing, Stray, Stuck}
 use Rattle.cj_audit.specs.declared.finding.Finding.{Finding}
 
 -- the name of the second Job, and nothing where there is one
@@ -51,6 +51,11 @@ stray_line f =
     codes "stray "
     ++ (f.namespace ++ (codes "/" ++ (f.first ++ (codes " " ++ (f.cron ++ codes "\n")))))
 
+-- `stuck NAMESPACE/NAME`
+-- rule: audit-lines
+abbrev pub stuck_line : Finding → List ℕ
+stuck_line f = codes "stuck " ++ (f.namespace ++ (codes "/" ++ (f.cron ++ codes "\n")))
+
 abbrev pub line_by : FindingKind → Finding → List ℕ
 line_by Twice f = twice_line f (time_text_of f.time)
 line_by (Beside e) f = beside_line f
@@ -58,6 +63,7 @@ line_by Undue f = undue_line f (time_text_of f.time)
 line_by Early f = early_line f (time_text_of f.time)
 line_by Missing f = missing_line f (time_text_of f.time)
 line_by Stray f = stray_line f
+line_by Stuck f = stuck_line f
 
 abbrev pub finding_line : Finding → List ℕ
 finding_line f = line_by f.kind f

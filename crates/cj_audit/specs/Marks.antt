@@ -1,5 +1,5 @@
 -- What the Jobs of a CronJob tell together of the times that have none.
-use Rattle.std.specs.Prelude.{◌≡◌, ℕ, ◌+◌, Bool, true, false, not, ◌&&◌, ◌||◌, nat_lt, min, max, List, Option, Some, None, fold, Contains}
+use Rattle.std.specs.Prelude.{◌≡◌, ℕ, Bool, true, false, not, ◌&&◌, ◌||◌, nat_lt, min, max, List, Option, Some, None, fold, Contains}
 use Rattle.std.specs.Ordering.{nat_cmp}
 use Rattle.std.specs.List.{list_any}
 use Rattle.std.specs.BTreeSet.{BTreeSet, contains}
@@ -7,7 +7,6 @@ use Rattle.cj_types.specs.declared.cron.CronSpec.{CronSpec}
 use Rattle.cj_types.specs.declared.job.Job.{Job}
 use Rattle.cj_schedule.specs.Matches.{Sets}
 use Rattle.cj_zone.specs.declared.zone.Zone.{Zone}
-use Rattle.cj_due.specs.Due.{reach, IsLeastDue}
 use Rattle.cj_cluster.specs.declared.cron.ClusterCron.{ClusterCron}
 use Rattle.cj_audit.specs.declared.ending.Ending.{Ending}
 use Rattle.cj_audit.specs.declared.ending.Ending.TheVariants.{Success, Failure}
@@ -15,7 +14,7 @@ use Rattle.cj_audit.specs.declared.finding.Finding.{Finding}
 use Rattle.cj_audit.specs.declared.marks.Ended.{Ended}
 use Rattle.cj_audit.specs.declared.marks.Marks.{Marks}
 use Rattle.cj_audit.specs.declared.run.Run.{Run}
-use Rattle.cj_audit.specs.Missing.{ended_count, ends, is_at, is_behind, is_earlier, is_later, is_older, limit_of, may_start, missing_finding}
+use Rattle.cj_audit.specs.Missing.{ended_count, ends, is_at, is_behind, is_earlier, is_later, is_older, limit_of, may_start, missing_finding, row_most, IsInRow}
 
 -- the earlier of two times, if there are any
 abbrev pub earlier : Option ℕ → Option ℕ → Option ℕ
@@ -85,20 +84,25 @@ lacks_in c runs jobs time =
     && (not (list_any (is_at time) runs) && (kept_in Success c runs jobs time
     && kept_in Failure c runs jobs time))
 
--- the next due time after the Job's own lacks a Job
-pub record IsGap (s : Sets) (z : Zone) (spec : CronSpec) (m : Marks) (run : Run) (time : ℕ)
+-- a time behind the Job's own lacks a Job
+pub record IsHoleNote (c : ClusterCron) (m : Marks) (run : Run) (time : ℕ) (f : Finding)
     : Type 0 where
-  pub last : ℕ
-  pub scheduled : run.times.scheduled ≡ Some last
-  pub least : IsLeastDue s z last (last + reach) time
-  pub starts : may_start spec.policy run.times.ended time ≡ true
-  pub lacks : lacks m spec time ≡ true
+  pub starts : may_start c.cron.spec.policy run.times.ended time ≡ true
+  pub lacks : lacks m c.cron.spec time ≡ true
+  pub is : f ≡ missing_finding c time
+
+-- one of so many in the row of due times behind another that have no Job
+pub record IsRowNote (n : ℕ) (s : Sets) (z : Zone) (c : ClusterCron) (m : Marks) (run : Run)
+    (last : ℕ) (f : Finding) : Type 0 where
+  pub time : ℕ
+  pub row : IsInRow n s z (λ t. contains nat_cmp m.times t ≡ false) last time
+  pub hole : IsHoleNote c m run time f
 
 pub record IsGapNote (s : Sets) (z : Zone) (c : ClusterCron) (m : Marks) (run : Run) (f : Finding)
     : Type 0 where
-  pub time : ℕ
-  pub gap : IsGap s z c.cron.spec m run time
-  pub is : f ≡ missing_finding c time
+  pub last : ℕ
+  pub scheduled : run.times.scheduled ≡ Some last
+  pub note : IsRowNote row_most s z c m run last f
 
 -- what is noted of these Jobs, which the CronJob's controller made, among all that name it
 pub record IsMissingIn (s : Option Sets) (z : Option Zone) (c : ClusterCron) (runs : List Run)
@@ -114,7 +118,7 @@ pub record IsMissingIn (s : Option Sets) (z : Option Zone) (c : ClusterCron) (ru
   pub last : ℕ
   pub scheduled : run.times.scheduled ≡ Some last
   pub time : ℕ
-  pub least : IsLeastDue schedule zone last (last + reach) time
+  pub row : IsInRow row_most schedule zone (λ t. not (list_any (is_at t) runs) ≡ true) last time
   pub starts : may_start c.cron.spec.policy run.times.ended time ≡ true
   pub lacks : lacks_in c runs jobs time ≡ true
   pub is : f ≡ missing_finding c time

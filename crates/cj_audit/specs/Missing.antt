@@ -1,7 +1,7 @@
 -- A due time between two Jobs of a CronJob for which there is none: Kubernetes CronJob
 -- documentation, "CronJob limitations" (missed schedules), "Concurrency policy" and "Jobs history
 -- limits".
-use Rattle.std.specs.Prelude.{◌≡◌, ◌⊎◌, ℕ, ◌+◌, ◌<◌, Bool, true, false, not, ◌&&◌, ◌==◌, nat_lt, List, [], Option, Some, None, filter, length}
+use Rattle.std.specs.Prelude.{◌≡◌, ◌⊎◌, ℕ, zero, suc, ◌+◌, ◌<◌, Bool, true, false, not, ◌&&◌, ◌==◌, nat_lt, List, [], Option, Some, None, filter, length}
 use Rattle.std.specs.FinMap as map
 use Rattle.cj_types.specs.declared.cron.CronSpec.{CronSpec}
 use Rattle.cj_types.specs.declared.job.Job.{Job}
@@ -91,14 +91,30 @@ may_start Allow ended time = true
 may_start Forbid ended time = not (before_end time ended)
 may_start Replace ended time = false
 
--- the next due time of the CronJob's schedule by its zone's clock
+-- the next due time after another, or one further on in a row of due times that are free: one of
+-- so many
 -- rule: audit-missing
-pub record IsNextOf (zones : List Zone) (c : ClusterCron) (last time : ℕ) : Type 0 where
+abbrev pub IsInRow : ℕ → Sets → Zone → (ℕ → Type 0) → ℕ → ℕ → Type 0
+IsInRow zero s z Free last time = ⊥
+IsInRow (suc n) s z Free last time =
+    (next : ℕ) × IsLeastDue s z last (last + reach) next
+    × ((time ≡ next) ⊎ (Free next × IsInRow n s z Free next time))
+
+-- how many times of a row are told, as a controller counts no more missed ones
+-- rule: audit-missing
+abbrev pub row_most : ℕ
+row_most = 100
+
+-- the time is in the row of due times behind another that have no Job, by the CronJob's schedule
+-- and its zone's clock
+-- rule: audit-missing
+pub record IsNextOf (zones : List Zone) (content : Content) (c : ClusterCron) (last time : ℕ)
+    : Type 0 where
   pub schedule : Sets
   pub zone : Zone
   pub reads : IsSchedule c.cron.spec.schedule schedule
   pub in_zone : zone_for c.cron.spec.time_zone zones ≡ Some zone
-  pub least : IsLeastDue schedule zone last (last + reach) time
+  pub row : IsInRow row_most schedule zone (λ t. HasRun content c (is_at t) → ⊥) last time
 
 -- the finding on the time, which names no Job
 abbrev pub missing_finding : ClusterCron → ℕ → Finding
@@ -111,8 +127,9 @@ missing_finding c time = record {
   kind = Missing;
 }
 
--- the next due time after a Job's own, for which there is no Job of the CronJob, though there are
--- Jobs for later times; neither the policy nor clean-up nor suspension explains it
+-- a due time behind a Job's own, with none between that has a Job, for which there is no Job of the
+-- CronJob, though there are Jobs for later times; neither the policy nor clean-up nor suspension
+-- explains it
 -- rule: audit-missing
 pub record IsMissingOf (zones : List Zone) (content : Content) (c : ClusterCron) (f : Finding)
     : Type 0 where
@@ -121,7 +138,7 @@ pub record IsMissingOf (zones : List Zone) (content : Content) (c : ClusterCron)
   pub last : ℕ
   pub scheduled : run.times.scheduled ≡ Some last
   pub time : ℕ
-  pub next : IsNextOf zones c last time
+  pub next : IsNextOf zones content c last time
   pub none : HasRun content c (is_at time) → ⊥
   pub later : HasRun content c (is_behind time)
   pub starts : may_start c.cron.spec.policy run.times.ended time ≡ true

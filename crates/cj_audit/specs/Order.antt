@@ -9,7 +9,7 @@ use Rattle.cj_audit.specs.declared.finding.Finding.{Finding}
 use Rattle.cj_audit.specs.contracts.kind.FindingKindOrd.TheImpl as kind
 use Rattle.cj_audit.specs.contracts.kind.FindingKindOrd.TheImpl.Laws as kind_laws
 
--- twice, beside (under Forbid, under Replace), undue, early, missing, stray
+-- twice, beside (under Forbid, under Replace), undue, early, missing, stray, stuck
 abbrev pub kind_cmp : FindingKind → FindingKind → Ordering
 kind_cmp = kind.ghosts.cmp
 

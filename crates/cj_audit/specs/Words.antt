@@ -5,7 +5,7 @@ use Rattle.cj_zone.specs.TimeText.{time_text_of}
 use Rattle.cj_audit.specs.declared.kind.Exclusive.{Exclusive}
 use Rattle.cj_audit.specs.declared.kind.Exclusive.TheVariants.{UnderForbid, UnderReplace}
 use Rattle.cj_audit.specs.declared.kind.FindingKind.{FindingKind}
-use Rattle.cj_audit.specs.declared.kind.FindingKind.TheVariants.{Twice, Beside, Undue, Early, Missing, Stray}
+use Rattle.cj_audit.specs.declared.kind.FindingKind.TheVariants.{Twice, Beside, Undue, Early, Missing, Stray, Stuck}
 use Rattle.cj_audit.specs.declared.finding.Finding.{Finding}
 use Rattle.cj_audit.specs.Lines.{second_name}
 
@@ -63,6 +63,17 @@ stray_words f =
     ++ (f.namespace ++ (codes "/" ++ (f.first ++ (codes ": its controller is a CronJob "
     ++ (f.cron ++ stray_end)))))
 
+-- rule: audit-explained
+unfoldable pub stuck_end : List ℕ
+stuck_end = codes ": a reference in status.active has no name, so each sync of Kubernetes' controller fails, and nothing starts; take it out by kubectl edit --subresource=status cronjob "
+
+-- rule: audit-explained
+unfoldable pub stuck_words : Finding → List ℕ
+stuck_words f =
+    codes "stuck "
+    ++ (f.namespace ++ (codes "/" ++ (f.cron ++ (stuck_end ++ (f.cron ++ (codes " -n "
+    ++ (f.namespace ++ codes "\n")))))))
+
 abbrev pub words_by : FindingKind → Finding → List ℕ
 words_by Twice f = twice_words f (time_text_of f.time)
 words_by (Beside e) f = beside_words e f (time_text_of f.time)
@@ -70,6 +81,7 @@ words_by Undue f = undue_words f (time_text_of f.time)
 words_by Early f = early_words f (time_text_of f.time)
 words_by Missing f = missing_words f (time_text_of f.time)
 words_by Stray f = stray_words f
+words_by Stuck f = stuck_words f
 
 abbrev pub finding_words : Finding → List ℕ
 finding_words f = words_by f.kind f

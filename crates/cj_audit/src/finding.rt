@@ -23,9 +23,11 @@ pub struct Finding {
     /// any text.
     pub cron: Text,
     /// The scheduled time of the Jobs, or the due time that has none; of two Jobs beside each other
-    /// the creation time of the second, of a stray Job its own.
+    /// the creation time of the second, of a stray Job its own, and of a stuck CronJob its last
+    /// scheduled time, or its creation where there is none.
     pub time: Seconds,
-    /// The name of the Job, or of the first of two; empty where a time has none.
+    /// The name of the Job, or of the first of two; empty where a time has none, and of a stuck
+    /// CronJob.
     pub first: Text,
     /// The name of the second, where there are two.
     pub second: Option<Text>,

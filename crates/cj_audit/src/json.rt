@@ -27,6 +27,7 @@ fn kind_word(kind: FindingKind) -> &'static str
         FindingKind::Early => "early",
         FindingKind::Missing => "missing",
         FindingKind::Stray => "stray",
+        FindingKind::Stuck => "stuck",
     }
 }
 
@@ -47,7 +48,7 @@ fn jobs_value(alloc: Global, finding: &Finding) -> Result<Value, AllocError>
         finding.now.second) }
 {
     match finding.kind {
-        FindingKind::Missing => json!(in alloc; []),
+        FindingKind::Missing | FindingKind::Stuck => json!(in alloc; []),
         FindingKind::Twice
         | FindingKind::Beside(_)
         | FindingKind::Undue

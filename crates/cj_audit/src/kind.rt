@@ -25,11 +25,12 @@ impl Exclusive {
     }
 }
 
-/// What is wrong with a Job, with two, or with a time that has none.
+/// What is wrong with a Job, with two, with a time that has none, or with a CronJob.
 ///
 /// The printed words are `twice` for duplicate Jobs, `beside` for overlapping Jobs, `undue` for a
-/// Job that is not due, `early` for one made before its time, `missing` for a missed run, and
-/// `stray` for an orphan, a Job without its CronJob.
+/// Job that is not due, `early` for one made before its time, `missing` for a missed run, `stray`
+/// for an orphan, a Job without its CronJob, and `stuck` for a CronJob whose controller fails at
+/// each sync.
 #[derive(Clone, Copy, Debug, PartialEq, Eq, PartialOrd, Ord)]
 pub enum FindingKind {
     /// Two Jobs of one CronJob were made for one scheduled time.
@@ -44,4 +45,6 @@ pub enum FindingKind {
     Missing,
     /// The Job is controlled by a CronJob that isn't there.
     Stray,
+    /// A reference in the CronJob's `status.active` names no Job, so that it starts nothing.
+    Stuck,
 }

@@ -28,6 +28,8 @@ mod pair;
 mod pairing;
 mod run;
 mod stray;
+mod stuck;
+mod told;
 mod whole;
 mod words;
 
@@ -41,5 +43,6 @@ pub use kind::{Exclusive, FindingKind};
 pub use lines::audit_text;
 pub use manual::manual_text;
 pub use run::{Run, runs_of};
+pub use told::{has_jobs_alone, times_text};
 pub use whole::audit;
 pub use words::{audit_words, finding_words};

@@ -1,7 +1,7 @@
 // The fixed lines of an audit.
 ghost use Rattle.std.specs.Prelude.{◌≡◌, IfOk, IfErr, string_bytes};
 ghost use Rattle.cj_base.specs.declared.refusal.Refusal.TheVariants.{OutOfMemory};
-ghost use Rattle.cj_audit.specs.Lines.{audit_lines, beside_line, counts_line, early_line, finding_line, lines_of, missing_line, stray_line, twice_line, undue_line};
+ghost use Rattle.cj_audit.specs.Lines.{audit_lines, beside_line, counts_line, early_line, finding_line, lines_of, missing_line, stray_line, stuck_line, twice_line, undue_line};
 
 use crate::finding::Finding;
 use crate::findings::Findings;
@@ -57,6 +57,13 @@ fn stray_line(alloc: Global, finding: &Finding) -> Result<String, AllocError>
     format!(in alloc; "stray {namespace}/{job} {cron}\n")
 }
 
+fn stuck_line(alloc: Global, finding: &Finding) -> Result<String, AllocError>
+    ensures { IfOk result (λ s. string_bytes s ≡ stuck_line finding.now) }
+{
+    let (namespace, cron) = (finding.namespace.as_str(), finding.cron.as_str());
+    format!(in alloc; "stuck {namespace}/{cron}\n")
+}
+
 fn finding_line(alloc: Global, finding: &Finding) -> Result<String, Refusal>
     ensures ok { IfOk result (λ s. string_bytes s ≡ finding_line finding.now) }
     ensures memory { IfErr result (λ e. e ≡ OutOfMemory) }
@@ -70,6 +77,7 @@ fn finding_line(alloc: Global, finding: &Finding) -> Result<String, Refusal>
         FindingKind::Early => early_line(alloc, finding, time)?,
         FindingKind::Missing => missing_line(alloc, finding, time)?,
         FindingKind::Stray => stray_line(alloc, finding)?,
+        FindingKind::Stuck => stuck_line(alloc, finding)?,
     };
     Ok(line)
 }

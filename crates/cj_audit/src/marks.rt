@@ -1,4 +1,6 @@
 ghost use Rattle.std.specs.Prelude.{◌≡◌, None, IfOk, IfErr, OnOk};
+ghost use Rattle.std.specs.BTreeSet.{contains};
+ghost use Rattle.std.specs.Ordering.{nat_cmp};
 ghost use Rattle.cj_base.specs.declared.refusal.Refusal.TheVariants.{OutOfMemory};
 ghost use Rattle.cj_audit.specs.Missing.{is_earlier, is_later};
 ghost use Rattle.cj_audit.specs.Marks.{earlier, ended_of, ended_time, keeps, lacks, later, latest, oldest, AreMarks, AreTimes, Marked};
@@ -162,6 +164,13 @@ impl Marks {
             completed: ended_of(Ending::Success, cron, runs, jobs),
             failed: ended_of(Ending::Failure, cron, runs, jobs),
         })
+    }
+
+    /// Whether a Job has this time.
+    pub fn has(&self, time: Seconds) -> bool
+        ensures { result ≡ contains nat_cmp self.now.times time }
+    {
+        self.times.contains(&time)
     }
 
     /// Whether later times have a Job, and this one has none, where clean-up would have left it.

@@ -1,9 +1,9 @@
 // Due times that have no Job.
-ghost use Rattle.std.specs.Prelude.{◌≡◌, ℕ, Some, IfOk, IfErr, OnOk, option_copied};
+ghost use Rattle.std.specs.Prelude.{◌≡◌, IfOk, IfErr, OnOk, option_copied};
 ghost use Rattle.cj_base.specs.declared.refusal.Refusal.TheVariants.{OutOfMemory};
 ghost use Rattle.cj_table.specs.jobs.Owners.{owned_by};
-ghost use Rattle.cj_audit.specs.Marks.{IsGap, IsGapNote, IsMissingIn};
-ghost use Rattle.cj_audit.specs.Missing.{may_start, missing_finding};
+ghost use Rattle.cj_audit.specs.Marks.{IsGapNote, IsHoleNote, IsMissingIn, IsRowNote};
+ghost use Rattle.cj_audit.specs.Missing.{may_start, missing_finding, row_most};
 ghost use Rattle.cj_audit.specs.Notes.{Notes, AnyOf};
 
 use crate::finding::Finding;
@@ -15,7 +15,7 @@ use crate::run::Run;
 use cj_cluster::{Cluster, ClusterCron};
 use cj_due::next_after;
 use cj_schedule::Schedule;
-use cj_types::{CronSpec, Policy, Refusal, Seconds, Text};
+use cj_types::{Policy, Refusal, Seconds, Text};
 use cj_zone::Zone;
 use std::alloc::Global;
 use std::collections::BTreeSet;
@@ -28,29 +28,6 @@ fn may_start(policy: Policy, ended: Option<Seconds>, time: Seconds) -> bool
         Policy::Allow => true,
         Policy::Forbid => !before_end(time, ended),
         Policy::Replace => false,
-    }
-}
-
-// The next due time after the Job's own, where it lacks a Job.
-fn gap_after(
-    schedule: &Schedule,
-    zone: &Zone,
-    spec: &CronSpec,
-    marks: &Marks,
-    run: &Run,
-) -> Option<Seconds>
-    ensures found { (t : ℕ) → result ≡ Some t →
-        IsGap schedule.now zone.now spec.now marks.now run.now t }
-    ensures only { (t : ℕ) → IsGap schedule.now zone.now spec.now marks.now run.now t →
-        result ≡ Some t }
-{
-    let last = run.times.scheduled?;
-    let time = next_after(schedule, zone, last)?;
-    let starts = may_start(spec.policy, run.times.ended, time);
-    if starts && marks.lacks(spec, time) {
-        Some(time)
-    } else {
-        None
     }
 }
 
@@ -69,7 +46,59 @@ fn missing_finding(alloc: Global, cron: &ClusterCron, time: Seconds) -> Result<F
     })
 }
 
-// Notes the next due time after the Job's own, where it lacks a Job.
+// Notes a time behind the Job's own, where it lacks a Job.
+fn note_hole(
+    alloc: Global,
+    cron: &ClusterCron,
+    marks: &Marks,
+    run: &Run,
+    time: Seconds,
+    notes: &mut BTreeSet<Finding>,
+) -> Result<(), Refusal>
+    ensures ok { OnOk result (Notes (IsHoleNote cron.now marks.now run.now time) notes.old
+        notes.new) }
+    ensures memory { IfErr result (λ e. e ≡ OutOfMemory) }
+{
+    let spec = cron.cron.spec.get();
+    let starts = may_start(spec.policy, run.times.ended, time);
+    let lacks = marks.lacks(spec, time);
+    if starts && lacks {
+        note(notes, missing_finding(alloc, cron, time)?)
+    } else {
+        Ok(())
+    }
+}
+
+// Notes those of the row of due times behind one that have no Job.
+fn note_row(
+    alloc: Global,
+    schedule: &Schedule,
+    zone: &Zone,
+    cron: &ClusterCron,
+    marks: &Marks,
+    run: &Run,
+    first: Seconds,
+    notes: &mut BTreeSet<Finding>,
+) -> Result<(), Refusal>
+    ensures ok { OnOk result (Notes (IsRowNote row_most schedule.now zone.now cron.now marks.now
+        run.now first) notes.old notes.new) }
+    ensures memory { IfErr result (λ e. e ≡ OutOfMemory) }
+{
+    let mut last = first;
+    for turn in 0..100_u32 {
+        let Some(time) = next_after(schedule, zone, last) else {
+            return Ok(());
+        };
+        note_hole(alloc, cron, marks, run, time, notes)?;
+        if marks.has(time) {
+            return Ok(());
+        }
+        last = time;
+    }
+    Ok(())
+}
+
+// Notes the row of due times behind the Job's own that have none.
 fn note_gap(
     alloc: Global,
     schedule: &Schedule,
@@ -83,8 +112,8 @@ fn note_gap(
         notes.old notes.new) }
     ensures memory { IfErr result (λ e. e ≡ OutOfMemory) }
 {
-    match gap_after(schedule, zone, cron.cron.spec.get(), marks, run) {
-        Some(time) => note(notes, missing_finding(alloc, cron, time)?),
+    match run.times.scheduled {
+        Some(first) => note_row(alloc, schedule, zone, cron, marks, run, first, notes),
         None => Ok(()),
     }
 }

@@ -10,6 +10,7 @@ use crate::cron::note_cron;
 use crate::finding::Finding;
 use crate::findings::Findings;
 use crate::stray::note_strays;
+use crate::stuck::note_stuck;
 use cj_cluster::{Cluster, ItemNote};
 use cj_types::Refusal;
 use cj_zone::ZoneTable;
@@ -36,9 +37,9 @@ fn note_crons(
 }
 
 /// What is wrong in the cluster: each Job, and each two, that a correct controller would not have
-/// made, and each due time for which it would have made one. The zones are those that its CronJobs
-/// may name; one that names none goes by UTC. A Job of a CronJob whose item can't be used, by these
-/// notes, is no stray.
+/// made, each due time for which it would have made one, and each CronJob that is stuck. The zones
+/// are those that its CronJobs may name; one that names none goes by UTC. A Job of a CronJob whose
+/// item can't be used, by these notes, is no stray; nor is any where there is no CronJob at all.
 pub fn audit(
     alloc: Global,
     zones: &ZoneTable,
@@ -51,5 +52,6 @@ pub fn audit(
     let mut notes = BTreeSet::new(alloc);
     note_crons(alloc, zones, cluster, &mut notes)?;
     note_strays(alloc, cluster, refused, &mut notes)?;
+    note_stuck(alloc, cluster, &mut notes)?;
     Findings::of_set(alloc, notes)
 }

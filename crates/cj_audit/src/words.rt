@@ -1,7 +1,7 @@
 // What is said of findings for people.
 ghost use Rattle.std.specs.Prelude.{◌≡◌, IfOk, IfErr, string_bytes};
 ghost use Rattle.cj_base.specs.declared.refusal.Refusal.TheVariants.{OutOfMemory};
-ghost use Rattle.cj_audit.specs.Words.{audit_words, beside_words, early_words, finding_words, missing_end, missing_words, policy_words, stray_end, stray_words, twice_words, undue_words};
+ghost use Rattle.cj_audit.specs.Words.{audit_words, beside_words, early_words, finding_words, missing_end, missing_words, policy_words, stray_end, stray_words, stuck_end, stuck_words, twice_words, undue_words};
 
 use crate::finding::Finding;
 use crate::findings::Findings;
@@ -105,6 +105,22 @@ fn stray_words(alloc: Global, finding: &Finding) -> Result<String, AllocError>
     format!(in alloc; "stray {namespace}/{job}: its controller is a CronJob {cron}{end}")
 }
 
+#[tactic(auto, unfolding(crate::specs::Words::stuck_end))]
+fn stuck_end() -> &'static str
+    ensures { result.now ≡ stuck_end }
+{
+    ": a reference in status.active has no name, so each sync of Kubernetes' controller fails, and nothing starts; take it out by kubectl edit --subresource=status cronjob "
+}
+
+#[tactic(auto, unfolding(crate::specs::Words::stuck_words))]
+fn stuck_words(alloc: Global, finding: &Finding) -> Result<String, AllocError>
+    ensures { IfOk result (λ s. string_bytes s ≡ stuck_words finding.now) }
+{
+    let (namespace, cron) = (finding.namespace.as_str(), finding.cron.as_str());
+    let end = stuck_end();
+    format!(in alloc; "stuck {namespace}/{cron}{end}{cron} -n {namespace}\n")
+}
+
 /// What a finding means, a line.
 pub fn finding_words(alloc: Global, finding: &Finding) -> Result<String, Refusal>
     ensures ok { IfOk result (λ s. string_bytes s ≡ finding_words finding.now) }
@@ -119,6 +135,7 @@ pub fn finding_words(alloc: Global, finding: &Finding) -> Result<String, Refusal
         FindingKind::Early => early_words(alloc, finding, time)?,
         FindingKind::Missing => missing_words(alloc, finding, time)?,
         FindingKind::Stray => stray_words(alloc, finding)?,
+        FindingKind::Stuck => stuck_words(alloc, finding)?,
     };
     Ok(line)
 }

@@ -11,10 +11,11 @@ use Rattle.cj_audit.specs.Json.{finding_data, findings_data, job_where, jobs_dat
 use Rattle.cj_audit.specs.Manual.{is_manual}
 use Rattle.cj_audit.specs.declared.finding.Finding.{Finding}
 use Rattle.cj_audit.specs.declared.kind.FindingKind.{FindingKind}
-use Rattle.cj_audit.specs.declared.kind.FindingKind.TheVariants.{Twice, Beside, Undue, Early, Missing, Stray}
+use Rattle.cj_audit.specs.declared.kind.FindingKind.TheVariants.{Twice, Beside, Undue, Early, Missing, Stray, Stuck}
 use Rattle.cj_base.specs.declared.faults.FieldFault.{FieldFault}
 use Rattle.cj_cluster.specs.declared.kubectl.list.ClusterList.{ClusterList}
 use Rattle.cj_cluster.specs.declared.kubectl.notes.ItemNote.{ItemNote}
+use Rattle.cj_cluster.specs.declared.kubectl.object.ObjectNamed.{ObjectNamed}
 use Rattle.cj_cluster.specs.declared.kubectl.notes.Said.{Said}
 use Rattle.cj_cluster.specs.declared.kubectl.notes.Said.TheVariants as Was
 use Rattle.cj_cluster.specs.declared.times.JobTimes.{JobTimes}
@@ -33,7 +34,7 @@ use Rattle.cj_why.specs.reviews.PlanJson.{claim_data, jobs_data, make_data, plan
 use Rattle.cj_c.specs.answers.Check.{sound_data}
 use Rattle.cj_audit.specs.Audit.{audit_data}
 use Rattle.cj_audit.specs.Faults.{fault_data, faults_data}
-use Rattle.cj_audit.specs.Items.{other_by, other_items, refused_by, refused_items}
+use Rattle.cj_audit.specs.Items.{item_object, other_by, other_items, refused_by, refused_items}
 
 -- of a value by what it is
 pub within_as : (k : ℕ) (v d : Data) → v ≡ d → depth d ≤ k → depth v ≤ k
@@ -114,12 +115,13 @@ status_within k (Some s) =
     (max-le (time_within (suc k) s.last_successful_time) (least (suc k)))))
 
 -- of a plan
-pub plan_within : (p : Steps) → depth (plan_data p) ≤ 127
-plan_within p =
-    up 126 _ (max-le (claim_within 126 p.claim) (max-le (jobs_within 125 p.cleanup)
-    (max-le (jobs_within 125 p.drop_first)
-    (max-le (make_within 126 p.make) (max-le (time_within 126 p.next) (max-le (reasons_within 125 p.reasons)
-    (max-le (status_within 124 p.status) (least 126))))))))
+pub plan_within : (k : ℕ) (p : Steps) → depth (plan_data p) ≤ suc (suc (suc k))
+plan_within k p =
+    up (suc (suc k)) _ (max-le (claim_within (suc (suc k)) p.claim) (max-le (jobs_within (suc k) p.cleanup)
+    (max-le (jobs_within (suc k) p.drop_first)
+    (max-le (make_within (suc (suc k)) p.make) (max-le (time_within (suc (suc k)) p.next)
+    (max-le (reasons_within (suc k) p.reasons)
+    (max-le (status_within k p.status) (least (suc (suc k))))))))))
 
 -- ---- an audit
 
@@ -137,6 +139,7 @@ found_within k Undue first second = names_within k first second
 found_within k Early first second = names_within k first second
 found_within k Stray first second = names_within k first second
 found_within k Missing first second = up k _ (least k)
+found_within k Stuck first second = up k _ (least k)
 
 -- of a finding
 pub finding_within : (k : ℕ) (f : Finding) → depth (finding_data f) ≤ suc (suc k)
@@ -161,23 +164,30 @@ manual_within k times (job ∷ jobs) =
     joined (suc k) (job_where (is_manual times job) job) _ (where_within k (is_manual times job) job)
     (manual_within k times jobs)
 
+-- of an item with its faults
+pub item_within : (k n : ℕ) (named : Option ObjectNamed) (faults : Data) → depth faults ≤ k
+    → depth (item_object n named faults) ≤ suc k
+item_within k n None faults h =
+    up k _ (max-le h (max-le (least k) (max-le (least k) (max-le (least k) (max-le (least k) (least k))))))
+item_within k n (Some o) faults h =
+    up k _ (max-le h (max-le (least k) (max-le (least k) (max-le (least k) (max-le (least k) (least k))))))
+
 -- of what an item is refused for
-pub refused_by_within : (k n : ℕ) (said : Said) → AreWithin (suc (suc (suc k))) (refused_by n said)
-refused_by_within k n (Was.Kind kind) = least (suc (suc (suc k)))
-refused_by_within k n (Was.Refused faults) =
-    max-le (up (suc (suc k)) _ (max-le (faults_within k faults) (max-le (least (suc (suc k))) (least (suc (suc k))))))
-    (least (suc (suc (suc k))))
-refused_by_within k n (Was.Taken kind key) =
-    max-le (up (suc (suc k)) _ (max-le (up (suc k) _ (max-le (up k _ (max-le (least k) (max-le (least k) (least k))))
-    (least (suc k))))
-    (max-le (least (suc (suc k))) (least (suc (suc k)))))) (least (suc (suc (suc k))))
+pub refused_by_within : (k n : ℕ) (named : Option ObjectNamed) (said : Said)
+    → AreWithin (suc (suc (suc k))) (refused_by n named said)
+refused_by_within k n named (Was.Kind kind) = least (suc (suc (suc k)))
+refused_by_within k n named (Was.Refused faults) =
+    max-le (item_within (suc (suc k)) n named _ (faults_within k faults)) (least (suc (suc (suc k))))
+refused_by_within k n named (Was.Taken kind key) =
+    max-le (item_within (suc (suc k)) n named _ (up (suc k) _ (max-le
+    (up k _ (max-le (least k) (max-le (least k) (least k)))) (least (suc k))))) (least (suc (suc (suc k))))
 
 -- of the items that are refused
 pub refused_within : (k : ℕ) (notes : List ItemNote) → AreWithin (suc (suc (suc k))) (refused_items notes)
 refused_within k [] = least (suc (suc (suc k)))
 refused_within k (note ∷ notes) =
-    joined (suc (suc (suc k))) (refused_by note.place note.said) _ (refused_by_within k note.place note.said)
-    (refused_within k notes)
+    joined (suc (suc (suc k))) (refused_by note.place note.object note.said) _
+    (refused_by_within k note.place note.object note.said) (refused_within k notes)
 
 -- of an item of another kind
 pub other_by_within : (k n : ℕ) (said : Said) → AreWithin (suc k) (other_by n said)

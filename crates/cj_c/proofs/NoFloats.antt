@@ -12,10 +12,11 @@ use Rattle.cj_audit.specs.Json.{finding_data, findings_data, job_where, jobs_dat
 use Rattle.cj_audit.specs.Manual.{is_manual}
 use Rattle.cj_audit.specs.declared.finding.Finding.{Finding}
 use Rattle.cj_audit.specs.declared.kind.FindingKind.{FindingKind}
-use Rattle.cj_audit.specs.declared.kind.FindingKind.TheVariants.{Twice, Beside, Undue, Early, Missing, Stray}
+use Rattle.cj_audit.specs.declared.kind.FindingKind.TheVariants.{Twice, Beside, Undue, Early, Missing, Stray, Stuck}
 use Rattle.cj_base.specs.declared.faults.FieldFault.{FieldFault}
 use Rattle.cj_cluster.specs.declared.kubectl.list.ClusterList.{ClusterList}
 use Rattle.cj_cluster.specs.declared.kubectl.notes.ItemNote.{ItemNote}
+use Rattle.cj_cluster.specs.declared.kubectl.object.ObjectNamed.{ObjectNamed}
 use Rattle.cj_cluster.specs.declared.kubectl.notes.Said.{Said}
 use Rattle.cj_cluster.specs.declared.kubectl.notes.Said.TheVariants as Was
 use Rattle.cj_cluster.specs.declared.times.JobTimes.{JobTimes}
@@ -34,7 +35,7 @@ use Rattle.cj_why.specs.reviews.PlanJson.{claim_data, jobs_data, make_data, plan
 use Rattle.cj_c.specs.answers.Check.{sound_data}
 use Rattle.cj_audit.specs.Audit.{audit_data}
 use Rattle.cj_audit.specs.Faults.{fault_data, faults_data}
-use Rattle.cj_audit.specs.Items.{item_data, other_by, other_items, others_data, refused_by, refused_data, refused_items}
+use Rattle.cj_audit.specs.Items.{item_data, item_object, other_by, other_items, others_data, refused_by, refused_data, refused_items, taken_data}
 
 -- of a value by what it is
 pub free_as : (v d : Data) → v ≡ d → has_float d ≡ false → has_float v ≡ false
@@ -145,6 +146,7 @@ found_free Undue first second = names_free first second
 found_free Early first second = names_free first second
 found_free Stray first second = names_free first second
 found_free Missing first second = refl
+found_free Stuck first second = refl
 
 -- of a finding
 pub finding_free : (f : Finding) → has_float (finding_data f) ≡ false
@@ -166,19 +168,27 @@ manual_free times [] = refl
 manual_free times (job ∷ jobs) =
     joined (job_where (is_manual times job) job) _ (where_free (is_manual times job) job) (manual_free times jobs)
 
+-- of an item with its faults
+pub item_free : (n : ℕ) (named : Option ObjectNamed) (faults : Data) → has_float faults ≡ false
+    → has_float (item_object n named faults) ≡ false
+item_free n None faults h = neither (has_float faults) false h refl
+item_free n (Some o) faults h = neither (has_float faults) false h refl
+
 -- of what an item is refused for
-pub refused_by_free : (n : ℕ) (said : Said) → AreFree (refused_by n said)
-refused_by_free n (Was.Kind kind) = refl
-refused_by_free n (Was.Refused faults) =
-    neither (has_float (item_data n faults)) false
-    (neither (has_float (faults_data faults)) false (faults_free faults) refl) refl
-refused_by_free n (Was.Taken kind key) = refl
+pub refused_by_free : (n : ℕ) (named : Option ObjectNamed) (said : Said) → AreFree (refused_by n named said)
+refused_by_free n named (Was.Kind kind) = refl
+refused_by_free n named (Was.Refused faults) =
+    neither (has_float (item_data n named faults)) false (item_free n named (faults_data faults) (faults_free faults))
+    refl
+refused_by_free n named (Was.Taken kind key) =
+    neither (has_float (taken_data n named)) false (item_free n named _ refl) refl
 
 -- of the items that are refused
 pub refused_free : (notes : List ItemNote) → AreFree (refused_items notes)
 refused_free [] = refl
 refused_free (note ∷ notes) =
-    joined (refused_by note.place note.said) _ (refused_by_free note.place note.said) (refused_free notes)
+    joined (refused_by note.place note.object note.said) _ (refused_by_free note.place note.object note.said)
+    (refused_free notes)
 
 -- of an item of another kind
 pub other_by_free : (n : ℕ) (said : Said) → AreFree (other_by n said)

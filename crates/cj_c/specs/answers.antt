@@ -1,8 +1,12 @@
 pub mod Audit
 pub mod Buffers
 pub mod Check
+pub mod Describe
 pub mod FaultText
+pub mod Lists
 pub mod Plan
 pub mod Texts
+pub mod Upcoming
 pub mod Version
+pub mod Why
 pub mod Zones

@@ -72,10 +72,23 @@ fn parsed(text: &str) -> Result<Schedule, CronFault>
     }
 }
 
-/// The schedule of these bytes, or why they are refused. More than 1,024 bytes are refused before
-/// they are looked at.
-pub(crate) fn read_schedule(bytes: &[u8]) -> Result<Schedule, CronFault>
-    ensures ok { IfOk result (λ s. IsSchedule bytes.now s) }
+// A text and its schedule, or its fault.
+fn with_schedule(text: &str) -> Result<(&str, Schedule), CronFault>
+    ensures text { IfOk result (λ r. r.0.now ≡ text.now) }
+    ensures ok { IfOk result (λ r. IsSchedule text.now r.1) }
+    ensures err { IfErr result (λ f. IsFaultTold text.now f) }
+{
+    match parsed(text) {
+        Ok(schedule) => Ok((text, schedule)),
+        Err(fault) => Err(fault),
+    }
+}
+
+/// These bytes as a text and its schedule, or why they are refused. More than 1,024 bytes are
+/// refused before they are looked at.
+pub(crate) fn read_text(bytes: &[u8]) -> Result<(&str, Schedule), CronFault>
+    ensures text { IfOk result (λ r. r.0.now ≡ bytes.now) }
+    ensures ok { IfOk result (λ r. IsSchedule bytes.now r.1) }
     ensures err { IfErr result (λ f. IsTextRefused bytes.now f) }
 {
     if bytes.len() > MAX_TEXT {
@@ -85,12 +98,23 @@ pub(crate) fn read_schedule(bytes: &[u8]) -> Result<Schedule, CronFault>
             byte: 0,
         });
     }
-    match text_of(bytes) {
-        Some(text) => parsed(text),
-        None => Err(CronFault {
+    let Some(text) = text_of(bytes) else {
+        return Err(CronFault {
             field: 0,
             cause: 11,
             byte: 0,
-        }),
+        });
+    };
+    with_schedule(text)
+}
+
+/// The schedule of these bytes, or why they are refused.
+pub(crate) fn read_schedule(bytes: &[u8]) -> Result<Schedule, CronFault>
+    ensures ok { IfOk result (λ s. IsSchedule bytes.now s) }
+    ensures err { IfErr result (λ f. IsTextRefused bytes.now f) }
+{
+    match read_text(bytes) {
+        Ok((_, schedule)) => Ok(schedule),
+        Err(fault) => Err(fault),
     }
 }

@@ -1,4 +1,4 @@
-//! `libcronsim`: due times, and manifests, plans and audits as JSON, for callers that aren't
+//! `libcronsim`: due times, and manifests, plans and clusters as JSON, for callers that aren't
 //! Rattle, by the names of C.
 //!
 //! Here belongs what an exported function takes and gives, what such a caller keeps, a schedule in
@@ -20,7 +20,8 @@ mod timetable;
 mod zones;
 
 pub use answers::{
-    cronsim_audit, cronsim_check, cronsim_fault_text, cronsim_plan, cronsim_version,
+    cronsim_audit, cronsim_check, cronsim_describe, cronsim_fault_text, cronsim_plan,
+    cronsim_upcoming, cronsim_version, cronsim_why,
 };
 pub use fault::CronFault;
 pub use held::Held;

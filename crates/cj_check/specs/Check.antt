@@ -1,9 +1,11 @@
 -- What `check` answers of a manifest.
-use Rattle.std.specs.Prelude.{◌≡◌, ◌⊎◌, ℕ, ◌==◌, nat_lt, ◌&&◌, if◌then◌else◌, List, [], ◌++◌, length, Bool, true, false, codes}
+use Rattle.std.specs.Prelude.{◌≡◌, ◌⊎◌, ℕ, ◌==◌, ◌&&◌, ◌||◌, not, bytes_eq, if◌then◌else◌, List, [], ◌∷◌, ◌++◌, length, Bool, true, false, codes}
+use Rattle.std.specs.List.{list_any}
 use Rattle.cj_base.specs.declared.faults.FieldFault.{FieldFault}
 use Rattle.cj_base.specs.declared.refusal.Refusal.TheVariants.{Invalid, Syntax}
 use Rattle.cj_zone.specs.declared.zone.Zone.{Zone}
 use Rattle.cj_manifest.specs.declared.manifest.Manifest.{Manifest}
+use Rattle.cj_manifest.specs.declared.manifest.Manifest.TheVariants as Of
 use Rattle.cj_manifest.specs.Either.{key_of, kind_of, manifest_draft, manifest_faults, manifest_warnings}
 use Rattle.cj_manifest.specs.Reading.{IsReading, IsRefused}
 use Rattle.cj_answers.specs.declared.answer.Ending.{Ending}
@@ -12,16 +14,40 @@ use Rattle.cj_args.specs.declared.request.CheckRequest.{CheckRequest}
 use Rattle.cj_scenario.specs.declared.detection.form.Form.TheVariants as A
 use Rattle.cj_scenario.specs.detection.Detections.{IsDetection}
 use Rattle.cj_check.specs.FaultWords.{AreFaultWords}
-use Rattle.cj_answers.specs.Json.{IsJsonWords, yaml_words}
+use Rattle.cj_answers.specs.Json.{IsJsonWords}
 use Rattle.cj_answers.specs.Advice.{IsAdvice, dropped_words_all}
+use Rattle.cj_answers.specs.Coming.{IsScheduleAdvice}
 use Rattle.cj_answers.specs.Lines.{fault_lines, ok_line, warning_lines}
 use Rattle.cj_answers.specs.Moments.{asked_moment}
 use Rattle.cj_answers.specs.Outcome.{Outcome, explained}
 
--- how a manifest with these warnings ends: a warning refuses it where that is wanted
+-- the name of the template, which `kubectl create cronjob` writes, and which no Job gets
+abbrev pub is_harmless : List ℕ → Bool
+is_harmless path = bytes_eq path (codes "spec.jobTemplate.metadata.name")
+
+abbrev pub is_no_text : List ℕ → Bool
+is_no_text [] = true
+is_no_text (x ∷ xs) = false
+
+-- a warning refuses a manifest where that is wanted, unless it is harmless, and so does a schedule
+-- that never comes, of which these words tell
 -- rule: check-strict
-abbrev pub fine_ending : Bool → List (List ℕ) → Ending
-fine_ending strict warnings = if strict && nat_lt 0 (length warnings) then Refused else Done
+abbrev pub fine_ending : Bool → List (List ℕ) → List ℕ → Ending
+fine_ending strict warnings coming =
+    if strict && (list_any (λ w. not (is_harmless w)) warnings || not (is_no_text coming))
+    then Refused else Done
+
+-- those words are said then, where they aren't anyway
+-- rule: check-strict
+abbrev pub strict_words : Bool → Bool → List ℕ → List ℕ
+strict_words true false coming = coming
+strict_words true true coming = []
+strict_words false explain coming = []
+
+-- whether the schedule of a CronJob comes at all
+abbrev pub IsComingWords : Manifest → List Zone → List ℕ → Type 0
+IsComingWords (Of.CronJob draft) zones words = IsScheduleAdvice draft.spec zones words
+IsComingWords (Of.Job draft) zones words = words ≡ []
 
 -- one file alone is checked
 abbrev pub is_alone : CheckRequest → Bool
@@ -33,9 +59,9 @@ abbrev pub pod_words : Bool → List ℕ
 pod_words true = codes "FILE: of the Pod only its restartPolicy was looked at; kubectl apply --dry-run=server -f FILE checks the rest\n"
 pod_words false = []
 
--- printed, with an ending and nothing on standard error
-abbrev pub ended : Ending → List ℕ → Outcome
-ended ending lines = record { ending = ending; printed = lines; said = [] }
+-- printed, with an ending and these words on standard error
+abbrev pub ended : Ending → List ℕ → List ℕ → Outcome
+ended ending said lines = record { ending = ending; printed = lines; said = said }
 
 -- refused on standard output, as what a manifest's faults are for
 abbrev pub faulty : List ℕ → Outcome
@@ -45,8 +71,7 @@ faulty lines = record { ending = Refused; printed = lines; said = [] }
 pub record IsNoJson (explain : Bool) (bytes : List ℕ) (o : Outcome) : Type 0 where
   pub words : List ℕ
   pub place : IsJsonWords bytes words
-  pub answer : o ≡ explained explain (words
-      ++ yaml_words bytes) (faulty (codes "refused 1 Syntax\n"))
+  pub answer : o ≡ explained explain words (faulty (codes "refused 1 Syntax\n"))
 
 -- the bytes are no JSON
 pub record IsNoManifest (explain : Bool) (zones : List Zone) (bytes : List ℕ) (o : Outcome)
@@ -75,9 +100,11 @@ pub record IsFine (r : CheckRequest) (alone : Bool) (zones : List Zone) (bytes :
       manifest warnings
   pub words : List ℕ
   pub advice : IsAdvice manifest zones (asked_moment r.moment) words
+  pub coming : List ℕ
+  pub comes : IsComingWords manifest zones coming
   pub answer : o ≡ explained r.explain (dropped_words_all warnings ++ (words ++ pod_words alone))
-      (ended (fine_ending r.strict warnings) (ok_line (kind_of manifest) (key_of manifest)
-      ++ warning_lines warnings))
+      (ended (fine_ending r.strict warnings coming) (strict_words r.strict r.explain coming)
+      (ok_line (kind_of manifest) (key_of manifest) ++ warning_lines warnings))
 
 -- what the bytes of a manifest are answered under these zones
 abbrev pub IsChecked : CheckRequest → Bool → List Zone → List ℕ → Outcome → Type 0

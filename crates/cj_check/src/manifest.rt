@@ -1,5 +1,6 @@
 // What `check` answers of one manifest, in lines.
-ghost use Rattle.std.specs.Prelude.{◌≡◌, ◌++◌, ℕ, List, IfOk, codes, string_bytes};
+ghost use Rattle.std.specs.Prelude.{◌≡◌, ◌++◌, ℕ, List, IfOk, codes, string_bytes, not};
+ghost use Rattle.std.specs.List.{list_any};
 ghost use Rattle.cj_base.specs.declared.refusal.Refusal.TheVariants.{Invalid};
 ghost use Rattle.cj_manifest.specs.Either.{key_of, kind_of, manifest_draft, manifest_faults, manifest_warnings};
 ghost use Rattle.cj_manifest.specs.Reading.{IsReading, IsRefused};
@@ -8,12 +9,12 @@ ghost use Rattle.cj_zone.specs.Table.{zones_of};
 ghost use Rattle.cj_answers.specs.Advice.{dropped_words_all};
 ghost use Rattle.cj_answers.specs.Lines.{fault_lines, ok_line, warning_lines};
 ghost use Rattle.cj_answers.specs.Outcome.{explained, outcome_of};
-ghost use Rattle.cj_check.specs.Check.{IsChecked, IsNoJson, ended, faulty, fine_ending, is_alone, pod_words};
+ghost use Rattle.cj_check.specs.Check.{IsChecked, IsComingWords, IsNoJson, ended, faulty, fine_ending, is_alone, is_harmless, is_no_text, pod_words, strict_words};
 
 use crate::fault_words::fault_words;
 use cj_answers::{
     Answer, Ending, all_dropped_words, asked_moment, json_words, manifest_advice, print_faults,
-    print_ok, print_warnings, yaml_words,
+    print_ok, print_warnings, schedule_advice,
 };
 use cj_args::CheckRequest;
 use cj_base::{FieldFault, Refusal};
@@ -38,14 +39,58 @@ fn fine_lines(
     Ok(printed)
 }
 
-// The ending for a manifest with these warnings: `--strict` refuses any.
-fn fine_ending(strict: bool, warnings: &[Warning]) -> Ending
-    ensures { result ≡ fine_ending strict warnings.now }
+// The name of the template, which `kubectl create cronjob` writes, and which no Job gets.
+fn is_harmless(warning: &Warning) -> bool
+    ensures { result ≡ is_harmless warning.now }
 {
-    if strict && !warnings.is_empty() {
+    warning.path() == "spec.jobTemplate.metadata.name"
+}
+
+// Whether one of these warnings isn't harmless.
+fn has_harm(warnings: &[Warning]) -> bool
+    ensures { result ≡ list_any (λ w. not (is_harmless w)) warnings.now }
+{
+    warnings.iter().any(|warning| !is_harmless(warning))
+}
+
+fn is_no_text(text: &str) -> bool
+    ensures { result ≡ is_no_text text.now }
+{
+    text.is_empty()
+}
+
+// The ending for a manifest with these warnings: `--strict` refuses any that isn't harmless, and a
+// schedule that never comes, of which these words tell.
+fn fine_ending(strict: bool, warnings: &[Warning], coming: &str) -> Ending
+    ensures { result ≡ fine_ending strict warnings.now coming.now }
+{
+    let harms = has_harm(warnings);
+    let comes = is_no_text(coming);
+    if strict && (harms || !comes) {
         Ending::Refused
     } else {
         Ending::Done
+    }
+}
+
+// Those words, where `--strict` refuses the schedule and `--explain` doesn't say them anyway.
+fn strict_words<'a>(strict: bool, explain: bool, coming: &'a str) -> &'a str
+    ensures { result.now ≡ strict_words strict explain coming.now }
+{
+    match (strict, explain) {
+        (true, false) => coming,
+        (true, true) => "",
+        (false, _) => "",
+    }
+}
+
+// Whether the schedule of a CronJob comes at all.
+fn coming_words(zones: &ZoneTable, manifest: &Manifest) -> &'static str
+    ensures { IsComingWords manifest.now (zones_of zones.now) result.now }
+{
+    match manifest {
+        Manifest::CronJob(draft) => schedule_advice(zones, &draft.spec),
+        Manifest::Job(_) => "",
     }
 }
 
@@ -91,17 +136,20 @@ fn fine(
     manifest: &Manifest,
     warnings: &[Warning],
     advice: &str,
+    coming: &str,
 ) -> Result<Answer, Failure>
     ensures { IfOk result (λ a. outcome_of a ≡ explained check.now.explain
         (dropped_words_all warnings.now ++ (advice.now ++ pod_words alone))
-        (ended (fine_ending check.now.strict warnings.now)
+        (ended (fine_ending check.now.strict warnings.now coming.now)
+        (strict_words check.now.strict check.now.explain coming.now)
         (ok_line (kind_of manifest.now) (key_of manifest.now) ++ warning_lines warnings.now))) }
 {
     let words = fine_words(alloc, alone, warnings, advice)?;
+    let said = strict_words(check.strict, check.explain, coming);
     let answer = Answer {
-        ending: fine_ending(check.strict, warnings),
+        ending: fine_ending(check.strict, warnings, coming),
         printed: fine_lines(alloc, manifest, warnings)?,
-        said: String::new(alloc),
+        said: String::from_str(alloc, said)?,
     };
     Ok(answer.explained(check.explain, words.as_str())?)
 }
@@ -126,12 +174,11 @@ fn syntax_refusal(alloc: Global, explain: bool, words: &str) -> Result<Answer, A
     faulty(alloc, printed).explained(explain, words)
 }
 
-// The answer for bytes that are no JSON: where the text goes wrong, and whether it looks like YAML.
+// The answer for bytes that are no JSON: where the text goes wrong.
 fn no_json(alloc: Global, explain: bool, bytes: &[u8]) -> Result<Answer, Failure>
     ensures { IfOk result (λ a. IsNoJson explain bytes.now (outcome_of a)) }
 {
-    let mut words = json_words(alloc, bytes)?;
-    words.push_str(yaml_words(bytes))?;
+    let words = json_words(alloc, bytes)?;
     Ok(syntax_refusal(alloc, explain, words.as_str())?)
 }
 
@@ -192,7 +239,9 @@ pub(crate) fn fine_answer(
 {
     let moment = asked_moment(alloc, check.moment)?;
     let words = manifest_advice(alloc, zones, manifest, moment)?;
-    fine(alloc, check, alone, manifest, warnings, words.as_str())
+    let coming = coming_words(zones, manifest);
+    let words = words.as_str();
+    fine(alloc, check, alone, manifest, warnings, words, coming)
 }
 
 /// The answer for bytes that are refused, alone or among others.

@@ -1,6 +1,6 @@
 -- What a cluster holds: Kubernetes, "Objects In Kubernetes" (one object of a kind and a name in a
 -- namespace) and "Owners and Dependents".
-use Rattle.std.specs.Prelude.{◌≡◌, ℕ, Bool, false, ◌&&◌, List, Option, Some, None, is_some, refl}
+use Rattle.std.specs.Prelude.{◌≡◌, ℕ, Bool, false, ◌&&◌, ◌||◌, List, Option, Some, None, is_some, refl}
 use Rattle.std.specs.Coded.{Coded, code_by, coded×}
 use Rattle.std.specs.FinMap as map
 use Rattle.cj_types.specs.Keys.{Place, place_cmp, coded_place}
@@ -11,6 +11,7 @@ use Rattle.cj_types.specs.Owners.{controller_of}
 use Rattle.cj_types.specs.declared.owners.OwnerRef.{OwnerRef}
 use Rattle.std.specs.Str.{bytes_eq}
 use Rattle.cj_cluster.specs.declared.cron.ClusterCron.{ClusterCron}
+use Rattle.cj_cluster.specs.declared.cron.CronMarks.{CronMarks}
 use Rattle.cj_cluster.specs.declared.times.JobTimes.{JobTimes}
 use Rattle.cj_cluster.specs.contracts.cron.ClusterCron.{the_row as cluster_cron}
 use Rattle.cj_cluster.specs.contracts.times.JobTimes.{the_row as job_times}
@@ -30,6 +31,11 @@ coded_content =
     (λ c. (c.crons, (c.jobs, c.times)))
     (λ p. record { crons = p.0; jobs = (p.1).0; times = (p.1).1 })
     (λ _. refl)
+
+-- its controller starts nothing, whatever its spec says
+-- rules: cluster-deleting, cluster-stuck
+abbrev pub is_halted : CronMarks → Bool
+is_halted marks = marks.is_deleting || marks.is_stuck
 
 abbrev pub nothing : Content
 nothing = record { crons = map.empty; jobs = map.empty; times = map.empty }

@@ -1,5 +1,7 @@
 pub mod Instants
 pub mod Lists
+pub mod Owners
+pub mod NamedTimes
 pub mod Rows
 pub mod Finishes
 pub mod Faults

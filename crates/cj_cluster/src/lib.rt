@@ -12,9 +12,9 @@ mod kubectl;
 mod times;
 
 pub use cluster::Cluster;
-pub use cron::ClusterCron;
+pub use cron::{ClusterCron, CronMarks};
 pub use kubectl::{
-    ClusterList, CronName, ItemNote, ItemNotes, ListFault, ListedKind, Said, is_of_refused,
-    item_texts, read_cluster, read_instant,
+    ClusterList, CronName, ItemNote, ItemNotes, ListFault, ListedKind, ObjectNamed, Said,
+    is_of_refused, item_texts, read_cluster, read_instant,
 };
 pub use times::JobTimes;

@@ -23,12 +23,16 @@ pub mod Led
 pub mod Synced
 pub mod Since
 pub mod Near
+pub mod Telling
+pub mod InTime
 pub mod OneKey
 pub mod Runs
 pub mod HourSample
 pub mod EverySample
 pub mod ForbidSample
 pub mod Moves
+pub mod Prompt
 pub mod Apart
 pub mod Spared
+pub mod Gone
 pub mod ApartSample

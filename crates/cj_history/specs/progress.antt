@@ -3,3 +3,4 @@ pub mod Undisturbed
 pub mod Syncs
 pub mod Every
 pub mod Apart
+pub mod Prompt

@@ -23,6 +23,6 @@ pub mod store;
 pub use gaps::{Gap, Standing, Why, all_gaps_of, gaps_of, made_or_told_law};
 pub use laws::{answer_law, exclusive_law, legal_law, once_law, time_law};
 pub use manifests::created_laws;
-pub use progress::{every_time_law, no_key_is_lost_law, progress_law, syncs_law};
+pub use progress::{every_time_law, keeping_up_law, no_key_is_lost_law, progress_law, syncs_law};
 pub use queue::{call_law, queue_law, rest_law};
 pub use store::{event_law, mirror_law, number_law, store_law};

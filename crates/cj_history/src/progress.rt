@@ -2,4 +2,4 @@
 // its Job, and such syncs, one after the other, just those of the due times.
 mod laws;
 
-pub use laws::{every_time_law, no_key_is_lost_law, progress_law, syncs_law};
+pub use laws::{every_time_law, keeping_up_law, no_key_is_lost_law, progress_law, syncs_law};

@@ -1,10 +1,11 @@
 -- What `audit` answers of a cluster.
-use Rattle.std.specs.Prelude.{◌≡◌, ◌⊎◌, ℕ, ◌≤◌, ◌&&◌, List, [], ◌∷◌, ◌++◌, length, Option, IfSome, Bool, true, false, codes}
+use Rattle.std.specs.Prelude.{◌≡◌, ◌⊎◌, ℕ, ◌≤◌, ◌&&◌, not, List, [], ◌∷◌, ◌++◌, length, Option, IfSome, Bool, true, false, codes}
 use Rattle.std.specs.FinMap as map
 use Rattle.cj_zone.specs.declared.zone.Zone.{Zone}
 use Rattle.cj_audit.specs.declared.finding.Finding.{Finding}
 use Rattle.cj_audit.specs.Findings.{IsAudit}
 use Rattle.cj_audit.specs.Manual.{manual_lines}
+use Rattle.cj_audit.specs.Told.{has_jobs_alone, times_words}
 use Rattle.cj_audit.specs.Words.{audit_words}
 use Rattle.cj_cluster.specs.kubectl.Reading.{IsClusterList}
 use Rattle.cj_cluster.specs.declared.kubectl.list.ClusterList.{ClusterList}
@@ -21,15 +22,27 @@ abbrev pub is_clean : List Finding → Bool
 is_clean [] = true
 is_clean (f ∷ fs) = false
 
--- done where nothing was found and no item was refused
+-- what is said of a list of Jobs alone
+-- rule: audit-jobs-alone
+abbrev pub alone_line : Bool → List ℕ
+alone_line false = []
+alone_line true = codes "cronsim: the list has Jobs of CronJobs, and no CronJob to look at them by; kubectl get cronjobs,jobs -o json lists both\n"
+
+-- done where nothing was found, no item was refused, and the list has CronJobs if it has their Jobs
 -- rule: audit-status
 abbrev pub ending_of : ClusterList → List Finding → Ending
-ending_of list findings = ending_by (is_clean findings && is_read list.notes)
+ending_of list findings =
+    ending_by ((is_clean findings && is_read list.notes)
+    && not (has_jobs_alone list.cluster list.notes))
 
 -- what is printed of the findings
+-- rule: audit-jobs-alone
 abbrev pub audited : ClusterList → List Finding → List ℕ → Outcome
-audited list findings printed =
-    record { ending = ending_of list findings; printed = printed; said = [] }
+audited list findings printed = record {
+  ending = ending_of list findings;
+  printed = printed;
+  said = alone_line (has_jobs_alone list.cluster list.notes);
+}
 
 -- what a line of a Job made by hand means, where there is one
 -- rule: audit-explained
@@ -37,14 +50,14 @@ abbrev pub manual_words : List ℕ → List ℕ
 manual_words [] = []
 manual_words (x ∷ xs) = codes "manual: somebody made such a Job, as kubectl create job --from does; no controller did, so no finding is of it\n"
 
--- what is wrong with the items that can't be used, what a Job made by hand means, and what the
--- findings do
+-- what is wrong with the items that can't be used, what a Job made by hand means, how many tell
+-- their time otherwise, and what the findings mean
 -- rule: audit-explained
 abbrev pub words_of : ClusterList → List Finding → List ℕ
 words_of list findings =
     note_words list.notes
     ++ (manual_words (manual_lines list.cluster.times (map.values list.cluster.jobs))
-    ++ audit_words findings)
+    ++ (times_words list.cluster.times (map.values list.cluster.jobs) ++ audit_words findings))
 
 -- of a list that was read, in a picture or else as JSON or in lines
 pub record AuditsList (explain svg json : Bool) (zones : List Zone) (bytes : List ℕ) (o : Outcome)

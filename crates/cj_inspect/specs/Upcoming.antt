@@ -1,5 +1,5 @@
 -- What `upcoming` answers of CronJobs.
-use Rattle.std.specs.Prelude.{◌≡◌, ◌⊎◌, ℕ, ◌+◌, ◌≤◌, List, [], ◌∷◌, ◌++◌, ◌&&◌, not, length, nat_lt, Option, None, Some, IfSome, option_map, Bool, true, false, codes}
+use Rattle.std.specs.Prelude.{◌≡◌, ◌⊎◌, ℕ, ◌+◌, ◌≤◌, List, [], ◌∷◌, ◌++◌, ◌&&◌, ◌||◌, not, bytes_eq, length, nat_lt, Option, None, Some, IfSome, option_map, Bool, true, false, codes}
 use Rattle.std.specs.Borrow.{Bor}
 use Rattle.std.specs.List.{list_all, list_any}
 use Rattle.cj_base.specs.Instant.{last_second}
@@ -23,7 +23,7 @@ use Rattle.cj_answers.specs.Given.{AreGiven, IsNoneGiven, pair_words}
 use Rattle.cj_answers.specs.Marks.{marked}
 use Rattle.cj_answers.specs.Moments.{asked_moment}
 use Rattle.cj_answers.specs.Outcome.{IsInForm, Outcome, RefusesForm, explained, outcome_of, refusal}
-use Rattle.cj_inspect.specs.Why.{chosen, is_noted, is_nothing, line_where}
+use Rattle.cj_inspect.specs.Why.{IsNoticed, chosen, is_noted, is_noted_in, is_nothing, line_where}
 use Rattle.cj_inspect.specs.Windows.{IsCounted}
 use Rattle.cj_answers.specs.as_json.Forms.{is_json}
 use Rattle.cj_inspect.specs.as_json.Upcoming.{IsWindowJson, files_data}
@@ -153,11 +153,27 @@ pub record TellsWindow (r : UpcomingRequest) (zones : List Zone) (w : Span) (fs 
   pub window : IsWindowShown r.svg (is_json r.output.now) zones w fs (meant_of r fs) r.peaks text
   pub answer : o ≡ explained r.explain (all_words (is_several fs) fs) (told fs text)
 
+-- a CronJob of the files is in the namespace that is given, if one is, be it one that can't be used
+-- rule: why-named
+abbrev pub has_home : Option (List ℕ) → List FileCrons → Bool
+has_home None fs = true
+has_home (Some namespace) fs =
+    list_any (λ c. bytes_eq c.cron.key.namespace namespace) (all_crons fs)
+    || list_any (λ f. list_any (λ note. is_noted_in namespace note.cron) f.list.notes) fs
+
+-- with what is told beside it
+-- rules: upcoming-status, why-named
+pub record TellsNoticed (r : UpcomingRequest) (zones : List Zone) (w : Span) (fs : List FileCrons)
+    (o : Outcome) : Type 0 where
+  pub base : Outcome
+  pub tells : RefusesMany r zones w fs base ⊎ TellsWindow r zones w fs base
+  pub notices : IsNoticed (has_home (within_of r) fs) false base o
+
 -- the CronJobs that are named are all there
 pub record TellsKnown (r : UpcomingRequest) (zones : List Zone) (w : Span) (fs : List FileCrons)
     (o : Outcome) : Type 0 where
   pub known : is_nothing (unknown_of r fs) ≡ true
-  pub tells : RefusesMany r zones w fs o ⊎ TellsWindow r zones w fs o
+  pub tells : TellsNoticed r zones w fs o
 
 -- the answer for what the files have
 -- rule: upcoming-lines

@@ -1,7 +1,7 @@
 -- What `why` answers of a cluster.
-use Rattle.std.specs.Prelude.{◌≡◌, ◌⊎◌, ℕ, ◌==◌, ◌≤◌, List, [], ◌∷◌, ◌++◌, ◌&&◌, ◌||◌, not, filter, length, Option, None, Some, IfSome, option_map, unwrap_or, Bool, true, false, bytes_eq, codes}
+use Rattle.std.specs.Prelude.{◌≡◌, ◌⊎◌, ℕ, ◌==◌, ◌≤◌, nat_lt, List, [], ◌∷◌, ◌++◌, ◌&&◌, ◌||◌, not, filter, length, Option, None, Some, IfSome, option_map, unwrap_or, Bool, true, false, bytes_eq, codes}
 use Rattle.std.specs.Borrow.{Bor}
-use Rattle.std.specs.List.{list_any}
+use Rattle.std.specs.List.{list_all, list_any}
 use Rattle.std.specs.FinMap as map
 use Rattle.cj_zone.specs.declared.zone.Zone.{Zone}
 use Rattle.cj_cluster.specs.declared.cron.ClusterCron.{ClusterCron}
@@ -16,6 +16,8 @@ use Rattle.cj_why.specs.reviews.Words.{IsReview}
 use Rattle.cj_why.specs.declared.reviews.rows.CronRow.{CronRow}
 use Rattle.cj_args.specs.declared.request.WhyRequest.{WhyRequest}
 use Rattle.cj_io.specs.declared.zone_files.file.ZoneFile.{ZoneFile}
+use Rattle.cj_answers.specs.declared.answer.Ending.{Ending}
+use Rattle.cj_answers.specs.declared.answer.Ending.TheVariants.{Refused}
 use Rattle.cj_answers.specs.Clusters.{RefusesList, ending_by, is_read, note_lines, note_words}
 use Rattle.cj_answers.specs.Given.{AreGiven, IsNoneGiven, pair_words}
 use Rattle.cj_answers.specs.Moments.{asked_moment, moment_words}
@@ -105,6 +107,62 @@ unknown_of r list =
 abbrev pub meant_of : WhyRequest → ClusterList → List ClusterCron
 meant_of r list = chosen (within_of r) r.crons.items (map.values list.cluster.crons)
 
+-- an item that can't be used is told of: where CronJobs are named, one that is of such a CronJob
+-- rule: why-named
+abbrev pub is_told : Option (List ℕ) → List (Bor (List ℕ)) → ItemNote → Bool
+is_told within texts note =
+    is_nothing texts || list_any (λ t. is_noted within t.now note.cron) texts
+
+-- the list with the items that are told of
+-- rule: why-named
+abbrev pub narrowed : WhyRequest → ClusterList → ClusterList
+narrowed r list = record {
+  cluster = list.cluster;
+  notes = filter (is_told (within_of r) r.crons.items) list.notes;
+}
+
+-- ---- what is told beside the answer
+
+-- the item that can't be used is a CronJob of that namespace
+abbrev pub is_noted_in : List ℕ → Option CronName → Bool
+is_noted_in namespace None = false
+is_noted_in namespace (Some n) = bytes_eq n.namespace namespace
+
+-- a CronJob of the list is in the namespace that is given, if one is, be it one that can't be used
+-- rule: why-named
+abbrev pub has_home : Option (List ℕ) → ClusterList → Bool
+has_home None list = true
+has_home (Some namespace) list =
+    list_any (λ c. bytes_eq c.cron.key.namespace namespace) (map.values list.cluster.crons)
+    || list_any (λ note. is_noted_in namespace note.cron) list.notes
+
+-- there are CronJobs, and the moment is before the creation of each
+-- rule: why-early
+abbrev pub is_early : ℕ → List ClusterCron → Bool
+is_early now crons =
+    not (is_nothing crons) && list_all (λ c. nat_lt now c.cron.meta.created) crons
+
+-- refused where no CronJob is in the namespace
+abbrev pub ending_at_home : Bool → Ending → Ending
+ending_at_home true ending = ending
+ending_at_home false ending = Refused
+
+-- with words before what is said
+abbrev pub noticed : Bool → List ℕ → Outcome → Outcome
+noticed home words o = record {
+  ending = ending_at_home home o.ending;
+  printed = o.printed;
+  said = words ++ o.said;
+}
+
+-- such words are there just where no CronJob is in the namespace, or the moment is before all of
+-- them; the first is refused
+-- rules: why-named, why-early, why-status
+pub record IsNoticed (home early : Bool) (base o : Outcome) : Type 0 where
+  pub words : List ℕ
+  pub none : is_nothing words ≡ (home && not early)
+  pub answer : o ≡ noticed home words base
+
 -- ---- the form of what is printed
 
 abbrev pub is_lines : List ℕ → Bool
@@ -132,11 +190,19 @@ pub record RefusesCron (r : WhyRequest) (unknown : List ℕ) (o : Outcome) : Typ
   pub some : is_nothing unknown ≡ false
   pub answer : o ≡ explained r.explain unknown (refusal (codes "cronsim: cron\n"))
 
--- done where no item was refused
+-- where only those are printed that want a look, there is none
 -- rule: why-status
-abbrev pub reviewed : List ItemNote → List ℕ → Outcome
-reviewed notes printed =
-    record { ending = ending_by (is_read notes); printed = note_lines notes ++ printed; said = [] }
+abbrev pub is_fine : {A : Type 0} → WhyRequest → List A → Bool
+is_fine r shown = not r.problems || is_nothing shown
+
+-- done where no item was refused, and none of those wants a look
+-- rule: why-status
+abbrev pub reviewed : Bool → List ItemNote → List ℕ → Outcome
+reviewed fine notes printed = record {
+  ending = ending_by (is_read notes && fine);
+  printed = note_lines notes ++ printed;
+  said = [];
+}
 
 -- the items that can't be used, then the lines of the CronJobs
 -- rules: why-lines, why-problems
@@ -147,7 +213,8 @@ pub record PrintsReview (r : WhyRequest) (zones : List Zone) (now : ℕ) (list :
   pub printed : List ℕ
   pub said : List ℕ
   pub review : IsReview r.explain zones list.cluster now lined printed said
-  pub answer : o ≡ explained r.explain (note_words list.notes ++ said) (reviewed list.notes printed)
+  pub answer : o ≡ explained r.explain (note_words list.notes ++ said)
+      (reviewed (is_fine r lined) list.notes printed)
 
 -- the items that can't be used, then the table of the CronJobs
 -- rules: why-table, why-problems
@@ -157,7 +224,8 @@ pub record PrintsTable (r : WhyRequest) (zones : List Zone) (now : ℕ) (list : 
   pub are : AreRows r.problems (is_full r) zones list.cluster now (meant_of r list) rows
   pub table : List ℕ
   pub laid : IsTable (is_full r) now (length (map.values list.cluster.crons)) rows table
-  pub answer : o ≡ explained r.explain (note_words list.notes) (reviewed list.notes table)
+  pub answer : o ≡ explained r.explain (note_words list.notes)
+      (reviewed (is_fine r rows) list.notes table)
 
 -- what is known of these CronJobs, and what their next syncs would write, as one JSON value
 -- rules: why-json, why-calls
@@ -169,10 +237,11 @@ pub record IsWhyJson (zones : List Zone) (now : ℕ) (list : ClusterList) (lined
   pub told : AreCallsJson zones list.cluster now lined calls
   pub line : IsJsonLine (why_data now calls crons list.notes) text
 
--- that alone is printed, and done where no item was refused
+-- that alone is printed, and done where no item was refused, and none of those wants a look
 -- rule: why-status
-abbrev pub valued : List ItemNote → List ℕ → Outcome
-valued notes printed = record { ending = ending_by (is_read notes); printed = printed; said = [] }
+abbrev pub valued : Bool → List ItemNote → List ℕ → Outcome
+valued fine notes printed =
+    record { ending = ending_by (is_read notes && fine); printed = printed; said = [] }
 
 -- of all CronJobs that are meant, or of those that want a look
 -- rules: why-json, why-problems
@@ -182,7 +251,8 @@ pub record PrintsJson (r : WhyRequest) (zones : List Zone) (now : ℕ) (list : C
   pub are : AreLined r.problems zones list.cluster now (meant_of r list) lined
   pub printed : List ℕ
   pub value : IsWhyJson zones now list lined printed
-  pub answer : o ≡ explained r.explain (note_words list.notes) (valued list.notes printed)
+  pub answer : o ≡ explained r.explain (note_words list.notes)
+      (valued (is_fine r lined) list.notes printed)
 
 -- as JSON, or in a table
 abbrev pub IsWhole : Bool → WhyRequest → List Zone → ℕ → ClusterList → Outcome → Type 0
@@ -195,11 +265,20 @@ abbrev pub IsPrinted : Bool → WhyRequest → List Zone → ℕ → ClusterList
 IsPrinted true r zones now list o = PrintsReview r zones now list o
 IsPrinted false r zones now list o = IsWhole (is_json r.output.now) r zones now list o
 
+-- with what is told beside it
+-- rules: why-named, why-early
+pub record TellsReview (r : WhyRequest) (zones : List Zone) (now : ℕ) (list : ClusterList)
+    (o : Outcome) : Type 0 where
+  pub base : Outcome
+  pub prints : IsPrinted (is_lines r.output.now) r zones now list base
+  pub notices : IsNoticed (has_home (within_of r) list)
+      (is_early now (map.values list.cluster.crons)) base o
+
 -- the CronJobs that are named are all there
 pub record PrintsKnown (r : WhyRequest) (zones : List Zone) (now : ℕ) (list : ClusterList)
     (unknown : List ℕ) (o : Outcome) : Type 0 where
   pub known : is_nothing unknown ≡ true
-  pub prints : IsPrinted (is_lines r.output.now) r zones now list o
+  pub prints : TellsReview r zones now list o
 
 -- refused where one of those that are named is unknown
 abbrev pub IsListReviewed : WhyRequest → List Zone → ℕ → ClusterList → Outcome → Type 0
@@ -211,7 +290,7 @@ pub record ReviewsList (r : WhyRequest) (zones : List Zone) (now : ℕ) (bytes :
     : Type 0 where
   pub list : ClusterList
   pub read : IsClusterList zones bytes list
-  pub reviewed : IsListReviewed r zones now list o
+  pub reviewed : IsListReviewed r zones now (narrowed r list) o
 
 -- what the bytes of a list are answered
 abbrev pub IsReviewed : WhyRequest → List Zone → ℕ → List ℕ → Outcome → Type 0

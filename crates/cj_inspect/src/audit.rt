@@ -5,9 +5,10 @@ ghost use Rattle.cj_base.specs.declared.refusal.Refusal.TheVariants.{OutOfMemory
 ghost use Rattle.cj_zone.specs.Table.{zones_of};
 ghost use Rattle.cj_audit.specs.Lines.{audit_lines};
 ghost use Rattle.cj_audit.specs.Manual.{manual_lines};
+ghost use Rattle.cj_audit.specs.Told.{times_words};
 ghost use Rattle.cj_audit.specs.Words.{audit_words};
 ghost use Rattle.cj_cluster.specs.kubectl.Reading.{IsClusterList};
-ghost use Rattle.cj_inspect.specs.Audit.{AuditsList, IsAuditAnswer, IsAuditOutcome, IsAuditedOf, audited, is_clean, manual_words, words_of};
+ghost use Rattle.cj_inspect.specs.Audit.{AuditsList, IsAuditAnswer, alone_line, IsAuditOutcome, IsAuditedOf, audited, is_clean, manual_words, words_of};
 ghost use Rattle.cj_answers.specs.Clusters as told;
 ghost use Rattle.cj_answers.specs.Outcome.{explained, outcome_of};
 ghost use Rattle.cj_inspect.specs.as_json.Audit.{IsAuditPrinted, IsAuditShown};
@@ -20,7 +21,9 @@ use cj_answers::{
     refused_form, refused_list, refused_pair,
 };
 use cj_args::AuditRequest;
-use cj_audit::{Finding, Findings, audit, audit_text, audit_words, manual_text};
+use cj_audit::{
+    Finding, Findings, audit, audit_text, audit_words, has_jobs_alone, manual_text, times_text,
+};
 use cj_base::{Refusal, both};
 use cj_cluster::{ClusterList, read_cluster};
 use cj_io::{Failure, ZoneFile, read_input};
@@ -100,17 +103,36 @@ fn printed(
     }
 }
 
+fn alone_line(alone: bool) -> &'static str
+    ensures { result.now ≡ alone_line alone }
+{
+    if alone {
+        "cronsim: the list has Jobs of CronJobs, and no CronJob to look at them by; kubectl get cronjobs,jobs -o json lists both\n"
+    } else {
+        ""
+    }
+}
+
 // With how it ends.
-fn ended(alloc: Global, list: &ClusterList, findings: &Findings, printed: String) -> Answer
-    ensures { outcome_of result ≡ audited list.now findings.now (string_bytes printed) }
+fn ended(
+    alloc: Global,
+    list: &ClusterList,
+    findings: &Findings,
+    printed: String,
+) -> Result<Answer, Refusal>
+    ensures ok { IfOk result (λ a. outcome_of a
+        ≡ audited list.now findings.now (string_bytes printed)) }
+    ensures err { IfErr result (λ e. e ≡ OutOfMemory) }
 {
     let is_clean = is_clean(findings.as_slice());
     let is_read = is_read(list.notes.as_slice());
-    Answer {
-        ending: ending_by(is_clean && is_read),
+    let alone = has_jobs_alone(alloc, &list.cluster, list.notes.as_slice())?;
+    let said = String::from_str(alloc, alone_line(alone))?;
+    Ok(Answer {
+        ending: ending_by((is_clean && is_read) && !alone),
         printed,
-        said: String::new(alloc),
-    }
+        said,
+    })
 }
 
 // What such a line means, where there is one.
@@ -128,12 +150,15 @@ fn manual_words(lines: &str) -> &'static str
 fn found_words(alloc: Global, list: &ClusterList, findings: &Findings) -> Result<String, Refusal>
     ensures ok { IfOk result (λ s. string_bytes s
         ≡ manual_words (manual_lines list.now.cluster.times (map.values list.now.cluster.jobs))
-        ++ audit_words findings.now) }
+        ++ (times_words list.now.cluster.times (map.values list.now.cluster.jobs)
+        ++ audit_words findings.now)) }
     ensures err { IfErr result (λ e. e ≡ OutOfMemory) }
 {
     let lines = manual_text(alloc, &list.cluster)?;
+    let mut rest = times_text(alloc, &list.cluster)?;
     let found = audit_words(alloc, findings)?;
-    Ok(joined(alloc, manual_words(lines.as_str()), found.as_str())?)
+    rest.push_str(found.as_str())?;
+    Ok(joined(alloc, manual_words(lines.as_str()), rest.as_str())?)
 }
 
 fn words(alloc: Global, list: &ClusterList, findings: &Findings) -> Result<String, Failure>
@@ -155,7 +180,7 @@ fn told_of(
     ensures { IfOk result (λ a. outcome_of a ≡ explained explain words.now
         (audited list.now findings.now (string_bytes printed))) }
 {
-    let answer = ended(alloc, list, findings, printed);
+    let answer = ended(alloc, list, findings, printed)?;
     Ok(answer.explained(explain, words)?)
 }
 

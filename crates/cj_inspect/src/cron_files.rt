@@ -6,7 +6,9 @@ ghost use Rattle.cj_cluster.specs.kubectl.Reading.{IsRefusedList};
 ghost use Rattle.cj_zone.specs.Table.{zones_of};
 ghost use Rattle.cj_inspect.specs.CronFiles.{AddsFile, AreFiles, Drafts, DraftsNone, IsCron, IsDrafted, IsFile, IsListed, Stops};
 
-use cj_cluster::{Cluster, ClusterCron, ClusterList, ItemNote, ItemNotes, ListFault, read_cluster};
+use cj_cluster::{
+    Cluster, ClusterCron, ClusterList, CronMarks, ItemNote, ItemNotes, ListFault, read_cluster,
+};
 use cj_manifest::read_cronjob;
 use cj_types::{
     CronJob, CronJobDraft, CronStatus, DraftMeta, Listing, Meta, Names, Refusal, Seconds, Shared,
@@ -98,7 +100,11 @@ fn cron(alloc: Global, draft: CronJobDraft) -> Result<ClusterCron, Refusal>
         status,
     };
     let cron = Shared::new(alloc, cron)?;
-    Ok(ClusterCron { uid, cron })
+    let marks = CronMarks {
+        is_deleting: false,
+        is_stuck: false,
+    };
+    Ok(ClusterCron { uid, marks, cron })
 }
 
 // The file of one draft.

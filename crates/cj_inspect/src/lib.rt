@@ -1,4 +1,5 @@
-//! What `why`, `audit` and `upcoming` answer: of a cluster's objects, and of a window of time.
+//! What `why`, `audit`, `upcoming` and `report` answer: of a cluster's objects, and of a window of
+//! time.
 //!
 //! Here belongs what is printed and said for one request, as a function of the request and of what
 //! was read. Findings, reviews and starts belong to the crates below, the form of an answer to
@@ -10,11 +11,14 @@ mod as_json;
 mod audit;
 mod calls;
 mod cron_files;
+mod html;
+mod report;
 mod upcoming;
 mod why;
 mod windows;
 
 pub use audit::audit_answer;
 pub use cron_files::CronFile;
+pub use report::{report_answer, report_files_answer};
 pub use upcoming::{upcoming_answer, upcoming_files_answer};
 pub use why::{MOST_LIST_BYTES, MOST_LIST_READS, why_answer};

@@ -7,13 +7,14 @@ ghost use Rattle.cj_upcoming.specs.Length.{length_of};
 ghost use Rattle.cj_upcoming.specs.Upcoming.{HasMore};
 ghost use Rattle.cj_upcoming.specs.declared.fault.StartsFault.TheVariants.{TooMany};
 ghost use Rattle.cj_answers.specs.Outcome.{explained, outcome_of, refusal};
-ghost use Rattle.cj_inspect.specs.Why.{line_where};
+ghost use Rattle.cj_inspect.specs.Why.{is_noted_in, line_where};
 ghost use Rattle.cj_answers.specs.as_json.Forms.{is_json};
-ghost use Rattle.cj_inspect.specs.Upcoming.{IsAsked, IsNoWindow, IsTold, IsToldOf, IsUpcomingFiles, IsUpcomingOutcome, IsWindow, IsWindowAsked, IsWindowLines, IsWindowPrinted, IsWindowShown, RefusesMany, RefusesMarked, TellsWindow, all_crons, all_lines, all_words, are_read, file_lines, file_words, from_words, is_noted_of, is_several, is_unknown, length_words, many_words, mark_for, meant_of, most_starts, told, unknown_lines, unknown_of};
+ghost use Rattle.cj_inspect.specs.Upcoming.{IsAsked, IsNoWindow, IsTold, IsToldOf, IsUpcomingFiles, IsUpcomingOutcome, IsWindow, IsWindowAsked, IsWindowLines, IsWindowPrinted, IsWindowShown, RefusesMany, RefusesMarked, TellsNoticed, TellsWindow, all_crons, all_lines, all_words, are_read, file_lines, file_words, from_words, has_home, is_noted_of, is_several, is_unknown, length_words, many_words, mark_for, meant_of, most_starts, told, unknown_lines, unknown_of};
 
 use crate::as_json::upcoming::{files_value, window_json};
 use crate::cron_files::{BadFile, CronFile, FileCrons, read_files};
 use crate::why::naming::{chosen, has_none, is_noted_one, push_where};
+use crate::why::notices::{has_cron, has_note, with_home_notice};
 use crate::why::{MOST_LIST_BYTES, MOST_LIST_READS, is_nothing, refused_unknown};
 use crate::windows::{counted_text, window_drawn};
 use cj_answers::{
@@ -360,6 +361,56 @@ fn told_of(
     }
 }
 
+fn is_home(namespace: &str, file: &FileCrons) -> bool
+    ensures { result
+        ≡ list_any (λ note. is_noted_in namespace.now note.cron) file.now.list.notes }
+{
+    has_note(namespace, file.notes())
+}
+
+// Whether one of the items that can't be used is a CronJob of that namespace.
+fn has_noted(namespace: &str, files: &[FileCrons]) -> bool
+    ensures { result ≡ list_any
+        (λ f. list_any (λ note. is_noted_in namespace.now note.cron) f.list.notes) files.now }
+{
+    files.iter().any(|file| is_home(namespace, file))
+}
+
+// Whether a CronJob of the files is in the namespace that is given, if one is.
+fn has_home(within: Option<&str>, files: &[FileCrons], crons: &[Shared<ClusterCron>]) -> bool
+    requires { crons.now ≡ all_crons files.now }
+    ensures { result ≡ has_home (option_map (λ s. s.now) within.entry) files.now }
+{
+    match within {
+        None => true,
+        Some(namespace) => {
+            let has_cron = has_cron(namespace, crons);
+            let has_note = has_noted(namespace, files);
+            has_cron || has_note
+        }
+    }
+}
+
+// The answer of what the CronJobs that are meant start, with what is told beside it.
+fn told_noticed(
+    alloc: Global,
+    upcoming: &UpcomingRequest<'_>,
+    zones: &ZoneTable,
+    window: &Window,
+    files: &[FileCrons],
+    crons: &[Shared<ClusterCron>],
+) -> Result<Answer, Failure>
+    requires { crons.now ≡ all_crons files.now }
+    ensures { IfOk result (λ a. TellsNoticed upcoming.now (zones_of zones.now) window.now files.now
+        (outcome_of a)) }
+{
+    let meant = meant_of(alloc, upcoming, files, crons)?;
+    let answer = told_of(alloc, upcoming, zones, window, files, meant.as_slice())?;
+    let within = upcoming.namespace;
+    let home = has_home(within, files, crons);
+    Ok(with_home_notice(alloc, within, crons, home, answer)?)
+}
+
 // The answer where these lines say which names are unknown.
 fn told_known(
     alloc: Global,
@@ -376,8 +427,7 @@ fn told_known(
         (outcome_of a)) }
 {
     if is_nothing(unknown) {
-        let meant = meant_of(alloc, upcoming, files, crons)?;
-        told_of(alloc, upcoming, zones, window, files, meant.as_slice())
+        told_noticed(alloc, upcoming, zones, window, files, crons)
     } else {
         refused_unknown(alloc, upcoming.explain, unknown)
     }

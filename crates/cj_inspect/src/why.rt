@@ -5,15 +5,17 @@ ghost use Rattle.cj_zone.specs.Table.{local_zone, zones_of};
 ghost use Rattle.cj_zone.specs.Zones.{utc_zone};
 ghost use Rattle.cj_answers.specs.Outcome.{explained, outcome_of, refusal};
 ghost use Rattle.cj_answers.specs.as_json.Forms.{is_json};
-ghost use Rattle.cj_inspect.specs.Why.{IsListReviewed, IsReviewed, IsPrinted, IsWhole, IsWhyAnswer, IsWhyOutcome, PrintsKnown, RefusesCron, is_lines, is_nothing, is_output, meant_of, output_words};
+ghost use Rattle.cj_inspect.specs.Why.{IsListReviewed, IsReviewed, IsPrinted, IsWhole, IsWhyAnswer, IsWhyOutcome, PrintsKnown, RefusesCron, TellsReview, is_lines, is_nothing, is_output, meant_of, output_words};
 
-mod lines;
+pub(crate) mod lines;
 pub(crate) mod naming;
+pub(crate) mod notices;
 mod table;
 
 use crate::as_json::clusters::json_reviewed;
 use crate::why::lines::lines_reviewed;
-use crate::why::naming::{meant_of, unknown_of};
+use crate::why::naming::{meant_of, narrowed, unknown_of};
+use crate::why::notices::with_notices;
 use crate::why::table::table_reviewed;
 use cj_answers::{
     Answer, asked_moment, given_zones, is_json, refused_list, refused_now, refused_pair,
@@ -135,6 +137,25 @@ pub(crate) fn is_nothing(words: &str) -> bool
     words.is_empty()
 }
 
+// With what is told beside it.
+fn noticed_reviewed(
+    alloc: Global,
+    why: &WhyRequest<'_>,
+    zones: &ZoneTable,
+    bytes: &[u8],
+    list: &ClusterList,
+    crons: &[Shared<ClusterCron>],
+    now: Seconds,
+) -> Result<Answer, Failure>
+    requires local { local_zone zones.now ≡ Some (utc_zone (codes "UTC")) }
+    requires all { crons.now ≡ map.values list.now.cluster.crons }
+    ensures { IfOk result (λ a. TellsReview why.now (zones_of zones.now) now list.now
+        (outcome_of a)) }
+{
+    let answer = meant_reviewed(alloc, why, zones, bytes, list, crons, now)?;
+    Ok(with_notices(alloc, why, list, crons, now, answer)?)
+}
+
 // What is answered where these lines tell which are unknown.
 fn known_reviewed(
     alloc: Global,
@@ -152,7 +173,7 @@ fn known_reviewed(
         ⊎ PrintsKnown why.now (zones_of zones.now) now list.now unknown.now (outcome_of a)) }
 {
     if is_nothing(unknown) {
-        meant_reviewed(alloc, why, zones, bytes, list, crons, now)
+        noticed_reviewed(alloc, why, zones, bytes, list, crons, now)
     } else {
         refused_unknown(alloc, why.explain, unknown)
     }
@@ -197,7 +218,10 @@ fn bytes_reviewed(
         (outcome_of a)) }
 {
     match read_cluster(alloc, bytes, zones) {
-        Ok(list) => list_reviewed(alloc, why, zones, bytes, &list, now),
+        Ok(list) => {
+            let list = narrowed(why, list);
+            list_reviewed(alloc, why, zones, bytes, &list, now)
+        }
         Err(fault) => refused_list(alloc, why.explain, bytes, fault),
     }
 }

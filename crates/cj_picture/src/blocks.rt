@@ -20,6 +20,8 @@ pub(crate) enum Look {
     Dropped,
     /// Of one that still runs.
     Open,
+    /// Of one that hasn't ended and is suspended, so that nothing of it runs.
+    Suspended,
 }
 
 /// The bar of a Job, and where it goes.
@@ -81,10 +83,12 @@ fn class_of(block: &Block) -> &'static str {
         (Look::Failed, false) => "fail",
         (Look::Dropped, false) => "drop",
         (Look::Open, false) => "run open",
+        (Look::Suspended, false) => "dim open",
         (Look::Done, true) => "done ill",
         (Look::Failed, true) => "fail ill",
         (Look::Dropped, true) => "drop ill",
         (Look::Open, true) => "run open ill",
+        (Look::Suspended, true) => "dim open ill",
     }
 }
 

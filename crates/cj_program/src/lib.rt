@@ -16,8 +16,13 @@ mod shown;
 mod told;
 mod writing;
 
-pub use cj_answers::{by_clock, next_text};
-pub use cj_args::{CheckRequest, ControlRequest, Request, UpcomingRequest, WordFault, parse_words};
+pub use cj_answers::{
+    JsonInput, by_clock, json_input, marked, nearest_zone, next_text, shape_words,
+};
+pub use cj_args::{
+    CheckRequest, ControlRequest, ReportRequest, Request, UpcomingRequest, WordFault, parse_words,
+    word_tips,
+};
 pub use cj_check::{FileAnswer, check_file_answer};
 pub use cj_inspect::{CronFile, MOST_LIST_BYTES, MOST_LIST_READS};
 pub use cj_io::{
@@ -28,5 +33,5 @@ pub use cj_run::Meter;
 pub use cj_types::{Seconds, Text};
 pub use cj_zone::time_text;
 pub use serving::serve;
-pub use several::{serve_several, serve_upcoming};
+pub use several::{serve_report, serve_several, serve_upcoming};
 pub use told::tell_fault;

@@ -12,7 +12,7 @@ use crate::writing::give;
 use cj_answers::{Answer, Ending, describe_answer, next_answer};
 use cj_args::Request;
 use cj_check::{check_answer, plan_answer};
-use cj_inspect::{audit_answer, upcoming_answer, why_answer};
+use cj_inspect::{audit_answer, report_answer, upcoming_answer, why_answer};
 use cj_io::{ExitStatus, Failure, ZoneFile, tell_failure};
 use cj_run::Meter;
 use std::alloc::Global;
@@ -100,6 +100,11 @@ pub fn serve<T: Threads + Wait + Sync, R: Read, W: Write, E: Write>(
         Request::Describe(describe) => {
             give_answer(describe_answer(alloc, describe, files), out, err)
         }
+        Request::Report(report) => give_answer(
+            report_answer(alloc, report, files, input),
+            out,
+            err,
+        ),
         Request::Control(_) => give_answer(no_answer(), out, err),
     }
 }

@@ -5,13 +5,14 @@ ghost use Rattle.cj_io.specs.declared.exit_status.ExitStatus.TheVariants as Stat
 ghost use Rattle.cj_check.specs.declared.several.FileState.TheVariants.{Unread};
 ghost use Rattle.cj_answers.specs.Outcome.{Outcome};
 ghost use Rattle.cj_check.specs.Several.{has_state, several};
+ghost use Rattle.cj_inspect.specs.Report.{IsReportOutcome};
 ghost use Rattle.cj_inspect.specs.Upcoming.{IsUpcomingFiles};
 ghost use Rattle.cj_program.specs.Writing.{IsGiven};
 
 use crate::serving::give_answer;
-use cj_args::{CheckRequest, UpcomingRequest};
+use cj_args::{CheckRequest, ReportRequest, UpcomingRequest};
 use cj_check::{FileAnswer, FileState, count_of, several_answer};
-use cj_inspect::{CronFile, upcoming_files_answer};
+use cj_inspect::{CronFile, report_files_answer, upcoming_files_answer};
 use cj_io::{ExitStatus, ZoneFile};
 use std::alloc::Global;
 use std::io::Write;
@@ -57,4 +58,22 @@ pub fn serve_upcoming<W: Write, E: Write>(
         out,
         err,
     )
+}
+
+/// Gives what `report` answers of several files that were read, for which these zone files were,
+/// and answers the status, as `serve` does.
+pub fn serve_report<W: Write, E: Write>(
+    alloc: Global,
+    report: &ReportRequest<'_>,
+    files: &[ZoneFile],
+    sources: &[CronFile<'_>],
+    out: &mut W,
+    err: &mut E,
+) -> ExitStatus
+    ensures given { result ≢ Status.Failed → (o : Outcome)
+        × IsReportOutcome report.now files.now o
+        × IsGiven result o (W.contents out.old) (W.contents out.new) (E.contents err.old)
+        (E.contents err.new) }
+{
+    give_answer(report_files_answer(alloc, report, files, sources), out, err)
 }

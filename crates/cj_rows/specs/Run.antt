@@ -1,9 +1,10 @@
 -- What a row's run gives: what the program answers to its words and input.
-use Rattle.std.specs.Prelude.{◌≡◌, ◌≢◌, ◌⊎◌, ℕ, List, [], ◌∷◌, None, Some, codes}
+use Rattle.std.specs.Prelude.{◌≡◌, ◌≢◌, ◌⊎◌, ℕ, List, [], ◌∷◌, ◌++◌, None, Some, codes}
 use Rattle.cj_io.specs.declared.exit_status.ExitStatus.{ExitStatus}
 use Rattle.cj_io.specs.declared.exit_status.ExitStatus.TheVariants.{Failed}
 use Rattle.cj_program.specs.Answers.{IsOutcome}
 use Rattle.cj_args.specs.Command.{IsOf, RefusesWords, file_of}
+use Rattle.cj_answers.specs.Inputs.{IsTaken}
 use Rattle.cj_answers.specs.Outcome.{Outcome, status_of}
 use Rattle.cj_program.specs.Told.{Telling, Tells}
 use Rattle.cj_args.specs.declared.request.ControlRequest.{ControlRequest}
@@ -21,23 +22,30 @@ pub record Given : Type 0 where
 abbrev pub given_of : Seen → Given
 given_of s = record { status = s.status; printed = s.printed.items; said = s.said.items }
 
--- an outcome of the request on that input, with no zone file read for it
-pub record IsOutcomeOf (request : Request) (input : List ℕ) (g : Given) : Type 0 where
+-- an outcome of the request on that input, with no zone file read for it; on standard error those
+-- words are before what is said
+pub record IsOutcomeOf (request : Request) (input words : List ℕ) (g : Given) : Type 0 where
   pub outcome : Outcome
   pub answer : IsOutcome request [] (Some input) outcome
   pub status : g.status ≡ status_of outcome.ending
   pub printed : g.printed ≡ outcome.printed
-  pub said : g.said ≡ outcome.said
+  pub said : g.said ≡ words ++ outcome.said
+
+-- another status than that of a failure comes with its outcome on what is taken for the input
+pub record IsServed (request : Request) (input : List ℕ) (g : Given) : Type 0 where
+  pub taken : List ℕ
+  pub words : List ℕ
+  pub takes : IsTaken input taken words
+  pub served : g.status ≢ Failed → IsOutcomeOf request taken words g
 
 -- a request for a controller, of which no clause says what it writes
 abbrev pub IsControl : Request → Type 0
 IsControl request = (r : ControlRequest) × (request ≡ Control r)
 
--- the request reads no file by its name, and another status than that of a failure comes with its
--- outcome, unless it is for a controller
+-- the request reads no file by its name, and is served so, unless it is for a controller
 pub record IsAnswered (request : Request) (input : List ℕ) (g : Given) : Type 0 where
   pub file : (file_of request ≡ None) ⊎ (file_of request ≡ Some (codes "-"))
-  pub outcome : (g.status ≢ Failed → IsOutcomeOf request input g) ⊎ IsControl request
+  pub outcome : IsServed request input g ⊎ IsControl request
 
 -- what words get that are no request
 pub record IsTelling (fault : WordFault) (g : Given) : Type 0 where

@@ -1,17 +1,20 @@
 //! Runs the golden rows of data, and says which of them differ: the program on the words and input
 //! of each, beside the output, the error text and the status that the row wants. The files that
 //! hold the rows are its arguments. Rows show the texts that no clause fixes; what they are checked
-//! by is stated in `specs/`.
+//! by is stated in `specs/`. Where the first argument is `hub`, it makes the calls of a hub instead
+//! for which the tests refuse memory.
 #![tactic(auto)]
 
 mod control;
 mod fault;
 mod golden;
+mod hub;
 mod row;
 mod run;
 mod tally;
 
 use golden::check_text;
+use hub::{NOTHING, hub_status};
 use std::io;
 use std::io::Write;
 use std::process::ExitCode;
@@ -40,13 +43,15 @@ fn check_file<T: Threads + Wait + Sync>(
 }
 
 // Checks the rows of all the files, and answers whether none differs.
-fn check_all<T: Threads + Wait + Sync>(threads: &T, rt: &HostRuntime) -> io::Result<bool> {
-    let alloc = rt.alloc();
-    let args: Vec<String> = std::env::args(rt)?.collect(alloc)?;
+fn check_all<T: Threads + Wait + Sync>(
+    threads: &T,
+    rt: &HostRuntime,
+    args: &[String],
+) -> io::Result<bool> {
     let mut tally = Tally {
         ran: 0,
         differed: 0,
-        report: Vec::new(alloc),
+        report: Vec::new(rt.alloc()),
     };
     let mut are_whole = true;
     for file in args.iter().skip(1) {
@@ -58,10 +63,35 @@ fn check_all<T: Threads + Wait + Sync>(threads: &T, rt: &HostRuntime) -> io::Res
     Ok(are_whole && tally.differed == 0)
 }
 
-fn main(rt: HostRuntime) -> ExitCode {
-    match check_all(&rt, &rt) {
+fn arguments(rt: &HostRuntime) -> Option<Vec<String>> {
+    let args = std::env::args(rt).ok()?;
+    args.collect(rt.alloc()).ok()
+}
+
+// The exit status of the calls of a hub.
+fn hub_code(rt: &HostRuntime, words: &[String]) -> ExitCode {
+    match hub_status(rt, rt, words) {
+        Ok(status) => ExitCode::from(status),
+        Err(_) => ExitCode::from(NOTHING),
+    }
+}
+
+// The exit status of the rows in the files.
+fn rows_code(rt: &HostRuntime, words: &[String]) -> ExitCode {
+    match check_all(rt, rt, words) {
         Ok(true) => ExitCode::SUCCESS,
         Ok(false) => ExitCode::from(1),
         Err(_) => ExitCode::from(3),
+    }
+}
+
+fn main(rt: HostRuntime) -> ExitCode {
+    let Some(words) = arguments(&rt) else {
+        return ExitCode::from(NOTHING);
+    };
+    let words = words.as_slice();
+    match words.get(1) {
+        Some(word) if word.as_str() == "hub" => hub_code(&rt, words),
+        _ => rows_code(&rt, words),
     }
 }

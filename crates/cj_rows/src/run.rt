@@ -1,5 +1,6 @@
 // Running a row.
-ghost use Rattle.std.specs.Prelude.{◌≡◌, ◌≢◌, ◌⊎◌, map, None, Some, IfOk, OnOk, codes};
+ghost use Rattle.std.specs.Prelude.{◌≡◌, ◌≢◌, ◌⊎◌, map, None, Some, IfOk, OnOk, codes, string_bytes};
+ghost use Rattle.cj_answers.specs.Inputs.{IsTaken};
 ghost use Rattle.cj_args.specs.Command.{file_of};
 ghost use Rattle.cj_rows.specs.Row.{stated_of};
 ghost use Rattle.cj_io.specs.declared.exit_status.ExitStatus.TheVariants.{Failed};
@@ -8,7 +9,9 @@ ghost use Rattle.cj_rows.specs.Run.{IsAnswered, IsOutcomeOf, IsRun, IsRunOf, IsT
 use crate::control::controlled;
 use crate::fault::Fault;
 use crate::row::Row;
-use cj_program::{ExitStatus, Meter, Request, WordFault, parse_words, serve, tell_fault};
+use cj_program::{
+    ExitStatus, JsonInput, Meter, Request, WordFault, json_input, parse_words, serve, tell_fault,
+};
 use std::alloc::Global;
 use std::sync::Wait;
 use std::thread::Threads;
@@ -38,18 +41,28 @@ fn reads_input(request: &Request<'_>) -> Result<(), Fault>
     }
 }
 
-// What a request is answered on that input.
+// What is taken for that input.
+fn taken(alloc: Global, input: &str) -> Result<JsonInput, Fault>
+    ensures { IfOk result (λ t. IsTaken input.now t.bytes.items (string_bytes t.said)) }
+{
+    let bytes = Vec::from_slice(alloc, input.as_bytes())?;
+    json_input(alloc, bytes).map_err(|_| Fault::Memory)
+}
+
+// What a request is answered on what is taken for its input, behind those words.
 fn served<T: Threads + Wait + Sync>(
     rt: &T,
     alloc: Global,
     request: &Request<'_>,
-    input: &str,
+    taken: JsonInput,
 ) -> Seen
-    ensures { result.status ≢ Failed → IsOutcomeOf request.now input.now (given_of result) }
+    ensures { result.status ≢ Failed → IsOutcomeOf request.now taken.bytes.items
+        (string_bytes taken.said) (given_of result) }
 {
-    let mut input: &[u8] = input.as_bytes();
+    let JsonInput { bytes, said } = taken;
+    let mut input: &[u8] = bytes.as_slice();
     let mut printed = Vec::new(alloc);
-    let mut said = Vec::new(alloc);
+    let mut said = said.into_bytes();
     let status = serve(
         rt,
         alloc,
@@ -80,7 +93,7 @@ fn answered<T: Threads + Wait + Sync>(
     if let Request::Control(control) = request {
         return Ok(controlled(alloc, control, input));
     }
-    Ok(served(rt, alloc, request, input))
+    Ok(served(rt, alloc, request, taken(alloc, input)?))
 }
 
 // What words get that are no request.

@@ -35,10 +35,15 @@ use Rattle.cj_worker.specs.Zoned.{zone_for}
 use Rattle.cj_history.specs.progress.Every.{looked_upto}
 use Rattle.cj_history.specs.progress.Apart.{Holds, IsFree, ClaimsOnTime, Spares, KeepsApart, KeepApart, IsClock, HaveSynced}
 use Rattle.cj_history.proofs.ProgressLemmas.Makers.{Good, earlier}
-use Rattle.cj_history.proofs.ProgressLemmas.Since.{fresh_new, every_time_since}
+use Rattle.cj_history.proofs.ProgressLemmas.Since.{Fresh, fresh_new, every_time_since}
 use Rattle.cj_history.proofs.ProgressLemmas.Apart.{syncs_go_on}
 use Rattle.cj_history.proofs.ProgressLemmas.Spared.{is_users, no_user, cron_spared, job_spared}
 use Rattle.cj_script.specs.simulation.Spans.{SpanView, instant}
+use Rattle.cj_script.specs.declared.simulation.scenario.Simulation.{Simulation}
+use Rattle.cj_world.specs.Worlds.{WorldLog}
+use Rattle.cj_schedule.specs.Matches.{Sets}
+use Rattle.cj_history.specs.progress.Every.{IsNew}
+use Rattle.cj_run.specs.Runs.{IsRun}
 use Rattle.cj_run.specs.Syncs.{moment, HasFreeName, IsUntroubled, AreUntroubled, AreSyncs, RunSyncs}
 use Rattle.cj_run.specs.Turns.{are_timely, begins, edits, ends, is_before, is_moment, is_timely, is_within, progress, progress_of, turn}
 use Rattle.cj_run.specs.Upkeep.{ComesToRest, KeepsUp, is_over_with}
@@ -70,7 +75,7 @@ later_instant s m n l =
     omega (arith, j)
 
 -- So the clock of a run doesn't go back.
-is_clock : (s : SpanView) → IsClock (moment s)
+pub is_clock : (s : SpanView) → IsClock (moment s)
 is_clock s e h =
     later_instant s (turn s h) (turn s (e ∷ h))
     (turns_on (progress_of s h) (begins s (progress_of s h) e.caller.role e.call) (ends e.caller.role e.call)
@@ -118,15 +123,15 @@ rests_front window s e h rests later before x is over =
     rests (e ∷ later) before x (ap (λ (y : List Told). e ∷ y) is) over
 
 -- Where the world is at rest nobody has a sync.
-none_at_rest : (window : ℕ) (h : List Told) → IsLegal window h → IsAtRest (state_of window h) → (n : ℕ)
+pub none_at_rest : (window : ℕ) (h : List Told) → IsLegal window h → IsAtRest (state_of window h) → (n : ℕ)
     → sync h n ≡ None
 none_at_rest window h l rest n =
     sym (syncs_agree window h l n) ∙ ap (λ m. map.get m n) rest.1 ∙ map.get-empty nat_cmp n
 
 -- Where an entry ends an instant that goes on, nobody had a sync.
-none_over : (window : ℕ) (s : SpanView) (e : Told) (h : List Told) → IsLegal window (e ∷ h)
+pub none_over : (window : ℕ) (s : SpanView) (e : Told) (h : List Told) → IsLegal window (e ∷ h)
     → ComesToRest window s (e ∷ h) → is_over_with s (progress_of s h) e ≡ true → (n : ℕ) → sync h n ≡ None
-none_over window s e h l rests over = none_at_rest window h l.2 (rests [] h e refl over)
+none_over window s e h l rests over = none_at_rest window h l.2 (rests [] h e refl over).rest
 
 -- For none_off: by what the entry begins and ends.
 off_more : (window : ℕ) (s : SpanView) (e : Told) (h : List Told) → IsLegal window (e ∷ h)
@@ -156,7 +161,7 @@ off_more window s e h l timely rests before false false true was b o off = λ n.
     unmoved window e h l (inl (no_worker e.caller.role e.call o)) n ∙ before was n
 
 -- Between two instants nobody has a sync.
-none_off : (window : ℕ) (s : SpanView) (h : List Told) → IsLegal window h → are_timely s h ≡ true
+pub none_off : (window : ℕ) (s : SpanView) (h : List Told) → IsLegal window h → are_timely s h ≡ true
     → ComesToRest window s h → (progress_of s h).on ≡ false → (n : ℕ) → sync h n ≡ None
 none_off window s [] l timely rests off n = refl
 none_off window s (e ∷ h) l timely rests off n =
@@ -307,8 +312,8 @@ module _ (window : ℕ) (s : SpanView) (zones : ZoneTable) (k : Place) (cron : C
 -- ---- the whole run
 
 -- Who keeps up comes to rest.
-rests_of : (window : ℕ) (s : SpanView) (h : List Told) → KeepsUp window s h → ComesToRest window s h
-rests_of window s h keeps later before e is over = (keeps later before e is over).rest
+pub rests_of : (window : ℕ) (s : SpanView) (h : List Told) → KeepsUp window s h → ComesToRest window s h
+rests_of window s h keeps later before e is over = (keeps later before e is over).settled
 
 -- The creation of a CronJob is a user's call.
 by_user : (window : ℕ) (e : Told) (h : List Told) (d : CronJobDraft) (now : ℕ) (r : Reply) → IsLegal window (e ∷ h)
@@ -344,9 +349,27 @@ rests_back : (window : ℕ) (s : SpanView) (more h : List Told) → ComesToRest 
 rests_back window s [] h r = r
 rests_back window s (e ∷ more) h r = rests_back window s more h (rests_front window s e (more ++ h) r)
 
--- For syncs_law: a CronJob that no entry troubles has whole syncs.
-pub run_syncs : RunSyncs
-run_syncs c workers w text start more k cron s z run is short new created zone calm =
+-- what is known of a run and of a CronJob that is created with start, and which no entry troubles
+-- from then on
+pub record Alone (window : ℕ) (s : SpanView) (start more : List Told) (k : Place) (cron : CronJob) (sets : Sets)
+    (z : Zone) : Type 0 where
+  pub good : Good window (more ++ start)
+  pub timely : are_timely s (more ++ start) ≡ true
+  pub keeps : KeepsUp window s (more ++ start)
+  pub off : (progress_of s (more ++ start)).on ≡ false
+  pub fresh : Fresh window start k cron sets
+  pub low : looked_upto cron [] ≤ moment s start
+  pub free : IsFree k start
+  pub over : IsFree k (more ++ start)
+  pub apart : KeepApart window k cron z (moment s) more start
+
+-- That is known of it.
+pub alone : (c : Simulation) (workers : ℕ) (w : WorldLog) (text : List ℕ) (start more : List Told) (k : Place)
+    (cron : CronJob) (s : Sets) (z : Zone) → IsRun c workers w text → w.history ≡ more ++ start
+    → length w.history ≤ last_uid → IsNew start k cron s → cron.meta.created ≤ moment c.span start
+    → zone_for c.zones (Some cron) ≡ Some z → AreUntroubled w.limits.window k more start
+    → Alone w.limits.window c.span start more k cron s z
+alone c workers w text start more k cron s z run is short new created zone calm =
     let window : ℕ = w.limits.window in
     let g : List Told = more ++ start in
     let good : Good window g = record {
@@ -355,29 +378,42 @@ run_syncs c workers w text start more k cron s z run is short new created zone c
       planned = subst ArePlanned is run.promise.planned;
     } in
     let timely : are_timely c.span g ≡ true = sym (ap (are_timely c.span) is) ∙ run.time.timely in
-    let rests : ComesToRest window c.span g =
-    subst (ComesToRest window c.span) is (rests_of window c.span w.history run.keeps_up) in
+    let keeps : KeepsUp window c.span g = subst (KeepsUp window c.span) is run.keeps_up in
+    let rests : ComesToRest window c.span g = rests_of window c.span g keeps in
+    let off : (progress_of c.span g).on ≡ false =
+    sym (ap (λ (h : List Told). (progress_of c.span h).on) is) ∙ run.time.over in
     let old : Good window start = earlier window more start good in
     let fresh = fresh_new window start k cron s old new in
-    let low : looked_upto cron [] ≤ moment c.span start =
-    subst (λ (o : Option ℕ). unwrap_or o cron.meta.created ≤ moment c.span start) (sym fresh.last) created in
-    let free : IsFree k start =
-    subst (IsFree k) (sym new.is)
-    (none_new window c.span new.creation new.before (subst (IsLegal window) new.is old.legal)
-    (sym (ap (are_timely c.span) new.is) ∙ timely_front c.span more start timely)
-    (subst (ComesToRest window c.span) new.is (rests_back window c.span more start rests))
-    (by_user window new.creation new.before new.draft new.now (Say.Cron cron)
-    (subst (IsLegal window) new.is old.legal) new.call new.answer) k) in
-    let over : IsFree k g = λ n f.
-    cc (sym f.sync ∙ none_off window c.span g good.legal timely rests
-    (sym (ap (λ (h : List Told). (progress_of c.span h).on) is) ∙ run.time.over) n.number) in
+    record {
+      good = good;
+      timely = timely;
+      keeps = keeps;
+      off = off;
+      fresh = fresh;
+      low = subst (λ (o : Option ℕ). unwrap_or o cron.meta.created ≤ moment c.span start) (sym fresh.last) created;
+      free = subst (IsFree k) (sym new.is)
+          (none_new window c.span new.creation new.before (subst (IsLegal window) new.is old.legal)
+          (sym (ap (are_timely c.span) new.is) ∙ timely_front c.span more start timely)
+          (subst (ComesToRest window c.span) new.is (rests_back window c.span more start rests))
+          (by_user window new.creation new.before new.draft new.now (Say.Cron cron)
+          (subst (IsLegal window) new.is old.legal) new.call new.answer) k);
+      over = λ n f. cc (sym f.sync ∙ none_off window c.span g good.legal timely rests off n.number);
+      apart = keep_apart window c.span c.zones k cron z zone more start good timely rests
+          (subst (AreZoned c.zones) is run.zones) calm;
+    }
+
+-- For run_syncs_law: a CronJob that no entry troubles has whole syncs.
+pub run_syncs : RunSyncs
+run_syncs c workers w text start more k cron s z run is short new created zone calm =
+    let window : ℕ = w.limits.window in
+    let g : List Told = more ++ start in
+    let a : Alone window c.span start more k cron s z =
+    alone c workers w text start more k cron s z run is short new created zone calm in
     let syncs : HaveSynced window k cron z (moment c.span g) start g =
-    syncs_go_on window start more k cron s z (moment c.span) good.short good.legal good.planned fresh.begun free over
-    (is_clock c.span) low
-    (keep_apart window c.span c.zones k cron z zone more start good timely rests
-    (subst (AreZoned c.zones) is run.zones) calm) in
+    syncs_go_on window start more k cron s z (moment c.span) a.good.short a.good.legal a.good.planned a.fresh.begun
+    a.free a.over (is_clock c.span) a.low a.apart in
     subst (λ (h : List Told). AreSyncs window k cron s z (moment c.span h) start h) (sym is) (record {
       are = syncs;
-      made = every_time_since window start g k cron s z syncs.moments good.short good.legal good.planned new syncs.on
-          syncs.synced;
+      made = every_time_since window start g k cron s z syncs.moments a.good.short a.good.legal a.good.planned new
+          syncs.on syncs.synced;
     })

@@ -146,12 +146,12 @@ pub keeps_up : (window : ℕ) (s : SpanView) (h : List Told) → IsLegal window 
 keeps_up window s h l rests later before e is over =
     let l' : IsLegal window before =
     legal_front window later e before (subst (λ (x : List Told). IsLegal window x) is l) in
-    let rest = rests later before e is over in
+    let settled = rests later before e is over in
     let told = told_up window s before l' (begun_on s before (both_left (progress_of s before).on _ over)) in
     record {
-      rest = rest;
+      settled = settled;
       due = λ k t done.
           after_it (instant s (turn s before - 1)) t (mark (operations before)) told (λ le.
-          none_lined (state_of window before).queue.row.line k rest.0
+          none_lined (state_of window before).queue.row.line k settled.rest.0
           ((none_lost window before l').due k t done le));
     }

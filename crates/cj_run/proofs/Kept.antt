@@ -1,17 +1,18 @@
 -- What is known of the work of a run, entry by entry.
-use Rattle.std.proofs.Common.{◌≡◌, ◌∙◌, ◌+◌, ◌<◌, ◌&&◌, ◌||◌, ℕ, ◌==◌, Bool, true, false, List, [], ◌∷◌, ◌++◌, Option, Some, None, get_or, length, take, refl, sym, ap, subst, arith}
-use Rattle.std.specs.Prelude.{IsTrue, Result, Ok, Err, if◌then◌else◌, not}
+use Rattle.std.proofs.Common.{◌≡◌, ◌∙◌, ◌+◌, ◌<◌, ◌≤◌, ◌&&◌, ℕ, ◌==◌, Bool, true, false, List, [], ◌∷◌, ◌++◌, Option, Some, None, get_or, length, take, map as map_list, refl, sym, ap, subst, arith}
+use Rattle.std.specs.Prelude.{IsTrue, Result, Ok, Err, if◌then◌else◌}
 use mathlib.Core.List.{reverse}
 use Rattle.std.specs.FinMap as map
-use Rattle.std.specs.FinMap.{same_map, nat_cmp-IsAntisymmetric}
+use Rattle.std.specs.FinMap.{get-entries, same_map, nat_cmp-IsAntisymmetric}
 use Rattle.std.specs.BTreeMap as tree
 use Rattle.std.specs.Map.{lookup}
 use Rattle.std.specs.Ordering.{nat_cmp}
 use Rattle.std.specs.Cmp.{nat_cmp_total}
 use Rattle.std.proofs.lemmas.Bool.{eqb-true, false≢true}
-use Rattle.std.proofs.lemmas.List.{reverse-append, take_more}
+use Rattle.std.proofs.lemmas.List.{reverse-append, take_all, take_more}
 use Rattle.cj_base.specs.declared.refusal.Refusal.{Refusal}
-use Rattle.cj_types.specs.Keys.{Place}
+use Rattle.cj_types.specs.Keys.{Place, place_cmp}
+use Rattle.cj_types.specs.declared.cron.CronJobDraft.{CronJobDraft}
 use Rattle.cj_types.specs.declared.job.Job.{Job}
 use Rattle.cj_queue.specs.Queue.{Queue, first, new_queue}
 use Rattle.cj_calls.specs.Rows.{Told}
@@ -34,7 +35,7 @@ use Rattle.cj_history.proofs.QueueLemmas.Turns as calls
 use Rattle.cj_history.proofs.QueueLemmas.Turns.{key_of, turns}
 use Rattle.cj_script.specs.simulation.Spans.{SpanView}
 use Rattle.cj_run.specs.Turns.{progress, progress_after, progress_of}
-use Rattle.cj_run.specs.Upkeep.{ComesToRest, Goes, IsIdle, Knows, Looks, Sets, Turns, hand_after, hand_by, hand_of, holds, is_over_with, queue_after}
+use Rattle.cj_run.specs.Upkeep.{ComesToRest, Drafts, Goes, IsClear, IsIdle, IsSettled, Knows, Looks, Sets, Turns, hand_after, hand_by, hand_of, holds, is_over_with, queue_after, untaken_by}
 use Rattle.cj_run.specs.declared.turns.Progress.{Progress}
 use Rattle.cj_run.specs.declared.upkeep.Hand.{Hand}
 use Rattle.cj_run.specs.declared.upkeep.Upkeep.{Upkeep}
@@ -177,6 +178,24 @@ at_rest window h w l k idle = (
       ∙ sym (map.get-empty nat_cmp n)),
 )
 
+-- Where nothing is left, the world is settled.
+settled : (window : ℕ) (s : SpanView) (h : List Told) (v : Upkeep) → IsLegal window h → Looks s v h → IsClear v
+    → IsSettled window h
+settled window s h v l k clear = record {
+  rest = at_rest window h v.work l (k.knows window l) clear.idle;
+  runs = ap (λ (q : Queue). q.shut) (sym (k.knows window l).queue) ∙ clear.idle.runs;
+  taken = λ q. ap (λ (m : Drafts). map.get m q) (sym k.untaken_is) ∙ clear.taken q;
+}
+
+-- For none_untaken: a map without values has nothing at any key.
+pub none_at : (m : Drafts) → length (map.values m) ≡ 0 → (k : Place) → map.get m k ≡ None
+none_at m none k = get-entries m k ∙ by (map.entries m) none
+  where
+    by : (es : List (Place × CronJobDraft)) → length (map_list (λ (e : Place × CronJobDraft). e.1) es) ≡ 0
+        → map.find place_cmp k es ≡ None
+    by [] e = refl
+    by (x ∷ es) e = absurd (omega (arith, e))
+
 -- For no_line: a list without a first key is empty.
 pub none_first : (xs : List Place) → None ≡ first xs → xs ≡ []
 none_first [] e = refl
@@ -193,49 +212,50 @@ none_held hands none n = by hands.entries none
 -- ---- what was seen
 
 -- the first of a list
-abbrev head_of : Told → List Told → Told
+abbrev pub head_of : Told → List Told → Told
 head_of d [] = d
 head_of d (x ∷ xs) = x
 
 -- all but the first
-abbrev tail_of : List Told → List Told
+abbrev pub tail_of : List Told → List Told
 tail_of [] = []
 tail_of (x ∷ xs) = xs
 
--- A run that kept up so far does with one entry more, where the world is at rest if an instant is over with it.
+-- A run that kept up so far does with one entry more, where the world is settled if an instant is over with it.
 keeps_more : (window : ℕ) (s : SpanView) (h : List Told) (e : Told) → ComesToRest window s h
-    → (is_over_with s (progress_of s h) e ≡ true → IsAtRest (state_of window h)) → ComesToRest window s (e ∷ h)
+    → (is_over_with s (progress_of s h) e ≡ true → IsSettled window h) → ComesToRest window s (e ∷ h)
 keeps_more window s h e k rest [] before x is over =
     let t : h ≡ before = ap tail_of is in
     let d : e ≡ x = ap (head_of e) is in
-    subst (λ (b : List Told). IsAtRest (state_of window b)) t
+    subst (λ (b : List Told). IsSettled window b) t
     (rest (ap (λ (b : List Told). is_over_with s (progress_of s b) e) t
     ∙ ap (λ (y : Told). is_over_with s (progress_of s before) y) d ∙ over))
 keeps_more window s h e k rest (y ∷ later) before x is over = k later before x (ap tail_of is) over
 
 -- For look_more: what a test that still passes says.
-kept_parts : (kept over idle : Bool) → IsTrue (kept && (not over || idle)) → IsTrue kept × (over ≡ true → IsTrue idle)
-kept_parts true true idle t = (refl, λ _. t)
-kept_parts true false idle t = (refl, λ e. absurd (false≢true e))
-kept_parts false over idle t = absurd (false≢true t)
+kept_parts : (kept clear : Bool) → IsTrue (kept && clear) → IsTrue kept × IsTrue clear
+kept_parts true clear t = (refl, t)
+kept_parts false clear t = absurd (false≢true t)
 
 -- For Upkeep::see: what was seen is of the history with one entry more.
-pub look_more : (s : SpanView) (e : Told) (h : List Told) (v v' : Upkeep) (over idle : Bool)
+pub look_more : (s : SpanView) (e : Told) (h : List Told) (v v' : Upkeep) (over clear : Bool)
     → over ≡ is_over_with s v.progress e
-    → (IsTrue idle → IsIdle v.work)
-    → v'.kept ≡ (v.kept && (not over || idle))
+    → (IsTrue clear → over ≡ true → IsClear v)
+    → v'.kept ≡ (v.kept && clear)
     → Goes e.caller.number e.call e.answer v.work v'.work
+    → v'.untaken ≡ untaken_by v.untaken e.call e.answer
     → v'.progress ≡ progress_after s v.progress e.caller.role e.call
     → Looks s v h
     → Looks s v' (e ∷ h)
-look_more s e h v v' over idle is rest kept goes went k = record {
+look_more s e h v v' over clear is left kept goes noted went k = record {
   progress = went ∙ ap (λ (p : Progress). progress_after s p e.caller.role e.call) k.progress;
   knows = λ window l. knows_more window e h v.work v'.work l goes (k.knows window l.2);
+  untaken_is = noted ∙ ap (λ (m : Drafts). untaken_by m e.call e.answer) k.untaken_is;
   kept = λ t window l.
-      let parts = kept_parts v.kept over idle (sym kept ∙ t) in
+      let parts = kept_parts v.kept clear (sym kept ∙ t) in
       keeps_more window s h e (k.kept parts.0 window l.2) (λ o.
-      at_rest window h v.work l.2 (k.knows window l.2)
-      (rest (parts.1 (is ∙ ap (λ (p : Progress). is_over_with s p e) k.progress ∙ o))));
+      settled window s h v l.2 k
+      (left parts.1 (is ∙ ap (λ (p : Progress). is_over_with s p e) k.progress ∙ o)));
 }
 
 -- For Work::step: what was taken from its place, and put there again.
@@ -258,16 +278,18 @@ turns_it number call reply v w between hand is cut turned put = record {
     over false x y e = e
 
 -- No entry is one of none.
-no_entry : (later before : List Told) (e : Told) → [] ≡ later ++ e ∷ before → ⊥
+pub no_entry : (later before : List Told) (e : Told) → [] ≡ later ++ e ∷ before → ⊥
 no_entry [] before e is = cc (is)
 no_entry (y ∷ later) before e is = cc (is)
 
 -- For comes_to_rest: before the first entry.
 pub look_none : (s : SpanView) (v : Upkeep) → v.progress ≡ progress 0 false false → v.work.queue ≡ new_queue
     → ((n : ℕ) → hand_by v.work.hands n ≡ None)
+    → v.untaken ≡ map.empty
     → Looks s v []
-look_none s v begun queue hands = record {
+look_none s v begun queue hands none = record {
   progress = begun;
+  untaken_is = none;
   knows = λ window l. record { queue = queue; hands = hands };
   kept = λ t window l later before e is over. absurd (no_entry later before e is);
 }
@@ -281,3 +303,9 @@ look_on s i es e v lt is k =
     ap (λ (xs : List Told). reverse xs) (take_more es i e lt ∙ ap (λ (x : Told). take i es ++ x ∷ []) (sym is))
     ∙ reverse-append (take i es) (e ∷ []) in
     subst (λ (h : List Told). Looks s v h) (sym more) k
+
+-- For comes_to_rest: with all entries, the whole history was seen.
+pub rests_whole : (s : SpanView) (i : ℕ) (es : List Told) (v : Upkeep) → length es ≤ i → Looks s v (reverse (take i es))
+    → IsTrue v.kept → (window : ℕ) → IsLegal window (reverse es) → ComesToRest window s (reverse es)
+rests_whole s i es v all k kept window l =
+    (subst (λ (xs : List Told). Looks s v (reverse xs)) (take_all i es all) k).kept kept window l

@@ -9,3 +9,4 @@ pub mod Noted
 pub mod Reported
 pub mod Went
 pub mod Apart
+pub mod Ahead

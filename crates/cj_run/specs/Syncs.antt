@@ -1,13 +1,16 @@
 -- That a run keeps up with a CronJob to the end: its syncs are whole ones that nobody disturbs, one
 -- after the other, so that the Jobs that are made for it are known (cj_history, Every).
-use Rattle.std.specs.Prelude.{◌≡◌, ℕ, ◌-◌, ◌≤◌, true, List, [], ◌∷◌, ◌++◌, length, Some, None, IfSome}
+use Rattle.std.specs.Prelude.{◌≡◌, ◌≢◌, ℕ, ◌+◌, ◌-◌, ◌≤◌, true, List, [], ◌∷◌, ◌++◌, length, Some, None, IfSome}
+use mathlib.Core.List.{reverse}
 use Rattle.std.specs.FinMap as map
 use Rattle.cj_types.specs.Keys.{Place}
 use Rattle.cj_types.specs.Made.{made_place}
 use Rattle.cj_types.specs.Uids.{last_uid}
 use Rattle.cj_types.specs.declared.cron.CronJob.{CronJob}
+use Rattle.cj_types.specs.declared.policy.Policy.TheVariants.{Forbid}
 use Rattle.cj_schedule.specs.Matches.{Sets}
 use Rattle.cj_zone.specs.declared.zone.Zone.{Zone}
+use Rattle.cj_due.specs.Due.{reach, missed_times}
 use Rattle.cj_store.specs.Content.{Content}
 use Rattle.cj_calls.specs.Rows.{Told}
 use Rattle.cj_calls.specs.declared.call.Call.{Call}
@@ -17,8 +20,9 @@ use Rattle.cj_state.specs.Legal.{state_of}
 use Rattle.cj_world_laws.specs.once.Once.{is_ok}
 use Rattle.cj_world.specs.Worlds.{WorldLog}
 use Rattle.cj_worker.specs.Zoned.{zone_for}
-use Rattle.cj_history.specs.progress.Every.{name_of, made_for, AreLatest, IsNew}
+use Rattle.cj_history.specs.progress.Every.{name_of, made_for, AreLatest, IsNew, IsAmple, EndInTime}
 use Rattle.cj_history.specs.progress.Apart.{Holds, EndsWell, Spares, HaveSynced}
+use Rattle.cj_history.specs.progress.Prompt.{HaveKeptUp, NoneForbidden}
 use Rattle.cj_script.specs.simulation.Spans.{SpanView, instant}
 use Rattle.cj_script.specs.declared.simulation.scenario.Simulation.{Simulation}
 use Rattle.cj_run.specs.Runs.{IsRun}
@@ -74,3 +78,63 @@ RunSyncs = (c : Simulation) (workers : ℕ) (w : WorldLog) (text : List ℕ) (st
     → IsNew start k cron s → cron.meta.created ≤ moment c.span start
     → zone_for c.zones (Some cron) ≡ Some z → AreUntroubled w.limits.window k more start
     → AreSyncs w.limits.window k cron s z (moment c.span w.history) start w.history
+
+-- ---- each due time
+
+-- in a run whose instants are at most a minute apart the CronJob is created at the moment of one,
+-- at most 3,000 days before the last; its zone is the one of the scenario's table, and no entry
+-- troubles it
+-- rule: run-due-times
+pub record RunsUntroubled (c : Simulation) (workers : ℕ) (w : WorldLog) (text : List ℕ)
+    (start more : List Told) (k : Place) (cron : CronJob) (s : Sets) (z : Zone) : Type 0 where
+  pub run : IsRun c workers w text
+  pub is : w.history ≡ more ++ start
+  pub short : length w.history ≤ last_uid
+  pub new : IsNew start k cron s
+  pub created : cron.meta.created ≡ moment c.span start
+  pub zone : zone_for c.zones (Some cron) ≡ Some z
+  pub calm : AreUntroubled w.limits.window k more start
+  pub minute : c.span.step ≤ 60
+  pub within : moment c.span w.history ≤ cron.meta.created + reach
+
+-- then its syncs keep up with the clock
+-- rule: run-due-times
+abbrev pub RunKeepsUp : Type 0
+RunKeepsUp = (c : Simulation) (workers : ℕ) (w : WorldLog) (text : List ℕ) (start more : List Told)
+    (k : Place) (cron : CronJob) (s : Sets) (z : Zone)
+    → RunsUntroubled c workers w text start more k cron s z
+    → HaveKeptUp w.limits.window k cron s z (moment c.span w.history) start w.history
+
+-- and the Jobs that are made for it are one for each due time from its creation up to the last
+-- instant, in their order, and no others: if its policy isn't Forbid, and its deadline not under a
+-- minute
+-- rule: run-due-times
+abbrev pub RunMakesEach : Type 0
+RunMakesEach = (c : Simulation) (workers : ℕ) (w : WorldLog) (text : List ℕ)
+    (start more : List Told) (k : Place) (cron : CronJob) (s : Sets) (z : Zone)
+    → RunsUntroubled c workers w text start more k cron s z
+    → cron.spec.policy ≢ Forbid → IsAmple cron.spec.starting_deadline_seconds
+    → reverse (made_for w.limits.window cron.meta.uid w.history)
+    ≡ missed_times s z cron.meta.created (moment c.span w.history)
+
+-- and under any policy, if no sync of it told that a Job runs already
+-- rule: run-due-times
+abbrev pub RunMakesEachAllowed : Type 0
+RunMakesEachAllowed = (c : Simulation) (workers : ℕ) (w : WorldLog) (text : List ℕ)
+    (start more : List Told) (k : Place) (cron : CronJob) (s : Sets) (z : Zone)
+    → RunsUntroubled c workers w text start more k cron s z
+    → IsAmple cron.spec.starting_deadline_seconds → NoneForbidden k start w.history
+    → reverse (made_for w.limits.window cron.meta.uid w.history)
+    ≡ missed_times s z cron.meta.created (moment c.span w.history)
+
+-- and if each Job ended before the next due time
+-- rule: run-due-times
+abbrev pub RunMakesEachEnded : Type 0
+RunMakesEachEnded = (c : Simulation) (workers : ℕ) (w : WorldLog) (text : List ℕ)
+    (start more : List Told) (k : Place) (cron : CronJob) (s : Sets) (z : Zone)
+    → RunsUntroubled c workers w text start more k cron s z
+    → IsAmple cron.spec.starting_deadline_seconds
+    → (y : HaveKeptUp w.limits.window k cron s z (moment c.span w.history) start w.history)
+    → EndInTime w.limits.window k cron s z start y.syncs.moments w.history y.syncs.synced
+    → reverse (made_for w.limits.window cron.meta.uid w.history)
+    ≡ missed_times s z cron.meta.created (moment c.span w.history)

@@ -1,9 +1,11 @@
 -- That a run keeps up: where an instant is over, no work is left.
-use Rattle.std.specs.Prelude.{◌≡◌, ℕ, ◌-◌, ◌<◌, ◌==◌, Bool, true, ◌&&◌, ◌||◌, if◌then◌else◌, List, [], ◌∷◌, ◌++◌, Option, Some, None, Result, Ok, Err, IsTrue}
+use Rattle.std.specs.Prelude.{◌≡◌, ℕ, ◌-◌, ◌<◌, ◌==◌, Bool, true, false, ◌&&◌, ◌||◌, if◌then◌else◌, List, [], ◌∷◌, ◌++◌, Option, Some, None, Result, Ok, Err, IsTrue}
 use Rattle.std.specs.Ordering.{nat_cmp}
 use Rattle.std.specs.BTreeMap as tree
+use Rattle.std.specs.FinMap as map
 use Rattle.cj_base.specs.declared.refusal.Refusal.{Refusal}
-use Rattle.cj_types.specs.Keys.{Place}
+use Rattle.cj_types.specs.Keys.{Place, place_cmp}
+use Rattle.cj_types.specs.declared.cron.CronJobDraft.{CronJobDraft}
 use Rattle.cj_queue.specs.Queue.{Queue, added, closed, finished_ok, finished_retry, taken, ticked}
 use Rattle.cj_calls.specs.Rows.{Told}
 use Rattle.cj_calls.specs.declared.call.Call.{Call}
@@ -26,21 +28,51 @@ use Rattle.cj_run.specs.declared.upkeep.Hand.{Hand}
 use Rattle.cj_run.specs.declared.upkeep.Upkeep.{Upkeep}
 use Rattle.cj_run.specs.declared.upkeep.Work.{Work}
 
+-- CronJobs by their keys
+abbrev pub Drafts : Type 0
+Drafts = map.FinMap place_cmp CronJobDraft
+
 -- an instant goes on, and is over with the call
 abbrev pub is_over_with : SpanView → Progress → Told → Bool
 is_over_with s p e = p.on && (begins s p e.caller.role e.call || ends e.caller.role e.call)
 
--- where an instant is over, no key is queued and no worker holds one
+-- the CronJobs that were created, and neither deleted nor their keys taken since, after an accepted
+-- call
+-- rule: run-keeps-up
+abbrev pub untaken_after : Drafts → Call → Reply → Drafts
+untaken_after m (Of.CreateCron d now) reply = map.insert m d.key d
+untaken_after m (Of.DeleteCron k) reply = map.remove m k
+untaken_after m Of.Take (Is.Key k) = map.remove m k
+untaken_after m call reply = m
+
+abbrev pub untaken_by : Drafts → Call → Result Reply Refusal → Drafts
+untaken_by m call (Ok reply) = untaken_after m call reply
+untaken_by m call (Err refusal) = m
+
+-- and after a history
+abbrev pub untaken : List Told → Drafts
+untaken [] = map.empty
+untaken (e ∷ h) = untaken_by (untaken h) e.call e.answer
+
+-- no key is queued and no worker holds one, the queue isn't shut, and the key of each CronJob that
+-- was created was taken since
+-- rule: run-keeps-up
+pub record IsSettled (window : ℕ) (h : List Told) : Type 0 where
+  pub rest : IsAtRest (state_of window h)
+  pub runs : (state_of window h).queue.shut ≡ false
+  pub taken : (k : Place) → map.get (untaken h) k ≡ None
+
+-- so it is where an instant is over
 -- rule: run-keeps-up
 abbrev pub ComesToRest : ℕ → SpanView → List Told → Type 0
 ComesToRest window s h = (later before : List Told) (e : Told) → h ≡ later ++ e ∷ before
-    → is_over_with s (progress_of s before) e ≡ true → IsAtRest (state_of window before)
+    → is_over_with s (progress_of s before) e ≡ true → IsSettled window before
 
--- no key is queued and no worker holds one; and the next time of each CronJob whose last sync ended
--- well is after the moment: where it came, the key was taken again
+-- and the next time of each CronJob whose last sync ended well is after the moment: where it came,
+-- the key was taken again
 -- rule: run-keeps-up
 pub record IsCaughtUp (window moment : ℕ) (h : List Told) : Type 0 where
-  pub rest : IsAtRest (state_of window h)
+  pub settled : IsSettled window h
   pub due : (k : Place) (t : ℕ) → IsDone h k t → moment < t
 
 -- where an instant is over, all is done that was due up to it
@@ -105,18 +137,26 @@ abbrev pub Goes : ℕ → Call → Result Reply Refusal → Work → Work → Ty
 Goes number call (Ok reply) v w = Turns number call reply v w
 Goes number call (Err refusal) v w = w ≡ v
 
--- no key is queued, and none is held
+-- no key is queued, none is held, and the queue isn't shut
 pub record IsIdle (w : Work) : Type 0 where
   pub line : w.queue.row.line ≡ []
   pub hands : (n : ℕ) → hand_by w.hands n ≡ None
+  pub runs : w.queue.shut ≡ false
+
+-- and no CronJob that was created waits to be taken
+pub record IsClear (v : Upkeep) : Type 0 where
+  pub idle : IsIdle v.work
+  pub taken : (k : Place) → map.get v.untaken k ≡ None
 
 -- what is known is what the history says
 pub record Knows (window : ℕ) (h : List Told) (w : Work) : Type 0 where
   pub queue : w.queue ≡ (state_of window h).queue
   pub hands : (n : ℕ) → hand_by w.hands n ≡ hand_of (sync h n)
 
--- what was seen of a history: how far it is, what work there is, and that it kept up so far
+-- what was seen of a history: how far it is, what work there is, which CronJobs wait to be taken,
+-- and that it kept up so far
 pub record Looks (s : SpanView) (v : Upkeep) (h : List Told) : Type 0 where
   pub progress : v.progress ≡ progress_of s h
   pub knows : (window : ℕ) → IsLegal window h → Knows window h v.work
+  pub untaken_is : v.untaken ≡ untaken h
   pub kept : IsTrue v.kept → (window : ℕ) → IsLegal window h → ComesToRest window s h

@@ -1,5 +1,6 @@
 // What comes of what a run does.
-ghost use Rattle.cj_run.specs.Syncs.{RunSyncs};
+ghost use Rattle.cj_run.specs.Syncs.{RunKeepsUp, RunMakesEach, RunMakesEachAllowed};
+ghost use Rattle.cj_run.specs.Syncs.{RunMakesEachEnded, RunSyncs};
 
 /// From the creation of a CronJob on, whose zone the scenario's table has, a run makes whole syncs
 /// of it, at moments that go on, which nobody disturbs, and nothing else writes it; as long as
@@ -9,4 +10,19 @@ ghost use Rattle.cj_run.specs.Syncs.{RunSyncs};
 /// deletes a Job of a name that is made for it.
 pub fn run_syncs_law()
     ensures { RunSyncs }
+{}
+
+/// Suppose besides that the instants of a run are at most a minute apart, and that the CronJob is
+/// created at the moment of one of them, at most 3,000 days before the last. Then its syncs keep up
+/// with the clock: nothing is due since the last one, and a minute before the moment of each one
+/// nothing was due since the one before it. So where its deadline, if it has one, is a minute or
+/// more, the Jobs that are made for it are exactly one for each due time from its creation up to
+/// the last instant, in their order: under Allow and Replace; and under each policy where no sync
+/// of it told that a Job runs already, or where each of its Jobs had ended whenever a sync looked
+/// what runs after a time had become due.
+pub fn run_due_times_law()
+    ensures keep_up { RunKeepsUp }
+    ensures each { RunMakesEach }
+    ensures allowed { RunMakesEachAllowed }
+    ensures ended { RunMakesEachEnded }
 {}

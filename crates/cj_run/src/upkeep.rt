@@ -1,18 +1,21 @@
 // Whether a run kept up with its work, by its finished history.
-ghost use Rattle.std.specs.Prelude.{◌≡◌, ◌+◌, ◌<◌, ◌≤◌, ◌^◌, ◌&&◌, ◌||◌, ℕ, [], ◌∷◌, not, true, None, IfOk, IsTrue, List, OnOk};
+ghost use Rattle.std.specs.Prelude.{◌≡◌, ◌+◌, ◌<◌, ◌≤◌, ◌^◌, ◌&&◌, ◌||◌, ℕ, [], ◌∷◌, true, false, None, IfOk, IsTrue, List, OnOk};
+ghost use Rattle.std.specs.FinMap as map;
 ghost use mathlib.Core.List.{reverse};
+ghost use Rattle.cj_types.specs.Keys.{Place};
 ghost use Rattle.cj_calls.specs.Rows.{Told};
 ghost use Rattle.cj_queue.specs.Queue.{new_queue, taken};
 ghost use Rattle.cj_state.specs.Legal.{IsLegal};
 ghost use Rattle.cj_state.specs.WorkerCalls.{next_ms};
 ghost use Rattle.cj_run.specs.Turns.{progress_after};
-ghost use Rattle.cj_run.specs.Upkeep.{ComesToRest, Goes, IsIdle, Looks, Sets, Turns, ended_by, hand_after, hand_by, is_over_with, queue_after, with_next};
+ghost use Rattle.cj_run.specs.Upkeep.{ComesToRest, Goes, IsClear, IsIdle, Looks, Sets, Turns, ended_by, hand_after, hand_by, is_over_with, queue_after, untaken_after, untaken_by, with_next};
 
 use crate::turns::{Progress, begins, ends};
 use cj_calls::{Call, End, Entry, Reply};
 use cj_queue::Queue;
 use cj_script::Span;
-use cj_types::{Key, Refusal, Seconds, TryCopy};
+use cj_table::Table;
+use cj_types::{CronJobDraft, Key, Refusal, Seconds, Shared, TryCopy};
 use std::alloc::Global;
 use std::collections::BTreeMap;
 
@@ -35,6 +38,8 @@ pub(crate) struct Work {
 pub(crate) struct Upkeep {
     pub progress: Progress,
     pub work: Work,
+    /// The CronJobs that were created, and neither deleted nor their keys taken since.
+    pub untaken: Table<Shared<CronJobDraft>>,
     /// Whether no work was left where an instant was over.
     pub kept: bool,
 }
@@ -144,6 +149,12 @@ fn no_line(queue: &Queue) -> bool
     }
 }
 
+fn is_open(queue: &Queue) -> bool
+    ensures { IsTrue result → queue.now.shut ≡ false }
+{
+    !queue.is_shut()
+}
+
 #[tactic(auto, using(crate::proofs::Kept::none_held))]
 fn no_hands(hands: &BTreeMap<u64, Hand>) -> bool
     ensures { IsTrue result → (n : ℕ) → hand_by hands.now n ≡ None }
@@ -192,14 +203,65 @@ impl Work {
         }
     }
 
-    // Whether no key is queued or held.
+    // Whether no key is queued or held, and the queue isn't shut.
     fn is_idle(&self) -> bool
         ensures { IsTrue result → IsIdle self.now }
     {
         let no_line = no_line(&self.queue);
         let no_hands = no_hands(&self.hands);
-        no_line && no_hands
+        let runs = is_open(&self.queue);
+        no_line && no_hands && runs
     }
+}
+
+// Takes in an accepted call.
+fn note(
+    alloc: Global,
+    untaken: &mut Table<Shared<CronJobDraft>>,
+    call: &Call,
+    reply: &Reply,
+) -> Result<(), Refusal>
+    ensures { OnOk result (untaken.new ≡ untaken_after untaken.old call.now reply.now) }
+{
+    match (call, reply) {
+        (Call::CreateCron(draft, _), _) => {
+            let key = draft.get().key.key().try_copy(alloc)?;
+            untaken.insert(key, draft.try_copy(alloc)?)
+        }
+        (Call::DeleteCron(key), _) => {
+            untaken.remove(key);
+            Ok(())
+        }
+        (Call::Take, Reply::Key(key)) => {
+            untaken.remove(key);
+            Ok(())
+        }
+        _ => Ok(()),
+    }
+}
+
+// Takes in an entry. A refused call creates no CronJob, and takes no key.
+fn note_entry(
+    alloc: Global,
+    untaken: &mut Table<Shared<CronJobDraft>>,
+    entry: &Entry,
+) -> Result<(), Refusal>
+    ensures { OnOk result (untaken.new
+        ≡ untaken_by untaken.old entry.now.call entry.now.answer) }
+{
+    match entry.answer() {
+        Ok(reply) => note(alloc, untaken, entry.call(), reply),
+        Err(_) => Ok(()),
+    }
+}
+
+// Whether no CronJob waits to be taken.
+#[tactic(auto, using(crate::proofs::Kept::none_at))]
+fn none_untaken(alloc: Global, untaken: &Table<Shared<CronJobDraft>>) -> Result<bool, Refusal>
+    ensures { IfOk result (λ none. IsTrue none → (k : Place) → map.get untaken.now k ≡ None) }
+{
+    let drafts = untaken.list(alloc)?;
+    Ok(drafts.is_empty())
 }
 
 // Whether an instant goes on, and is over with the entry.
@@ -211,14 +273,26 @@ fn is_over_with(span: &Span, progress: Progress, entry: &Entry) -> bool
     progress.on && over
 }
 
-// Whether no work was left so far, by whether an instant is over and there is none.
-fn is_kept(kept: bool, over: bool, idle: bool) -> bool
-    ensures { result ≡ (kept && (not over || idle)) }
+// Whether nothing was left so far, nor is now.
+fn is_kept(kept: bool, clear: bool) -> bool
+    ensures { result ≡ (kept && clear) }
 {
-    kept && (!over || idle)
+    kept && clear
 }
 
 impl Upkeep {
+    // Whether nothing is left to do, where an instant is over.
+    fn is_clear(&self, alloc: Global, over: bool) -> Result<bool, Refusal>
+        ensures { IfOk result (λ clear. IsTrue clear → over ≡ true → IsClear self.now) }
+    {
+        if !over {
+            return Ok(true);
+        }
+        let idle = self.work.is_idle();
+        let none = none_untaken(alloc, &self.untaken)?;
+        Ok(idle && none)
+    }
+
     // Takes in the entry that follows those that were seen.
     fn see(&mut self, alloc: Global, span: &Span, entry: &Entry) -> Result<(), Refusal>
         requires { self.old.progress.begun + 1 < 2 ^ 64 }
@@ -227,15 +301,17 @@ impl Upkeep {
         ensures short { OnOk result (self.new.progress.begun ≤ self.old.progress.begun + 1) }
     {
         let over = is_over_with(span, self.progress, entry);
-        let idle = self.work.is_idle();
-        self.kept = is_kept(self.kept, over, idle);
+        let clear = self.is_clear(alloc, over)?;
+        self.kept = is_kept(self.kept, clear);
         self.work.go(alloc, entry)?;
+        note_entry(alloc, &mut self.untaken, entry)?;
         self.progress = self.progress.after(span, entry.caller().role, entry.call());
         Ok(())
     }
 }
 
-/// Whether no key was queued and none held where an instant was over. It reads each entry once.
+/// Whether no key was queued and none held where an instant was over, the queue wasn't shut, and
+/// the key of each CronJob that was created had been taken. It reads each entry once.
 pub(crate) fn comes_to_rest(alloc: Global, span: &Span, entries: &[Entry]) -> Result<bool, Refusal>
     ensures { IfOk result (λ kept. IsTrue kept → (window : ℕ) →
         IsLegal window (reverse entries.now) → ComesToRest window span.now (reverse entries.now)) }
@@ -243,6 +319,7 @@ pub(crate) fn comes_to_rest(alloc: Global, span: &Span, entries: &[Entry]) -> Re
     let mut upkeep = Upkeep {
         progress: Progress::new(),
         work: Work::new(alloc),
+        untaken: Table::new(alloc),
         kept: true,
     };
     for entry in entries {

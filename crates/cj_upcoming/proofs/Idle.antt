@@ -4,7 +4,7 @@ use Rattle.cj_zone.specs.declared.zone.Zone.{Zone}
 use Rattle.cj_cluster.specs.declared.cron.ClusterCron.{ClusterCron}
 use Rattle.cj_upcoming.specs.declared.standing.Standing.{Standing}
 use Rattle.serde_json.specs.Data.{Data}
-use Rattle.cj_upcoming.specs.Standings.{IsStanding}
+use Rattle.cj_upcoming.specs.Standings.{IsStandingOf}
 use Rattle.cj_upcoming.specs.json.Standings.{standing_data, AreStandingData}
 use Rattle.cj_upcoming.proofs.Places.{rest_at, past_end}
 
@@ -20,7 +20,7 @@ module _ (zones : List Zone) (from : ℕ) (crons : List ClusterCron) where
 
   -- With what is told of the CronJob at a place the rest is told from the next place on.
   pub tells_step : (i : ℕ) (c : ClusterCron) (standing : Standing) (old new : List Data) → i < length crons
-      → c ≡ get_or crons i c → IsStanding zones from c.cron.spec standing
+      → c ≡ get_or crons i c → IsStandingOf zones from c standing
       → new ≡ old ++ standing_data standing c.cron.key → Tells zones from crons i old
       → Tells zones from crons (i + 1) new
   tells_step i c standing old new inside at is grown tells = record {

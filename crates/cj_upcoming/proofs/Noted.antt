@@ -8,11 +8,12 @@ use Rattle.std.proofs.lemmas.Cmp.{tied_itself}
 use Rattle.std.proofs.lemmas.Option.{slice_get_within}
 use Rattle.std.proofs.lemmas.Bool.{cases_lt}
 use Rattle.cj_zone.specs.declared.zone.Zone.{Zone}
+use Rattle.cj_cluster.specs.Content.{is_halted}
 use Rattle.cj_cluster.specs.declared.cron.ClusterCron.{ClusterCron}
 use Rattle.cj_upcoming.specs.declared.start.Start.{Start}
 use Rattle.cj_upcoming.specs.Window.{Span}
 use Rattle.cj_upcoming.specs.Notes.{Notes, Exceeds}
-use Rattle.cj_upcoming.specs.Starts.{start_cmp, starts_total, IsStartOf, IsStartAt}
+use Rattle.cj_upcoming.specs.Starts.{start_cmp, starts_total, IsStartBy, IsStartAt}
 use Rattle.cj_upcoming.specs.Upcoming.{IsStart, IsUpcoming, HasMore}
 use Rattle.cj_upcoming.proofs.Members.{IsIn, all_in, any_true, in_contains}
 use Rattle.cj_upcoming.proofs.Noting.{notes_then, notes_as, notes_none, tie}
@@ -52,38 +53,42 @@ module _ (zones : List Zone) (w : Span) (crons : List ClusterCron) where
 
   -- A start of the CronJob at a place is one of the list's.
   of_place : (place : ℕ) (c : ClusterCron) (s : Start) → slice_get crons place ≡ Some c
-      → IsStartOf zones w place c.cron.spec s → IsStart zones w crons s
+      → IsStartBy zones w place c s → IsStart zones w crons s
   of_place place c s at h = record {
     cron = c;
-    there = ap (λ n. slice_get crons n) h.at_place ∙ at;
-    at_time = h.at_time;
+    there = ap (λ n. slice_get crons n) h.start.at_place ∙ at;
+    goes = h.goes;
+    at_time = h.start.at_time;
   }
 
   -- A start of the list's at a place is one of the CronJob there.
   at_place : (place : ℕ) (c : ClusterCron) (s : Start) → slice_get crons place ≡ Some c → s.cron ≡ place
-      → IsStart zones w crons s → IsStartOf zones w place c.cron.spec s
+      → IsStart zones w crons s → IsStartBy zones w place c s
   at_place place c s at is h =
       let same : Some h.cron ≡ Some c = sym h.there ∙ ap (λ n. slice_get crons n) is ∙ at in
       let one : h.cron ≡ c = cc same in
       record {
-        at_place = is;
-        at_time = subst (λ (x : ClusterCron). IsStartAt zones w x.cron.spec s.time) one h.at_time;
+        goes = subst (λ (x : ClusterCron). is_halted x.marks ≡ false) one h.goes;
+        start = record {
+          at_place = is;
+          at_time = subst (λ (x : ClusterCron). IsStartAt zones w x.cron.spec s.time) one h.at_time;
+        };
       }
 
   -- With those of the CronJob at a place, those before the next place are noted.
   pub starts_step : (place : ℕ) (x : ClusterCron) (a b c : BTreeSet Start) → slice_get crons place ≡ Some x
-      → Notes (StartsTo place) a b → Notes (IsStartOf zones w place x.cron.spec) b c → Notes (StartsTo (place + 1)) a c
+      → Notes (StartsTo place) a b → Notes (IsStartBy zones w place x) b c → Notes (StartsTo (place + 1)) a c
   starts_step place x a b c at n m =
-      notes_as (λ s. StartsTo place s ⊎ IsStartOf zones w place x.cron.spec s) (StartsTo (place + 1)) a c
+      notes_as (λ s. StartsTo place s ⊎ IsStartBy zones w place x s) (StartsTo (place + 1)) a c
       (λ s h. elim h [
         | inl was ↦ record { start = was.start; before = omega (arith, was.before) }
-        | inr is ↦ record { start = of_place place x s at is; before = omega (arith, is.at_place) }
+        | inr is ↦ record { start = of_place place x s at is; before = omega (arith, is.start.at_place) }
       ])
       (λ s h. elim (cases_lt s.cron place) [
         | inl below ↦ inl (record { start = h.start; before = below })
         | inr above ↦ inr (at_place place x s at (omega (arith, above, h.before)) h.start)
       ])
-      (notes_then (StartsTo place) (IsStartOf zones w place x.cron.spec) a b c n m)
+      (notes_then (StartsTo place) (IsStartBy zones w place x) a b c n m)
 
   -- Behind the last place all are noted.
   pub starts_end : (k : ℕ) (a b : BTreeSet Start) → length crons ≤ k → Notes (StartsTo k) a b
@@ -96,7 +101,7 @@ module _ (zones : List Zone) (w : Span) (crons : List ClusterCron) where
 
   -- Where the starts of one CronJob more are too many, all that are noted are starts of the list's.
   pub starts_over : (most place : ℕ) (x : ClusterCron) (a b c : BTreeSet Start) → slice_get crons place ≡ Some x
-      → Notes (StartsTo place) a b → Exceeds most (IsStartOf zones w place x.cron.spec) b c
+      → Notes (StartsTo place) a b → Exceeds most (IsStartBy zones w place x) b c
       → Exceeds most (IsStart zones w crons) a c
   starts_over most place x a b c at n over = record {
     found = λ s h. elim (over.found s h) [

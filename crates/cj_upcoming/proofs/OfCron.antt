@@ -5,10 +5,12 @@ use Rattle.cj_types.specs.declared.cron.CronSpec.{CronSpec}
 use Rattle.cj_schedule.specs.Grammar.{IsSchedule}
 use Rattle.cj_schedule.specs.Matches.{Sets}
 use Rattle.cj_zone.specs.declared.zone.Zone.{Zone}
+use Rattle.cj_cluster.specs.Content.{is_halted}
+use Rattle.cj_cluster.specs.declared.cron.ClusterCron.{ClusterCron}
 use Rattle.cj_upcoming.specs.declared.start.Start.{Start}
 use Rattle.cj_upcoming.specs.Window.{Span}
 use Rattle.cj_upcoming.specs.Notes.{Notes, Exceeds}
-use Rattle.cj_upcoming.specs.Starts.{zone_for, IsDueIn, IsStartOf}
+use Rattle.cj_upcoming.specs.Starts.{zone_for, IsDueIn, IsStartBy, IsStartOf}
 use Rattle.cj_upcoming.specs.Times.{IsTimeAt}
 use Rattle.cj_upcoming.proofs.Noting.{notes_as, notes_none}
 use Rattle.cj_upcoming.proofs.Walks.{true_false}
@@ -69,3 +71,23 @@ module _ (zones : List Zone) (w : Span) (place : ℕ) (spec : CronSpec) where
       more = over.more;
       ordered = over.ordered;
     }
+
+module _ (zones : List Zone) (w : Span) (place : ℕ) (c : ClusterCron) where
+  -- A CronJob that is being deleted or stuck has no start.
+  pub by_halted : is_halted c.marks ≡ true → (a : BTreeSet Start) → Notes (IsStartBy zones w place c) a a
+  by_halted is a = notes_none (IsStartBy zones w place c) a (λ s h. true_false (is_halted c.marks) is h.goes)
+
+  -- One that is neither has those of its spec.
+  pub by_spec : is_halted c.marks ≡ false → (a b : BTreeSet Start) → Notes (IsStartOf zones w place c.cron.spec) a b
+      → Notes (IsStartBy zones w place c) a b
+  by_spec goes a b n = notes_as (IsStartOf zones w place c.cron.spec) (IsStartBy zones w place c) a b
+      (λ s h. record { goes = goes; start = h }) (λ s h. h.start) n
+
+  -- Where those are too many, its own are.
+  pub over_spec : is_halted c.marks ≡ false → (most : ℕ) (a b : BTreeSet Start)
+      → Exceeds most (IsStartOf zones w place c.cron.spec) a b → Exceeds most (IsStartBy zones w place c) a b
+  over_spec goes most a b over = record {
+    found = λ s h. elim (over.found s h) [ inl was ↦ inl was | inr is ↦ inr (record { goes = goes; start = is }) ];
+    more = over.more;
+    ordered = over.ordered;
+  }

@@ -3,7 +3,7 @@ use Rattle.std.proofs.Common.{◌≡◌, ◌<◌, ◌≤◌, ◌+◌, ℕ, List,
 use Rattle.cj_zone.specs.declared.zone.Zone.{Zone}
 use Rattle.cj_cluster.specs.declared.cron.ClusterCron.{ClusterCron}
 use Rattle.cj_upcoming.specs.declared.standing.Standing.{Standing}
-use Rattle.cj_upcoming.specs.Standings.{standing_line, AreStandings, IsStanding}
+use Rattle.cj_upcoming.specs.Standings.{standing_line, AreStandings, IsStandingOf}
 use Rattle.cj_upcoming.proofs.Places.{rest_at, past_end}
 
 -- what is told from a place on makes, behind the text so far, all that is told
@@ -18,7 +18,7 @@ module _ (zones : List Zone) (from : ℕ) (crons : List ClusterCron) where
 
   -- With the line of the CronJob at a place the rest is told from the next place on.
   pub leads_step : (i : ℕ) (c : ClusterCron) (standing : Standing) (old new : List ℕ) → i < length crons
-      → c ≡ get_or crons i c → IsStanding zones from c.cron.spec standing
+      → c ≡ get_or crons i c → IsStandingOf zones from c standing
       → new ≡ old ++ standing_line standing c.cron.key → Leads zones from crons i old
       → Leads zones from crons (i + 1) new
   leads_step i c standing old new inside at is grown leads = record {

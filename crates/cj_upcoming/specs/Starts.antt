@@ -10,6 +10,8 @@ use Rattle.cj_schedule.specs.Matches.{Sets}
 use Rattle.cj_zone.specs.declared.zone.Zone.{Zone}
 use Rattle.cj_zone.specs.Zones.{utc_zone, zone_named}
 use Rattle.cj_due.specs.Due.{due}
+use Rattle.cj_cluster.specs.Content.{is_halted}
+use Rattle.cj_cluster.specs.declared.cron.ClusterCron.{ClusterCron}
 use Rattle.cj_upcoming.specs.declared.start.Start.{Start}
 use Rattle.cj_upcoming.specs.Window.{Span, IsIn}
 
@@ -47,8 +49,15 @@ pub record IsStartAt (zones : List Zone) (w : Span) (spec : CronSpec) (t : ℕ) 
   pub clock : HasClock zones spec schedule zone
   pub due_in : IsDueIn w schedule zone t
 
--- that of the CronJob at a place
+-- that of the spec of the CronJob at a place
 pub record IsStartOf (zones : List Zone) (w : Span) (place : ℕ) (spec : CronSpec) (s : Start)
     : Type 0 where
   pub at_place : s.cron ≡ place
   pub at_time : IsStartAt zones w spec s.time
+
+-- the CronJob isn't being deleted, nor is it stuck
+-- rules: upcoming-starts, cluster-deleting, cluster-stuck
+pub record IsStartBy (zones : List Zone) (w : Span) (place : ℕ) (c : ClusterCron) (s : Start)
+    : Type 0 where
+  pub goes : is_halted c.marks ≡ false
+  pub start : IsStartOf zones w place c.cron.spec s

@@ -50,6 +50,7 @@ pub use minute::Minute;
 pub use minutes::minutes_of;
 pub use named::named_changes_text;
 pub use report::window_lines;
+pub use standing::Standing;
 pub use standings::standings_text;
 pub use start::Start;
 pub use starts::Starts;

@@ -4,7 +4,6 @@ ghost use Rattle.cj_base.specs.declared.refusal.Refusal.TheVariants.{OutOfMemory
 ghost use Rattle.cj_zone.specs.Table.{zones_of};
 ghost use Rattle.cj_upcoming.specs.Standings.{standing_line, AreStandings};
 
-use crate::clock::spec_of;
 use crate::lines::key_text;
 use crate::standing::{Standing, standing_of};
 use cj_base::Seconds;
@@ -23,6 +22,8 @@ fn standing_line(alloc: Global, standing: Standing, key: &Key) -> Result<String,
         Standing::Suspended => format!(in alloc; "suspended {key}\n"),
         Standing::Never => format!(in alloc; "never {key}\n"),
         Standing::Unread => format!(in alloc; "unread {key}\n"),
+        Standing::Deleting => format!(in alloc; "deleting {key}\n"),
+        Standing::Stuck => format!(in alloc; "stuck {key}\n"),
     }
 }
 
@@ -39,8 +40,9 @@ fn push_standing(
     text.push_str(line.as_str())
 }
 
-/// A line for each CronJob that starts nothing from an instant on: one that is suspended, whose
-/// schedule comes at no time within 3,000 days, or that names no zone that is given.
+/// A line for each CronJob that starts nothing from an instant on: one that is suspended, being
+/// deleted or stuck, whose schedule comes at no time within 3,000 days, or that names no zone that
+/// is given.
 pub fn standings_text(
     alloc: Global,
     zones: &ZoneTable,
@@ -54,7 +56,7 @@ pub fn standings_text(
     let mut text = String::new(alloc);
     for cron in crons {
         let cron = cron.get();
-        let standing = standing_of(zones, from, spec_of(cron));
+        let standing = standing_of(zones, from, cron);
         push_standing(alloc, &mut text, standing, cron.cron.get().key.key())?;
     }
     Ok(text)

@@ -4,7 +4,6 @@ ghost use Rattle.cj_upcoming.specs.Notes.{Notes, Exceeds};
 ghost use Rattle.cj_upcoming.specs.Upcoming.{IsStart, IsUpcoming, HasMore};
 ghost use Rattle.cj_upcoming.specs.declared.fault.StartsFault.TheVariants.{TooMany};
 
-use crate::clock::spec_of;
 use crate::cron::note_cron;
 use crate::fault::StartsFault;
 use crate::start::Start;
@@ -30,15 +29,14 @@ fn note_crons(
         (IsStart (zones_of zones.now) window.now crons.now) starts.old starts.new) }
 {
     for (place, cron) in crons.iter().enumerate() {
-        let spec = spec_of(cron.get());
-        note_cron(zones, window, place, spec, most, starts)?;
+        note_cron(zones, window, place, cron.get(), most, starts)?;
     }
     Ok(())
 }
 
 /// What starts in a window, of CronJobs: exactly the instants of the window at which one that isn't
-/// suspended is due by its schedule, on the clock of its zone, each with the place of that CronJob,
-/// in the order of times and then of places.
+/// suspended, being deleted or stuck is due by its schedule, on the clock of its zone, each with
+/// the place of that CronJob, in the order of times and then of places.
 ///
 /// `TooMany` where they are more than `most`, `Memory` where memory is wanting.
 pub fn upcoming(

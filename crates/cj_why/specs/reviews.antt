@@ -1,5 +1,6 @@
 pub mod CronJson
 pub mod Lacking
+pub mod Late
 pub mod Otherwise
 pub mod PlanJson
 pub mod PlanLines

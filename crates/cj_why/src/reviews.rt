@@ -1,6 +1,7 @@
 // What the next sync of each CronJob of a cluster does, and what it missed.
 mod cron_json;
 mod lacking;
+mod late;
 mod otherwise;
 mod plan_json;
 mod reviewing;

@@ -4,7 +4,8 @@ ghost use Rattle.cj_why.specs.Since.{base_words, is_deadline, since_words};
 
 use cj_types::{CronJob, Deadline, Seconds};
 
-fn base_words(last: Option<Seconds>) -> &'static str
+/// What that instant is, where no deadline is set.
+pub(crate) fn base_words(last: Option<Seconds>) -> &'static str
     ensures { result.now ≡ base_words last }
 {
     match last {

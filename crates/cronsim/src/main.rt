@@ -10,29 +10,38 @@ mod folder;
 mod progress;
 mod several;
 mod source;
+mod streams;
+mod taken;
+mod telling;
 mod words;
+mod zone_names;
 
 use cj_program::{
     ExitStatus, Failure, MOST_BYTES, MOST_LIST_BYTES, MOST_LIST_READS, MOST_READS, Meter, Request,
-    parse_words, read_input, serve, tell_failure, tell_fault,
+    parse_words, read_input, tell_failure, tell_fault, word_tips,
 };
 use clock::moment_by_clock;
 use control::serve_control;
 use folder::{folder_set, input_files, named_file};
 use progress::{is_shown, serve_shown};
-use several::{serve_files, serve_upcoming_files};
+use several::{serve_files, serve_report_files, serve_upcoming_files};
 use source::Input;
 use std::io::Write;
 use std::process::ExitCode;
 use std::sync::Wait;
 use std::thread::Threads;
 use std::time::Clock;
+use taken::json_of;
+use telling::{at_terminal, serve_on, tell_shape};
 use words::{asked, joined};
+use zone_names::{tell_zones, without_names};
 
 // The most bytes that an input may have.
 fn most_bytes(request: &Request<'_>) -> usize {
     match request {
-        Request::Why(_) | Request::Audit(_) | Request::Upcoming(_) => MOST_LIST_BYTES,
+        Request::Why(_) | Request::Audit(_) | Request::Upcoming(_) | Request::Report(_) => {
+            MOST_LIST_BYTES
+        }
         _ => MOST_BYTES,
     }
 }
@@ -40,28 +49,32 @@ fn most_bytes(request: &Request<'_>) -> usize {
 // The most reads after which an input must have ended.
 fn most_reads(request: &Request<'_>) -> u32 {
     match request {
-        Request::Why(_) | Request::Audit(_) | Request::Upcoming(_) => MOST_LIST_READS,
+        Request::Why(_) | Request::Audit(_) | Request::Upcoming(_) | Request::Report(_) => {
+            MOST_LIST_READS
+        }
         _ => MOST_READS,
     }
 }
 
-// Whether people are told of a file that can't be read: where they ask for that, and always by the
-// commands on a cluster and on the times to come.
-fn tells_files(request: &Request<'_>) -> bool {
+// Whether people are told of a file that can't be read: where they ask for that or are at a
+// terminal, and always by the commands on a cluster and on the times to come.
+fn tells_files(rt: &HostRuntime, request: &Request<'_>) -> bool {
     match request {
-        Request::Why(_) | Request::Audit(_) | Request::Upcoming(_) | Request::Control(_) => true,
-        _ => request.explains(),
+        Request::Why(_) | Request::Audit(_) | Request::Upcoming(_) => true,
+        Request::Report(_) | Request::Control(_) => true,
+        _ => request.explains() || at_terminal(rt),
     }
 }
 
 // Says to people why the file of a failed request could not be opened, or that it is too long.
-fn tell_unread<E: Write>(request: &Request<'_>, status: ExitStatus, input: &Input, err: &mut E) {
-    if status != ExitStatus::Failed || !tells_files(request) {
+fn tell_unread(rt: &HostRuntime, request: &Request<'_>, status: ExitStatus, input: &Input) {
+    if status != ExitStatus::Failed || !tells_files(rt, request) {
         return;
     }
     let Some(file) = request.file() else {
         return;
     };
+    let err = &mut rt.stderr();
     let most = most_bytes(request);
     if let Some(cause) = input.cause() {
         let _ = writeln!(err, "{file}: {cause}");
@@ -78,79 +91,76 @@ fn tell_unread<E: Write>(request: &Request<'_>, status: ExitStatus, input: &Inpu
 fn serve_with_folder<T: Threads + Wait + Sync>(
     threads: &T,
     rt: &HostRuntime,
-    request: &Request<'_>,
+    request: &mut Request<'_>,
     folder: &str,
     input: &mut Input,
     meter: &Meter,
 ) -> Result<ExitStatus, Failure> {
-    let alloc = rt.alloc();
-    let (out, err) = (&mut rt.stdout(), &mut rt.stderr());
-    match read_input(alloc, input, most_bytes(request), most_reads(request)) {
+    let (most, reads) = (most_bytes(request), most_reads(request));
+    match read_input(rt.alloc(), input, most, reads) {
         Ok(bytes) => {
-            let files = input_files(rt, folder, bytes.as_slice())?;
-            let mut rest = bytes.as_slice();
-            Ok(serve(
-                threads,
-                alloc,
-                request,
-                files.as_slice(),
-                &mut rest,
-                out,
-                err,
-                meter,
-            ))
+            let bytes = json_of(rt, None, bytes)?;
+            let bytes = bytes.as_slice();
+            let files = input_files(rt, folder, bytes)?;
+            let served = serve_on(threads, rt, request, files.as_slice(), Some(bytes), meter);
+            tell_shape(rt, request, served.status, bytes);
+            tell_zones(rt, request, &served, folder, files.as_slice(), bytes)?;
+            Ok(served.status)
         }
         Err(Failure::Memory) => Err(Failure::Memory),
-        Err(_) => {
-            let mut rest = Input::unreadable();
-            Ok(serve(threads, alloc, request, &[], &mut rest, out, err, meter))
-        }
+        Err(_) => Ok(serve_on(threads, rt, request, &[], None, meter).status),
     }
 }
 
 // The folder of zones where nobody gives one: the machine's own.
 const MACHINE_FOLDER: &str = "/usr/share/zoneinfo";
 
-// The name of the zone that a request on one schedule asks for.
-fn time_zone<'a>(request: &Request<'a>) -> Option<&'a str> {
+// The name that the zone of a request on one schedule may have.
+fn zone_name<'a>(request: &Request<'a>) -> Option<&'a str> {
     match request {
-        Request::Next(next) => next.time_zone,
-        Request::Describe(describe) => describe.time_zone,
+        Request::Next(next) => next.time_zone.or(next.zone),
+        Request::Describe(describe) => describe.time_zone.or(describe.zone),
         _ => None,
     }
+}
+
+// Serves a request on one schedule, with the file of its zone.
+fn serve_schedule<T: Threads + Wait + Sync>(
+    threads: &T,
+    rt: &HostRuntime,
+    request: &mut Request<'_>,
+    folder: &str,
+    meter: &Meter,
+) -> Result<ExitStatus, Failure> {
+    let files = named_file(rt, folder, zone_name(request).unwrap_or(""))?;
+    let served = serve_on(threads, rt, request, files.as_slice(), Some(b""), meter);
+    tell_zones(rt, request, &served, folder, files.as_slice(), b"")?;
+    Ok(served.status)
 }
 
 // Serves a request, with the zone files that it asks for.
 fn serve_request<T: Threads + Wait + Sync>(
     threads: &T,
     rt: &HostRuntime,
-    request: &Request<'_>,
+    request: &mut Request<'_>,
     input: &mut Input,
     meter: &Meter,
 ) -> Result<ExitStatus, Failure> {
-    let alloc = rt.alloc();
     let set = folder_set(rt)?;
     let set = set.as_ref().map(|folder| folder.as_str());
     let folder = request.folder().or(set).unwrap_or(MACHINE_FOLDER);
+    without_names(rt, request, folder)?;
     match request {
         Request::Check(check) if check.files.len() > 1 => serve_files(rt, check, folder),
         Request::Upcoming(upcoming) if upcoming.files.len() > 1 => {
             serve_upcoming_files(rt, upcoming, folder)
         }
+        Request::Report(report) if report.files.len() > 1 => {
+            serve_report_files(rt, report, folder)
+        }
         Request::Control(control) => Ok(serve_control(rt, control, folder, input)),
         Request::Next(_) | Request::Describe(_) => {
-            let files = named_file(rt, folder, time_zone(request).unwrap_or(""))?;
-            let (out, err) = (&mut rt.stdout(), &mut rt.stderr());
-            Ok(serve(
-                threads,
-                alloc,
-                request,
-                files.as_slice(),
-                input,
-                out,
-                err,
-                meter,
-            ))
+            serve_schedule(threads, rt, request, folder, meter)
         }
         _ => serve_with_folder(threads, rt, request, folder, input, meter),
     }
@@ -167,6 +177,7 @@ fn clock_moment(rt: &HostRuntime, request: &Request<'_>) -> Result<Option<String
         Request::Why(why) => moment_by_clock(rt, why.moment),
         Request::Upcoming(upcoming) => moment_by_clock(rt, upcoming.from),
         Request::Describe(describe) => moment_by_clock(rt, describe.after),
+        Request::Report(report) => moment_by_clock(rt, report.moment),
         _ => Ok(None),
     }
 }
@@ -176,6 +187,7 @@ fn only_file<'a>(request: &Request<'a>) -> Option<&'a str> {
     match request {
         Request::Check(check) if check.files.len() > 1 => None,
         Request::Upcoming(upcoming) if upcoming.files.len() > 1 => None,
+        Request::Report(report) if report.files.len() > 1 => None,
         _ => request.file(),
     }
 }
@@ -188,6 +200,7 @@ fn at_moment<'a>(mut request: Request<'a>, moment: Option<&'a str>) -> Request<'
             Request::Why(why) => why.moment = moment,
             Request::Upcoming(upcoming) => upcoming.from = moment,
             Request::Describe(describe) => describe.after = moment,
+            Request::Report(report) => report.moment = moment,
             _ => {}
         }
     }
@@ -201,15 +214,25 @@ fn serve_parsed<T: Threads + Wait + Clock + Sync>(
     request: Request<'_>,
 ) -> Result<ExitStatus, Failure> {
     let moment = clock_moment(rt, &request)?;
-    let request = at_moment(request, moment.as_ref().map(|text| text.as_str()));
+    let mut request = at_moment(request, moment.as_ref().map(|text| text.as_str()));
     let mut input = Input::open(rt, only_file(&request));
     let status = if is_shown(rt, &request) {
-        serve_shown(threads, rt, &request, &mut input)?
+        serve_shown(threads, rt, &mut request, &mut input)?
     } else {
-        serve_request(threads, rt, &request, &mut input, &Meter::new())?
+        serve_request(threads, rt, &mut request, &mut input, &Meter::new())?
     };
-    tell_unread(&request, status, &input, &mut rt.stderr());
+    tell_unread(rt, &request, status, &input);
     Ok(status)
+}
+
+// Says to people what may be meant by words that are wrong.
+fn tell_tips(rt: &HostRuntime, status: ExitStatus, words: &[&str]) {
+    let is_asked = words.iter().any(|word| *word == "--explain");
+    if status == ExitStatus::Usage && (is_asked || at_terminal(rt)) {
+        if let Ok(tips) = word_tips(rt.alloc(), words) {
+            let _ = rt.stderr().write_all(tips.as_bytes());
+        }
+    }
 }
 
 // Reads the words of the command line, and serves the request that they are.
@@ -224,9 +247,14 @@ fn run<T: Threads + Wait + Clock + Sync>(
     for arg in &args {
         words.push(arg.as_str())?;
     }
-    match parse_words(alloc, asked(words.as_slice())) {
+    let words = asked(words.as_slice());
+    match parse_words(alloc, words) {
         Ok(request) => serve_parsed(threads, rt, request),
-        Err(fault) => Ok(tell_fault(alloc, &fault, &mut rt.stdout(), &mut rt.stderr())),
+        Err(fault) => {
+            let status = tell_fault(alloc, &fault, &mut rt.stdout(), &mut rt.stderr());
+            tell_tips(rt, status, words);
+            Ok(status)
+        }
     }
 }
 

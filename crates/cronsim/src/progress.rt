@@ -54,7 +54,7 @@ pub fn is_shown(rt: &HostRuntime, request: &Request<'_>) -> bool {
 pub fn serve_shown<T: Threads + Wait + Clock + Sync>(
     threads: &T,
     rt: &HostRuntime,
-    request: &Request<'_>,
+    request: &mut Request<'_>,
     input: &mut Input,
 ) -> Result<ExitStatus, Failure> {
     let meter = Meter::new();

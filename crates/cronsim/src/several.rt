@@ -1,11 +1,21 @@
 use crate::folder::{input_files, push_input_files};
 use crate::source::Input;
+use crate::streams::Output;
+use crate::taken::json_of;
+use crate::telling::{Served, at_terminal, tell, tell_more};
 use cj_program::{
     CheckRequest, CronFile, ExitStatus, Failure, FileAnswer, MOST_BYTES, MOST_LIST_BYTES,
-    MOST_LIST_READS, MOST_READS, UpcomingRequest, check_file_answer, read_input, serve_several,
-    serve_upcoming, tell_failure,
+    MOST_LIST_READS, MOST_READS, ReportRequest, UpcomingRequest, ZoneFile, check_file_answer,
+    read_input, serve_report, serve_several, serve_upcoming, shape_words, tell_failure,
 };
+use std::io;
 use std::io::Write;
+
+// Why a file can't be read, on a line for people.
+fn push_cause(causes: &mut Vec<u8>, name: &str, input: &Input) {
+    let cause = input.cause().unwrap_or("it can't be read, or is too long");
+    let _ = writeln!(causes, "{name}: {cause}");
+}
 
 // What is answered of one of several files; none where it can't be read.
 fn answer_of<'a>(
@@ -13,63 +23,95 @@ fn answer_of<'a>(
     check: &CheckRequest<'a>,
     folder: &str,
     name: &'a str,
+    causes: &mut Vec<u8>,
 ) -> Result<FileAnswer<'a>, Failure> {
     let alloc = rt.alloc();
     let mut input = Input::open(rt, Some(name));
     let bytes = match read_input(alloc, &mut input, MOST_BYTES, MOST_READS) {
-        Ok(bytes) => bytes,
+        Ok(bytes) => json_of(rt, Some(name), bytes)?,
         Err(Failure::Memory) => return Err(Failure::Memory),
-        Err(_) => return Ok(FileAnswer { name, answer: None }),
+        Err(_) => {
+            push_cause(causes, name, &input);
+            return Ok(FileAnswer { name, answer: None });
+        }
     };
     let files = input_files(rt, folder, bytes.as_slice())?;
     let answer = check_file_answer(alloc, check, name, files.as_slice(), &mut bytes.as_slice())?;
+    let shape = shape_words(bytes.as_slice());
+    if check.explain && !shape.is_empty() {
+        let _ = write!(causes, "{name}: {shape}");
+    }
     Ok(FileAnswer {
         name,
         answer: Some(answer),
     })
 }
 
-/// Serves a request to check several files, one after another.
-pub fn serve_files(
+// Checks several files, one after another.
+fn check_all<W: Write>(
     rt: &HostRuntime,
     check: &CheckRequest<'_>,
     folder: &str,
-) -> Result<ExitStatus, Failure> {
-    let mut answers = Vec::new(rt.alloc());
+    out: &mut W,
+) -> Result<Served, Failure> {
+    let alloc = rt.alloc();
+    let mut answers = Vec::new(alloc);
+    let mut causes = Vec::new(alloc);
     for name in check.files.as_slice() {
-        answers.push(answer_of(rt, check, folder, name)?)?;
+        answers.push(answer_of(rt, check, folder, name, &mut causes)?)?;
     }
-    Ok(serve_several(
-        rt.alloc(),
-        check,
-        answers.as_slice(),
-        &mut rt.stdout(),
-        &mut rt.stderr(),
-    ))
+    let mut said = Vec::new(alloc);
+    let status = serve_several(alloc, check, answers.as_slice(), out, &mut said);
+    if check.explain || at_terminal(rt) {
+        let _ = said.write_all(causes.as_slice());
+    }
+    Ok(Served { status, said })
+}
+
+// Whether people are to be told why a file is refused. Standard input can't be read once more.
+fn wants_why(rt: &HostRuntime, check: &CheckRequest<'_>, served: &Served) -> bool {
+    let is_refused = served.status == ExitStatus::Refused && !check.explain;
+    let is_kept = check.files.as_slice().iter().all(|name| *name != "-");
+    is_refused && is_kept && at_terminal(rt)
+}
+
+/// Serves a request to check several files.
+pub fn serve_files(
+    rt: &HostRuntime,
+    check: &mut CheckRequest<'_>,
+    folder: &str,
+) -> Result<ExitStatus, Failure> {
+    let mut out = Output::new(rt);
+    let first = check_all(rt, check, folder, &mut out)?;
+    let status = tell(rt, &first, out.is_closed());
+    if wants_why(rt, check, &first) {
+        check.explain = true;
+        let second = check_all(rt, check, folder, &mut io::sink())?;
+        tell_more(rt, &first, &second);
+    }
+    Ok(status)
 }
 
 // All bytes of one of several files; none where it can't be read, which standard error says.
 fn bytes_of(rt: &HostRuntime, name: &str) -> Result<Option<Vec<u8>>, Failure> {
     let mut input = Input::open(rt, Some(name));
     match read_input(rt.alloc(), &mut input, MOST_LIST_BYTES, MOST_LIST_READS) {
-        Ok(bytes) => Ok(Some(bytes)),
+        Ok(bytes) => Ok(Some(json_of(rt, Some(name), bytes)?)),
         Err(Failure::Memory) => Err(Failure::Memory),
         Err(failure) => {
-            let _ = tell_failure(failure, &mut rt.stderr());
+            let err = &mut rt.stderr();
+            let _ = tell_failure(failure, err);
             let cause = input.cause().unwrap_or("it can't be read, or is too long");
-            let _ = writeln!(&mut rt.stderr(), "{name}: {cause}");
+            let _ = writeln!(err, "{name}: {cause}");
             Ok(None)
         }
     }
 }
 
 // The bytes of all files; none where one can't be read.
-fn all_bytes(
-    rt: &HostRuntime,
-    upcoming: &UpcomingRequest<'_>,
-) -> Result<Option<Vec<Vec<u8>>>, Failure> {
+fn all_bytes(rt: &HostRuntime, names: &[&str]) -> Result<Option<Vec<Vec<u8>>>, Failure> {
     let mut all = Vec::new(rt.alloc());
-    for name in upcoming.files.as_slice() {
+    for name in names {
         match bytes_of(rt, name)? {
             Some(bytes) => all.push(bytes)?,
             None => return Ok(None),
@@ -78,15 +120,48 @@ fn all_bytes(
     Ok(Some(all))
 }
 
+// Says what several files have start.
+fn answer_upcoming<W: Write>(
+    rt: &HostRuntime,
+    upcoming: &UpcomingRequest<'_>,
+    zone_files: &[ZoneFile],
+    sources: &[CronFile<'_>],
+    out: &mut W,
+) -> Served {
+    let alloc = rt.alloc();
+    let mut said = Vec::new(alloc);
+    let status = serve_upcoming(alloc, upcoming, zone_files, sources, out, &mut said);
+    Served { status, said }
+}
+
+// Serves such a request on files that were read.
+fn serve_read(
+    rt: &HostRuntime,
+    upcoming: &mut UpcomingRequest<'_>,
+    zone_files: &[ZoneFile],
+    sources: &[CronFile<'_>],
+) -> ExitStatus {
+    let mut out = Output::new(rt);
+    let first = answer_upcoming(rt, upcoming, zone_files, sources, &mut out);
+    let status = tell(rt, &first, out.is_closed());
+    let is_refused = first.status == ExitStatus::Refused && out.is_empty();
+    if is_refused && !upcoming.explain && at_terminal(rt) {
+        upcoming.explain = true;
+        let second = answer_upcoming(rt, upcoming, zone_files, sources, &mut io::sink());
+        tell_more(rt, &first, &second);
+    }
+    status
+}
+
 /// Serves a request for what several files have start: all of them are read first, then the files
 /// of their zones.
 pub fn serve_upcoming_files(
     rt: &HostRuntime,
-    upcoming: &UpcomingRequest<'_>,
+    upcoming: &mut UpcomingRequest<'_>,
     folder: &str,
 ) -> Result<ExitStatus, Failure> {
     let alloc = rt.alloc();
-    let Some(all) = all_bytes(rt, upcoming)? else {
+    let Some(all) = all_bytes(rt, upcoming.files.as_slice())? else {
         return Ok(ExitStatus::Failed);
     };
     let mut zone_files = Vec::new(alloc);
@@ -96,12 +171,59 @@ pub fn serve_upcoming_files(
         push_input_files(rt, &mut zone_files, folder, bytes)?;
         sources.push(CronFile { name: *name, bytes })?;
     }
-    Ok(serve_upcoming(
-        alloc,
-        upcoming,
-        zone_files.as_slice(),
-        sources.as_slice(),
-        &mut rt.stdout(),
-        &mut rt.stderr(),
-    ))
+    Ok(serve_read(rt, upcoming, zone_files.as_slice(), sources.as_slice()))
+}
+
+// The page on what several files have.
+fn answer_report<W: Write>(
+    rt: &HostRuntime,
+    report: &ReportRequest<'_>,
+    zone_files: &[ZoneFile],
+    sources: &[CronFile<'_>],
+    out: &mut W,
+) -> Served {
+    let alloc = rt.alloc();
+    let mut said = Vec::new(alloc);
+    let status = serve_report(alloc, report, zone_files, sources, out, &mut said);
+    Served { status, said }
+}
+
+// Serves a request for a page on files that were read.
+fn serve_page(
+    rt: &HostRuntime,
+    report: &mut ReportRequest<'_>,
+    zone_files: &[ZoneFile],
+    sources: &[CronFile<'_>],
+) -> ExitStatus {
+    let mut out = Output::new(rt);
+    let first = answer_report(rt, report, zone_files, sources, &mut out);
+    let status = tell(rt, &first, out.is_closed());
+    let is_refused = first.status == ExitStatus::Refused && out.is_empty();
+    if is_refused && !report.explain && at_terminal(rt) {
+        report.explain = true;
+        let second = answer_report(rt, report, zone_files, sources, &mut io::sink());
+        tell_more(rt, &first, &second);
+    }
+    status
+}
+
+/// Serves a request for a page on what several files have: all of them are read first, then the
+/// files of their zones.
+pub fn serve_report_files(
+    rt: &HostRuntime,
+    report: &mut ReportRequest<'_>,
+    folder: &str,
+) -> Result<ExitStatus, Failure> {
+    let alloc = rt.alloc();
+    let Some(all) = all_bytes(rt, report.files.as_slice())? else {
+        return Ok(ExitStatus::Failed);
+    };
+    let mut zone_files = Vec::new(alloc);
+    let mut sources = Vec::new(alloc);
+    for (name, bytes) in report.files.as_slice().iter().zip(all.as_slice()) {
+        let bytes = bytes.as_slice();
+        push_input_files(rt, &mut zone_files, folder, bytes)?;
+        sources.push(CronFile { name: *name, bytes })?;
+    }
+    Ok(serve_page(rt, report, zone_files.as_slice(), sources.as_slice()))
 }

@@ -16,36 +16,41 @@ fn is_before(word: &str) -> bool {
     bytes.len() > 1 && bytes[0] == b'-' && bytes[1].is_ascii_digit()
 }
 
-// The option of a command whose value may be a moment by the clock.
-fn moment_option(command: &str) -> &'static str {
+// Whether the value of the command's option may be a moment by the clock.
+fn takes_moment(command: &str, option: &str) -> bool {
     match command {
-        "check" | "why" => "--now",
-        "upcoming" => "--from",
-        "describe" => "--after",
-        _ => "",
+        "check" | "why" => option == "--now",
+        "upcoming" => option == "--from",
+        "describe" => option == "--after",
+        "report" => option == "--now" || option == "--since",
+        _ => false,
     }
 }
 
 /// The words, with `--now -1h` of `why` as `--now=-1h`, and likewise for the other commands that
 /// take a moment by the clock, since clap takes a word that begins with `-` for an option.
 pub fn joined(alloc: Global, words: &[String]) -> Result<Vec<String>, Failure> {
-    let option = match words {
-        [_, command, ..] => moment_option(command.as_str()),
+    let command = match words {
+        [_, command, ..] => command.as_str(),
         _ => "",
     };
     let mut joined = Vec::new(alloc);
-    let mut is_moment = false;
+    let mut option = "";
     for word in words {
         let word = word.as_str();
         let mut text = String::new(alloc);
-        if is_moment && is_before(word) {
+        if !option.is_empty() && is_before(word) {
             let _ = joined.pop();
             text.push_str(option)?;
             text.push_str("=")?;
         }
         text.push_str(word)?;
         joined.push(text).map_err(|_| Failure::Memory)?;
-        is_moment = !option.is_empty() && word == option;
+        option = if takes_moment(command, word) {
+            word
+        } else {
+            ""
+        };
     }
     Ok(joined)
 }

@@ -1,26 +1,25 @@
 // What is wrong in the list of a cluster's objects.
-ghost use Rattle.std.specs.Prelude.{◌≡◌, ◌≢◌, ℕ, List, IfOk, IfErr, string_bytes};
+ghost use Rattle.std.specs.Prelude.{◌≡◌, ℕ, List, IfOk, IfErr, string_bytes};
 ghost use Rattle.cj_audit.specs.Findings.{IsAudit};
 ghost use Rattle.cj_audit.specs.declared.finding.Finding.{Finding};
 ghost use Rattle.cj_base.specs.declared.refusal.Refusal.TheVariants.{OutOfMemory};
-ghost use Rattle.cj_cluster.specs.declared.kubectl.fault.ListFault.TheVariants.{Memory};
 ghost use Rattle.cj_zone.specs.Table.{zones_of};
-ghost use Rattle.serde_json.specs.View.{view};
 ghost use Rattle.cj_audit.specs.Audit.{audit_data};
-ghost use Rattle.cj_c.specs.answers.Audit.{IsAuditRefusal, IsAudited, list_fault_data};
+ghost use Rattle.cj_c.specs.answers.Audit.{IsAudited};
 ghost use Rattle.cj_c.specs.answers.Buffers.{IsAnswered, IsTold};
+ghost use Rattle.cj_c.specs.answers.Lists.{IsListRefusal};
 ghost use Rattle.cj_c.specs.answers.Texts.{IsJsonText};
 ghost use Rattle.cj_c.specs.answers.Zones.{AreZonesOf};
 
 use crate::answers::buffer::leave;
+use crate::answers::lists::refused_list;
 use crate::answers::text::json_text;
 use crate::answers::told::Told;
 use crate::answers::zones::{refused_zones, zones_of_text};
-use cj_audit::{audit, audit_value, one_fault};
+use cj_audit::{audit, audit_value};
 use cj_base::Refusal;
-use cj_cluster::{ClusterList, ListFault, read_cluster};
+use cj_cluster::{ClusterList, read_cluster};
 use cj_zone::ZoneTable;
-use serde_json::Value;
 use std::alloc::Global;
 
 // The text for a list under these zones.
@@ -35,32 +34,11 @@ fn audit_text(alloc: Global, list: &ClusterList, zones: &ZoneTable) -> Result<St
     json_text(alloc, &value)
 }
 
-fn fault_value(alloc: Global, fault: ListFault) -> Result<Value, Refusal>
-    ensures ok { IfOk result (λ v. (fault ≢ Memory) × (view v ≡ list_fault_data fault)) }
-    ensures err { IfErr result (λ e. e ≡ OutOfMemory) }
-{
-    match fault {
-        ListFault::Syntax => one_fault(alloc, "Syntax", "$"),
-        ListFault::Form => one_fault(alloc, "Form", "$"),
-        ListFault::Memory => Err(Refusal::OutOfMemory),
-    }
-}
-
-// The text for bytes that are no list.
-fn refused_list(alloc: Global, fault: ListFault) -> Result<String, Refusal>
-    ensures ok { IfOk result (λ s. (fault ≢ Memory)
-        × IsJsonText (list_fault_data fault) (string_bytes s)) }
-    ensures err { IfErr result (λ e. e ≡ OutOfMemory) }
-{
-    let value = fault_value(alloc, fault)?;
-    json_text(alloc, &value)
-}
-
 // The answer for the bytes of a list under these zones.
 fn audited_under(alloc: Global, bytes: &[u8], zones: &ZoneTable) -> Result<Told, Refusal>
     ensures ok { (zones_text : List ℕ) → AreZonesOf zones_text (zones_of zones.now) →
         IfOk result (IsTold (IsAudited bytes.now zones_text)
-        (IsAuditRefusal bytes.now zones_text)) }
+        (IsListRefusal bytes.now zones_text)) }
     ensures err { IfErr result (λ e. e ≡ OutOfMemory) }
 {
     match read_cluster(alloc, bytes, zones) {
@@ -71,7 +49,7 @@ fn audited_under(alloc: Global, bytes: &[u8], zones: &ZoneTable) -> Result<Told,
 
 fn audited(alloc: Global, bytes: &[u8], zones: &[u8]) -> Result<Told, Refusal>
     ensures ok { IfOk result (IsTold (IsAudited bytes.now zones.now)
-        (IsAuditRefusal bytes.now zones.now)) }
+        (IsListRefusal bytes.now zones.now)) }
     ensures err { IfErr result (λ e. e ≡ OutOfMemory) }
 {
     match zones_of_text(alloc, zones) {
@@ -91,7 +69,7 @@ pub extern "C" fn cronsim_audit(
     answer: &mut [u8],
     length: &mut usize,
 ) -> u32
-    ensures { IsAnswered (IsAudited list.now zones.now) (IsAuditRefusal list.now zones.now)
+    ensures { IsAnswered (IsAudited list.now zones.now) (IsListRefusal list.now zones.now)
         answer.old answer.new length.old length.new result }
 {
     leave(audited(alloc, list, zones), answer, length)

@@ -14,10 +14,10 @@ ghost use Rattle.cj_c.specs.answers.Texts.{IsJsonText};
 ghost use Rattle.cj_c.specs.answers.Zones.{AreZonesOf};
 
 use crate::answers::buffer::leave;
-use crate::answers::text::json_text;
+use crate::answers::text::{json_text, one_fault_text};
 use crate::answers::told::Told;
 use crate::answers::zones::{refused_zones, zones_of_text};
-use cj_audit::{faults_value, one_fault};
+use cj_audit::faults_value;
 use cj_base::{FieldFault, Refusal};
 use cj_json::push_value;
 use cj_manifest::{Manifest, Warning, read_manifest};
@@ -88,8 +88,7 @@ pub(crate) fn no_json(alloc: Global) -> Result<String, Refusal>
         (string_bytes s)) }
     ensures err { IfErr result (λ e. e ≡ OutOfMemory) }
 {
-    let value = one_fault(alloc, "Syntax", "$")?;
-    json_text(alloc, &value)
+    one_fault_text(alloc, "Syntax", "$")
 }
 
 // The text for a manifest that is refused.

@@ -30,8 +30,8 @@ fn cause_of(code: u32) -> Option<ScheduleCause>
     }
 }
 
-// The fault of a schedule that was told so, if it is one.
-fn fault_of(told: &CronFault) -> Option<ScheduleFault>
+/// The fault of a schedule that was told so, if it is one.
+pub(crate) fn fault_of(told: &CronFault) -> Option<ScheduleFault>
     ensures some { IfSome result (λ fault. told.now ≡ fault_told fault) }
     ensures none { IsNone result → IsNoneOf told.now }
 {

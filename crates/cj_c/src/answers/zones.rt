@@ -1,11 +1,11 @@
 // The zones of a call.
-ghost use Rattle.std.specs.Prelude.{◌≡◌, IfOk, IfErr, [], ℕ, List, string_bytes};
+ghost use Rattle.std.specs.Prelude.{◌≡◌, IfOk, IfErr, Some, [], ℕ, List, codes, string_bytes};
 ghost use Rattle.cj_base.specs.declared.refusal.Refusal.TheVariants.{OutOfMemory};
-ghost use Rattle.cj_zone.specs.Table.{zones_of};
+ghost use Rattle.cj_zone.specs.Table.{local_zone, zones_of};
+ghost use Rattle.cj_zone.specs.Zones.{utc_zone};
 ghost use Rattle.cj_c.specs.answers.Zones.{AreZonesOf, IsBare, IsNoZones, IsZonesRefusal};
 
-use crate::answers::text::json_text;
-use cj_audit::one_fault;
+use crate::answers::text::one_fault_text;
 use cj_base::Refusal;
 use cj_io::GivenZones;
 use cj_scenario::{SceneFault, table_of, value_of};
@@ -25,6 +25,7 @@ pub(crate) fn bare(alloc: Global) -> Result<GivenZones<'static>, Refusal>
 fn zones_in(alloc: Global, given: GivenZones<'_>, bytes: &[u8]) -> Result<ZoneTable, SceneFault>
     requires { IsBare given }
     ensures ok { IfOk result (λ t. AreZonesOf bytes.now (zones_of t)) }
+    ensures local { IfOk result (λ t. local_zone t ≡ Some (utc_zone (codes "UTC"))) }
     ensures err { IfErr result (IsNoZones bytes.now) }
 {
     let value = value_of(alloc, bytes)?;
@@ -34,6 +35,7 @@ fn zones_in(alloc: Global, given: GivenZones<'_>, bytes: &[u8]) -> Result<ZoneTa
 fn no_zones(given: GivenZones<'_>) -> Result<ZoneTable, SceneFault>
     requires { IsBare given }
     ensures ok { IfOk result (λ t. AreZonesOf [] (zones_of t)) }
+    ensures local { IfOk result (λ t. local_zone t ≡ Some (utc_zone (codes "UTC"))) }
     ensures err { IfErr result (IsNoZones []) }
 {
     table_of(given, None)
@@ -42,6 +44,7 @@ fn no_zones(given: GivenZones<'_>) -> Result<ZoneTable, SceneFault>
 /// UTC and the zones of an object from names to POSIX rules; UTC alone where there is no text.
 pub(crate) fn zones_of_text(alloc: Global, bytes: &[u8]) -> Result<ZoneTable, SceneFault>
     ensures ok { IfOk result (λ t. AreZonesOf bytes.now (zones_of t)) }
+    ensures local { IfOk result (λ t. local_zone t ≡ Some (utc_zone (codes "UTC"))) }
     ensures err { IfErr result (IsNoZones bytes.now) }
 {
     let given = bare(alloc)?;
@@ -63,6 +66,5 @@ pub(crate) fn refused_zones(alloc: Global, fault: SceneFault) -> Result<String, 
         SceneFault::Memory => return Err(Refusal::OutOfMemory),
         _ => "Zone",
     };
-    let value = one_fault(alloc, cause, "zones")?;
-    json_text(alloc, &value)
+    one_fault_text(alloc, cause, "zones")
 }

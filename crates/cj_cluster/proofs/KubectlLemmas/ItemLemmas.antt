@@ -7,12 +7,13 @@ use Rattle.cj_base.specs.declared.cause.Cause.{Cause}
 use Rattle.cj_base.specs.declared.faults.FieldFault.{FieldFault}
 use Rattle.cj_types.specs.declared.cron.CronJobDraft.{CronJobDraft}
 use Rattle.cj_cluster.specs.declared.cron.ClusterCron.{ClusterCron}
+use Rattle.cj_cluster.specs.declared.cron.CronMarks.{CronMarks}
 use Rattle.cj_manifest.specs.Drafts.{given, value_or}
 use Rattle.cj_cluster.specs.declared.kubectl.item.Item.{Item}
 use Rattle.cj_cluster.specs.declared.kubectl.item.Item.TheVariants as Read
 use Rattle.cj_cluster.specs.declared.kubectl.times.CronTimes.{CronTimes}
 use Rattle.cj_cluster.specs.kubectl.Objects.{cron_made}
-use Rattle.cj_cluster.specs.kubectl.Reading.{Unless, cron_at}
+use Rattle.cj_cluster.specs.kubectl.Reading.{Unless, cron_at, marks_of}
 use Rattle.cj_cluster.specs.kubectl.Rows.{active_of}
 
 -- An item with faults is refused with just these.
@@ -29,16 +30,19 @@ unless_clear (f ∷ rest) r Further is further = absurd (cc is)
 
 -- For sound_cron: what is made of the draft, the times and the names that were read is the CronJob of the value.
 pub cron_is : (place : ℕ) (d : Data) (draft same : CronJobDraft) (times : CronTimes) (names : List (List ℕ))
-    (active : Result (List (List ℕ)) Cause) (cron : ClusterCron)
+    (active : Result (List (List ℕ)) Cause) (marks : CronMarks) (cron : ClusterCron)
     → cron ≡ cron_made place same (unwrap_or same.meta.uid []) (value_or 0 times.created) names (given times.last)
-    (given times.success)
-    → same ≡ draft → names ≡ value_or [] active → active ≡ active_of d → cron ≡ cron_at place d draft times
-cron_is place d draft same times names active cron is draft_is names_are active_is =
+    (given times.success) marks
+    → same ≡ draft → names ≡ value_or [] active → active ≡ active_of d → marks ≡ marks_of d
+    → cron ≡ cron_at place d draft times
+cron_is place d draft same times names active marks cron is draft_is names_are active_is marks_are =
     is
+    ∙ ap (λ m. cron_made place same (unwrap_or same.meta.uid []) (value_or 0 times.created) names (given times.last)
+    (given times.success) m) marks_are
     ∙ ap (λ x. cron_made place x (unwrap_or x.meta.uid []) (value_or 0 times.created) names (given times.last)
-    (given times.success)) draft_is
+    (given times.success) (marks_of d)) draft_is
     ∙ ap (λ x. cron_made place draft (unwrap_or draft.meta.uid []) (value_or 0 times.created) x (given times.last)
-    (given times.success)) (names_are ∙ ap (value_or []) active_is)
+    (given times.success) (marks_of d)) (names_are ∙ ap (value_or []) active_is)
 
 -- A list whose length tests as 0 is empty.
 is_nil : (seen : List FieldFault) → (length seen == 0) ≡ true → seen ≡ []

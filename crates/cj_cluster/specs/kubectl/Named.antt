@@ -12,6 +12,7 @@ use Rattle.cj_manifest.specs.Owners.{text_at}
 use Rattle.cj_table.specs.jobs.Owners.{names}
 use Rattle.cj_cluster.specs.Content.{has_uid}
 use Rattle.cj_cluster.specs.declared.kubectl.named.CronName.{CronName}
+use Rattle.cj_cluster.specs.declared.kubectl.object.ObjectNamed.{ObjectNamed}
 use Rattle.cj_cluster.specs.declared.kubectl.notes.ItemNote.{ItemNote}
 use Rattle.cj_cluster.specs.kubectl.Rows.{member_of, metadata_of}
 
@@ -36,6 +37,24 @@ name_with d (Some name) = Some (record {
 abbrev pub name_where : Bool → Data → Option CronName
 name_where false d = None
 name_where true d = name_with d (meta_text (codes "name") d)
+
+-- an object of that kind, where its name is a text
+abbrev pub object_with : Data → List ℕ → Option (List ℕ) → Option ObjectNamed
+object_with d kind None = None
+object_with d kind (Some name) = Some (record {
+  kind = kind;
+  namespace = unwrap_or (meta_text (codes "namespace") d) (codes "default");
+  name = name;
+})
+
+abbrev pub object_of : Data → Option (List ℕ) → Option ObjectNamed
+object_of d None = None
+object_of d (Some kind) = object_with d kind (meta_text (codes "name") d)
+
+-- kind, namespace and name of an object, as far as its value says them
+-- rule: cluster-faults
+abbrev pub object_named : Data → Option ObjectNamed
+object_named d = object_of d (text_at (codes "kind") d)
 
 abbrev pub is_cron : Option (List ℕ) → Bool
 is_cron None = false

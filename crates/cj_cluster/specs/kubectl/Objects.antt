@@ -1,14 +1,16 @@
 -- The objects that are made of what is read, numbered by their places in the list, from 1.
-use Rattle.std.specs.Prelude.{ℕ, List, [], codes, Option, Some, None}
+use Rattle.std.specs.Prelude.{ℕ, List, [], codes, map, Option, Some, None}
 use Rattle.cj_types.specs.declared.cron.CronJobDraft.{CronJobDraft}
 use Rattle.cj_types.specs.declared.job.Job.{Job}
 use Rattle.cj_types.specs.declared.meta.Meta.{Meta}
 use Rattle.cj_types.specs.declared.policy.Outcome.{Outcome}
 use Rattle.cj_types.specs.declared.policy.Outcome.TheVariants.{Complete, Failed}
 use Rattle.cj_cluster.specs.declared.cron.ClusterCron.{ClusterCron}
+use Rattle.cj_cluster.specs.declared.cron.CronMarks.{CronMarks}
 use Rattle.cj_manifest.specs.declared.head.JobHead.{JobHead}
 use Rattle.cj_cluster.specs.declared.kubectl.conditions.Ending.{Ending}
 use Rattle.cj_cluster.specs.declared.kubectl.conditions.Ending.TheVariants.{Success, Failure}
+use Rattle.cj_cluster.specs.kubectl.Owners.{in_group}
 use Rattle.cj_cluster.specs.kubectl.Rows.{Finish}
 
 abbrev pub meta_made : ℕ → ℕ → List (List ℕ × List ℕ) → List (List ℕ × List ℕ) → Meta
@@ -24,9 +26,10 @@ meta_made place created labels annotations = record {
 -- a CronJob as its server says it: its uid is a text, so it has its place for a number
 -- rule: cluster-cron
 abbrev pub cron_made : ℕ → CronJobDraft → List ℕ → ℕ → List (List ℕ) → Option ℕ → Option ℕ
-    → ClusterCron
-cron_made place draft uid created names last success = record {
+    → CronMarks → ClusterCron
+cron_made place draft uid created names last success marks = record {
   uid = uid;
+  marks = marks;
   cron = record {
     key = draft.key;
     meta = meta_made place created draft.meta.labels draft.meta.annotations;
@@ -51,7 +54,7 @@ abbrev pub job_made : ℕ → JobHead → ℕ → Option Outcome → Job
 job_made place head created outcome = record {
   key = head.key;
   meta = meta_made place created [] [];
-  owners = head.owners;
+  owners = map in_group head.owners;
   spec = codes "{}";
   outcome = outcome;
 }

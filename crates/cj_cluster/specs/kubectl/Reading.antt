@@ -1,16 +1,18 @@
 -- What a reading of a printed cluster answers.
-use Rattle.std.specs.Prelude.{◌≡◌, ℕ, ◌+◌, List, [], ◌∷◌, ◌++◌, codes, bytes_eq, Bool, true, false, Option, Some, None, unwrap_or, Result, Ok, Err}
+use Rattle.std.specs.Prelude.{◌≡◌, ℕ, ◌+◌, ◌&&◌, List, [], ◌∷◌, ◌++◌, codes, bytes_eq, Bool, true, false, Option, Some, None, is_none, is_some, unwrap_or, Result, Ok, Err}
 use Rattle.std.specs.FinMap as map
 use Rattle.serde_json.specs.Data.{Data, Items, no_items, item}
 use Rattle.cj_base.specs.declared.cause.Cause.{Cause}
 use Rattle.cj_base.specs.declared.field.Field.TheVariants as At
 use Rattle.cj_base.specs.declared.faults.FieldFault.{FieldFault}
 use Rattle.cj_types.specs.Keys.{Place, fault_of}
+use Rattle.cj_types.specs.Objects.{cron_of}
 use Rattle.cj_types.specs.declared.cron.CronJobDraft.{CronJobDraft}
 use Rattle.cj_types.specs.declared.job.Job.{Job}
 use Rattle.cj_zone.specs.declared.zone.Zone.{Zone}
 use Rattle.cj_cluster.specs.Content.{nothing, with_cron, with_job}
 use Rattle.cj_cluster.specs.declared.cron.ClusterCron.{ClusterCron}
+use Rattle.cj_cluster.specs.declared.cron.CronMarks.{CronMarks}
 use Rattle.cj_cluster.specs.declared.times.JobTimes.{JobTimes}
 use Rattle.cj_manifest.specs.Drafts.{cron_draft, given, job_head, value_or}
 use Rattle.cj_manifest.specs.Faults.{cron_faults, head_faults}
@@ -32,9 +34,10 @@ use Rattle.cj_cluster.specs.kubectl.Faults.{cron_server_faults, job_server_fault
 use Rattle.cj_cluster.specs.declared.kubectl.notes.ListedKind.{ListedKind}
 use Rattle.cj_cluster.specs.declared.kubectl.notes.ListedKind.TheVariants as Of
 use Rattle.cj_cluster.specs.kubectl.Lists.{item_kind, items_of, typed}
-use Rattle.cj_cluster.specs.kubectl.Named.{cron_named, key_text}
+use Rattle.cj_cluster.specs.kubectl.Named.{cron_named, key_text, object_named}
+use Rattle.cj_cluster.specs.kubectl.NamedTimes.{named_time}
 use Rattle.cj_cluster.specs.kubectl.Objects.{cron_made, job_made, outcome_of}
-use Rattle.cj_cluster.specs.kubectl.Rows.{AreCronTimes, AreRunTimes, active_of, finish_row}
+use Rattle.cj_cluster.specs.kubectl.Rows.{AreCronTimes, AreRunTimes, active_of, deleting_of, finish_row, stuck_of}
 
 -- ---- an item
 
@@ -43,12 +46,15 @@ abbrev pub Unless : List FieldFault → Item → Type 0 → Type 0
 Unless [] r Further = Further
 Unless (fault ∷ faults) r Further = r ≡ Read.Faulty (fault ∷ faults)
 
+abbrev pub marks_of : Data → CronMarks
+marks_of d = record { is_deleting = deleting_of d; is_stuck = stuck_of d }
+
 -- the CronJob of a draft, by its value and its times
 abbrev pub cron_at : ℕ → Data → CronJobDraft → CronTimes → ClusterCron
 cron_at place d draft times =
     cron_made place draft (unwrap_or draft.meta.uid []) (value_or 0 times.created)
     (value_or [] (active_of d))
-    (given times.last) (given times.success)
+    (given times.last) (given times.success) (marks_of d)
 
 -- what is read of a CronJob whose manifest has no fault
 pub record IsSoundCron (place : ℕ) (d : Data) (r : Item) : Type 0 where
@@ -68,13 +74,24 @@ job_at place d head times =
     job_made place head (value_or 0 times.created)
     (outcome_of (given (finish_row d)) (given times.ended))
 
-abbrev pub times_of : RunTimes → JobTimes
-times_of times =
+-- the time that the annotation says, else that of the name
+abbrev pub or_named : Option ℕ → Option ℕ → Option ℕ
+or_named None named = named
+or_named (Some time) named = Some time
+
+-- the time in the name of the Job
+abbrev pub named_in : Job → Option ℕ
+named_in job = named_time (cron_of job) job.key.name
+
+-- rules: cluster-job, cluster-named
+abbrev pub times_of : Job → RunTimes → JobTimes
+times_of job times =
     record {
-      scheduled = given times.scheduled;
+      scheduled = or_named (given times.scheduled) (named_in job);
+      is_named = is_none (given times.scheduled) && is_some (named_in job);
       ended = given times.ended;
-      is_manual =
-          times.is_manual;
+      is_manual = times.is_manual;
+      is_suspended = times.is_suspended;
     }
 
 -- what is read of a Job whose head has no fault
@@ -84,7 +101,7 @@ pub record IsSoundJob (place : ℕ) (d : Data) (r : Item) : Type 0 where
   pub headed : job_head d ≡ Some head
   pub timed : AreRunTimes d times
   pub answer : Unless (job_server_faults d times) r
-      (r ≡ Read.Run (job_at place d head times) (times_of times))
+      (r ≡ Read.Run (job_at place d head times) (times_of (job_at place d head times) times))
 
 -- rule: cluster-faults
 abbrev pub IsJobItem : ℕ → Data → Item → Type 0
@@ -122,7 +139,13 @@ start = record { cluster = nothing; notes = [] }
 abbrev pub noted : ℕ → Data → Said → ClusterList → ClusterList
 noted place d said s = record {
   cluster = s.cluster;
-  notes = s.notes ++ record { place = place; cron = cron_named d; said = said } ∷ [];
+  notes = s.notes
+      ++ record {
+        place = place;
+        object = object_named d;
+        cron = cron_named d;
+        said = said;
+      } ∷ [];
 }
 
 -- an earlier object of that kind has the name

@@ -1,9 +1,9 @@
 -- What a server says of an object beside its manifest (Kubernetes API reference, `CronJobStatus`,
 -- `JobStatus` and `ObjectMeta`).
-use Rattle.std.specs.Prelude.{◌≡◌, ℕ, List, [], ◌∷◌, codes, bytes_eq, if◌then◌else◌, Bool, false, Option, Some, None, option_and_then, Result, Ok, Err}
+use Rattle.std.specs.Prelude.{◌≡◌, ℕ, ◌||◌, List, [], ◌∷◌, codes, bytes_eq, if◌then◌else◌, Bool, false, Option, Some, None, is_none, is_some, option_and_then, unwrap_or, Result, Ok, Err}
 use Rattle.std.specs.Result.{result_ok}
 use Rattle.serde_json.specs.Data.{Data, Items, no_items, item}
-use Rattle.serde_json.specs.Find.{as_array, as_str}
+use Rattle.serde_json.specs.Find.{as_array, as_bool, as_str}
 use Rattle.cj_base.specs.declared.cause.Cause.{Cause}
 use Rattle.cj_base.specs.declared.cause.Cause.TheVariants as Why
 use Rattle.cj_types.specs.Made.{scheduled_annotation}
@@ -11,7 +11,7 @@ use Rattle.cj_types.specs.Names.{longest}
 use Rattle.cj_manifest.specs.Drafts.{given}
 use Rattle.cj_manifest.specs.Members.{present}
 use Rattle.cj_manifest.specs.Owners.{then_do, text_at}
-use Rattle.cj_manifest.specs.Values.{an_object, and_then, name, optional, or_wrong_type, required}
+use Rattle.cj_manifest.specs.Values.{an_object, and_then, name, optional, or_wrong_type}
 use Rattle.cj_manifest.specs.Table as row
 use Rattle.cj_cluster.specs.declared.kubectl.conditions.Ending.{Ending}
 use Rattle.cj_cluster.specs.declared.kubectl.conditions.Ending.TheVariants.{Success, Failure}
@@ -64,15 +64,16 @@ status_of d = given (status_row d)
 abbrev pub name_of : Data → Result (List ℕ) Cause
 name_of d = name longest d
 
--- the name in a reference to a Job
-abbrev pub name_in : Data → Result (List ℕ) Cause
-name_in d = required name_of (present (codes "name") d)
+-- the name in a reference to a Job, where it has one
+abbrev pub name_in : Data → Result (Option (List ℕ)) Cause
+name_in d = optional name_of (present (codes "name") d)
 
--- with one name more before the others
-abbrev pub before : Result (List ℕ) Cause → Result (List (List ℕ)) Cause
+-- with what one reference names before the others
+abbrev pub before : Result (Option (List ℕ)) Cause → Result (List (List ℕ)) Cause
     → Result (List (List ℕ)) Cause
 before (Err cause) names = Err cause
-before (Ok name) names = and_then (λ ns. Ok (name ∷ ns)) names
+before (Ok None) names = names
+before (Ok (Some name)) names = and_then (λ ns. Ok (name ∷ ns)) names
 
 -- the names in all references, or the first cause
 abbrev pub names_in : Items → Result (List (List ℕ)) Cause
@@ -86,6 +87,25 @@ active_row (Some d) = and_then names_in (or_wrong_type (as_array d))
 
 abbrev pub active_of : Data → Result (List (List ℕ)) Cause
 active_of d = active_row (member_of (codes "active") (status_of d))
+
+-- a reference that names no Job
+abbrev pub is_nameless : Data → Bool
+is_nameless d = is_none (present (codes "name") d)
+
+abbrev pub has_nameless : Items → Bool
+has_nameless no_items = false
+has_nameless (item d ds) = is_nameless d || has_nameless ds
+
+abbrev pub stuck_list : Option Items → Bool
+stuck_list None = false
+stuck_list (Some ds) = has_nameless ds
+
+-- a reference in `status.active` names no Job: Kubernetes' controller asks for the Job of each
+-- reference at each sync, and one without a name has it fail (batch/v1, `CronJobStatus`; API
+-- concepts, "Resource URIs")
+-- rule: cluster-stuck
+abbrev pub stuck_of : Data → Bool
+stuck_of d = stuck_list (option_and_then as_array (member_of (codes "active") (status_of d)))
 
 -- ---- the end of a Job
 
@@ -159,6 +179,21 @@ pub record AreCronTimes (d : Data) (times : CronTimes) : Type 0 where
   pub last : IsOptionalTime (member_of (codes "lastScheduleTime") (status_of d)) times.last
   pub success : IsOptionalTime (member_of (codes "lastSuccessfulTime") (status_of d)) times.success
 
+-- its deletion was asked for, so its controller starts nothing any more (Kubernetes API reference,
+-- `ObjectMeta`, `deletionTimestamp`)
+-- rule: cluster-deleting
+abbrev pub deleting_of : Data → Bool
+deleting_of d = is_some (member_of (codes "deletionTimestamp") (metadata_of d))
+
+abbrev pub is_set : Option Data → Bool
+is_set None = false
+is_set (Some d) = unwrap_or (as_bool d) false
+
+-- a Job whose Pods aren't to run (Kubernetes Job documentation, "Suspending a Job")
+-- rule: cluster-job
+abbrev pub suspended_of : Data → Bool
+suspended_of d = is_set (member_of (codes "suspend") (present (codes "spec") d))
+
 -- the annotation with the time for which a Job was made
 abbrev pub scheduled_in : Data → Option Data
 scheduled_in d = member_of scheduled_annotation (member_of (codes "annotations") (metadata_of d))
@@ -180,3 +215,4 @@ pub record AreRunTimes (d : Data) (times : RunTimes) : Type 0 where
   pub scheduled : IsOptionalTime (scheduled_in d) times.scheduled
   pub ended : IsEndTime (given (finish_row d)) times.ended
   pub manual : times.is_manual ≡ says_manual (manual_text d)
+  pub suspended : times.is_suspended ≡ suspended_of d

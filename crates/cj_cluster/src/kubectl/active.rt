@@ -1,6 +1,7 @@
 // The names of the Jobs that run.
-ghost use Rattle.std.specs.Prelude.{◌≡◌, option_map, IfOk, IfErr};
+ghost use Rattle.std.specs.Prelude.{◌≡◌, codes, option_and_then, option_map, IfOk, IfErr};
 ghost use Rattle.std.specs.Result.{result_ok, result_err};
+ghost use Rattle.serde_json.specs.Find.{as_array};
 ghost use Rattle.serde_json.specs.View.{view, items_view};
 ghost use Rattle.cj_base.specs.declared.refusal.Refusal.TheVariants.{OutOfMemory};
 ghost use Rattle.cj_cluster.specs.kubectl.Rows as row;
@@ -23,24 +24,28 @@ fn name_of(value: &Value) -> Result<&str, Cause>
     }
 }
 
-fn name_in(reference: &Value) -> Result<&str, Cause>
+fn name_in(reference: &Value) -> Result<Option<&str>, Cause>
     ensures fault { result_err result ≡ result_err (row.name_in (view reference.now)) }
-    ensures value { option_map (λ s. s.now) (result_ok result)
+    ensures value { option_map (option_map (λ s. s.now)) (result_ok result)
         ≡ result_ok (row.name_in (view reference.now)) }
 {
     match present(reference, "name") {
-        Some(found) => name_of(found),
-        None => Err(Cause::Required),
+        Some(found) => Ok(Some(name_of(found)?)),
+        None => Ok(None),
     }
 }
 
-// The name in a reference, or why it has none.
-fn object_name(alloc: Global, reference: &Value) -> Result<Result<ObjectName, Cause>, Refusal>
+// The name in a reference, where it has one, or why it is refused.
+fn object_name(
+    alloc: Global,
+    reference: &Value,
+) -> Result<Result<Option<ObjectName>, Cause>, Refusal>
     ensures ok { IfOk result (λ r. r ≡ row.name_in (view reference.now)) }
     ensures err { IfErr result (λ e. e ≡ OutOfMemory) }
 {
     match name_in(reference) {
-        Ok(name) => Ok(Ok(ObjectName::new(alloc, name)?)),
+        Ok(Some(name)) => Ok(Ok(Some(ObjectName::new(alloc, name)?))),
+        Ok(None) => Ok(Ok(None)),
         Err(cause) => Ok(Err(cause)),
     }
 }
@@ -53,7 +58,8 @@ fn names_in(alloc: Global, references: &[Value]) -> Result<Result<Names, Cause>,
     let mut names = Names::new(alloc);
     for reference in references {
         match object_name(alloc, reference)? {
-            Ok(name) => names.push(name)?,
+            Ok(Some(name)) => names.push(name)?,
+            Ok(None) => {}
             Err(cause) => return Ok(Err(cause)),
         }
     }
@@ -79,4 +85,47 @@ pub(crate) fn active_of(alloc: Global, value: &Value) -> Result<Result<Names, Ca
     ensures err { IfErr result (λ e. e ≡ OutOfMemory) }
 {
     active_row(alloc, member(status_of(value), "active"))
+}
+
+// Whether a reference names no Job.
+fn is_nameless(reference: &Value) -> bool
+    ensures { result ≡ row.is_nameless (view reference.now) }
+{
+    present(reference, "name").is_none()
+}
+
+fn has_nameless(references: &[Value]) -> bool
+    ensures { result ≡ row.has_nameless (items_view references.now) }
+{
+    for reference in references {
+        if is_nameless(reference) {
+            return true;
+        }
+    }
+    false
+}
+
+fn stuck_list(references: Option<&[Value]>) -> bool
+    ensures { result ≡ row.stuck_list (option_map (λ vs. items_view vs.now) references.entry) }
+{
+    match references {
+        Some(references) => has_nameless(references),
+        None => false,
+    }
+}
+
+// The references of a CronJob's status to Jobs, where it has a list.
+fn references_of(value: &Value) -> Option<&[Value]>
+    ensures { option_map (λ vs. items_view vs.now) result
+        ≡ option_and_then as_array (row.member_of (codes "active")
+        (row.status_of (view value.now))) }
+{
+    Some(member(status_of(value), "active")?.as_array()?.as_slice())
+}
+
+/// Whether a reference in a CronJob's status names no Job.
+pub(crate) fn is_stuck(value: &Value) -> bool
+    ensures { result ≡ row.stuck_of (view value.now) }
+{
+    stuck_list(references_of(value))
 }

@@ -10,15 +10,16 @@ ghost use Rattle.cj_manifest.specs.Faults as table;
 ghost use Rattle.cj_manifest.specs.Reading.{HasFaults};
 ghost use Rattle.cj_zone.specs.Table.{zones_of};
 ghost use Rattle.cj_cluster.specs.kubectl.Faults.{cron_server_faults};
-ghost use Rattle.cj_cluster.specs.kubectl.Reading.{IsCronItem, IsSoundCron};
+ghost use Rattle.cj_cluster.specs.kubectl.Reading.{IsCronItem, IsSoundCron, marks_of};
 ghost use Rattle.cj_cluster.specs.kubectl.Rows as row;
 
-use crate::kubectl::active::active_of;
+use crate::cron::CronMarks;
+use crate::kubectl::active::{active_of, is_stuck};
 use crate::kubectl::faults::{cron_faults, uid_cause};
 use crate::kubectl::item::Item;
 use crate::kubectl::made;
 use crate::kubectl::status::status_row;
-use crate::kubectl::times::{CronTimes, cron_times};
+use crate::kubectl::times::{CronTimes, cron_times, is_deleting};
 use cj_manifest::cron_of;
 use cj_types::{Cause, CronJobDraft, FieldFaults, Heap, Names, Refusal, Uid};
 use cj_zone::ZoneTable;
@@ -67,6 +68,16 @@ fn server_faults(
     cron_faults(alloc, uid, status, active, times)
 }
 
+// What keeps the controller of a CronJob from starting Jobs.
+fn marks_of(value: &Value) -> CronMarks
+    ensures { result ≡ marks_of (view value.now) }
+{
+    CronMarks {
+        is_deleting: is_deleting(value),
+        is_stuck: is_stuck(value),
+    }
+}
+
 // The CronJob of a draft, or the faults of what the server says of it.
 fn sound_cron(
     alloc: Global,
@@ -85,7 +96,8 @@ fn sound_cron(
         return Ok(Item::Faulty(faults));
     }
     let names = active.unwrap_or(Names::new(alloc));
-    let cron = made::cron(alloc, place, draft.into_inner(), times, names)?;
+    let marks = marks_of(value);
+    let cron = made::cron(alloc, place, draft.into_inner(), times, names, marks)?;
     Ok(Item::Cron(cron))
 }
 

@@ -10,7 +10,9 @@ use crate::cron::ClusterCron;
 use crate::kubectl::item::Item;
 use crate::kubectl::named::{cron_named, key_text};
 use crate::kubectl::notes::{ItemNote, ItemNotes, ListedKind, Said};
+use crate::kubectl::object::object_named;
 use crate::times::JobTimes;
+use cj_base::both;
 use cj_types::{Job, Key, Refusal, Shared};
 use serde_json::Value;
 use std::alloc::Global;
@@ -26,6 +28,17 @@ impl Drop for ClusterList {
         let ClusterList { cluster, notes } = self;
         drop(cluster);
         drop(notes);
+    }
+}
+
+impl ClusterList {
+    /// The cluster and the notes.
+    pub fn into_parts(self) -> (Cluster, ItemNotes)
+        ensures cluster { result.0 ≡ self.cluster }
+        ensures notes { result.1 ≡ self.notes }
+    {
+        let ClusterList { cluster, notes } = self;
+        (cluster, notes)
     }
 }
 
@@ -50,8 +63,13 @@ fn note(
     ensures err { OnErr result (list.new ≡ list.old) }
     ensures memory { IfErr result (λ e. e ≡ OutOfMemory) }
 {
-    let cron = cron_named(alloc, value)?;
-    list.notes.push(ItemNote { place, cron, said })
+    let (object, cron) = both(object_named(alloc, value), cron_named(alloc, value))?;
+    list.notes.push(ItemNote {
+        place,
+        object,
+        cron,
+        said,
+    })
 }
 
 // What is said of an object whose name an earlier one of its kind has.

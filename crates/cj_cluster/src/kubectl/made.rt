@@ -5,8 +5,9 @@ ghost use Rattle.cj_manifest.specs.Drafts.{given, value_or};
 ghost use Rattle.cj_cluster.specs.kubectl.Finishes.{finish_of};
 ghost use Rattle.cj_cluster.specs.kubectl.Objects.{cron_made, job_made, meta_made, outcome_at, outcome_of};
 
-use crate::cron::ClusterCron;
+use crate::cron::{ClusterCron, CronMarks};
 use crate::kubectl::conditions::{Ending, FinishAt};
+use crate::kubectl::owners::all_in_group;
 use crate::kubectl::times::CronTimes;
 use cj_manifest::JobHead;
 use cj_types::{
@@ -36,11 +37,12 @@ pub(crate) fn cron(
     draft: CronJobDraft,
     times: CronTimes,
     names: Names,
+    marks: CronMarks,
 ) -> Result<ClusterCron, Refusal>
     requires uid { IsSome draft.meta.uid }
     requires created { IsOk times.created }
     ensures ok { IfOk result (λ c. c ≡ cron_made place draft (unwrap_or draft.meta.uid [])
-        (value_or 0 times.created) names (given times.last) (given times.success)) }
+        (value_or 0 times.created) names (given times.last) (given times.success) marks) }
     ensures err { IfErr result (λ e. e ≡ OutOfMemory) }
 {
     let CronJobDraft {
@@ -66,7 +68,7 @@ pub(crate) fn cron(
         },
     };
     let cron = Shared::new(alloc, cron)?;
-    Ok(ClusterCron { uid, cron })
+    Ok(ClusterCron { uid, marks, cron })
 }
 
 fn outcome_at(ending: Ending, time: Seconds) -> Outcome
@@ -108,6 +110,7 @@ pub(crate) fn job(
 {
     let spec = no_spec(alloc)?;
     let JobHead { key, owners } = head;
+    let owners = all_in_group(alloc, owners.as_slice())?;
     let meta = meta(place, created, Labels::new(alloc), Labels::new(alloc));
     Shared::new(
         alloc,

@@ -27,15 +27,15 @@ pub struct CronName {
     pub uid: Option<Text>,
 }
 
-// A text of the metadata.
-fn meta_text<'v>(value: &'v Value, id: &str) -> Option<&'v str>
+/// A text of the metadata.
+pub(crate) fn meta_text<'v>(value: &'v Value, id: &str) -> Option<&'v str>
     ensures { option_map (λ s. s.now) result ≡ told.meta_text id.now (view value.now) }
 {
     member(metadata(value).ok(), id)?.as_str()
 }
 
-// The namespace that is written, else `default`.
-fn namespace_of(value: &Value) -> &str
+/// The namespace that is written, else `default`.
+pub(crate) fn namespace_of(value: &Value) -> &str
     ensures { result.now
         ≡ unwrap_or (told.meta_text (codes "namespace") (view value.now)) (codes "default") }
 {

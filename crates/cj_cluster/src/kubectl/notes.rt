@@ -3,6 +3,7 @@ ghost use Rattle.cj_base.specs.declared.refusal.Refusal.TheVariants.{OutOfMemory
 ghost use Rattle.cj_cluster.specs.kubectl.Named.{is_of_noted, is_of_refused};
 
 use crate::kubectl::named::CronName;
+use crate::kubectl::object::ObjectNamed;
 use cj_types::{FieldFaults, Job, Refusal, Text};
 use std::alloc::Global;
 use std::marker::Model;
@@ -32,6 +33,8 @@ pub enum Said {
 pub struct ItemNote {
     /// The place of the item, from 1.
     pub place: u64,
+    /// Which object it is, as far as its value says.
+    pub object: Option<ObjectNamed>,
     /// The CronJob that it is of, as far as its value says.
     pub cron: Option<CronName>,
     pub said: Said,
@@ -83,6 +86,20 @@ impl ItemNotes {
         ensures { result.now ≡ self.now }
     {
         self.items.as_slice()
+    }
+
+    /// These notes.
+    pub fn of(items: Vec<ItemNote>) -> ItemNotes
+        ensures { result ≡ items.items }
+    {
+        ItemNotes { items }
+    }
+
+    /// The notes in a vector of their own.
+    pub fn into_items(self) -> Vec<ItemNote>
+        ensures { result.items ≡ self }
+    {
+        self.items
     }
 
     /// One note more, at the end; unchanged where there is no memory.

@@ -5,18 +5,18 @@ ghost use Rattle.cj_base.specs.declared.refusal.Refusal.TheVariants.{OutOfMemory
 ghost use Rattle.cj_manifest.specs.Drafts.{job_head};
 ghost use Rattle.cj_cluster.specs.kubectl.Faults.{job_server_faults};
 ghost use Rattle.cj_cluster.specs.declared.kubectl.item.Item.TheVariants as Read;
-ghost use Rattle.cj_cluster.specs.kubectl.Reading.{IsJobItem, IsSoundJob, job_at, times_of};
+ghost use Rattle.cj_cluster.specs.kubectl.Reading.{IsJobItem, IsSoundJob, job_at, named_in, or_named, times_of};
 
 use crate::kubectl::conditions::finish_row;
 use crate::kubectl::faults::job_faults;
 use crate::kubectl::item::Item;
 use crate::kubectl::made;
+use crate::kubectl::named_times::named_time;
 use crate::kubectl::status::status_row;
 use crate::kubectl::times::{RunTimes, given_finish, run_times};
 use crate::times::JobTimes;
-use cj_base::both;
 use cj_manifest::{JobHead, head_of};
-use cj_types::{FieldFaults, Job, Refusal, Shared, Uid};
+use cj_types::{FieldFaults, Job, Refusal, Seconds, Shared, Uid};
 use serde_json::Value;
 use std::alloc::Global;
 
@@ -47,18 +47,37 @@ fn job_of(
     made::job(alloc, place, head, created, outcome)
 }
 
-fn job_times(alloc: Global, times: &RunTimes) -> Result<Shared<JobTimes>, Refusal>
-    ensures ok { IfOk result (λ t. t ≡ times_of times.now) }
+// The time that is in the name of the Job.
+fn named_in(job: &Job) -> Option<Seconds>
+    ensures { result ≡ named_in job.now }
+{
+    named_time(job.cron_name()?.as_str(), job.key.name())
+}
+
+fn or_named(said: Option<Seconds>, named: Option<Seconds>) -> Option<Seconds>
+    ensures { result ≡ or_named said named }
+{
+    match said {
+        Some(time) => Some(time),
+        None => named,
+    }
+}
+
+fn job_times(alloc: Global, job: &Job, times: &RunTimes) -> Result<Shared<JobTimes>, Refusal>
+    ensures ok { IfOk result (λ t. t ≡ times_of job.now times.now) }
     ensures err { IfErr result (λ e. e ≡ OutOfMemory) }
 {
-    let scheduled = times.scheduled.unwrap_or(None);
+    let said = times.scheduled.unwrap_or(None);
+    let named = named_in(job);
     let ended = times.ended.unwrap_or(None);
     Shared::new(
         alloc,
         JobTimes {
-            scheduled,
+            scheduled: or_named(said, named),
+            is_named: said.is_none() && named.is_some(),
             ended,
             is_manual: times.is_manual,
+            is_suspended: times.is_suspended,
         },
     )
 }
@@ -73,14 +92,12 @@ fn run_of(
 ) -> Result<Item, Refusal>
     requires created { IsOk times.now.created }
     ensures ok { IfOk result (λ i. i ≡ Read.Run (job_at place (view value.now) head times.now)
-        (times_of times.now)) }
+        (times_of (job_at place (view value.now) head times.now) times.now)) }
     ensures err { IfErr result (λ e. e ≡ OutOfMemory) }
 {
-    let (job, times) = both(
-        job_of(alloc, place, value, head, times),
-        job_times(alloc, times),
-    )?;
-    Ok(Item::Run(job, times))
+    let job = job_of(alloc, place, value, head, times)?;
+    let told = job_times(alloc, job.get(), times)?;
+    Ok(Item::Run(job, told))
 }
 
 // The Job of a head, or the faults of what the server says of it.

@@ -4,12 +4,12 @@ ghost use Rattle.serde_json.specs.Find.{as_str};
 ghost use Rattle.serde_json.specs.View.{view};
 ghost use Rattle.cj_manifest.specs.Drafts.{given};
 ghost use Rattle.cj_cluster.specs.kubectl.Finishes.{finish_of};
-ghost use Rattle.cj_cluster.specs.kubectl.Rows.{AreCronTimes, AreRunTimes, IsCreated, IsEndTime, IsOptionalTime, IsRequiredTime, IsTimeRow, finish_row, manual_text, says_manual, scheduled_in};
+ghost use Rattle.cj_cluster.specs.kubectl.Rows.{AreCronTimes, AreRunTimes, IsCreated, IsEndTime, IsOptionalTime, IsRequiredTime, IsTimeRow, deleting_of, finish_row, is_set, manual_text, says_manual, scheduled_in, suspended_of};
 
 use crate::kubectl::conditions::{FinishAt, finish_row};
 use crate::kubectl::instant::read_instant;
 use crate::kubectl::status::{member, status_of};
-use cj_manifest::metadata;
+use cj_manifest::{metadata, present};
 use cj_types::{Cause, Seconds};
 use serde_json::Value;
 
@@ -33,6 +33,8 @@ pub(crate) struct RunTimes {
     pub ended: Result<Option<Seconds>, Cause>,
     /// Whether it was made by hand, by its annotation.
     pub is_manual: bool,
+    /// Whether it is suspended.
+    pub is_suspended: bool,
 }
 
 fn time(value: &Value) -> Result<Seconds, Cause>
@@ -114,6 +116,28 @@ fn says_manual(text: Option<&str>) -> bool
     }
 }
 
+/// Whether the deletion of an object was asked for.
+pub(crate) fn is_deleting(value: &Value) -> bool
+    ensures { result ≡ deleting_of (view value.now) }
+{
+    member(metadata(value).ok(), "deletionTimestamp").is_some()
+}
+
+fn is_set(value: Option<&Value>) -> bool
+    ensures { result ≡ is_set (option_map (λ v. view v.now) value.entry) }
+{
+    match value {
+        Some(found) => found.as_bool().unwrap_or(false),
+        None => false,
+    }
+}
+
+fn is_suspended(value: &Value) -> bool
+    ensures { result ≡ suspended_of (view value.now) }
+{
+    is_set(member(present(value, "spec"), "suspend"))
+}
+
 /// The times that a CronJob's value says.
 pub(crate) fn cron_times(value: &Value) -> CronTimes
     ensures { AreCronTimes (view value.now) result }
@@ -135,5 +159,6 @@ pub(crate) fn run_times(value: &Value) -> RunTimes
         scheduled: scheduled(value),
         ended: end_time(given_finish(value)),
         is_manual: says_manual(manual_text(value)),
+        is_suspended: is_suspended(value),
     }
 }

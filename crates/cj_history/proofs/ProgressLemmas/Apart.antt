@@ -1,13 +1,14 @@
 -- A CronJob that is left to its syncs has whole ones, one after the other.
-use Rattle.std.proofs.Common.{◌≡◌, ◌≢◌, ◌⊎◌, inl, inr, ℕ, zero, suc, ◌+◌, ◌≤◌, ◌==◌, Bool, true, false, List, [], ◌∷◌, ◌++◌, drop, Option, Some, None, option_map, refl, sym, ap, subst, ◌∙◌, arith}
+use Rattle.std.proofs.Common.{◌≡◌, ◌≢◌, ◌⊎◌, inl, inr, ℕ, zero, suc, ◌+◌, ◌-◌, ◌<◌, ◌≤◌, ◌==◌, Bool, true, false, List, [], ◌∷◌, ◌++◌, drop, Option, Some, None, option_map, refl, sym, ap, subst, ◌∙◌, arith}
 use Rattle.std.specs.Prelude.{IfSome, Result, Ok, Err, if◌then◌else◌}
 use Rattle.std.specs.List.{slice_get}
 use Rattle.std.specs.FinMap as map
-use Rattle.std.proofs.lemmas.Bool.{eqb-true}
+use Rattle.std.proofs.lemmas.Bool.{cases_lt, eqb-true}
 use Rattle.cj_base.specs.declared.refusal.Refusal.{Refusal}
 use Rattle.cj_types.specs.Keys.{Place}
 use Rattle.cj_types.specs.Made.{made_place}
 use Rattle.cj_types.specs.declared.cron.CronJob.{CronJob}
+use Rattle.cj_types.specs.declared.cron.CronSpec.{CronSpec}
 use Rattle.cj_types.specs.declared.job.Job.{Job}
 use Rattle.cj_types.specs.declared.job.JobDraft.{JobDraft}
 use Rattle.cj_types.specs.declared.event.Event.{Event}
@@ -17,12 +18,15 @@ use Rattle.cj_types.specs.declared.policy.Policy.{Policy}
 use Rattle.cj_types.specs.declared.policy.Policy.TheVariants.{Allow, Forbid, Replace}
 use Rattle.cj_types.specs.declared.policy.Reason.{Reason}
 use Rattle.cj_schedule.specs.Matches.{Sets}
+use Rattle.cj_schedule.specs.Grammar.{IsSchedule}
 use Rattle.cj_zone.specs.declared.zone.Zone.{Zone}
+use Rattle.cj_due.specs.Due.{reach, IsQuiet}
 use Rattle.cj_queue.specs.Parts.{key_eq}
 use Rattle.cj_queue.proofs.Sets.{eq_true, eq_self}
 use Rattle.cj_status.specs.declared.refs.JobRef.{JobRef}
 use Rattle.cj_decide.specs.Decision.{Planned, IsDecided, running_of}
 use Rattle.cj_decide.specs.declared.start.Claim.{Claim}
+use Rattle.cj_decide.specs.StartDecisions.{IsNext}
 use Rattle.cj_decide.proofs.LawsLemmas.Claims.{no_claim}
 use Rattle.cj_calls.specs.Rows.{Told}
 use Rattle.cj_calls.specs.declared.caller.Caller.{Caller}
@@ -43,14 +47,17 @@ use Rattle.cj_state.specs.declared.phases.sync.InFlight.{InFlight}
 use Rattle.cj_state.specs.WorkerCalls.{works, further}
 use Rattle.cj_state.specs.Step.{step_of}
 use Rattle.cj_state.specs.Legal.{IsLegal, IsPlanned, state_of}
+use Rattle.cj_world_laws.specs.legal.Exclusive.{IsTake}
 use Rattle.cj_world_laws.specs.legal.InFlightSyncs.{accepted, sync, sync_after}
 use Rattle.cj_world_laws.proofs.LegalLemmas.HeldSyncs.{syncs_agree, one_holder}
 use Rattle.cj_world_laws.proofs.LegalLemmas.Inputs.{rests_exactly}
 use Rattle.cj_history.specs.store.Writes.{entry_written, writes}
 use Rattle.cj_history.specs.progress.Undisturbed.{worker, object_of, is_of, AreAside, entry}
 use Rattle.cj_history.specs.progress.Syncs.{call_of, calls_left, readings, works_off, IsReady, IsFor, IsLet}
+use Rattle.cj_history.specs.progress.Kept.{NoneTakes}
 use Rattle.cj_history.specs.progress.Every.{Moment, lets, forbids, instant_of, IsSaid, Led, name_of, IsSync, Synced, looked_upto, last_moment, GoOn, IsBegun}
 use Rattle.cj_history.specs.progress.Apart.{Holds, IsFree, EndsWell, IsOnTime, ClaimsOnTime, Spares, KeepsApart, KeepApart, IsClock, HaveSynced, SyncsGoOn}
+use Rattle.cj_history.specs.progress.Prompt.{IsOver, IsAwaited, first, again, GoesOn, KeepUp, ArePrompt, HaveKeptUp, SyncsKeepUp}
 use Rattle.cj_history.proofs.StoreLemmas.Stores.{store_agrees}
 use Rattle.cj_history.proofs.StoreLemmas.Answered.{cron_keyed}
 use Rattle.cj_history.proofs.GapsLemmas.Whole.{same_nat}
@@ -63,6 +70,7 @@ use Rattle.cj_history.proofs.ProgressLemmas.Restated.{Has}
 use Rattle.cj_history.proofs.ProgressLemmas.Led.{led_to}
 use Rattle.cj_history.proofs.ProgressLemmas.Synced.{has_synced}
 use Rattle.cj_history.proofs.ProgressLemmas.Moves.{Moves, sees, lists, checks, starts, goes_on, ends, gives_up, moves, Takes, takes}
+use Rattle.cj_history.proofs.ProgressLemmas.Prompt.{next_due, quiet_next, over_on, over_now}
 
 -- ---- callers
 
@@ -217,9 +225,65 @@ is_reading (Works work) = false
 is_reading p = true
 
 -- start is the history on, and k the key; cron is the CronJob that stands there, s its schedule and
--- z the zone.
+-- z the zone. What is said of due times holds where D does.
 module _ (window : ℕ) (start : List Told) (k : Place) (cron : CronJob) (s : Sets) (z : Zone)
-    (clock : List Told → ℕ) (back : IsClock clock) (b : IsBegun window start k cron s) where
+    (clock : List Told → ℕ) (D : Type 0) (back : IsClock clock) (b : IsBegun window start k cron s) where
+  -- ---- due times
+
+  -- what is known of when the key is taken again: it wasn't taken from the beginning on; or its last
+  -- sync ended well, and the next time is the first that is due after its moment
+  abbrev Waits : List Moment → List Told → Type 0
+  Waits [] h = (es : List Told) × (h ≡ es ++ start) × NoneTakes k es
+  Waits (m ∷ ms) h = (next : Option ℕ) × IsOver h k next × IsNext s z (instant_of m) next
+
+  -- no due time was passed over, nor was one awaited for a minute
+  record IsPast (ms : List Moment) (now : ℕ) : Type 0 where
+    prompt : ArePrompt s z cron ms
+    quiet : IsQuiet s z (last_moment cron ms) (now - 60)
+
+  -- So it was at an earlier moment.
+  past_before : (ms : List Moment) (later now : ℕ) → now ≤ later → IsPast ms later → IsPast ms now
+  past_before ms later now l p = record {
+    prompt = p.prompt;
+    quiet = λ t a c. p.quiet t a (omega (arith, c, l));
+  }
+
+  -- Who doesn't take the key leaves what is known of it.
+  waits_on : (ms : List Moment) (e : Told) (h : List Told) → (IsTake k e → ⊥) → Waits ms h → Waits ms (e ∷ h)
+  waits_on [] e h not (es, is, none) = (e ∷ es, ap (λ (x : List Told). e ∷ x) is, (not, none))
+  waits_on (m ∷ ms) e h not (next, over, due) = (next, over_on k next e h not over, due)
+
+  -- The moments go on from the beginning.
+  first_low : (ms : List Moment) → GoOn cron ms → looked_upto cron [] ≤ last_moment cron ms
+  first_low [] on = omega arith
+  first_low (m ∷ ms) on = let a = first_low ms on.1 in let c = on.0 in omega (arith, a, c)
+
+  -- Where no sync is awaited from a time on that has come, nothing is due since the last one.
+  caught : (ms : List Moment) (h : List Told) (now : ℕ) → GoOn cron ms → Waits ms h
+      → ((t : ℕ) → IsAwaited k cron start h t → now < t) → now ≤ looked_upto cron [] + reach
+      → IsQuiet s z (last_moment cron ms) now
+  caught [] h now on (es, is, none) ahead within = λ t a c.
+      let l = ahead (looked_upto cron [] + 1) (first es is none refl) in absurd (omega (arith, a, c, l))
+  caught (m ∷ ms) h now on (next, over, due) ahead within =
+      let low = first_low (m ∷ ms) on in
+      quiet_next s z (instant_of m) now next due
+      (λ t e. ahead t (again (subst (λ (o : Option ℕ). IsOver h k o) e over))) (omega (arith, within, low))
+
+  -- So no due time is passed over where the clock goes on.
+  past_on : (ms : List Moment) (h : List Told) (next : ℕ) → GoOn cron ms → Waits ms h
+      → GoesOn k cron start h (clock h) next → clock h ≤ looked_upto cron [] + reach → IsPast ms (clock h)
+      → IsPast ms next
+  past_on ms h next on waits goes within past = by (cases_lt (clock h) next)
+    where
+      by : (clock h < next) ⊎ (next ≤ clock h) → IsPast ms next
+      by (inl l) = record {
+        prompt = past.prompt;
+        quiet = λ t a c.
+            let m = goes.minute in
+            caught ms h (clock h) on waits (goes.ahead l) within t a (omega (arith, c, m));
+      }
+      by (inr l) = past_before ms (clock h) next l past
+
   -- ---- between syncs
 
   -- An entry that doesn't write the CronJob is one of others after its syncs.
@@ -272,6 +336,9 @@ module _ (window : ℕ) (start : List Told) (k : Place) (cron : CronJob) (s : Se
     at : work.plan.at ≡ instant_of moment
     on : last_moment cron y.moments ≤ instant_of moment
     upto : instant_of moment ≤ clock h
+    past : D → IsPast y.moments (instant_of moment)
+    paused : D → clock h ≤ instant_of moment
+    next : IsNext s z (instant_of moment) work.plan.steps.next
     zone : work.plan.zone ≡ Some z
     said : IsSaid moment y.seen.spec.policy (running_of y.seen work.plan.active)
     free : IfSome (name_of work.plan) (λ q. map.get (state_of window read).store.jobs q ≡ None)
@@ -288,20 +355,30 @@ module _ (window : ℕ) (start : List Told) (k : Place) (cron : CronJob) (s : Se
   -- how far the CronJob's syncs are
   data Going (h : List Told) : Type 0 where
     between : IsFree k h → (ms : List Moment) → GoOn cron ms → last_moment cron ms ≤ clock h
-        → Synced window k z start ms h → Going h
+        → Synced window k z start ms h → Waits ms h → (D → IsPast ms (clock h)) → Going h
     reading : (w : ℕ) (p : Phase) → is_reading p ≡ true → sync h w ≡ Some (in_flight k p) → (y : Begins w)
-        → last_moment cron y.moments ≤ clock h → Reads w y p h → Going h
+        → last_moment cron y.moments ≤ clock h → (D → IsPast y.moments (clock h)) → Reads w y p h → Going h
     working : (w : ℕ) (work : Work) → sync h w ≡ Some (in_flight k (Works work)) → (y : Begins w)
         → WorksOff w y work h → Going h
 
   -- e is an entry after h that keeps to it.
   module _ (e : Told) (h : List Told) (good : Good window (e ∷ h))
-      (keeps : KeepsApart window k cron z (clock h) h e) where
+      (keeps : KeepsApart window k cron z (clock h) h e)
+      (goes : D → GoesOn k cron start h (clock h) (clock (e ∷ h)))
+      (within : D → clock h ≤ looked_upto cron [] + reach) where
     old : Good window h
     old = earlier window (e ∷ []) h good
 
     later : (n : ℕ) → n ≤ clock h → n ≤ clock (e ∷ h)
     later n l = let on = back e h in omega (arith, l, on)
+
+    -- While somebody holds the key the clock stands still.
+    stands_still : D → (c : Caller) → Holds h k c → clock (e ∷ h) ≤ clock h
+    stands_still d c f = by (cases_lt (clock h) (clock (e ∷ h)))
+      where
+        by : (clock h < clock (e ∷ h)) ⊎ (clock (e ∷ h) ≤ clock h) → clock (e ∷ h) ≤ clock h
+        by (inl l) = absurd ((goes d).free l c f)
+        by (inr l) = l
 
     -- A worker's sync is what it was, where the entry is another number's.
     same_sync : (v : ℕ) → (v == e.caller.number) ≡ false → sync (e ∷ h) v ≡ sync h v
@@ -315,7 +392,17 @@ module _ (window : ℕ) (start : List Told) (k : Place) (cron : CronJob) (s : Se
     -- ---- between syncs
 
     module _ (free : IsFree k h) (ms : List Moment) (on : GoOn cron ms) (upto : last_moment cron ms ≤ clock h)
-        (y : Synced window k z start ms h) where
+        (y : Synced window k z start ms h) (waits : Waits ms h) (past : D → IsPast ms (clock h)) where
+      past_then : D → IsPast ms (clock (e ∷ h))
+      past_then d = past_on ms h (clock (e ∷ h)) on waits (goes d) (within d) (past d)
+
+      -- Where the caller doesn't hold the key then, it didn't take it.
+      untaken : ((x : InFlight) → sync (e ∷ h) e.caller.number ≡ Some x → x.key ≡ k → ⊥) → IsTake k e → ⊥
+      untaken none t =
+          none (in_flight k Held)
+          (own_sync ∙ ap (λ (c : Call). sync_after (sync h e.caller.number) c e.answer) t.call
+          ∙ ap (λ (a : Result Reply Refusal). sync_after (sync h e.caller.number) Of.Take a) t.answer) refl
+
       -- Where the caller doesn't hold the key then, nobody does.
       still_free : ((x : InFlight) → sync (e ∷ h) e.caller.number ≡ Some x → x.key ≡ k → ⊥) → IsFree k (e ∷ h)
       still_free none c f = by (c.number == e.caller.number) refl
@@ -329,7 +416,7 @@ module _ (window : ℕ) (start : List Told) (k : Place) (cron : CronJob) (s : Se
       stays : ((x : InFlight) → sync (e ∷ h) e.caller.number ≡ Some x → x.key ≡ k → ⊥) → Going (e ∷ h)
       stays none =
           between (still_free none) ms on (later (last_moment cron ms) upto)
-          (synced_on ms e h (keeps.alone (free e.caller)) y)
+          (synced_on ms e h (keeps.alone (free e.caller)) y) (waits_on ms e h (untaken none) waits) past_then
 
       -- A Take of the key begins a sync.
       begins : e.call ≡ Of.Take → e.answer ≡ Ok (Is.Key k) → Going (e ∷ h)
@@ -357,7 +444,7 @@ module _ (window : ℕ) (start : List Told) (k : Place) (cron : CronJob) (s : Se
               stands = has.stands;
             };
           } in
-          reading n Held refl sits start_at (later (last_moment cron ms) upto) (record {
+          reading n Held refl sits start_at (later (last_moment cron ms) upto) past_then (record {
             others = [];
             since = e ∷ h;
             is = refl;
@@ -414,9 +501,13 @@ module _ (window : ℕ) (start : List Told) (k : Place) (cron : CronJob) (s : Se
     -- ---- the readings
 
     module _ (w : ℕ) (p : Phase) (at : sync h w ≡ Some (in_flight k p)) (y : Begins w)
-        (upto : last_moment cron y.moments ≤ clock h) (x : Reads w y p h) where
+        (upto : last_moment cron y.moments ≤ clock h) (past : D → IsPast y.moments (clock h))
+        (x : Reads w y p h) where
       holds : Holds h k (worker w)
       holds = record { role = refl; phase = p; sync = at }
+
+      still_past : D → IsPast y.moments (clock (e ∷ h))
+      still_past d = past_before y.moments (clock h) (clock (e ∷ h)) (stands_still d (worker w) holds) (past d)
 
       -- After one reading more.
       reads_next : (q : Phase) → e.caller ≡ worker w → left_of p ≡ e.call ∷ left_of q → Reads w y q (e ∷ h)
@@ -476,6 +567,13 @@ module _ (window : ℕ) (start : List Told) (k : Place) (cron : CronJob) (s : Se
             at = m.1;
             on = subst (λ (n : ℕ). last_moment cron y.moments ≤ n) (sym told) upto;
             upto = later (instant_of m.0) (subst (λ (n : ℕ). n ≤ clock h) (sym told) (omega arith));
+            past = λ d. subst (IsPast y.moments) (sym told) (past d);
+            paused = λ d. subst (λ (n : ℕ). clock (e ∷ h) ≤ n) (sym told) (stands_still d (worker w) holds);
+            next = subst (λ (n : ℕ). IsNext s z n plan.steps.next) m.1
+                (next_due y.seen plan.jobs plan.active plan.at plan.zone plan.steps z s
+                (plan_of plan y.seen decided seen)
+                (ap (λ (j : CronSpec). j.suspend) spec ∙ b.runs) (time.zone y.seen seen spec)
+                (subst (λ (j : CronSpec). IsSchedule j.schedule s) (sym spec) b.reads));
             zone = time.zone y.seen seen spec;
             said = m.2;
             free = free_then (name_of plan) name aside now.legal
@@ -503,13 +601,13 @@ module _ (window : ℕ) (start : List Told) (k : Place) (cron : CronJob) (s : Se
       reading_own : is_reading p ≡ true → e.caller ≡ worker w → Holds h k e.caller
           → Moves k p e.call (sync (e ∷ h) w) → Going (e ∷ h)
       reading_own is by f (sees c phase call sits) =
-          reading w (Seen c) refl sits y (later (last_moment cron y.moments) upto)
+          reading w (Seen c) refl sits y (later (last_moment cron y.moments) upto) still_past
           (reads_next (Seen c) by (ap left_of phase ∙ ap (λ (r : Call). r ∷ left_of (Seen c)) (sym call)))
       reading_own is by f (lists c js phase call sits) =
-          reading w (Listed c js) refl sits y (later (last_moment cron y.moments) upto)
+          reading w (Listed c js) refl sits y (later (last_moment cron y.moments) upto) still_past
           (reads_next (Listed c js) by (ap left_of phase ∙ ap (λ (r : Call). r ∷ left_of (Listed c js)) (sym call)))
       reading_own is by f (checks c js ks phase call sits) =
-          reading w (Checked c js ks) refl sits y (later (last_moment cron y.moments) upto)
+          reading w (Checked c js ks) refl sits y (later (last_moment cron y.moments) upto) still_past
           (reads_next (Checked c js ks) by (ap left_of phase ∙ ap (λ (r : Call). r ∷ []) (sym call)))
       reading_own is by f (starts c js ks plan v phase call rests sits) =
           claims by c js ks plan v phase call rests sits
@@ -530,7 +628,7 @@ module _ (window : ℕ) (start : List Told) (k : Place) (cron : CronJob) (s : Se
               reading_own is own f (moves window h e w k p good.legal own at (keeps.accepted f))
           by (inr not) =
               let o = others_leave w p at not in
-              reading w p is o.0 y (later (last_moment cron y.moments) upto) (record {
+              reading w p is o.0 y (later (last_moment cron y.moments) upto) still_past (record {
                 others = e ∷ x.others;
                 since = x.since;
                 is = ap (λ (g : List Told). e ∷ g) x.is;
@@ -545,6 +643,13 @@ module _ (window : ℕ) (start : List Told) (k : Place) (cron : CronJob) (s : Se
       abbrev p : Planned
       p = work.plan
 
+      -- The clock still stands at the moment.
+      still_paused : D → clock (e ∷ h) ≤ instant_of x.moment
+      still_paused d =
+          let a = stands_still d (worker w) (record { role = refl; phase = Works work; sync = at }) in
+          let c = x.paused d in
+          omega (arith, a, c)
+
       -- One step more.
       steps_on : e.caller ≡ worker w → (n : Step) → step_at p.steps work.place ≡ Some n → e.call ≡ call_of n
           → sync (e ∷ h) w ≡ Some (in_flight k (further work)) → Going (e ∷ h)
@@ -557,6 +662,9 @@ module _ (window : ℕ) (start : List Told) (k : Place) (cron : CronJob) (s : Se
             at = x.at;
             on = x.on;
             upto = later (instant_of x.moment) x.upto;
+            past = x.past;
+            paused = still_paused;
+            next = x.next;
             zone = x.zone;
             said = x.said;
             free = x.free;
@@ -599,6 +707,11 @@ module _ (window : ℕ) (start : List Told) (k : Place) (cron : CronJob) (s : Se
           } in
           between none (x.moment ∷ y.moments) (x.on, y.on) (later (instant_of x.moment) x.upto)
           (y.before, e ∷ h, [], y.synced, one, tt, refl)
+          (p.steps.next, over_now window e h w k work p.steps.reasons good.legal by at is call, x.next)
+          (λ d. record {
+            prompt = ((x.past d).quiet, (x.past d).prompt);
+            quiet = λ t a c. let l = still_paused d in absurd (omega (arith, a, c, l));
+          })
         where
           none : IsFree k (e ∷ h)
           none c f = here (c.number == w) refl
@@ -655,6 +768,9 @@ module _ (window : ℕ) (start : List Told) (k : Place) (cron : CronJob) (s : Se
                 at = x.at;
                 on = x.on;
                 upto = later (instant_of x.moment) x.upto;
+                past = x.past;
+                paused = still_paused;
+                next = x.next;
                 zone = x.zone;
                 said = x.said;
                 free = x.free;
@@ -668,29 +784,56 @@ module _ (window : ℕ) (start : List Told) (k : Place) (cron : CronJob) (s : Se
 
     -- One entry more.
     one_more : Going h → Going (e ∷ h)
-    one_more (between free ms on upto y) = from_between free ms on upto y
-    one_more (reading w p is at y upto x) = from_reading w p at y upto x is
+    one_more (between free ms on upto y waits past) = from_between free ms on upto y waits past
+    one_more (reading w p is at y upto past x) = from_reading w p at y upto past x is
     one_more (working w work at y x) = from_working w work at y x
 
   -- All of them.
-  all_going : IsFree k start → looked_upto cron [] ≤ clock start → (more : List Told) → Good window (more ++ start)
-      → KeepApart window k cron z clock more start → Going (more ++ start)
-  all_going free low [] good keep = between free [] tt low ([], tt, refl)
-  all_going free low (e ∷ es) good keep =
-      one_more e (es ++ start) good keep.0
-      (all_going free low es (earlier window (e ∷ []) (es ++ start) good) keep.1)
+  all_going : IsFree k start → looked_upto cron [] ≤ clock start → (D → clock start ≤ looked_upto cron [] + 60)
+      → (more : List Told) → Good window (more ++ start) → KeepApart window k cron z clock more start
+      → (D → KeepUp k cron clock more start) → (D → clock (more ++ start) ≤ looked_upto cron [] + reach)
+      → Going (more ++ start)
+  all_going free low soon [] good keep up within =
+      between free [] tt low ([], tt, refl) ([], refl, tt)
+      (λ d. record { prompt = tt; quiet = λ t a c. let l = soon d in absurd (omega (arith, a, c, l)) })
+  all_going free low soon (e ∷ es) good keep up within =
+      let before : D → clock (es ++ start) ≤ looked_upto cron [] + reach =
+      λ d. (let l = within d in let on = back e (es ++ start) in omega (arith, l, on)) in
+      one_more e (es ++ start) good keep.0 (λ d. (up d).0) before
+      (all_going free low soon es (earlier window (e ∷ []) (es ++ start) good) keep.1 (λ d. (up d).1) before)
 
   -- Where nobody holds the key, the last sync is over.
   at_end : (g : List Told) → IsFree k g → Going g → HaveSynced window k cron z (clock g) start g
-  at_end g free (between f ms on upto y) = record { moments = ms; on = on; upto = upto; synced = y }
-  at_end g free (reading w p is at y upto x) =
+  at_end g free (between f ms on upto y waits past) =
+      record { moments = ms; on = on; upto = upto; synced = y }
+  at_end g free (reading w p is at y upto past x) =
       absurd (free (worker w) (record { role = refl; phase = p; sync = at }))
   at_end g free (working w work at y x) =
+      absurd (free (worker w) (record { role = refl; phase = Works work; sync = at }))
+
+  -- And where no sync is awaited from a time on that has come, they kept up.
+  kept_up : D → (g : List Told) → IsFree k g → ((t : ℕ) → IsAwaited k cron start g t → clock g < t)
+      → clock g ≤ looked_upto cron [] + reach → Going g → HaveKeptUp window k cron s z (clock g) start g
+  kept_up d g free ahead within (between f ms on upto y waits past) = record {
+    syncs = record { moments = ms; on = on; upto = upto; synced = y };
+    prompt = (past d).prompt;
+    quiet = caught ms g (clock g) on waits ahead within;
+  }
+  kept_up d g free ahead within (reading w p is at y upto past x) =
+      absurd (free (worker w) (record { role = refl; phase = p; sync = at }))
+  kept_up d g free ahead within (working w work at y x) =
       absurd (free (worker w) (record { role = refl; phase = Works work; sync = at }))
 
 -- For syncs_law: entries that keep to that are whole syncs, and what others call.
 pub syncs_go_on : SyncsGoOn
 syncs_go_on window start more k cron s z clock short legal planned b free over back low keep =
-    at_end window start k cron s z clock back b (more ++ start) over
-    (all_going window start k cron s z clock back b free low more
-    (record { short = short; legal = legal; planned = planned }) keep)
+    at_end window start k cron s z clock ⊥ back b (more ++ start) over
+    (all_going window start k cron s z clock ⊥ back b free low (λ d. absurd d) more
+    (record { short = short; legal = legal; planned = planned }) keep (λ d. absurd d) (λ d. absurd d))
+
+-- For keeping_up_law: where the clock goes on only when all is done that was due, they keep up with it.
+pub syncs_keep_up : SyncsKeepUp
+syncs_keep_up window start more k cron s z clock short legal planned b free over back low soon keep up ahead within =
+    kept_up window start k cron s z clock (Unit {0}) back b tt (more ++ start) over ahead within
+    (all_going window start k cron s z clock (Unit {0}) back b free low (λ d. soon) more
+    (record { short = short; legal = legal; planned = planned }) keep (λ d. up) (λ d. within))

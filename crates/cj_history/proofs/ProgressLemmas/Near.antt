@@ -29,6 +29,7 @@ use Rattle.cj_state.specs.Readings.{if_mine, active_job, active_of}
 use Rattle.cj_state.specs.Legal.{state_of}
 use Rattle.cj_history.specs.progress.Syncs.{IsLet}
 use Rattle.cj_history.specs.progress.Every.{Moment, lets, forbids, instant_of, IsSaid, IsSync, Synced, looked_upto, last_moment, GoOn, AreLatest, made_for, IsBegun, AreLet, AreNear, EachDueTime, AreMinutely, IsAmple, EachMinute, AllEnded, EndInTime, EachEnded}
+use Rattle.cj_history.specs.progress.Prompt.{ArePrompt}
 use Rattle.cj_history.proofs.ProgressLemmas.Missed.{clash}
 use Rattle.cj_history.proofs.ProgressLemmas.Intervals.{latest_or_none}
 use Rattle.cj_history.proofs.ProgressLemmas.Makers.{Good, earlier}
@@ -70,6 +71,15 @@ joined s z lo mid hi a b t above within = by (cases_lt mid t)
     by (inl l) = b t l within
     by (inr l) = a t above l
 
+-- Where nothing is due up to an instant, nor from there up to another, nothing is up to the later.
+upto_later : (s : Sets) (z : Zone) (lo mid hi : ℕ) → IsQuiet s z lo mid → IsQuiet s z mid hi
+    → IsQuiet s z lo (max mid hi)
+upto_later s z lo mid hi a b t above within = by (cases_lt mid t)
+  where
+    by : (mid < t) ⊎ (t ≤ mid) → due s z t ≡ false
+    by (inl l) = b t l (omega (arith, within, l))
+    by (inr l) = a t above l
+
 -- Where nothing is due up to a deadline's start, what is quiet or latest after it is so before it too.
 quiet_before : (s : Sets) (z : Zone) (lo line hi : ℕ) → IsQuiet s z lo line → IsQuiet s z (max lo line) hi
     → IsQuiet s z lo hi
@@ -80,7 +90,7 @@ quiet_before s z lo line hi a b t above within = by (cases_lt line t)
     by (inr l) = a t above l
 
 -- The moments go on from the first of all.
-low : (cron : CronJob) (ms : List Moment) → GoOn cron ms → looked_upto cron [] ≤ looked_upto cron ms
+pub low : (cron : CronJob) (ms : List Moment) → GoOn cron ms → looked_upto cron [] ≤ looked_upto cron ms
 low cron [] on = omega arith
 low cron (forbids t ∷ ms) on = low cron ms on.1
 low cron (lets t ∷ ms) on =
@@ -164,7 +174,7 @@ one_due s z lo n l = by (latest_or_none s z lo n)
             let f = whole (cases_eq (t % 60) 0) in let w = h.within in absurd (omega (arith, e, f, x, y, w, l))
 
 -- A deadline of a minute or more cuts no such interval.
-uncut : (d : Option ℕ) (t at : ℕ) → IsAmple d → t ≤ at + 60 → deadline_start d t ≤ at
+pub uncut : (d : Option ℕ) (t at : ℕ) → IsAmple d → t ≤ at + 60 → deadline_start d t ≤ at
 uncut None t at a l = omega arith
 uncut (Some n) t at a l = omega (arith, a, l)
 
@@ -194,27 +204,40 @@ few_missed s z lo mid hi a b c quiet =
     ∙ ap (λ (l : List ℕ). l ++ missed_times s z mid hi) (missed_times-none s z lo mid quiet) in
     subst (λ (l : List ℕ). length l ≤ 1) (sym whole) one
 
+-- With a sync a minute what became due is synced within one.
+minutely : (s : Sets) (z : Zone) (cron : CronJob) (ms : List Moment) → AreMinutely cron ms → ArePrompt s z cron ms
+minutely s z cron [] each = tt
+minutely s z cron (m ∷ ms) each = (
+  λ t a b. let e = each.0 in absurd (omega (arith, a, b, e)),
+  minutely s z cron ms each.1,
+)
+
 -- Such moments are near.
-near : (s : Sets) (z : Zone) (cron : CronJob) (ms : List Moment) → GoOn cron ms → AreMinutely cron ms
+near : (s : Sets) (z : Zone) (cron : CronJob) (ms : List Moment) → GoOn cron ms → ArePrompt s z cron ms
     → IsAmple cron.spec.starting_deadline_seconds → AreIdle s z cron ms → AreNear s z cron ms
-near s z cron [] on each ample idle = tt
-near s z cron (forbids t ∷ ms) on each ample idle = near s z cron ms on.1 each.1 ample idle.1
-near s z cron (lets t ∷ ms) on each ample idle =
-    let quiet = still_quiet s z cron ms idle in
-    let cut = uncut cron.spec.starting_deadline_seconds t (last_moment cron ms) ample each.0 in (
-      few_missed s z (looked_upto cron ms) (last_moment cron ms) t (looked_low cron ms on.1) on.0 each.0 quiet,
+near s z cron [] on prompt ample idle = tt
+near s z cron (forbids t ∷ ms) on prompt ample idle = near s z cron ms on.1 prompt.1 ample idle.1
+near s z cron (lets t ∷ ms) on prompt ample idle =
+    let last : ℕ = last_moment cron ms in
+    let mid : ℕ = max last (t - 60) in
+    let quiet : IsQuiet s z (looked_upto cron ms) mid =
+    upto_later s z (looked_upto cron ms) last (t - 60) (still_quiet s z cron ms idle) prompt.0 in
+    let from = looked_low cron ms on.1 in
+    let onward = on.0 in
+    let cut = uncut cron.spec.starting_deadline_seconds t mid ample (omega arith) in (
+      few_missed s z (looked_upto cron ms) mid t (omega (arith, from)) (omega (arith, onward)) (omega arith) quiet,
       (λ x a b. quiet x a (omega (arith, b, cut))),
-      near s z cron ms on.1 each.1 ample idle,
+      near s z cron ms on.1 prompt.1 ample idle,
     )
 
 -- So they are for all times due up to the last moment.
-all_due : (s : Sets) (z : Zone) (cron : CronJob) (ms : List Moment) (times : List ℕ) → GoOn cron ms
-    → AreMinutely cron ms → IsAmple cron.spec.starting_deadline_seconds → AreIdle s z cron ms
+pub all_due : (s : Sets) (z : Zone) (cron : CronJob) (ms : List Moment) (times : List ℕ) → GoOn cron ms
+    → ArePrompt s z cron ms → IsAmple cron.spec.starting_deadline_seconds → AreIdle s z cron ms
     → AreLatest s z cron ms times
     → reverse times ≡ missed_times s z (looked_upto cron []) (last_moment cron ms)
-all_due s z cron ms times on each ample idle latest =
+all_due s z cron ms times on prompt ample idle latest =
     let before : List ℕ = missed_times s z (looked_upto cron []) (looked_upto cron ms) in
-    each_due s z cron ms times on (near s z cron ms on each ample idle) latest
+    each_due s z cron ms times on (near s z cron ms on prompt ample idle) latest
     ∙ sym (missed_times-split s z (looked_upto cron []) (looked_upto cron ms) (last_moment cron ms) (low cron ms on)
     (looked_low cron ms on)
     ∙ (ap (λ (l : List ℕ). before ++ l)
@@ -222,7 +245,7 @@ all_due s z cron ms times on each ample idle latest =
     ∙ append-nil before))
 
 -- Where the policy let a Job start at each moment, it forbade it at none.
-let_idle : (s : Sets) (z : Zone) (cron : CronJob) (ms : List Moment) → AreLet ms → AreIdle s z cron ms
+pub let_idle : (s : Sets) (z : Zone) (cron : CronJob) (ms : List Moment) → AreLet ms → AreIdle s z cron ms
 let_idle s z cron [] a = tt
 let_idle s z cron (lets t ∷ ms) a = let_idle s z cron ms a
 let_idle s z cron (forbids t ∷ ms) a = absurd a
@@ -232,7 +255,7 @@ pub each_minute : EachMinute
 each_minute window start g k cron s z ms short legal planned n other on each ample y =
     let good : Good window g = record { short = short; legal = legal; planned = planned } in
     let begun = (fresh_in window start g k cron s z ms good n y).begun in
-    all_due s z cron ms (made_for window cron.meta.uid g) on each ample
+    all_due s z cron ms (made_for window cron.meta.uid g) on (minutely s z cron ms each) ample
     (let_idle s z cron ms (lets_each window start g k cron s z ms short legal planned begun y other))
     (every_time_since window start g k cron s z ms short legal planned n on y)
 
@@ -296,7 +319,7 @@ module _ (window : ℕ) (start : List Told) (k : Place) (cron : CronJob) (s : Se
 
   -- Where each Job ended in time, nothing was due since the moment before one at which the policy
   -- forbade a Job to start.
-  ended_idle : (ms : List Moment) (g : List Told) → Good window g → (y : Synced window k z start ms g)
+  pub ended_idle : (ms : List Moment) (g : List Told) → Good window g → (y : Synced window k z start ms g)
       → EndInTime window k cron s z start ms g y → AreIdle s z cron ms
   ended_idle [] g good y ended = tt
   ended_idle (m ∷ ms) g good (before, after, es, rest, did, others, is) ended =
@@ -317,6 +340,6 @@ pub each_ended : EachEnded
 each_ended window start g k cron s z ms short legal planned n on each ample y ended =
     let good : Good window g = record { short = short; legal = legal; planned = planned } in
     let begun = (fresh_in window start g k cron s z ms good n y).begun in
-    all_due s z cron ms (made_for window cron.meta.uid g) on each ample
+    all_due s z cron ms (made_for window cron.meta.uid g) on (minutely s z cron ms each) ample
     (ended_idle window start k cron s z begun ms g good y ended)
     (every_time_since window start g k cron s z ms short legal planned n on y)

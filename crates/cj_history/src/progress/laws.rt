@@ -2,6 +2,7 @@ ghost use Rattle.cj_history.specs.progress.Apart.{SyncsGoOn};
 ghost use Rattle.cj_history.specs.progress.Every.{EachDueTime, EachEnded, EachMinute, EveryTime};
 ghost use Rattle.cj_history.specs.progress.Every.{EveryTimeSince, ForbiddenHoldsBack, LetsAlways};
 ghost use Rattle.cj_history.specs.progress.Kept.{NoKeyIsLost};
+ghost use Rattle.cj_history.specs.progress.Prompt.{EachAllowed, EachEndedInTime, EachInTime, SyncsKeepUp};
 ghost use Rattle.cj_history.specs.progress.Syncs.{MakesJob};
 
 /// After any history a key that was added, and not taken since, stands in the line, or somebody
@@ -68,4 +69,23 @@ pub fn every_time_law()
 /// after the clock's last, and nothing else wrote the CronJob.
 pub fn syncs_law()
     ensures { SyncsGoOn }
+{}
+
+/// What syncs_law supposes of each entry holds, from within a minute of where the first interval
+/// begins. A sync of the CronJob is awaited from there on until its key is taken, and then from the
+/// next time of its last sync on. The clock goes on by at most a minute with each entry, and only
+/// where nobody holds the key, and no sync is awaited from a time on that has come; in the end none
+/// is, and the clock is less than 3,000 days on. Then nothing is due since the moment of the last
+/// sync, and a minute before the moment of each one nothing was due since the one before it.
+///
+/// So, from the creation of the CronJob on, where the deadline, if there is one, is a minute or
+/// more, the Jobs that are made for it are just those of the times that are due up to the clock's
+/// last moment: under Allow and Replace; and under each policy where no sync of it told that a Job
+/// runs already, or where each Job of the CronJob had ended whenever a sync looked what runs after
+/// a time had become due.
+pub fn keeping_up_law()
+    ensures keep_up { SyncsKeepUp }
+    ensures each { EachInTime }
+    ensures allowed { EachAllowed }
+    ensures ended { EachEndedInTime }
 {}

@@ -11,6 +11,7 @@ ghost use Rattle.cj_inspect.specs.Why.{IsWhyJson, PrintsJson, meant_of, valued};
 ghost use Rattle.cj_inspect.specs.as_json.Why.{why_data, why_object};
 
 use crate::calls::calls_values;
+use crate::why::lines::is_fine;
 use cj_answers::{Answer, ending_by, is_read, note_words, value_line};
 use cj_args::WhyRequest;
 use cj_audit::{others_value, refused_value};
@@ -83,15 +84,16 @@ fn why_line(
 fn valued(
     alloc: Global,
     explain: bool,
+    fine: bool,
     notes: &[ItemNote],
     printed: String,
 ) -> Result<Answer, AllocError>
     ensures { IfOk result (λ a. outcome_of a ≡ explained explain (told.note_words notes.now)
-        (valued notes.now (string_bytes printed))) }
+        (valued fine notes.now (string_bytes printed))) }
 {
     let said = note_words(alloc, notes)?;
     let answer = Answer {
-        ending: ending_by(is_read(notes)),
+        ending: ending_by(is_read(notes) && fine),
         printed,
         said: String::new(alloc),
     };
@@ -115,7 +117,9 @@ fn all_valued(
         (outcome_of a)) }
 {
     let line = why_line(alloc, zones, bytes, list, lined, now)?;
-    Ok(valued(alloc, why.explain, list.notes.as_slice(), line)?)
+    let fine = is_fine(why.problems, lined);
+    let notes = list.notes.as_slice();
+    Ok(valued(alloc, why.explain, fine, notes, line)?)
 }
 
 /// What is printed of CronJobs of a list that these bytes are, as one JSON value: of all, or of

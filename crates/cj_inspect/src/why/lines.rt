@@ -1,11 +1,11 @@
 // What `why` prints in lines, for programs.
-ghost use Rattle.std.specs.Prelude.{◌≡◌, ◌++◌, IfOk, Some, codes, string_bytes};
+ghost use Rattle.std.specs.Prelude.{◌≡◌, ◌++◌, ◌||◌, not, IfOk, Some, codes, string_bytes};
 ghost use Rattle.cj_zone.specs.Table.{local_zone, zones_of};
 ghost use Rattle.cj_zone.specs.Zones.{utc_zone};
 ghost use Rattle.cj_why.specs.reviews.Rows.{AreLined};
 ghost use Rattle.cj_answers.specs.Clusters as told;
 ghost use Rattle.cj_answers.specs.Outcome.{explained, outcome_of};
-ghost use Rattle.cj_inspect.specs.Why.{PrintsReview, meant_of, reviewed as outcome_reviewed};
+ghost use Rattle.cj_inspect.specs.Why.{PrintsReview, is_nothing, meant_of, reviewed as outcome_reviewed};
 
 use cj_answers::{Answer, ending_by, is_read, note_lines, note_words};
 use cj_args::WhyRequest;
@@ -16,23 +16,31 @@ use cj_why::{Reviewed, problems, review};
 use cj_zone::ZoneTable;
 use std::alloc::{AllocError, Global};
 
+// Whether none of these wants a look, where only such are printed.
+pub(crate) fn is_fine(problems: bool, lined: &[Shared<ClusterCron>]) -> bool
+    ensures { result ≡ (not problems || is_nothing lined.now) }
+{
+    !problems || lined.is_empty()
+}
+
 // The items that can't be used, and what is printed and said of the CronJobs.
 fn printed(
     alloc: Global,
     explain: bool,
+    fine: bool,
     notes: &[ItemNote],
     reviewed: &Reviewed,
 ) -> Result<Answer, AllocError>
     ensures { IfOk result (λ a. outcome_of a ≡ explained explain
         (told.note_words notes.now ++ string_bytes reviewed.now.said)
-        (outcome_reviewed notes.now (string_bytes reviewed.now.printed))) }
+        (outcome_reviewed fine notes.now (string_bytes reviewed.now.printed))) }
 {
     let mut said = note_words(alloc, notes)?;
     said.push_str(reviewed.said.as_str())?;
     let mut printed = note_lines(alloc, notes)?;
     printed.push_str(reviewed.printed.as_str())?;
     let answer = Answer {
-        ending: ending_by(is_read(notes)),
+        ending: ending_by(is_read(notes) && fine),
         printed,
         said: String::new(alloc),
     };
@@ -55,7 +63,9 @@ fn all_lined(
         (outcome_of a)) }
 {
     let reviewed = review(alloc, why.explain, zones, &list.cluster, lined, now)?;
-    Ok(printed(alloc, why.explain, list.notes.as_slice(), &reviewed)?)
+    let fine = is_fine(why.problems, lined);
+    let notes = list.notes.as_slice();
+    Ok(printed(alloc, why.explain, fine, notes, &reviewed)?)
 }
 
 /// What is printed of them in lines, of all or of those that want a look.

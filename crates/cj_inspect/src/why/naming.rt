@@ -1,12 +1,12 @@
 // Which CronJobs `why` is asked about, and what is said of a name that none has.
-ghost use Rattle.std.specs.Prelude.{◌≡◌, ◌++◌, IfOk, OnOk, codes, option_map, string_bytes, unwrap_or};
+ghost use Rattle.std.specs.Prelude.{◌≡◌, ◌++◌, IfOk, OnOk, codes, filter, option_map, string_bytes, unwrap_or};
 ghost use Rattle.std.specs.List.{list_any};
 ghost use Rattle.std.specs.FinMap as map;
 ghost use Rattle.cj_cluster.specs.kubectl.Named.{key_text};
-ghost use Rattle.cj_inspect.specs.Why.{chosen, is_called, is_meant, is_noted, is_nothing, is_unknown, is_within, line_of, line_where, meant_of, unknown_end, unknown_line, unknown_lines, unknown_of};
+ghost use Rattle.cj_inspect.specs.Why.{chosen, is_called, is_meant, is_noted, is_nothing, is_told, is_unknown, is_within, line_of, line_where, meant_of, narrowed, unknown_end, unknown_line, unknown_lines, unknown_of};
 
 use cj_args::WhyRequest;
-use cj_cluster::{ClusterCron, ClusterList, CronName, ItemNote};
+use cj_cluster::{ClusterCron, ClusterList, CronName, ItemNote, ItemNotes};
 use cj_types::{Key, Refusal, Shared};
 use std::alloc::{AllocError, Global};
 use std::slice;
@@ -219,6 +219,44 @@ fn unknown_lines(
         push_unknown(alloc, &mut lines, within, text, crons, notes)?;
     }
     Ok(lines)
+}
+
+// Whether one of the texts names the CronJob.
+fn is_named(within: Option<&str>, texts: &[&str], cron: &Option<CronName>) -> bool
+    ensures { result ≡ list_any
+        (λ t. is_noted (option_map (λ s. s.now) within.entry) t.now cron.now) texts.now }
+{
+    texts.iter().any(|text| is_noted(within, text, cron))
+}
+
+fn is_told(within: Option<&str>, texts: &[&str], note: &ItemNote) -> bool
+    ensures { result
+        ≡ is_told (option_map (λ s. s.now) within.entry) texts.now note.now }
+{
+    let has_no_text = has_no_text(texts);
+    let is_named = is_named(within, texts, &note.cron);
+    has_no_text || is_named
+}
+
+// Those of the notes that are told of.
+fn told_items(within: Option<&str>, texts: &[&str], mut items: Vec<ItemNote>) -> Vec<ItemNote>
+    ensures { result.items
+        ≡ filter (is_told (option_map (λ s. s.now) within.entry) texts.now) items.items }
+{
+    items.retain(|note| is_told(within, texts, note));
+    items
+}
+
+/// The list with the notes of the items that are told of.
+pub(crate) fn narrowed(why: &WhyRequest<'_>, list: ClusterList) -> ClusterList
+    ensures { result ≡ narrowed why.now list }
+{
+    let (cluster, notes) = list.into_parts();
+    let items = told_items(why.namespace, why.crons.as_slice(), notes.into_items());
+    ClusterList {
+        cluster,
+        notes: ItemNotes::of(items),
+    }
 }
 
 /// Those of the list's CronJobs that are meant.

@@ -1,18 +1,18 @@
 // What `why` prints in a table, for people.
-ghost use Rattle.std.specs.Prelude.{◌≡◌, ◌==◌, IfOk, Some, codes, length};
+ghost use Rattle.std.specs.Prelude.{◌≡◌, ◌==◌, ◌||◌, not, IfOk, Some, codes, length};
 ghost use Rattle.std.specs.FinMap as map;
 ghost use Rattle.cj_zone.specs.Table.{local_zone, zones_of};
 ghost use Rattle.cj_zone.specs.Zones.{utc_zone};
 ghost use Rattle.cj_answers.specs.Clusters as told;
 ghost use Rattle.cj_answers.specs.Outcome.{explained, outcome_of};
-ghost use Rattle.cj_inspect.specs.Why.{PrintsTable, is_full, meant_of, reviewed as outcome_reviewed};
+ghost use Rattle.cj_inspect.specs.Why.{PrintsTable, is_full, is_nothing, meant_of, reviewed as outcome_reviewed};
 
 use cj_answers::{Answer, ending_by, is_read, note_lines, note_words};
 use cj_args::WhyRequest;
 use cj_cluster::{ClusterCron, ClusterList, ItemNote};
 use cj_io::Failure;
 use cj_types::{Seconds, Shared};
-use cj_why::{cron_rows, table_text};
+use cj_why::{CronRow, cron_rows, table_text};
 use cj_zone::ZoneTable;
 use std::alloc::{AllocError, Global};
 
@@ -23,21 +23,29 @@ fn is_full(why: &WhyRequest<'_>) -> bool
     why.explain || why.crons.as_slice().len() == 1
 }
 
+// Whether none of these wants a look, where only such are printed.
+fn is_fine(problems: bool, rows: &[CronRow]) -> bool
+    ensures { result ≡ (not problems || is_nothing rows.now) }
+{
+    !problems || rows.is_empty()
+}
+
 // The items that can't be used, then the table.
 fn tabled(
     alloc: Global,
     explain: bool,
+    fine: bool,
     notes: &[ItemNote],
     table: &str,
 ) -> Result<Answer, AllocError>
     ensures { IfOk result (λ a. outcome_of a ≡ explained explain (told.note_words notes.now)
-        (outcome_reviewed notes.now table.now)) }
+        (outcome_reviewed fine notes.now table.now)) }
 {
     let said = note_words(alloc, notes)?;
     let mut printed = note_lines(alloc, notes)?;
     printed.push_str(table)?;
     let answer = Answer {
-        ending: ending_by(is_read(notes)),
+        ending: ending_by(is_read(notes) && fine),
         printed,
         said: String::new(alloc),
     };
@@ -63,5 +71,7 @@ pub(crate) fn table_reviewed(
     let full = is_full(why);
     let rows = cron_rows(alloc, why.problems, full, zones, &list.cluster, crons, now)?;
     let table = table_text(alloc, full, now, all, rows.as_slice())?;
-    Ok(tabled(alloc, why.explain, list.notes.as_slice(), table.as_str())?)
+    let fine = is_fine(why.problems, rows.as_slice());
+    let notes = list.notes.as_slice();
+    Ok(tabled(alloc, why.explain, fine, notes, table.as_str())?)
 }

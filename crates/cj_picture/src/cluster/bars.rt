@@ -66,6 +66,7 @@ pub(crate) fn axis_of(members: &[Member]) -> Axis {
 
 fn look_of(run: &Run) -> Look {
     match run.job.get().outcome {
+        None if run.times.is_suspended => Look::Suspended,
         None => Look::Open,
         Some(Outcome::Complete(_)) => Look::Done,
         Some(Outcome::Failed) => Look::Failed,
@@ -78,10 +79,11 @@ fn end_word(look: Look) -> &'static str {
         Look::Failed => "Failed at",
         Look::Dropped => "dropped at",
         Look::Open => "not ended at",
+        Look::Suspended => "suspended, not ended at",
     }
 }
 
-// When the Job was due, as its annotation says.
+// When the Job was due, as its annotation says, or else its name.
 fn due_text(alloc: Global, run: &Run) -> Result<String, Refusal>
     ensures err { IfErr result (λ e. e ≡ OutOfMemory) }
 {

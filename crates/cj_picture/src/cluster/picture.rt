@@ -58,9 +58,10 @@ fn page_of(alloc: Global, cluster: &Cluster, findings: &[Finding]) -> Result<Pag
 
 /// A picture of a cluster's Jobs, as SVG: a lane for each CronJob, by key, with its name, policy
 /// and schedule; a bar for each Job that the controller made for it, from its creation to its end,
-/// open at the right where it hasn't ended, with a tick at its scheduled time; and a cross for each
-/// of these findings at its time, whose Jobs have a line around their bars, with what it means as
-/// its title. The number of findings is below, and then these words, line by line.
+/// open at the right where it hasn't ended, grey where it is suspended, with a tick at its
+/// scheduled time; and a cross for each of these findings at its time, whose Jobs have a line
+/// around their bars, with what it means as its title. The number of findings is below, and then
+/// these words, line by line.
 ///
 /// Of more than forty CronJobs each gets one line, and those with nothing to show are counted.
 ///

@@ -5,7 +5,6 @@ ghost use Rattle.serde_json.specs.View.{view};
 ghost use Rattle.cj_zone.specs.Table.{zones_of};
 ghost use Rattle.cj_upcoming.specs.json.Standings.{AreStandingData, idle_data, standing_data};
 
-use crate::clock::spec_of;
 use crate::standing::{Standing, standing_of};
 use cj_base::Seconds;
 use cj_cluster::ClusterCron;
@@ -45,11 +44,14 @@ fn push_standing(
         Standing::Suspended => push_idle(alloc, values, "suspended", key),
         Standing::Never => push_idle(alloc, values, "never", key),
         Standing::Unread => push_idle(alloc, values, "unread", key),
+        Standing::Deleting => push_idle(alloc, values, "deleting", key),
+        Standing::Stuck => push_idle(alloc, values, "stuck", key),
     }
 }
 
-/// Each CronJob that starts nothing from an instant on, and why: one that is suspended, whose
-/// schedule comes at no time within 3,000 days, or that names no zone that is given.
+/// Each CronJob that starts nothing from an instant on, and why: one that is suspended, being
+/// deleted or stuck, whose schedule comes at no time within 3,000 days, or that names no zone that
+/// is given.
 pub fn standing_values(
     alloc: Global,
     zones: &ZoneTable,
@@ -63,7 +65,7 @@ pub fn standing_values(
     let mut values = Vec::new(alloc);
     for cron in crons {
         let cron = cron.get();
-        let standing = standing_of(zones, from, spec_of(cron));
+        let standing = standing_of(zones, from, cron);
         push_standing(alloc, &mut values, standing, cron.cron.get().key.key())?;
     }
     Ok(values)

@@ -16,7 +16,7 @@ use Rattle.cj_decide.specs.Decision.{IsPlan}
 use Rattle.cj_cluster.specs.Content.{Content}
 use Rattle.cj_cluster.specs.declared.cron.ClusterCron.{ClusterCron}
 use Rattle.cj_why.specs.reviews.Lacking.{lines_for, never_line}
-use Rattle.cj_why.specs.reviews.Seen.{found, lacking, listed}
+use Rattle.cj_why.specs.reviews.Seen.{found, lacking, listed, unknown}
 use Rattle.cj_why.specs.reviews.ZoneFor.{zone_for}
 
 -- ---- how many times were missed
@@ -73,5 +73,5 @@ pub record IsCronReview (zones : List Zone) (content : Content) (now : ℕ) (c :
   pub planned : IsPlan (Some c.cron) (listed content c) (found content c) now
       (zone_for c.cron.spec.time_zone zones) steps
   pub are : text ≡ head_line c.cron.key (count_text missed) (window_of c.cron now)
-      ++ (never_line c.cron.spec steps.next
-      ++ lines_for (lacking content c) c.cron.spec.policy steps)
+      ++ (never_line c.marks c.cron.spec steps.next
+      ++ lines_for c.marks (lacking content c) (unknown content c) c.cron.spec.policy steps)

@@ -7,9 +7,11 @@ use Rattle.cj_decide.specs.Decision.{IsPlan}
 use Rattle.cj_cluster.specs.Content.{Content}
 use Rattle.cj_cluster.specs.declared.cron.ClusterCron.{ClusterCron}
 use Rattle.cj_why.specs.declared.reviews.rows.CronRow.{CronRow}
+use Rattle.cj_due.specs.declared.answer.Missed.{Missed}
+use Rattle.cj_why.specs.reviews.Late.{IsLateOf}
 use Rattle.cj_why.specs.reviews.Review.{IsMissedOf}
-use Rattle.cj_why.specs.reviews.Seen.{found, lacking, listed}
-use Rattle.cj_why.specs.reviews.Verdict.{is_problem, verdict_of}
+use Rattle.cj_why.specs.reviews.Seen.{found, listed, unknown}
+use Rattle.cj_why.specs.reviews.Verdict.{is_problem, next_of, verdict_of}
 use Rattle.cj_why.specs.reviews.Words.{IsAskedWords}
 use Rattle.cj_why.specs.reviews.ZoneFor.{zone_for}
 
@@ -23,10 +25,11 @@ pub record IsRow (explain : Bool) (zones : List Zone) (content : Content) (now :
   pub steps : Steps
   pub planned : IsPlan (Some c.cron) (listed content c) (found content c) now
       (zone_for c.cron.spec.time_zone zones) steps
-  pub verdict : row.verdict ≡ verdict_of c.cron.spec
-      (is_some (zone_for c.cron.spec.time_zone zones)) (lacking content c)
-      content steps
-  pub next : row.next ≡ steps.next
+  pub late : Missed
+  pub too_late : IsLateOf c.cron (zone_for c.cron.spec.time_zone zones) now late
+  pub verdict : row.verdict ≡ verdict_of c (is_some (zone_for c.cron.spec.time_zone zones))
+      (unknown content c) late content steps
+  pub next : row.next ≡ next_of c steps
   pub words : IsAskedWords explain zones content now c (string_bytes row.words)
 
 -- the row is shown: all are, or it wants a look

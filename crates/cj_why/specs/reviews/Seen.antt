@@ -1,6 +1,6 @@
 -- What a sync of a cluster's CronJob sees. A server's uid is any text; the decision takes a number
 -- in its place.
-use Rattle.std.specs.Prelude.{ℕ, List, map, filter, codes, Bool, bytes_eq, is_none, if◌then◌else◌, Option}
+use Rattle.std.specs.Prelude.{ℕ, List, [], ◌∷◌, map, filter, codes, not, Bool, true, false, bytes_eq, is_none, if◌then◌else◌, Option}
 use Rattle.std.specs.Option.{option_map}
 use Rattle.std.specs.FinMap as maps
 use Rattle.cj_types.specs.Keys.{place}
@@ -56,8 +56,31 @@ found content c = map (found_at content c) c.cron.status.active
 abbrev pub is_lacking : Content → ClusterCron → List ℕ → Bool
 is_lacking content c name = is_none (maps.get content.jobs (place c.cron.key.namespace name))
 
--- the names in `status.active` of which the list has no Job: such a Job may run, be gone, or only
--- not be listed
+-- the names in `status.active` of which the list has no Job
 -- rule: why-lacks
 abbrev pub lacking : Content → ClusterCron → List (List ℕ)
 lacking content c = filter (is_lacking content c) c.cron.status.active
+
+abbrev pub has_any : {A : Type 0} → List A → Bool
+has_any [] = false
+has_any (x ∷ xs) = true
+
+-- the list has Jobs of the CronJob, so it isn't one of CronJobs alone
+-- rule: why-lacks
+abbrev pub lists_jobs : Content → ClusterCron → Bool
+lists_jobs content c = has_any (owned_by content.jobs c.cron.key)
+
+abbrev pub where_so : Bool → List (List ℕ) → List (List ℕ)
+where_so true names = names
+where_so false names = []
+
+-- of these nothing is known: in a list without Jobs of the CronJob such a Job may run, be gone, or
+-- only not be listed
+-- rule: why-lacks
+abbrev pub unknown : Content → ClusterCron → List (List ℕ)
+unknown content c = where_so (not (lists_jobs content c)) (lacking content c)
+
+-- and these are gone: the list has others of the CronJob's Jobs
+-- rule: why-lacks
+abbrev pub gone : Content → ClusterCron → List (List ℕ)
+gone content c = where_so (lists_jobs content c) (lacking content c)

@@ -1,10 +1,9 @@
 -- In a word, why a CronJob starts a Job at a moment, or why not, and which CronJobs want a look:
 -- Kubernetes CronJob documentation, "Schedule suspension", "Deadline for delayed Job start", "Time
 -- zones" and "Concurrency policy".
-use Rattle.std.specs.Prelude.{ℕ, nat_lt, List, ◌&&◌, not, Bool, true, false, Option, None, Some, codes, is_some}
+use Rattle.std.specs.Prelude.{ℕ, nat_lt, List, ◌&&◌, not, Bool, true, false, if◌then◌else◌, Option, None, Some, codes, is_some}
 use Rattle.std.specs.List.{list_any}
 use Rattle.std.specs.FinMap as maps
-use Rattle.cj_types.specs.declared.cron.CronSpec.{CronSpec}
 use Rattle.cj_types.specs.declared.job.JobDraft.{JobDraft}
 use Rattle.cj_types.specs.declared.policy.Reason.{Reason}
 use Rattle.cj_types.specs.declared.policy.Reason.TheVariants as Cause
@@ -13,12 +12,13 @@ use Rattle.cj_due.specs.declared.answer.Missed.{Missed}
 use Rattle.cj_due.specs.declared.answer.Missed.TheVariants as Kind
 use Rattle.cj_decide.specs.declared.start.Claim.{Claim}
 use Rattle.cj_decide.specs.declared.steps.Steps.{Steps}
-use Rattle.cj_cluster.specs.Content.{Content}
+use Rattle.cj_cluster.specs.Content.{Content, is_halted}
+use Rattle.cj_cluster.specs.declared.cron.ClusterCron.{ClusterCron}
 use Rattle.cj_why.specs.Running.{lacks_any}
 use Rattle.cj_why.specs.Why.{is_never}
 use Rattle.cj_why.specs.reviews.Lacking.{is_sure}
 use Rattle.cj_why.specs.declared.reviews.verdict.Verdict.{Verdict}
-use Rattle.cj_why.specs.declared.reviews.verdict.Verdict.TheVariants.{LacksJobs, NameTaken, NeverDue, NeverInTime, NothingMissed, Replaces, SkippedRunning, Starts, Suspended, ZoneUnknown}
+use Rattle.cj_why.specs.declared.reviews.verdict.Verdict.TheVariants.{Deleting, LacksJobs, NameTaken, NeverDue, NeverInTime, NothingMissed, Replaces, SkippedRunning, Starts, Stuck, Suspended, TooLate, ZoneUnknown}
 
 -- the list has a Job of the name that is made
 abbrev pub is_taken : Content → Option JobDraft → Bool
@@ -39,38 +39,59 @@ starting false true replaces = NameTaken
 starting false false true = Replaces
 starting false false false = Starts
 
--- nothing is started: whether that is since a Job runs, and when the schedule comes next
-abbrev pub resting : Bool → Option ℕ → Verdict
-resting true next = SkippedRunning
-resting false None = NeverDue
-resting false (Some time) = NothingMissed
+-- nothing is started: whether that is since a Job runs, when the schedule comes next, and whether
+-- times came too late for the deadline
+abbrev pub resting : Bool → Option ℕ → Bool → Verdict
+resting true next late = SkippedRunning
+resting false None late = NeverDue
+resting false (Some time) true = TooLate
+resting false (Some time) false = NothingMissed
 
-abbrev pub by_claim : Option Claim → Bool → Bool → Steps → Verdict
-by_claim None lacks taken p = resting (list_any is_skipped p.reasons) p.next
-by_claim (Some claim) lacks taken p = starting lacks taken (has_any p.drop_first)
+abbrev pub by_claim : Option Claim → Bool → Bool → Bool → Steps → Verdict
+by_claim None lacks taken late p = resting (list_any is_skipped p.reasons) p.next late
+by_claim (Some claim) lacks taken late p = starting lacks taken (has_any p.drop_first)
 
 -- whether the zone is known
-abbrev pub by_zone : Bool → Bool → Bool → Steps → Verdict
-by_zone false lacks taken p = ZoneUnknown
-by_zone true lacks taken p = by_claim p.claim lacks taken p
+abbrev pub by_zone : Bool → Bool → Bool → Bool → Steps → Verdict
+by_zone false lacks taken late p = ZoneUnknown
+by_zone true lacks taken late p = by_claim p.claim lacks taken late p
 
 -- whether no time is ever in time
-abbrev pub by_deadline : Bool → Bool → Bool → Bool → Steps → Verdict
-by_deadline true known lacks taken p = NeverInTime
-by_deadline false known lacks taken p = by_zone known lacks taken p
+abbrev pub by_deadline : Bool → Bool → Bool → Bool → Bool → Steps → Verdict
+by_deadline true known lacks taken late p = NeverInTime
+by_deadline false known lacks taken late p = by_zone known lacks taken late p
 
--- the first of these cases that holds
--- rule: why-verdict
-abbrev pub by_suspension : Bool → Bool → Bool → Bool → Bool → Steps → Verdict
-by_suspension true never known lacks taken p = Suspended
-by_suspension false never known lacks taken p = by_deadline never known lacks taken p
+abbrev pub by_suspension : Bool → Bool → Bool → Bool → Bool → Bool → Steps → Verdict
+by_suspension true never known lacks taken late p = Suspended
+by_suspension false never known lacks taken late p = by_deadline never known lacks taken late p
 
--- of a CronJob's plan: whether its zone is known, and the names of the Jobs that the list lacks
+-- the first of these cases that holds: it is being deleted, it is stuck, or by its plan
 -- rule: why-verdict
-abbrev pub verdict_of : CronSpec → Bool → List (List ℕ) → Content → Steps → Verdict
-verdict_of spec known lacking content p =
-    by_suspension spec.suspend (is_never spec.starting_deadline_seconds) known
-    (lacks_any lacking && not (is_sure spec.policy p.claim)) (is_taken content p.make) p
+abbrev pub by_marks : Bool → Bool → Verdict → Verdict
+by_marks true stuck verdict = Deleting
+by_marks false true verdict = Stuck
+by_marks false false verdict = verdict
+
+-- there are such times
+abbrev pub is_some_missed : Missed → Bool
+is_some_missed Kind.None = false
+is_some_missed (Kind.Some count latest) = true
+is_some_missed (Kind.Many latest) = true
+
+-- of a CronJob's plan: whether its zone is known, the names of the Jobs of which nothing is known,
+-- and the times that came too late
+-- rule: why-verdict
+abbrev pub verdict_of : ClusterCron → Bool → List (List ℕ) → Missed → Content → Steps → Verdict
+verdict_of c known unknown late content p =
+    by_marks c.marks.is_deleting c.marks.is_stuck (by_suspension c.cron.spec.suspend
+    (is_never c.cron.spec.starting_deadline_seconds) known
+    (lacks_any unknown && not (is_sure c.cron.spec.policy p.claim)) (is_taken content p.make)
+    (is_some_missed late) p)
+
+-- when to look again: of one that starts nothing, never
+-- rule: why-verdict
+abbrev pub next_of : ClusterCron → Steps → Option ℕ
+next_of c p = if is_halted c.marks then None else p.next
 
 -- ---- which want a look
 
@@ -80,12 +101,13 @@ is_behind Kind.None = false
 is_behind (Kind.Some count latest) = nat_lt 1 count
 is_behind (Kind.Many latest) = true
 
--- a suspended CronJob is as somebody wants it
+-- a CronJob that is suspended or being deleted is as somebody wants it
 -- rule: why-problems
 abbrev pub is_problem : Verdict → Missed → Bool
 is_problem Starts missed = is_behind missed
 is_problem Replaces missed = is_behind missed
 is_problem NothingMissed missed = false
+is_problem Deleting missed = false
 is_problem Suspended missed = false
 is_problem SkippedRunning missed = true
 is_problem NameTaken missed = true
@@ -93,6 +115,8 @@ is_problem LacksJobs missed = true
 is_problem NeverInTime missed = true
 is_problem NeverDue missed = true
 is_problem ZoneUnknown missed = true
+is_problem TooLate missed = true
+is_problem Stuck missed = true
 
 -- ---- in words
 
@@ -108,3 +132,6 @@ verdict_text LacksJobs = codes "lacks Jobs"
 verdict_text NeverInTime = codes "never: spec.startingDeadlineSeconds"
 verdict_text NeverDue = codes "never: spec.schedule"
 verdict_text ZoneUnknown = codes "zone unknown"
+verdict_text TooLate = codes "too late: spec.startingDeadlineSeconds"
+verdict_text Deleting = codes "being deleted"
+verdict_text Stuck = codes "stuck: status.active"

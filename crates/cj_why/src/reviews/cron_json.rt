@@ -11,22 +11,24 @@ ghost use Rattle.cj_why.specs.reviews.CronJson as json;
 ghost use Rattle.cj_json.specs.Values.{time_data, time_or_null};
 ghost use Rattle.cj_why.specs.reviews.PlanJson.{jobs_data, texts_data};
 ghost use Rattle.cj_due.specs.declared.answer.Missed.{Missed};
+ghost use Rattle.cj_why.specs.reviews.Late.{base_of};
 ghost use Rattle.cj_why.specs.reviews.Review.{IsMissedOf};
 ghost use Rattle.cj_why.specs.reviews.Seen as seen;
+ghost use Rattle.cj_why.specs.reviews.Verdict.{next_of};
 ghost use Rattle.cj_why.specs.reviews.ZoneFor.{zone_for};
 
-use crate::reviews::lacking::is_sure;
+use crate::reviews::lacking::is_known;
+use crate::reviews::late::{base_of, late_of};
 use crate::reviews::plan_json::{jobs_value, names_value, plan_value};
 use crate::reviews::reviewing::plan_of;
-use crate::reviews::rows::row_verdict;
-use crate::reviews::seen::{found, lacking};
+use crate::reviews::rows::{next_of, row_verdict};
+use crate::reviews::seen::{found, lacking, unknown};
 use crate::reviews::since::{missed_of, since};
 use crate::reviews::verdict::Verdict;
 use crate::reviews::words::cron_words;
 use crate::reviews::zone_for::zone_of;
-use crate::running::lacks_any;
 use cj_base::{all_three, both};
-use cj_cluster::{Cluster, ClusterCron};
+use cj_cluster::{Cluster, ClusterCron, CronMarks};
 use cj_decide::Steps;
 use cj_due::Missed;
 use cj_json::{push_value, time_or_null, time_value};
@@ -95,19 +97,21 @@ fn plan_where(alloc: Global, is_sure: bool, steps: &Steps) -> Result<Value, Refu
     }
 }
 
-// The plan, where it doesn't rest on Jobs that the list lacks.
+// The plan, where there is one and it doesn't rest on Jobs of which nothing is known.
 fn plan_for(
     alloc: Global,
-    lacking: &[ObjectName],
+    marks: CronMarks,
+    unknown: &[ObjectName],
     policy: Policy,
     steps: &Steps,
 ) -> Result<Value, Refusal>
-    ensures ok { IfOk result (λ v. view v ≡ json.plan_for lacking.now policy steps.now) }
+    ensures ok { IfOk result (λ v. view v
+        ≡ json.plan_for marks unknown.now policy steps.now) }
     ensures err { IfErr result (λ e. e ≡ OutOfMemory) }
 {
-    let has_all = !lacks_any(lacking);
-    let is_sure = is_sure(policy, &steps.claim);
-    plan_where(alloc, has_all || is_sure, steps)
+    let goes_on = !marks.is_halted();
+    let is_known = is_known(unknown, policy, steps);
+    plan_where(alloc, goes_on && is_known, steps)
 }
 
 fn running_value(alloc: Global, cluster: &Cluster, cron: &ClusterCron) -> Result<Value, Refusal>
@@ -130,39 +134,43 @@ fn jobs_values(
     ensures lacks { IfOk result (λ v. view v.0 ≡ texts_data (seen.lacking cluster.now cron.now)) }
     ensures running { IfOk result (λ v. view v.1
         ≡ jobs_data (running_of cron.now.cron (seen.found cluster.now cron.now))) }
-    ensures plan { IfOk result (λ v. view v.2 ≡ json.plan_for (seen.lacking cluster.now cron.now)
-        cron.now.cron.spec.policy steps.now) }
+    ensures plan { IfOk result (λ v. view v.2 ≡ json.plan_for cron.now.marks
+        (seen.unknown cluster.now cron.now) cron.now.cron.spec.policy steps.now) }
     ensures err { IfErr result (λ e. e ≡ OutOfMemory) }
 {
-    let lacking = lacking(alloc, cluster, cron)?;
+    let (lacking, unknown) = both(lacking(alloc, cluster, cron), unknown(alloc, cluster, cron))?;
     let policy = cron.cron.spec.policy;
     all_three(
         names_value(alloc, lacking.as_slice()),
         running_value(alloc, cluster, cron),
-        plan_for(alloc, lacking.as_slice(), policy, steps),
+        plan_for(alloc, cron.marks, unknown.as_slice(), policy, steps),
     )
 }
 
-// The times missed, and when to look again.
+// The times missed, when to look again, and the times that came too late.
 fn times_values(
     alloc: Global,
     zones: &ZoneTable,
     cron: &ClusterCron,
+    late: Missed,
     steps: &Steps,
     now: Seconds,
-) -> Result<(Value, Value), Refusal>
+) -> Result<(Value, Value, Value), Refusal>
     requires { local_zone zones.now ≡ Some (utc_zone (codes "UTC")) }
     ensures missed { IfOk result (λ v. (missed : Missed)
         × IsMissedOf cron.now.cron (zone_for cron.now.cron.spec.time_zone (zones_of zones.now)) now
         missed × (view v.0 ≡ json.missed_data missed (window_of cron.now.cron now))) }
-    ensures next { IfOk result (λ v. view v.1 ≡ time_or_null steps.now.next) }
+    ensures next { IfOk result (λ v. view v.1 ≡ time_or_null (next_of cron.now steps.now)) }
+    ensures late { IfOk result (λ v. view v.2
+        ≡ json.missed_data late (base_of cron.now.cron)) }
     ensures err { IfErr result (λ e. e ≡ OutOfMemory) }
 {
     let zone = zone_of(zones, &cron.cron.spec.time_zone);
     let missed = missed_of(cron.cron.get(), zone, now);
-    both(
+    all_three(
         missed_value(alloc, missed, since(cron.cron.get(), now)),
-        time_or_null(alloc, steps.next),
+        time_or_null(alloc, next_of(cron, steps)),
+        missed_value(alloc, late, base_of(cron.cron.get())),
     )
 }
 
@@ -170,18 +178,19 @@ fn cron_object(
     alloc: Global,
     key: &Key,
     jobs: (Value, Value, Value),
-    times: (Value, Value),
+    times: (Value, Value, Value),
     verdict: Verdict,
     why: String,
 ) -> Result<Value, AllocError>
     ensures { IfOk result (λ v. view v ≡ json.cron_data key.now (view jobs.0) (view jobs.1)
-        (view times.0) (view jobs.2) (view times.1) verdict (string_bytes why)) }
+        (view times.2) (view times.0) (view jobs.2) (view times.1) verdict (string_bytes why)) }
 {
     let (lacks, running, plan) = jobs;
-    let (missed, next) = times;
+    let (missed, next, late) = times;
     let why = Value::String(why);
     json!(in alloc; {
         "lacks": lacks,
+        "late": late,
         "missed": missed,
         "name": key.name(),
         "namespace": key.namespace(),
@@ -206,10 +215,15 @@ fn cron_value(
     ensures err { IfErr result (λ e. e ≡ OutOfMemory) }
 {
     let plan = plan_of(alloc, zones, cluster, cron, now)?;
-    let verdict = row_verdict(alloc, zones, cluster, cron, plan.steps())?;
+    let late = late_of(
+        cron.cron.get(),
+        zone_of(zones, &cron.cron.spec.time_zone),
+        now,
+    );
+    let verdict = row_verdict(alloc, zones, cluster, cron, late, plan.steps())?;
     let (jobs, times, why) = all_three(
         jobs_values(alloc, cluster, cron, plan.steps()),
-        times_values(alloc, zones, cron, plan.steps(), now),
+        times_values(alloc, zones, cron, late, plan.steps(), now),
         cron_words(alloc, zones, cluster, cron, now),
     )?;
     Ok(cron_object(alloc, cron.cron.key.key(), jobs, times, verdict, why)?)

@@ -11,10 +11,11 @@ ghost use Rattle.cj_why.specs.reviews.Words.{IsOne, IsReview};
 ghost use Rattle.cj_why.specs.reviews.ZoneFor.{zone_for};
 
 use crate::reviews::lacking::{lines_for, never_line};
-use crate::reviews::seen::{found, lacking, listed};
+use crate::reviews::seen::{found, lacking, listed, unknown};
 use crate::reviews::since::{count_text, head_line, missed_of};
 use crate::reviews::words::asked_words;
 use crate::reviews::zone_for::{zone_copy, zone_of};
+use cj_base::both;
 use cj_cluster::{Cluster, ClusterCron};
 use cj_decide::{Plan, Steps, decide};
 use cj_types::{Refusal, Seconds, Shared};
@@ -55,14 +56,22 @@ fn told_lines(
     cron: &ClusterCron,
     steps: &Steps,
 ) -> Result<String, Refusal>
-    ensures ok { IfOk result (λ s. string_bytes s ≡ never_line cron.now.cron.spec steps.now.next
-        ++ lines_for (seen.lacking cluster.now cron.now) cron.now.cron.spec.policy steps.now) }
+    ensures ok { IfOk result (λ s. string_bytes s ≡ never_line cron.now.marks cron.now.cron.spec
+        steps.now.next ++ lines_for cron.now.marks (seen.lacking cluster.now cron.now)
+        (seen.unknown cluster.now cron.now) cron.now.cron.spec.policy steps.now) }
     ensures err { IfErr result (λ e. e ≡ OutOfMemory) }
 {
-    let lacking = lacking(alloc, cluster, cron)?;
-    let spec = cron.cron.spec.get();
-    let lines = lines_for(alloc, lacking.as_slice(), spec.policy, steps)?;
-    let mut text = String::from_str(alloc, never_line(spec, steps.next))?;
+    let (lacking, unknown) = both(lacking(alloc, cluster, cron), unknown(alloc, cluster, cron))?;
+    let (marks, spec) = (cron.marks, cron.cron.spec.get());
+    let lines = lines_for(
+        alloc,
+        marks,
+        lacking.as_slice(),
+        unknown.as_slice(),
+        spec.policy,
+        steps,
+    )?;
+    let mut text = String::from_str(alloc, never_line(marks, spec, steps.next))?;
     text.push_str(lines.as_str())?;
     Ok(text)
 }

@@ -8,8 +8,9 @@ ghost use Rattle.cj_why.specs.reviews.Seen as seen;
 ghost use Rattle.cj_why.specs.reviews.Verdict as word;
 ghost use Rattle.cj_why.specs.reviews.ZoneFor.{zone_for};
 
+use crate::reviews::late::late_of;
 use crate::reviews::reviewing::plan_of;
-use crate::reviews::seen::lacking;
+use crate::reviews::seen::unknown;
 use crate::reviews::since::missed_of;
 use crate::reviews::verdict::{Verdict, is_problem, verdict_of};
 use crate::reviews::words::asked_words;
@@ -35,24 +36,35 @@ pub struct CronRow {
     pub words: String,
 }
 
-/// The verdict of the CronJob's plan.
+/// The verdict of the CronJob's plan, by the times that came too late for its deadline.
 pub(crate) fn row_verdict(
     alloc: Global,
     zones: &ZoneTable,
     cluster: &Cluster,
     cron: &ClusterCron,
+    late: Missed,
     steps: &Steps,
 ) -> Result<Verdict, Refusal>
     requires { local_zone zones.now ≡ Some (utc_zone (codes "UTC")) }
-    ensures ok { IfOk result (λ v. v ≡ word.verdict_of cron.now.cron.spec
+    ensures ok { IfOk result (λ v. v ≡ word.verdict_of cron.now
         (is_some (zone_for cron.now.cron.spec.time_zone (zones_of zones.now)))
-        (seen.lacking cluster.now cron.now) cluster.now steps.now) }
+        (seen.unknown cluster.now cron.now) late cluster.now steps.now) }
     ensures err { IfErr result (λ e. e ≡ OutOfMemory) }
 {
-    let lacking = lacking(alloc, cluster, cron)?;
+    let unknown = unknown(alloc, cluster, cron)?;
     let known = zone_of(zones, &cron.cron.spec.time_zone).is_some();
-    let spec = cron.cron.spec.get();
-    Ok(verdict_of(cluster, spec, known, lacking.as_slice(), steps))
+    Ok(verdict_of(cluster, cron, known, unknown.as_slice(), late, steps))
+}
+
+/// When to look again, by the CronJob's plan.
+pub(crate) fn next_of(cron: &ClusterCron, steps: &Steps) -> Option<Seconds>
+    ensures { result ≡ word.next_of cron.now steps.now }
+{
+    if cron.marks.is_halted() {
+        None
+    } else {
+        steps.next
+    }
 }
 
 fn row_of(
@@ -71,13 +83,14 @@ fn row_of(
     let zone = zone_of(zones, &object.cron.spec.time_zone);
     let missed = missed_of(object.cron.get(), zone, now);
     let plan = plan_of(alloc, zones, cluster, object, now)?;
-    let verdict = row_verdict(alloc, zones, cluster, object, plan.steps())?;
+    let late = late_of(object.cron.get(), zone, now);
+    let verdict = row_verdict(alloc, zones, cluster, object, late, plan.steps())?;
     let words = asked_words(alloc, explain, zones, cluster, object, now)?;
     Ok(CronRow {
         cron: cron.share()?,
         missed,
         verdict,
-        next: plan.steps().next,
+        next: next_of(object, plan.steps()),
         words,
     })
 }

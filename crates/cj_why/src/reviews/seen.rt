@@ -173,6 +173,53 @@ fn all_lacking(
     Ok(lacking)
 }
 
+fn has_any(jobs: &[Shared<Job>]) -> bool
+    ensures { result ≡ seen.has_any jobs.now }
+{
+    !jobs.is_empty()
+}
+
+// Whether the cluster has Jobs whose controller names the CronJob.
+fn lists_jobs(alloc: Global, cluster: &Cluster, cron: &ClusterCron) -> Result<bool, Refusal>
+    ensures ok { IfOk result (λ b. b ≡ seen.lists_jobs cluster.now cron.now) }
+    ensures err { IfErr result (λ e. e ≡ OutOfMemory) }
+{
+    let jobs = cluster.jobs_naming(alloc, cron.cron.key.key())?;
+    Ok(has_any(jobs.as_slice()))
+}
+
+fn where_so(alloc: Global, so: bool, names: Names) -> Names
+    ensures { result ≡ seen.where_so so names }
+{
+    if so { names } else { Names::new(alloc) }
+}
+
+/// The names in the CronJob's `status.active` of whose Jobs nothing is known: those of which the
+/// cluster has no Job, where it has none of the CronJob at all.
+pub(crate) fn unknown(
+    alloc: Global,
+    cluster: &Cluster,
+    cron: &ClusterCron,
+) -> Result<Names, Refusal>
+    ensures ok { IfOk result (λ r. r ≡ seen.unknown cluster.now cron.now) }
+    ensures err { IfErr result (λ e. e ≡ OutOfMemory) }
+{
+    let lists_jobs = lists_jobs(alloc, cluster, cron)?;
+    let names = lacking(alloc, cluster, cron)?;
+    Ok(where_so(alloc, !lists_jobs, names))
+}
+
+/// The names in the CronJob's `status.active` whose Jobs are gone: the cluster has other Jobs of
+/// the CronJob, and not these.
+pub(crate) fn gone(alloc: Global, cluster: &Cluster, cron: &ClusterCron) -> Result<Names, Refusal>
+    ensures ok { IfOk result (λ r. r ≡ seen.gone cluster.now cron.now) }
+    ensures err { IfErr result (λ e. e ≡ OutOfMemory) }
+{
+    let lists_jobs = lists_jobs(alloc, cluster, cron)?;
+    let names = lacking(alloc, cluster, cron)?;
+    Ok(where_so(alloc, lists_jobs, names))
+}
+
 /// The names in the CronJob's `status.active` of which the cluster has no Job.
 pub(crate) fn lacking(
     alloc: Global,

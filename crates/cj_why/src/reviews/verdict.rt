@@ -1,15 +1,15 @@
 // In a word, why a CronJob starts a Job at a moment, or why not.
 ghost use Rattle.std.specs.Prelude.{◌≡◌};
 ghost use Rattle.std.specs.List.{list_any};
-ghost use Rattle.cj_why.specs.reviews.Verdict.{by_claim, by_deadline, by_suspension, by_zone, is_behind, is_problem, is_skipped, is_taken, resting, starting, verdict_of, verdict_text};
+ghost use Rattle.cj_why.specs.reviews.Verdict.{by_claim, by_deadline, by_marks, by_suspension, by_zone, is_behind, is_problem, is_skipped, is_some_missed, is_taken, resting, starting, verdict_of, verdict_text};
 
 use crate::reviews::lacking::is_sure;
 use crate::running::lacks_any;
 use crate::start::is_never;
-use cj_cluster::Cluster;
+use cj_cluster::{Cluster, ClusterCron, CronMarks};
 use cj_decide::Steps;
 use cj_due::Missed;
-use cj_types::{CronSpec, JobDraft, ObjectName, Reason, Seconds};
+use cj_types::{JobDraft, ObjectName, Reason, Seconds};
 
 /// Why a CronJob starts a Job at a moment, or why not.
 #[derive(Clone, Copy, Debug)]
@@ -34,6 +34,14 @@ pub enum Verdict {
     NeverDue,
     /// No zone of the name in `spec.timeZone` is given.
     ZoneUnknown,
+    /// No time was missed that is still in time, but some that came too late for
+    /// `spec.startingDeadlineSeconds`.
+    TooLate,
+    /// It is being deleted: it has a `metadata.deletionTimestamp`.
+    Deleting,
+    /// A reference in its `status.active` names no Job, so that each sync of Kubernetes' controller
+    /// fails.
+    Stuck,
 }
 
 impl Verdict {
@@ -52,6 +60,9 @@ impl Verdict {
             Verdict::NeverInTime => "never: spec.startingDeadlineSeconds",
             Verdict::NeverDue => "never: spec.schedule",
             Verdict::ZoneUnknown => "zone unknown",
+            Verdict::TooLate => "too late: spec.startingDeadlineSeconds",
+            Verdict::Deleting => "being deleted",
+            Verdict::Stuck => "stuck: status.active",
         }
     }
 }
@@ -94,64 +105,116 @@ fn starting(lacks: bool, taken: bool, replaces: bool) -> Verdict
     }
 }
 
-fn resting(skipped: bool, next: Option<Seconds>) -> Verdict
-    ensures { result ≡ resting skipped next }
+fn resting(skipped: bool, next: Option<Seconds>, late: bool) -> Verdict
+    ensures { result ≡ resting skipped next late }
 {
-    match (skipped, next) {
-        (true, _) => Verdict::SkippedRunning,
-        (false, None) => Verdict::NeverDue,
-        (false, Some(_)) => Verdict::NothingMissed,
+    match (skipped, next, late) {
+        (true, _, _) => Verdict::SkippedRunning,
+        (false, None, _) => Verdict::NeverDue,
+        (false, Some(_), true) => Verdict::TooLate,
+        (false, Some(_), false) => Verdict::NothingMissed,
     }
 }
 
-fn by_claim(lacks: bool, taken: bool, steps: &Steps) -> Verdict
-    ensures { result ≡ by_claim steps.now.claim lacks taken steps.now }
+// What a verdict rests on beside the plan.
+#[derive(Clone, Copy)]
+struct Known {
+    zone: bool,
+    lacks: bool,
+    taken: bool,
+    late: bool,
+}
+
+fn by_claim(known: Known, steps: &Steps) -> Verdict
+    ensures { result ≡ by_claim steps.now.claim known.lacks known.taken known.late steps.now }
 {
     match steps.claim {
-        None => resting(is_any_skipped(steps.reasons.as_slice()), steps.next),
-        Some(_) => starting(lacks, taken, steps.drop_first.has_any()),
+        None => resting(
+            is_any_skipped(steps.reasons.as_slice()),
+            steps.next,
+            known.late,
+        ),
+        Some(_) => starting(known.lacks, known.taken, steps.drop_first.has_any()),
     }
 }
 
-fn by_zone(known: bool, lacks: bool, taken: bool, steps: &Steps) -> Verdict
-    ensures { result ≡ by_zone known lacks taken steps.now }
+fn by_zone(known: Known, steps: &Steps) -> Verdict
+    ensures { result ≡ by_zone known.zone known.lacks known.taken known.late steps.now }
 {
-    if known {
-        by_claim(lacks, taken, steps)
+    if known.zone {
+        by_claim(known, steps)
     } else {
         Verdict::ZoneUnknown
     }
 }
 
-fn by_deadline(never: bool, known: bool, lacks: bool, taken: bool, steps: &Steps) -> Verdict
-    ensures { result ≡ by_deadline never known lacks taken steps.now }
+fn by_deadline(never: bool, known: Known, steps: &Steps) -> Verdict
+    ensures { result
+        ≡ by_deadline never known.zone known.lacks known.taken known.late steps.now }
 {
     if never {
         Verdict::NeverInTime
     } else {
-        by_zone(known, lacks, taken, steps)
+        by_zone(known, steps)
     }
 }
 
-/// The verdict that a plan means, whether the CronJob's zone is known, and by what the list lacks.
-pub(crate) fn verdict_of(
-    cluster: &Cluster,
-    spec: &CronSpec,
-    known: bool,
-    lacking: &[ObjectName],
-    steps: &Steps,
-) -> Verdict
-    ensures { result ≡ verdict_of spec.now known lacking.now cluster.now steps.now }
+fn by_suspension(suspend: bool, never: bool, known: Known, steps: &Steps) -> Verdict
+    ensures { result
+        ≡ by_suspension suspend never known.zone known.lacks known.taken known.late steps.now }
 {
-    let never = is_never(spec.starting_deadline_seconds);
-    let is_sure = is_sure(spec.policy, &steps.claim);
-    let lacks = lacks_any(lacking) && !is_sure;
-    let taken = is_taken(cluster, &steps.make);
-    if spec.suspend {
+    if suspend {
         Verdict::Suspended
     } else {
-        by_deadline(never, known, lacks, taken, steps)
+        by_deadline(never, known, steps)
     }
+}
+
+fn by_marks(marks: CronMarks, verdict: Verdict) -> Verdict
+    ensures { result ≡ by_marks marks.is_deleting marks.is_stuck verdict }
+{
+    match (marks.is_deleting, marks.is_stuck) {
+        (true, _) => Verdict::Deleting,
+        (false, true) => Verdict::Stuck,
+        (false, false) => verdict,
+    }
+}
+
+fn is_some_missed(missed: Missed) -> bool
+    ensures { result ≡ is_some_missed missed }
+{
+    match missed {
+        Missed::None => false,
+        Missed::Some { .. } => true,
+        Missed::Many { .. } => true,
+    }
+}
+
+/// The verdict that a plan means, by whether the CronJob's zone is known, by the names of its Jobs
+/// of which nothing is known, and by the times that came too late for its deadline.
+pub(crate) fn verdict_of(
+    cluster: &Cluster,
+    cron: &ClusterCron,
+    zone: bool,
+    unknown: &[ObjectName],
+    late: Missed,
+    steps: &Steps,
+) -> Verdict
+    ensures { result ≡ verdict_of cron.now zone unknown.now late cluster.now steps.now }
+{
+    let spec = cron.cron.spec.get();
+    let never = is_never(spec.starting_deadline_seconds);
+    let is_sure = is_sure(spec.policy, &steps.claim);
+    let lacks = lacks_any(unknown) && !is_sure;
+    let taken = is_taken(cluster, &steps.make);
+    let late = is_some_missed(late);
+    let known = Known {
+        zone,
+        lacks,
+        taken,
+        late,
+    };
+    by_marks(cron.marks, by_suspension(spec.suspend, never, known, steps))
 }
 
 fn is_behind(missed: Missed) -> bool
@@ -170,12 +233,14 @@ pub(crate) fn is_problem(verdict: Verdict, missed: Missed) -> bool
 {
     match verdict {
         Verdict::Starts | Verdict::Replaces => is_behind(missed),
-        Verdict::NothingMissed | Verdict::Suspended => false,
+        Verdict::NothingMissed | Verdict::Suspended | Verdict::Deleting => false,
         Verdict::SkippedRunning
         | Verdict::NameTaken
         | Verdict::LacksJobs
         | Verdict::NeverInTime
         | Verdict::NeverDue
-        | Verdict::ZoneUnknown => true,
+        | Verdict::ZoneUnknown
+        | Verdict::TooLate
+        | Verdict::Stuck => true,
     }
 }

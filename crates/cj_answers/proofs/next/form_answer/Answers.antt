@@ -12,6 +12,6 @@ returns c =
       after = c.in-Some.after;
       start = record { in_range = c.in-Some.ensures.in_range; printed = c.in-Some.ensures.found };
       zone = c.default_zone.result.now;
-      is_zone = c.in-Ok-next_zones.ensures.ok c.default_zone.result.now c.default_zone.ensures;
+      is_zone = c.in-Ok-zones_for.ensures.ok c.default_zone.result.now c.default_zone.ensures;
       tells = h;
     })))) c.times_answer.ensures

@@ -4,4 +4,4 @@ use Rattle.cj_args.proofs.command.cronsim_command.Goals as goal
 
 pub returns : goal.returns
 returns c = IfOk-weaker c.with_command.result _ _ (λ command is. is.app)
-    (c.with_command.ensures _ _ c.asked_command.ensures c.control_command.ensures)
+    (c.with_command.ensures _ _ c.reported_command.ensures c.control_command.ensures)

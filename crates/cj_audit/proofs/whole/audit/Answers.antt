@@ -11,9 +11,10 @@ returns-clause-ok c =
     let zones = zones_of c.args.zones.now in
     let content = c.args.cluster.now in
     let refused = c.args.refused.now in
-    let whole : IsAudit zones content refused c.note_strays.new.notes.keys = audited zones content refused
+    let whole : IsAudit zones content refused c.note_stuck.new.notes.keys = audited zones content refused
     c.new-notes.result
-    c.note_crons.new.notes c.note_strays.new.notes c.new-notes.ensures.empty c.in_ok-note_crons.ensures.ok
-    c.in_ok-note_strays.ensures.ok c.of_set.ensures.ordered in
+    c.note_crons.new.notes c.note_strays.new.notes c.note_stuck.new.notes c.new-notes.ensures.empty
+    c.in_ok-note_crons.ensures.ok c.in_ok-note_strays.ensures.ok c.in_ok-note_stuck.ensures.ok
+    c.of_set.ensures.ordered in
     IfOk-weaker c.of_set.result _ _ (λ f e. subst (λ xs. IsAudit zones content refused xs) (sym e) whole)
     c.of_set.ensures.ok

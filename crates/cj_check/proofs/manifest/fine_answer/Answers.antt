@@ -10,5 +10,6 @@ returns c = λ bytes read.
     let told = subst (λ (moment : Option ℕ). IsAdvice c.args.manifest.now (zones_of c.args.zones.now) moment
     (string_bytes c.in_ok-words.words)) c.in_ok-moment.ensures c.in_ok-words.ensures.ok in
     fine_checked c.args.check.now c.args.alone (zones_of c.args.zones.now) bytes c.args.manifest.now
-    (string_bytes c.in_ok-words.words) c.as_str.result.now
-    c.args.warnings.now c.args.warnings.now c.fine.result refl c.as_str.ensures.value told read c.fine.ensures
+    (string_bytes c.in_ok-words.words) c.as_str-words.result.now c.coming_words-coming.result.now
+    c.args.warnings.now c.args.warnings.now c.fine.result refl c.as_str-words.ensures.value told
+    c.coming_words-coming.ensures read c.fine.ensures

@@ -5,9 +5,9 @@ use Rattle.cj_inspect.proofs.why.known_reviewed.Goals as goal
 
 pub returns-then-is_nothing : goal.returns-then-is_nothing
 returns-then-is_nothing c =
-    IfOk-weaker c.meant_reviewed.result _ _
+    IfOk-weaker c.noticed_reviewed.result _ _
     (λ a h. inr (record { known = sym c.is_nothing.ensures ∙ c.if-is_nothing.true; prints = h }))
-    c.meant_reviewed.ensures
+    c.noticed_reviewed.ensures
 
 pub returns-else-is_nothing : goal.returns-else-is_nothing
 returns-else-is_nothing c =

@@ -95,6 +95,17 @@ returns-in-Describe-clause-failed g c = λ e. failed_at c.args.request.now c.arg
     c.in-Describe.is (cut _ _ _ _ _ _ _ c.describe_answer.result c.describe_answer.ensures
     (c.give_answer-in-Describe.ensures.failed e))
 
+pub returns-in-Report-clause-served : goal.returns-in-Report-clause-served
+returns-in-Report-clause-served g c = λ lt. served_at c.args.request.now c.args.files.now
+    (g.R.Read.remaining c.args.input.now) _ _ _ _ _
+    c.in-Report.is c.report_answer.result _ c.report_answer.ensures (c.give_answer-in-Report.ensures.given lt)
+
+pub returns-in-Report-clause-failed : goal.returns-in-Report-clause-failed
+returns-in-Report-clause-failed g c = λ e. failed_at c.args.request.now c.args.files.now
+    (g.R.Read.remaining c.args.input.now) _ _ _ _ _
+    c.in-Report.is (cut _ _ _ _ _ _ _ c.report_answer.result c.report_answer.ensures
+    (c.give_answer-in-Report.ensures.failed e))
+
 pub returns-in-Control-clause-served : goal.returns-in-Control-clause-served
 returns-in-Control-clause-served g c = λ lt. served_at c.args.request.now c.args.files.now
     (g.R.Read.remaining c.args.input.now) _ _ _ _ _

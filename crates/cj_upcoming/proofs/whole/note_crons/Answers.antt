@@ -1,11 +1,10 @@
 -- note_crons: its loop and its clauses, by the walk over the CronJobs.
-use Rattle.std.proofs.Common.{rules, ◌≡◌, IfErr, length, ap, ◌∙◌, subst, refl, arith}
+use Rattle.std.proofs.Common.{rules, ◌≡◌, IfErr, length, subst, refl, arith}
 use Rattle.std.proofs.lemmas.Option.{slice_get_read}
 use Rattle.std.proofs.lemmas.Result.{IfErr-weaker}
 use Rattle.cj_zone.specs.Table.{zones_of}
-use Rattle.cj_cluster.specs.declared.cron.ClusterCron.{ClusterCron}
 use Rattle.cj_upcoming.specs.Notes.{Notes, Exceeds}
-use Rattle.cj_upcoming.specs.Starts.{IsStartOf}
+use Rattle.cj_upcoming.specs.Starts.{IsStartBy}
 use Rattle.cj_upcoming.specs.Upcoming.{IsStart}
 use Rattle.cj_upcoming.specs.declared.fault.StartsFault.{StartsFault}
 use Rattle.cj_upcoming.specs.declared.fault.StartsFault.TheVariants.{TooMany}
@@ -19,11 +18,9 @@ loop-place-preserved c =
     let xs = c.args.crons.now in
     let i = c.loop-place.place in
     let x = c.index-crons-place.result in
-    let spec : c.spec_of-spec.result.now ≡ x.cron.spec =
-    c.spec_of-spec.ensures ∙ ap (λ (d : ClusterCron). d.cron.spec) c.get.ensures in
     starts_step zones w xs i x c.args.starts.now c.loop-place.starts c.note_cron.new.starts
     (slice_get_read xs (length xs) i x refl (omega arith) c.index-crons-place.is) c.loop-place.invariant
-    (subst (λ s. Notes (IsStartOf zones w i s) c.loop-place.starts c.note_cron.new.starts) spec
+    (subst (λ d. Notes (IsStartBy zones w i d) c.loop-place.starts c.note_cron.new.starts) c.get.ensures
     c.in_ok-note_cron.ensures.ok)
 
 pub returns-in_err-note_cron-clause-many : goal.returns-in_err-note_cron-clause-many
@@ -33,13 +30,12 @@ returns-in_err-note_cron-clause-many c =
     let xs = c.args.crons.now in
     let i = c.loop-place.place in
     let x = c.index-crons-place.result in
-    let spec : c.spec_of-spec.result.now ≡ x.cron.spec =
-    c.spec_of-spec.ensures ∙ ap (λ (d : ClusterCron). d.cron.spec) c.get.ensures in
     let over : IfErr c.note_cron.result (λ (e : StartsFault). e ≡ TooMany → Exceeds c.args.most (IsStart zones w xs)
     c.args.starts.now c.note_cron.new.starts) = IfErr-weaker c.note_cron.result _ _ (λ e h is.
     starts_over zones w xs c.args.most i x c.args.starts.now c.loop-place.starts c.note_cron.new.starts
     (slice_get_read xs (length xs) i x refl (omega arith) c.index-crons-place.is) c.loop-place.invariant
-    (subst (λ s. Exceeds c.args.most (IsStartOf zones w i s) c.loop-place.starts c.note_cron.new.starts) spec (h is)))
+    (subst (λ d. Exceeds c.args.most (IsStartBy zones w i d) c.loop-place.starts c.note_cron.new.starts) c.get.ensures
+    (h is)))
     c.note_cron.ensures.many in
     search rules
 

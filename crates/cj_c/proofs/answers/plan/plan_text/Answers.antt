@@ -6,5 +6,5 @@ use Rattle.cj_c.proofs.answers.plan.plan_text.Goals as goal
 pub json_text-requires : goal.json_text-requires
 json_text-requires c = record {
   exact = free_as _ _ c.in_ok-value.ensures.ok (plan_free c.args.steps.now);
-  flat = within_as 127 _ _ c.in_ok-value.ensures.ok (plan_within c.args.steps.now);
+  flat = within_as 127 _ _ c.in_ok-value.ensures.ok (plan_within 124 c.args.steps.now);
 }

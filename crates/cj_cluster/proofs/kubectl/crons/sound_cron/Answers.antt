@@ -34,8 +34,8 @@ returns-clause-ok c =
     c.as_slice.ensures in
     let names : c.unwrap_or-names.result ≡ value_or [] c.in_ok-active.active = search rules in
     let made = cron_is c.args.place d c.args.draft c.into_inner.result times c.unwrap_or-names.result
-    c.in_ok-active.active c.in_ok-cron.cron c.in_ok-cron.ensures.ok c.into_inner.ensures names
-    c.in_ok-active.ensures.ok in
+    c.in_ok-active.active c.marks_of-marks.result c.in_ok-cron.cron c.in_ok-cron.ensures.ok c.into_inner.ensures
+    names c.in_ok-active.ensures.ok c.marks_of-marks.ensures in
     record {
       draft = c.args.draft;
       times = times;

@@ -12,9 +12,14 @@ returns-clause-ok c = λ h k.
     let p = c.args.self.now.progress in
     let e = c.args.entry.now in
     look_more s e h c.args.self.now
-    (record { progress = c.after-self.result; work = c.go.new.self; kept = c.is_kept-self.result })
-    c.is_over_with-over.result c.is_idle-idle.result c.is_over_with-over.ensures c.is_idle-idle.ensures
-    c.is_kept-self.ensures c.in_ok-go.ensures
+    (record {
+      progress = c.after-self.result;
+      work = c.go.new.self;
+      untaken = c.note_entry.new.untaken;
+      kept = c.is_kept-self.result;
+    })
+    c.is_over_with-over.result c.in_ok-clear.clear c.is_over_with-over.ensures c.in_ok-clear.ensures
+    c.is_kept-self.ensures c.in_ok-go.ensures c.in_ok-note_entry.ensures
     (c.after-self.ensures.value
     ∙ ap (λ (x : Caller). progress_after s p x.role c.call.result.now) c.caller.ensures
     ∙ ap (λ (x : Call). progress_after s p e.caller.role x) c.call.ensures.value)

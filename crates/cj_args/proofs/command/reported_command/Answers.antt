@@ -1,0 +1,5 @@
+-- reported_command: its ensures, from the two commands.
+use Rattle.cj_args.proofs.command.reported_command.Goals as goal
+
+pub returns : goal.returns
+returns c = c.with_command.ensures _ _ c.asked_command.ensures c.report_command.ensures

@@ -1,0 +1,9 @@
+-- serve_report: its clause given, of the answer that was given.
+use Rattle.cj_program.proofs.GivenFiles.{given_one}
+use Rattle.cj_program.proofs.several.serve_report.Goals as goal
+
+pub returns : goal.returns
+returns g c = record {
+  given = λ lt. given_one c.report_files_answer.result _ _ _ _ _ _ c.report_files_answer.ensures
+      (c.give_answer.ensures.given lt);
+}

@@ -1,0 +1,4 @@
+pub mod Escapes
+pub mod Places
+pub mod ReadsBack
+pub mod Words

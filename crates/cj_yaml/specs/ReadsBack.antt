@@ -1,0 +1,15 @@
+-- That what is printed of a text reads back.
+use Rattle.std.specs.Prelude.{◌≡◌, ◌⊎◌, ℕ, List, Some, IsUtf8}
+use Rattle.serde_json.specs.Data.{string}
+use Rattle.serde_json.specs.Read.{read}
+use Rattle.cj_yaml.specs.Words.{IsPlainText, IsPrinted}
+
+-- what stands as a value is read as a text: plain, as it is, or in double quotes, as JSON reads it
+-- rule: yaml-reads-back
+abbrev pub ReadsAs : List ℕ → List ℕ → Type 0
+ReadsAs printed t = (IsPlainText printed × (printed ≡ t)) ⊎ (read printed ≡ Some (string t))
+
+-- what is printed of a text reads as that text
+-- rule: yaml-reads-back
+abbrev pub PrintedReadsBack : Type 0
+PrintedReadsBack = (t printed : List ℕ) → IsUtf8 t → IsPrinted t printed → ReadsAs printed t

@@ -1,0 +1,137 @@
+// Bytes by their kind, and where runs of them end (YAML 1.2.2, chapters 5 and 6).
+ghost use Rattle.std.specs.Prelude.{◌≡◌, slice_index};
+ghost use Rattle.cj_yaml.specs.Places.{ends_line, mark_len};
+
+// The byte at an offset, 0 behind the end. A text that is read has no 0.
+pub(crate) fn byte(text: &[u8], at: usize) -> u8
+    ensures { result ≡ slice_index text.now at }
+{
+    match text.get(at) {
+        Some(found) => *found,
+        None => 0,
+    }
+}
+
+// A space or a tab (s-white).
+pub(crate) fn is_blank(b: u8) -> bool {
+    b == b' ' || b == b'\t'
+}
+
+// A line break or the end (b-break).
+pub(crate) fn is_break(b: u8) -> bool {
+    b == b'\n' || b == b'\r' || b == 0
+}
+
+// A blank, a line break or the end.
+pub(crate) fn is_gap(b: u8) -> bool {
+    is_blank(b) || is_break(b)
+}
+
+// A character that ends a plain text between brackets (c-flow-indicator).
+pub(crate) fn is_flow_mark(b: u8) -> bool {
+    matches!(b, b',' | b'[' | b']' | b'{' | b'}')
+}
+
+// The first offset from there on whose byte is no blank.
+pub(crate) fn blanks_end(text: &[u8], from: usize) -> usize {
+    for at in from..text.len() {
+        if !is_blank(text[at]) {
+            return at;
+        }
+    }
+    text.len()
+}
+
+// The first offset from there on whose byte is no space.
+pub(crate) fn spaces_end(text: &[u8], from: usize) -> usize {
+    for at in from..text.len() {
+        if text[at] != b' ' {
+            return at;
+        }
+    }
+    text.len()
+}
+
+// The first offset from there on where a line ends.
+pub(crate) fn line_end(text: &[u8], from: usize) -> usize {
+    for at in from..text.len() {
+        if is_break(text[at]) {
+            return at;
+        }
+    }
+    text.len()
+}
+
+// How many bytes the line break at an offset has; none where there is none.
+pub(crate) fn break_len(text: &[u8], at: usize) -> usize {
+    match byte(text, at) {
+        b'\n' => 1,
+        b'\r' => if byte(text, at.saturating_add(1)) == b'\n' {
+            2
+        } else {
+            1
+        },
+        _ => 0,
+    }
+}
+
+// The offset of the last byte before `end` that is no blank, and 1; `start` where all are.
+pub(crate) fn trimmed(text: &[u8], start: usize, end: usize) -> usize {
+    for back in 0..end.saturating_sub(start) {
+        let at = end.saturating_sub(back);
+        if !is_blank(byte(text, at.saturating_sub(1))) {
+            return at;
+        }
+    }
+    start
+}
+
+// Whether a line that begins there is a document's `---` or `...` (c-forbidden).
+pub(crate) fn is_marker(text: &[u8], at: usize) -> bool {
+    let first = byte(text, at);
+    (first == b'-' || first == b'.')
+        && byte(text, at.saturating_add(1)) == first
+        && byte(text, at.saturating_add(2)) == first
+        && is_gap(byte(text, at.saturating_add(3)))
+}
+
+// A part of the text; empty where the offsets are in no order or past its end.
+pub(crate) fn part(text: &[u8], from: usize, to: usize) -> &[u8] {
+    if from <= to && to <= text.len() {
+        &text[from..to]
+    } else {
+        &[]
+    }
+}
+
+// Where a line begins that lies between the offsets, the last of several.
+pub(crate) fn last_line(text: &[u8], from: usize, to: usize) -> Option<usize> {
+    for back in 0..to.saturating_sub(from) {
+        let at = to.saturating_sub(back);
+        if is_break(byte(text, at.saturating_sub(1))) {
+            return Some(at);
+        }
+    }
+    None
+}
+
+// How many bytes the byte order mark in front of a text has; none where there is none (5.2).
+pub(crate) fn mark_len(text: &[u8]) -> usize
+    ensures { result ≡ mark_len text.now }
+{
+    if byte(text, 0) == 0xef && byte(text, 1) == 0xbb && byte(text, 2) == 0xbf {
+        3
+    } else {
+        0
+    }
+}
+
+// Whether a line ends with the byte at an offset: a line feed, or a carriage return with none
+// behind it.
+pub(crate) fn ends_line(text: &[u8], at: usize) -> bool
+    ensures { result ≡ ends_line text.now at }
+{
+    let found = byte(text, at);
+    let next = byte(text, at.saturating_add(1));
+    found == b'\n' || (found == b'\r' && next != b'\n')
+}

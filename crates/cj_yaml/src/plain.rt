@@ -1,0 +1,133 @@
+// Plain texts (YAML 1.2.2, 7.3.3).
+use crate::chars::{
+    blanks_end, break_len, byte, is_blank, is_flow_mark, is_gap, is_marker, part, spaces_end,
+    trimmed,
+};
+use crate::cursor::Cursor;
+use crate::fault::{FaultKind, Stop};
+use std::alloc::Global;
+
+// Whether a plain text may begin with this byte, before the next one.
+pub(crate) fn begins_plain(first: u8, next: u8, flow: bool) -> bool {
+    match first {
+        b'-' | b'?' | b':' => !is_gap(next) && !(flow && is_flow_mark(next)),
+        b',' | b'[' | b']' | b'{' | b'}' | b'#' | b'&' | b'*' | b'!' | b'|' | b'>' => false,
+        b'\'' | b'"' | b'%' | b'@' | b'`' => false,
+        _ => !is_gap(first),
+    }
+}
+
+// Whether the `:` before this byte ends a key.
+pub(crate) fn ends_key(next: u8, flow: bool) -> bool {
+    is_gap(next) || (flow && is_flow_mark(next))
+}
+
+// The offset on the line at which a plain text that begins there ends: at a `:` that ends a key, a
+// comment, the line's end, or a bracket or comma between brackets.
+pub(crate) fn plain_end(text: &[u8], from: usize, flow: bool) -> usize {
+    let mut blank = false;
+    for at in from..text.len() {
+        match text[at] {
+            b'\n' | b'\r' => return at,
+            b':' if ends_key(byte(text, at.saturating_add(1)), flow) => return at,
+            b'#' if blank => return at,
+            b if flow && is_flow_mark(b) => return at,
+            b => blank = is_blank(b),
+        }
+    }
+    text.len()
+}
+
+// Where a plain text goes on behind its line.
+#[derive(Clone, Copy)]
+struct Continued {
+    // (the line's first byte, and its content)
+    line: usize,
+    at: usize,
+    // (how many lines without content are between)
+    empty: usize,
+}
+
+// Where the plain text whose line ends there goes on, on a line that is indented by at least
+// `least` spaces.
+fn next_line(text: &[u8], end: usize, least: usize) -> Option<Continued> {
+    let mut at = end;
+    let mut empty = 0usize;
+    for _ in end..text.len() {
+        let line = at.saturating_add(break_len(text, at));
+        let spaces = spaces_end(text, line);
+        at = blanks_end(text, line);
+        if break_len(text, at) == 0 {
+            let found = Continued { line, at, empty };
+            return goes_on(text, &found, spaces, least).then_some(found);
+        }
+        empty = empty.saturating_add(1);
+    }
+    None
+}
+
+// Whether a line goes on with a plain text.
+fn goes_on(text: &[u8], found: &Continued, spaces: usize, least: usize) -> bool {
+    found.at < text.len()
+        && spaces.saturating_sub(found.line) >= least
+        && byte(text, found.at) != b'#'
+        && !is_marker(text, found.line)
+}
+
+// Reads the plain text at the cursor, over several lines where those below are indented by at least
+// `least` spaces. Between brackets each line goes on with it.
+pub(crate) fn read_plain(
+    alloc: Global,
+    cursor: &mut Cursor<'_>,
+    least: usize,
+    flow: bool,
+) -> Result<String, Stop> {
+    let text = cursor.text;
+    let start = cursor.at;
+    let end = plain_end(text, start, flow);
+    let mut bytes = Vec::new(alloc);
+    bytes.extend_from_slice(part(text, start, trimmed(text, start, end)))?;
+    cursor.at = end;
+    for _ in end..text.len() {
+        if break_len(text, cursor.at) == 0 {
+            break;
+        }
+        let Some(found) = next_line(text, cursor.at, least) else {
+            break;
+        };
+        append_line(cursor, &found, flow, &mut bytes)?;
+    }
+    match String::from_utf8(bytes) {
+        Ok(found) => Ok(found),
+        Err(_) => Err(Stop::new(FaultKind::NotUtf8, start)),
+    }
+}
+
+// Appends a further line of a plain text.
+fn append_line(
+    cursor: &mut Cursor<'_>,
+    found: &Continued,
+    flow: bool,
+    bytes: &mut Vec<u8>,
+) -> Result<(), Stop> {
+    let text = cursor.text;
+    if flow && is_flow_mark(byte(text, found.at)) {
+        cursor.begin_line(found.line);
+        cursor.at = found.at;
+        return Ok(());
+    }
+    let end = plain_end(text, found.at, flow);
+    if byte(text, end) == b':' {
+        return Err(Stop::new(FaultKind::MappingHere, found.at));
+    }
+    if found.empty == 0 {
+        bytes.push(b' ')?;
+    }
+    for _ in 0..found.empty {
+        bytes.push(b'\n')?;
+    }
+    bytes.extend_from_slice(part(text, found.at, trimmed(text, found.at, end)))?;
+    cursor.begin_line(found.line);
+    cursor.at = end;
+    Ok(())
+}

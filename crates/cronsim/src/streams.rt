@@ -1,0 +1,47 @@
+use std::io;
+use std::io::{ErrorKind, Stdout, Write};
+
+/// Standard output, and what became of it.
+#[derive(Drop)]
+pub struct Output {
+    out: Stdout,
+    count: usize,
+    is_closed: bool,
+}
+
+impl Output {
+    /// Standard output before anything is written.
+    pub fn new(rt: &HostRuntime) -> Output {
+        Output {
+            out: rt.stdout(),
+            count: 0,
+            is_closed: false,
+        }
+    }
+
+    /// Whether it took nothing.
+    pub fn is_empty(&self) -> bool {
+        self.count == 0
+    }
+
+    /// Whether nobody reads it any more, as behind `head`.
+    pub fn is_closed(&self) -> bool {
+        self.is_closed
+    }
+}
+
+impl Write for Output {
+    fn write(&mut self, buf: &[u8]) -> io::Result<usize> {
+        let written = self.out.write(buf);
+        match &written {
+            Ok(count) => self.count = self.count.saturating_add(*count),
+            Err(error) if error.kind() == ErrorKind::BrokenPipe => self.is_closed = true,
+            Err(_) => {}
+        }
+        written
+    }
+
+    fn flush(&mut self) -> io::Result<()> {
+        self.out.flush()
+    }
+}

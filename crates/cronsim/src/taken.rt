@@ -1,0 +1,23 @@
+use cj_program::{Failure, JsonInput, json_input, marked};
+use std::io::Write;
+
+// Says lines to people, each behind the name of the file that they are about, if it is given.
+fn say(rt: &HostRuntime, name: Option<&str>, lines: &str) -> Result<(), Failure> {
+    let alloc = rt.alloc();
+    let lines = match name {
+        Some(name) => marked(alloc, format!(in alloc; "{name}: ")?.as_str(), lines)?,
+        None => String::from_str(alloc, lines)?,
+    };
+    let _ = rt.stderr().write_all(lines.as_bytes());
+    Ok(())
+}
+
+/// What the commands take for the bytes of an input: of YAML its JSON. What there is to be said of
+/// it goes to standard error, with the name of the file where there are several.
+pub fn json_of(rt: &HostRuntime, name: Option<&str>, bytes: Vec<u8>) -> Result<Vec<u8>, Failure> {
+    let JsonInput { bytes, said } = json_input(rt.alloc(), bytes)?;
+    if !said.is_empty() {
+        say(rt, name, said.as_str())?;
+    }
+    Ok(bytes)
+}

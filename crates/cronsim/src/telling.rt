@@ -1,0 +1,133 @@
+// What is told on standard error: it is kept until it is known whether anybody still reads the
+// answer, and at a terminal it says why a request is refused, as `--explain` does.
+use crate::source::Input;
+use crate::streams::Output;
+use cj_program::{ExitStatus, Failure, Meter, Request, ZoneFile, serve, shape_words, tell_failure};
+use std::io;
+use std::io::{IsTerminal, Write};
+use std::sync::Wait;
+use std::thread::Threads;
+
+/// How a request was served: the status, and what there is to say.
+#[derive(Drop)]
+pub struct Served {
+    pub status: ExitStatus,
+    pub said: Vec<u8>,
+}
+
+/// Whether people read what is said.
+pub fn at_terminal(rt: &HostRuntime) -> bool {
+    rt.stderr().is_terminal()
+}
+
+/// Says what there is to say, and answers the status. Where nobody reads the answer any more, as
+/// behind `head`, there is nothing to say.
+pub fn tell(rt: &HostRuntime, served: &Served, is_closed: bool) -> ExitStatus {
+    let err = &mut rt.stderr();
+    if served.status != ExitStatus::Failed {
+        return match err.write_all(served.said.as_slice()) {
+            Ok(()) => served.status,
+            Err(_) => ExitStatus::Failed,
+        };
+    }
+    if served.said.is_empty() {
+        return tell_failure(Failure::Memory, err);
+    }
+    if !is_closed {
+        let _ = err.write_all(served.said.as_slice());
+    }
+    ExitStatus::Failed
+}
+
+/// Says what a second answer has to say and the first hadn't.
+pub fn tell_more(rt: &HostRuntime, first: &Served, second: &Served) {
+    let (first, second) = (first.said.as_slice(), second.said.as_slice());
+    let more = match second.strip_prefix(first) {
+        Some(more) => more,
+        None => second,
+    };
+    let _ = rt.stderr().write_all(more);
+}
+
+/// The request with its refusal explained.
+pub fn explain(request: &mut Request<'_>) {
+    match request {
+        Request::Next(next) => next.explain = true,
+        Request::Check(check) => check.explain = true,
+        Request::Plan(plan) => plan.explain = true,
+        Request::Replay(replay) => replay.explain = true,
+        Request::Run(run) => run.explain = true,
+        Request::Why(why) => why.explain = true,
+        Request::Audit(audit) => audit.explain = true,
+        Request::Upcoming(upcoming) => upcoming.explain = true,
+        Request::Describe(describe) => describe.explain = true,
+        Request::Report(report) => report.explain = true,
+        Request::Control(_) => {}
+    }
+}
+
+/// Whether people are to be told why a request was refused: they read what is said, nobody asked
+/// for it already, and standard output has none of the answer. `check` has refusals there.
+pub fn wants_why(rt: &HostRuntime, request: &Request<'_>, served: &Served, out: &Output) -> bool {
+    let is_refused = served.status == ExitStatus::Refused && !request.explains();
+    let is_whole = out.is_empty() || matches!(request, Request::Check(_));
+    is_refused && is_whole && at_terminal(rt)
+}
+
+// Serves a request on the bytes of its input; without them each read fails.
+fn answer<T: Threads + Wait + Sync, W: Write>(
+    threads: &T,
+    rt: &HostRuntime,
+    request: &Request<'_>,
+    files: &[ZoneFile],
+    bytes: Option<&[u8]>,
+    meter: &Meter,
+    out: &mut W,
+) -> Served {
+    let alloc = rt.alloc();
+    let mut said = Vec::new(alloc);
+    let err = &mut said;
+    let status = match bytes {
+        Some(bytes) => {
+            let mut rest = bytes;
+            serve(threads, alloc, request, files, &mut rest, out, err, meter)
+        }
+        None => {
+            let mut rest = Input::unreadable();
+            serve(threads, alloc, request, files, &mut rest, out, err, meter)
+        }
+    };
+    Served { status, said }
+}
+
+/// Serves a request on the bytes of its input, where there are any, and says what there is to say.
+/// Answers how it was served, without what a terminal alone is told.
+pub fn serve_on<T: Threads + Wait + Sync>(
+    threads: &T,
+    rt: &HostRuntime,
+    request: &mut Request<'_>,
+    files: &[ZoneFile],
+    bytes: Option<&[u8]>,
+    meter: &Meter,
+) -> Served {
+    let mut out = Output::new(rt);
+    let mut first = answer(threads, rt, request, files, bytes, meter, &mut out);
+    first.status = tell(rt, &first, out.is_closed());
+    if wants_why(rt, request, &first, &out) {
+        explain(request);
+        let second = answer(threads, rt, request, files, bytes, meter, &mut io::sink());
+        tell_more(rt, &first, &second);
+    }
+    first
+}
+
+/// Says to people what a refused input is, where they have it by mistake.
+pub fn tell_shape(rt: &HostRuntime, request: &Request<'_>, status: ExitStatus, bytes: &[u8]) {
+    let words = shape_words(bytes);
+    let is_wanted = request.explains() || at_terminal(rt);
+    if status != ExitStatus::Refused || words.is_empty() || !is_wanted {
+        return;
+    }
+    let file = request.file().unwrap_or("FILE");
+    let _ = write!(&mut rt.stderr(), "{file}: {words}");
+}
