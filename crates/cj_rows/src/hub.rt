@@ -6,11 +6,12 @@
 // pass, 30 where the pass counts another number than was entered, and 31 where the hub isn't
 // closed. So the tests can see that a refused call leaves pass and hub as they were.
 //
-// With FILE PLACE CALL DETAIL behind it, it makes one call on a world, at the place of a step of the
-// script in the file: `trials` says what is compared. It writes what the call is usually answered,
-// then makes the call, and then writes what came of it: memory that is refused between the two
-// writes is refused to the call alone. The exit status is 0 where all was as it should be, 1 where
-// it wasn't, and 20 where the arguments say no call, or there was no memory beside the call.
+// With FILE PLACE CALL DETAIL behind it, it makes one call on a world, at the place of a step of
+// the script in the file: `trials` says what is compared. It writes what the call is usually
+// answered, then makes the call, and then writes what came of it: memory that is refused between
+// the two writes is refused to the call alone. The exit status is 0 where all was as it should be,
+// 1 where it wasn't, and 20 where the arguments say no call, or there was no memory beside the
+// call.
 mod asks;
 mod boxed;
 mod hubs;
