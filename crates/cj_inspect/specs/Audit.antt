@@ -1,5 +1,5 @@
 -- What `audit` answers of a cluster.
-use Rattle.std.specs.Prelude.{◌≡◌, ◌⊎◌, ℕ, ◌≤◌, ◌&&◌, not, List, [], ◌∷◌, ◌++◌, length, Option, IfSome, Bool, true, false, codes}
+use Rattle.std.specs.Prelude.{◌≡◌, ◌⊎◌, ℕ, ◌≤◌, ◌&&◌, not, List, [], ◌∷◌, ◌++◌, length, map as map_list, Option, IfSome, Bool, true, false, codes}
 use Rattle.std.specs.FinMap as map
 use Rattle.cj_zone.specs.declared.zone.Zone.{Zone}
 use Rattle.cj_audit.specs.declared.finding.Finding.{Finding}
@@ -15,6 +15,8 @@ use Rattle.cj_answers.specs.declared.answer.Ending.{Ending}
 use Rattle.cj_answers.specs.Clusters.{RefusesList, ending_by, is_read, note_words}
 use Rattle.cj_answers.specs.Given.{AreGiven, IsNoneGiven, pair_words}
 use Rattle.cj_answers.specs.Outcome.{IsInForm, Outcome, RefusesForm, explained, refusal}
+use Rattle.cj_inspect.specs.Nights.{TellsNights}
+use Rattle.cj_inspect.specs.declared.nights.look.Look.{Look}
 use Rattle.cj_inspect.specs.as_json.Audit.{IsAuditShown}
 use Rattle.cj_answers.specs.as_json.Forms.{is_json}
 
@@ -59,7 +61,8 @@ words_of list findings =
     ++ (manual_words (manual_lines list.cluster.times (map.values list.cluster.jobs))
     ++ (times_words list.cluster.times (map.values list.cluster.jobs) ++ audit_words findings))
 
--- of a list that was read, in a picture or else as JSON or in lines
+-- of a list that was read, in a picture or else as JSON or in lines, with what clocks do
+-- rule: clock-nights
 pub record AuditsList (explain svg json : Bool) (zones : List Zone) (bytes : List ℕ) (o : Outcome)
     : Type 0 where
   pub list : ClusterList
@@ -68,7 +71,10 @@ pub record AuditsList (explain svg json : Bool) (zones : List Zone) (bytes : Lis
   pub found : IsAudit zones list.cluster list.notes findings
   pub printed : List ℕ
   pub prints : IsAuditShown svg json list findings printed
-  pub answer : o ≡ explained explain (words_of list findings) (audited list findings printed)
+  pub look : Look
+  pub nights : TellsNights explain zones look
+      (map_list (λ c. c.cron) (map.values list.cluster.crons))
+      (explained explain (words_of list findings) (audited list findings printed)) o
 
 -- what the bytes of a list are answered
 abbrev pub IsAuditedOf : Bool → Bool → Bool → List Zone → List ℕ → Outcome → Type 0

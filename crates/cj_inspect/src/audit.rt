@@ -1,5 +1,5 @@
 // What `audit` answers of a cluster.
-ghost use Rattle.std.specs.Prelude.{◌≡◌, ◌++◌, IfOk, IfErr, false, length, string_bytes};
+ghost use Rattle.std.specs.Prelude.{◌≡◌, ◌++◌, IfOk, IfErr, false, length, map as map_list, string_bytes};
 ghost use Rattle.std.specs.FinMap as map;
 ghost use Rattle.cj_base.specs.declared.refusal.Refusal.TheVariants.{OutOfMemory};
 ghost use Rattle.cj_zone.specs.Table.{zones_of};
@@ -9,12 +9,14 @@ ghost use Rattle.cj_audit.specs.Told.{times_words};
 ghost use Rattle.cj_audit.specs.Words.{audit_words};
 ghost use Rattle.cj_cluster.specs.kubectl.Reading.{IsClusterList};
 ghost use Rattle.cj_inspect.specs.Audit.{AuditsList, IsAuditAnswer, alone_line, IsAuditOutcome, IsAuditedOf, audited, is_clean, manual_words, words_of};
+ghost use Rattle.cj_inspect.specs.Nights.{TellsNights};
 ghost use Rattle.cj_answers.specs.Clusters as told;
 ghost use Rattle.cj_answers.specs.Outcome.{explained, outcome_of};
 ghost use Rattle.cj_inspect.specs.as_json.Audit.{IsAuditPrinted, IsAuditShown};
 ghost use Rattle.cj_answers.specs.as_json.Forms.{is_json};
 
 use crate::as_json::audit::audit_json;
+use crate::nights::{Look, cluster_look, with_nights};
 use crate::why::{MOST_LIST_BYTES, MOST_LIST_READS, joined};
 use cj_answers::{
     Answer, ending_by, given_zones, is_form, is_json, is_read, note_lines, note_words,
@@ -87,6 +89,8 @@ fn printed(
     alloc: Global,
     svg: bool,
     output: &str,
+    zones: &ZoneTable,
+    look: Look,
     list: &ClusterList,
     findings: &Findings,
 ) -> Result<String, Refusal>
@@ -97,7 +101,7 @@ fn printed(
     if svg {
         drawn(alloc, list, findings)
     } else if is_json(output) {
-        audit_json(alloc, list, findings)
+        audit_json(alloc, zones, look, list, findings)
     } else {
         lines(alloc, list, findings)
     }
@@ -184,6 +188,23 @@ fn told_of(
     Ok(answer.explained(explain, words)?)
 }
 
+// With what the clocks of the CronJobs do, where people ask for it.
+fn with_clocks(
+    alloc: Global,
+    explain: bool,
+    zones: &ZoneTable,
+    look: Look,
+    list: &ClusterList,
+    answer: Answer,
+) -> Result<Answer, Failure>
+    ensures { IfOk result (λ a. TellsNights explain (zones_of zones.now) look
+        (map_list (λ c. c.cron) (map.values list.now.cluster.crons)) (outcome_of answer)
+        (outcome_of a)) }
+{
+    let crons = list.cluster.crons(alloc)?;
+    Ok(with_nights(alloc, explain, zones, look, crons.as_slice(), answer)?)
+}
+
 fn list_audited(
     alloc: Global,
     explain: bool,
@@ -198,9 +219,11 @@ fn list_audited(
         bytes.now (outcome_of a)) }
 {
     let findings = audit(alloc, zones, &list.cluster, list.notes.as_slice())?;
+    let look = cluster_look(alloc, &list.cluster)?;
     let words = words(alloc, list, &findings)?;
-    let printed = printed(alloc, svg, output, list, &findings)?;
-    told_of(alloc, explain, list, &findings, printed, words.as_str())
+    let printed = printed(alloc, svg, output, zones, look, list, &findings)?;
+    let answer = told_of(alloc, explain, list, &findings, printed, words.as_str())?;
+    with_clocks(alloc, explain, zones, look, list, answer)
 }
 
 // What the bytes of a list are answered.
