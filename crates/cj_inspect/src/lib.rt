@@ -13,6 +13,7 @@ mod calls;
 mod cron_files;
 mod html;
 mod manifests;
+mod narrowing;
 mod nights;
 mod report;
 mod upcoming;

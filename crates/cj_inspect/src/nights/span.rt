@@ -46,17 +46,25 @@ fn instant(count: u64) -> Seconds {
     }
 }
 
-fn look_at(bounds: Option<(u64, u64)>) -> Look {
+fn look_at(bounds: Option<(u64, u64)>, since: Option<Seconds>, now: Option<Seconds>) -> Look {
     let (first, last) = bounds.unwrap_or((0, 0));
-    Look::Within(instant(first), instant(last.saturating_add(DAY)))
+    let after = since.unwrap_or(instant(first));
+    let last = now.unwrap_or(instant(last.saturating_add(DAY)));
+    Look::Within(after, last)
 }
 
 /// The changes of clocks from when the oldest Job was created, or a CronJob was last due if that is
-/// earlier, up to a day behind the last of these.
-pub(crate) fn cluster_look(alloc: Global, cluster: &Cluster) -> Result<Look, Refusal>
+/// earlier, up to a day behind the last of these; but from then on, and up to now, where people say
+/// so.
+pub(crate) fn cluster_look(
+    alloc: Global,
+    cluster: &Cluster,
+    since: Option<Seconds>,
+    now: Option<Seconds>,
+) -> Result<Look, Refusal>
     ensures { IfErr result (λ e. e ≡ OutOfMemory) }
 {
     let (crons, jobs) = both(cluster.crons(alloc), cluster.jobs(alloc))?;
     let bounds = with_crons(jobs_bounds(jobs.as_slice()), crons.as_slice());
-    Ok(look_at(bounds))
+    Ok(look_at(bounds, since, now))
 }
