@@ -112,8 +112,8 @@ fn list_text(alloc: Global, mut list: Value, items: Vec<Value>) -> Result<Vec<u8
     Ok(list.to_string(alloc)?.into_bytes())
 }
 
-/// The text of a list of manifests as a server would have it that has just taken them; none of bytes
-/// that are no such list, or where a CronJob has what only a server gives.
+/// The text of a list of manifests as a server would have it that has just taken them; none of
+/// bytes that are no such list, or where a CronJob has what only a server gives.
 ///
 /// # Errors
 ///

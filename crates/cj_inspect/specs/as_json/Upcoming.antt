@@ -98,9 +98,9 @@ upcoming_object from to crons starts files p = object (
     member (codes "starts") (number (unsigned starts)) (
     member (codes "to") to no_members))))))))))
 
--- where clocks are put, what of that schedules name, how many CronJobs are meant, the items of the files that can't be used, the
--- window's start, the CronJobs that start nothing, the minutes in which something starts, the
--- fullest of them, how many starts there are, and the window's end
+-- where clocks are put, what of that schedules name, how many CronJobs are meant, the items of the
+-- files that can't be used, the window's start, the CronJobs that start nothing, the minutes in
+-- which something starts, the fullest of them, how many starts there are, and the window's end
 -- rule: upcoming-json
 abbrev pub upcoming_data : Span → ℕ → ℕ → Data → Told → Data
 upcoming_data w crons starts files p =

@@ -118,8 +118,8 @@ fn told(alloc: Global, found: Nights) -> Result<String, Refusal>
 }
 
 /// A line for each local time that a clock skips, or shows twice, and that schedules of these
-/// CronJobs name, in the order of time: which CronJobs they are, at most ten by name, and from where
-/// to where the clock goes.
+/// CronJobs name, in the order of time: which CronJobs they are, at most ten by name, and from
+/// where to where the clock goes.
 ///
 /// # Errors
 ///

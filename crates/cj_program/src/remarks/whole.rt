@@ -89,8 +89,8 @@ pub(crate) fn gaps_in(
     all_gaps_of(alloc, entries_of(closed), standing.as_slice(), at)
 }
 
-// The text, with the local times behind it that a clock skips, or shows twice, while the run's clock
-// goes on, and that a CronJob's schedule names.
+// The text, with the local times behind it that a clock skips, or shows twice, while the run's
+// clock goes on, and that a CronJob's schedule names.
 fn with_nights(
     alloc: Global,
     span: &Span,
