@@ -92,7 +92,8 @@ fn serve_all(alloc: Global, items: Vec<Value>) -> Result<Vec<Value>, Refusal>
 {
     let mut served = Vec::new(alloc);
     let mut place: u64 = 0;
-    for mut item in items {
+    for item in items {
+        let mut item = item;
         place = place.saturating_add(1);
         if is_manifest(&item) {
             serve(alloc, &mut item, place)?;

@@ -22,7 +22,7 @@ fn takes_moment(command: &str, option: &str) -> bool {
         "check" | "why" => option == "--now",
         "upcoming" => option == "--from",
         "describe" => option == "--after",
-        "report" => option == "--now" || option == "--since",
+        "audit" | "report" => option == "--now" || option == "--since",
         _ => false,
     }
 }

@@ -4,6 +4,7 @@ ghost use Rattle.cj_base.specs.declared.refusal.Refusal.TheVariants.{OutOfMemory
 
 use cj_types::{Key, Refusal, TryCopy};
 use std::alloc::Global;
+use std::cmp::Ordering;
 
 /// A local time that a clock skips, or shows twice, and the CronJobs whose schedules name it.
 #[derive(Drop)]
@@ -62,7 +63,7 @@ fn place_of(nights: &[Night], zone: &str, line: &str) -> Option<usize> {
 }
 
 fn is_after(night: &Night, time: &str) -> bool {
-    night.time.as_str() > time
+    night.time.as_str().cmp(time) == Ordering::Greater
 }
 
 // Where one of that time belongs: behind those that aren't later.
