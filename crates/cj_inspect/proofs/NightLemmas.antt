@@ -1,10 +1,10 @@
 -- What the clocks of CronJobs do, one after another.
-use Rattle.std.proofs.Common.{◌≡◌, ◌<◌, ◌≤◌, ◌+◌, ◌×◌, ℕ, List, [], ◌∷◌, ◌++◌, length, drop, get_or, refl, sym, subst, append_assoc, append-nil}
+use Rattle.std.proofs.Common.{◌≡◌, ◌∙◌, ◌<◌, ◌≤◌, ◌+◌, ap, ℕ, List, [], ◌∷◌, ◌++◌, length, drop, get_or, refl, sym, subst, append_assoc, append-nil}
 use Rattle.std.proofs.lemmas.List.{drop_all, drop_more}
 use Rattle.cj_types.specs.declared.cron.CronJob.{CronJob}
 use Rattle.cj_zone.specs.declared.zone.Zone.{Zone}
 use Rattle.cj_inspect.specs.declared.nights.look.Look.{Look}
-use Rattle.cj_inspect.specs.Nights.{AreNights, IsNightOf}
+use Rattle.cj_inspect.specs.Nights.{AddsNight, AreNights, IsNightOf}
 
 -- with the lines of the rest behind these, they are those of all
 pub record Leads (zones : List Zone) (look : Look) (all rest : List CronJob) (lines : List ℕ) : Type 0 where
@@ -19,18 +19,16 @@ leads_cron zones look all rest lines line c leads is = record {
       (leads.whole (line ++ more) (line, more, is, h, refl));
 }
 
--- the lines of a CronJob stand behind those before
-abbrev pub Adds : List Zone → Look → CronJob → List ℕ → List ℕ → Type 0
-Adds zones look c lines longer = (line : List ℕ) × IsNightOf zones look c line × (longer ≡ lines ++ line)
-
 -- For nights_among: so it is with the CronJob at a place.
-pub leads_at : (zones : List Zone) (look : Look) (crons : List CronJob) (i : ℕ) (other : CronJob)
-    (lines longer : List ℕ) → i < length crons → Leads zones look crons (drop i crons) lines
-    → Adds zones look (get_or crons i other) lines longer → Leads zones look crons (drop (i + 1) crons) longer
-leads_at zones look crons i other lines longer inside leads (line, is, longer_is) =
-    subst (Leads zones look crons (drop (i + 1) crons)) (sym longer_is)
-    (leads_cron zones look crons (drop (i + 1) crons) lines line (get_or crons i other)
-    (subst (λ rest. Leads zones look crons rest lines) (drop_more crons i other inside) leads) is)
+pub leads_at : (zones : List Zone) (look : Look) (crons : List CronJob) (i : ℕ) (x : CronJob)
+    (lines longer : List ℕ) → i < length crons → x ≡ get_or crons i x → Leads zones look crons (drop i crons) lines
+    → AddsNight zones look x lines longer → Leads zones look crons (drop (i + 1) crons) longer
+leads_at zones look crons i x lines longer inside at leads adds =
+    let here : drop i crons ≡ x ∷ drop (i + 1) crons = drop_more crons i x inside
+    ∙ ap (λ (c : CronJob). c ∷ drop (i + 1) crons) (sym at) in
+    subst (Leads zones look crons (drop (i + 1) crons)) (sym adds.are)
+    (leads_cron zones look crons (drop (i + 1) crons) lines adds.lines x
+    (subst (λ rest. Leads zones look crons rest lines) here leads) adds.is)
 
 -- For leads_end: where no CronJob is left, they are the lines of all.
 leads_done : (zones : List Zone) (look : Look) (all : List CronJob) (lines : List ℕ) → Leads zones look all [] lines

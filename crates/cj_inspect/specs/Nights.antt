@@ -75,6 +75,13 @@ AreNights zones look (c ∷ cs) raw =
     (lines : List ℕ) × (rest : List ℕ) × IsNightOf zones look c lines
     × AreNights zones look cs rest × (raw ≡ lines ++ rest)
 
+-- behind a text stand the lines of one CronJob more
+pub record AddsNight (zones : List Zone) (look : Look) (c : CronJob) (text longer : List ℕ)
+    : Type 0 where
+  pub lines : List ℕ
+  pub is : IsNightOf zones look c lines
+  pub are : longer ≡ text ++ lines
+
 -- ---- what is told of it
 
 abbrev pub is_silent : List ℕ → Bool

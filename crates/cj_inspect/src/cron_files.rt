@@ -135,10 +135,11 @@ fn drafted(alloc: Global, name: Text, draft: CronJobDraft) -> Result<FileCrons, 
 }
 
 // The file of what a client prints.
-fn listed(alloc: Global, name: Text, list: ClusterList, passed: u64) -> Result<FileCrons, Refusal>
-    ensures ok { IfOk result (IsListed name list) }
+fn listed(alloc: Global, name: Text, found: ReadList) -> Result<FileCrons, Refusal>
+    ensures ok { IfOk result (IsListed name found.list) }
     ensures err { IfErr result (λ e. e ≡ OutOfMemory) }
 {
+    let ReadList { list, passed } = found;
     let crons = list.cluster.crons(alloc)?;
     Ok(FileCrons {
         name,
@@ -261,8 +262,8 @@ fn read_file(alloc: Global, file: &CronFile<'_>, zones: &ZoneTable) -> Result<Fi
             Ok(read)
         }
         None => {
-            let ReadList { list, passed } = read_list(alloc, file.bytes, zones)?;
-            let read = listed(alloc, name, list, passed)?;
+            let found = read_list(alloc, file.bytes, zones)?;
+            let read = listed(alloc, name, found)?;
             Ok(read)
         }
     }

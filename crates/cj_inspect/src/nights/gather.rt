@@ -1,8 +1,8 @@
 // What the clocks of CronJobs do, one after another.
-ghost use Rattle.std.specs.Prelude.{◌≡◌, ◌++◌, [], List, ℕ, IfErr, IfOk, OnOk, map, string_bytes};
+ghost use Rattle.std.specs.Prelude.{◌≡◌, IfErr, IfOk, OnOk, map, string_bytes};
 ghost use Rattle.cj_base.specs.declared.refusal.Refusal.TheVariants.{OutOfMemory};
 ghost use Rattle.cj_zone.specs.Table.{zones_of};
-ghost use Rattle.cj_inspect.specs.Nights.{AreNights, IsNightOf};
+ghost use Rattle.cj_inspect.specs.Nights.{AddsNight, AreNights};
 
 use crate::nights::groups::{Night, add_lines};
 use crate::nights::lines::night_lines;
@@ -35,12 +35,13 @@ fn add_cron(
     found: &mut Nights,
     zones: &ZoneTable,
     look: Look,
-    cron: &CronJob,
+    cron: &Shared<CronJob>,
 ) -> Result<(), Refusal>
-    ensures ok { OnOk result ((lines : List ℕ) × IsNightOf (zones_of zones.now) look cron.now lines
-        × (string_bytes found.new.raw ≡ string_bytes found.old.raw ++ lines)) }
+    ensures ok { OnOk result (AddsNight (zones_of zones.now) look cron.now
+        (string_bytes found.old.raw) (string_bytes found.new.raw)) }
     ensures err { IfErr result (λ e. e ≡ OutOfMemory) }
 {
+    let cron = cron.get();
     let lines = night_lines(alloc, zones, look, cron)?;
     let key = cron.key.key();
     let zone = zone_name(cron);
@@ -65,7 +66,7 @@ pub(crate) fn nights_among(
         nights: Vec::new(alloc),
     };
     for cron in crons {
-        add_cron(alloc, &mut found, zones, look, cron.get())?;
+        add_cron(alloc, &mut found, zones, look, cron)?;
     }
     Ok(found)
 }
