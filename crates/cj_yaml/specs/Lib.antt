@@ -1,4 +1,5 @@
 pub mod Escapes
 pub mod Places
+pub mod ReadOf
 pub mod ReadsBack
 pub mod Words

@@ -3,10 +3,10 @@ use crate::escape::push_text;
 use serde_json::{Map, Value};
 use std::alloc::{AllocError, Global};
 
-/// The text of a value: one document in block style, members in the order of their keys, two
-/// spaces a level, a list at the indentation of its key. A text is plain where it reads back so,
-/// literal where it has several lines, and else in double quotes.
-pub fn write(alloc: Global, value: &Value) -> Result<String, AllocError> {
+// The text of a value: one document in block style, members in the order of their keys, two
+// spaces a level, a list at the indentation of its key. A text is plain where it reads back so,
+// literal where it has several lines, and else in double quotes.
+pub(crate) fn write_block(alloc: Global, value: &Value) -> Result<String, AllocError> {
     let mut out = String::new(alloc);
     match value {
         Value::Object(members) if !members.is_empty() => {
