@@ -11,6 +11,7 @@
 mod as_json;
 mod check;
 mod check_list;
+mod crontab;
 mod dropped;
 mod fault_words;
 mod manifest;
@@ -21,5 +22,6 @@ mod several;
 mod strays;
 
 pub use check::{check_answer, check_file_answer};
+pub use crontab::{crontab_answer, crontab_zones};
 pub use plan::{asked_detection, plan_answer, refused_scene};
 pub use several::{FileAnswer, FileState, count_of, several_answer};
