@@ -186,11 +186,18 @@ why_app =
     with_zones (with_rule (with_rule named (output_rule (codes "table")))
     (flag_rule (codes "problems")))
 
--- `cronsim audit FILE [-A] [-o FORMAT] [--svg] [--zone NAME=RULE].. [--zoneinfo DIR] [--explain]`
+-- an option with one value, which may be left out
+abbrev pub left_rule : Text → Rule
+left_rule id = record (new_rule id) { long = Some id; value_names = 1 }
+
+-- `cronsim audit FILE [--since TIME] [--now TIME] [--cron [NAMESPACE/]NAME].. [-n NAMESPACE] [-A]
+-- [-o FORMAT] [--svg] [--zone NAME=RULE].. [--zoneinfo DIR] [--explain]`
 abbrev pub audit_app : App
 audit_app =
-    let of = with_rule (with_rule (new_app (codes "audit")) file_rule) all_rule in
-    with_zones (with_rule (with_rule of lines_rule) (flag_rule (codes "svg")))
+    let file = with_rule (new_app (codes "audit")) file_rule in
+    let of = with_rule (with_rule file (left_rule (codes "since"))) moment_rule in
+    let named = with_rule (with_rule (with_rule of crons_rule) namespace_rule) all_rule in
+    with_zones (with_rule (with_rule named lines_rule) (flag_rule (codes "svg")))
 
 -- the start of a window, which may be left out
 abbrev pub from_rule : Rule
@@ -240,17 +247,14 @@ abbrev pub usual_rule : Text → Text → Rule
 usual_rule id usual =
     record (new_rule id) { long = Some id; value_names = 1; defaults = usual ∷ [] }
 
--- an option with one value, which may be left out
-abbrev pub left_rule : Text → Rule
-left_rule id = record (new_rule id) { long = Some id; value_names = 1 }
-
--- `cronsim report FILE.. [--since TIME] [--now TIME] [--zone NAME=RULE].. [--zoneinfo DIR]
--- [--explain]`
+-- `cronsim report FILE.. [--since TIME] [--now TIME] [--cron [NAMESPACE/]NAME].. [-n NAMESPACE]
+-- [-A] [--zone NAME=RULE].. [--zoneinfo DIR] [--explain]`
 -- rule: report
 abbrev pub report_app : App
 report_app =
     let of = with_rule (with_rule (new_app (codes "report")) files_rule) (left_rule (codes "since")) in
-    with_zones (with_rule of moment_rule)
+    let named = with_rule (with_rule (with_rule of moment_rule) crons_rule) namespace_rule in
+    with_zones (with_rule named all_rule)
 
 -- `cronsim crontab FILE [--system] [--image IMAGE] [--shell SHELL] [-n NAMESPACE] ..`
 abbrev pub made_app : App
@@ -430,6 +434,10 @@ pub record IsWhy (rows : List Row) (r : WhyRequest) : Type 0 where
 -- and for those of `audit`
 pub record IsAudit (rows : List Row) (r : AuditRequest) : Type 0 where
   pub file : first_of (codes "file") rows ≡ Some r.file.now
+  pub since : first_of (codes "since") rows ≡ option_map (λ s. s.now) r.since
+  pub moment : first_of (codes "now") rows ≡ option_map (λ s. s.now) r.moment
+  pub crons : texts_of (codes "cron") rows ≡ map (λ s. s.now) r.crons.items
+  pub namespace : first_of (codes "namespace") rows ≡ option_map (λ s. s.now) r.namespace
   pub output : first_of (codes "output") rows ≡ Some r.output.now
   pub svg : r.svg ≡ is_given (codes "svg") rows
   pub zones : AreZones rows r.zones
@@ -468,6 +476,8 @@ pub record IsReport (rows : List Row) (r : ReportRequest) : Type 0 where
   pub files : texts_of (codes "file") rows ≡ map (λ s. s.now) r.files.items
   pub since : first_of (codes "since") rows ≡ option_map (λ s. s.now) r.since
   pub moment : first_of (codes "now") rows ≡ option_map (λ s. s.now) r.moment
+  pub crons : texts_of (codes "cron") rows ≡ map (λ s. s.now) r.crons.items
+  pub namespace : first_of (codes "namespace") rows ≡ option_map (λ s. s.now) r.namespace
   pub zones : AreZones rows r.zones
   pub explain : r.explain ≡ is_given (codes "explain") rows
 

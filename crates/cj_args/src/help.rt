@@ -101,6 +101,14 @@ pub(crate) const NAMESPACE: &str = "Only CronJobs in this namespace";
 /// All of them.
 pub(crate) const ALL: &str = "Taken as kubectl has it; all namespaces are read anyway";
 
+/// From when on an audit is.
+pub(crate) const AUDITED: &str =
+    "Show findings from this moment on: as --now, or a distance from it: -12h. Without it, all of them";
+
+/// The moment of an audit.
+pub(crate) const AUDIT_NOW: &str =
+    "Moment that a distance of --since counts from, and up to which --explain tells what clocks do: 2024-01-01T00:00:00Z, 2024-01-01, now, -1h. Without it, now for --since, and a day behind the last Job for clocks";
+
 /// How CronJobs are printed.
 pub(crate) const OUTPUT: &str =
     "Output format: table for people, where --explain or a single --cron adds the reasons in full; lines for programs; json or yaml for one value with all of it";
@@ -252,8 +260,9 @@ Exit status:
   3  reading or writing failed, or memory ran out";
 
 /// Of `audit`.
-pub(crate) const AUDIT: &str = "Example:
+pub(crate) const AUDIT: &str = "Examples:
   kubectl get cronjobs,jobs -A -o json | cronsim audit -
+  kubectl get cronjobs,jobs -A -o json | cronsim audit - -n prod --since -24h --explain
 
 What it prints:
   manual NAMESPACE/JOB                  somebody created this Job by hand, so it isn't checked
@@ -266,7 +275,7 @@ What it prints:
 
 Exit status:
   0  nothing is found, and every item could be read
-  1  something is found or an item is refused, as standard output says; or the format, a zone or the input is refused: standard error says which, --explain why
+  1  something is found or an item is refused, as standard output says; or the format, a time, a zone, a CronJob or the input is refused: standard error says which, --explain why
   2  the command line is wrong
   3  reading or writing failed, or memory ran out";
 

@@ -248,6 +248,16 @@ pub struct WhyRequest<'a> {
 pub struct AuditRequest<'a> {
     /// The name of the file with the cluster's objects; `-` is standard input.
     pub file: &'a str,
+    /// From when on there are findings; all of them where none is given.
+    pub since: Option<&'a str>,
+    /// The moment that is looked from. Where none is given but `since` is, a program with a clock
+    /// puts its own here.
+    pub moment: Option<&'a str>,
+    /// The CronJobs that are asked about, each as NAMESPACE/NAME or as NAME; all of them where none
+    /// is given.
+    pub crons: Vec<&'a str>,
+    /// The namespace of those that are asked about; all of them where none is given.
+    pub namespace: Option<&'a str>,
     /// How the answer is printed: `lines` or `json`.
     pub output: &'a str,
     /// Whether a picture is printed in place of that.

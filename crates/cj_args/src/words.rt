@@ -224,11 +224,18 @@ fn audit_request<'a>(alloc: Global, found: &ArgMatches<'a>) -> Result<AuditReque
     ensures { Reads (IsAudit (rows_of (found_of found.now))) result }
 {
     let file = text(found, "file")?;
+    let since = optional_text(found, "since");
+    let moment = optional_text(found, "now");
+    let namespace = optional_text(found, "namespace");
     let output = text(found, "output")?;
     let svg = is_given(found, "svg");
     let explain = is_given(found, "explain");
     Ok(AuditRequest {
         file,
+        since,
+        moment,
+        crons: texts(alloc, found, "cron")?,
+        namespace,
         output,
         svg,
         zones: zone_words(alloc, found)?,

@@ -1,6 +1,8 @@
 pub mod Audit
 pub mod Calls
 pub mod CronFiles
+pub mod Narrowing
+pub mod Nights
 pub mod Report
 pub mod Upcoming
 pub mod Why

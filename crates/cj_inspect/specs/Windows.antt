@@ -1,5 +1,5 @@
 -- The lines of a window, with how many starts it has.
-use Rattle.std.specs.Prelude.{◌≡◌, ℕ, List, ◌++◌, length, codes, decimal}
+use Rattle.std.specs.Prelude.{◌≡◌, ℕ, ◌-◌, List, ◌++◌, length, codes, decimal}
 use Rattle.cj_zone.specs.declared.zone.Zone.{Zone}
 use Rattle.cj_zone.specs.TimeText.{time_text_of}
 use Rattle.cj_cluster.specs.declared.cron.ClusterCron.{ClusterCron}
@@ -7,6 +7,13 @@ use Rattle.cj_upcoming.specs.declared.start.Start.{Start}
 use Rattle.cj_upcoming.specs.Report.{IsTextOf}
 use Rattle.cj_upcoming.specs.Upcoming.{IsUpcoming}
 use Rattle.cj_upcoming.specs.Window.{Span}
+use Rattle.cj_inspect.specs.declared.nights.look.Look.{Look}
+use Rattle.cj_inspect.specs.declared.nights.look.Look.TheVariants.{Ahead}
+
+-- the changes of clocks in a window, behind its first instant
+-- rule: clock-nights
+abbrev pub window_look : Span → Look
+window_look w = Ahead w.from (w.end - 1)
 
 -- `from TIME to TIME: N cron jobs, M starts`
 -- rule: upcoming-total

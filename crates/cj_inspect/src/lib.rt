@@ -12,6 +12,9 @@ mod audit;
 mod calls;
 mod cron_files;
 mod html;
+mod manifests;
+mod narrowing;
+mod nights;
 mod report;
 mod upcoming;
 mod why;
@@ -19,6 +22,7 @@ mod windows;
 
 pub use audit::audit_answer;
 pub use cron_files::CronFile;
+pub use nights::{Look, nights_text};
 pub use report::{report_answer, report_files_answer};
 pub use upcoming::{upcoming_answer, upcoming_files_answer};
 pub use why::{MOST_LIST_BYTES, MOST_LIST_READS, why_answer};

@@ -1,5 +1,5 @@
 // What `upcoming` answers of CronJobs.
-ghost use Rattle.std.specs.Prelude.{◌≡◌, ◌⊎◌, ◌++◌, IfErr, IfOk, IfSome, IsNone, OnOk, codes, option_map, string_bytes};
+ghost use Rattle.std.specs.Prelude.{◌≡◌, ◌⊎◌, ◌++◌, IfErr, IfOk, IfSome, IsNone, OnOk, codes, map, option_map, string_bytes};
 ghost use Rattle.std.specs.List.{list_any};
 ghost use Rattle.cj_cluster.specs.kubectl.Reading.{IsRefusedList};
 ghost use Rattle.cj_zone.specs.Table.{zones_of};
@@ -7,16 +7,19 @@ ghost use Rattle.cj_upcoming.specs.Length.{length_of};
 ghost use Rattle.cj_upcoming.specs.Upcoming.{HasMore};
 ghost use Rattle.cj_upcoming.specs.declared.fault.StartsFault.TheVariants.{TooMany};
 ghost use Rattle.cj_answers.specs.Outcome.{explained, outcome_of, refusal};
+ghost use Rattle.cj_inspect.specs.Nights.{TellsNights};
 ghost use Rattle.cj_inspect.specs.Why.{is_noted_in, line_where};
+ghost use Rattle.cj_inspect.specs.Windows.{window_look};
 ghost use Rattle.cj_answers.specs.as_json.Forms.{is_json};
-ghost use Rattle.cj_inspect.specs.Upcoming.{IsAsked, IsNoWindow, IsTold, IsToldOf, IsUpcomingFiles, IsUpcomingOutcome, IsWindow, IsWindowAsked, IsWindowLines, IsWindowPrinted, IsWindowShown, RefusesMany, RefusesMarked, TellsNoticed, TellsWindow, all_crons, all_lines, all_words, are_read, file_lines, file_words, from_words, has_home, is_noted_of, is_several, is_unknown, length_words, many_words, mark_for, meant_of, most_starts, told, unknown_lines, unknown_of};
+ghost use Rattle.cj_inspect.specs.Upcoming.{IsAsked, IsNoWindow, IsTold, IsToldOf, IsUpcomingFiles, IsUpcomingOutcome, IsWindow, IsWindowAsked, IsWindowLines, IsWindowPrinted, IsWindowShown, RefusesMany, RefusesMarked, TellsNoticed, TellsWindow, all_crons, all_lines, all_words, are_read, file_lines, file_words, from_words, has_home, is_noted_of, is_several, is_unknown, length_words, many_words, mark_for, meant_of, most_starts, passed_line, passed_lines, passed_mark, told, unknown_lines, unknown_of};
 
 use crate::as_json::upcoming::{files_value, window_json};
 use crate::cron_files::{BadFile, CronFile, FileCrons, read_files};
+use crate::nights::with_nights;
 use crate::why::naming::{chosen, has_none, is_noted_one, push_where};
 use crate::why::notices::{has_cron, has_note, with_home_notice};
 use crate::why::{MOST_LIST_BYTES, MOST_LIST_READS, is_nothing, refused_unknown};
-use crate::windows::{counted_text, window_drawn};
+use crate::windows::{counted_text, window_drawn, window_look};
 use cj_answers::{
     Answer, asked_moment, ending_by, given_zones, is_form, is_json, is_read, marked, note_lines,
     note_words, refused_form, refused_list, refused_pair,
@@ -227,15 +230,45 @@ fn refused_many(alloc: Global, explain: bool) -> Result<Answer, AllocError>
     Answer::refused(alloc, "cronsim: starts\n")?.explained(explain, MANY_WORDS)
 }
 
-// How what is printed ends.
-fn told(alloc: Global, files: &[FileCrons], printed: String) -> Answer
-    ensures { outcome_of result ≡ told files.now (string_bytes printed) }
+// How many objects of a file are passed over.
+fn passed_line(alloc: Global, several: bool, file: &FileCrons) -> Result<String, AllocError>
+    ensures { IfOk result (λ s. string_bytes s ≡ passed_line several file.now) }
 {
-    Answer {
+    let passed = file.passed;
+    if passed == 0 {
+        return Ok(String::new(alloc));
+    }
+    let mark = passed_mark(several, file.name.as_str());
+    format!(in alloc; "{mark}: objects of other kinds, passed over: {passed}\n")
+}
+
+// Which file is meant.
+fn passed_mark<'a>(several: bool, name: &'a str) -> &'a str
+    ensures { result.now ≡ passed_mark several name.now }
+{
+    if several { name } else { "FILE" }
+}
+
+fn passed_lines(alloc: Global, several: bool, files: &[FileCrons]) -> Result<String, AllocError>
+    ensures { IfOk result (λ s. string_bytes s ≡ passed_lines several files.now) }
+{
+    let mut text = String::new(alloc);
+    for file in files {
+        let line = passed_line(alloc, several, file)?;
+        text.push_str(line.as_str())?;
+    }
+    Ok(text)
+}
+
+// How what is printed ends, with what is passed over.
+fn told(alloc: Global, files: &[FileCrons], printed: String) -> Result<Answer, AllocError>
+    ensures { IfOk result (λ a. outcome_of a ≡ told files.now (string_bytes printed)) }
+{
+    Ok(Answer {
         ending: ending_by(are_read(files)),
         printed,
-        said: String::new(alloc),
-    }
+        said: passed_lines(alloc, is_several(files), files)?,
+    })
 }
 
 fn told_text(
@@ -249,7 +282,7 @@ fn told_text(
         (told files.now (string_bytes printed))) }
 {
     let words = all_words(alloc, is_several(files), files)?;
-    told(alloc, files, printed).explained(explain, words.as_str())
+    told(alloc, files, printed)?.explained(explain, words.as_str())
 }
 
 // The items that can't be used, in lines, with the lines of the window behind them.
@@ -340,6 +373,27 @@ fn window_shown(
     }
 }
 
+// With what the clocks of these CronJobs do in the window, where people ask for it.
+fn told_clocks(
+    alloc: Global,
+    explain: bool,
+    zones: &ZoneTable,
+    window: &Window,
+    files: &[FileCrons],
+    crons: &[Shared<ClusterCron>],
+    printed: String,
+) -> Result<Answer, Failure>
+    ensures { IfOk result (λ a. TellsNights explain (zones_of zones.now) (window_look window.now)
+        (map (λ c. c.cron) crons.now)
+        (explained explain (all_words (is_several files.now) files.now)
+        (told files.now (string_bytes printed)))
+        (outcome_of a)) }
+{
+    let answer = told_text(alloc, explain, files, printed)?;
+    let look = window_look(window);
+    Ok(with_nights(alloc, explain, zones, look, crons, answer)?)
+}
+
 // The answer for these CronJobs.
 fn told_of(
     alloc: Global,
@@ -355,7 +409,7 @@ fn told_of(
         ⊎ TellsWindow upcoming.now (zones_of zones.now) window.now files.now (outcome_of a)) }
 {
     match window_shown(alloc, upcoming, zones, window, files, crons) {
-        Ok(text) => Ok(told_text(alloc, upcoming.explain, files, text)?),
+        Ok(text) => told_clocks(alloc, upcoming.explain, zones, window, files, crons, text),
         Err(StartsFault::TooMany) => Ok(refused_many(alloc, upcoming.explain)?),
         Err(StartsFault::Memory) => Err(Failure::Memory),
     }

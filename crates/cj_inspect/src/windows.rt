@@ -5,16 +5,27 @@ ghost use Rattle.cj_zone.specs.Table.{zones_of};
 ghost use Rattle.cj_upcoming.specs.Report.{IsTextOf};
 ghost use Rattle.cj_upcoming.specs.Upcoming.{HasMore};
 ghost use Rattle.cj_upcoming.specs.declared.fault.StartsFault.TheVariants.{TooMany};
-ghost use Rattle.cj_inspect.specs.Windows.{IsCounted, total_line};
+ghost use Rattle.cj_inspect.specs.Windows.{IsCounted, total_line, window_look};
 
+use crate::nights::Look;
 use cj_cluster::ClusterCron;
 use cj_picture::heat_picture;
-use cj_types::{Refusal, Shared};
+use cj_types::{Refusal, Seconds, Shared};
 use cj_upcoming::{
     Start, StartsFault, Window, standings_text, upcoming, window_lines, zone_changes_text,
 };
 use cj_zone::{ZoneTable, time_text};
 use std::alloc::Global;
+
+/// The changes of clocks in a window, behind its first instant.
+pub(crate) fn window_look(window: &Window) -> Look
+    ensures { result ≡ window_look window.now }
+{
+    match Seconds::new(window.end().get().saturating_sub(1)) {
+        Some(last) => Look::Ahead(window.from(), last),
+        None => unreachable!(),
+    }
+}
 
 // How many starts of how many CronJobs.
 fn total_line(

@@ -239,6 +239,9 @@ fn clock_moment(rt: &HostRuntime, request: &Request<'_>) -> Result<Option<String
             moment_by_clock(rt, check.moment)
         }
         Request::Why(why) => moment_by_clock(rt, why.moment),
+        Request::Audit(audit) if audit.since.is_some() || audit.moment.is_some() => {
+            moment_by_clock(rt, audit.moment)
+        }
         Request::Upcoming(upcoming) => moment_by_clock(rt, upcoming.from),
         Request::Describe(describe) => moment_by_clock(rt, describe.after),
         Request::Report(report) => moment_by_clock(rt, report.moment),
@@ -263,6 +266,7 @@ fn at_moment<'a>(mut request: Request<'a>, moment: Option<&'a str>) -> Request<'
         match &mut request {
             Request::Check(check) => check.moment = moment,
             Request::Why(why) => why.moment = moment,
+            Request::Audit(audit) => audit.moment = moment,
             Request::Upcoming(upcoming) => upcoming.from = moment,
             Request::Describe(describe) => describe.after = moment,
             Request::Report(report) => report.moment = moment,
