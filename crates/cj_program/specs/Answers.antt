@@ -2,17 +2,19 @@
 use Rattle.std.specs.Prelude.{ℕ, List, Option}
 use Rattle.cj_inspect.specs.Audit.{IsAuditOutcome}
 use Rattle.cj_check.specs.CheckOutcome.{IsCheckOutcome}
-use Rattle.cj_answers.specs.Describe.{IsDescribeOutcome}
 use Rattle.cj_answers.specs.Outcome.{IsNextOutcome, Outcome}
+use Rattle.cj_answers.specs.Previous.{IsPreviousOutcome}
 use Rattle.cj_check.specs.Plan.{IsPlanOutcome}
+use Rattle.cj_inspect.specs.Describing.{IsDescribed}
 use Rattle.cj_inspect.specs.Report.{IsReportOutcome}
+use Rattle.cj_inspect.specs.Scenario.{IsScenarioAnswer}
 use Rattle.cj_inspect.specs.Upcoming.{IsUpcomingOutcome}
 use Rattle.cj_inspect.specs.Why.{IsWhyOutcome}
 use Rattle.cj_io.specs.declared.zone_files.file.ZoneFile.{ZoneFile}
 use Rattle.cj_program.specs.Replay.{IsReplayOutcome}
 use Rattle.cj_program.specs.Run.{IsRunOutcome}
 use Rattle.cj_args.specs.declared.request.Request.{Request}
-use Rattle.cj_args.specs.declared.request.Request.TheVariants.{Audit, Check, Control, Describe, Next, Plan, Replay, Report, Run, Upcoming, Why}
+use Rattle.cj_args.specs.declared.request.Request.TheVariants.{Audit, Check, Control, Describe, Next, Plan, Previous, Replay, Report, Run, Scenario, Upcoming, Why}
 
 -- the outcome of a request, with the zone files that were read for it, on an input, where what it
 -- holds is known; a controller has no outcome, since it reads and writes line after line
@@ -26,6 +28,8 @@ IsOutcome (Run r) files input o = IsRunOutcome r files input o
 IsOutcome (Why r) files input o = IsWhyOutcome r files input o
 IsOutcome (Audit r) files input o = IsAuditOutcome r files input o
 IsOutcome (Upcoming r) files input o = IsUpcomingOutcome r files input o
-IsOutcome (Describe r) files input o = IsDescribeOutcome r files o
+IsOutcome (Describe r) files input o = IsDescribed r files o
+IsOutcome (Previous r) files input o = IsPreviousOutcome r files o
 IsOutcome (Report r) files input o = IsReportOutcome r files o
+IsOutcome (Scenario r) files input o = IsScenarioAnswer r files o
 IsOutcome (Control r) files input o = ⊥

@@ -20,8 +20,9 @@ fn is_before(word: &str) -> bool {
 fn takes_moment(command: &str, option: &str) -> bool {
     match command {
         "check" | "why" => option == "--now",
-        "upcoming" => option == "--from",
+        "upcoming" | "scenario" => option == "--from",
         "describe" => option == "--after",
+        "previous" => option == "--before",
         "report" => option == "--now" || option == "--since",
         _ => false,
     }

@@ -55,12 +55,14 @@ IsPeaksData most crons starts d =
     (peaks : List Minute) × IsPeaks most (minutes starts) peaks
     × (d ≡ minutes_data crons starts peaks)
 
--- where clocks are put, the CronJobs that start nothing, all minutes, and the fullest of them
+-- where clocks are put, the CronJobs that start nothing, all minutes, the fullest of them, and the
+-- starts of each CronJob
 pub record Told : Type 0 where
   pub changes : Data
   pub idle : Data
   pub all_minutes : Data
   pub peaks : Data
+  pub summary : Data
 
 abbrev pub told_in : Parts → Told
 told_in p =
@@ -68,8 +70,8 @@ told_in p =
       changes = view p.changes;
       idle = view p.idle;
       all_minutes = view p.all_minutes;
-      peaks =
-          view p.peaks;
+      peaks = view p.peaks;
+      summary = view p.summary;
     }
 
 -- the members of the value for these starts
@@ -90,11 +92,12 @@ upcoming_object from to crons starts files p = object (
     member (codes "minutes") p.all_minutes (
     member (codes "peaks") p.peaks (
     member (codes "starts") (number (unsigned starts)) (
-    member (codes "to") to no_members)))))))))
+    member (codes "summary") p.summary (
+    member (codes "to") to no_members))))))))))
 
 -- where clocks are put, how many CronJobs are meant, the items of the files that can't be used, the
 -- window's start, the CronJobs that start nothing, the minutes in which something starts, the
--- fullest of them, how many starts there are, and the window's end
+-- fullest of them, how many starts there are, those of each CronJob, and the window's end
 -- rule: upcoming-json
 abbrev pub upcoming_data : Span → ℕ → ℕ → Data → Told → Data
 upcoming_data w crons starts files p =

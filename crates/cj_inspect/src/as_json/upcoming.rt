@@ -7,6 +7,7 @@ ghost use Rattle.cj_upcoming.specs.Upcoming.{HasMore};
 ghost use Rattle.cj_upcoming.specs.declared.fault.StartsFault.TheVariants.{TooMany};
 ghost use Rattle.cj_inspect.specs.as_json.Upcoming.{AreParts, IsIdleData, IsWindowJson, TellsStarts, file_data, file_object, files_data, name_data, told_in, upcoming_data, upcoming_object};
 
+use crate::as_json::summary::summary_value;
 use crate::cron_files::FileCrons;
 use cj_answers::value_line;
 use cj_audit::{others_value, refused_value};
@@ -88,6 +89,7 @@ pub(crate) struct Parts {
     idle: Value,
     all_minutes: Value,
     peaks: Value,
+    summary: Value,
 }
 
 fn idle_value(
@@ -115,6 +117,7 @@ fn parts_of(
         starts.now (told_in p)) }
     ensures err { IfErr result (λ e. e ≡ OutOfMemory) }
 {
+    let summary = summary_value(alloc, zones, window, crons)?;
     let (changes, idle, all_minutes, peaks) = all_four(
         zone_changes_value(alloc, zones, window, crons),
         idle_value(alloc, zones, window.from(), crons),
@@ -126,6 +129,7 @@ fn parts_of(
         idle,
         all_minutes,
         peaks,
+        summary,
     })
 }
 
@@ -146,6 +150,7 @@ fn upcoming_object(
         idle,
         all_minutes,
         peaks,
+        summary,
     } = parts;
     json!(in alloc; {
         "changes": changes,
@@ -156,6 +161,7 @@ fn upcoming_object(
         "minutes": all_minutes,
         "peaks": peaks,
         "starts": starts,
+        "summary": summary,
         "to": to
     })
 }
