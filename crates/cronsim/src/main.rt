@@ -32,27 +32,35 @@ use std::sync::Wait;
 use std::thread::Threads;
 use std::time::Clock;
 use taken::json_of;
-use telling::{at_terminal, push_cause, serve_on, tell_places, tell_shape};
+use telling::{at_terminal, push_cause, serve_on, tell_file, tell_places, tell_shape};
 use words::{asked, joined};
 use zone_names::{tell_zones, without_names};
 
+// Whether the input is what a cluster has.
+fn reads_cluster(request: &Request<'_>) -> bool {
+    match request {
+        Request::Why(_) | Request::Audit(_) | Request::Upcoming(_) => true,
+        Request::Report(_) | Request::Scenario(_) => true,
+        Request::Describe(describe) => describe.is_in_file(),
+        _ => false,
+    }
+}
+
 // The most bytes that an input may have.
 fn most_bytes(request: &Request<'_>) -> usize {
-    match request {
-        Request::Why(_) | Request::Audit(_) | Request::Upcoming(_) | Request::Report(_) => {
-            MOST_LIST_BYTES
-        }
-        _ => MOST_BYTES,
+    if reads_cluster(request) {
+        MOST_LIST_BYTES
+    } else {
+        MOST_BYTES
     }
 }
 
 // The most reads after which an input must have ended.
 fn most_reads(request: &Request<'_>) -> u32 {
-    match request {
-        Request::Why(_) | Request::Audit(_) | Request::Upcoming(_) | Request::Report(_) => {
-            MOST_LIST_READS
-        }
-        _ => MOST_READS,
+    if reads_cluster(request) {
+        MOST_LIST_READS
+    } else {
+        MOST_READS
     }
 }
 
@@ -60,9 +68,8 @@ fn most_reads(request: &Request<'_>) -> u32 {
 // terminal, and always by the commands on a cluster and on the times to come.
 fn tells_files(rt: &HostRuntime, request: &Request<'_>) -> bool {
     match request {
-        Request::Why(_) | Request::Audit(_) | Request::Upcoming(_) => true,
-        Request::Report(_) | Request::Crontab(_) | Request::Control(_) => true,
-        _ => request.explains() || at_terminal(rt),
+        Request::Crontab(_) | Request::Control(_) => true,
+        _ => reads_cluster(request) || request.explains() || at_terminal(rt),
     }
 }
 
@@ -162,6 +169,7 @@ fn zone_name<'a>(request: &Request<'a>) -> Option<&'a str> {
     match request {
         Request::Next(next) => next.time_zone.or(next.zone),
         Request::Describe(describe) => describe.time_zone.or(describe.zone),
+        Request::Previous(previous) => previous.time_zone.or(previous.zone),
         _ => None,
     }
 }
@@ -177,6 +185,7 @@ fn serve_schedule<T: Threads + Wait + Sync>(
     let files = named_file(rt, folder, zone_name(request).unwrap_or(""))?;
     let served = serve_on(threads, rt, request, files.as_slice(), Some(b""), meter);
     tell_zones(rt, request, &served, folder, files.as_slice(), b"")?;
+    tell_file(rt, request, &served);
     Ok(served.status)
 }
 
@@ -223,7 +232,10 @@ fn serve_request<T: Threads + Wait + Sync>(
         }
         Request::Control(control) => Ok(serve_control(rt, control, folder, input)),
         Request::Crontab(_) => serve_crontab(threads, rt, request, folder, input, meter),
-        Request::Next(_) | Request::Describe(_) => {
+        Request::Describe(describe) if describe.is_in_file() => {
+            serve_with_folder(threads, rt, request, folder, input, meter)
+        }
+        Request::Next(_) | Request::Describe(_) | Request::Previous(_) => {
             serve_schedule(threads, rt, request, folder, meter)
         }
         _ => serve_with_folder(threads, rt, request, folder, input, meter),
@@ -244,6 +256,8 @@ fn clock_moment(rt: &HostRuntime, request: &Request<'_>) -> Result<Option<String
         }
         Request::Upcoming(upcoming) => moment_by_clock(rt, upcoming.from),
         Request::Describe(describe) => moment_by_clock(rt, describe.after),
+        Request::Previous(previous) => moment_by_clock(rt, previous.before),
+        Request::Scenario(scenario) => moment_by_clock(rt, scenario.from),
         Request::Report(report) => moment_by_clock(rt, report.moment),
         Request::Crontab(crontab) => moment_by_clock(rt, crontab.moment),
         _ => Ok(None),
@@ -269,6 +283,8 @@ fn at_moment<'a>(mut request: Request<'a>, moment: Option<&'a str>) -> Request<'
             Request::Audit(audit) => audit.moment = moment,
             Request::Upcoming(upcoming) => upcoming.from = moment,
             Request::Describe(describe) => describe.after = moment,
+            Request::Previous(previous) => previous.before = moment,
+            Request::Scenario(scenario) => scenario.from = moment,
             Request::Report(report) => report.moment = moment,
             Request::Crontab(crontab) => crontab.moment = moment,
             _ => {}
