@@ -209,7 +209,7 @@ fn audit_command<'a>(alloc: Global) -> Result<Command<'a>, AllocError>
     let command = with_arg(command, option_arg(alloc, "since", "TIME", help::AUDITED));
     let command = with_arg(command, option_arg(alloc, "now", "TIME", help::AUDIT_NOW));
     let command = with_arg(command, crons_arg(alloc));
-    let command = with_arg(command, namespace_arg(alloc));
+    let command = with_arg(command, namespace_arg(alloc, help::NAMESPACE));
     let command = with_arg(command, all_arg(alloc));
     let command = with_arg(command, lines_arg(alloc));
     let command = with_arg(command, flag_arg(alloc, "svg", help::DRAWN));

@@ -5,6 +5,7 @@ ghost use Rattle.cj_args.specs.Building.{IsCommand};
 ghost use Rattle.cj_args.specs.Command.{IsScenario, Reads, scenario_app};
 
 use crate::arguments::{crons_arg, length_arg, namespace_arg, option_arg};
+use crate::help::NAMESPACE;
 use crate::command::{file_command, with_arg, with_zones};
 use crate::request::ZoneWords;
 use crate::word_fault::WordFault;
@@ -74,7 +75,7 @@ pub(crate) fn scenario_command<'a>(alloc: Global) -> Result<Command<'a>, AllocEr
     let command = with_arg(command, option_arg(alloc, "from", "TIME", START));
     let command = with_arg(command, length_arg(alloc));
     let command = with_arg(command, crons_arg(alloc));
-    let command = with_arg(command, namespace_arg(alloc));
+    let command = with_arg(command, namespace_arg(alloc, NAMESPACE));
     with_zones(alloc, command)
 }
 
