@@ -1,3 +1,4 @@
+pub mod BlockStyle
 pub mod Escapes
 pub mod Places
 pub mod ReadOf

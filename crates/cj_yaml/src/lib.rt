@@ -28,6 +28,7 @@ mod fault;
 mod flow;
 mod grow;
 mod law;
+mod literal;
 mod mark;
 mod notes;
 mod place;
@@ -44,7 +45,7 @@ mod writer;
 
 pub use document::Document;
 pub use fault::{Fault, FaultKind};
-pub use law::printed_texts_law;
+pub use law::{printed_texts_law, written_documents_law};
 pub use mark::{Warning, WarningKind};
 pub use place::Place;
 pub use places::{Places, Step};

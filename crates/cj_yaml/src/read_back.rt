@@ -1,5 +1,6 @@
 // A text is given only once it was read, and as the value that it was made of.
 ghost use Rattle.std.specs.Prelude.{◌≡◌, [], ◌∷◌, IfOk, ℕ, List, Some, string_bytes, true};
+ghost use Rattle.cj_yaml.specs.BlockStyle.{IsBlock};
 ghost use Rattle.cj_yaml.specs.ReadOf.{IsReadOf, values};
 ghost use Rattle.serde_json.specs.Data.{Data};
 ghost use Rattle.serde_json.specs.Read as json;
@@ -10,7 +11,7 @@ use crate::fault::{Fault, FaultKind};
 use crate::notes::nests_within;
 use crate::stream::{MAX_DEPTH, read};
 use crate::write_fault::WriteFault;
-use crate::writer::write_block;
+use crate::writer::{write_block, write_line};
 use serde_json::Value;
 use std::alloc::{AllocError, Global};
 
@@ -43,6 +44,7 @@ impl Reads for Yaml {
 pub fn write(alloc: Global, value: &Value) -> Result<String, WriteFault>
     ensures reads_back { IfOk result
         (λ text. IsReadOf (string_bytes text) (view value.now ∷ [])) }
+    ensures text { IfOk result (λ text. IsBlock (view value.now) (string_bytes text)) }
 {
     write_for(alloc, &Yaml, value)
 }
@@ -52,6 +54,7 @@ pub fn write(alloc: Global, value: &Value) -> Result<String, WriteFault>
 pub fn write_for<R: Reads>(alloc: Global, reader: &R, value: &Value) -> Result<String, WriteFault>
     ensures reads_back { IfOk result
         (λ text. R.gives reader.now (string_bytes text) (view value.now ∷ [])) }
+    ensures text { IfOk result (λ text. IsBlock (view value.now) (string_bytes text)) }
 {
     if !nests_within(value, MAX_DEPTH) {
         return Err(WriteFault::Nested);
@@ -61,8 +64,9 @@ pub fn write_for<R: Reads>(alloc: Global, reader: &R, value: &Value) -> Result<S
     if is_read_as(alloc, reader, block.as_str(), json.as_str())? {
         return Ok(block);
     }
-    if is_read_as(alloc, reader, json.as_str(), json.as_str())? {
-        return Ok(json);
+    let line = write_line(alloc, value)?;
+    if is_read_as(alloc, reader, line.as_str(), json.as_str())? {
+        return Ok(line);
     }
     Err(WriteFault::NotReadBack)
 }
@@ -72,14 +76,14 @@ fn is_read_as<R: Reads>(
     alloc: Global,
     reader: &R,
     text: &str,
-    json: &str,
+    wanted: &str,
 ) -> Result<bool, WriteFault>
-    ensures { IfOk result (λ same. same ≡ true → (d : Data) → json.read json.now ≡ Some d
+    ensures { IfOk result (λ same. same ≡ true → (d : Data) → json.read wanted.now ≡ Some d
         → R.gives reader.now text.now (d ∷ [])) }
 {
     match reader.read(alloc, text.as_bytes()) {
         Ok(documents) => match documents.as_slice() {
-            [document] => Ok(is_value(alloc, document, json)?),
+            [document] => Ok(is_value(alloc, document, wanted)?),
             _ => Ok(false),
         },
         Err(fault) => match fault.kind {
@@ -90,10 +94,10 @@ fn is_read_as<R: Reads>(
 }
 
 // Whether the value of a document has this JSON text.
-fn is_value(alloc: Global, document: &Document, json: &str) -> Result<bool, AllocError>
-    ensures { IfOk result (λ same. same ≡ true → (d : Data) → json.read json.now ≡ Some d
+fn is_value(alloc: Global, document: &Document, wanted: &str) -> Result<bool, AllocError>
+    ensures { IfOk result (λ same. same ≡ true → (d : Data) → json.read wanted.now ≡ Some d
         → view document.now.value ≡ d) }
 {
     let found = document.value.to_string(alloc)?;
-    Ok(found.as_str() == json)
+    Ok(found.as_str() == wanted)
 }

@@ -16,6 +16,7 @@ pub enum WriteFault {
 }
 
 impl From<AllocError> for WriteFault {
+    ghost use Rattle.std.specs.Prelude.{◌≡◌};
     ghost use Rattle.cj_yaml.specs.declared.write_fault.WriteFault.TheVariants.{Memory};
 
     ghost from_gives = { λ _ fault. fault ≡ Memory };
