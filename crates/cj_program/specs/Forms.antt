@@ -5,8 +5,8 @@ use Rattle.serde_json.specs.Read.{read}
 use Rattle.cj_answers.specs.Outcome.{Outcome}
 use Rattle.cj_answers.specs.as_json.Forms.{is_yaml}
 
--- the text is JSON, and its value is printed in YAML, as `cj_yaml` writes it; of other texts nothing
--- is said: a picture stays, and of several values on lines each is a document
+-- the text is JSON, and its value is printed in YAML, as `cj_yaml` writes it. Of others nothing is
+-- said: a picture stays, and of several values on lines each is a document
 -- rule: output-yaml
 abbrev pub IsYaml : List ℕ → Type 0
 IsYaml json = (read json ≡ None) ⊎ ((d : Data) × (read json ≡ Some d))

@@ -6,12 +6,13 @@ ghost use Rattle.cj_program.specs.Forms.{InForm, IsInForm, IsYaml};
 
 use cj_answers::{Answer, is_yaml};
 use cj_io::Failure;
+use cj_yaml::write;
 use serde_json::Value;
 use std::alloc::Global;
 
 // The text of a value in YAML.
 fn yaml_text(alloc: Global, value: &Value) -> Result<String, Failure> {
-    Ok(cj_yaml::write(alloc, value)?)
+    Ok(write(alloc, value)?)
 }
 
 // Values that are printed each on a line, as documents of YAML; none where a line is none.

@@ -6,7 +6,8 @@ use crate::telling::{Served, at_terminal, push_cause, tell, tell_more};
 use cj_program::{
     CheckRequest, CronFile, ExitStatus, Failure, FileAnswer, MOST_BYTES, MOST_LIST_BYTES,
     MOST_LIST_READS, MOST_READS, ReportRequest, UpcomingRequest, ZoneFile, check_file_answer,
-    fault_places, read_input, serve_report, serve_several, serve_upcoming, shape_words, tell_failure,
+    fault_places, read_input, serve_report, serve_several, serve_upcoming, shape_words,
+    tell_failure,
 };
 use std::io;
 use std::io::Write;
