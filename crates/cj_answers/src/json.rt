@@ -189,10 +189,11 @@ fn more_words(alloc: Global, bytes: &[u8]) -> Result<&'static str, Failure>
     let Some((_text, rest)) = first_text(bytes) else {
         return Ok("");
     };
-    if rest.is_empty() || rest.len() > bytes.len() {
+    let count = bytes.len().saturating_sub(rest.len());
+    if count >= bytes.len() {
         return Ok("");
     }
-    let (first, _rest) = bytes.split_at(bytes.len() - rest.len());
+    let (first, _rest) = bytes.split_at(count);
     if is_value(alloc, first)? {
         Ok(SEVERAL_WORDS)
     } else {
