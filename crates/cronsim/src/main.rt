@@ -141,7 +141,7 @@ fn serve_with_folder<T: Threads + Wait + Sync>(
     match read_input(rt.alloc(), input, most, reads) {
         Ok(bytes) => {
             let source = kept_source(rt, request, bytes.as_slice())?;
-            let bytes = json_of(rt, None, bytes)?;
+            let bytes = json_of(rt, None, bytes, true)?;
             let bytes = bytes.as_slice();
             let files = input_files(rt, folder, bytes)?;
             let served = serve_on(threads, rt, request, files.as_slice(), Some(bytes), meter);
