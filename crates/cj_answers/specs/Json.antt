@@ -31,14 +31,12 @@ abbrev pub is_braced : Option ℕ → Bool
 is_braced None = false
 is_braced (Some byte) = is_brace byte
 
--- the byte order mark of UTF-8
-abbrev pub mark : List ℕ
-mark = 239 ∷ 187 ∷ 191 ∷ []
-
 -- it begins so behind a byte order mark
 -- rule: explain-json
 abbrev pub is_marked : List ℕ → Bool
-is_marked bytes = if begins mark bytes then is_braced (first_byte (behind mark bytes)) else false
+is_marked bytes =
+    if begins (239 ∷ 187 ∷ 191 ∷ []) bytes
+    then is_braced (first_byte (behind (239 ∷ 187 ∷ 191 ∷ []) bytes)) else false
 
 -- by the first byte that is no blank
 -- rule: explain-json
@@ -59,7 +57,12 @@ empty_words = codes "FILE: empty; JSON is wanted\n"
 -- rule: explain-json
 abbrev pub several_words : List ℕ
 several_words =
-    codes "FILE: there are several values, one behind another; the first of them is JSON\n"
+    codes "FILE: several values, one behind another: each has to be JSON, and one an object with a kind\n"
+
+-- what is said of JSON behind a byte order mark
+-- rule: explain-json
+abbrev pub marked_words : List ℕ
+marked_words = codes "FILE: a byte order mark is before the JSON, which has none\n"
 
 -- the line on a place at which a text is no YAML, and why
 -- rule: explain-yaml
@@ -97,8 +100,8 @@ pub record IsFollowed (bytes : List ℕ) : Type 0 where
 abbrev pub IsMore : List ℕ → List ℕ → Type 0
 IsMore bytes words = (words ≡ []) ⊎ ((words ≡ several_words) × IsFollowed bytes)
 
--- the line with the place at which `serde_json` finds a fault, and what is behind it; which place it
--- is isn't stated
+-- the line with the place at which `serde_json` finds a fault, and what is behind it; which place
+-- it is isn't stated
 pub record IsPlaced (More : List ℕ → Type 0) (words : List ℕ) : Type 0 where
   pub line : ℕ
   pub column : ℕ
@@ -111,7 +114,7 @@ pub record IsPlaced (More : List ℕ → Type 0) (words : List ℕ) : Type 0 whe
 abbrev pub IsWordsFor : TextShape → List ℕ → List ℕ → Type 0
 IsWordsFor Empty bytes words = words ≡ empty_words
 IsWordsFor Braced bytes words = IsPlaced (IsMore bytes) words
-IsWordsFor Marked bytes words = IsPlaced (IsMore (behind mark bytes)) words
+IsWordsFor Marked bytes words = IsPlaced (λ more. more ≡ marked_words) words
 IsWordsFor Plain bytes words = IsPlaced (IsYamlWords bytes) words
 
 -- rule: explain-json

@@ -46,5 +46,9 @@ fn type_of(value: &Value) -> Option<Event> {
 pub(crate) fn event_of(value: &Value) -> Option<Event>
     ensures { OnTrue (is_some result) (is_event (view value.now) ≡ true) }
 {
-    if has_members(value) { type_of(value) } else { None }
+    if has_members(value) {
+        type_of(value)
+    } else {
+        None
+    }
 }

@@ -11,7 +11,7 @@ ghost use Rattle.cj_answers.specs.Json.{shape_of};
 
 use crate::events::event_of;
 use crate::items::{Items, Passed, list_value};
-use crate::json::{MARK, TextShape, may_be_yaml, shape_of};
+use crate::json::{TextShape, may_be_yaml, shape_of};
 use crate::json_texts::{is_one_object, values_in};
 use crate::shapes::shape_words;
 use cj_io::Failure;
@@ -96,12 +96,17 @@ fn push_passed(alloc: Global, said: &mut String, passed: Passed) -> Result<(), F
     Ok(())
 }
 
-// Whether a value is an object, or an array with one.
+// Whether a value is an object of Kubernetes, which has a kind, or an event of a watch.
+fn is_object(value: &Value) -> bool {
+    let is_kind = value.get("kind").and_then(Value::as_str).is_some();
+    is_kind || event_of(value).is_some()
+}
+
+// Whether a value is such an object, or an array with one.
 fn has_object(value: &Value) -> bool {
     match value {
-        Value::Object(_) => true,
-        Value::Array(items) => items.iter().any(Value::is_object),
-        _ => false,
+        Value::Array(items) => items.iter().any(is_object),
+        _ => is_object(value),
     }
 }
 
@@ -241,15 +246,14 @@ fn of_texts(alloc: Global, text: &[u8]) -> Result<Option<JsonInput>, Failure>
     }
 }
 
-// What is taken for bytes that are no JSON, for the sake of this text in them.
-fn of_no_value(alloc: Global, bytes: Vec<u8>, text: Option<JsonInput>) -> JsonInput
-    requires none { IsNoValue bytes.items }
-    requires text { IfSome text (λ t. (d : Data) × IsTextOf d t.bytes.items) }
-    ensures { IsTaken bytes.items result.bytes.items (string_bytes result.said) }
+// What is taken for bytes that are no JSON: perhaps they are values one behind another.
+fn of_no_value(alloc: Global, bytes: Vec<u8>) -> Result<JsonInput, Failure>
+    requires { IsNoValue bytes.items }
+    ensures { IfOk result (λ t. IsTaken bytes.items t.bytes.items (string_bytes t.said)) }
 {
-    match text {
-        Some(input) => input,
-        None => as_it_is(alloc, bytes),
+    match of_texts(alloc, bytes.as_slice())? {
+        Some(input) => Ok(input),
+        None => Ok(as_it_is(alloc, bytes)),
     }
 }
 
@@ -275,40 +279,7 @@ fn of_braced(alloc: Global, bytes: Vec<u8>) -> Result<JsonInput, Failure>
     match value_of(alloc, bytes.as_slice()) {
         Ok(value) => of_value(alloc, bytes, value),
         Err(SceneFault::Memory) => Err(Failure::Memory),
-        Err(_) => {
-            let text = of_texts(alloc, bytes.as_slice())?;
-            Ok(of_no_value(alloc, bytes, text))
-        }
-    }
-}
-
-// What is taken for the JSON behind a byte order mark.
-fn of_rest(alloc: Global, rest: &[u8]) -> Result<Option<JsonInput>, Failure>
-    ensures { IfOk result (λ o. IfSome o (λ t. (d : Data) × IsTextOf d t.bytes.items)) }
-{
-    match value_of(alloc, rest) {
-        Ok(value) if is_several(&value) => Ok(Some(of_several(alloc, value)?)),
-        Ok(_) => {
-            let bytes = Vec::from_slice(alloc, rest)?;
-            Ok(Some(as_it_is(alloc, bytes)))
-        }
-        Err(SceneFault::Memory) => Err(Failure::Memory),
-        Err(_) => of_texts(alloc, rest),
-    }
-}
-
-// What is taken for bytes that begin as JSON behind a byte order mark.
-fn of_marked(alloc: Global, bytes: Vec<u8>) -> Result<JsonInput, Failure>
-    ensures { IfOk result (λ t. IsTaken bytes.items t.bytes.items (string_bytes t.said)) }
-{
-    let text = match bytes.as_slice().strip_prefix(MARK) {
-        Some(rest) => of_rest(alloc, rest)?,
-        None => None,
-    };
-    match value_of(alloc, bytes.as_slice()) {
-        Ok(_) => Ok(as_it_is(alloc, bytes)),
-        Err(SceneFault::Memory) => Err(Failure::Memory),
-        Err(_) => Ok(of_no_value(alloc, bytes, text)),
+        Err(_) => of_no_value(alloc, bytes),
     }
 }
 
@@ -322,7 +293,6 @@ pub fn json_input(alloc: Global, bytes: Vec<u8>) -> Result<JsonInput, Failure>
     match shape_of(bytes.as_slice()) {
         TextShape::Plain => of_plain(alloc, bytes),
         TextShape::Braced => of_braced(alloc, bytes),
-        TextShape::Marked => of_marked(alloc, bytes),
-        TextShape::Empty => Ok(as_it_is(alloc, bytes)),
+        TextShape::Marked | TextShape::Empty => Ok(as_it_is(alloc, bytes)),
     }
 }

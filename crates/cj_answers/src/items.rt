@@ -172,7 +172,12 @@ impl Items {
     }
 
     // Puts an object in the place of the same one before it, or behind all others.
-    fn put(&mut self, key: Option<String>, value: Option<Value>, again: bool) -> Result<(), Failure> {
+    fn put(
+        &mut self,
+        key: Option<String>,
+        value: Option<Value>,
+        again: bool,
+    ) -> Result<(), Failure> {
         let Some(key) = key else {
             self.values.push(value)?;
             return Ok(());

@@ -4,7 +4,7 @@ ghost use Rattle.std.specs.Prelude.{◌≡◌, ◌++◌, IfOk, string_bytes, fal
 ghost use Rattle.serde_json.specs.Data.{Data};
 ghost use Rattle.cj_manifest.specs.Reading.{IsNoValue, Reads};
 ghost use Rattle.cj_answers.specs.declared.json.TextShape.TheVariants.{Plain};
-ghost use Rattle.cj_answers.specs.Json.{IsJsonWords, IsMore, IsPlaced, IsYamlWords, first_byte, is_blank, is_brace, is_braced, is_marked, json_line, mark, shape_by, shape_of};
+ghost use Rattle.cj_answers.specs.Json.{IsJsonWords, IsMore, IsPlaced, IsYamlWords, first_byte, is_blank, is_brace, is_braced, is_marked, json_line, marked_words, shape_by, shape_of};
 
 use crate::json_texts::{broken_text, first_text};
 use crate::yaml_words::yaml_words;
@@ -69,14 +69,11 @@ fn is_braced(first: Option<u8>) -> bool
     }
 }
 
-/// The byte order mark of UTF-8.
-pub(crate) const MARK: &[u8] = b"\xef\xbb\xbf";
-
 // Whether it begins as an object or a list of JSON does, behind a byte order mark.
 fn is_marked(bytes: &[u8]) -> bool
     ensures { result ≡ is_marked bytes.now }
 {
-    match bytes.strip_prefix(MARK) {
+    match bytes.strip_prefix(b"\xef\xbb\xbf") {
         Some(rest) => is_braced(first_byte(rest)),
         None => false,
     }
@@ -166,9 +163,12 @@ fn place_of(alloc: Global, bytes: &[u8]) -> Result<TextPlace, Failure> {
     Ok(place_from(place_behind(front), place_in(alloc, text)?))
 }
 
-// What is said where the first of several values can be read.
+// What is said of JSON behind a byte order mark.
+const MARKED_WORDS: &str = "FILE: a byte order mark is before the JSON, which has none\n";
+
+// What is said of several values, the first of which can be read.
 const SEVERAL_WORDS: &str =
-    "FILE: there are several values, one behind another; the first of them is JSON\n";
+    "FILE: several values, one behind another: each has to be JSON, and one an object with a kind\n";
 
 // Whether the bytes are a value.
 fn is_value(alloc: Global, bytes: &[u8]) -> Result<bool, Failure>
@@ -189,10 +189,11 @@ fn more_words(alloc: Global, bytes: &[u8]) -> Result<&'static str, Failure>
     let Some((_text, rest)) = first_text(bytes) else {
         return Ok("");
     };
-    if rest.is_empty() || rest.len() > bytes.len() {
+    let count = bytes.len().saturating_sub(rest.len());
+    if count >= bytes.len() {
         return Ok("");
     }
-    let (first, _rest) = bytes.split_at(bytes.len() - rest.len());
+    let (first, _rest) = bytes.split_at(count);
     if is_value(alloc, first)? {
         Ok(SEVERAL_WORDS)
     } else {
@@ -218,11 +219,11 @@ fn braced_words(alloc: Global, bytes: &[u8]) -> Result<String, Failure>
     Ok(placed(alloc, place, more)?)
 }
 
-// Of JSON behind a byte order mark, which counts as no column.
 fn marked_words(alloc: Global, bytes: &[u8]) -> Result<String, Failure>
-    ensures { IfOk result (λ s. IsPlaced (IsMore (behind mark bytes.now)) (string_bytes s)) }
+    ensures { IfOk result (λ s. IsPlaced (λ more. more ≡ marked_words) (string_bytes s)) }
 {
-    braced_words(alloc, bytes.strip_prefix(MARK).unwrap_or(bytes))
+    let place = place_in(alloc, bytes)?;
+    Ok(placed(alloc, place, MARKED_WORDS)?)
 }
 
 fn plain_words(alloc: Global, bytes: &[u8]) -> Result<String, Failure>
@@ -235,7 +236,8 @@ fn plain_words(alloc: Global, bytes: &[u8]) -> Result<String, Failure>
 
 /// What is said of bytes that are no JSON, by what they look like: that they are empty; or the
 /// place at which `serde_json` finds that they are none, or one of several values is none, with a
-/// line where the first of several can be read, or on why they are no YAML.
+/// line where the first of several can be read or a byte order mark is in front, or on why they are
+/// no YAML.
 pub fn json_words(alloc: Global, bytes: &[u8]) -> Result<String, Failure>
     ensures { IfOk result (λ s. IsJsonWords bytes.now (string_bytes s)) }
 {

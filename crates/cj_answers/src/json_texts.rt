@@ -100,9 +100,18 @@ pub(crate) fn without_blanks(bytes: &[u8]) -> &[u8] {
     behind(bytes, blanks.unwrap_or(bytes.len()))
 }
 
+// What is behind the blanks at the front, and behind the mark of YAML that may be between documents.
+fn without_mark(bytes: &[u8]) -> &[u8] {
+    let bytes = without_blanks(bytes);
+    match bytes.strip_prefix(b"---") {
+        Some(rest) => without_blanks(rest),
+        None => bytes,
+    }
+}
+
 /// The text of the value at the front of a text, and what is behind it; nothing for blanks alone.
 pub(crate) fn first_text(bytes: &[u8]) -> Option<(&[u8], &[u8])> {
-    let bytes = without_blanks(bytes);
+    let bytes = without_mark(bytes);
     if bytes.is_empty() {
         return None;
     }

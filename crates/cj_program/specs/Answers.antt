@@ -29,7 +29,8 @@ IsOutcome (Replay r) files input o = IsReplayOutcome r files input o
 IsOutcome (Run r) files input o = InForm r.output.now (λ m. IsRunOutcome r files input m) o
 IsOutcome (Why r) files input o = InForm r.output.now (λ m. IsWhyOutcome r files input m) o
 IsOutcome (Audit r) files input o = InForm r.output.now (λ m. IsAuditOutcome r files input m) o
-IsOutcome (Upcoming r) files input o = InForm r.output.now (λ m. IsUpcomingOutcome r files input m) o
+IsOutcome (Upcoming r) files input o =
+    InForm r.output.now (λ m. IsUpcomingOutcome r files input m) o
 IsOutcome (Describe r) files input o = InForm r.output.now (λ m. IsDescribed r files m) o
 IsOutcome (Previous r) files input o = InForm r.output.now (λ m. IsPreviousOutcome r files m) o
 IsOutcome (Report r) files input o = IsReportOutcome r files o

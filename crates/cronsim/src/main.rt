@@ -105,10 +105,11 @@ fn tell_source(
     files: &[ZoneFile],
     source: Option<&Vec<u8>>,
 ) -> Result<(), Failure> {
-    match (request, source) {
-        (Request::Check(check), Some(source)) => {
-            tell_places(rt, check, status, files, source.as_slice())
-        }
+    let Some(source) = source else {
+        return Ok(());
+    };
+    match request {
+        Request::Check(check) => tell_places(rt, check, status, files, source.as_slice()),
         _ => Ok(()),
     }
 }
@@ -147,12 +148,18 @@ fn serve_with_folder<T: Threads + Wait + Sync>(
     match read_input(rt.alloc(), input, most, reads) {
         Ok(bytes) => {
             let source = kept_source(rt, request, bytes.as_slice())?;
-            let bytes = json_of(rt, None, bytes)?;
+            let bytes = json_of(rt, None, bytes, true)?;
             let bytes = bytes.as_slice();
             let files = input_files(rt, folder, bytes)?;
             let served = serve_on(threads, rt, request, files.as_slice(), Some(bytes), meter);
             tell_shape(rt, request, served.status, bytes);
-            tell_source(rt, request, served.status, files.as_slice(), source.as_ref())?;
+            tell_source(
+                rt,
+                request,
+                served.status,
+                files.as_slice(),
+                source.as_ref(),
+            )?;
             tell_zones(rt, request, &served, folder, files.as_slice(), bytes)?;
             Ok(served.status)
         }

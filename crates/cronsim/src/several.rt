@@ -6,13 +6,22 @@ use crate::telling::{Served, at_terminal, push_cause, tell, tell_more};
 use cj_program::{
     CheckRequest, CronFile, ExitStatus, Failure, FileAnswer, MOST_BYTES, MOST_LIST_BYTES,
     MOST_LIST_READS, MOST_READS, ReportRequest, UpcomingRequest, ZoneFile, check_file_answer,
-    fault_places, read_input, serve_report, serve_several, serve_upcoming, shape_words, tell_failure,
+    fault_places, read_input, serve_report, serve_several, serve_upcoming, shape_words,
+    tell_failure,
 };
 use std::io;
 use std::io::Write;
 
 // What is said of a file that can't be read, where nobody knows the cause.
 const UNREAD: &str = "it can't be read, or is too long";
+
+// What people are told of files behind what is answered of them.
+#[derive(Drop)]
+struct Told {
+    lines: Vec<u8>,
+    // (whether nothing was told of the files yet)
+    is_first: bool,
+}
 
 // Adds what people are told of a file that was read: what it is, and where its faults stand.
 fn push_hints(
@@ -21,14 +30,14 @@ fn push_hints(
     name: &str,
     files: &[ZoneFile],
     source: &[u8],
-    causes: &mut Vec<u8>,
+    lines: &mut Vec<u8>,
 ) -> Result<(), Failure> {
     let shape = shape_words(source);
     if !shape.is_empty() {
-        let _ = write!(causes, "{name}: {shape}");
+        let _ = write!(lines, "{name}: {shape}");
     }
-    let lines = fault_places(rt.alloc(), check, files, name, source)?;
-    let _ = causes.write_all(lines.as_bytes());
+    let places = fault_places(rt.alloc(), check, files, name, source)?;
+    let _ = lines.write_all(places.as_bytes());
     Ok(())
 }
 
@@ -39,7 +48,7 @@ fn bytes_answer<'a>(
     folder: &str,
     name: &'a str,
     bytes: Vec<u8>,
-    causes: &mut Vec<u8>,
+    told: &mut Told,
 ) -> Result<FileAnswer<'a>, Failure> {
     let alloc = rt.alloc();
     let source = if check.explain {
@@ -47,11 +56,12 @@ fn bytes_answer<'a>(
     } else {
         Vec::new(alloc)
     };
-    let bytes = json_of(rt, Some(name), bytes)?;
+    let bytes = json_of(rt, Some(name), bytes, told.is_first)?;
     let files = input_files(rt, folder, bytes.as_slice())?;
     let answer = check_file_answer(alloc, check, name, files.as_slice(), &mut bytes.as_slice())?;
     if check.explain {
-        push_hints(rt, check, name, files.as_slice(), source.as_slice(), causes)?;
+        let lines = &mut told.lines;
+        push_hints(rt, check, name, files.as_slice(), source.as_slice(), lines)?;
     }
     Ok(FileAnswer {
         name,
@@ -65,15 +75,15 @@ fn answer_of<'a>(
     check: &CheckRequest<'a>,
     folder: &str,
     name: &'a str,
-    causes: &mut Vec<u8>,
+    told: &mut Told,
 ) -> Result<FileAnswer<'a>, Failure> {
     let mut input = Input::open(rt, Some(name));
     match read_input(rt.alloc(), &mut input, MOST_BYTES, MOST_READS) {
-        Ok(bytes) => bytes_answer(rt, check, folder, name, bytes, causes),
+        Ok(bytes) => bytes_answer(rt, check, folder, name, bytes, told),
         Err(Failure::Memory) => Err(Failure::Memory),
         Err(_) => {
             let cause = input.cause().unwrap_or(UNREAD);
-            push_cause(causes, "check", name, cause, &input);
+            push_cause(&mut told.lines, "check", name, cause, &input);
             Ok(FileAnswer { name, answer: None })
         }
     }
@@ -84,18 +94,22 @@ fn check_all<W: Write>(
     rt: &HostRuntime,
     check: &CheckRequest<'_>,
     folder: &str,
+    is_first: bool,
     out: &mut W,
 ) -> Result<Served, Failure> {
     let alloc = rt.alloc();
     let mut answers = Vec::new(alloc);
-    let mut causes = Vec::new(alloc);
+    let mut told = Told {
+        lines: Vec::new(alloc),
+        is_first,
+    };
     for name in check.files.as_slice() {
-        answers.push(answer_of(rt, check, folder, name, &mut causes)?)?;
+        answers.push(answer_of(rt, check, folder, name, &mut told)?)?;
     }
     let mut said = Vec::new(alloc);
     let status = serve_several(alloc, check, answers.as_slice(), out, &mut said);
     if check.explain || at_terminal(rt) {
-        let _ = said.write_all(causes.as_slice());
+        let _ = said.write_all(told.lines.as_slice());
     }
     Ok(Served { status, said })
 }
@@ -114,11 +128,11 @@ pub fn serve_files(
     folder: &str,
 ) -> Result<ExitStatus, Failure> {
     let mut out = Output::new(rt);
-    let first = check_all(rt, check, folder, &mut out)?;
+    let first = check_all(rt, check, folder, true, &mut out)?;
     let status = tell(rt, &first, out.is_closed());
     if wants_why(rt, check, &first) {
         check.explain = true;
-        let second = check_all(rt, check, folder, &mut io::sink())?;
+        let second = check_all(rt, check, folder, false, &mut io::sink())?;
         tell_more(rt, &first, &second);
     }
     Ok(status)
@@ -128,7 +142,7 @@ pub fn serve_files(
 fn bytes_of(rt: &HostRuntime, command: &str, name: &str) -> Result<Option<Vec<u8>>, Failure> {
     let mut input = Input::open(rt, Some(name));
     match read_input(rt.alloc(), &mut input, MOST_LIST_BYTES, MOST_LIST_READS) {
-        Ok(bytes) => Ok(Some(json_of(rt, Some(name), bytes)?)),
+        Ok(bytes) => Ok(Some(json_of(rt, Some(name), bytes, true)?)),
         Err(Failure::Memory) => Err(Failure::Memory),
         Err(failure) => {
             let err = &mut rt.stderr();

@@ -10,12 +10,14 @@ returns-in-Next-clause-served g c = λ lt. served_at c.args.request.now c.args.f
 pub returns-in-Next-clause-failed : goal.returns-in-Next-clause-failed
 returns-in-Next-clause-failed g c = λ e. failed_at c.args.request.now c.args.files.now
     (g.R.Read.remaining c.args.input.now) _ _ _ _ _
-    c.in-Next.is (cut _ _ _ _ _ _ _ c.formed.result (c.formed.ensures _ c.next_answer.ensures) (c.give_answer.ensures.failed e))
+    c.in-Next.is (cut _ _ _ _ _ _ _ c.formed.result (c.formed.ensures _ c.next_answer.ensures)
+    (c.give_answer.ensures.failed e))
 
 pub returns-in-Check-clause-served : goal.returns-in-Check-clause-served
 returns-in-Check-clause-served g c = λ lt. served_at c.args.request.now c.args.files.now
     (g.R.Read.remaining c.args.input.now) _ _ _ _ _
-    c.in-Check.is c.formed-in-Check.result _ (c.formed-in-Check.ensures _ c.check_answer.ensures) (c.give_answer-in-Check.ensures.given lt)
+    c.in-Check.is c.formed-in-Check.result _ (c.formed-in-Check.ensures _ c.check_answer.ensures)
+    (c.give_answer-in-Check.ensures.given lt)
 
 pub returns-in-Check-clause-failed : goal.returns-in-Check-clause-failed
 returns-in-Check-clause-failed g c = λ e. failed_at c.args.request.now c.args.files.now
@@ -26,12 +28,14 @@ returns-in-Check-clause-failed g c = λ e. failed_at c.args.request.now c.args.f
 pub returns-in-Plan-clause-served : goal.returns-in-Plan-clause-served
 returns-in-Plan-clause-served g c = λ lt. served_at c.args.request.now c.args.files.now
     (g.R.Read.remaining c.args.input.now) _ _ _ _ _
-    c.in-Plan.is c.formed-in-Plan.result _ (c.formed-in-Plan.ensures _ c.plan_answer.ensures) (c.give_answer-in-Plan.ensures.given lt)
+    c.in-Plan.is c.formed-in-Plan.result _ (c.formed-in-Plan.ensures _ c.plan_answer.ensures)
+    (c.give_answer-in-Plan.ensures.given lt)
 
 pub returns-in-Plan-clause-failed : goal.returns-in-Plan-clause-failed
 returns-in-Plan-clause-failed g c = λ e. failed_at c.args.request.now c.args.files.now
     (g.R.Read.remaining c.args.input.now) _ _ _ _ _
-    c.in-Plan.is (cut _ _ _ _ _ _ _ c.formed-in-Plan.result (c.formed-in-Plan.ensures _ c.plan_answer.ensures) (c.give_answer-in-Plan.ensures.failed e))
+    c.in-Plan.is (cut _ _ _ _ _ _ _ c.formed-in-Plan.result (c.formed-in-Plan.ensures _ c.plan_answer.ensures)
+    (c.give_answer-in-Plan.ensures.failed e))
 
 pub returns-in-Replay-clause-served : goal.returns-in-Replay-clause-served
 returns-in-Replay-clause-served g c = λ lt. replayed_at c.args.request.now c.args.files.now
@@ -45,27 +49,32 @@ returns-in-Replay-clause-failed g c = λ e. failed_at c.args.request.now c.args.
 pub returns-in-Run-clause-served : goal.returns-in-Run-clause-served
 returns-in-Run-clause-served g c = λ lt. served_at c.args.request.now c.args.files.now
     (g.R.Read.remaining c.args.input.now) _ _ _ _ _
-    c.in-Run.is c.formed-in-Run.result _ (c.formed-in-Run.ensures _ c.run_answer.ensures) (c.give_answer-in-Run.ensures.given lt)
+    c.in-Run.is c.formed-in-Run.result _ (c.formed-in-Run.ensures _ c.run_answer.ensures)
+    (c.give_answer-in-Run.ensures.given lt)
 
 pub returns-in-Run-clause-failed : goal.returns-in-Run-clause-failed
 returns-in-Run-clause-failed g c = λ e. failed_at c.args.request.now c.args.files.now
     (g.R.Read.remaining c.args.input.now) _ _ _ _ _
-    c.in-Run.is (cut _ _ _ _ _ _ _ c.formed-in-Run.result (c.formed-in-Run.ensures _ c.run_answer.ensures) (c.give_answer-in-Run.ensures.failed e))
+    c.in-Run.is (cut _ _ _ _ _ _ _ c.formed-in-Run.result (c.formed-in-Run.ensures _ c.run_answer.ensures)
+    (c.give_answer-in-Run.ensures.failed e))
 
 pub returns-in-Why-clause-served : goal.returns-in-Why-clause-served
 returns-in-Why-clause-served g c = λ lt. served_at c.args.request.now c.args.files.now
     (g.R.Read.remaining c.args.input.now) _ _ _ _ _
-    c.in-Why.is c.formed-in-Why.result _ (c.formed-in-Why.ensures _ c.why_answer.ensures) (c.give_answer-in-Why.ensures.given lt)
+    c.in-Why.is c.formed-in-Why.result _ (c.formed-in-Why.ensures _ c.why_answer.ensures)
+    (c.give_answer-in-Why.ensures.given lt)
 
 pub returns-in-Why-clause-failed : goal.returns-in-Why-clause-failed
 returns-in-Why-clause-failed g c = λ e. failed_at c.args.request.now c.args.files.now
     (g.R.Read.remaining c.args.input.now) _ _ _ _ _
-    c.in-Why.is (cut _ _ _ _ _ _ _ c.formed-in-Why.result (c.formed-in-Why.ensures _ c.why_answer.ensures) (c.give_answer-in-Why.ensures.failed e))
+    c.in-Why.is (cut _ _ _ _ _ _ _ c.formed-in-Why.result (c.formed-in-Why.ensures _ c.why_answer.ensures)
+    (c.give_answer-in-Why.ensures.failed e))
 
 pub returns-in-Audit-clause-served : goal.returns-in-Audit-clause-served
 returns-in-Audit-clause-served g c = λ lt. served_at c.args.request.now c.args.files.now
     (g.R.Read.remaining c.args.input.now) _ _ _ _ _
-    c.in-Audit.is c.formed-in-Audit.result _ (c.formed-in-Audit.ensures _ c.audit_answer.ensures) (c.give_answer-in-Audit.ensures.given lt)
+    c.in-Audit.is c.formed-in-Audit.result _ (c.formed-in-Audit.ensures _ c.audit_answer.ensures)
+    (c.give_answer-in-Audit.ensures.given lt)
 
 pub returns-in-Audit-clause-failed : goal.returns-in-Audit-clause-failed
 returns-in-Audit-clause-failed g c = λ e. failed_at c.args.request.now c.args.files.now
@@ -76,12 +85,14 @@ returns-in-Audit-clause-failed g c = λ e. failed_at c.args.request.now c.args.f
 pub returns-in-Upcoming-clause-served : goal.returns-in-Upcoming-clause-served
 returns-in-Upcoming-clause-served g c = λ lt. served_at c.args.request.now c.args.files.now
     (g.R.Read.remaining c.args.input.now) _ _ _ _ _
-    c.in-Upcoming.is c.formed-in-Upcoming.result _ (c.formed-in-Upcoming.ensures _ c.upcoming_answer.ensures) (c.give_answer-in-Upcoming.ensures.given lt)
+    c.in-Upcoming.is c.formed-in-Upcoming.result _ (c.formed-in-Upcoming.ensures _ c.upcoming_answer.ensures)
+    (c.give_answer-in-Upcoming.ensures.given lt)
 
 pub returns-in-Upcoming-clause-failed : goal.returns-in-Upcoming-clause-failed
 returns-in-Upcoming-clause-failed g c = λ e. failed_at c.args.request.now c.args.files.now
     (g.R.Read.remaining c.args.input.now) _ _ _ _ _
-    c.in-Upcoming.is (cut _ _ _ _ _ _ _ c.formed-in-Upcoming.result (c.formed-in-Upcoming.ensures _ c.upcoming_answer.ensures)
+    c.in-Upcoming.is (cut _ _ _ _ _ _ _ c.formed-in-Upcoming.result
+    (c.formed-in-Upcoming.ensures _ c.upcoming_answer.ensures)
     (c.give_answer-in-Upcoming.ensures.failed e))
 
 pub returns-in-Describe-clause-served : goal.returns-in-Describe-clause-served
