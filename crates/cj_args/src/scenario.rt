@@ -44,7 +44,7 @@ const START: &str =
 // After its options.
 const SCENARIO: &str = "Examples:
   kubectl get cronjobs,jobs -A -o json | cronsim scenario - --from -24h > day.json
-  cronsim scenario deploy/backup.yaml --from 2024-01-01 --for 7d | cronsim run - --workers 2
+  cronsim scenario deploy/backup.yaml --from 2024-01-01 --for 7d > week.json
 
 What the scenario has:
   the CronJobs that were there at the start, each with its schedule, zone and policy
@@ -52,8 +52,8 @@ What the scenario has:
   a clock with a step of a minute
 
 Jobs of a CronJob that ran none take 60 seconds in it. Standard error names those CronJobs, and
-those that are left out since they were created later. The scenario is a text: edit it and run it
-again, to see what another policy or a longer Job does.
+those that are left out since they were created later. cronsim run day.json --workers 2 runs it; edit
+it before, to see what another policy or a longer Job does.
 
 Exit status:
   0  the scenario is printed, and every item could be read

@@ -36,13 +36,20 @@ use telling::{at_terminal, push_cause, serve_on, tell_file, tell_places, tell_sh
 use words::{asked, joined};
 use zone_names::{tell_zones, without_names};
 
+// Whether the schedules of a file's CronJobs are asked about.
+fn describes_file(request: &Request<'_>) -> bool {
+    match request {
+        Request::Describe(describe) => describe.is_in_file(),
+        _ => false,
+    }
+}
+
 // Whether the input is what a cluster has.
 fn reads_cluster(request: &Request<'_>) -> bool {
     match request {
         Request::Why(_) | Request::Audit(_) | Request::Upcoming(_) => true,
         Request::Report(_) | Request::Scenario(_) => true,
-        Request::Describe(describe) => describe.is_in_file(),
-        _ => false,
+        _ => describes_file(request),
     }
 }
 
@@ -229,6 +236,9 @@ fn serve_request<T: Threads + Wait + Sync>(
     let set = set.as_ref().map(|folder| folder.as_str());
     let folder = request.folder().or(set).unwrap_or(MACHINE_FOLDER);
     without_names(rt, request, folder)?;
+    if describes_file(request) {
+        return serve_with_folder(threads, rt, request, folder, input, meter);
+    }
     match request {
         Request::Check(check) if check.files.len() > 1 => serve_files(rt, check, folder),
         Request::Upcoming(upcoming) if upcoming.files.len() > 1 => {
@@ -239,9 +249,6 @@ fn serve_request<T: Threads + Wait + Sync>(
         }
         Request::Control(control) => Ok(serve_control(rt, control, folder, input)),
         Request::Crontab(_) => serve_crontab(threads, rt, request, folder, input, meter),
-        Request::Describe(describe) if describe.is_in_file() => {
-            serve_with_folder(threads, rt, request, folder, input, meter)
-        }
         Request::Next(_) | Request::Describe(_) | Request::Previous(_) => {
             serve_schedule(threads, rt, request, folder, meter)
         }

@@ -40,7 +40,7 @@ fn comes(
 }
 
 // What is told of a CronJob, if it starts something.
-fn coming(
+fn told_of(
     alloc: Global,
     zones: &ZoneTable,
     window: &Window,
@@ -70,7 +70,7 @@ pub(crate) fn coming_of(
 ) -> Result<Vec<Coming>, Refusal> {
     let mut all = Vec::new(alloc);
     for cron in crons {
-        if let Some(coming) = coming(alloc, zones, window, cron)? {
+        if let Some(coming) = told_of(alloc, zones, window, cron)? {
             all.push(coming).map_err(|_| Refusal::OutOfMemory)?;
         }
     }
