@@ -6,7 +6,7 @@ ghost use Rattle.cj_args.specs.Command.{IsReport, Reads, report_app};
 
 use crate::arguments::{all_arg, crons_arg, files_arg, namespace_arg, option_arg};
 use crate::command::{new_command, with_arg, with_zones};
-use crate::help::NOW;
+use crate::help::{NAMESPACE, NOW};
 use crate::request::ZoneWords;
 use crate::word_fault::WordFault;
 use crate::words::{is_given, optional_text, texts, zone_words};
@@ -37,7 +37,7 @@ pub struct ReportRequest<'a> {
 
 // Its files.
 const CLUSTERS: &str =
-    "File with the output of `kubectl get cronjobs,jobs -o json`; - reads standard input. Several files are read as one cluster";
+    "File with the output of `kubectl get cronjobs,jobs -o json`, or of -o yaml; - reads standard input. Several files are read as one cluster";
 
 // The start of its findings and Jobs.
 const SINCE: &str =
@@ -79,7 +79,7 @@ pub(crate) fn report_command<'a>(alloc: Global) -> Result<Command<'a>, AllocErro
     let command = with_arg(command, option_arg(alloc, "since", "TIME", SINCE));
     let command = with_arg(command, option_arg(alloc, "now", "TIME", NOW));
     let command = with_arg(command, crons_arg(alloc));
-    let command = with_arg(command, namespace_arg(alloc));
+    let command = with_arg(command, namespace_arg(alloc, NAMESPACE));
     let command = with_arg(command, all_arg(alloc));
     with_zones(alloc, command)
 }

@@ -250,8 +250,12 @@ fn draft_of(
     }
 }
 
-// What is read of a file: the manifest of a CronJob without a fault, else what a client prints.
-fn read_file(alloc: Global, file: &CronFile<'_>, zones: &ZoneTable) -> Result<FileCrons, ListFault>
+/// What is read of a file: the manifest of a CronJob without a fault, else what a client prints.
+pub(crate) fn read_file(
+    alloc: Global,
+    file: &CronFile<'_>,
+    zones: &ZoneTable,
+) -> Result<FileCrons, ListFault>
     ensures read { IfOk result (IsFile (zones_of zones.now) file.now) }
     ensures refused { IfErr result (IsRefusedList file.now.bytes.now) }
 {

@@ -57,13 +57,14 @@ IsPeaksData most crons starts d =
     × (d ≡ minutes_data crons starts peaks)
 
 -- where clocks are put, what of that schedules name, the CronJobs that start nothing, all minutes,
--- and the fullest of them
+-- the fullest of them, and the starts of each CronJob
 pub record Told : Type 0 where
   pub changes : Data
   pub clocks : Data
   pub idle : Data
   pub all_minutes : Data
   pub peaks : Data
+  pub summary : Data
 
 abbrev pub told_in : Parts → Told
 told_in p =
@@ -72,8 +73,8 @@ told_in p =
       clocks = view p.clocks;
       idle = view p.idle;
       all_minutes = view p.all_minutes;
-      peaks =
-          view p.peaks;
+      peaks = view p.peaks;
+      summary = view p.summary;
     }
 
 -- the members of the value for these starts
@@ -96,11 +97,13 @@ upcoming_object from to crons starts files p = object (
     member (codes "minutes") p.all_minutes (
     member (codes "peaks") p.peaks (
     member (codes "starts") (number (unsigned starts)) (
+    member (codes "summary") p.summary (
     member (codes "to") to no_members))))))))))
 
 -- where clocks are put, what of that schedules name, how many CronJobs are meant, the items of the
 -- files that can't be used, the window's start, the CronJobs that start nothing, the minutes in
--- which something starts, the fullest of them, how many starts there are, and the window's end
+-- which something starts, the fullest of them, how many starts there are, those of each CronJob,
+-- and the window's end
 -- rule: upcoming-json
 abbrev pub upcoming_data : Span → ℕ → ℕ → Data → Told → Data
 upcoming_data w crons starts files p =

@@ -8,6 +8,7 @@ ghost use Rattle.cj_upcoming.specs.declared.fault.StartsFault.TheVariants.{TooMa
 ghost use Rattle.cj_inspect.specs.as_json.Upcoming.{AreParts, IsIdleData, IsWindowJson, TellsStarts, file_data, file_object, files_data, name_data, told_in, upcoming_data, upcoming_object};
 
 use crate::as_json::nights::nights_value;
+use crate::as_json::summary::summary_value;
 use crate::cron_files::FileCrons;
 use crate::windows::window_look;
 use cj_answers::value_line;
@@ -91,6 +92,7 @@ pub(crate) struct Parts {
     idle: Value,
     all_minutes: Value,
     peaks: Value,
+    summary: Value,
 }
 
 fn idle_value(
@@ -119,6 +121,7 @@ fn parts_of(
     ensures err { IfErr result (λ e. e ≡ OutOfMemory) }
 {
     let clocks = nights_value(alloc, zones, window_look(window), crons)?;
+    let summary = summary_value(alloc, zones, window, crons)?;
     let (changes, idle, all_minutes, peaks) = all_four(
         zone_changes_value(alloc, zones, window, crons),
         idle_value(alloc, zones, window.from(), crons),
@@ -131,6 +134,7 @@ fn parts_of(
         idle,
         all_minutes,
         peaks,
+        summary,
     })
 }
 
@@ -152,6 +156,7 @@ fn upcoming_object(
         idle,
         all_minutes,
         peaks,
+        summary,
     } = parts;
     json!(in alloc; {
         "changes": changes,
@@ -163,6 +168,7 @@ fn upcoming_object(
         "minutes": all_minutes,
         "peaks": peaks,
         "starts": starts,
+        "summary": summary,
         "to": to
     })
 }
