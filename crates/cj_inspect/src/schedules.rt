@@ -29,6 +29,14 @@ pub(crate) fn schedule_of<'a>(
     Some((schedule, zone))
 }
 
+// What a sentence says before it names the clock.
+fn without_clock(sentence: &str) -> &str {
+    match sentence.split_once(", by the clock of ") {
+        Some((words, _)) => words,
+        None => sentence,
+    }
+}
+
 /// A schedule in words, with the name of its zone, as `At 02:30 (Europe/Berlin)`.
 pub(crate) fn schedule_words(
     alloc: Global,
@@ -36,9 +44,6 @@ pub(crate) fn schedule_words(
     zone: &str,
 ) -> Result<String, Refusal> {
     let text = sentence(alloc, schedule, "")?;
-    let words = match text.as_str().split_once(", by the clock of ") {
-        Some((words, _)) => words,
-        None => text.as_str(),
-    };
+    let words = without_clock(text.as_str());
     Ok(format!(in alloc; "{words} ({zone})")?)
 }

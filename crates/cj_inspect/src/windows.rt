@@ -104,6 +104,20 @@ fn joined(
     format!(in alloc; "{table}{standings}{changes}{fullest}{last}")
 }
 
+// How many these starts and these CronJobs are.
+fn last_line(
+    alloc: Global,
+    window: &Window,
+    crons: &[Shared<ClusterCron>],
+    starts: &[Start],
+) -> Result<String, Refusal>
+    ensures ok { IfOk result (λ s. string_bytes s
+        ≡ total_line window.now (length crons.now) (length starts.now)) }
+    ensures memory { IfErr result (λ e. e ≡ OutOfMemory) }
+{
+    total_line(alloc, window, crons.len(), starts.len())
+}
+
 // What is told of these starts where each CronJob is summed up.
 fn summed(
     alloc: Global,
@@ -120,7 +134,7 @@ fn summed(
     let standings = standings_text(alloc, zones, window.from(), crons)?;
     let changes = zone_changes_text(alloc, zones, window, crons)?;
     let fullest = peaks_text(alloc, crons, starts, peaks)?;
-    let last = total_line(alloc, window, crons.len(), starts.len())?;
+    let last = last_line(alloc, window, crons, starts)?;
     let text = joined(
         alloc,
         table.as_str(),
