@@ -151,7 +151,7 @@ pub(crate) fn output_arg<'a>(alloc: Global, usual: &'a str, forms: &'a str) -> A
         .default_value(usual)
 }
 
-/// The option for the form of an answer that has lines and JSON.
+/// The option for the form of an answer that has lines, JSON and YAML.
 pub(crate) fn lines_arg<'a>(alloc: Global) -> Arg<'a>
     ensures { IsArg lines_rule result }
 {

@@ -22,7 +22,7 @@ pub(crate) const FOLDER: &str =
 
 /// The files of `check`.
 pub(crate) const MANIFESTS: &str =
-    "File with a manifest in JSON; - reads standard input. With several files, each line begins with its file";
+    "File with manifests, in JSON or YAML; - reads standard input. With several files, each line begins with its file";
 
 /// Whether warnings refuse a manifest.
 pub(crate) const STRICT: &str =
@@ -34,23 +34,23 @@ pub(crate) const LOOK: &str =
 
 /// The file of `plan`.
 pub(crate) const SCENARIO: &str =
-    "File with a scenario in JSON: a CronJob, its Jobs and zones; - reads standard input";
+    "File with a scenario, in JSON or YAML: a CronJob, its Jobs and zones; - reads standard input";
 
 /// The file of `replay`.
 pub(crate) const SCRIPT: &str =
-    "File with a script in JSON: callers, and steps that say who does what; - reads standard input";
+    "File with a script, in JSON or YAML: callers, and steps that say who does what; - reads standard input";
 
 /// The file of `run`.
 pub(crate) const COURSE: &str =
-    "File with a scenario in JSON: a clock, CronJobs, how their Jobs run, edits; - reads standard input";
+    "File with a scenario, in JSON or YAML: a clock, CronJobs, how their Jobs run, edits; - reads standard input";
 
 /// The files of `upcoming`.
 pub(crate) const LISTS: &str =
-    "File with the manifest of a CronJob in JSON, or with the output of `kubectl get cronjobs -o json`; - reads standard input";
+    "File with CronJobs, in JSON or YAML: manifests, or the output of `kubectl get cronjobs -o json`; - reads standard input";
 
 /// The file of `why` and of `audit`.
 pub(crate) const CLUSTER: &str =
-    "File with the output of `kubectl get cronjobs,jobs -o json`; - reads standard input";
+    "File with the output of `kubectl get cronjobs,jobs -o json`, or of -o yaml; - reads standard input";
 
 /// The time of `plan`.
 pub(crate) const MOMENT: &str = "Plan for this time, in UTC: 2024-01-01T00:00:00Z";
@@ -103,15 +103,15 @@ pub(crate) const ALL: &str = "Taken as kubectl has it; all namespaces are read a
 
 /// How CronJobs are printed.
 pub(crate) const OUTPUT: &str =
-    "Output format: table for people, where --explain or a single --cron adds the reasons in full; lines for programs; json for one JSON value with all of it";
+    "Output format: table for people, where --explain or a single --cron adds the reasons in full; lines for programs; json or yaml for one value with all of it";
 
 /// How other answers are.
 pub(crate) const LINES: &str =
-    "Output format: lines, or json for one JSON value with the same content";
+    "Output format: lines; json or yaml for one value with the same content";
 
 /// How a run is.
 pub(crate) const RAN: &str =
-    "Output format: lines for the report; json for one JSON value with the Jobs, the reasons, and the due times that got no Job. --timeline, --history and --svg take precedence";
+    "Output format: lines for the report; json or yaml for one value with the Jobs, the reasons, and the due times that got no Job. --timeline, --history and --svg take precedence";
 
 /// Which of them.
 pub(crate) const PROBLEMS: &str =
@@ -163,14 +163,15 @@ Exit status:
 
 /// Of `check`.
 pub(crate) const CHECK: &str = "Examples:
-  cronsim check docs/examples/manifest.json
-  cronsim check --strict deploy/*.json
+  cronsim check deploy/*.yaml
+  helm template . | cronsim check --strict -
+  cronsim check docs/examples/manifest.json -o json
 
 What it prints:
   ok KIND NAMESPACE/NAME                 the manifest has no fault
   warning FIELD                          Kubernetes drops this field, since it knows no such field; --explain names a similar one
   refused 2 FIELD CAUSE                  this field has a fault
-  refused 1 Syntax                       the file isn't JSON
+  refused 1 Syntax                       the file is neither JSON nor YAML
   item N ..                              one of these, for item N of a list
   item N duplicate KIND NAMESPACE/NAME   an earlier item has this name
 
@@ -272,7 +273,7 @@ Exit status:
 /// Of `upcoming`.
 pub(crate) const UPCOMING: &str = "Examples:
   kubectl get cronjobs -A -o json | cronsim upcoming - --peaks 3
-  cronsim upcoming deploy/*.json --from 2024-01-01 --for 7d
+  cronsim upcoming deploy/*.yaml --from 2024-01-01 --for 7d
 
 What it prints:
   item N refused 2 FIELD CAUSE               item N is left out for this fault; --explain explains it. With several files, FILE: comes first

@@ -32,7 +32,7 @@ pub struct ReportRequest<'a> {
 
 // Its files.
 const CLUSTERS: &str =
-    "File with the output of `kubectl get cronjobs,jobs -o json`; - reads standard input. Several files are read as one cluster";
+    "File with the output of `kubectl get cronjobs,jobs -o json`, or of -o yaml; - reads standard input. Several files are read as one cluster";
 
 // The start of its findings and Jobs.
 const SINCE: &str =

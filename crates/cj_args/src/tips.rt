@@ -6,7 +6,7 @@ use std::alloc::{AllocError, Global};
 fn option_tip(word: &str) -> &'static str {
     match word {
         "--json" | "-json" | "-j" => "-o json prints JSON",
-        "--yaml" => "-o json prints JSON; YAML isn't printed",
+        "--yaml" | "-yaml" | "-y" => "-o yaml prints YAML",
         "--tz" | "--timezone" | "-tz" | "--local" | "--utc" => {
             "next and describe take --zone Europe/Berlin; CronJobs name their zones themselves"
         }
@@ -16,6 +16,9 @@ fn option_tip(word: &str) -> &'static str {
         "--since" | "--start" => "upcoming takes --from, next and describe take --after",
         "--limit" | "--number" | "--num" | "--times" | "-c" => "--count says how many: --count 5",
         "-f" | "--file" | "--filename" => "the file stands alone: cronsim check FILE",
+        "-R" | "-r" | "--recursive" => {
+            "a folder isn't looked through: name its files, as in cronsim check deploy/*.yaml"
+        }
         "-w" | "--watch" => "it answers once, and ends",
         "-v" | "--verbose" | "-q" | "--quiet" => "--explain says more; nothing says less",
         "--format" => "-o says the format: -o json",

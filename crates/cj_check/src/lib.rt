@@ -14,6 +14,7 @@ mod check_list;
 mod dropped;
 mod fault_words;
 mod manifest;
+mod places;
 mod plan;
 mod report;
 mod seen;
@@ -22,5 +23,6 @@ mod strays;
 mod told_faults;
 
 pub use check::{check_answer, check_file_answer};
+pub use places::fault_places;
 pub use plan::{asked_detection, plan_answer, refused_scene};
 pub use several::{FileAnswer, FileState, count_of, several_answer};

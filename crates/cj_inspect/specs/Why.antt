@@ -175,7 +175,7 @@ is_output text = (bytes_eq text (codes "table") || is_lines text) || is_json tex
 -- what a form has to be
 -- rules: explain, why-output
 abbrev pub output_words : List ℕ
-output_words = codes "--output: want table, lines or json\n"
+output_words = codes "--output: want table, lines, json or yaml\n"
 
 -- why, in full: people ask for it, or name one CronJob
 -- rule: why-table

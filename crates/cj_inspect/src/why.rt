@@ -261,7 +261,7 @@ fn no_output(alloc: Global, explain: bool) -> Result<Answer, AllocError>
 {
     Answer::refused(alloc, "cronsim: output\n")?.explained(
         explain,
-        "--output: want table, lines or json\n",
+        "--output: want table, lines, json or yaml\n",
     )
 }
 

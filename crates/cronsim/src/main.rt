@@ -18,7 +18,7 @@ mod zone_names;
 
 use cj_program::{
     ExitStatus, Failure, MOST_BYTES, MOST_LIST_BYTES, MOST_LIST_READS, MOST_READS, Meter, Request,
-    parse_words, read_input, tell_failure, tell_fault, word_tips,
+    ZoneFile, parse_words, read_input, tell_failure, tell_fault, word_tips,
 };
 use clock::moment_by_clock;
 use control::serve_control;
@@ -32,7 +32,7 @@ use std::sync::Wait;
 use std::thread::Threads;
 use std::time::Clock;
 use taken::json_of;
-use telling::{at_terminal, serve_on, tell_shape};
+use telling::{at_terminal, push_cause, serve_on, tell_places, tell_shape};
 use words::{asked, joined};
 use zone_names::{tell_zones, without_names};
 
@@ -66,6 +66,47 @@ fn tells_files(rt: &HostRuntime, request: &Request<'_>) -> bool {
     }
 }
 
+// The command of a request that takes several files; an empty text for others.
+fn lists_files(request: &Request<'_>) -> &'static str {
+    match request {
+        Request::Check(_) => "check",
+        Request::Upcoming(_) => "upcoming",
+        Request::Report(_) => "report",
+        _ => "",
+    }
+}
+
+// The bytes of an input, kept for what people are told of places in them.
+fn kept_source(
+    rt: &HostRuntime,
+    request: &Request<'_>,
+    bytes: &[u8],
+) -> Result<Option<Vec<u8>>, Failure> {
+    match request {
+        Request::Check(check) if check.explain || at_terminal(rt) => {
+            Ok(Some(Vec::from_slice(rt.alloc(), bytes)?))
+        }
+        _ => Ok(None),
+    }
+}
+
+// Says to people where the faults of a request's manifests stand in that text.
+fn tell_source(
+    rt: &HostRuntime,
+    request: &Request<'_>,
+    status: ExitStatus,
+    files: &[ZoneFile],
+    source: Option<&Vec<u8>>,
+) -> Result<(), Failure> {
+    let Some(source) = source else {
+        return Ok(());
+    };
+    match request {
+        Request::Check(check) => tell_places(rt, check, status, files, source.as_slice()),
+        _ => Ok(()),
+    }
+}
+
 // Says to people why the file of a failed request could not be opened, or that it is too long.
 fn tell_unread(rt: &HostRuntime, request: &Request<'_>, status: ExitStatus, input: &Input) {
     if status != ExitStatus::Failed || !tells_files(rt, request) {
@@ -77,7 +118,7 @@ fn tell_unread(rt: &HostRuntime, request: &Request<'_>, status: ExitStatus, inpu
     let err = &mut rt.stderr();
     let most = most_bytes(request);
     if let Some(cause) = input.cause() {
-        let _ = writeln!(err, "{file}: {cause}");
+        push_cause(err, lists_files(request), file, cause, input);
     } else if input.is_above(most) && !matches!(request, Request::Control(_)) {
         let _ = writeln!(
             err,
@@ -99,11 +140,19 @@ fn serve_with_folder<T: Threads + Wait + Sync>(
     let (most, reads) = (most_bytes(request), most_reads(request));
     match read_input(rt.alloc(), input, most, reads) {
         Ok(bytes) => {
-            let bytes = json_of(rt, None, bytes)?;
+            let source = kept_source(rt, request, bytes.as_slice())?;
+            let bytes = json_of(rt, None, bytes, true)?;
             let bytes = bytes.as_slice();
             let files = input_files(rt, folder, bytes)?;
             let served = serve_on(threads, rt, request, files.as_slice(), Some(bytes), meter);
             tell_shape(rt, request, served.status, bytes);
+            tell_source(
+                rt,
+                request,
+                served.status,
+                files.as_slice(),
+                source.as_ref(),
+            )?;
             tell_zones(rt, request, &served, folder, files.as_slice(), bytes)?;
             Ok(served.status)
         }

@@ -2,7 +2,10 @@
 // answer, and at a terminal it says why a request is refused, as `--explain` does.
 use crate::source::Input;
 use crate::streams::Output;
-use cj_program::{ExitStatus, Failure, Meter, Request, ZoneFile, serve, shape_words, tell_failure};
+use cj_program::{
+    CheckRequest, ExitStatus, Failure, Meter, Request, ZoneFile, fault_places, serve, shape_words,
+    tell_failure,
+};
 use std::io;
 use std::io::{IsTerminal, Write};
 use std::sync::Wait;
@@ -130,4 +133,34 @@ pub fn tell_shape(rt: &HostRuntime, request: &Request<'_>, status: ExitStatus, b
     }
     let file = request.file().unwrap_or("FILE");
     let _ = write!(&mut rt.stderr(), "{file}: {words}");
+}
+
+/// Says to people why a file can't be read; of a folder also how its files are named.
+pub fn push_cause<W: Write>(err: &mut W, command: &str, name: &str, cause: &str, input: &Input) {
+    let _ = writeln!(err, "{name}: {cause}");
+    if input.is_folder() && !command.is_empty() {
+        let folder = name.strip_suffix('/').unwrap_or(name);
+        let _ = writeln!(
+            err,
+            "{name}: its files are named one by one: cronsim {command} {folder}/*.yaml"
+        );
+    }
+}
+
+/// Says to people where the faults of manifests stand in the text that was read. That is looked at
+/// only where they are told why.
+pub fn tell_places(
+    rt: &HostRuntime,
+    check: &CheckRequest<'_>,
+    status: ExitStatus,
+    files: &[ZoneFile],
+    source: &[u8],
+) -> Result<(), Failure> {
+    let is_wanted = check.explain || status == ExitStatus::Refused && at_terminal(rt);
+    if is_wanted {
+        let name = check.files.as_slice().first().copied().unwrap_or("FILE");
+        let lines = fault_places(rt.alloc(), check, files, name, source)?;
+        let _ = rt.stderr().write_all(lines.as_bytes());
+    }
+    Ok(())
 }
