@@ -2,7 +2,7 @@
 use Rattle.std.specs.Prelude.{ℕ, List, Option}
 use Rattle.cj_inspect.specs.Audit.{IsAuditOutcome}
 use Rattle.cj_check.specs.CheckOutcome.{IsCheckOutcome}
-use Rattle.cj_check.specs.Crontab.{IsCrontabOutcome}
+use Rattle.cj_check.specs.CrontabOutcome.{IsCrontabOutcome}
 use Rattle.cj_answers.specs.Describe.{IsDescribeOutcome}
 use Rattle.cj_answers.specs.Outcome.{IsNextOutcome, Outcome}
 use Rattle.cj_check.specs.Plan.{IsPlanOutcome}
@@ -29,5 +29,5 @@ IsOutcome (Audit r) files input o = IsAuditOutcome r files input o
 IsOutcome (Upcoming r) files input o = IsUpcomingOutcome r files input o
 IsOutcome (Describe r) files input o = IsDescribeOutcome r files o
 IsOutcome (Report r) files input o = IsReportOutcome r files o
-IsOutcome (Crontab r) files input o = IsCrontabOutcome r files input o
+IsOutcome (Crontab r) files input o = IsCrontabOutcome r o
 IsOutcome (Control r) files input o = ⊥

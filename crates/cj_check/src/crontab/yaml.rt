@@ -48,7 +48,7 @@ fn push_comment(text: &mut String, words: &str) -> Result<(), AllocError> {
 fn push_comments(
     alloc: Global,
     text: &mut String,
-    clocks: Clocks<'_>,
+    clocks: &Clocks<'_>,
     entry: &Entry<'_>,
     job: &Job<'_>,
 ) -> Result<(), Failure> {
@@ -70,7 +70,7 @@ impl<'a> Writing<'a> {
         &mut self,
         alloc: Global,
         common: Common<'_>,
-        clocks: Clocks<'_>,
+        clocks: &Clocks<'_>,
         entry: &Entry<'a>,
         job: &Job<'a>,
     ) -> Result<(), Failure> {
@@ -98,7 +98,7 @@ impl<'a> Writing<'a> {
         &mut self,
         alloc: Global,
         common: Common<'_>,
-        clocks: Clocks<'_>,
+        clocks: &Clocks<'_>,
         entry: &Entry<'a>,
     ) -> Result<(), Failure> {
         match &entry.line {
@@ -130,7 +130,7 @@ impl<'a> Writing<'a> {
 pub(crate) fn manifests_of<'a>(
     alloc: Global,
     common: Common<'_>,
-    clocks: Clocks<'_>,
+    clocks: &Clocks<'_>,
     entries: &[Entry<'a>],
 ) -> Result<Manifests, Failure> {
     let mut writing = Writing {
