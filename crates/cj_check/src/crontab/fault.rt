@@ -27,7 +27,7 @@ pub(crate) enum LineFault {
     Question,
     #[error("no macro of cron: write the five fields, such as * * * * * for every minute")]
     Macro,
-    #[error("no zone of this name: give the name of a zone file, such as Europe/Berlin, or its rule by --zone NAME=RULE")]
+    #[error("no such zone: name a zone file, as Europe/Berlin, or give --zone NAME=RULE")]
     Zone,
     #[error("more than 256 variables: set fewer")]
     Variables,
