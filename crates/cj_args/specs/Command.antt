@@ -10,6 +10,7 @@ use Rattle.clap.specs.declared.builder.value_parser.ValueParser.TheVariants.{Uns
 use Rattle.cj_args.specs.declared.request.AuditRequest.{AuditRequest}
 use Rattle.cj_args.specs.declared.request.CheckRequest.{CheckRequest}
 use Rattle.cj_args.specs.declared.request.ControlRequest.{ControlRequest}
+use Rattle.cj_args.specs.declared.crontab.CrontabRequest.{CrontabRequest}
 use Rattle.cj_args.specs.declared.request.DescribeRequest.{DescribeRequest}
 use Rattle.cj_args.specs.declared.request.NextRequest.{NextRequest}
 use Rattle.cj_args.specs.declared.request.PlanRequest.{PlanRequest}
@@ -20,7 +21,7 @@ use Rattle.cj_args.specs.declared.request.UpcomingRequest.{UpcomingRequest}
 use Rattle.cj_args.specs.declared.request.WhyRequest.{WhyRequest}
 use Rattle.cj_args.specs.declared.request.ZoneWords.{ZoneWords}
 use Rattle.cj_args.specs.declared.request.Request.{Request}
-use Rattle.cj_args.specs.declared.request.Request.TheVariants.{Audit, Check, Control, Describe, Next, Plan, Replay, Report, Run, Upcoming, Why}
+use Rattle.cj_args.specs.declared.request.Request.TheVariants.{Audit, Check, Control, Crontab, Describe, Next, Plan, Replay, Report, Run, Upcoming, Why}
 use Rattle.cj_args.specs.declared.word_fault.WordFault.{WordFault}
 use Rattle.cj_args.specs.declared.word_fault.WordFault.TheVariants.{Incomplete, OutOfMemory, Refused}
 
@@ -251,6 +252,23 @@ report_app =
     let of = with_rule (with_rule (new_app (codes "report")) files_rule) (left_rule (codes "since")) in
     with_zones (with_rule of moment_rule)
 
+-- `cronsim crontab FILE [--system] [--image IMAGE] [--shell SHELL] [-n NAMESPACE] ..`
+abbrev pub made_app : App
+made_app =
+    let of = with_rule (with_rule (new_app (codes "crontab")) file_rule)
+    (flag_rule (codes "system")) in
+    with_rule (with_rule (with_rule of (left_rule (codes "image"))) (left_rule (codes "shell")))
+    namespace_rule
+
+-- `.. [--time-zone NAME] [--now TIME] [-o FORMAT] [--zone NAME=RULE].. [--zoneinfo DIR]
+-- [--explain]`
+-- rule: crontab
+abbrev pub crontab_app : App
+crontab_app =
+    let at = with_rule (with_rule made_app (left_rule (codes "time-zone"))) (left_rule (codes "now"))
+    in
+    with_zones (with_rule at lines_rule)
+
 -- how many syncs may be under way at once
 -- rule: control-options
 abbrev pub syncs_rule : Rule
@@ -308,9 +326,9 @@ clustered_app = with_subcommand (with_subcommand acting_app why_app.top) audit_a
 abbrev pub asked_app : App
 asked_app = with_subcommand (with_subcommand clustered_app upcoming_app.top) describe_app.top
 
--- those and the command that prints a page
+-- those and the commands that print a page and read a crontab
 abbrev pub reported_app : App
-reported_app = with_subcommand asked_app report_app.top
+reported_app = with_subcommand (with_subcommand asked_app report_app.top) crontab_app.top
 
 -- those and the controller of a cluster
 -- rules: words, help
@@ -453,6 +471,20 @@ pub record IsReport (rows : List Row) (r : ReportRequest) : Type 0 where
   pub zones : AreZones rows r.zones
   pub explain : r.explain ≡ is_given (codes "explain") rows
 
+-- and for those of `crontab`
+-- rule: crontab
+pub record IsCrontab (rows : List Row) (r : CrontabRequest) : Type 0 where
+  pub file : first_of (codes "file") rows ≡ Some r.file.now
+  pub system : r.system ≡ is_given (codes "system") rows
+  pub image : first_of (codes "image") rows ≡ option_map (λ s. s.now) r.image
+  pub shell : first_of (codes "shell") rows ≡ option_map (λ s. s.now) r.shell
+  pub namespace : first_of (codes "namespace") rows ≡ option_map (λ s. s.now) r.namespace
+  pub time_zone : first_of (codes "time-zone") rows ≡ option_map (λ s. s.now) r.time_zone
+  pub moment : first_of (codes "now") rows ≡ option_map (λ s. s.now) r.moment
+  pub output : first_of (codes "output") rows ≡ Some r.output.now
+  pub zones : AreZones rows r.zones
+  pub explain : r.explain ≡ is_given (codes "explain") rows
+
 -- and for those of `control`
 -- rule: control-options
 pub record IsControl (rows : List Row) (r : ControlRequest) : Type 0 where
@@ -488,6 +520,8 @@ IsOfRows found (Describe r) =
     (rows : List Row) × (found ≡ Some (codes "describe", rows)) × IsDescribe rows r
 IsOfRows found (Report r) =
     (rows : List Row) × (found ≡ Some (codes "report", rows)) × IsReport rows r
+IsOfRows found (Crontab r) =
+    (rows : List Row) × (found ≡ Some (codes "crontab", rows)) × IsCrontab rows r
 IsOfRows found (Control r) =
     (rows : List Row) × (found ≡ Some (codes "control", rows)) × IsControl rows r
 
@@ -512,6 +546,7 @@ file_of (Audit r) = Some r.file.now
 file_of (Upcoming r) = first_file r.files.items
 file_of (Describe r) = None
 file_of (Report r) = first_file r.files.items
+file_of (Crontab r) = Some r.file.now
 file_of (Control r) = option_map (λ s. s.now) r.check
 
 -- the zones that the words give, where a command takes them
@@ -527,6 +562,7 @@ zones_of (Audit r) = Some r.zones
 zones_of (Upcoming r) = Some r.zones
 zones_of (Describe r) = None
 zones_of (Report r) = Some r.zones
+zones_of (Crontab r) = Some r.zones
 zones_of (Control r) = None
 
 -- the name of the folder in which a request has zones looked up, where one is given
@@ -542,6 +578,7 @@ folder_of (Audit r) = option_map (λ s. s.now) r.zones.folder
 folder_of (Upcoming r) = option_map (λ s. s.now) r.zones.folder
 folder_of (Describe r) = option_map (λ s. s.now) r.folder
 folder_of (Report r) = option_map (λ s. s.now) r.zones.folder
+folder_of (Crontab r) = option_map (λ s. s.now) r.zones.folder
 folder_of (Control r) = option_map (λ s. s.now) r.folder
 
 -- whether a request has its refusal explained
@@ -557,6 +594,7 @@ explains (Audit r) = r.explain
 explains (Upcoming r) = r.explain
 explains (Describe r) = r.explain
 explains (Report r) = r.explain
+explains (Crontab r) = r.explain
 explains (Control r) = r.explain
 
 -- when words are refused: `clap` doesn't take them, or no request has the values that it states for

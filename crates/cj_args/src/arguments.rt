@@ -128,11 +128,11 @@ pub(crate) fn crons_arg<'a>(alloc: Global) -> Arg<'a>
     option_arg(alloc, "cron", "[NAMESPACE/]NAME", help::CRON).action(ArgAction::Append)
 }
 
-/// The namespace of those that are asked about.
-pub(crate) fn namespace_arg<'a>(alloc: Global) -> Arg<'a>
+/// A namespace.
+pub(crate) fn namespace_arg<'a>(alloc: Global, help: &'a str) -> Arg<'a>
     ensures { IsArg namespace_rule result }
 {
-    option_arg(alloc, "namespace", "NAMESPACE", help::NAMESPACE).short('n')
+    option_arg(alloc, "namespace", "NAMESPACE", help).short('n')
 }
 
 /// That all namespaces are meant, as they are without it: for those who know it from `kubectl`.

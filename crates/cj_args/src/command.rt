@@ -9,6 +9,7 @@ use crate::arguments::{
     namespace_arg, option_arg, output_arg, peaks_arg, positional_arg, required_arg, selector_arg,
     syncs_arg, usual_arg, workers_arg, zones_arg,
 };
+use crate::crontab::crontab_command;
 use crate::help;
 use crate::report::report_command;
 use clap::{Arg, Command};
@@ -74,8 +75,8 @@ pub(crate) fn with_zones<'a>(
     with_folder(alloc, with_arg(command, zones_arg(alloc)))
 }
 
-// A command that reads a file, with no other argument yet.
-fn file_command<'a>(
+/// A command that reads a file, with no other argument yet.
+pub(crate) fn file_command<'a>(
     alloc: Global,
     name: &'a str,
     about: &'a str,
@@ -186,7 +187,7 @@ fn why_command<'a>(alloc: Global) -> Result<Command<'a>, AllocError>
     );
     let command = with_arg(command, option_arg(alloc, "now", "TIME", help::NOW));
     let command = with_arg(command, crons_arg(alloc));
-    let command = with_arg(command, namespace_arg(alloc));
+    let command = with_arg(command, namespace_arg(alloc, help::NAMESPACE));
     let command = with_arg(command, all_arg(alloc));
     let command = with_arg(command, output_arg(alloc, "table", help::OUTPUT));
     let command = with_arg(command, flag_arg(alloc, "problems", help::PROBLEMS));
@@ -222,7 +223,7 @@ fn upcoming_command<'a>(alloc: Global) -> Result<Command<'a>, AllocError>
     let command = with_arg(command, option_arg(alloc, "from", "TIME", help::FROM));
     let command = with_arg(command, length_arg(alloc));
     let command = with_arg(command, crons_arg(alloc));
-    let command = with_arg(command, namespace_arg(alloc));
+    let command = with_arg(command, namespace_arg(alloc, help::NAMESPACE));
     let command = with_arg(command, all_arg(alloc));
     let command = with_arg(command, peaks_arg(alloc));
     let command = with_arg(command, lines_arg(alloc));
@@ -265,7 +266,7 @@ fn chosen_command<'a>(alloc: Global) -> Result<Command<'a>, AllocError>
         help::CONTROL,
     );
     let command = with_arg(Ok(command), syncs_arg(alloc));
-    let command = with_arg(command, namespace_arg(alloc));
+    let command = with_arg(command, namespace_arg(alloc, help::NAMESPACE));
     let command = with_arg(command, selector_arg(alloc));
     let command = with_arg(
         command,
@@ -350,11 +351,12 @@ fn asked_command<'a>(alloc: Global) -> Result<Command<'a>, AllocError>
     with_command(command, describe_command(alloc))
 }
 
-// Those and the command that prints a page.
+// Those and the commands that print a page and read a crontab.
 fn reported_command<'a>(alloc: Global) -> Result<Command<'a>, AllocError>
     ensures { IfOk result (IsCommand reported_app) }
 {
-    with_command(asked_command(alloc), report_command(alloc))
+    let command = with_command(asked_command(alloc), report_command(alloc));
+    with_command(command, crontab_command(alloc))
 }
 
 /// The program's command line: those, and the controller of a cluster.

@@ -7,6 +7,7 @@
 
 mod arguments;
 mod command;
+mod crontab;
 mod help;
 mod report;
 mod request;
@@ -15,6 +16,7 @@ mod word_fault;
 mod words;
 
 pub use command::VERSION;
+pub use crontab::CrontabRequest;
 pub use report::ReportRequest;
 pub use request::{
     AuditRequest, CheckRequest, ControlRequest, DescribeRequest, NextRequest, PlanRequest,

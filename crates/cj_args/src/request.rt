@@ -2,6 +2,7 @@
 ghost use Rattle.std.specs.Prelude.{◌≡◌, option_map};
 ghost use Rattle.cj_args.specs.Command.{first_file};
 
+use crate::crontab::CrontabRequest;
 use crate::report::ReportRequest;
 
 /// What a command line asks for.
@@ -27,6 +28,8 @@ pub enum Request<'a> {
     Describe(DescribeRequest<'a>),
     /// A page on a cluster.
     Report(ReportRequest<'a>),
+    /// What the lines of a crontab do, or the CronJobs that are made of them.
+    Crontab(CrontabRequest<'a>),
     /// The CronJobs of a cluster run, or a transcript of that checked.
     Control(ControlRequest<'a>),
 }
@@ -49,6 +52,7 @@ impl<'a> Request<'a> {
             Request::Upcoming(upcoming) => first_file(upcoming.files.as_slice()),
             Request::Describe(_) => None,
             Request::Report(report) => first_file(report.files.as_slice()),
+            Request::Crontab(crontab) => Some(crontab.file),
             Request::Control(control) => control.check,
         }
     }
@@ -68,6 +72,7 @@ impl<'a> Request<'a> {
             Request::Upcoming(upcoming) => Some(&upcoming.zones),
             Request::Describe(_) => None,
             Request::Report(report) => Some(&report.zones),
+            Request::Crontab(crontab) => Some(&crontab.zones),
             Request::Control(_) => None,
         }
     }
@@ -87,6 +92,7 @@ impl<'a> Request<'a> {
             Request::Upcoming(upcoming) => upcoming.zones.folder,
             Request::Describe(describe) => describe.folder,
             Request::Report(report) => report.zones.folder,
+            Request::Crontab(crontab) => crontab.zones.folder,
             Request::Control(control) => control.folder,
         }
     }
@@ -106,6 +112,7 @@ impl<'a> Request<'a> {
             Request::Upcoming(upcoming) => upcoming.explain,
             Request::Describe(describe) => describe.explain,
             Request::Report(report) => report.explain,
+            Request::Crontab(crontab) => crontab.explain,
             Request::Control(control) => control.explain,
         }
     }

@@ -29,6 +29,7 @@ fn option_tip(word: &str) -> &'static str {
 // What is meant by the name of a command that doesn't exist.
 fn command_tip(word: &str) -> &'static str {
     match word {
+        "cron" | "convert" | "import" => "cronsim crontab FILE reads a crontab",
         "version" => "cronsim --version prints the version",
         "validate" | "lint" | "verify" => "cronsim check FILE checks manifests",
         "explain" => {
@@ -46,7 +47,8 @@ fn command_tip(word: &str) -> &'static str {
 // The commands that read a file.
 fn reads_file(command: &str) -> bool {
     match command {
-        "check" | "plan" | "replay" | "run" | "why" | "audit" | "upcoming" | "report" => true,
+        "check" | "plan" | "replay" | "run" | "why" | "audit" | "upcoming" | "report" | "crontab" =>
+            true,
         _ => false,
     }
 }
@@ -54,13 +56,19 @@ fn reads_file(command: &str) -> bool {
 // The commands that there are.
 const COMMANDS: &[&str] = &[
     "next", "check", "plan", "replay", "run", "why", "audit", "upcoming", "describe", "report",
-    "control",
+    "crontab", "control",
 ];
 
 // Whether a word may be the value of the option before it.
 fn takes_value(word: &str) -> bool {
     match word {
-        "--explain" | "--strict" | "--svg" | "--timeline" | "--history" | "--problems" => false,
+        "--explain"
+        | "--strict"
+        | "--svg"
+        | "--system"
+        | "--timeline"
+        | "--history"
+        | "--problems" => false,
         _ => word.starts_with("--") && !word.contains('=') || word == "-o" || word == "-n",
     }
 }

@@ -5,6 +5,7 @@ ghost use Rattle.cj_args.specs.Command.{AreZones, IsAudit, IsCheck, IsControl, I
 ghost use Rattle.cj_args.specs.declared.word_fault.WordFault.TheVariants.{Incomplete};
 
 use crate::command::cronsim_command;
+use crate::crontab::crontab_request;
 use crate::report::report_request;
 use crate::request::{
     AuditRequest, CheckRequest, ControlRequest, DescribeRequest, NextRequest, PlanRequest,
@@ -21,8 +22,8 @@ pub(crate) fn optional_text<'a>(found: &ArgMatches<'a>, id: &str) -> Option<&'a 
     found.get_str(id)
 }
 
-// The value of an argument that has one.
-fn text<'a>(found: &ArgMatches<'a>, id: &str) -> Result<&'a str, WordFault>
+/// The value of an argument that has one.
+pub(crate) fn text<'a>(found: &ArgMatches<'a>, id: &str) -> Result<&'a str, WordFault>
     ensures found { IfOk result (λ s. first_of id.now (rows_of (found_of found.now)) ≡ Some s.now) }
     ensures missing { IfErr result (λ e. (e ≡ Incomplete)
         × (first_of id.now (rows_of (found_of found.now)) ≡ None)) }
@@ -323,6 +324,7 @@ fn request_named<'a>(
         "upcoming" => upcoming_request(alloc, found).map(Request::Upcoming),
         "describe" => describe_request(found).map(Request::Describe),
         "report" => report_request(alloc, found).map(Request::Report),
+        "crontab" => crontab_request(alloc, found).map(Request::Crontab),
         "control" => control_request(found).map(Request::Control),
         _ => Err(WordFault::Incomplete),
     }

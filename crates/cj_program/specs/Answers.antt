@@ -2,6 +2,7 @@
 use Rattle.std.specs.Prelude.{ℕ, List, Option}
 use Rattle.cj_inspect.specs.Audit.{IsAuditOutcome}
 use Rattle.cj_check.specs.CheckOutcome.{IsCheckOutcome}
+use Rattle.cj_check.specs.CrontabOutcome.{IsCrontabOutcome}
 use Rattle.cj_answers.specs.Describe.{IsDescribeOutcome}
 use Rattle.cj_answers.specs.Outcome.{IsNextOutcome, Outcome}
 use Rattle.cj_check.specs.Plan.{IsPlanOutcome}
@@ -13,7 +14,7 @@ use Rattle.cj_program.specs.Forms.{InForm}
 use Rattle.cj_program.specs.Replay.{IsReplayOutcome}
 use Rattle.cj_program.specs.Run.{IsRunOutcome}
 use Rattle.cj_args.specs.declared.request.Request.{Request}
-use Rattle.cj_args.specs.declared.request.Request.TheVariants.{Audit, Check, Control, Describe, Next, Plan, Replay, Report, Run, Upcoming, Why}
+use Rattle.cj_args.specs.declared.request.Request.TheVariants.{Audit, Check, Control, Crontab, Describe, Next, Plan, Replay, Report, Run, Upcoming, Why}
 
 -- the outcome of a request, with the zone files that were read for it, on an input, where what it
 -- holds is known; a controller has no outcome, since it reads and writes line after line
@@ -30,4 +31,5 @@ IsOutcome (Upcoming r) files input o =
     InForm r.output.now (λ m. IsUpcomingOutcome r files input m) o
 IsOutcome (Describe r) files input o = InForm r.output.now (λ m. IsDescribeOutcome r files m) o
 IsOutcome (Report r) files input o = IsReportOutcome r files o
+IsOutcome (Crontab r) files input o = IsCrontabOutcome r o
 IsOutcome (Control r) files input o = ⊥

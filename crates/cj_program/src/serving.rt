@@ -12,7 +12,7 @@ use crate::run::run_answer;
 use crate::writing::give;
 use cj_answers::{Answer, Ending, describe_answer, next_answer};
 use cj_args::Request;
-use cj_check::{check_answer, plan_answer};
+use cj_check::{check_answer, crontab_answer, plan_answer};
 use cj_inspect::{audit_answer, report_answer, upcoming_answer, why_answer};
 use cj_io::{ExitStatus, Failure, ZoneFile, tell_failure};
 use cj_run::Meter;
@@ -123,6 +123,9 @@ pub fn serve<T: Threads + Wait + Sync, R: Read, W: Write, E: Write>(
         }
         Request::Report(report) => {
             give_answer(report_answer(alloc, report, files, input), out, err)
+        }
+        Request::Crontab(crontab) => {
+            give_answer(crontab_answer(alloc, crontab, files, input), out, err)
         }
         Request::Control(_) => give_answer(no_answer(), out, err),
     }

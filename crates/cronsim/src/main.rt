@@ -22,7 +22,7 @@ use cj_program::{
 };
 use clock::moment_by_clock;
 use control::serve_control;
-use folder::{folder_set, input_files, named_file};
+use folder::{crontab_files, folder_set, input_files, named_file};
 use progress::{is_shown, serve_shown};
 use several::{serve_files, serve_report_files, serve_upcoming_files};
 use source::Input;
@@ -61,7 +61,7 @@ fn most_reads(request: &Request<'_>) -> u32 {
 fn tells_files(rt: &HostRuntime, request: &Request<'_>) -> bool {
     match request {
         Request::Why(_) | Request::Audit(_) | Request::Upcoming(_) => true,
-        Request::Report(_) | Request::Control(_) => true,
+        Request::Report(_) | Request::Crontab(_) | Request::Control(_) => true,
         _ => request.explains() || at_terminal(rt),
     }
 }
@@ -187,6 +187,27 @@ fn serve_schedule<T: Threads + Wait + Sync>(
     Ok(served.status)
 }
 
+// Serves a request on a crontab, with the files of the zones that it names.
+fn serve_crontab<T: Threads + Wait + Sync>(
+    threads: &T,
+    rt: &HostRuntime,
+    request: &mut Request<'_>,
+    folder: &str,
+    input: &mut Input,
+    meter: &Meter,
+) -> Result<ExitStatus, Failure> {
+    match read_input(rt.alloc(), input, MOST_BYTES, MOST_READS) {
+        Ok(bytes) => {
+            let bytes = bytes.as_slice();
+            let files = crontab_files(rt, request, folder, bytes)?;
+            let served = serve_on(threads, rt, request, files.as_slice(), Some(bytes), meter);
+            Ok(served.status)
+        }
+        Err(Failure::Memory) => Err(Failure::Memory),
+        Err(_) => Ok(serve_on(threads, rt, request, &[], None, meter).status),
+    }
+}
+
 // Serves a request, with the zone files that it asks for.
 fn serve_request<T: Threads + Wait + Sync>(
     threads: &T,
@@ -208,6 +229,7 @@ fn serve_request<T: Threads + Wait + Sync>(
             serve_report_files(rt, report, folder)
         }
         Request::Control(control) => Ok(serve_control(rt, control, folder, input)),
+        Request::Crontab(_) => serve_crontab(threads, rt, request, folder, input, meter),
         Request::Next(_) | Request::Describe(_) => {
             serve_schedule(threads, rt, request, folder, meter)
         }
@@ -227,6 +249,7 @@ fn clock_moment(rt: &HostRuntime, request: &Request<'_>) -> Result<Option<String
         Request::Upcoming(upcoming) => moment_by_clock(rt, upcoming.from),
         Request::Describe(describe) => moment_by_clock(rt, describe.after),
         Request::Report(report) => moment_by_clock(rt, report.moment),
+        Request::Crontab(crontab) => moment_by_clock(rt, crontab.moment),
         _ => Ok(None),
     }
 }
@@ -250,6 +273,7 @@ fn at_moment<'a>(mut request: Request<'a>, moment: Option<&'a str>) -> Request<'
             Request::Upcoming(upcoming) => upcoming.from = moment,
             Request::Describe(describe) => describe.after = moment,
             Request::Report(report) => report.moment = moment,
+            Request::Crontab(crontab) => crontab.moment = moment,
             _ => {}
         }
     }

@@ -65,6 +65,7 @@ pub fn explain(request: &mut Request<'_>) {
         Request::Upcoming(upcoming) => upcoming.explain = true,
         Request::Describe(describe) => describe.explain = true,
         Request::Report(report) => report.explain = true,
+        Request::Crontab(crontab) => crontab.explain = true,
         Request::Control(_) => {}
     }
 }

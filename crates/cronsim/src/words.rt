@@ -19,7 +19,7 @@ fn is_before(word: &str) -> bool {
 // Whether the value of the command's option may be a moment by the clock.
 fn takes_moment(command: &str, option: &str) -> bool {
     match command {
-        "check" | "why" => option == "--now",
+        "check" | "why" | "crontab" => option == "--now",
         "upcoming" => option == "--from",
         "describe" => option == "--after",
         "report" => option == "--now" || option == "--since",

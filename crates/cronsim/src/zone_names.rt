@@ -43,6 +43,7 @@ pub fn without_names(
         Request::Audit(audit) => leave_out(rt, folder, &mut audit.zones.rules),
         Request::Upcoming(upcoming) => leave_out(rt, folder, &mut upcoming.zones.rules),
         Request::Report(report) => leave_out(rt, folder, &mut report.zones.rules),
+        Request::Crontab(crontab) => leave_out(rt, folder, &mut crontab.zones.rules),
         _ => Ok(()),
     }
 }

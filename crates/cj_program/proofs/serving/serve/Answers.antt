@@ -119,6 +119,17 @@ returns-in-Report-clause-failed g c = λ e. failed_at c.args.request.now c.args.
     c.in-Report.is (cut _ _ _ _ _ _ _ c.report_answer.result c.report_answer.ensures
     (c.give_answer-in-Report.ensures.failed e))
 
+pub returns-in-Crontab-clause-served : goal.returns-in-Crontab-clause-served
+returns-in-Crontab-clause-served g c = λ lt. served_at c.args.request.now c.args.files.now
+    (g.R.Read.remaining c.args.input.now) _ _ _ _ _
+    c.in-Crontab.is c.crontab_answer.result _ c.crontab_answer.ensures (c.give_answer-in-Crontab.ensures.given lt)
+
+pub returns-in-Crontab-clause-failed : goal.returns-in-Crontab-clause-failed
+returns-in-Crontab-clause-failed g c = λ e. failed_at c.args.request.now c.args.files.now
+    (g.R.Read.remaining c.args.input.now) _ _ _ _ _
+    c.in-Crontab.is (cut _ _ _ _ _ _ _ c.crontab_answer.result c.crontab_answer.ensures
+    (c.give_answer-in-Crontab.ensures.failed e))
+
 pub returns-in-Control-clause-served : goal.returns-in-Control-clause-served
 returns-in-Control-clause-served g c = λ lt. served_at c.args.request.now c.args.files.now
     (g.R.Read.remaining c.args.input.now) _ _ _ _ _
