@@ -4,5 +4,5 @@ mod forms;
 mod next;
 
 pub(crate) use describe::describe_json;
-pub use forms::{is_form, is_json, is_yaml, refused_form, value_line};
+pub use forms::{is_form, is_json, is_yaml, refused_form, value_line, yaml_text};
 pub(crate) use next::next_json;
