@@ -7,8 +7,8 @@ use Rattle.cj_yaml.specs.ReadOf.{IsReadOf}
 use Rattle.cj_answers.specs.Outcome.{Outcome}
 use Rattle.cj_answers.specs.as_json.Forms.{is_yaml}
 
--- where a text is JSON, its value is printed in YAML, in block style, and what is printed is read as
--- that value; of other texts nothing is said: a picture stays, and of several values on lines each
+-- where a text is JSON, its value is printed in YAML, in block style, and that is read as the value
+-- again; of other texts nothing is said: a picture stays, and of several values on lines each
 -- is a document
 -- rule: output-yaml
 abbrev pub IsYaml : List ℕ → List ℕ → Type 0
