@@ -129,20 +129,6 @@ returns-in-Crontab-clause-failed g c = λ e. failed_at c.args.request.now c.args
     (g.R.Read.remaining c.args.input.now) _ _ _ _ _
     c.in-Crontab.is (cut _ _ _ _ _ _ _ c.crontab_answer.result c.crontab_answer.ensures
     (c.give_answer-in-Crontab.ensures.failed e))
-<<<<<<< HEAD
-=======
-
-pub returns-in-Scenario-clause-served : goal.returns-in-Scenario-clause-served
-returns-in-Scenario-clause-served g c = λ lt. served_at c.args.request.now c.args.files.now
-    (g.R.Read.remaining c.args.input.now) _ _ _ _ _
-    c.in-Scenario.is c.scenario_answer.result _ c.scenario_answer.ensures (c.give_answer-in-Scenario.ensures.given lt)
-
-pub returns-in-Scenario-clause-failed : goal.returns-in-Scenario-clause-failed
-returns-in-Scenario-clause-failed g c = λ e. failed_at c.args.request.now c.args.files.now
-    (g.R.Read.remaining c.args.input.now) _ _ _ _ _
-    c.in-Scenario.is (cut _ _ _ _ _ _ _ c.scenario_answer.result c.scenario_answer.ensures
-    (c.give_answer-in-Scenario.ensures.failed e))
->>>>>>> cff41954 (crontab: the words of cj_answers on forms)
 
 pub returns-in-Control-clause-served : goal.returns-in-Control-clause-served
 returns-in-Control-clause-served g c = λ lt. served_at c.args.request.now c.args.files.now
