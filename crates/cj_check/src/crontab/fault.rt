@@ -7,7 +7,7 @@ use thiserror::Error;
 pub(crate) enum LineFault {
     #[error("no UTF-8, so no manifest can have it: convert it, as iconv -t UTF-8 does")]
     NotUtf8,
-    #[error("a carriage return, which cron takes for part of the command: sed 's/\\r//' removes it")]
+    #[error("a carriage return, which cron takes for part of a command: sed 's/\\r//' removes it")]
     CarriageReturn,
     #[error("a control character: remove it")]
     Control,
