@@ -100,7 +100,8 @@ pub(crate) fn without_blanks(bytes: &[u8]) -> &[u8] {
     behind(bytes, blanks.unwrap_or(bytes.len()))
 }
 
-// What is behind the blanks at the front, and behind the mark of YAML that may be between documents.
+// What is behind the blanks at the front, and behind the mark of YAML that may be between two
+// documents.
 fn without_mark(bytes: &[u8]) -> &[u8] {
     let bytes = without_blanks(bytes);
     match bytes.strip_prefix(b"---") {

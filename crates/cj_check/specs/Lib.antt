@@ -10,3 +10,4 @@ pub mod Seen
 pub mod Several
 pub mod Strays
 pub mod Crontab
+pub mod CrontabOutcome

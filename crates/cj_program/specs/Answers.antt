@@ -2,7 +2,7 @@
 use Rattle.std.specs.Prelude.{ℕ, List, Option}
 use Rattle.cj_inspect.specs.Audit.{IsAuditOutcome}
 use Rattle.cj_check.specs.CheckOutcome.{IsCheckOutcome}
-use Rattle.cj_check.specs.Crontab.{IsCrontabOutcome}
+use Rattle.cj_check.specs.CrontabOutcome.{IsCrontabOutcome}
 use Rattle.cj_answers.specs.Outcome.{IsNextOutcome, Outcome}
 use Rattle.cj_answers.specs.Previous.{IsPreviousOutcome}
 use Rattle.cj_check.specs.Plan.{IsPlanOutcome}
@@ -35,5 +35,5 @@ IsOutcome (Describe r) files input o = InForm r.output.now (λ m. IsDescribed r 
 IsOutcome (Previous r) files input o = InForm r.output.now (λ m. IsPreviousOutcome r files m) o
 IsOutcome (Report r) files input o = IsReportOutcome r files o
 IsOutcome (Scenario r) files input o = IsScenarioAnswer r files o
-IsOutcome (Crontab r) files input o = IsCrontabOutcome r files input o
+IsOutcome (Crontab r) files input o = IsCrontabOutcome r o
 IsOutcome (Control r) files input o = ⊥

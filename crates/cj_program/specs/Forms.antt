@@ -2,15 +2,17 @@
 use Rattle.std.specs.Prelude.{◌≡◌, ℕ, Bool, false, true, List, [], ◌∷◌, Some}
 use Rattle.serde_json.specs.Data.{Data}
 use Rattle.serde_json.specs.Read.{read}
+use Rattle.cj_yaml.specs.BlockStyle.{IsBlock}
 use Rattle.cj_yaml.specs.ReadOf.{IsReadOf}
 use Rattle.cj_answers.specs.Outcome.{Outcome}
 use Rattle.cj_answers.specs.as_json.Forms.{is_yaml}
 
--- where a text is JSON, what is printed is read as YAML for its value; of other texts nothing is
--- said: a picture stays, and of several values on lines each is a document
+-- where a text is JSON, its value is printed in YAML, in block style, and that is read as the value
+-- again; of other texts nothing is said: a picture stays, and of several values on lines each
+-- is a document
 -- rule: output-yaml
 abbrev pub IsYaml : List ℕ → List ℕ → Type 0
-IsYaml json text = (d : Data) → read json ≡ Some d → IsReadOf text (d ∷ [])
+IsYaml json text = (d : Data) → read json ≡ Some d → IsBlock d text × IsReadOf text (d ∷ [])
 
 -- rule: output-yaml
 abbrev pub IsPrintedAs : Bool → List ℕ → List ℕ → Type 0

@@ -1,6 +1,7 @@
 // The form of what is printed.
 ghost use Rattle.std.specs.Prelude.{◌≡◌, ◌∷◌, [], IfOk, codes, string_bytes};
 ghost use Rattle.serde_json.specs.View.{view};
+ghost use Rattle.cj_yaml.specs.BlockStyle.{IsBlock};
 ghost use Rattle.cj_yaml.specs.ReadOf.{IsReadOf};
 ghost use Rattle.cj_answers.specs.Outcome.{explained, outcome_of, refusal};
 ghost use Rattle.cj_answers.specs.as_json.Forms.{IsJsonLine, form_words, is_form, is_json, is_yaml};
@@ -54,9 +55,10 @@ pub fn refused_form(alloc: Global, explain: bool) -> Result<Answer, Failure>
     Ok(no_form(alloc, explain)?)
 }
 
-/// The text of a value in YAML: one document that is read as that value.
+/// The text of a value in YAML: one document in block style, which is read as that value.
 pub fn yaml_text(alloc: Global, value: &Value) -> Result<String, Failure>
-    ensures { IfOk result (λ s. IsReadOf (string_bytes s) (view value.now ∷ [])) }
+    ensures reads_back { IfOk result (λ s. IsReadOf (string_bytes s) (view value.now ∷ [])) }
+    ensures text { IfOk result (λ s. IsBlock (view value.now) (string_bytes s)) }
 {
     match write(alloc, value) {
         Ok(text) => Ok(text),

@@ -1,4 +1,10 @@
 // What `crontab` answers.
+ghost use Rattle.std.specs.Prelude.{◌≡◌, ◌⊎◌, All, IfOk};
+ghost use Rattle.std.specs.List.{list_any};
+ghost use Rattle.cj_answers.specs.Outcome.{explained, outcome_of, refusal};
+ghost use Rattle.cj_check.specs.Crontab.{IsEntry, is_refused};
+ghost use Rattle.cj_check.specs.CrontabOutcome.{IsCrontabOutcome, IsCrontabRead, ending_by, is_yaml};
+
 use crate::crontab::as_json::crontab_json;
 use crate::crontab::clock::Clocks;
 use crate::crontab::entries::{Entry, Form, entries_of, refuses};
@@ -21,11 +27,16 @@ fn refused(
     request: &CrontabRequest<'_>,
     line: &str,
     words: &str,
-) -> Result<Answer, Failure> {
+) -> Result<Answer, Failure>
+    ensures { IfOk result (λ a. outcome_of a
+        ≡ explained request.now.explain words.now (refusal line.now)) }
+{
     Ok(Answer::refused(alloc, line)?.explained(request.explain, words)?)
 }
 
-fn ending_of(entries: &[Entry<'_>]) -> Ending {
+fn ending_of(entries: &[Entry<'_>]) -> Ending
+    ensures { result ≡ ending_by (list_any is_refused entries.now) }
+{
     if refuses(entries) {
         Ending::Refused
     } else {
@@ -37,10 +48,13 @@ fn ending_of(entries: &[Entry<'_>]) -> Ending {
 fn told_answer(
     alloc: Global,
     request: &CrontabRequest<'_>,
-    clocks: Clocks<'_>,
+    clocks: &Clocks<'_>,
     entries: &[Entry<'_>],
     bytes: &[u8],
-) -> Result<Answer, Failure> {
+) -> Result<Answer, Failure>
+    requires { All IsEntry entries.now }
+    ensures { IfOk result (λ a. IsCrontabRead (outcome_of a)) }
+{
     let printed = if is_json(request.output) {
         crontab_json(alloc, request.file, clocks, entries, bytes)?
     } else {
@@ -61,9 +75,12 @@ fn yaml_answer(
     alloc: Global,
     request: &CrontabRequest<'_>,
     common: Common<'_>,
-    clocks: Clocks<'_>,
+    clocks: &Clocks<'_>,
     entries: &[Entry<'_>],
-) -> Result<Answer, Failure> {
+) -> Result<Answer, Failure>
+    requires { All IsEntry entries.now }
+    ensures { IfOk result (λ a. IsCrontabOutcome request.now (outcome_of a)) }
+{
     let manifests = manifests_of(alloc, common, clocks, entries)?;
     if manifests.is_long {
         return refused(alloc, request, "cronsim: output\n", LONG_WORDS);
@@ -75,7 +92,9 @@ fn yaml_answer(
     })
 }
 
-fn is_yaml(output: &str) -> bool {
+fn is_yaml(output: &str) -> bool
+    ensures { result ≡ is_yaml output.now }
+{
     output == "yaml"
 }
 
@@ -88,7 +107,9 @@ fn bytes_answer(
     request: &CrontabRequest<'_>,
     zones: &ZoneTable,
     bytes: &[u8],
-) -> Result<Answer, Failure> {
+) -> Result<Answer, Failure>
+    ensures { IfOk result (λ a. IsCrontabOutcome request.now (outcome_of a)) }
+{
     let form = Form {
         system: request.system,
         zone: request.time_zone,
@@ -97,14 +118,14 @@ fn bytes_answer(
     let moment = asked_moment(alloc, request.moment)?;
     let clocks = Clocks { zones, moment };
     if !is_yaml(request.output) {
-        return told_answer(alloc, request, clocks, entries.as_slice(), bytes);
+        return told_answer(alloc, request, &clocks, entries.as_slice(), bytes);
     }
     let common = Common {
         image: request.image.unwrap_or(""),
         shell: request.shell,
         namespace: request.namespace,
     };
-    yaml_answer(alloc, request, common, clocks, entries.as_slice())
+    yaml_answer(alloc, request, common, &clocks, entries.as_slice())
 }
 
 // The answer to an input: the zones are looked at first, then all of it is read.
@@ -113,7 +134,9 @@ fn input_answer<R: Read>(
     request: &CrontabRequest<'_>,
     files: &[ZoneFile],
     input: &mut R,
-) -> Result<Answer, Failure> {
+) -> Result<Answer, Failure>
+    ensures { IfOk result (λ a. IsCrontabOutcome request.now (outcome_of a)) }
+{
     let Some(zones) = given_zones(alloc, &request.zones, files)? else {
         return refused_pair(alloc, request.explain);
     };
@@ -154,7 +177,9 @@ pub fn crontab_answer<R: Read>(
     request: &CrontabRequest<'_>,
     files: &[ZoneFile],
     input: &mut R,
-) -> Result<Answer, Failure> {
+) -> Result<Answer, Failure>
+    ensures { IfOk result (λ a. IsCrontabOutcome request.now (outcome_of a)) }
+{
     if !is_form(request.output) && !is_yaml(request.output) {
         return refused(alloc, request, "cronsim: output\n", FORM_WORDS);
     }

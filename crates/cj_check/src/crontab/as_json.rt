@@ -112,7 +112,7 @@ fn refused_value(alloc: Global, number: Value, words: &str) -> Result<Value, All
     })
 }
 
-fn entry_value(alloc: Global, clocks: Clocks<'_>, entry: &Entry<'_>) -> Result<Value, Refusal> {
+fn entry_value(alloc: Global, clocks: &Clocks<'_>, entry: &Entry<'_>) -> Result<Value, Refusal> {
     let number = number_value(entry.number);
     let notes = notes_of(alloc, clocks, entry)?;
     let notes = texts_value(alloc, notes.as_slice())?;
@@ -129,7 +129,7 @@ fn entry_value(alloc: Global, clocks: Clocks<'_>, entry: &Entry<'_>) -> Result<V
 
 fn entry_values(
     alloc: Global,
-    clocks: Clocks<'_>,
+    clocks: &Clocks<'_>,
     entries: &[Entry<'_>],
 ) -> Result<Vec<Value>, Refusal> {
     let mut values = Vec::new(alloc);
@@ -148,7 +148,7 @@ fn whole_value(alloc: Global, file: &str, lines: Value, notes: Value) -> Result<
 pub(crate) fn crontab_json(
     alloc: Global,
     file: &str,
-    clocks: Clocks<'_>,
+    clocks: &Clocks<'_>,
     entries: &[Entry<'_>],
     bytes: &[u8],
 ) -> Result<String, Refusal> {

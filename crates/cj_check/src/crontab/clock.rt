@@ -61,7 +61,7 @@ fn change_lines(
 pub(crate) fn push_clock_notes(
     alloc: Global,
     notes: &mut Vec<String>,
-    clocks: Clocks<'_>,
+    clocks: &Clocks<'_>,
     schedule: &Schedule,
     zone: &str,
 ) -> Result<(), Refusal> {

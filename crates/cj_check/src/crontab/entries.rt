@@ -1,4 +1,8 @@
 // The lines of a crontab that say something.
+ghost use Rattle.std.specs.Prelude.{◌≡◌, All, IfOk, OnOk};
+ghost use Rattle.std.specs.List.{list_any};
+ghost use Rattle.cj_check.specs.Crontab.{IsEntry, IsLine, is_refused};
+
 use crate::crontab::environment::Environment;
 use crate::crontab::fault::{LineError, LineFault};
 use crate::crontab::line::{Line, line_of};
@@ -52,7 +56,11 @@ fn is_silent(line: &[u8]) -> bool {
 }
 
 impl<'a> Reading<'a> {
-    fn push(&mut self, number: usize, line: Line<'a>) -> Result<(), AllocError> {
+    fn push(&mut self, number: usize, line: Line<'a>) -> Result<(), AllocError>
+        requires { IsLine line }
+        ensures { OnOk result (All IsEntry self.old.entries.items →
+            All IsEntry self.new.entries.items) }
+    {
         let entry = Entry {
             number,
             line,
@@ -62,7 +70,9 @@ impl<'a> Reading<'a> {
     }
 
     // From here on cron goes by the clock of that zone.
-    fn set_zone(&mut self, zones: &ZoneTable, name: &'a str) -> Option<LineFault> {
+    fn set_zone(&mut self, zones: &ZoneTable, name: &'a str) -> Option<LineFault>
+        ensures { self.new.entries ≡ self.old.entries }
+    {
         self.zone = if name.is_empty() {
             self.form.zone
         } else {
@@ -75,7 +85,10 @@ impl<'a> Reading<'a> {
         Some(LineFault::Zone)
     }
 
-    fn set(&mut self, zones: &ZoneTable, setting: Setting<'a>) -> Result<Line<'a>, AllocError> {
+    fn set(&mut self, zones: &ZoneTable, setting: Setting<'a>) -> Result<Line<'a>, AllocError>
+        ensures line { IfOk result IsLine }
+        ensures entries { self.new.entries ≡ self.old.entries }
+    {
         if !self.environment.set(setting)? {
             return Ok(Line::Refused(LineFault::Variables));
         }
@@ -93,7 +106,10 @@ impl<'a> Reading<'a> {
         alloc: Global,
         zones: &ZoneTable,
         bytes: &'a [u8],
-    ) -> Result<Line<'a>, AllocError> {
+    ) -> Result<Line<'a>, AllocError>
+        ensures line { IfOk result IsLine }
+        ensures entries { self.new.entries ≡ self.old.entries }
+    {
         let Ok(text) = str::from_utf8(bytes) else {
             return Ok(Line::Refused(LineFault::NotUtf8));
         };
@@ -112,7 +128,10 @@ impl<'a> Reading<'a> {
         zones: &ZoneTable,
         number: usize,
         bytes: &'a [u8],
-    ) -> Result<(), AllocError> {
+    ) -> Result<(), AllocError>
+        ensures { OnOk result (All IsEntry self.old.entries.items →
+            All IsEntry self.new.entries.items) }
+    {
         let bytes = without_blanks(bytes);
         if is_silent(bytes) {
             return Ok(());
@@ -137,7 +156,9 @@ pub(crate) fn entries_of<'a>(
     form: Form<'a>,
     zones: &ZoneTable,
     bytes: &'a [u8],
-) -> Result<Vec<Entry<'a>>, AllocError> {
+) -> Result<Vec<Entry<'a>>, AllocError>
+    ensures { IfOk result (λ v. All IsEntry v.items) }
+{
     let mut reading = Reading {
         entries: Vec::new(alloc),
         environment: Environment::new(alloc),
@@ -157,11 +178,15 @@ pub(crate) fn entries_of<'a>(
 }
 
 /// Whether a line is refused.
-pub(crate) fn is_refused(entry: &Entry<'_>) -> bool {
+pub(crate) fn is_refused(entry: &Entry<'_>) -> bool
+    ensures { result ≡ is_refused entry.now }
+{
     matches!(entry.line, Line::Refused(_))
 }
 
 /// Whether one of the lines is refused.
-pub(crate) fn refuses(entries: &[Entry<'_>]) -> bool {
+pub(crate) fn refuses(entries: &[Entry<'_>]) -> bool
+    ensures { result ≡ list_any is_refused entries.now }
+{
     entries.iter().any(|entry| is_refused(entry))
 }

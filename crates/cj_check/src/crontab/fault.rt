@@ -7,7 +7,7 @@ use thiserror::Error;
 pub(crate) enum LineFault {
     #[error("no UTF-8, so no manifest can have it: convert it, as iconv -t UTF-8 does")]
     NotUtf8,
-    #[error("a carriage return, which cron takes for a part of the command: remove it, as sed 's/\\r//' does")]
+    #[error("a carriage return, which cron takes for part of a command: sed 's/\\r//' removes it")]
     CarriageReturn,
     #[error("a control character: remove it")]
     Control,
@@ -27,7 +27,7 @@ pub(crate) enum LineFault {
     Question,
     #[error("no macro of cron: write the five fields, such as * * * * * for every minute")]
     Macro,
-    #[error("no zone of this name: give the name of a zone file, such as Europe/Berlin, or its rule by --zone NAME=RULE")]
+    #[error("no such zone: name a zone file, as Europe/Berlin, or give --zone NAME=RULE")]
     Zone,
     #[error("more than 256 variables: set fewer")]
     Variables,

@@ -1,4 +1,7 @@
 // What a line of a crontab says.
+ghost use Rattle.std.specs.Prelude.{◌≡◌, IfOk};
+ghost use Rattle.cj_check.specs.Crontab.{IsJob, IsLine};
+
 use crate::crontab::command::{Command, command_of};
 use crate::crontab::fault::{LineError, LineFault};
 use crate::crontab::setting::{Setting, lacks_value, setting_of};
@@ -95,7 +98,9 @@ fn job_of<'a>(
     when: When<'a>,
     rest: &'a str,
     system: bool,
-) -> Result<Job<'a>, LineError> {
+) -> Result<Job<'a>, LineError>
+    ensures { IfOk result IsJob }
+{
     let text = when.schedule_text(alloc)?;
     let schedule = match Schedule::parse(text.as_str()) {
         Ok(schedule) => schedule,
@@ -123,7 +128,9 @@ fn is_macro(name: &str) -> bool {
 }
 
 // A line that begins with a macro.
-fn macro_line(alloc: Global, text: &str, system: bool) -> Result<Line<'_>, LineError> {
+fn macro_line(alloc: Global, text: &str, system: bool) -> Result<Line<'_>, LineError>
+    ensures { IfOk result IsLine }
+{
     let (name, rest) = next_word(text);
     if name == "@reboot" {
         let (user, command) = started(alloc, rest, system)?;
@@ -136,7 +143,9 @@ fn macro_line(alloc: Global, text: &str, system: bool) -> Result<Line<'_>, LineE
 }
 
 // A line of five fields.
-fn fields_line(alloc: Global, text: &str, system: bool) -> Result<Line<'_>, LineError> {
+fn fields_line(alloc: Global, text: &str, system: bool) -> Result<Line<'_>, LineError>
+    ensures { IfOk result IsLine }
+{
     if lacks_value(text) {
         return Err(LineError::Fault(LineFault::NoValue));
     }
@@ -166,7 +175,9 @@ fn refuse_control(text: &str) -> Result<(), LineFault> {
 
 /// What a line says, without the blanks in front. `system` is whether a user stands before the
 /// command.
-pub(crate) fn line_of(alloc: Global, text: &str, system: bool) -> Result<Line<'_>, LineError> {
+pub(crate) fn line_of(alloc: Global, text: &str, system: bool) -> Result<Line<'_>, LineError>
+    ensures { IfOk result IsLine }
+{
     refuse_control(text)?;
     if let Some(setting) = setting_of(text) {
         return Ok(Line::Setting(setting));

@@ -95,7 +95,7 @@ fn push_notes(
 fn push_entry(
     alloc: Global,
     text: &mut String,
-    clocks: Clocks<'_>,
+    clocks: &Clocks<'_>,
     entry: &Entry<'_>,
 ) -> Result<(), Refusal> {
     let number = entry.number;
@@ -151,7 +151,7 @@ fn push_whole(
 /// A line for each line that says something, with its notes behind it.
 pub(crate) fn crontab_text(
     alloc: Global,
-    clocks: Clocks<'_>,
+    clocks: &Clocks<'_>,
     entries: &[Entry<'_>],
     bytes: &[u8],
 ) -> Result<String, Refusal> {

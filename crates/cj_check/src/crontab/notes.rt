@@ -61,7 +61,7 @@ fn push_field_notes(
 fn job_notes(
     alloc: Global,
     notes: &mut Vec<String>,
-    clocks: Clocks<'_>,
+    clocks: &Clocks<'_>,
     job: &Job<'_>,
     zone: Option<&str>,
 ) -> Result<(), Refusal> {
@@ -155,7 +155,7 @@ fn setting_notes(
 /// What there is to be said of a line.
 pub(crate) fn notes_of(
     alloc: Global,
-    clocks: Clocks<'_>,
+    clocks: &Clocks<'_>,
     entry: &Entry<'_>,
 ) -> Result<Vec<String>, Refusal> {
     let mut notes = Vec::new(alloc);

@@ -1,4 +1,8 @@
 // Sunday as 7, which cron has and Kubernetes hasn't.
+ghost use Rattle.std.specs.Prelude.{◌≡◌, ◌==◌, IfOk, string_bytes};
+ghost use Rattle.std.specs.List.{list_any};
+ghost use Rattle.cj_check.specs.Crontab.{AreWeekdays};
+
 use std::alloc::{AllocError, Global};
 
 const NAMES: [&str; 7] = ["sun", "mon", "tue", "wed", "thu", "fri", "sat"];
@@ -80,8 +84,25 @@ fn push_element(text: &mut String, element: &str) -> Result<(), AllocError> {
     }
 }
 
+fn has_seven(field: &str) -> bool
+    ensures { result ≡ list_any (λ b. b == 55) field.now }
+{
+    field.as_bytes().iter().any(|byte| *byte == b'7')
+}
+
 /// The days of the week as Kubernetes takes them: with Sunday as 0 in the place of 7.
-pub(crate) fn weekdays_text(alloc: Global, field: &str) -> Result<String, AllocError> {
+pub(crate) fn weekdays_text(alloc: Global, field: &str) -> Result<String, AllocError>
+    ensures { IfOk result (λ s. AreWeekdays field.now (string_bytes s)) }
+{
+    if has_seven(field) {
+        without_seven(alloc, field)
+    } else {
+        String::from_str(alloc, field)
+    }
+}
+
+// The field with 0 in the place of 7.
+fn without_seven(alloc: Global, field: &str) -> Result<String, AllocError> {
     let mut text = String::new(alloc);
     let mut rest = field;
     while let Some((element, more)) = rest.split_once(',') {

@@ -1,4 +1,7 @@
 // When a line's command is started: five fields, or a macro in their place.
+ghost use Rattle.std.specs.Prelude.{◌≡◌, IfOk, string_bytes};
+ghost use Rattle.cj_check.specs.Crontab.{IsScheduleText, fields_text};
+
 use crate::crontab::setting::without_blanks;
 use crate::crontab::sunday::weekdays_text;
 use std::alloc::{AllocError, Global};
@@ -65,7 +68,9 @@ pub(crate) fn fields_of(text: &str) -> Option<(Fields<'_>, &str)> {
 
 impl<'a> Fields<'a> {
     // The fields with a space between each two, with those days of the week.
-    fn text_with(&self, alloc: Global, weekday: &str) -> Result<String, AllocError> {
+    fn text_with(&self, alloc: Global, weekday: &str) -> Result<String, AllocError>
+        ensures { IfOk result (λ s. string_bytes s ≡ fields_text self.now weekday.now) }
+    {
         let (minute, hour) = (self.minute, self.hour);
         let (day, month) = (self.day, self.month);
         format!(in alloc; "{minute} {hour} {day} {month} {weekday}")
@@ -82,7 +87,9 @@ impl<'a> When<'a> {
     }
 
     /// The schedule as Kubernetes takes it.
-    pub(crate) fn schedule_text(&self, alloc: Global) -> Result<String, AllocError> {
+    pub(crate) fn schedule_text(&self, alloc: Global) -> Result<String, AllocError>
+        ensures { IfOk result (λ s. IsScheduleText self.now (string_bytes s)) }
+    {
         match self {
             When::Fields(fields) => {
                 let weekday = weekdays_text(alloc, fields.weekday)?;

@@ -9,7 +9,6 @@ use crate::crontab::names::Names;
 use crate::crontab::notes::notes_of;
 use cj_answers::yaml_text;
 use cj_io::{Failure, MOST_BYTES};
-use serde_json::Value;
 use std::alloc::{AllocError, Global};
 
 /// The manifests, and what is said of lines that have none.
@@ -43,7 +42,7 @@ fn push_comment(text: &mut String, words: &str) -> Result<(), AllocError> {
 fn push_comments(
     alloc: Global,
     text: &mut String,
-    clocks: Clocks<'_>,
+    clocks: &Clocks<'_>,
     entry: &Entry<'_>,
     job: &Job<'_>,
 ) -> Result<(), Failure> {
@@ -65,7 +64,7 @@ impl<'a> Writing<'a> {
         &mut self,
         alloc: Global,
         common: Common<'_>,
-        clocks: Clocks<'_>,
+        clocks: &Clocks<'_>,
         entry: &Entry<'a>,
         job: &Job<'a>,
     ) -> Result<(), Failure> {
@@ -93,7 +92,7 @@ impl<'a> Writing<'a> {
         &mut self,
         alloc: Global,
         common: Common<'_>,
-        clocks: Clocks<'_>,
+        clocks: &Clocks<'_>,
         entry: &Entry<'a>,
     ) -> Result<(), Failure> {
         match &entry.line {
@@ -125,7 +124,7 @@ impl<'a> Writing<'a> {
 pub(crate) fn manifests_of<'a>(
     alloc: Global,
     common: Common<'_>,
-    clocks: Clocks<'_>,
+    clocks: &Clocks<'_>,
     entries: &[Entry<'a>],
 ) -> Result<Manifests, Failure> {
     let mut writing = Writing {
