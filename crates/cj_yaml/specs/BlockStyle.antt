@@ -21,7 +21,8 @@ front n compact = cond compact [] (indent n)
 abbrev pub may_be_literal : List ℕ → Bool
 may_be_literal t = not (slice_index t 0 == 32) && not (slice_index t 0 == 10)
 
--- how a literal text begins: `|+` keeps the line breaks at its end, `|` has one, `|-` none (8.1.1.2)
+-- how a literal text begins: `|+` keeps the line breaks at its end, `|` has one, `|-` none
+-- (8.1.1.2)
 abbrev pub literal_head : List ℕ → List ℕ
 literal_head t =
     cond (slice_index t (length t - 1) == 10)

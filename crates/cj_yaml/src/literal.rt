@@ -104,11 +104,7 @@ fn end_line(out: &mut Vec<u8>, fresh: bool) -> Result<(), AllocError>
 }
 
 // Appends so many spaces.
-pub(crate) fn push_indent(
-    alloc: Global,
-    out: &mut String,
-    column: usize,
-) -> Result<(), AllocError>
+pub(crate) fn push_indent(alloc: Global, out: &mut String, column: usize) -> Result<(), AllocError>
     ensures { OnOk result (string_bytes out.new ≡ string_bytes out.old ++ indent column) }
 {
     let spaces = " ".repeat(alloc, column)?;

@@ -78,7 +78,14 @@ fn one_document(
     ensures { IfOk result (λ found. values found.items ≡ view value ∷ []) }
 {
     let mut documents = documents;
-    let Some(Document { places, warnings, .. }) = documents.pop() else {
+    let Some(
+        Document {
+            places,
+            warnings,
+            ..
+        },
+    ) = documents.pop()
+    else {
         return Err(Stop::new(FaultKind::FlowSyntax, 0));
     };
     let document = Document {

@@ -24,7 +24,9 @@ pub(crate) fn write_block(alloc: Global, value: &Value) -> Result<String, WriteF
         Value::Object(members) if !members.is_empty() => {
             write_members(alloc, &mut out, members, 0, false)?;
         }
-        Value::Array(items) if !items.as_slice().is_empty() => write_items(alloc, &mut out, items, 0, false)?,
+        Value::Array(items) if !items.as_slice().is_empty() => write_items(
+            alloc, &mut out, items, 0, false,
+        )?,
         _ => write_leaf(alloc, &mut out, value, 2)?,
     }
     Ok(out)
@@ -176,7 +178,9 @@ fn write_item(
         Value::Object(members) if !members.is_empty() => {
             write_members(alloc, out, members, column, true)
         }
-        Value::Array(items) if !items.as_slice().is_empty() => write_items(alloc, out, items, column, true),
+        Value::Array(items) if !items.as_slice().is_empty() => write_items(
+            alloc, out, items, column, true,
+        ),
         _ => write_leaf(alloc, out, item, column),
     }
 }
@@ -201,12 +205,7 @@ fn write_leaf(
 
 // Appends a text, likewise.
 #[tactic(auto, using(crate::proofs::Blocks::literal_grows, crate::proofs::Blocks::line_grows))]
-fn write_text(
-    alloc: Global,
-    out: &mut String,
-    text: &str,
-    column: usize,
-) -> Result<(), WriteFault>
+fn write_text(alloc: Global, out: &mut String, text: &str, column: usize) -> Result<(), WriteFault>
     ensures { OnOk result (GrowsBy (IsLeaf column (string text.now))
         (string_bytes out.old) (string_bytes out.new)) }
 {
