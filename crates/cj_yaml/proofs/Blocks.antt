@@ -1,12 +1,13 @@
 -- Text that grows by the parts of a value in block style.
-use Rattle.std.proofs.Common.{◌≡◌, ℕ, ◌+◌, List, [], ◌∷◌, ◌++◌, length, Bool, true, false, Some, String, Vec, BTreeMap, Global, refl, sym, ap, ◌∙◌, subst, append_assoc, append-nil}
-use Rattle.serde_json.specs.Data.{Data, Items, item, Members, member, object, array, string}
-use Rattle.serde_json.specs.Read.{read}
+use Rattle.std.proofs.Common.{◌≡◌, ℕ, suc, ◌+◌, ◌<◌, ◌≤◌, max, List, [], ◌∷◌, ◌++◌, length, drop, get_or, string_bytes, Bool, true, false, Some, String, Vec, BTreeMap, Global, refl, sym, ap, ◌∙◌, subst, arith, append_assoc, append-nil}
+use Rattle.std.proofs.Math.Seq.{drop-cons}
+use Rattle.serde_json.specs.Data.{Data, Items, item, Members, member, object, array, string, depth, items_depth, members_depth}
+use Rattle.serde_json.specs.Read.{max_depth, read}
 use Rattle.serde_json.specs.View.{view, items_view, members_view}
 use Rattle.serde_json.specs.declared.value.Value.{Value, Array, Object}
 use Rattle.serde_json.proofs.Views.{view-Array, view-Object}
 use Rattle.cj_yaml.specs.Words.{IsPrinted, GrowsByPrinted}
-use Rattle.cj_yaml.specs.BlockStyle.{front, literal_text, may_be_literal, IsLeaf, IsMember, IsItem, IsEntry, IsMapping, IsList, IsBlock, GrowsBy, text, literal, flow, entry, mapping, list, leaf, mapping_in, list_in, leaf_in, more, further, of_mapping, of_list, of_leaf}
+use Rattle.cj_yaml.specs.BlockStyle.{front, literal_text, may_be_literal, IsLeaf, IsMember, IsItem, IsEntry, IsMapping, IsList, IsBlock, GrowsBy, text, literal, flow, entry, mapping, list, leaf, mapping_in, list_in, leaf_in, no_more, more, ended, further, of_mapping, of_list, of_leaf}
 
 -- A text has grown by the front of a collection, and what is left behind makes it whole.
 pub record Begun (out old : List ℕ) (Left All : List ℕ → Type 0) : Type 0 where
@@ -211,3 +212,50 @@ flow_grows a b new s d n said e f =
       grows = f ∙ ap (λ x. x ++ 10 ∷ []) e ∙ append_assoc a s (10 ∷ []);
       is = flow s said;
     }
+
+-- For write_members: all members are printed.
+pub members_end : (es : List (String Global × Value)) (out old : List ℕ) (n : ℕ) (c : Bool) (All : List ℕ → Type 0)
+    → es ≡ [] → Begun out old (IsMapping n c (members_view es)) All → GrowsBy All old out
+members_end es out old n c All e b =
+    finish out old (IsMapping n c (members_view es)) All b
+    (subst (λ xs. IsMapping n c (members_view xs) []) (sym e) no_more)
+
+-- For write_items: all items are printed.
+pub items_end : (vs : List Value) (out old : List ℕ) (n : ℕ) (c : Bool) (All : List ℕ → Type 0) → vs ≡ []
+    → Begun out old (IsList n c (items_view vs)) All → GrowsBy All old out
+items_end vs out old n c All e b =
+    finish out old (IsList n c (items_view vs)) All b
+    (subst (λ xs. IsList n c (items_view xs) []) (sym e) ended)
+
+-- For write_members: one entry more of an object.
+pub entry_more : (es rest : List (String Global × Value)) (k : String Global) (v : Value) (text new out old : List ℕ)
+    (n : ℕ) (c : Bool) (All : List ℕ → Type 0) → es ≡ (k, v) ∷ rest → text ≡ string_bytes k
+    → members_depth (members_view es) ≤ max_depth → Begun out old (IsMapping n c (members_view es)) All
+    → GrowsBy (IsEntry n c text (view v)) out new
+    → (members_depth (members_view rest) ≤ max_depth) × Begun new old (IsMapping n false (members_view rest)) All
+entry_more es rest k v text new out old n c All e t within b g =
+    let low : members_depth (members_view ((k, v) ∷ rest)) ≤ max_depth =
+    subst (λ xs. members_depth (members_view xs) ≤ max_depth) e within in
+    (omega (arith, low), member_more new out old (string_bytes k) (view v) (members_view rest) n c All
+    (subst (λ xs. Begun out old (IsMapping n c (members_view xs)) All) e b)
+    (subst (λ x. GrowsBy (IsEntry n c x (view v)) out new) t g))
+
+-- What is left of a list at a place.
+rest_at : (xs : List Value) (i : ℕ) (x : Value) → i < length xs → x ≡ get_or xs i x → drop i xs ≡ x ∷ drop (i + 1) xs
+rest_at xs i x inside at =
+    let next : suc i ≡ i + 1 = omega arith in
+    drop-cons xs i x inside ∙ ap (λ y. y ∷ drop (suc i) xs) (sym at) ∙ ap (λ n. x ∷ drop n xs) next
+
+-- For write_items: one value more of a list.
+pub value_more : (xs : List Value) (i : ℕ) (v : Value) (new c b out old : List ℕ) (n m : ℕ) (p : Bool)
+    (All : List ℕ → Type 0) → i < length xs → v ≡ get_or xs i v
+    → items_depth (items_view (drop i xs)) ≤ max_depth → Begun out old (IsList n p (items_view (drop i xs))) All
+    → m ≡ n + 2 → b ≡ out ++ front n p → c ≡ b ++ 45 ∷ 32 ∷ [] → GrowsBy (IsItem m (view v)) c new
+    → (items_depth (items_view (drop (i + 1) xs)) ≤ max_depth)
+    × Begun new old (IsList n false (items_view (drop (i + 1) xs))) All
+value_more xs i v new c b out old n m p All inside at within begun same e f g =
+    let left = rest_at xs i v inside at in
+    let low : items_depth (items_view (v ∷ drop (i + 1) xs)) ≤ max_depth =
+    subst (λ ys. items_depth (items_view ys) ≤ max_depth) left within in
+    (omega (arith, low), item_more new c b out old (view v) (items_view (drop (i + 1) xs)) n m p All
+    (subst (λ ys. Begun out old (IsList n p (items_view ys)) All) left begun) same e f g)

@@ -24,4 +24,4 @@ line_goes_on s out new all spaces n i fresh h same is e =
 pub line_ends : (s out new all : List ℕ) (n i : ℕ) (fresh : Bool) → length s ≤ i
     → out ++ literal_lines n fresh (drop i s) ≡ all → new ≡ out ++ cond fresh [] (10 ∷ []) → new ≡ all
 line_ends s out new all n i fresh h is e =
-    e ∙ ap (λ x. out ++ literal_lines n fresh x) (sym (drop_all s i h)) ∙ is
+    e ∙ ap (λ x. out ++ literal_lines n fresh x) (sym (drop_all i s h)) ∙ is
