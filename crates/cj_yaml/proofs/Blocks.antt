@@ -228,12 +228,12 @@ items_end vs out old n c All e b =
     (subst (λ xs. IsList n c (items_view xs) []) (sym e) ended)
 
 -- For write_members: one entry more of an object.
-pub entry_more : (es rest : List (String Global × Value)) (k : String Global) (v : Value) (text new out old : List ℕ)
-    (n : ℕ) (c : Bool) (All : List ℕ → Type 0) → es ≡ (k, v) ∷ rest → text ≡ string_bytes k
+pub entry_more : (es rest : List (String Global × Value)) (k : String Global) (v : Value) (said new out old : List ℕ)
+    (n : ℕ) (c : Bool) (All : List ℕ → Type 0) → es ≡ (k, v) ∷ rest → said ≡ string_bytes k
     → members_depth (members_view es) ≤ max_depth → Begun out old (IsMapping n c (members_view es)) All
-    → GrowsBy (IsEntry n c text (view v)) out new
+    → GrowsBy (IsEntry n c said (view v)) out new
     → (members_depth (members_view rest) ≤ max_depth) × Begun new old (IsMapping n false (members_view rest)) All
-entry_more es rest k v text new out old n c All e t within b g =
+entry_more es rest k v said new out old n c All e t within b g =
     let low : members_depth (members_view ((k, v) ∷ rest)) ≤ max_depth =
     subst (λ xs. members_depth (members_view xs) ≤ max_depth) e within in
     (omega (arith, low), member_more new out old (string_bytes k) (view v) (members_view rest) n c All

@@ -8,7 +8,7 @@ use Rattle.cj_yaml.proofs.writer.+writing.Goals as goal
 
 pub write_items-loop-item-preserved : goal.write_items-loop-item-preserved
 write_items-loop-item-preserved t c =
-    value_more c.deref-item-items.result.now c.loop-item.item-index c.item-item.result.now
+    value_more c.deref-item-items.result.now c.loop-item.item-index c.item-item.result
     (string_bytes c.write_item.new.out) (string_bytes c.push_str.new.self) (string_bytes c.push_front.new.out)
     (string_bytes c.loop-item.out) (string_bytes c.args.out.now) c.args.column c.in_ok-inner.inner c.loop-item.behind
     (IsList c.args.column c.args.compact (items_view c.args.items.now.items)) c.loop-item-test.true c.item-item.is
@@ -34,4 +34,4 @@ pub write_members-returns : goal.write_members-returns
 write_members-returns t c =
     members_end c.loop-key.key-iterator (string_bytes c.loop-key.out) (string_bytes c.args.out.now) c.args.column
     c.loop-key.behind (IsMapping c.args.column c.args.compact (members_view c.args.members.now.entries))
-    c.in-None.ensures.steps c.loop-key.invariant.1
+    c.in-None.ensures.steps.0 c.loop-key.invariant.1
