@@ -1,12 +1,12 @@
 -- Text that grows by the parts of a value in block style.
-use Rattle.std.proofs.Common.{◌≡◌, ℕ, suc, ◌+◌, ◌<◌, ◌≤◌, max, List, [], ◌∷◌, ◌++◌, length, drop, get_or, string_bytes, Bool, true, false, Some, String, Vec, BTreeMap, Global, refl, sym, ap, ◌∙◌, subst, arith, append_assoc, append-nil}
+use Rattle.std.proofs.Common.{◌≡◌, ℕ, suc, ◌+◌, ◌<◌, ◌≤◌, List, [], ◌∷◌, ◌++◌, length, drop, get_or, string_bytes, Bool, true, false, Some, String, Vec, BTreeMap, Global, refl, sym, ap, ◌∙◌, subst, arith, append_assoc, append-nil}
 use Rattle.std.proofs.Math.Seq.{drop-cons}
-use Rattle.serde_json.specs.Data.{Data, Items, item, Members, member, object, array, string, depth, items_depth, members_depth}
+use Rattle.serde_json.specs.Data.{Data, Items, item, Members, member, object, array, string, items_depth, members_depth}
 use Rattle.serde_json.specs.Read.{max_depth, read}
 use Rattle.serde_json.specs.View.{view, items_view, members_view}
 use Rattle.serde_json.specs.declared.value.Value.{Value, Array, Object}
 use Rattle.serde_json.proofs.Views.{view-Array, view-Object}
-use Rattle.cj_yaml.specs.Words.{IsPrinted, GrowsByPrinted}
+use Rattle.cj_yaml.specs.Words.{GrowsByPrinted}
 use Rattle.cj_yaml.specs.BlockStyle.{front, literal_text, may_be_literal, IsLeaf, IsMember, IsItem, IsEntry, IsMapping, IsList, IsBlock, GrowsBy, text, literal, flow, entry, mapping, list, leaf, mapping_in, list_in, leaf_in, no_more, more, ended, further, of_mapping, of_list, of_leaf}
 
 -- A text has grown by the front of a collection, and what is left behind makes it whole.
