@@ -1,12 +1,12 @@
 -- Text that grows by the parts of a value in block style.
-use Rattle.std.proofs.Common.{◌≡◌, ℕ, suc, ◌+◌, ◌<◌, ◌≤◌, max, List, [], ◌∷◌, ◌++◌, length, drop, get_or, string_bytes, Bool, true, false, Some, String, Vec, BTreeMap, Global, refl, sym, ap, ◌∙◌, subst, arith, append_assoc, append-nil}
+use Rattle.std.proofs.Common.{◌≡◌, ℕ, suc, ◌+◌, ◌<◌, ◌≤◌, List, [], ◌∷◌, ◌++◌, length, drop, get_or, string_bytes, Bool, true, false, Some, String, Vec, BTreeMap, Global, refl, sym, ap, ◌∙◌, subst, arith, append_assoc, append-nil}
 use Rattle.std.proofs.Math.Seq.{drop-cons}
-use Rattle.serde_json.specs.Data.{Data, Items, item, Members, member, object, array, string, depth, items_depth, members_depth}
+use Rattle.serde_json.specs.Data.{Data, Items, item, Members, member, object, array, string, items_depth, members_depth}
 use Rattle.serde_json.specs.Read.{max_depth, read}
 use Rattle.serde_json.specs.View.{view, items_view, members_view}
 use Rattle.serde_json.specs.declared.value.Value.{Value, Array, Object}
 use Rattle.serde_json.proofs.Views.{view-Array, view-Object}
-use Rattle.cj_yaml.specs.Words.{IsPrinted, GrowsByPrinted}
+use Rattle.cj_yaml.specs.Words.{GrowsByPrinted}
 use Rattle.cj_yaml.specs.BlockStyle.{front, literal_text, may_be_literal, IsLeaf, IsMember, IsItem, IsEntry, IsMapping, IsList, IsBlock, GrowsBy, text, literal, flow, entry, mapping, list, leaf, mapping_in, list_in, leaf_in, no_more, more, ended, further, of_mapping, of_list, of_leaf}
 
 -- A text has grown by the front of a collection, and what is left behind makes it whole.
@@ -235,10 +235,12 @@ pub entry_more : (es rest : List (String Global × Value)) (k : String Global) (
     → (members_depth (members_view rest) ≤ max_depth) × Begun new old (IsMapping n false (members_view rest)) All
 entry_more es rest k v said new out old n c All e t within b g =
     let low : members_depth (members_view ((k, v) ∷ rest)) ≤ max_depth =
-    subst (λ xs. members_depth (members_view xs) ≤ max_depth) e within in
-    (omega (arith, low), member_more new out old (string_bytes k) (view v) (members_view rest) n c All
-    (subst (λ xs. Begun out old (IsMapping n c (members_view xs)) All) e b)
-    (subst (λ x. GrowsBy (IsEntry n c x (view v)) out new) t g))
+    subst (λ xs. members_depth (members_view xs) ≤ max_depth) e within in (
+      omega (arith, low),
+      member_more new out old (string_bytes k) (view v) (members_view rest) n c All
+          (subst (λ xs. Begun out old (IsMapping n c (members_view xs)) All) e b)
+          (subst (λ x. GrowsBy (IsEntry n c x (view v)) out new) t g),
+    )
 
 -- What is left of a list at a place.
 rest_at : (xs : List Value) (i : ℕ) (x : Value) → i < length xs → x ≡ get_or xs i x → drop i xs ≡ x ∷ drop (i + 1) xs
@@ -256,6 +258,8 @@ pub value_more : (xs : List Value) (i : ℕ) (v : Value) (new c b out old : List
 value_more xs i v new c b out old n m p All inside at within begun same e f g =
     let left = rest_at xs i v inside at in
     let low : items_depth (items_view (v ∷ drop (i + 1) xs)) ≤ max_depth =
-    subst (λ ys. items_depth (items_view ys) ≤ max_depth) left within in
-    (omega (arith, low), item_more new c b out old (view v) (items_view (drop (i + 1) xs)) n m p All
-    (subst (λ ys. Begun out old (IsList n p (items_view ys)) All) left begun) same e f g)
+    subst (λ ys. items_depth (items_view ys) ≤ max_depth) left within in (
+      omega (arith, low),
+      item_more new c b out old (view v) (items_view (drop (i + 1) xs)) n m p All
+          (subst (λ ys. Begun out old (IsList n p (items_view ys)) All) left begun) same e f g,
+    )

@@ -1,8 +1,8 @@
-ghost use Rattle.std.specs.Prelude.{◌≡◌, [], ◌∷◌, IfErr, IfOk, IsErrAnd, IsUtf8, OnOk, Some, option_map};
+ghost use Rattle.std.specs.Prelude.{◌≡◌, ◌≤◌, [], ◌∷◌, IfErr, IfOk, IfSome, IsErrAnd, IsUtf8, OnOk, Some, option_map};
 ghost use Rattle.cj_yaml.specs.Places.{IsPlaceIn};
 ghost use Rattle.cj_yaml.specs.ReadOf.{IsReadOf, values};
 ghost use Rattle.cj_yaml.specs.declared.fault.FaultKind.TheVariants.{NotUtf8};
-ghost use Rattle.serde_json.specs.Data.{Data};
+ghost use Rattle.serde_json.specs.Data.{Data, depth};
 ghost use Rattle.serde_json.specs.Read as json;
 ghost use Rattle.serde_json.specs.View.{view};
 
@@ -61,6 +61,7 @@ fn read_text(alloc: Global, bytes: &[u8]) -> Result<Vec<Document>, Stop>
 fn json_value(alloc: Global, bytes: &[u8]) -> Result<Option<Value>, Stop>
     requires { IsUtf8 bytes.now }
     ensures value { IfOk result (λ found. json.read bytes.now ≡ option_map view found) }
+    ensures nests { IfOk result (λ found. IfSome found (λ v. depth (view v) ≤ json.max_depth)) }
 {
     match Value::from_slice(alloc, bytes) {
         Ok(value) => Ok(Some(value)),
@@ -75,6 +76,7 @@ fn one_document(
     documents: Vec<Document>,
     value: Value,
 ) -> Result<Vec<Document>, Stop>
+    requires { depth (view value) ≤ json.max_depth }
     ensures { IfOk result (λ found. values found.items ≡ view value ∷ []) }
 {
     let mut documents = documents;
