@@ -4,16 +4,10 @@ ghost use Rattle.cj_answers.specs.Outcome.{Outcome, outcome_of};
 ghost use Rattle.cj_answers.specs.as_json.Forms.{is_yaml};
 ghost use Rattle.cj_program.specs.Forms.{InForm, IsInForm, IsYaml};
 
-use cj_answers::{Answer, is_yaml};
+use cj_answers::{Answer, is_yaml, yaml_text};
 use cj_io::Failure;
-use cj_yaml::write;
 use serde_json::Value;
 use std::alloc::Global;
-
-// The text of a value in YAML.
-fn yaml_text(alloc: Global, value: &Value) -> Result<String, Failure> {
-    Ok(write(alloc, value)?)
-}
 
 // Values that are printed each on a line, as documents of YAML; none where a line is none.
 fn documents(alloc: Global, printed: &str) -> Result<Option<String>, Failure> {
@@ -41,7 +35,7 @@ fn other_text(alloc: Global, printed: String) -> Result<String, Failure> {
 
 // What is printed in YAML of a text: that of its value, if it is JSON.
 fn yaml_of(alloc: Global, printed: String) -> Result<String, Failure>
-    ensures { IfOk result (λ _. IsYaml (string_bytes printed)) }
+    ensures { IfOk result (λ s. IsYaml (string_bytes printed) (string_bytes s)) }
 {
     match Value::from_str(alloc, printed.as_str()) {
         Ok(value) => yaml_text(alloc, &value),

@@ -10,10 +10,12 @@ use crate::forms::formed;
 use crate::replay::serve_replay;
 use crate::run::run_answer;
 use crate::writing::give;
-use cj_answers::{Answer, Ending, describe_answer, next_answer};
+use cj_answers::{Answer, Ending, next_answer, previous_answer};
 use cj_args::Request;
-use cj_check::{check_answer, plan_answer};
-use cj_inspect::{audit_answer, report_answer, upcoming_answer, why_answer};
+use cj_check::{check_answer, crontab_answer, plan_answer};
+use cj_inspect::{
+    audit_answer, describing_answer, report_answer, scenario_answer, upcoming_answer, why_answer,
+};
 use cj_io::{ExitStatus, Failure, ZoneFile, tell_failure};
 use cj_run::Meter;
 use std::alloc::Global;
@@ -118,11 +120,21 @@ pub fn serve<T: Threads + Wait + Sync, R: Read, W: Write, E: Write>(
             give_answer(formed(alloc, upcoming.output, answer), out, err)
         }
         Request::Describe(describe) => {
-            let answer = describe_answer(alloc, describe, files);
+            let answer = describing_answer(alloc, describe, files, input);
             give_answer(formed(alloc, describe.output, answer), out, err)
+        }
+        Request::Previous(previous) => {
+            let answer = previous_answer(alloc, previous, files);
+            give_answer(formed(alloc, previous.output, answer), out, err)
         }
         Request::Report(report) => {
             give_answer(report_answer(alloc, report, files, input), out, err)
+        }
+        Request::Scenario(scenario) => {
+            give_answer(scenario_answer(alloc, scenario, files, input), out, err)
+        }
+        Request::Crontab(crontab) => {
+            give_answer(crontab_answer(alloc, crontab, files, input), out, err)
         }
         Request::Control(_) => give_answer(no_answer(), out, err),
     }

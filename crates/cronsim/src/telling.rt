@@ -6,6 +6,7 @@ use cj_program::{
     CheckRequest, ExitStatus, Failure, Meter, Request, ZoneFile, fault_places, serve, shape_words,
     tell_failure,
 };
+use std::fs::metadata;
 use std::io;
 use std::io::{IsTerminal, Write};
 use std::sync::Wait;
@@ -64,7 +65,10 @@ pub fn explain(request: &mut Request<'_>) {
         Request::Audit(audit) => audit.explain = true,
         Request::Upcoming(upcoming) => upcoming.explain = true,
         Request::Describe(describe) => describe.explain = true,
+        Request::Previous(previous) => previous.explain = true,
         Request::Report(report) => report.explain = true,
+        Request::Crontab(crontab) => crontab.explain = true,
+        Request::Scenario(scenario) => scenario.explain = true,
         Request::Control(_) => {}
     }
 }
@@ -163,4 +167,29 @@ pub fn tell_places(
         let _ = rt.stderr().write_all(lines.as_bytes());
     }
     Ok(())
+}
+
+// The schedule of a request on one schedule.
+fn schedule_of<'a>(request: &Request<'a>) -> Option<&'a str> {
+    match request {
+        Request::Next(next) => Some(next.schedule),
+        Request::Describe(describe) => Some(describe.schedule),
+        Request::Previous(previous) => Some(previous.schedule),
+        _ => None,
+    }
+}
+
+/// Says to people that what they gave for a schedule is the name of a file.
+pub fn tell_file(rt: &HostRuntime, request: &Request<'_>, served: &Served) {
+    let is_wanted = request.explains() || at_terminal(rt);
+    let Some(name) = schedule_of(request) else {
+        return;
+    };
+    let is_schedule = served.said.as_slice().starts_with(b"cronsim: schedule ");
+    if is_wanted && is_schedule && metadata(rt, name).is_ok_and(|found| found.is_file()) {
+        let _ = writeln!(
+            &mut rt.stderr(),
+            "schedule: there is a file {name}; cronsim describe -f {name} describes its CronJobs"
+        );
+    }
 }

@@ -1,11 +1,13 @@
 // The form of what is printed.
-ghost use Rattle.std.specs.Prelude.{◌≡◌, IfOk, codes, string_bytes};
+ghost use Rattle.std.specs.Prelude.{◌≡◌, ◌∷◌, [], IfOk, codes, string_bytes};
 ghost use Rattle.serde_json.specs.View.{view};
+ghost use Rattle.cj_yaml.specs.ReadOf.{IsReadOf};
 ghost use Rattle.cj_answers.specs.Outcome.{explained, outcome_of, refusal};
 ghost use Rattle.cj_answers.specs.as_json.Forms.{IsJsonLine, form_words, is_form, is_json, is_yaml};
 
 use crate::answer::Answer;
 use cj_io::Failure;
+use cj_yaml::{WriteFault, write};
 use serde_json::Value;
 use std::alloc::{AllocError, Global};
 
@@ -50,6 +52,17 @@ pub fn refused_form(alloc: Global, explain: bool) -> Result<Answer, Failure>
         (refusal (codes "cronsim: output\n"))) }
 {
     Ok(no_form(alloc, explain)?)
+}
+
+/// The text of a value in YAML: one document that is read as that value.
+pub fn yaml_text(alloc: Global, value: &Value) -> Result<String, Failure>
+    ensures { IfOk result (λ s. IsReadOf (string_bytes s) (view value.now ∷ [])) }
+{
+    match write(alloc, value) {
+        Ok(text) => Ok(text),
+        Err(WriteFault::Memory) => Err(Failure::Memory),
+        Err(_) => Err(Failure::UnexpectedRefusal),
+    }
 }
 
 /// A value on a line of its own.

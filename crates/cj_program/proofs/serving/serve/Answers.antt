@@ -98,15 +98,30 @@ returns-in-Upcoming-clause-failed g c = λ e. failed_at c.args.request.now c.arg
 pub returns-in-Describe-clause-served : goal.returns-in-Describe-clause-served
 returns-in-Describe-clause-served g c = λ lt. served_at c.args.request.now c.args.files.now
     (g.R.Read.remaining c.args.input.now) _ _ _ _ _
-    c.in-Describe.is c.formed-in-Describe.result _ (c.formed-in-Describe.ensures _ c.describe_answer.ensures)
+    c.in-Describe.is c.formed-in-Describe.result _
+    (c.formed-in-Describe.ensures _ c.describing_answer.ensures)
     (c.give_answer-in-Describe.ensures.given lt)
 
 pub returns-in-Describe-clause-failed : goal.returns-in-Describe-clause-failed
 returns-in-Describe-clause-failed g c = λ e. failed_at c.args.request.now c.args.files.now
     (g.R.Read.remaining c.args.input.now) _ _ _ _ _
     c.in-Describe.is (cut _ _ _ _ _ _ _ c.formed-in-Describe.result
-    (c.formed-in-Describe.ensures _ c.describe_answer.ensures)
+    (c.formed-in-Describe.ensures _ c.describing_answer.ensures)
     (c.give_answer-in-Describe.ensures.failed e))
+
+pub returns-in-Previous-clause-served : goal.returns-in-Previous-clause-served
+returns-in-Previous-clause-served g c = λ lt. served_at c.args.request.now c.args.files.now
+    (g.R.Read.remaining c.args.input.now) _ _ _ _ _
+    c.in-Previous.is c.formed-in-Previous.result _
+    (c.formed-in-Previous.ensures _ c.previous_answer.ensures)
+    (c.give_answer-in-Previous.ensures.given lt)
+
+pub returns-in-Previous-clause-failed : goal.returns-in-Previous-clause-failed
+returns-in-Previous-clause-failed g c = λ e. failed_at c.args.request.now c.args.files.now
+    (g.R.Read.remaining c.args.input.now) _ _ _ _ _
+    c.in-Previous.is (cut _ _ _ _ _ _ _ c.formed-in-Previous.result
+    (c.formed-in-Previous.ensures _ c.previous_answer.ensures)
+    (c.give_answer-in-Previous.ensures.failed e))
 
 pub returns-in-Report-clause-served : goal.returns-in-Report-clause-served
 returns-in-Report-clause-served g c = λ lt. served_at c.args.request.now c.args.files.now
@@ -118,6 +133,27 @@ returns-in-Report-clause-failed g c = λ e. failed_at c.args.request.now c.args.
     (g.R.Read.remaining c.args.input.now) _ _ _ _ _
     c.in-Report.is (cut _ _ _ _ _ _ _ c.report_answer.result c.report_answer.ensures
     (c.give_answer-in-Report.ensures.failed e))
+
+pub returns-in-Crontab-clause-served : goal.returns-in-Crontab-clause-served
+returns-in-Crontab-clause-served g c = λ lt. served_at c.args.request.now c.args.files.now
+    (g.R.Read.remaining c.args.input.now) _ _ _ _ _
+    c.in-Crontab.is c.crontab_answer.result _ c.crontab_answer.ensures (c.give_answer-in-Crontab.ensures.given lt)
+
+pub returns-in-Crontab-clause-failed : goal.returns-in-Crontab-clause-failed
+returns-in-Crontab-clause-failed g c = λ e. failed_at c.args.request.now c.args.files.now
+    (g.R.Read.remaining c.args.input.now) _ _ _ _ _
+    c.in-Crontab.is (cut _ _ _ _ _ _ _ c.crontab_answer.result c.crontab_answer.ensures
+    (c.give_answer-in-Crontab.ensures.failed e))
+pub returns-in-Scenario-clause-served : goal.returns-in-Scenario-clause-served
+returns-in-Scenario-clause-served g c = λ lt. served_at c.args.request.now c.args.files.now
+    (g.R.Read.remaining c.args.input.now) _ _ _ _ _
+    c.in-Scenario.is c.scenario_answer.result _ c.scenario_answer.ensures (c.give_answer-in-Scenario.ensures.given lt)
+
+pub returns-in-Scenario-clause-failed : goal.returns-in-Scenario-clause-failed
+returns-in-Scenario-clause-failed g c = λ e. failed_at c.args.request.now c.args.files.now
+    (g.R.Read.remaining c.args.input.now) _ _ _ _ _
+    c.in-Scenario.is (cut _ _ _ _ _ _ _ c.scenario_answer.result c.scenario_answer.ensures
+    (c.give_answer-in-Scenario.ensures.failed e))
 
 pub returns-in-Control-clause-served : goal.returns-in-Control-clause-served
 returns-in-Control-clause-served g c = λ lt. served_at c.args.request.now c.args.files.now
