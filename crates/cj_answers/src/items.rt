@@ -28,7 +28,7 @@ pub(crate) struct Items {
 
 // What a list has: its items, and what it says of them all.
 #[derive(Drop)]
-struct Listed {
+struct ListParts {
     items: Vec<Value>,
     kind: Option<&'static str>,
     version: Option<String>,
@@ -90,7 +90,7 @@ fn items_kind(kind: &str) -> Option<Option<&'static str>> {
 }
 
 // The items of a value, if it is a list.
-fn listed(alloc: Global, value: &mut Value) -> Result<Option<Listed>, Failure> {
+fn list_parts(alloc: Global, value: &mut Value) -> Result<Option<ListParts>, Failure> {
     let Some(kind) = text_at(value, "kind").and_then(items_kind) else {
         return Ok(None);
     };
@@ -105,7 +105,7 @@ fn listed(alloc: Global, value: &mut Value) -> Result<Option<Listed>, Failure> {
         return Ok(None);
     }
     match items.take() {
-        Value::Array(items) => Ok(Some(Listed {
+        Value::Array(items) => Ok(Some(ListParts {
             items,
             kind,
             version,
@@ -233,8 +233,8 @@ impl Items {
     }
 
     // Adds the items of a list.
-    fn push_listed(&mut self, alloc: Global, list: Listed) -> Result<(), Failure> {
-        let Listed {
+    fn push_listed(&mut self, alloc: Global, list: ListParts) -> Result<(), Failure> {
+        let ListParts {
             items,
             kind,
             version,
@@ -256,7 +256,7 @@ impl Items {
             };
             return self.push_event(alloc, event, object);
         }
-        match listed(alloc, &mut value)? {
+        match list_parts(alloc, &mut value)? {
             Some(list) => self.push_listed(alloc, list),
             None => self.push_seen(alloc, value, false),
         }
