@@ -1,5 +1,5 @@
 // What a watch of the API server prints: an event after another, each with its type and an object.
-ghost use Rattle.std.specs.Prelude.{◌≡◌, true, is_some, Some};
+ghost use Rattle.std.specs.Prelude.{◌≡◌, true, is_some};
 ghost use Rattle.std.specs.Bool.{OnTrue};
 ghost use Rattle.serde_json.specs.View.{view};
 ghost use Rattle.cj_answers.specs.Inputs.{is_event};

@@ -1,6 +1,6 @@
 // What the commands take for the bytes of an input: JSON as it is, and JSON of what YAML says, or
 // several values, an array or a watch.
-ghost use Rattle.std.specs.Prelude.{◌≡◌, ◌×◌, [], true, IfOk, IfSome, string_bytes};
+ghost use Rattle.std.specs.Prelude.{◌≡◌, [], true, IfOk, IfSome, string_bytes};
 ghost use Rattle.std.specs.Bool.{OnTrue};
 ghost use Rattle.serde_json.specs.Data.{Data};
 ghost use Rattle.serde_json.specs.View.{view};
