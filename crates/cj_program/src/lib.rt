@@ -7,6 +7,7 @@
 #![tactic(auto)]
 
 mod as_json;
+mod forms;
 mod remarks;
 mod replay;
 mod run;
@@ -23,7 +24,7 @@ pub use cj_args::{
     CheckRequest, ControlRequest, CrontabRequest, ReportRequest, Request, UpcomingRequest,
     WordFault, parse_words, word_tips,
 };
-pub use cj_check::{FileAnswer, check_file_answer, crontab_zones};
+pub use cj_check::{FileAnswer, check_file_answer, crontab_zones, fault_places};
 pub use cj_inspect::{CronFile, MOST_LIST_BYTES, MOST_LIST_READS};
 pub use cj_io::{
     ExitStatus, Failure, FileBytes, MOST_BYTES, MOST_READS, ZoneFile, is_file_name, read_input,

@@ -20,9 +20,10 @@ fn is_before(word: &str) -> bool {
 fn takes_moment(command: &str, option: &str) -> bool {
     match command {
         "check" | "why" | "crontab" => option == "--now",
-        "upcoming" => option == "--from",
+        "upcoming" | "scenario" => option == "--from",
         "describe" => option == "--after",
-        "report" => option == "--now" || option == "--since",
+        "previous" => option == "--before",
+        "report" | "audit" => option == "--now" || option == "--since",
         _ => false,
     }
 }

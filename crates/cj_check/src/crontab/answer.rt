@@ -3,7 +3,7 @@ ghost use Rattle.std.specs.Prelude.{◌≡◌, ◌⊎◌, All, IfOk};
 ghost use Rattle.std.specs.List.{list_any};
 ghost use Rattle.cj_answers.specs.Outcome.{explained, outcome_of, refusal};
 ghost use Rattle.cj_check.specs.Crontab.{IsEntry, is_refused};
-ghost use Rattle.cj_check.specs.CrontabOutcome.{IsCrontabOutcome, IsCrontabRead, ending_by, is_yaml};
+ghost use Rattle.cj_check.specs.CrontabOutcome.{IsCrontabOutcome, IsCrontabRead, ending_by};
 
 use crate::crontab::as_json::crontab_json;
 use crate::crontab::clock::Clocks;
@@ -12,8 +12,8 @@ use crate::crontab::lines::crontab_text;
 use crate::crontab::manifest::Common;
 use crate::crontab::yaml::manifests_of;
 use cj_answers::{
-    Answer, Ending, asked_moment, given_zones, is_form, is_json, is_moment, refused_now,
-    refused_pair,
+    Answer, Ending, asked_moment, given_zones, is_form, is_json, is_moment, is_yaml, refused_form,
+    refused_now, refused_pair,
 };
 use cj_args::CrontabRequest;
 use cj_io::{Failure, MOST_BYTES, MOST_READS, ZoneFile, read_input};
@@ -92,12 +92,6 @@ fn yaml_answer(
     })
 }
 
-fn is_yaml(output: &str) -> bool
-    ensures { result ≡ is_yaml output.now }
-{
-    output == "yaml"
-}
-
 const ZONE_WORDS: &str =
     "--time-zone: want the name of a zone whose file is in the folder of --zoneinfo, or whose rule --zone gives\n";
 
@@ -149,8 +143,6 @@ fn input_answer<R: Read>(
     bytes_answer(alloc, request, &zones, bytes.as_slice())
 }
 
-const FORM_WORDS: &str = "--output: want lines, json or yaml\n";
-
 const IMAGE_WORDS: &str =
     "--image: -o yaml wants the image that has the commands, such as --image debian:12\n";
 
@@ -180,8 +172,8 @@ pub fn crontab_answer<R: Read>(
 ) -> Result<Answer, Failure>
     ensures { IfOk result (λ a. IsCrontabOutcome request.now (outcome_of a)) }
 {
-    if !is_form(request.output) && !is_yaml(request.output) {
-        return refused(alloc, request, "cronsim: output\n", FORM_WORDS);
+    if !is_form(request.output) {
+        return refused_form(alloc, request.explain);
     }
     if lacks_image(request) {
         return refused(alloc, request, "cronsim: image\n", IMAGE_WORDS);

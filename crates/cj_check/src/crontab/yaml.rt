@@ -7,8 +7,8 @@ use crate::crontab::lines::fault_words;
 use crate::crontab::manifest::{Common, cron_value};
 use crate::crontab::names::Names;
 use crate::crontab::notes::notes_of;
+use cj_answers::yaml_text;
 use cj_io::{Failure, MOST_BYTES};
-use cj_yaml::write;
 use serde_json::Value;
 use std::alloc::{AllocError, Global};
 
@@ -27,11 +27,6 @@ struct Writing<'a> {
     manifests: Manifests,
     environment: Environment<'a>,
     names: Names,
-}
-
-// A value in YAML.
-fn yaml_of(alloc: Global, value: &Value) -> Result<String, Failure> {
-    Ok(write(alloc, value)?)
 }
 
 // A line of YAML for people. What isn't plain is shown as ?, so that no reader ends it early.
@@ -77,7 +72,7 @@ impl<'a> Writing<'a> {
         let name = self.names.name_for(alloc, job.command.text.as_str())?;
         let environment = &self.environment;
         let value = cron_value(alloc, name.as_str(), common, environment, job, entry.zone)?;
-        let yaml = yaml_of(alloc, &value)?;
+        let yaml = yaml_text(alloc, &value)?;
         let text = &mut self.manifests.text;
         if !text.is_empty() {
             text.push_str("---\n")?;

@@ -3,5 +3,4 @@ use Rattle.cj_args.proofs.command.reported_command.Goals as goal
 
 pub returns : goal.returns
 returns c =
-    c.with_command.ensures _ _ (c.with_command-command.ensures _ _ c.asked_command.ensures c.report_command.ensures)
-    c.crontab_command.ensures
+    c.with_command.ensures _ _ c.made_command.ensures c.crontab_command.ensures
