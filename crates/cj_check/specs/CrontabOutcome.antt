@@ -1,10 +1,11 @@
 -- What `crontab` answers.
-use Rattle.std.specs.Prelude.{◌≡◌, ◌⊎◌, ℕ, bytes_eq, List, Bool, true, false, codes, All}
+use Rattle.std.specs.Prelude.{◌≡◌, ◌⊎◌, ℕ, List, Bool, true, false, codes, All}
 use Rattle.std.specs.List.{list_any}
 use Rattle.cj_args.specs.declared.crontab.CrontabRequest.{CrontabRequest}
 use Rattle.cj_answers.specs.Given.{pair_words}
 use Rattle.cj_answers.specs.Moments.{moment_words}
 use Rattle.cj_answers.specs.Outcome.{Outcome, explained, refusal}
+use Rattle.cj_answers.specs.as_json.Forms.{form_words}
 use Rattle.cj_answers.specs.declared.answer.Ending.{Ending}
 use Rattle.cj_answers.specs.declared.answer.Ending.TheVariants.{Done, Refused}
 use Rattle.cj_check.specs.Crontab.{IsEntry, is_refused}
@@ -15,13 +16,6 @@ use Rattle.cj_check.specs.declared.crontab.entries.Entry.{Entry}
 abbrev pub ending_by : Bool → Ending
 ending_by true = Refused
 ending_by false = Done
-
-abbrev pub is_yaml : List ℕ → Bool
-is_yaml output = bytes_eq output (codes "yaml")
-
--- rule: crontab-status
-abbrev pub crontab_form_words : List ℕ
-crontab_form_words = codes "--output: want lines, json or yaml\n"
 
 abbrev pub image_words : List ℕ
 image_words = codes "--image: -o yaml wants the image that has the commands, such as --image debian:12\n"
@@ -46,7 +40,7 @@ pub record IsCrontabRead (o : Outcome) : Type 0 where
 -- rule: crontab-status
 abbrev pub IsCrontabRefused : CrontabRequest → Outcome → Type 0
 IsCrontabRefused r o =
-    (o ≡ explained r.explain crontab_form_words (refusal (codes "cronsim: output\n")))
+    (o ≡ explained r.explain form_words (refusal (codes "cronsim: output\n")))
     ⊎ (o ≡ explained r.explain image_words (refusal (codes "cronsim: image\n")))
     ⊎ (o ≡ explained r.explain crontab_namespace_words (refusal (codes "cronsim: namespace\n")))
     ⊎ (o ≡ explained r.explain moment_words (refusal (codes "cronsim: time\n")))

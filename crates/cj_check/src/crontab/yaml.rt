@@ -9,7 +9,6 @@ use crate::crontab::names::Names;
 use crate::crontab::notes::notes_of;
 use cj_answers::yaml_text;
 use cj_io::{Failure, MOST_BYTES};
-use serde_json::Value;
 use std::alloc::{AllocError, Global};
 
 /// The manifests, and what is said of lines that have none.
