@@ -7,7 +7,7 @@ use thiserror::Error;
 pub(crate) enum LineFault {
     #[error("no UTF-8, so no manifest can have it: convert it, as iconv -t UTF-8 does")]
     NotUtf8,
-    #[error("a carriage return, which cron takes for a part of the command: remove it, as sed 's/\\r//' does")]
+    #[error("a carriage return, to cron a part of the command: remove it, as sed 's/\\r//' does")]
     CarriageReturn,
     #[error("a control character: remove it")]
     Control,
