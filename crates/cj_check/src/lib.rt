@@ -19,6 +19,7 @@ mod report;
 mod seen;
 mod several;
 mod strays;
+mod told_faults;
 
 pub use check::{check_answer, check_file_answer};
 pub use plan::{asked_detection, plan_answer, refused_scene};
