@@ -69,16 +69,20 @@ fn arguments(rt: &HostRuntime) -> Option<Vec<String>> {
 }
 
 // The exit status of the calls of a hub.
-fn hub_code(rt: &HostRuntime, words: &[String]) -> ExitCode {
-    match hub_status(rt, rt, words) {
+fn hub_code<R: Wait>(wait: &R, rt: &HostRuntime, words: &[String]) -> ExitCode {
+    match hub_status(wait, rt, words) {
         Ok(status) => ExitCode::from(status),
         Err(_) => ExitCode::from(NOTHING),
     }
 }
 
 // The exit status of the rows in the files.
-fn rows_code(rt: &HostRuntime, words: &[String]) -> ExitCode {
-    match check_all(rt, rt, words) {
+fn rows_code<T: Threads + Wait + Sync>(
+    threads: &T,
+    rt: &HostRuntime,
+    words: &[String],
+) -> ExitCode {
+    match check_all(threads, rt, words) {
         Ok(true) => ExitCode::SUCCESS,
         Ok(false) => ExitCode::from(1),
         Err(_) => ExitCode::from(3),
@@ -91,7 +95,7 @@ fn main(rt: HostRuntime) -> ExitCode {
     };
     let words = words.as_slice();
     match words.get(1) {
-        Some(word) if word.as_str() == "hub" => hub_code(&rt, words),
-        _ => rows_code(&rt, words),
+        Some(word) if word.as_str() == "hub" => hub_code(&rt, &rt, words),
+        _ => rows_code(&rt, &rt, words),
     }
 }
