@@ -41,7 +41,7 @@ fn job_in<'e, 'a>(entry: &'e Entry<'a>) -> Option<&'e Job<'a>> {
 fn is_known_user(word: &str) -> bool {
     matches!(
         word,
-        "root" | "daemon" | "nobody" | "www-data" | "mail" | "postgres" | "mysql" | "backup"
+        "root" | "daemon" | "nobody" | "www-data" | "postgres" | "mysql"
     )
 }
 
