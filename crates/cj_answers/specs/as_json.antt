@@ -1,3 +1,4 @@
 pub mod Describe
 pub mod Forms
 pub mod Next
+pub mod Previous

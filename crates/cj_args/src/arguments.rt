@@ -1,6 +1,6 @@
 // The arguments of the commands.
 ghost use Rattle.cj_args.specs.Building.{IsArg, option_rule, positional_rule, required_rule};
-ghost use Rattle.cj_args.specs.Command.{all_rule, count_rule, crons_rule, explain_rule, files_rule, flag_rule, length_rule, lines_rule, namespace_rule, output_rule, peaks_rule, selector_rule, syncs_rule, usual_rule, workers_rule, zones_rule};
+ghost use Rattle.cj_args.specs.Command.{all_rule, count_rule, crons_rule, explain_rule, files_rule, flag_rule, in_file_rule, length_rule, lines_rule, namespace_rule, output_rule, peaks_rule, selector_rule, syncs_rule, usual_rule, workers_rule, zones_rule};
 
 use crate::help;
 use clap::builder::ValueParser;
@@ -128,11 +128,11 @@ pub(crate) fn crons_arg<'a>(alloc: Global) -> Arg<'a>
     option_arg(alloc, "cron", "[NAMESPACE/]NAME", help::CRON).action(ArgAction::Append)
 }
 
-/// The namespace of those that are asked about.
-pub(crate) fn namespace_arg<'a>(alloc: Global) -> Arg<'a>
+/// A namespace.
+pub(crate) fn namespace_arg<'a>(alloc: Global, help: &'a str) -> Arg<'a>
     ensures { IsArg namespace_rule result }
 {
-    option_arg(alloc, "namespace", "NAMESPACE", help::NAMESPACE).short('n')
+    option_arg(alloc, "namespace", "NAMESPACE", help).short('n')
 }
 
 /// That all namespaces are meant, as they are without it: for those who know it from `kubectl`.
@@ -140,6 +140,13 @@ pub(crate) fn all_arg<'a>(alloc: Global) -> Arg<'a>
     ensures { IsArg all_rule result }
 {
     flag_arg(alloc, "all-namespaces", help::ALL).short('A')
+}
+
+/// That the schedules are those of a file's CronJobs, by the letter that `kubectl` has for files.
+pub(crate) fn in_file_arg<'a>(alloc: Global) -> Arg<'a>
+    ensures { IsArg in_file_rule result }
+{
+    flag_arg(alloc, "file", help::IN_FILE).short('f')
 }
 
 /// How the answer is printed, and how it is where nobody says so.
@@ -151,7 +158,7 @@ pub(crate) fn output_arg<'a>(alloc: Global, usual: &'a str, forms: &'a str) -> A
         .default_value(usual)
 }
 
-/// The option for the form of an answer that has lines and JSON.
+/// The option for the form of an answer that has lines, JSON and YAML.
 pub(crate) fn lines_arg<'a>(alloc: Global) -> Arg<'a>
     ensures { IsArg lines_rule result }
 {

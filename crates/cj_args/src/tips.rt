@@ -6,16 +6,20 @@ use std::alloc::{AllocError, Global};
 fn option_tip(word: &str) -> &'static str {
     match word {
         "--json" | "-json" | "-j" => "-o json prints JSON",
-        "--yaml" => "-o json prints JSON; YAML isn't printed",
+        "--yaml" | "-yaml" | "-y" => "-o yaml prints YAML",
         "--tz" | "--timezone" | "-tz" | "--local" | "--utc" => {
             "next and describe take --zone Europe/Berlin; CronJobs name their zones themselves"
         }
         "--until" | "--to" | "--end" | "--hours" | "--days" => {
             "--for says how long the window is: --for 24h, --for 7d"
         }
-        "--since" | "--start" => "upcoming takes --from, next and describe take --after",
+        "--since" | "--start" =>
+            "upcoming takes --from, next and describe take --after, previous takes --before",
         "--limit" | "--number" | "--num" | "--times" | "-c" => "--count says how many: --count 5",
         "-f" | "--file" | "--filename" => "the file stands alone: cronsim check FILE",
+        "-R" | "-r" | "--recursive" => {
+            "a folder isn't looked through: name its files, as in cronsim check deploy/*.yaml"
+        }
         "-w" | "--watch" => "it answers once, and ends",
         "-v" | "--verbose" | "-q" | "--quiet" => "--explain says more; nothing says less",
         "--format" => "-o says the format: -o json",
@@ -26,6 +30,7 @@ fn option_tip(word: &str) -> &'static str {
 // What is meant by the name of a command that doesn't exist.
 fn command_tip(word: &str) -> &'static str {
     match word {
+        "cron" | "convert" | "import" => "cronsim crontab FILE reads a crontab",
         "version" => "cronsim --version prints the version",
         "validate" | "lint" | "verify" => "cronsim check FILE checks manifests",
         "explain" => {
@@ -35,7 +40,7 @@ fn command_tip(word: &str) -> &'static str {
             "cronsim upcoming FILE prints what starts, cronsim next SCHEDULE --after TIME when"
         }
         "simulate" | "sim" => "cronsim run FILE --workers 2 runs a scenario",
-        "prev" | "last" => "cronsim next SCHEDULE --after TIME prints later times only",
+        "prev" | "last" => "cronsim previous SCHEDULE --before TIME prints earlier times",
         _ => "",
     }
 }
@@ -43,21 +48,36 @@ fn command_tip(word: &str) -> &'static str {
 // The commands that read a file.
 fn reads_file(command: &str) -> bool {
     match command {
-        "check" | "plan" | "replay" | "run" | "why" | "audit" | "upcoming" | "report" => true,
+        "check"
+        | "plan"
+        | "replay"
+        | "run"
+        | "why"
+        | "audit"
+        | "upcoming"
+        | "report"
+        | "scenario"
+        | "crontab" => true,
         _ => false,
     }
 }
 
+// The commands on one schedule.
+fn takes_schedule(command: &str) -> bool {
+    command == "next" || command == "describe" || command == "previous"
+}
+
 // The commands that there are.
 const COMMANDS: &[&str] = &[
-    "next", "check", "plan", "replay", "run", "why", "audit", "upcoming", "describe", "report",
-    "control",
+    "next", "check", "plan", "replay", "run", "why", "audit", "upcoming", "describe", "previous",
+    "report", "scenario", "crontab", "control",
 ];
 
 // Whether a word may be the value of the option before it.
 fn takes_value(word: &str) -> bool {
     match word {
         "--explain" | "--strict" | "--svg" | "--timeline" | "--history" | "--problems" => false,
+        "--minutes" | "--file" | "--system" => false,
         _ => word.starts_with("--") && !word.contains('=') || word == "-o" || word == "-n",
     }
 }
@@ -79,7 +99,7 @@ fn count_alone(words: &[&str]) -> usize {
 fn count_tip(command: &str, alone: usize) -> &'static str {
     if reads_file(command) && alone == 0 {
         "FILE is wanted; - reads what is piped in: kubectl get cronjobs,jobs -A -o json | cronsim why -"
-    } else if (command == "next" || command == "describe") && alone > 1 {
+    } else if takes_schedule(command) && alone > 1 {
         "a schedule stands in quotes, as one word: cronsim describe '*/5 * * * *'"
     } else {
         ""

@@ -9,3 +9,5 @@ pub mod Reports
 pub mod Seen
 pub mod Several
 pub mod Strays
+pub mod Crontab
+pub mod CrontabOutcome

@@ -1,5 +1,5 @@
 -- What `upcoming` answers of CronJobs.
-use Rattle.std.specs.Prelude.{◌≡◌, ◌⊎◌, ℕ, ◌+◌, ◌≤◌, List, [], ◌∷◌, ◌++◌, ◌&&◌, ◌||◌, not, bytes_eq, length, nat_lt, Option, None, Some, IfSome, option_map, Bool, true, false, codes}
+use Rattle.std.specs.Prelude.{◌≡◌, ◌⊎◌, ℕ, ◌+◌, ◌≤◌, List, [], ◌∷◌, ◌++◌, ◌&&◌, ◌||◌, not, bytes_eq, length, map, nat_lt, Option, None, Some, IfSome, option_map, Bool, true, false, codes, decimal, ◌==◌, if◌then◌else◌}
 use Rattle.std.specs.Borrow.{Bor}
 use Rattle.std.specs.List.{list_all, list_any}
 use Rattle.cj_base.specs.Instant.{last_second}
@@ -24,7 +24,8 @@ use Rattle.cj_answers.specs.Marks.{marked}
 use Rattle.cj_answers.specs.Moments.{asked_moment}
 use Rattle.cj_answers.specs.Outcome.{IsInForm, Outcome, RefusesForm, explained, outcome_of, refusal}
 use Rattle.cj_inspect.specs.Why.{IsNoticed, chosen, is_noted, is_noted_in, is_nothing, line_where}
-use Rattle.cj_inspect.specs.Windows.{IsCounted}
+use Rattle.cj_inspect.specs.Nights.{TellsNights}
+use Rattle.cj_inspect.specs.Windows.{IsCounted, IsSummed, window_look}
 use Rattle.cj_answers.specs.as_json.Forms.{is_json}
 use Rattle.cj_inspect.specs.as_json.Upcoming.{IsWindowJson, files_data}
 
@@ -119,10 +120,29 @@ pub record RefusesMany (r : UpcomingRequest) (zones : List Zone) (w : Span) (fs 
   pub more : HasMore zones w (meant_of r fs) most_starts
   pub answer : o ≡ explained r.explain many_words (refusal (codes "cronsim: starts\n"))
 
+-- `FILE: objects of other kinds, passed over: N`, of several files with the name of the file
+abbrev pub passed_mark : Bool → List ℕ → List ℕ
+passed_mark true name = name
+passed_mark false name = codes "FILE"
+
+-- rule: upcoming-manifests
+abbrev pub passed_line : Bool → FileCrons → List ℕ
+passed_line several f =
+    if f.passed == 0 then [] else passed_mark several f.name
+    ++ (codes ": objects of other kinds, passed over: " ++ (decimal f.passed ++ codes "\n"))
+
+abbrev pub passed_lines : Bool → List FileCrons → List ℕ
+passed_lines several [] = []
+passed_lines several (f ∷ fs) = passed_line several f ++ passed_lines several fs
+
 -- done where no item was refused
--- rule: upcoming-status
+-- rules: upcoming-manifests, upcoming-status
 abbrev pub told : List FileCrons → List ℕ → Outcome
-told fs text = record { ending = ending_by (are_read fs); printed = text; said = [] }
+told fs text = record {
+  ending = ending_by (are_read fs);
+  printed = text;
+  said = passed_lines (is_several fs) fs;
+}
 
 -- the items that can't be used, then the lines of the window
 pub record IsWindowLines (zones : List Zone) (w : Span) (fs : List FileCrons)
@@ -131,27 +151,47 @@ pub record IsWindowLines (zones : List Zone) (w : Span) (fs : List FileCrons)
   pub window : IsCounted zones w crons most lines
   pub are : text ≡ all_lines (is_several fs) fs ++ lines
 
+-- those items, then a line for each CronJob, and what else is told of the window
+-- rule: upcoming-summary
+pub record IsWindowSum (zones : List Zone) (w : Span) (fs : List FileCrons)
+    (crons : List ClusterCron) (text : List ℕ) : Type 0 where
+  pub lines : List ℕ
+  pub window : IsSummed zones w crons lines
+  pub are : text ≡ all_lines (is_several fs) fs ++ lines
+
+-- the minutes where they are asked for
+-- rules: upcoming-lines, upcoming-summary
+abbrev pub IsWindowTold : Bool → List Zone → Span → List FileCrons → List ClusterCron → ℕ
+    → List ℕ → Type 0
+IsWindowTold true zones w fs crons most text = IsWindowLines zones w fs crons most text
+IsWindowTold false zones w fs crons most text = IsWindowSum zones w fs crons text
+
 -- in JSON, or in lines
 -- rules: upcoming-json, upcoming-lines
-abbrev pub IsWindowPrinted : Bool → List Zone → Span → List FileCrons → List ClusterCron → ℕ
+abbrev pub IsWindowPrinted : Bool → Bool → List Zone → Span → List FileCrons → List ClusterCron → ℕ
     → List ℕ → Type 0
-IsWindowPrinted true zones w fs crons most text =
+IsWindowPrinted true minutes zones w fs crons most text =
     IsWindowJson zones w crons most (files_data (is_several fs) fs) text
-IsWindowPrinted false zones w fs crons most text = IsWindowLines zones w fs crons most text
+IsWindowPrinted false minutes zones w fs crons most text =
+    IsWindowTold minutes zones w fs crons most text
 
 -- a picture, of which nothing is said; or else that
 -- rule: upcoming-svg
-abbrev pub IsWindowShown : Bool → Bool → List Zone → Span → List FileCrons → List ClusterCron → ℕ
-    → List ℕ → Type 0
-IsWindowShown true json zones w fs crons most text = Unit {0}
-IsWindowShown false json zones w fs crons most text =
-    IsWindowPrinted json zones w fs crons most text
+abbrev pub IsWindowShown : Bool → Bool → Bool → List Zone → Span → List FileCrons
+    → List ClusterCron → ℕ → List ℕ → Type 0
+IsWindowShown true json minutes zones w fs crons most text = Unit {0}
+IsWindowShown false json minutes zones w fs crons most text =
+    IsWindowPrinted json minutes zones w fs crons most text
 
+-- with what clocks do in the window
+-- rule: clock-nights
 pub record TellsWindow (r : UpcomingRequest) (zones : List Zone) (w : Span) (fs : List FileCrons)
     (o : Outcome) : Type 0 where
   pub text : List ℕ
-  pub window : IsWindowShown r.svg (is_json r.output.now) zones w fs (meant_of r fs) r.peaks text
-  pub answer : o ≡ explained r.explain (all_words (is_several fs) fs) (told fs text)
+  pub window : IsWindowShown r.svg (is_json r.output.now) r.minutes zones w fs (meant_of r fs)
+      r.peaks text
+  pub nights : TellsNights r.explain zones (window_look w) (map (λ c. c.cron) (meant_of r fs))
+      (explained r.explain (all_words (is_several fs) fs) (told fs text)) o
 
 -- a CronJob of the files is in the namespace that is given, if one is, be it one that can't be used
 -- rule: why-named

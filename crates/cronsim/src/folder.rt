@@ -1,5 +1,6 @@
 use cj_program::{
-    Failure, FileBytes, MOST_READS, Text, ZoneFile, is_file_name, read_input, zones_named,
+    Failure, FileBytes, MOST_READS, Request, Text, ZoneFile, crontab_zones, is_file_name,
+    read_input, zones_named,
 };
 use memchr::memmem;
 use std::env;
@@ -84,6 +85,43 @@ pub fn push_input_files(
         }
     }
     Ok(())
+}
+
+// Adds the file of a zone, unless it has one already or a rule.
+fn push_fresh(
+    rt: &HostRuntime,
+    files: &mut Vec<ZoneFile>,
+    folder: &str,
+    rules: &[&str],
+    name: &str,
+) -> Result<(), Failure> {
+    let is_there = files.iter().any(|file| file.name.as_str() == name);
+    let has_rule = rules.iter().any(|word| word.split_once('=').is_some_and(|(of, _)| of == name));
+    if is_there || has_rule {
+        return Ok(());
+    }
+    push_file(rt, files, folder, name)
+}
+
+/// The files of the zones that a crontab and its request name.
+pub fn crontab_files(
+    rt: &HostRuntime,
+    request: &Request<'_>,
+    folder: &str,
+    input: &[u8],
+) -> Result<Vec<ZoneFile>, Failure> {
+    let mut files = Vec::new(rt.alloc());
+    let Request::Crontab(crontab) = request else {
+        return Ok(files);
+    };
+    let rules = crontab.zones.rules.as_slice();
+    let name = crontab.time_zone.unwrap_or("");
+    push_fresh(rt, &mut files, folder, rules, name)?;
+    let names = crontab_zones(rt.alloc(), input)?;
+    for name in names.as_slice() {
+        push_fresh(rt, &mut files, folder, rules, name.as_str())?;
+    }
+    Ok(files)
 }
 
 /// The files of the zones that the input names.

@@ -7,7 +7,10 @@ ghost use Rattle.cj_upcoming.specs.Upcoming.{HasMore};
 ghost use Rattle.cj_upcoming.specs.declared.fault.StartsFault.TheVariants.{TooMany};
 ghost use Rattle.cj_inspect.specs.as_json.Upcoming.{AreParts, IsIdleData, IsWindowJson, TellsStarts, file_data, file_object, files_data, name_data, told_in, upcoming_data, upcoming_object};
 
+use crate::as_json::nights::nights_value;
+use crate::as_json::summary::summary_value;
 use crate::cron_files::FileCrons;
+use crate::windows::window_look;
 use cj_answers::value_line;
 use cj_audit::{others_value, refused_value};
 use cj_base::{all_four, both};
@@ -85,9 +88,11 @@ pub(crate) fn files_value(
 #[derive(Drop)]
 pub(crate) struct Parts {
     changes: Value,
+    clocks: Value,
     idle: Value,
     all_minutes: Value,
     peaks: Value,
+    summary: Value,
 }
 
 fn idle_value(
@@ -115,6 +120,8 @@ fn parts_of(
         starts.now (told_in p)) }
     ensures err { IfErr result (λ e. e ≡ OutOfMemory) }
 {
+    let clocks = nights_value(alloc, zones, window_look(window), crons)?;
+    let summary = summary_value(alloc, zones, window, crons)?;
     let (changes, idle, all_minutes, peaks) = all_four(
         zone_changes_value(alloc, zones, window, crons),
         idle_value(alloc, zones, window.from(), crons),
@@ -123,9 +130,11 @@ fn parts_of(
     )?;
     Ok(Parts {
         changes,
+        clocks,
         idle,
         all_minutes,
         peaks,
+        summary,
     })
 }
 
@@ -143,12 +152,15 @@ fn upcoming_object(
     let (crons, starts) = counts;
     let Parts {
         changes,
+        clocks,
         idle,
         all_minutes,
         peaks,
+        summary,
     } = parts;
     json!(in alloc; {
         "changes": changes,
+        "clockChanges": clocks,
         "cronJobs": crons,
         "files": files,
         "from": from,
@@ -156,6 +168,7 @@ fn upcoming_object(
         "minutes": all_minutes,
         "peaks": peaks,
         "starts": starts,
+        "summary": summary,
         "to": to
     })
 }

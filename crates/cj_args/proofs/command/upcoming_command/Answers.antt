@@ -1,4 +1,4 @@
--- upcoming_command: its ensures, from the files, its own eight arguments and the options behind them.
+-- upcoming_command: its ensures, from the files, its own nine arguments and the options behind them.
 use Rattle.cj_args.proofs.command.upcoming_command.Goals as goal
 
 pub returns : goal.returns
@@ -9,6 +9,7 @@ returns c =
     let four = c.with_arg-command-4.ensures _ _ three c.crons_arg.ensures in
     let five = c.with_arg-command-5.ensures _ _ four c.namespace_arg.ensures in
     let six = c.with_arg-command-6.ensures _ _ five c.all_arg.ensures in
-    let seven = c.with_arg-command-7.ensures _ _ six c.peaks_arg.ensures in
-    let eight = c.with_arg-command-8.ensures _ _ seven c.lines_arg.ensures in
-    c.with_zones.ensures _ (c.with_arg-command-9.ensures _ _ eight c.flag_arg.ensures)
+    let seven = c.with_arg-command-7.ensures _ _ six c.flag_arg.ensures in
+    let eight = c.with_arg-command-8.ensures _ _ seven c.peaks_arg.ensures in
+    let nine = c.with_arg-command-9.ensures _ _ eight c.lines_arg.ensures in
+    c.with_zones.ensures _ (c.with_arg-command-10.ensures _ _ nine c.flag_arg-2.ensures)

@@ -4,6 +4,6 @@ use Rattle.cj_program.proofs.several.serve_upcoming.Goals as goal
 
 pub returns : goal.returns
 returns g c = record {
-  given = λ lt. given_one c.upcoming_files_answer.result _ _ _ _ _ _ c.upcoming_files_answer.ensures
+  given = λ lt. given_one c.formed.result _ _ _ _ _ _ (c.formed.ensures _ c.upcoming_files_answer.ensures)
       (c.give_answer.ensures.given lt);
 }
