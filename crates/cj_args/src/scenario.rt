@@ -5,8 +5,8 @@ ghost use Rattle.cj_args.specs.Building.{IsCommand};
 ghost use Rattle.cj_args.specs.Command.{IsScenario, Reads, scenario_app};
 
 use crate::arguments::{crons_arg, length_arg, namespace_arg, option_arg};
-use crate::help::NAMESPACE;
 use crate::command::{file_command, with_arg, with_zones};
+use crate::help::NAMESPACE;
 use crate::request::ZoneWords;
 use crate::word_fault::WordFault;
 use crate::words::{is_given, optional_text, text, texts, zone_words};

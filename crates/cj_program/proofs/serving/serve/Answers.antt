@@ -144,6 +144,7 @@ returns-in-Crontab-clause-failed g c = λ e. failed_at c.args.request.now c.args
     (g.R.Read.remaining c.args.input.now) _ _ _ _ _
     c.in-Crontab.is (cut _ _ _ _ _ _ _ c.crontab_answer.result c.crontab_answer.ensures
     (c.give_answer-in-Crontab.ensures.failed e))
+
 pub returns-in-Scenario-clause-served : goal.returns-in-Scenario-clause-served
 returns-in-Scenario-clause-served g c = λ lt. served_at c.args.request.now c.args.files.now
     (g.R.Read.remaining c.args.input.now) _ _ _ _ _
