@@ -46,7 +46,8 @@ crontab_alone name rows is none (Scenario r) of = search rules
 crontab_alone name rows is none (Control r) of = search rules
 
 -- what is read of the rows behind `upcoming` is what that command's request is read of
-pub upcoming_read : (name : Text) (rows : List Row) (from : Result UpcomingRequest WordFault) (result : Result Request WordFault)
+pub upcoming_read : (name : Text) (rows : List Row) (from : Result UpcomingRequest WordFault)
+    (result : Result Request WordFault)
     {P : UpcomingRequest → Request → Type 0} → name ≡ codes "upcoming" → Reads (IsUpcoming rows) from
     → ((x : UpcomingRequest) (y : Request) → P x y → y ≡ Upcoming x)
     → MatchResult from (λ x. IsOkAnd result (P x)) (λ e. result ≡ Err e) → Reads (IsOfRows (Some (name, rows))) result
@@ -57,7 +58,8 @@ upcoming_read name rows (Err e) (Err f) is reads made of =
     let alone = upcoming_alone name rows is in search rules
 
 -- what is read of the rows behind `crontab` is what that command's request is read of
-pub crontab_read : (name : Text) (rows : List Row) (from : Result CrontabRequest WordFault) (result : Result Request WordFault)
+pub crontab_read : (name : Text) (rows : List Row) (from : Result CrontabRequest WordFault)
+    (result : Result Request WordFault)
     {P : CrontabRequest → Request → Type 0} → name ≡ codes "crontab" → Reads (IsCrontab rows) from
     → ((x : CrontabRequest) (y : Request) → P x y → y ≡ Crontab x)
     → MatchResult from (λ x. IsOkAnd result (P x)) (λ e. result ≡ Err e) → Reads (IsOfRows (Some (name, rows))) result

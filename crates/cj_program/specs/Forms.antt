@@ -1,11 +1,13 @@
 -- The form of what is printed.
-use Rattle.std.specs.Prelude.{◌≡◌, ℕ, Bool, false, true, List, [], ◌∷◌, Some}
-use Rattle.serde_json.specs.Data.{Data}
+use Rattle.std.specs.Prelude.{◌≡◌, ◌⊎◌, ℕ, Bool, false, true, ◌&&◌, List, [], ◌∷◌, ◌++◌, Some, codes}
+use Rattle.serde_json.specs.Data.{Data, string, object, member, no_members}
 use Rattle.serde_json.specs.Read.{read}
 use Rattle.cj_yaml.specs.BlockStyle.{IsBlock}
 use Rattle.cj_yaml.specs.ReadOf.{IsReadOf}
 use Rattle.cj_answers.specs.Outcome.{Outcome}
-use Rattle.cj_answers.specs.as_json.Forms.{is_yaml}
+use Rattle.cj_answers.specs.as_json.Forms.{IsJsonLine, is_json, is_yaml}
+use Rattle.cj_answers.specs.declared.answer.Ending.{Ending}
+use Rattle.cj_answers.specs.declared.answer.Ending.TheVariants.{Done, Refused}
 
 -- where a text is JSON, its value is printed in YAML, in block style, and that is read as the value
 -- again; of other texts nothing is said: a picture stays, and of several values on lines each
@@ -19,15 +21,48 @@ abbrev pub IsPrintedAs : Bool → List ℕ → List ℕ → Type 0
 IsPrintedAs false json text = text ≡ json
 IsPrintedAs true json text = IsYaml json text
 
+abbrev pub is_refused : Ending → Bool
+is_refused Refused = true
+is_refused Done = false
+
+abbrev pub is_nothing : List ℕ → Bool
+is_nothing [] = true
+is_nothing (c ∷ text) = false
+
+-- one value is wanted, and a refusal prints none
+-- rule: output-refused
+abbrev pub tells_refusal : List ℕ → Ending → List ℕ → Bool
+tells_refusal output ending printed = is_json output && (is_refused ending && is_nothing printed)
+
+-- rule: output-refused
+abbrev pub refusal_data : List ℕ → Data
+refusal_data line = object (member (codes "refused") (string line) no_members)
+
+-- what is said, without the end of its last line, as a value on a line
+-- rule: output-refused
+pub record IsRefusalText (said text : List ℕ) : Type 0 where
+  pub line : List ℕ
+  pub is : (said ≡ line ++ codes "\n") ⊎ (said ≡ line)
+  pub printed : IsJsonLine (refusal_data line) text
+
+-- what is printed before it gets its form
+-- rule: output-refused
+abbrev pub IsValued : Bool → List ℕ → List ℕ → List ℕ → Type 0
+IsValued true printed said text = IsRefusalText said text
+IsValued false printed said text = text ≡ printed
+
 -- the outcome o is shown as o'
-pub record IsInForm (yaml : Bool) (o o' : Outcome) : Type 0 where
+-- rule: output-refused
+pub record IsInForm (output : List ℕ) (o o' : Outcome) : Type 0 where
   pub ending : o'.ending ≡ o.ending
-  pub printed : IsPrintedAs yaml o.printed o'.printed
+  pub value : List ℕ
+  pub valued : IsValued (tells_refusal output o.ending o.printed) o.printed o.said value
+  pub printed : IsPrintedAs (is_yaml output) value o'.printed
   pub said : o'.said ≡ o.said
 
 -- an outcome in the form that the words ask for
--- rule: output-yaml
+-- rules: output-refused, output-yaml
 pub record InForm (output : List ℕ) (Is : Outcome → Type 0) (o : Outcome) : Type 0 where
   pub made : Outcome
   pub is : Is made
-  pub shown : IsInForm (is_yaml output) made o
+  pub shown : IsInForm output made o
