@@ -134,6 +134,25 @@ fn put_text(
     put(alloc, members, name, Value::try_from_str(alloc, text)?)
 }
 
+// An object with this kind and version.
+fn with_type(
+    alloc: Global,
+    item: Value,
+    kind: &str,
+    version: Option<&str>,
+) -> Result<Value, Failure> {
+    match item {
+        Value::Object(mut members) => {
+            put_text(alloc, &mut members, "kind", kind)?;
+            if let Some(version) = version {
+                put_text(alloc, &mut members, "apiVersion", version)?;
+            }
+            Ok(Value::Object(members))
+        }
+        item => Ok(item),
+    }
+}
+
 // An item with what its list says of its kind and version, where it says no kind itself.
 fn typed(
     alloc: Global,
@@ -141,16 +160,9 @@ fn typed(
     kind: Option<&str>,
     version: Option<&str>,
 ) -> Result<Value, Failure> {
-    let is_said = present(&item, "kind").is_some();
-    match (item, kind) {
-        (Value::Object(mut members), Some(kind)) if !is_said => {
-            put_text(alloc, &mut members, "kind", kind)?;
-            if let Some(version) = version {
-                put_text(alloc, &mut members, "apiVersion", version)?;
-            }
-            Ok(Value::Object(members))
-        }
-        (item, _) => Ok(item),
+    match kind {
+        Some(kind) if present(&item, "kind").is_none() => with_type(alloc, item, kind, version),
+        _ => Ok(item),
     }
 }
 
