@@ -144,19 +144,23 @@ plan_app = with_zones (with_rule (with_rule (with_rule (new_app (codes "plan")) 
 abbrev pub replay_app : App
 replay_app = with_zones (with_rule (new_app (codes "replay")) file_rule)
 
-abbrev pub workers_rule : Rule
-workers_rule = record (new_rule (codes "workers")) {
+-- how many workers there are, or how many syncs may be under way at once, and how many where nobody
+-- says it
+-- rules: run-workers, control-options
+abbrev pub workers_rule : Text → Rule
+workers_rule usual = record (new_rule (codes "workers")) {
   long = Some (codes "workers");
-  required = true;
   value_names = 1;
   parser = Some (Unsigned 1 32);
+  defaults = usual ∷ [];
 }
 
--- `cronsim run FILE --workers N [--timeline] [--history] [--svg] [-o FORMAT] [--zone NAME=RULE]..
+-- `cronsim run FILE [--workers N] [--timeline] [--history] [--svg] [-o FORMAT] [--zone NAME=RULE]..
 -- [--zoneinfo DIR] [--explain]`
 abbrev pub run_app : App
 run_app =
-    let of = with_rule (with_rule (new_app (codes "run")) file_rule) workers_rule in
+    let workers = workers_rule (codes "2") in
+    let of = with_rule (with_rule (new_app (codes "run")) file_rule) workers in
     let shown = with_rule (with_rule of (flag_rule (codes "timeline")))
     (flag_rule (codes "history")) in
     with_zones (with_rule (with_rule shown (flag_rule (codes "svg"))) lines_rule)
@@ -179,11 +183,22 @@ namespace_rule =
 abbrev pub all_rule : Rule
 all_rule = record (flag_rule (codes "all-namespaces")) { short = Some 65 }
 
--- `cronsim why FILE [--now TIME] [--cron [NAMESPACE/]NAME].. [-n NAMESPACE] [-A] [-o FORMAT]
+-- the file of a command on a cluster: standard input where nobody names one
+-- rule: input-default
+abbrev pub input_rule : Rule
+input_rule = record (new_rule (codes "file")) { value_names = 1; defaults = codes "-" ∷ [] }
+
+-- one such file or more
+-- rule: input-default
+abbrev pub inputs_rule : Rule
+inputs_rule =
+    record input_rule { range = Some (record { start_inclusive = 1; end_inclusive = usize_max }) }
+
+-- `cronsim why [FILE] [--now TIME] [--cron [NAMESPACE/]NAME].. [-n NAMESPACE] [-A] [-o FORMAT]
 -- [--problems] [--zone NAME=RULE].. [--zoneinfo DIR] [--explain]`
 abbrev pub why_app : App
 why_app =
-    let of = with_rule (with_rule (new_app (codes "why")) file_rule) moment_rule in
+    let of = with_rule (with_rule (new_app (codes "why")) input_rule) moment_rule in
     let named = with_rule (with_rule (with_rule of crons_rule) namespace_rule) all_rule in
     with_zones (with_rule (with_rule named (output_rule (codes "table")))
     (flag_rule (codes "problems")))
@@ -192,11 +207,11 @@ why_app =
 abbrev pub left_rule : Text → Rule
 left_rule id = record (new_rule id) { long = Some id; value_names = 1 }
 
--- `cronsim audit FILE [--since TIME] [--now TIME] [--cron [NAMESPACE/]NAME].. [-n NAMESPACE] [-A]
+-- `cronsim audit [FILE] [--since TIME] [--now TIME] [--cron [NAMESPACE/]NAME].. [-n NAMESPACE] [-A]
 -- [-o FORMAT] [--svg] [--zone NAME=RULE].. [--zoneinfo DIR] [--explain]`
 abbrev pub audit_app : App
 audit_app =
-    let file = with_rule (new_app (codes "audit")) file_rule in
+    let file = with_rule (new_app (codes "audit")) input_rule in
     let of = with_rule (with_rule file (left_rule (codes "since"))) moment_rule in
     let named = with_rule (with_rule (with_rule of crons_rule) namespace_rule) all_rule in
     with_zones (with_rule (with_rule named lines_rule) (flag_rule (codes "svg")))
@@ -222,13 +237,13 @@ peaks_rule = record (new_rule (codes "peaks")) {
   defaults = codes "0" ∷ [];
 }
 
--- `cronsim upcoming FILE.. [--from TIME] [--for LENGTH] [--cron [NAMESPACE/]NAME].. [-n NAMESPACE]
+-- `cronsim upcoming [FILE].. [--from TIME] [--for LENGTH | --until TIME] [--cron [NAMESPACE/]NAME].. [-n NAMESPACE]
 -- [-A] [--minutes] [--peaks N] [-o FORMAT] [--svg] [--zone NAME=RULE].. [--zoneinfo DIR]
 -- [--explain]`
 abbrev pub upcoming_app : App
 upcoming_app =
-    let of = with_rule (with_rule (with_rule (new_app (codes "upcoming")) files_rule) from_rule)
-    length_rule in
+    let from = with_rule (with_rule (new_app (codes "upcoming")) inputs_rule) from_rule in
+    let of = with_rule (with_rule from length_rule) (left_rule (codes "until")) in
     let named = with_rule (with_rule (with_rule of crons_rule) namespace_rule) all_rule in
     let told = with_rule (with_rule named (flag_rule (codes "minutes"))) peaks_rule in
     with_zones (with_rule (with_rule told lines_rule) (flag_rule (codes "svg")))
@@ -257,12 +272,12 @@ abbrev pub usual_rule : Text → Text → Rule
 usual_rule id usual =
     record (new_rule id) { long = Some id; value_names = 1; defaults = usual ∷ [] }
 
--- `cronsim report FILE.. [--since TIME] [--now TIME] [--cron [NAMESPACE/]NAME].. [-n NAMESPACE]
+-- `cronsim report [FILE].. [--since TIME] [--now TIME] [--cron [NAMESPACE/]NAME].. [-n NAMESPACE]
 -- [-A] [--zone NAME=RULE].. [--zoneinfo DIR] [--explain]`
 -- rule: report
 abbrev pub report_app : App
 report_app =
-    let of = with_rule (with_rule (new_app (codes "report")) files_rule) (left_rule (codes "since")) in
+    let of = with_rule (with_rule (new_app (codes "report")) inputs_rule) (left_rule (codes "since")) in
     let named = with_rule (with_rule (with_rule of moment_rule) crons_rule) namespace_rule in
     with_zones (with_rule named all_rule)
 
@@ -294,24 +309,14 @@ previous_app =
     time_zone_rule in
     with_folder (with_rule zoned lines_rule)
 
--- `cronsim scenario FILE [--from TIME] [--for LENGTH] [--cron [NAMESPACE/]NAME].. [-n NAMESPACE]
+-- `cronsim scenario [FILE] [--from TIME] [--for LENGTH | --until TIME] [--cron [NAMESPACE/]NAME].. [-n NAMESPACE]
 -- [--zone NAME=RULE].. [--zoneinfo DIR] [--explain]`
 -- rule: scenario
 abbrev pub scenario_app : App
 scenario_app =
-    let of = with_rule (with_rule (with_rule (new_app (codes "scenario")) file_rule) from_rule)
-    length_rule in
+    let from = with_rule (with_rule (new_app (codes "scenario")) input_rule) from_rule in
+    let of = with_rule (with_rule from length_rule) (left_rule (codes "until")) in
     with_zones (with_rule (with_rule of crons_rule) namespace_rule)
-
--- how many syncs may be under way at once
--- rule: control-options
-abbrev pub syncs_rule : Rule
-syncs_rule = record (new_rule (codes "workers")) {
-  long = Some (codes "workers");
-  value_names = 1;
-  parser = Some (Unsigned 1 32);
-  defaults = codes "8" ∷ [];
-}
 
 -- labels, by the letter that `kubectl` has for them
 abbrev pub selector_rule : Rule
@@ -321,7 +326,8 @@ selector_rule = record (new_rule (codes "selector"))
 -- `cronsim control [--workers N] [-n NAMESPACE] [-l SELECTOR] [--only-annotated] [--dry-run] ..`
 abbrev pub chosen_app : App
 chosen_app =
-    let of = with_rule (with_rule (new_app (codes "control")) syncs_rule) namespace_rule in
+    let workers = workers_rule (codes "8") in
+    let of = with_rule (with_rule (new_app (codes "control")) workers) namespace_rule in
     with_rule (with_rule (with_rule of selector_rule) (flag_rule (codes "only-annotated")))
     (flag_rule (codes "dry-run"))
 
@@ -484,6 +490,7 @@ pub record IsUpcoming (rows : List Row) (r : UpcomingRequest) : Type 0 where
   pub files : texts_of (codes "file") rows ≡ map (λ s. s.now) r.files.items
   pub from : first_of (codes "from") rows ≡ option_map (λ s. s.now) r.from
   pub length : first_of (codes "for") rows ≡ Some r.length.now
+  pub until : first_of (codes "until") rows ≡ option_map (λ s. s.now) r.until
   pub crons : texts_of (codes "cron") rows ≡ map (λ s. s.now) r.crons.items
   pub namespace : first_of (codes "namespace") rows ≡ option_map (λ s. s.now) r.namespace
   pub minutes : r.minutes ≡ is_given (codes "minutes") rows
@@ -528,6 +535,7 @@ pub record IsScenario (rows : List Row) (r : ScenarioRequest) : Type 0 where
   pub file : first_of (codes "file") rows ≡ Some r.file.now
   pub from : first_of (codes "from") rows ≡ option_map (λ s. s.now) r.from
   pub length : first_of (codes "for") rows ≡ Some r.length.now
+  pub until : first_of (codes "until") rows ≡ option_map (λ s. s.now) r.until
   pub crons : texts_of (codes "cron") rows ≡ map (λ s. s.now) r.crons.items
   pub namespace : first_of (codes "namespace") rows ≡ option_map (λ s. s.now) r.namespace
   pub zones : AreZones rows r.zones

@@ -5,9 +5,9 @@ ghost use Rattle.cj_args.specs.Building.{IsArg, IsCommand, bare_app};
 ghost use Rattle.cj_args.specs.Command.{acting_app, asked_app, audit_app, check_app, chosen_app, clustered_app, control_app, cronsim_app, deciding_app, describe_app, file_rule, made_of_app, next_app, plan_app, reading_app, replay_app, reported_app, run_app, upcoming_app, why_app, with_folder, with_zones};
 
 use crate::arguments::{
-    all_arg, count_arg, crons_arg, explain_arg, files_arg, flag_arg, in_file_arg, length_arg,
-    lines_arg, namespace_arg, option_arg, output_arg, peaks_arg, positional_arg, required_arg,
-    selector_arg, syncs_arg, usual_arg, workers_arg, zones_arg,
+    all_arg, count_arg, crons_arg, explain_arg, files_arg, flag_arg, in_file_arg, input_arg,
+    inputs_arg, length_arg, lines_arg, namespace_arg, option_arg, output_arg, peaks_arg,
+    positional_arg, required_arg, selector_arg, usual_arg, workers_arg, zones_arg,
 };
 use crate::crontab::crontab_command;
 use crate::help;
@@ -91,6 +91,20 @@ pub(crate) fn file_command<'a>(
     with_arg(Ok(command), positional_arg(alloc, "file", "FILE", file))
 }
 
+/// A command on a cluster, with no other argument than its file yet.
+pub(crate) fn cluster_command<'a>(
+    alloc: Global,
+    name: &'a str,
+    about: &'a str,
+    after: &'a str,
+    file: &'a str,
+) -> Result<Command<'a>, AllocError>
+    ensures { IfOk result (IsCommand (with_rule (new_app name.entry.now) input_rule)) }
+{
+    let command = new_command(alloc, name, about, after);
+    with_arg(Ok(command), input_arg(alloc, file))
+}
+
 fn next_command<'a>(alloc: Global) -> Result<Command<'a>, AllocError>
     ensures { IfOk result (IsCommand next_app) }
 {
@@ -169,7 +183,7 @@ fn run_command<'a>(alloc: Global) -> Result<Command<'a>, AllocError>
         help::RUN,
         help::COURSE,
     );
-    let command = with_arg(command, workers_arg(alloc));
+    let command = with_arg(command, workers_arg(alloc, "2", help::WORKERS));
     let command = with_arg(command, flag_arg(alloc, "timeline", help::TIMELINE));
     let command = with_arg(command, flag_arg(alloc, "history", help::HISTORY));
     let command = with_arg(command, flag_arg(alloc, "svg", help::SVG));
@@ -180,7 +194,7 @@ fn run_command<'a>(alloc: Global) -> Result<Command<'a>, AllocError>
 fn why_command<'a>(alloc: Global) -> Result<Command<'a>, AllocError>
     ensures { IfOk result (IsCommand why_app) }
 {
-    let command = file_command(
+    let command = cluster_command(
         alloc,
         "why",
         "Say what each CronJob of a cluster missed, and what its next sync does",
@@ -199,7 +213,7 @@ fn why_command<'a>(alloc: Global) -> Result<Command<'a>, AllocError>
 fn audit_command<'a>(alloc: Global) -> Result<Command<'a>, AllocError>
     ensures { IfOk result (IsCommand audit_app) }
 {
-    let command = file_command(
+    let command = cluster_command(
         alloc,
         "audit",
         "Find duplicate, overlapping, early and undue Jobs in a cluster, and due times without a Job",
@@ -225,9 +239,10 @@ fn upcoming_command<'a>(alloc: Global) -> Result<Command<'a>, AllocError>
         "Print what starts next, a line a CronJob, and which minutes are the fullest",
         help::UPCOMING,
     );
-    let command = with_arg(Ok(command), files_arg(alloc, help::LISTS));
+    let command = with_arg(Ok(command), inputs_arg(alloc, help::LISTS));
     let command = with_arg(command, option_arg(alloc, "from", "TIME", help::FROM));
     let command = with_arg(command, length_arg(alloc));
+    let command = with_arg(command, option_arg(alloc, "until", "TIME", help::UNTIL));
     let command = with_arg(command, crons_arg(alloc));
     let command = with_arg(command, namespace_arg(alloc, help::NAMESPACE));
     let command = with_arg(command, all_arg(alloc));
@@ -273,7 +288,7 @@ fn chosen_command<'a>(alloc: Global) -> Result<Command<'a>, AllocError>
         "Run the CronJobs of a cluster: requests go out line by line, and answers come in",
         help::CONTROL,
     );
-    let command = with_arg(Ok(command), syncs_arg(alloc));
+    let command = with_arg(Ok(command), workers_arg(alloc, "8", help::SYNCS));
     let command = with_arg(command, namespace_arg(alloc, help::NAMESPACE));
     let command = with_arg(command, selector_arg(alloc));
     let command = with_arg(

@@ -75,6 +75,12 @@ pub(crate) const FROM: &str =
 pub(crate) const LENGTH: &str =
     "Length of the window, in minutes, hours or days: 90m, 24h, 7d; at most 3000d";
 
+/// The end of the window.
+pub(crate) const UNTIL: &str = "End of the window, in place of its length: a moment as --from";
+
+/// How many workers a run has.
+pub(crate) const WORKERS: &str = "How many workers to run, 1 to 32, each in its own thread";
+
 /// Its minutes.
 pub(crate) const MINUTES: &str =
     "Print each minute in which something starts, with the CronJobs that start then, instead of the table";

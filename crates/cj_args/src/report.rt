@@ -4,7 +4,7 @@ ghost use Rattle.clap.specs.Words.{found_of, rows_of};
 ghost use Rattle.cj_args.specs.Building.{IsCommand};
 ghost use Rattle.cj_args.specs.Command.{IsReport, Reads, report_app};
 
-use crate::arguments::{all_arg, crons_arg, files_arg, namespace_arg, option_arg};
+use crate::arguments::{all_arg, crons_arg, inputs_arg, namespace_arg, option_arg};
 use crate::command::{new_command, with_arg, with_zones};
 use crate::help::{NAMESPACE, NOW};
 use crate::request::ZoneWords;
@@ -75,7 +75,7 @@ pub(crate) fn report_command<'a>(alloc: Global) -> Result<Command<'a>, AllocErro
         "Print a page on a cluster, as HTML: findings, CronJobs, Jobs, and what comes",
         REPORT,
     );
-    let command = with_arg(Ok(command), files_arg(alloc, CLUSTERS));
+    let command = with_arg(Ok(command), inputs_arg(alloc, CLUSTERS));
     let command = with_arg(command, option_arg(alloc, "since", "TIME", SINCE));
     let command = with_arg(command, option_arg(alloc, "now", "TIME", NOW));
     let command = with_arg(command, crons_arg(alloc));

@@ -292,6 +292,8 @@ pub struct UpcomingRequest<'a> {
     pub from: Option<&'a str>,
     /// How long the window is, as `24h`.
     pub length: &'a str,
+    /// The moment at which the window ends; its length counts where none is given.
+    pub until: Option<&'a str>,
     /// The CronJobs that are asked about, each as NAMESPACE/NAME or as NAME; all of them where none
     /// is given.
     pub crons: Vec<&'a str>,

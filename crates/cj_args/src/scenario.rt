@@ -5,8 +5,8 @@ ghost use Rattle.cj_args.specs.Building.{IsCommand};
 ghost use Rattle.cj_args.specs.Command.{IsScenario, Reads, scenario_app};
 
 use crate::arguments::{crons_arg, length_arg, namespace_arg, option_arg};
-use crate::command::{file_command, with_arg, with_zones};
-use crate::help::NAMESPACE;
+use crate::command::{cluster_command, with_arg, with_zones};
+use crate::help::{NAMESPACE, UNTIL};
 use crate::request::ZoneWords;
 use crate::word_fault::WordFault;
 use crate::words::{is_given, optional_text, text, texts, zone_words};
@@ -22,6 +22,8 @@ pub struct ScenarioRequest<'a> {
     pub from: Option<&'a str>,
     /// How long the run is, as `24h`.
     pub length: &'a str,
+    /// The moment at which the run ends; its length counts where none is given.
+    pub until: Option<&'a str>,
     /// The CronJobs that are taken over, each as NAMESPACE/NAME or as NAME; all of them where none
     /// is given.
     pub crons: Vec<&'a str>,
@@ -65,7 +67,7 @@ Exit status:
 pub(crate) fn scenario_command<'a>(alloc: Global) -> Result<Command<'a>, AllocError>
     ensures { IfOk result (IsCommand scenario_app) }
 {
-    let command = file_command(
+    let command = cluster_command(
         alloc,
         "scenario",
         "Turn a cluster or manifests into a scenario that run takes, as JSON",
@@ -74,6 +76,7 @@ pub(crate) fn scenario_command<'a>(alloc: Global) -> Result<Command<'a>, AllocEr
     );
     let command = with_arg(command, option_arg(alloc, "from", "TIME", START));
     let command = with_arg(command, length_arg(alloc));
+    let command = with_arg(command, option_arg(alloc, "until", "TIME", UNTIL));
     let command = with_arg(command, crons_arg(alloc));
     let command = with_arg(command, namespace_arg(alloc, NAMESPACE));
     with_zones(alloc, command)
@@ -89,12 +92,14 @@ pub(crate) fn scenario_request<'a>(
     let file = text(found, "file")?;
     let from = optional_text(found, "from");
     let length = text(found, "for")?;
+    let until = optional_text(found, "until");
     let namespace = optional_text(found, "namespace");
     let explain = is_given(found, "explain");
     Ok(ScenarioRequest {
         file,
         from,
         length,
+        until,
         crons: texts(alloc, found, "cron")?,
         namespace,
         zones: zone_words(alloc, found)?,

@@ -253,6 +253,7 @@ fn upcoming_request<'a>(
 {
     let from = optional_text(found, "from");
     let length = text(found, "for")?;
+    let until = optional_text(found, "until");
     let namespace = optional_text(found, "namespace");
     let minutes = is_given(found, "minutes");
     let peaks = peaks(text(found, "peaks")?)?;
@@ -263,6 +264,7 @@ fn upcoming_request<'a>(
         files: texts(alloc, found, "file")?,
         from,
         length,
+        until,
         crons: texts(alloc, found, "cron")?,
         namespace,
         minutes,

@@ -1,5 +1,5 @@
 -- What `upcoming` answers of CronJobs.
-use Rattle.std.specs.Prelude.{◌≡◌, ◌⊎◌, ℕ, ◌+◌, ◌≤◌, List, [], ◌∷◌, ◌++◌, ◌&&◌, ◌||◌, not, bytes_eq, length, map, nat_lt, Option, None, Some, IfSome, option_map, Bool, true, false, codes, decimal, ◌==◌, if◌then◌else◌}
+use Rattle.std.specs.Prelude.{◌≡◌, ◌⊎◌, ℕ, ◌+◌, ◌-◌, ◌≤◌, nat_le, List, [], ◌∷◌, ◌++◌, ◌&&◌, ◌||◌, not, bytes_eq, length, map, nat_lt, Option, None, Some, IfSome, option_map, Bool, true, false, codes, decimal, ◌==◌, if◌then◌else◌}
 use Rattle.std.specs.Borrow.{Bor}
 use Rattle.std.specs.List.{list_all, list_any}
 use Rattle.cj_base.specs.Instant.{last_second}
@@ -21,7 +21,7 @@ use Rattle.cj_answers.specs.Clusters.{RefusesList, ending_by, is_read, note_line
 use Rattle.cj_inspect.specs.CronFiles.{AreFiles, Stops}
 use Rattle.cj_answers.specs.Given.{AreGiven, IsNoneGiven, pair_words}
 use Rattle.cj_answers.specs.Marks.{marked}
-use Rattle.cj_answers.specs.Moments.{asked_moment}
+use Rattle.cj_answers.specs.Moments.{asked_moment, moment_of}
 use Rattle.cj_answers.specs.Outcome.{IsInForm, Outcome, RefusesForm, explained, outcome_of, refusal}
 use Rattle.cj_inspect.specs.Why.{IsNoticed, chosen, is_noted, is_noted_in, is_nothing, line_where}
 use Rattle.cj_inspect.specs.Nights.{TellsNights}
@@ -274,17 +274,39 @@ IsNoWindow from (Some n) = (n ≤ reach) × (from + n ≤ last_second) → ⊥
 abbrev pub length_words : List ℕ
 length_words = codes "--for: want minutes, hours or days, as 90m, 24h or 7d, at most 3000d, and an end before the year 9999\n"
 
+-- so long from one instant to another that isn't before it
+abbrev pub between : ℕ → Option ℕ → Option ℕ
+between from None = None
+between from (Some end) = if nat_le from end then Some (end - from) else None
+
+-- how long the window is: up to the moment that is given as its end, else as its length says
+-- rule: upcoming-until
+abbrev pub length_for : ℕ → List ℕ → Option (Bor (List ℕ)) → Option ℕ
+length_for from text None = length_of text
+length_for from text (Some until) = between from (moment_of until.now)
+
+-- what an end has to be
+-- rules: explain, upcoming-until
+abbrev pub until_words : List ℕ
+until_words = codes "--until: want a moment as --from, not before the start and at most 3000d behind it\n"
+
+-- what is wanted of a window that is refused
+-- rules: explain, upcoming-until
+abbrev pub end_words : Option (Bor (List ℕ)) → List ℕ
+end_words None = length_words
+end_words (Some until) = until_words
+
 -- then the length
 pub record RefusesLength (r : UpcomingRequest) (o : Outcome) : Type 0 where
   pub from : ℕ
   pub start : asked_moment r.from ≡ Some from
-  pub none : IsNoWindow from (length_of r.length.now)
-  pub answer : o ≡ explained r.explain length_words (refusal (codes "cronsim: length\n"))
+  pub none : IsNoWindow from (length_for from r.length.now r.until)
+  pub answer : o ≡ explained r.explain (end_words r.until) (refusal (codes "cronsim: length\n"))
 
 pub record IsWindowOf (r : UpcomingRequest) (w : Span) : Type 0 where
   pub from : ℕ
   pub start : asked_moment r.from ≡ Some from
-  pub window : IsWindow from (length_of r.length.now) w
+  pub window : IsWindow from (length_for from r.length.now r.until) w
 
 -- then a zone
 pub record RefusesUpcomingZone (r : UpcomingRequest) (files : List ZoneFile) (o : Outcome)

@@ -226,8 +226,8 @@ pub fn scenario_answer<R: Read>(
     let Some(from) = asked_moment(alloc, scenario.from)? else {
         return Ok(refused_start(alloc, scenario.explain)?);
     };
-    let Some(window) = window_from(from, scenario.length) else {
-        return Ok(refused_length(alloc, scenario.explain)?);
+    let Some(window) = window_from(alloc, from, scenario.length, scenario.until)? else {
+        return Ok(refused_length(alloc, scenario.explain, scenario.until)?);
     };
     let Some(zones) = given_zones(alloc, &scenario.zones, files)? else {
         return refused_pair(alloc, scenario.explain);

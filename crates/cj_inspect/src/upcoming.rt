@@ -3,7 +3,6 @@ ghost use Rattle.std.specs.Prelude.{◌≡◌, ◌⊎◌, ◌++◌, IfErr, IfOk,
 ghost use Rattle.std.specs.List.{list_any};
 ghost use Rattle.cj_cluster.specs.kubectl.Reading.{IsRefusedList};
 ghost use Rattle.cj_zone.specs.Table.{zones_of};
-ghost use Rattle.cj_upcoming.specs.Length.{length_of};
 ghost use Rattle.cj_upcoming.specs.Upcoming.{HasMore};
 ghost use Rattle.cj_upcoming.specs.declared.fault.StartsFault.TheVariants.{TooMany};
 ghost use Rattle.cj_answers.specs.Outcome.{explained, outcome_of, refusal};
@@ -11,7 +10,7 @@ ghost use Rattle.cj_inspect.specs.Nights.{TellsNights};
 ghost use Rattle.cj_inspect.specs.Why.{is_noted_in, line_where};
 ghost use Rattle.cj_inspect.specs.Windows.{window_look};
 ghost use Rattle.cj_answers.specs.as_json.Forms.{is_json};
-ghost use Rattle.cj_inspect.specs.Upcoming.{IsAsked, IsNoWindow, IsTold, IsToldOf, IsUpcomingFiles, IsUpcomingOutcome, IsWindow, IsWindowAsked, IsWindowLines, IsWindowPrinted, IsWindowSum, IsWindowTold, IsWindowShown, RefusesMany, RefusesMarked, TellsNoticed, TellsWindow, all_crons, all_lines, all_words, are_read, file_lines, file_words, from_words, has_home, is_noted_of, is_several, is_unknown, length_words, many_words, mark_for, meant_of, most_starts, passed_line, passed_lines, passed_mark, told, unknown_lines, unknown_of};
+ghost use Rattle.cj_inspect.specs.Upcoming.{IsAsked, IsNoWindow, IsTold, IsToldOf, IsUpcomingFiles, IsUpcomingOutcome, IsWindow, IsWindowAsked, IsWindowLines, IsWindowPrinted, IsWindowShown, IsWindowSum, IsWindowTold, RefusesMany, RefusesMarked, TellsNoticed, TellsWindow, all_crons, all_lines, all_words, are_read, between, end_words, file_lines, file_words, from_words, has_home, is_noted_of, is_several, is_unknown, length_for, length_words, many_words, mark_for, meant_of, most_starts, passed_line, passed_lines, passed_mark, told, unknown_lines, unknown_of};
 
 pub(crate) mod coming;
 pub(crate) mod peaks;
@@ -622,22 +621,74 @@ pub(crate) fn refused_start(alloc: Global, explain: bool) -> Result<Answer, Allo
 const LENGTH_WORDS: &str =
     "--for: want minutes, hours or days, as 90m, 24h or 7d, at most 3000d, and an end before the year 9999\n";
 
-/// What is answered where the length of a window is refused.
-pub(crate) fn refused_length(alloc: Global, explain: bool) -> Result<Answer, AllocError>
-    ensures { IfOk result (λ a. outcome_of a ≡ explained explain length_words
-        (refusal (codes "cronsim: length\n"))) }
+// What an end has to be.
+const UNTIL_WORDS: &str =
+    "--until: want a moment as --from, not before the start and at most 3000d behind it\n";
+
+// What is wanted of a window that is refused.
+fn end_words(until: Option<&str>) -> &'static str
+    ensures { result.now ≡ end_words until.entry }
 {
-    Answer::refused(alloc, "cronsim: length\n")?.explained(explain, LENGTH_WORDS)
+    match until {
+        Some(_) => UNTIL_WORDS,
+        None => LENGTH_WORDS,
+    }
 }
 
-/// The window from an instant on that is so long.
-pub(crate) fn window_from(from: Seconds, length: &str) -> Option<Window>
-    ensures some { IfSome result (IsWindow from (length_of length.now)) }
-    ensures none { IsNone result → IsNoWindow from (length_of length.now) }
+/// What is answered where the length or the end of a window is refused.
+pub(crate) fn refused_length(
+    alloc: Global,
+    explain: bool,
+    until: Option<&str>,
+) -> Result<Answer, AllocError>
+    ensures { IfOk result (λ a. outcome_of a ≡ explained explain (end_words until.entry)
+        (refusal (codes "cronsim: length\n"))) }
 {
-    match read_length(length) {
-        Some(length) => Window::new(from, length),
-        None => None,
+    Answer::refused(alloc, "cronsim: length\n")?.explained(explain, end_words(until))
+}
+
+// So long from one instant to another that isn't before it.
+fn between(from: Seconds, end: Option<Seconds>) -> Option<u64>
+    ensures { result ≡ between from end }
+{
+    let end = end?;
+    if from.get() <= end.get() {
+        Some(end.get() - from.get())
+    } else {
+        None
+    }
+}
+
+// How long the window is: up to the moment that is given as its end, else as its length says.
+fn length_for(
+    alloc: Global,
+    from: Seconds,
+    length: &str,
+    until: Option<&str>,
+) -> Result<Option<u64>, AllocError>
+    ensures { IfOk result (λ n. n ≡ length_for from length.now until.entry) }
+{
+    match until {
+        Some(_) => Ok(between(from, asked_moment(alloc, until)?)),
+        None => Ok(read_length(length)),
+    }
+}
+
+/// The window from an instant on that is so long, or up to that moment.
+pub(crate) fn window_from(
+    alloc: Global,
+    from: Seconds,
+    length: &str,
+    until: Option<&str>,
+) -> Result<Option<Window>, AllocError>
+    ensures some { IfOk result (λ w. IfSome w (IsWindow from
+        (length_for from length.now until.entry))) }
+    ensures none { IfOk result (λ w. IsNone w → IsNoWindow from
+        (length_for from length.now until.entry)) }
+{
+    match length_for(alloc, from, length, until)? {
+        Some(length) => Ok(Window::new(from, length)),
+        None => Ok(None),
     }
 }
 
@@ -652,8 +703,9 @@ fn window_asked(
     let Some(from) = asked_moment(alloc, upcoming.from)? else {
         return Ok(Asked::Refused(refused_start(alloc, upcoming.explain)?));
     };
-    let Some(window) = window_from(from, upcoming.length) else {
-        return Ok(Asked::Refused(refused_length(alloc, upcoming.explain)?));
+    let Some(window) = window_from(alloc, from, upcoming.length, upcoming.until)? else {
+        let refused = refused_length(alloc, upcoming.explain, upcoming.until)?;
+        return Ok(Asked::Refused(refused));
     };
     let Some(zones) = given_zones(alloc, &upcoming.zones, files)? else {
         return Ok(Asked::Refused(refused_pair(alloc, upcoming.explain)?));

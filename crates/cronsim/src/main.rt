@@ -278,6 +278,31 @@ fn clock_moment(rt: &HostRuntime, request: &Request<'_>) -> Result<Option<String
     }
 }
 
+// The end that a request's words give its window by the clock, as `+2h`.
+fn clock_end(rt: &HostRuntime, request: &Request<'_>) -> Result<Option<String>, Failure> {
+    match request {
+        Request::Upcoming(upcoming) if upcoming.until.is_some() => {
+            moment_by_clock(rt, upcoming.until)
+        }
+        Request::Scenario(scenario) if scenario.until.is_some() => {
+            moment_by_clock(rt, scenario.until)
+        }
+        _ => Ok(None),
+    }
+}
+
+// The request with that end, where it means one.
+fn with_end<'a>(mut request: Request<'a>, end: Option<&'a str>) -> Request<'a> {
+    if end.is_some() {
+        match &mut request {
+            Request::Upcoming(upcoming) => upcoming.until = end,
+            Request::Scenario(scenario) => scenario.until = end,
+            _ => {}
+        }
+    }
+    request
+}
+
 // The file of a request that reads one file. Each of several files is opened when its turn comes.
 fn only_file<'a>(request: &Request<'a>) -> Option<&'a str> {
     match request {
@@ -314,7 +339,9 @@ fn serve_parsed<T: Threads + Wait + Clock + Sync>(
     request: Request<'_>,
 ) -> Result<ExitStatus, Failure> {
     let moment = clock_moment(rt, &request)?;
-    let mut request = at_moment(request, moment.as_ref().map(|text| text.as_str()));
+    let end = clock_end(rt, &request)?;
+    let request = at_moment(request, moment.as_ref().map(|text| text.as_str()));
+    let mut request = with_end(request, end.as_ref().map(|text| text.as_str()));
     let mut input = Input::open(rt, only_file(&request));
     let status = if is_shown(rt, &request) {
         serve_shown(threads, rt, &mut request, &mut input)?
