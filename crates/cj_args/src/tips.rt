@@ -11,7 +11,7 @@ fn option_tip(word: &str) -> &'static str {
             "next and describe take --zone Europe/Berlin; CronJobs name their zones themselves"
         }
         "--until" | "--to" | "--end" | "--hours" | "--days" => {
-            "--for says how long the window is: --for 24h, --for 7d"
+            "upcoming and scenario take --for 24h or --until TIME"
         }
         "--since" | "--start" =>
             "upcoming takes --from, next and describe take --after, previous takes --before",
@@ -39,25 +39,16 @@ fn command_tip(word: &str) -> &'static str {
         "list" | "schedule" | "ls" | "get" => {
             "cronsim upcoming FILE prints what starts, cronsim next SCHEDULE --after TIME when"
         }
-        "simulate" | "sim" => "cronsim run FILE --workers 2 runs a scenario",
+        "simulate" | "sim" => "cronsim run FILE runs a scenario",
         "prev" | "last" => "cronsim previous SCHEDULE --before TIME prints earlier times",
         _ => "",
     }
 }
 
-// The commands that read a file.
-fn reads_file(command: &str) -> bool {
+// Whether the command can't do without a file.
+fn wants_file(command: &str) -> bool {
     match command {
-        "check"
-        | "plan"
-        | "replay"
-        | "run"
-        | "why"
-        | "audit"
-        | "upcoming"
-        | "report"
-        | "scenario"
-        | "crontab" => true,
+        "check" | "plan" | "replay" | "run" | "crontab" => true,
         _ => false,
     }
 }
@@ -97,8 +88,8 @@ fn count_alone(words: &[&str]) -> usize {
 
 // What is wrong with how many of a command's words stand alone.
 fn count_tip(command: &str, alone: usize) -> &'static str {
-    if reads_file(command) && alone == 0 {
-        "FILE is wanted; - reads what is piped in: kubectl get cronjobs,jobs -A -o json | cronsim why -"
+    if wants_file(command) && alone == 0 {
+        "FILE is wanted; - reads what is piped in: helm template . | cronsim check -"
     } else if takes_schedule(command) && alone > 1 {
         "a schedule stands in quotes, as one word: cronsim describe '*/5 * * * *'"
     } else {
@@ -114,9 +105,7 @@ fn has_option(words: &[&str], name: &str) -> bool {
 // What is wanted where an option that has to be given isn't.
 fn required_tip(command: &str, words: &[&str]) -> &'static str {
     let has_moment = has_option(words, "--after") || has_option(words, "--now");
-    let is_given = has_moment || has_option(words, "--workers");
-    match (command, is_given) {
-        ("run", false) => "any number of workers will do: --workers 2",
+    match (command, has_moment) {
         ("next", false) => {
             "for the next times from now on: --after $(date -u +%FT%TZ), or cronsim describe SCHEDULE"
         }

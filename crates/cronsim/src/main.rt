@@ -32,7 +32,7 @@ use std::sync::Wait;
 use std::thread::Threads;
 use std::time::Clock;
 use taken::json_of;
-use telling::{at_terminal, push_cause, serve_on, tell_file, tell_places, tell_shape};
+use telling::{at_terminal, push_cause, serve_on, tell_file, tell_places, tell_shape, tell_waiting};
 use words::{asked, joined};
 use zone_names::{tell_zones, without_names};
 
@@ -342,6 +342,7 @@ fn serve_parsed<T: Threads + Wait + Clock + Sync>(
     let end = clock_end(rt, &request)?;
     let request = at_moment(request, moment.as_ref().map(|text| text.as_str()));
     let mut request = with_end(request, end.as_ref().map(|text| text.as_str()));
+    tell_waiting(rt, only_file(&request));
     let mut input = Input::open(rt, only_file(&request));
     let status = if is_shown(rt, &request) {
         serve_shown(threads, rt, &mut request, &mut input)?

@@ -24,6 +24,16 @@ pub fn at_terminal(rt: &HostRuntime) -> bool {
     rt.stderr().is_terminal()
 }
 
+/// Says at a terminal that what is typed there is read, where no pipe and no file is given.
+pub fn tell_waiting(rt: &HostRuntime, file: Option<&str>) {
+    if file == Some("-") && rt.stdin().is_terminal() && at_terminal(rt) {
+        let _ = writeln!(
+            rt.stderr(),
+            "cronsim: reading what is typed here, up to Ctrl-D; FILE names a file"
+        );
+    }
+}
+
 /// Says what there is to say, and answers the status. Where nobody reads the answer any more, as
 /// behind `head`, there is nothing to say.
 pub fn tell(rt: &HostRuntime, served: &Served, is_closed: bool) -> ExitStatus {
