@@ -98,7 +98,7 @@ upcoming_object from to crons starts files p = object (
     member (codes "peaks") p.peaks (
     member (codes "starts") (number (unsigned starts)) (
     member (codes "summary") p.summary (
-    member (codes "to") to no_members))))))))))
+    member (codes "to") to no_members)))))))))))
 
 -- where clocks are put, what of that schedules name, how many CronJobs are meant, the items of the
 -- files that can't be used, the window's start, the CronJobs that start nothing, the minutes in
