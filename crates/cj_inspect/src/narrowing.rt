@@ -3,8 +3,8 @@ ghost use Rattle.std.specs.Prelude.{◌≡◌, IfOk, option_map};
 ghost use Rattle.cj_inspect.specs.Narrowing.{IsPart, is_anywhere, is_everything};
 
 use crate::why::naming::{chosen, has_no_text, is_called_one, is_within, key_text_of, told_items};
-use cj_cluster::{Cluster, ClusterList, ItemNotes};
-use cj_types::{Job, Refusal, TryCopy};
+use cj_cluster::{Cluster, ClusterCron, ClusterList, ItemNotes, JobTimes};
+use cj_types::{Job, Refusal, Shared, TryCopy};
 use std::alloc::Global;
 
 // Whether no namespace is given.
@@ -48,6 +48,28 @@ fn is_asked(
     Ok(is_called_one(within, texts, key.as_str(), namespace, name))
 }
 
+// Adds the CronJob, unless one of its key is there.
+fn add_cron(alloc: Global, into: &mut Cluster, cron: &ClusterCron) -> Result<(), Refusal> {
+    let cron = cron.try_copy(alloc)?;
+    if into.cron(cron.cron.key.key()).is_some() {
+        return Ok(());
+    }
+    into.add_cron(alloc, cron)
+}
+
+// Adds the Job with its times, unless one of its key is there.
+fn add_job(
+    alloc: Global,
+    into: &mut Cluster,
+    job: Shared<Job>,
+    times: Shared<JobTimes>,
+) -> Result<(), Refusal> {
+    if into.job(&job.get().key).is_some() {
+        return Ok(());
+    }
+    into.add_job(alloc, job, times)
+}
+
 fn add_crons(
     alloc: Global,
     into: &mut Cluster,
@@ -58,7 +80,7 @@ fn add_crons(
     let all = from.crons(alloc)?;
     let meant = chosen(alloc, within, texts, all.as_slice())?;
     for cron in meant.as_slice() {
-        into.add_cron(alloc, cron.get().try_copy(alloc)?)?;
+        add_cron(alloc, into, cron.get())?;
     }
     Ok(())
 }
@@ -76,7 +98,7 @@ fn add_jobs(
             continue;
         }
         if let Some(times) = from.times(&job.get().key) {
-            into.add_job(alloc, job.share()?, times.share()?)?;
+            add_job(alloc, into, job.share()?, times.share()?)?;
         }
     }
     Ok(())
