@@ -114,7 +114,7 @@ pub steady_clock : (s : Sets) (z : Zone) (from at last until base : ℕ) (one ot
     → pos base ≡ pos 6_295_085_280 +ℤ int_div_euclid (to_z w64 (of_z w64 one)) (pos 60) → base ≤ 6_295_087_000
     → from ≤ at → until ≤ last → until ≤ last_second → IsSteadyClock s z at until base
 steady_clock s z from at last until base one other interval same b high start within in_range = record {
-  low = high;
+  in_range = high;
   shows = λ k above below. steady_due s z from last base k one other interval same b (omega arith) (omega arith)
       (omega arith);
 }
@@ -162,7 +162,7 @@ none_after s z at end le = missed_times-none s z at end (λ t above below. absur
 pub clock_later : (s : Sets) (z : Zone) (at until base later : ℕ) → IsSteadyClock s z at until base → at ≤ later
     → IsSteadyClock s z later until base
 clock_later s z at until base later clock le =
-    record { low = clock.low; shows = λ k above within. clock.shows k (omega arith) within }
+    record { in_range = clock.in_range; shows = λ k above within. clock.shows k (omega arith) within }
 
 -- The least due instant that a search found.
 pub least_of : (s : Sets) (z : Zone) (lo hi t : ℕ) (o : Option ℕ) → o ≡ Some t → IfSome o (λ n. IsLeastDue s z lo hi n)

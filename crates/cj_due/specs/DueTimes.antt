@@ -7,8 +7,8 @@ use Rattle.cj_zone.specs.declared.zone.Zone.{Zone}
 use Rattle.cj_due.specs.Due.{due, missed_times}
 use Rattle.cj_due.specs.calendar.Shown.{day_at, minute_at}
 
--- the due times after `lo` and up to `hi`, each once, in order: those that who looks at `hi` for the
--- first time since `lo` has missed
+-- the due times after `lo` and up to `hi`, each once, in order: at `hi` they are the times missed
+-- since `lo`
 -- rule: due
 abbrev pub due_times : Sets → Zone → ℕ → ℕ → List ℕ
 due_times s z lo hi = missed_times s z lo hi
@@ -16,7 +16,7 @@ due_times s z lo hi = missed_times s z lo hi
 -- after `at` and up to `until` a minute is due where the clock, which shows the minute `base` when
 -- 1970 begins in UTC, shows an allowed one
 pub record IsSteadyClock (s : Sets) (z : Zone) (at until base : ℕ) : Type 0 where
-  pub low : base ≤ 6_295_087_000
+  pub in_range : base ≤ 6_295_087_000
   pub shows : (k : ℕ) → at < k * 60 → k * 60 ≤ until → due s z (k * 60) ≡ minute_at s (base + k)
 
 -- at the instant, a whole minute, the clock shows this minute of an allowed day

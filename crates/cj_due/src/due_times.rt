@@ -15,9 +15,9 @@ use std::marker::Model;
 // The last minute of a day.
 const LAST_MINUTE: u64 = 1_439;
 
-/// The due times of a schedule in a zone after one instant and up to another, in order. It goes on
-/// from where it stands: while the clock keeps its offset, the next time on the same day is a
-/// matter of two bit sets.
+/// The due times of a schedule in a zone after one instant and up to another, in order. The search
+/// for one goes on from where the last one stands: while the clock keeps its offset, the next time
+/// on the same day is told by the bits of the minutes and the hours.
 ///
 /// Contracts see the list of the due times that are left.
 #[derive(Drop)]
@@ -28,11 +28,12 @@ pub struct DueTimes<'a> {
     at: u64,
     // The last second that is asked for.
     end: u64,
-    // The last second up to which the clock keeps its offset, if that is after `at`.
+    // The last second up to which the clock keeps its offset, if it is after `at`. Only then the
+    // two below mean something.
     until: u64,
-    // What the clock shows till then in the first minute of 1970, counted from -9999-01-01T00:00.
+    // What the clock shows in the first minute of 1970, counted from -9999-01-01T00:00.
     base: u64,
-    // The minute of the day that it shows at `at`, which is a due time.
+    // The minute of the day that it shows at `at`.
     minute: u64,
 }
 
