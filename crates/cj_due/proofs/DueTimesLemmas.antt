@@ -133,7 +133,8 @@ day_of_due s z t last base one other interval same b within in_range here =
 
 -- what is left
 -- The least due instant up to one instant is the least one up to a later one.
-least_up_to : (s : Sets) (z : Zone) (at until end t : ℕ) → until ≤ end → IsLeastDue s z at until t → IsLeastDue s z at end t
+least_up_to : (s : Sets) (z : Zone) (at until end t : ℕ) → until ≤ end → IsLeastDue s z at until t
+    → IsLeastDue s z at end t
 least_up_to s z at until end t le h =
     record { above = h.above; within = omega (arith, h.within); is_due = h.is_due; least = h.least }
 

@@ -25,8 +25,8 @@ pub record IsOnDay (s : Sets) (at base minute : ℕ) : Type 0 where
   pub place : (base + at / 60) % 1_440 ≡ minute
   pub allowed : day_at s ((base + at / 60) / 1_440) ≡ true
 
--- where the due times up to `at` are given and those up to `end` are asked for: what the clock shows
--- up to `until`, and, if that is later than `at`, on which minute of its day `at` is
+-- the due times up to `at` were given, and those up to `end` are asked for: what the clock shows up
+-- to `until`, and, if that is later than `at`, on which minute of its day `at` is
 pub record IsCursor (s : Sets) (z : Zone) (at end until base minute : ℕ) : Type 0 where
   pub in_range : end ≤ last_second
   pub at_in_range : at ≤ last_second
