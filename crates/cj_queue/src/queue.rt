@@ -267,7 +267,8 @@ impl Queue {
     }
 }
 
-// Adds the keys that wait for a time not above `now`, which are `count`, and have them wait no more.
+// Adds the keys that wait for a time not above `now`, of which there are `count`, and has them wait
+// no more.
 fn add_ready(waits: &mut Waits, work: &mut Work, now: u64, count: usize)
     requires count { count ≡ length (ready waits.old now) }
     requires room { count ≤ work.old.room }
