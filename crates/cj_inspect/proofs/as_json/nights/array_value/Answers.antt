@@ -4,4 +4,4 @@ use Rattle.serde_json.specs.View.{view}
 use Rattle.cj_inspect.proofs.as_json.nights.array_value.Goals as goal
 
 pub returns : goal.returns
-returns c = map view c.args.values.items, search rules
+returns c = (map view c.args.values.items, search rules)
