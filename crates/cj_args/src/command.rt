@@ -2,7 +2,7 @@
 ghost use Rattle.std.specs.Prelude.{◌≡◌, IfOk};
 ghost use Rattle.clap.specs.Words.{App, Rule, app_of, new_app, with_rule, with_subcommand};
 ghost use Rattle.cj_args.specs.Building.{IsArg, IsCommand, bare_app};
-ghost use Rattle.cj_args.specs.Command.{acting_app, asked_app, audit_app, check_app, chosen_app, clustered_app, control_app, cronsim_app, deciding_app, describe_app, file_rule, made_of_app, next_app, plan_app, reading_app, replay_app, reported_app, run_app, upcoming_app, why_app, with_folder, with_zones};
+ghost use Rattle.cj_args.specs.Command.{acting_app, asked_app, audit_app, check_app, chosen_app, clustered_app, control_app, cronsim_app, deciding_app, describe_app, file_rule, input_rule, made_of_app, next_app, plan_app, reading_app, replay_app, reported_app, run_app, upcoming_app, why_app, with_folder, with_zones};
 
 use crate::arguments::{
     all_arg, count_arg, crons_arg, explain_arg, files_arg, flag_arg, in_file_arg, input_arg,

@@ -125,11 +125,15 @@ abbrev pub passed_mark : Bool → List ℕ → List ℕ
 passed_mark true name = name
 passed_mark false name = codes "FILE"
 
+-- nothing is said where there are none
+abbrev pub passed_words : Bool → List ℕ → ℕ → List ℕ
+passed_words true mark count = []
+passed_words false mark count =
+    mark ++ (codes ": objects of other kinds, passed over: " ++ (decimal count ++ codes "\n"))
+
 -- rule: upcoming-manifests
 abbrev pub passed_line : Bool → FileCrons → List ℕ
-passed_line several f =
-    if f.passed == 0 then [] else passed_mark several f.name
-    ++ (codes ": objects of other kinds, passed over: " ++ (decimal f.passed ++ codes "\n"))
+passed_line several f = passed_words (f.passed == 0) (passed_mark several f.name) f.passed
 
 abbrev pub passed_lines : Bool → List FileCrons → List ℕ
 passed_lines several [] = []

@@ -7,6 +7,7 @@
 mod clock;
 mod control;
 mod folder;
+mod folding;
 mod progress;
 mod several;
 mod source;
@@ -23,16 +24,19 @@ use cj_program::{
 use clock::moment_by_clock;
 use control::serve_control;
 use folder::{crontab_files, folder_set, input_files, named_file};
+use folding::tell_folded;
 use progress::{is_shown, serve_shown};
 use several::{serve_files, serve_report_files, serve_upcoming_files};
 use source::Input;
-use std::io::Write;
+use std::io::{IsTerminal, Write};
 use std::process::ExitCode;
 use std::sync::Wait;
 use std::thread::Threads;
 use std::time::Clock;
 use taken::json_of;
-use telling::{at_terminal, push_cause, serve_on, tell_file, tell_places, tell_shape, tell_waiting};
+use telling::{
+    at_terminal, push_cause, serve_on, tell_file, tell_places, tell_shape, tell_waiting,
+};
 use words::{asked, joined};
 use zone_names::{tell_zones, without_names};
 
@@ -379,7 +383,11 @@ fn run<T: Threads + Wait + Clock + Sync>(
     match parse_words(alloc, words) {
         Ok(request) => serve_parsed(threads, rt, request),
         Err(fault) => {
-            let status = tell_fault(alloc, &fault, &mut rt.stdout(), &mut rt.stderr());
+            let status = if rt.stdout().is_terminal() {
+                tell_folded(rt, &fault)?
+            } else {
+                tell_fault(alloc, &fault, &mut rt.stdout(), &mut rt.stderr())
+            };
             tell_tips(rt, status, words);
             Ok(status)
         }
