@@ -11,8 +11,8 @@ five t a b c d e b' c' e' is eb ec ee =
     is ∙ ap (λ x. a ++ (x ++ (c' ++ (d ++ e')))) eb ∙ ap (λ x. a ++ (b ++ (x ++ (d ++ e')))) ec
     ∙ ap (λ x. a ++ (b ++ (c ++ (d ++ x)))) ee
 
-pub returns-clause-ok : goal.returns-clause-ok
-returns-clause-ok c = record {
+pub returns : goal.returns
+returns c = record {
   table = c.as_str.result.now;
   standings = string_bytes c.in_ok-standings.standings;
   told = subst (λ t. AreStandings (zones_of c.args.zones.now) t c.args.crons.now
