@@ -2,5 +2,5 @@
 use Rattle.std.proofs.Common.{length}
 use Rattle.cj_check.proofs.crontab.entries.without_blanks.Given as goal
 
-abbrev pub decreases-loop-more : goal.decreases-loop-more
-decreases-loop-more l = length l.rest
+abbrev pub decreases-loop-rest : goal.decreases-loop-rest
+decreases-loop-rest l = length l.rest
