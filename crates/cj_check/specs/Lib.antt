@@ -11,3 +11,4 @@ pub mod Several
 pub mod Strays
 pub mod Crontab
 pub mod CrontabOutcome
+pub mod ToldFaults

@@ -290,12 +290,12 @@ length_for from text None = length_of text
 length_for from text (Some until) = between from (moment_of until.now)
 
 -- what an end has to be
--- rules: explain, upcoming-until
+-- rule: upcoming-until
 abbrev pub until_words : List ℕ
 until_words = codes "--until: want a moment as --from, not before the start and at most 3000d behind it\n"
 
 -- what is wanted of a window that is refused
--- rules: explain, upcoming-until
+-- rules: upcoming-length, upcoming-until
 abbrev pub end_words : Option (Bor (List ℕ)) → List ℕ
 end_words None = length_words
 end_words (Some until) = until_words

@@ -97,7 +97,7 @@ fn printed(
     svg: bool,
     output: &str,
     zones: &ZoneTable,
-    look: Look,
+    look: &Look,
     list: &ClusterList,
     findings: &Findings,
 ) -> Result<String, Refusal>
@@ -200,11 +200,11 @@ fn with_clocks(
     alloc: Global,
     explain: bool,
     zones: &ZoneTable,
-    look: Look,
+    look: &Look,
     list: &ClusterList,
     answer: Answer,
 ) -> Result<Answer, Failure>
-    ensures { IfOk result (λ a. TellsNights explain (zones_of zones.now) look
+    ensures { IfOk result (λ a. TellsNights explain (zones_of zones.now) look.now
         (map_list (λ c. c.cron) (map.values list.now.cluster.crons)) (outcome_of answer)
         (outcome_of a)) }
 {
@@ -229,9 +229,9 @@ fn list_audited(
     let findings = seen(all, since);
     let look = cluster_look(alloc, &list.cluster, since, now)?;
     let words = words(alloc, list, &findings)?;
-    let printed = printed(alloc, svg, output, zones, look, list, &findings)?;
+    let printed = printed(alloc, svg, output, zones, &look, list, &findings)?;
     let answer = told_of(alloc, explain, list, &findings, printed, words.as_str())?;
-    with_clocks(alloc, explain, zones, look, list, answer)
+    with_clocks(alloc, explain, zones, &look, list, answer)
 }
 
 // The findings from then on.

@@ -438,7 +438,7 @@ fn told_clocks(
 {
     let answer = told_text(alloc, explain, files, printed)?;
     let look = window_look(window);
-    Ok(with_nights(alloc, explain, zones, look, crons, answer)?)
+    Ok(with_nights(alloc, explain, zones, &look, crons, answer)?)
 }
 
 // The answer for these CronJobs.

@@ -152,7 +152,7 @@ fn with_clocks(
     let meant = meant_of(alloc, why, list, crons)?;
     let look = Look::Around(now);
     let explain = why.explain;
-    Ok(with_nights(alloc, explain, zones, look, meant.as_slice(), answer)?)
+    Ok(with_nights(alloc, explain, zones, &look, meant.as_slice(), answer)?)
 }
 
 pub(crate) fn is_nothing(words: &str) -> bool

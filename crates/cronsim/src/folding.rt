@@ -69,7 +69,7 @@ fn push_words(
 fn push_line(text: &mut String, line: &str, width: usize) -> Result<(), AllocError> {
     let words = words_of(line);
     match line.strip_suffix(words) {
-        Some(head) if line.len() > width && head.len() < width / 2 => {
+        Some(head) if line.len() > width && head.len() < width / 8 * 5 => {
             text.push_str(head)?;
             push_words(text, words, head.len(), width)?;
         }

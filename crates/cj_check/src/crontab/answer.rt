@@ -3,7 +3,7 @@ ghost use Rattle.std.specs.Prelude.{◌≡◌, ◌⊎◌, All, IfOk};
 ghost use Rattle.std.specs.List.{list_any};
 ghost use Rattle.cj_answers.specs.Outcome.{explained, outcome_of, refusal};
 ghost use Rattle.cj_check.specs.Crontab.{IsEntry, is_refused};
-ghost use Rattle.cj_check.specs.CrontabOutcome.{IsCrontabOutcome, IsCrontabRead, ending_by, is_yaml};
+ghost use Rattle.cj_check.specs.CrontabOutcome.{IsCrontabOutcome, IsCrontabRead, ending_by};
 
 use crate::crontab::as_json::crontab_json;
 use crate::crontab::clock::Clocks;
@@ -12,7 +12,7 @@ use crate::crontab::lines::crontab_text;
 use crate::crontab::manifest::Common;
 use crate::crontab::yaml::manifests_of;
 use cj_answers::{
-    Answer, Ending, asked_moment, given_zones, is_form, is_json, is_moment, refused_now,
+    Answer, Ending, asked_moment, given_zones, is_form, is_json, is_moment, is_yaml, refused_now,
     refused_pair,
 };
 use cj_args::CrontabRequest;
@@ -90,12 +90,6 @@ fn yaml_answer(
         printed: manifests.text,
         said: manifests.said,
     })
-}
-
-fn is_yaml(output: &str) -> bool
-    ensures { result ≡ is_yaml output.now }
-{
-    output == "yaml"
 }
 
 const ZONE_WORDS: &str =

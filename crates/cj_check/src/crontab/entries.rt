@@ -1,5 +1,5 @@
 // The lines of a crontab that say something.
-ghost use Rattle.std.specs.Prelude.{◌≡◌, All, IfOk, OnOk};
+ghost use Rattle.std.specs.Prelude.{◌≡◌, ◌++◌, ◌∷◌, [], All, IfOk, OnOk};
 ghost use Rattle.std.specs.List.{list_any};
 ghost use Rattle.cj_check.specs.Crontab.{IsEntry, IsLine, is_refused};
 
@@ -56,6 +56,13 @@ fn is_silent(line: &[u8]) -> bool {
 }
 
 impl<'a> Reading<'a> {
+    fn push_entry(&mut self, entry: Entry<'a>) -> Result<(), AllocError>
+        ensures { OnOk result (self.new.entries.items ≡ self.old.entries.items
+            ++ (entry.entry ∷ [])) }
+    {
+        self.entries.push(entry).map_err(AllocError::from)
+    }
+
     fn push(&mut self, number: usize, line: Line<'a>) -> Result<(), AllocError>
         requires { IsLine line }
         ensures { OnOk result (All IsEntry self.old.entries.items →
@@ -66,7 +73,7 @@ impl<'a> Reading<'a> {
             line,
             zone: self.zone,
         };
-        self.entries.push(entry).map_err(AllocError::from)
+        self.push_entry(entry)
     }
 
     // From here on cron goes by the clock of that zone.
@@ -121,6 +128,23 @@ impl<'a> Reading<'a> {
         }
     }
 
+    // What a line says, if there aren't too many before it.
+    fn line_in_turn(
+        &mut self,
+        alloc: Global,
+        zones: &ZoneTable,
+        bytes: &'a [u8],
+    ) -> Result<Line<'a>, AllocError>
+        ensures line { IfOk result IsLine }
+        ensures entries { self.new.entries ≡ self.old.entries }
+    {
+        if self.entries.len() < MOST_LINES {
+            self.line(alloc, zones, bytes)
+        } else {
+            Ok(Line::Refused(LineFault::Lines))
+        }
+    }
+
     // Reads a line, if it says something.
     fn read(
         &mut self,
@@ -136,11 +160,7 @@ impl<'a> Reading<'a> {
         if is_silent(bytes) {
             return Ok(());
         }
-        let line = if self.entries.len() < MOST_LINES {
-            self.line(alloc, zones, bytes)?
-        } else {
-            Line::Refused(LineFault::Lines)
-        };
+        let line = self.line_in_turn(alloc, zones, bytes)?;
         self.push(number, line)
     }
 

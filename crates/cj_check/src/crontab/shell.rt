@@ -80,7 +80,11 @@ pub(crate) fn command_words(
 ) -> Result<Vec<Value>, Refusal> {
     let mut words = Vec::new(alloc);
     let mut rest = shell.trim_ascii();
-    while !rest.is_empty() {
+    // Each word takes a byte at least.
+    for _ in 0..shell.len() {
+        if rest.is_empty() {
+            break;
+        }
         let (word, more) = next_word(rest);
         push_word(alloc, &mut words, word)?;
         rest = more;

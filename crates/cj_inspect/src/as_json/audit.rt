@@ -77,7 +77,7 @@ fn audit_value(
 fn clocks_value(
     alloc: Global,
     zones: &ZoneTable,
-    look: Look,
+    look: &Look,
     list: &ClusterList,
 ) -> Result<Value, Refusal>
     ensures ok { IfOk result (λ v. IsNightData (view v)) }
@@ -92,7 +92,7 @@ fn clocks_value(
 pub(crate) fn audit_json(
     alloc: Global,
     zones: &ZoneTable,
-    look: Look,
+    look: &Look,
     list: &ClusterList,
     findings: &Findings,
 ) -> Result<String, Refusal>

@@ -81,7 +81,7 @@ fn why_line(
     ensures err { IfErr result (λ e. e ≡ OutOfMemory) }
 {
     let calls = calls_values(alloc, zones, bytes, &list.cluster, lined, now)?;
-    let clocks = nights_value(alloc, zones, Look::Around(now), lined)?;
+    let clocks = nights_value(alloc, zones, &Look::Around(now), lined)?;
     let crons = cron_values(alloc, zones, &list.cluster, lined, now)?;
     let value = why_value(alloc, now, calls, clocks, crons, list.notes.as_slice())?;
     Ok(value_line(alloc, &value)?)

@@ -86,7 +86,7 @@ fn array_value(values: Vec<Value>) -> Value
 pub(crate) fn nights_value(
     alloc: Global,
     zones: &ZoneTable,
-    look: Look,
+    look: &Look,
     crons: &[Shared<ClusterCron>],
 ) -> Result<Value, Refusal>
     ensures ok { IfOk result (λ v. IsNightData (view v)) }

@@ -120,7 +120,7 @@ fn parts_of(
         starts.now (told_in p)) }
     ensures err { IfErr result (λ e. e ≡ OutOfMemory) }
 {
-    let clocks = nights_value(alloc, zones, window_look(window), crons)?;
+    let clocks = nights_value(alloc, zones, &window_look(window), crons)?;
     let summary = summary_value(alloc, zones, window, crons)?;
     let (changes, idle, all_minutes, peaks) = all_four(
         zone_changes_value(alloc, zones, window, crons),

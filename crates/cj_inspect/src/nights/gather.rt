@@ -34,10 +34,10 @@ fn add_cron(
     alloc: Global,
     found: &mut Nights,
     zones: &ZoneTable,
-    look: Look,
+    look: &Look,
     cron: &Shared<CronJob>,
 ) -> Result<(), Refusal>
-    ensures ok { OnOk result (AddsNight (zones_of zones.now) look cron.now
+    ensures ok { OnOk result (AddsNight (zones_of zones.now) look.now cron.now
         (string_bytes found.old.raw) (string_bytes found.new.raw)) }
     ensures err { IfErr result (λ e. e ≡ OutOfMemory) }
 {
@@ -54,10 +54,10 @@ fn add_cron(
 pub(crate) fn nights_among(
     alloc: Global,
     zones: &ZoneTable,
-    look: Look,
+    look: &Look,
     crons: &[Shared<CronJob>],
 ) -> Result<Nights, Refusal>
-    ensures ok { IfOk result (λ n. AreNights (zones_of zones.now) look crons.now
+    ensures ok { IfOk result (λ n. AreNights (zones_of zones.now) look.now crons.now
         (string_bytes n.raw)) }
     ensures err { IfErr result (λ e. e ≡ OutOfMemory) }
 {
@@ -89,10 +89,10 @@ fn crons_in(alloc: Global, crons: &[Shared<ClusterCron>]) -> Result<Vec<Shared<C
 pub(crate) fn nights_of(
     alloc: Global,
     zones: &ZoneTable,
-    look: Look,
+    look: &Look,
     crons: &[Shared<ClusterCron>],
 ) -> Result<Nights, Refusal>
-    ensures ok { IfOk result (λ n. AreNights (zones_of zones.now) look
+    ensures ok { IfOk result (λ n. AreNights (zones_of zones.now) look.now
         (map (λ c. c.cron) crons.now) (string_bytes n.raw)) }
     ensures err { IfErr result (λ e. e ≡ OutOfMemory) }
 {

@@ -96,10 +96,10 @@ fn spec_lines(
 pub(crate) fn night_lines(
     alloc: Global,
     zones: &ZoneTable,
-    look: Look,
+    look: &Look,
     cron: &CronJob,
 ) -> Result<String, Refusal>
-    ensures ok { IfOk result (λ s. IsNightOf (zones_of zones.now) look cron.now
+    ensures ok { IfOk result (λ s. IsNightOf (zones_of zones.now) look.now cron.now
         (string_bytes s)) }
     ensures err { IfErr result (λ e. e ≡ OutOfMemory) }
 {

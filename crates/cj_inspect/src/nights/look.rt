@@ -55,23 +55,23 @@ fn around_last(now: Seconds) -> Seconds
 }
 
 /// The instant behind which changes count for a CronJob.
-pub(crate) fn look_after(look: Look, cron: &CronJob) -> Seconds
-    ensures { result ≡ look_after look cron.now }
+pub(crate) fn look_after(look: &Look, cron: &CronJob) -> Seconds
+    ensures { result ≡ look_after look.now cron.now }
 {
     match look {
-        Look::Within(after, _) => after,
-        Look::Ahead(after, _) => after,
-        Look::Around(now) => around_after(now, cron),
+        Look::Within(after, _) => *after,
+        Look::Ahead(after, _) => *after,
+        Look::Around(now) => around_after(*now, cron),
     }
 }
 
 /// The last instant of those that count.
-pub(crate) fn look_last(look: Look, cron: &CronJob) -> Seconds
-    ensures { result ≡ look_last look cron.now }
+pub(crate) fn look_last(look: &Look, cron: &CronJob) -> Seconds
+    ensures { result ≡ look_last look.now cron.now }
 {
     match look {
-        Look::Within(_, last) => last,
-        Look::Ahead(after, last) => { if cron.spec.suspend { after } else { last } }
-        Look::Around(now) => around_last(now),
+        Look::Within(_, last) => *last,
+        Look::Ahead(after, last) => { if cron.spec.suspend { *after } else { *last } }
+        Look::Around(now) => around_last(*now),
     }
 }

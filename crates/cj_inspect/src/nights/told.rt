@@ -127,10 +127,10 @@ fn told(alloc: Global, found: Nights) -> Result<String, Refusal>
 pub fn nights_text(
     alloc: Global,
     zones: &ZoneTable,
-    look: Look,
+    look: &Look,
     crons: &[Shared<CronJob>],
 ) -> Result<String, Refusal>
-    ensures ok { IfOk result (λ s. IsNightText (zones_of zones.now) look crons.now
+    ensures ok { IfOk result (λ s. IsNightText (zones_of zones.now) look.now crons.now
         (string_bytes s)) }
     ensures err { IfErr result (λ e. e ≡ OutOfMemory) }
 {
@@ -142,10 +142,10 @@ pub fn nights_text(
 fn cluster_text(
     alloc: Global,
     zones: &ZoneTable,
-    look: Look,
+    look: &Look,
     crons: &[Shared<ClusterCron>],
 ) -> Result<String, Refusal>
-    ensures ok { IfOk result (λ s. IsNightText (zones_of zones.now) look
+    ensures ok { IfOk result (λ s. IsNightText (zones_of zones.now) look.now
         (map (λ c. c.cron) crons.now) (string_bytes s)) }
     ensures err { IfErr result (λ e. e ≡ OutOfMemory) }
 {
@@ -158,11 +158,11 @@ pub(crate) fn with_nights(
     alloc: Global,
     explain: bool,
     zones: &ZoneTable,
-    look: Look,
+    look: &Look,
     crons: &[Shared<ClusterCron>],
     answer: Answer,
 ) -> Result<Answer, Refusal>
-    ensures ok { IfOk result (λ a. TellsNights explain (zones_of zones.now) look
+    ensures ok { IfOk result (λ a. TellsNights explain (zones_of zones.now) look.now
         (map (λ c. c.cron) crons.now) (outcome_of answer) (outcome_of a)) }
     ensures err { IfErr result (λ e. e ≡ OutOfMemory) }
 {

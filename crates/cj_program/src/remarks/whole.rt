@@ -103,7 +103,7 @@ fn with_nights(
 {
     let (crons, _) = closed.objects()?;
     let look = Look::Within(span.start(), last_instant(span));
-    let nights = nights_text(alloc, zones, look, crons.as_slice())?;
+    let nights = nights_text(alloc, zones, &look, crons.as_slice())?;
     text.push_str(nights.as_str())?;
     Ok(text)
 }

@@ -10,10 +10,10 @@ of_each (Ok x) P all = all x
 of_each (Err e) P all = search rules
 
 pub returns-then-is_form : goal.returns-then-is_form
-returns-then-is_form c = of_each c.file_answer.result _ (λ a. inr (sym c.is_form.ensures ∙ c.if-is_form.true))
+returns-then-is_form g c = of_each c.file_answer.result _ (λ a. inr (sym c.is_form.ensures ∙ c.if-is_form.true))
 
 pub returns-else-is_form : goal.returns-else-is_form
-returns-else-is_form c =
+returns-else-is_form g c =
     IfOk-weaker c.refused_form.result _ _
     (λ a h. inl (record { unknown = sym c.is_form.ensures ∙ c.if-is_form.false; answer = h }))
     c.refused_form.ensures

@@ -11,15 +11,17 @@ five t a b c d e b' c' e' is eb ec ee =
     is ∙ ap (λ x. a ++ (x ++ (c' ++ (d ++ e')))) eb ∙ ap (λ x. a ++ (b ++ (x ++ (d ++ e')))) ec
     ∙ ap (λ x. a ++ (b ++ (c ++ (d ++ x)))) ee
 
-pub returns-clause-ok : goal.returns-clause-ok
-returns-clause-ok c = record {
-  table = c.as_str.result.now;
-  standings = string_bytes c.in_ok-standings.standings;
-  told = subst (λ t. AreStandings (zones_of c.args.zones.now) t c.args.crons.now
-      (string_bytes c.in_ok-standings.standings))
-      c.from.ensures c.in_ok-standings.ensures.ok;
-  fullest = c.as_str-4.result.now;
-  are = five _ _ _ _ _ _ _ _ _ c.in_ok-text.ensures c.as_str-2.ensures.value
-      (c.as_str-3.ensures.value ∙ c.in_ok-changes.ensures.ok)
-      (c.as_str-5.ensures.value ∙ c.in_ok-last.ensures.ok);
+pub returns : goal.returns
+returns c = record {
+  ok = record {
+    table = c.as_str.result.now;
+    standings = string_bytes c.in_ok-standings.standings;
+    told = subst (λ t. AreStandings (zones_of c.args.zones.now) t c.args.crons.now
+        (string_bytes c.in_ok-standings.standings))
+        c.from.ensures c.in_ok-standings.ensures.ok;
+    fullest = c.as_str-4.result.now;
+    are = five _ _ _ _ _ _ _ _ _ c.in_ok-text.ensures c.as_str-2.ensures.value
+        (c.as_str-3.ensures.value ∙ c.in_ok-changes.ensures.ok)
+        (c.as_str-5.ensures.value ∙ c.in_ok-last.ensures.ok);
+  };
 }
