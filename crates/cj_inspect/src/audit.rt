@@ -225,9 +225,10 @@ fn list_audited(
         (outcome_of a)) }
 {
     let (explain, svg, output) = (audit_of.explain, audit_of.svg, audit_of.output);
+    let first = since;
     let all = audit(alloc, zones, &list.cluster, list.notes.as_slice())?;
     let findings = seen(all, since);
-    let look = cluster_look(alloc, &list.cluster, since, now)?;
+    let look = cluster_look(alloc, &list.cluster, first, now)?;
     let words = words(alloc, list, &findings)?;
     let printed = printed(alloc, svg, output, zones, &look, list, &findings)?;
     let answer = told_of(alloc, explain, list, &findings, printed, words.as_str())?;
