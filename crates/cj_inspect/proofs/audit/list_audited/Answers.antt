@@ -1,5 +1,5 @@
 -- list_audited: its ensures, from the findings of the list and what is told of them.
-use Rattle.std.proofs.Common.{◌≡◌, ◌∙◌, ap, map, subst, ℕ, List, string_bytes}
+use Rattle.std.proofs.Common.{◌≡◌, ◌∙◌, ap, arith, map, rules, subst, ℕ, List, string_bytes}
 use Rattle.std.specs.FinMap as map_of
 use Rattle.std.proofs.lemmas.Result.{IfOk-weaker}
 use Rattle.cj_zone.specs.Table.{zones_of}
