@@ -237,8 +237,8 @@ peaks_rule = record (new_rule (codes "peaks")) {
   defaults = codes "0" ∷ [];
 }
 
--- `cronsim upcoming [FILE].. [--from TIME] [--for LENGTH | --until TIME] [--cron [NAMESPACE/]NAME].. [-n NAMESPACE]
--- [-A] [--minutes] [--peaks N] [-o FORMAT] [--svg] [--zone NAME=RULE].. [--zoneinfo DIR]
+-- `cronsim upcoming [FILE].. [--from TIME] [--for LENGTH | --until TIME] ..
+-- [--cron [NAMESPACE/]NAME].. [-n NAMESPACE] [-A] [--minutes] [--peaks N] [-o FORMAT] [--svg] [--zone NAME=RULE].. [--zoneinfo DIR]
 -- [--explain]`
 abbrev pub upcoming_app : App
 upcoming_app =
@@ -309,8 +309,8 @@ previous_app =
     time_zone_rule in
     with_folder (with_rule zoned lines_rule)
 
--- `cronsim scenario [FILE] [--from TIME] [--for LENGTH | --until TIME] [--cron [NAMESPACE/]NAME].. [-n NAMESPACE]
--- [--zone NAME=RULE].. [--zoneinfo DIR] [--explain]`
+-- `cronsim scenario [FILE] [--from TIME] [--for LENGTH | --until TIME] ..
+-- [--cron [NAMESPACE/]NAME].. [-n NAMESPACE] [--zone NAME=RULE].. [--zoneinfo DIR] [--explain]`
 -- rule: scenario
 abbrev pub scenario_app : App
 scenario_app =

@@ -176,7 +176,8 @@ pub staged_added : (l m : List Place) (es fs : Stages) (k : Place) → AreStaged
     → HasStage es fs k (Some (after_add (stage_of es k))) → not (is_some (stage_of es k)) ≡ true → m ≡ l ++ k ∷ []
     → AreStaged m fs
 staged_added l m es fs k staged h new last =
-    staged_last l m es fs k _ staged h (ap is_lined (none_of (stage_of es k) new)) (ap is_lined (new_stage es k new)) last
+    staged_last l m es fs k _ staged h (ap is_lined (none_of (stage_of es k) new))
+    (ap is_lined (new_stage es k new)) last
 
 -- A key that had a stage is in the line after an add just where it was.
 lined_still : (o : Option Stage) → not (is_some o) ≡ false → is_lined o ≡ is_lined (Some (after_add o))

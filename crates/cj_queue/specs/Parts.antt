@@ -104,7 +104,6 @@ work_code =
 
 -- no key of the line is being worked on, each key that was added again is, and no key is in the
 -- line more than once
--- rule: queue-line
 pub record IsLined (line again processing : List Place) : Type 0 where
   pub free : (k : Place) → stands_in line k ≡ true → stands_in processing k ≡ false
   pub held : (k : Place) → stands_in again k ≡ true → stands_in processing k ≡ true

@@ -1,4 +1,4 @@
--- part_audited: its ensures, from the part of the list that is asked about, what is told of it, and what is told beside.
+-- part_audited: its ensures, from the part of the list that is asked about, and what is told beside it.
 use Rattle.std.proofs.Common.{◌≡◌, rules, subst, ℕ, Bool, Bor, List, false}
 use Rattle.cj_answers.specs.Outcome.{outcome_of}
 use Rattle.cj_inspect.specs.Audit.{within_of}

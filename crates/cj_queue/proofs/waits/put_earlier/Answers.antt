@@ -33,5 +33,6 @@ returns-clause-agree c =
     (ok_of c.insert.result _ h c.insert.ensures.updates).0 in
     let drops = subst (λ k. SetsOrder c.insert.new.self c.remove.new.self c.args.before k None)
     c.in_ok-try_copy.ensures.ok c.remove.ensures.updates.0 in
-    agrees_earlier c.args.times.now.entries c.insert-2.new.self.entries c.args.order.now c.insert.new.self c.remove.new.self
+    agrees_earlier c.args.times.now.entries c.insert-2.new.self.entries c.args.order.now c.insert.new.self
+    c.remove.new.self
     c.args.key.now c.args.at c.args.before c.requires.earlier c.requires.agree c.requires.waits sets adds drops

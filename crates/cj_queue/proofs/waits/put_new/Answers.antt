@@ -38,5 +38,6 @@ returns-clause-agree c =
     c.in_ok-first.ensures.one (ok_of c.insert.result _ h c.insert.ensures.updates).0) in
     let orders = subst (λ k. SetsOrder c.args.order.now c.insert-2.new.self c.args.at k (Some tt))
     c.in_ok-first.ensures.other (ok_of c.insert-2.result _ e c.insert-2.ensures.updates).0 in
-    agrees_new c.args.times.now.entries c.insert.new.self.entries c.args.order.now c.insert-2.new.self c.args.key.now c.args.at
+    agrees_new c.args.times.now.entries c.insert.new.self.entries c.args.order.now c.insert-2.new.self
+    c.args.key.now c.args.at
     c.requires.agree c.requires.absent sets orders
