@@ -238,8 +238,8 @@ peaks_rule = record (new_rule (codes "peaks")) {
 }
 
 -- `cronsim upcoming [FILE].. [--from TIME] [--for LENGTH | --until TIME] ..
--- [--cron [NAMESPACE/]NAME].. [-n NAMESPACE] [-A] [--minutes] [--peaks N] [-o FORMAT] [--svg] [--zone NAME=RULE].. [--zoneinfo DIR]
--- [--explain]`
+-- [--cron [NAMESPACE/]NAME].. [-n NAMESPACE] [-A] [--minutes] [--peaks N] [-o FORMAT] [--svg]
+-- [--zone NAME=RULE].. [--zoneinfo DIR] [--explain]`
 abbrev pub upcoming_app : App
 upcoming_app =
     let from = with_rule (with_rule (new_app (codes "upcoming")) inputs_rule) from_rule in
