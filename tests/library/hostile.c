@@ -49,6 +49,7 @@ static void want_empty(cronsim_cron *cron) {
     uint64_t due = 9;
     bool is_match = true;
     want("next, closed", cronsim_next(cron, 0, &due), CRONSIM_CLOSED);
+    want("next many, closed", cronsim_next_many(cron, 0, 60, &due, 1, &(size_t){9}), CRONSIM_CLOSED);
     want("previous, closed", cronsim_previous(cron, 0, 60, &due), CRONSIM_CLOSED);
     want("missed, closed", cronsim_missed(cron, 0, 60, &missed), CRONSIM_CLOSED);
     want("matches, closed", cronsim_matches(cron, 0, &is_match), CRONSIM_CLOSED);
@@ -179,9 +180,24 @@ static void ranges(void) {
     cronsim_cron cron = CRONSIM_CRON_INIT;
     cronsim_fault fault = {0, 0, 0};
     cronsim_missed_times missed = {7, 8};
-    uint64_t due = 9, last = 253370764799u;
+    uint64_t due = 9, last = 253370764799u, many[2] = {9, 9};
+    size_t found = 9;
     bool is_match = false;
     want("opened", cronsim_open(&cron, text("* * * * *"), 9, &fault), CRONSIM_DONE);
+    want("next many, past the end", cronsim_next_many(&cron, last + 1, last, many, 2, &found),
+         CRONSIM_RANGE);
+    want("next many, to past the end", cronsim_next_many(&cron, 0, UINT64_MAX, many, 2, &found),
+         CRONSIM_RANGE);
+    want("none of many written", found == 9 && many[0] == 9 && many[1] == 9, 1);
+    want("next many, turned round",
+         cronsim_next_many(&cron, 600, 60, many, 2, &found) == CRONSIM_DONE && found == 0, 1);
+    found = 9;
+    want("next many, no room",
+         cronsim_next_many(&cron, 0, last, many, 0, &found) == CRONSIM_DONE && found == 0, 1);
+    want("next many, two of a thousand million",
+         cronsim_next_many(&cron, 59, last, many, 2, &found) == CRONSIM_DONE && found == 2 &&
+             many[0] == 60 && many[1] == 120,
+         1);
     want("next after the end", cronsim_next(&cron, last, &due), CRONSIM_NONE);
     want("next, past the end", cronsim_next(&cron, last + 1, &due), CRONSIM_RANGE);
     want("next, UINT64_MAX", cronsim_next(&cron, UINT64_MAX, &due), CRONSIM_RANGE);
