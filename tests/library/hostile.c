@@ -49,7 +49,8 @@ static void want_empty(cronsim_cron *cron) {
     uint64_t due = 9;
     bool is_match = true;
     want("next, closed", cronsim_next(cron, 0, &due), CRONSIM_CLOSED);
-    want("next many, closed", cronsim_next_many(cron, 0, 60, &due, 1, &(size_t){9}), CRONSIM_CLOSED);
+    want("next many, closed", cronsim_next_many(cron, 0, 60, &due, 1, &(size_t){9}),
+         CRONSIM_CLOSED);
     want("previous, closed", cronsim_previous(cron, 0, 60, &due), CRONSIM_CLOSED);
     want("missed, closed", cronsim_missed(cron, 0, 60, &missed), CRONSIM_CLOSED);
     want("matches, closed", cronsim_matches(cron, 0, &is_match), CRONSIM_CLOSED);
