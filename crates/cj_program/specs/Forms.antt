@@ -1,10 +1,12 @@
 -- The form of what is printed.
-use Rattle.std.specs.Prelude.{◌≡◌, ◌⊎◌, ℕ, Bool, false, true, ◌&&◌, List, [], ◌∷◌, ◌++◌, Some, codes}
+use Rattle.std.specs.Prelude.{◌≡◌, ◌⊎◌, ℕ, Bool, false, true, ◌&&◌, List, [], ◌∷◌, ◌++◌, Some, Result, Ok, Err, codes}
 use Rattle.serde_json.specs.Data.{Data, string, object, member, no_members}
 use Rattle.serde_json.specs.Read.{read}
 use Rattle.cj_yaml.specs.BlockStyle.{IsBlock}
 use Rattle.cj_yaml.specs.ReadOf.{IsReadOf}
-use Rattle.cj_answers.specs.Outcome.{Outcome}
+use Rattle.cj_answers.specs.Outcome.{Outcome, outcome_of}
+use Rattle.cj_answers.specs.declared.answer.Answer.{Answer}
+use Rattle.cj_io.specs.declared.failure.Failure.{Failure}
 use Rattle.cj_answers.specs.as_json.Forms.{IsJsonLine, is_json, is_yaml}
 use Rattle.cj_answers.specs.declared.answer.Ending.{Ending}
 use Rattle.cj_answers.specs.declared.answer.Ending.TheVariants.{Done, Refused}
@@ -59,6 +61,12 @@ pub record IsInForm (output : List ℕ) (o o' : Outcome) : Type 0 where
   pub valued : IsValued (tells_refusal output o.ending o.printed) o.printed o.said value
   pub printed : IsPrintedAs (is_yaml output) value o'.printed
   pub said : o'.said ≡ o.said
+
+-- an answer is shown as o, and a failure isn't
+-- rules: output-refused, output-yaml
+abbrev pub IsFormed : List ℕ → Result Answer Failure → Outcome → Type 0
+IsFormed output (Ok a) o = IsInForm output (outcome_of a) o
+IsFormed output (Err e) o = ⊥
 
 -- an outcome in the form that the words ask for
 -- rules: output-refused, output-yaml

@@ -2,9 +2,9 @@
 // and a refusal as a value too.
 ghost use Rattle.std.specs.Prelude.{◌≡◌, IfOk, string_bytes};
 ghost use Rattle.serde_json.specs.View.{view};
-ghost use Rattle.cj_answers.specs.Outcome.{Outcome, outcome_of};
+ghost use Rattle.cj_answers.specs.Outcome.{outcome_of};
 ghost use Rattle.cj_answers.specs.as_json.Forms.{is_yaml};
-ghost use Rattle.cj_program.specs.Forms.{InForm, IsInForm, IsPrintedAs, IsRefusalText, IsValued, IsYaml, refusal_data, tells_refusal};
+ghost use Rattle.cj_program.specs.Forms.{IsFormed, IsInForm, IsPrintedAs, IsRefusalText, IsValued, IsYaml, refusal_data, tells_refusal};
 
 use cj_answers::{Answer, Ending, is_json, is_yaml, value_line, yaml_text};
 use cj_io::Failure;
@@ -114,8 +114,7 @@ pub(crate) fn formed(
     output: &str,
     answer: Result<Answer, Failure>,
 ) -> Result<Answer, Failure>
-    ensures { (Is : Outcome → Type 0) → IfOk answer (λ a. Is (outcome_of a)) →
-        IfOk result (λ a. InForm output.now Is (outcome_of a)) }
+    ensures { IfOk result (λ a. IsFormed output.now answer (outcome_of a)) }
 {
     in_form(alloc, output, answer?)
 }
