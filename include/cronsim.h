@@ -259,7 +259,7 @@ uint32_t cronsim_why(const uint8_t *list, size_t list_length, const uint8_t *zon
  * with `from`, `to`, and how many `cronJobs` and `starts` there are; `minutes`, each with its
  * `time`, a `count` and its `cronJobs`; in `peaks` the fullest minutes, as many as `peaks` says; in
  * `idle` the CronJobs that start nothing; in `changes` where the clocks of their zones are put; and
- * in `files` the items of the list that it can't use.
+ * in `files` the items of the list that it can't use. It has no member `summary`.
  * CRONSIM_REFUSED if the text is no list, or, with the cause TooMany, if it has more than 4,000,000
  * starts; CRONSIM_RANGE if the window is longer than 3,000 days or ends after the year 9998;
  * CRONSIM_ROOM; CRONSIM_MEMORY.

@@ -7,6 +7,7 @@ is slow.
 """
 import json
 import os
+import re
 import subprocess
 import sys
 from datetime import datetime
@@ -19,6 +20,10 @@ PATIENCE = 1800
 # A run over more instants than these takes half a minute on a build without proofs.
 MOST_INSTANTS = 600
 IS_QUICK = os.environ.get("QUICK") == "1"
+# A moment by the machine's clock.
+OFFSET = re.compile(r"now|[-+]\d+[smhdw]")
+# Where a fault of YAML stands, as the program itself says.
+PLACE = re.compile(r"^-:\d+:\d+: .*\n", re.M)
 BUILT = 'root=$1; . "$root/tools/common"; built'
 
 
@@ -53,6 +58,29 @@ def is_long(row):
         datetime.fromisoformat(said[it].replace("Z", "+00:00")) for it in ("start", "end")
     )
     return (end - start).total_seconds() / said.get("stepSeconds", 60) > MOST_INSTANTS
+
+
+def moment_of(words):
+    """What the words say of `--now`: its value, or None where they don't name it."""
+    for word, value in zip(words, [*words[1:], ""]):
+        if word == "--now" or word.startswith("--now="):
+            return value if word == "--now" else word.partition("=")[2]
+    return None
+
+
+def asks_clock(row):
+    """Whether the built program would look at the machine's clock, which the row's answer knows
+    nothing of."""
+    words = row["words"]
+    if words[:1] == ["next"] or not row["stderr"].startswith("cronsim: time"):
+        return False
+    named = any(word.partition("=")[0] in ("--now", "--from", "--after") for word in words)
+    return not named or bool(OFFSET.fullmatch(moment_of(words) or ""))
+
+
+def can_be_asked(row):
+    """Whether the built program can be given the row's words, and answers as the row does."""
+    return not any("\0" in word for word in row["words"]) and not asks_clock(row)
 
 
 def left_out(usual, quick, what):

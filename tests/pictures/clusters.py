@@ -17,13 +17,18 @@ SCHEDULES = [
 ]
 
 
+def name_of(number):
+    """Its name; every fifth is too long for its place beside the bars."""
+    return f"cron-{number}" + ("-that-has-a-long-name" if number % 5 == 0 else "")
+
+
 def cron(choice, number):
     return {
         "apiVersion": "batch/v1",
         "kind": "CronJob",
         "metadata": {
             "namespace": f"team-{number % 7}",
-            "name": f"cron-{number}",
+            "name": name_of(number),
             "uid": f"uid-{number}",
             "creationTimestamp": time(START - 86400),
         },
@@ -123,10 +128,23 @@ def titles(parts):
     return [part.findtext(f"{SVG}title") for part in parts]
 
 
+def heads(top, wrong):
+    """The name of each CronJob, whole in the title, and with its middle left out where it is too
+    long."""
+    for head in top.iter(f"{SVG}text"):
+        title = head.find(f"{SVG}title")
+        if head.get("class") == "h" and title is not None:
+            whole = title.text.split(",")[0]
+            wanted = whole if len(whole) <= 28 else f"{whole[:14]}\u2026{whole[-13:]}"
+            if title.tail != wanted:
+                wrong.append(f"{title.tail!r} for {whole}")
+
+
 def troubles(top, said, lines, wrong):
     """A bar for each Job of one of the CronJobs, a cross for each finding, and the Jobs that
     findings name are marked."""
     bars = bars_of(top, wrong)
+    heads(top, wrong)
     names = sorted(title.split(",")[0].split("/")[1] for title in titles(bars))
     if names != sorted(said["owned"]):
         wrong.append(f"{len(names)} bars of {len(said['owned'])} Jobs")

@@ -99,6 +99,21 @@ def due_times(schedule, zone, start, end):
     return [at for at in range(-(-start // 60) * 60, end, 60) if schedule.allows(shown(zone, at))]
 
 
+def summed(schedule, zone, start, end):
+    """How many starts there are, the first, the last, how far apart they are where that is the
+    same for all, and the next one, be it after the end."""
+    times = due_times(schedule, zone, start, end)
+    gaps = {after - before for before, after in zip(times, times[1:])}
+    every = gaps.pop() if len(gaps) == 1 else None
+    at = times[0] if times else -(-start // 60) * 60
+    while not times and not schedule.allows(local := shown(zone, at)):
+        # (a day of these zones begins at a multiple of five minutes)
+        is_day = local.month in schedule.sets[3] and schedule.allows_day(local)
+        at = at + 60 if is_day else (at // 300 + 1) * 300
+    first, last = (text(times[0]), text(times[-1])) if times else (None, None)
+    return len(times), first, last, every, text(at)
+
+
 def upcoming(crons, zones, start, end, peaks):
     """What is printed of CronJobs in their order, each as its key, its schedule, the name of its
     zone or none, and whether it is suspended."""

@@ -33,7 +33,7 @@ field_hint text =
     if nat_le 5 (count_by is_blank text) && list_any is_letter text then codes
     "schedule: want the five fields alone, without the command of a crontab's line\n"
     else if count_by is_blank text == 0 && list_any is_point text then codes
-    "schedule: it looks like the name of a file; check, plan, run, why, audit and upcoming read files\n"
+    "schedule: it looks like the name of a file; describe -f says its schedules, and check, plan, run, why, audit and upcoming read files\n"
     else []
 
 -- rule: explain-hint

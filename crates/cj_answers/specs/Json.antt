@@ -57,7 +57,7 @@ empty_words = codes "FILE: empty; JSON is wanted\n"
 -- rule: explain-json
 abbrev pub several_words : List ℕ
 several_words =
-    codes "FILE: one JSON value behind another, as kubectl get -w prints them; one is wanted, as it prints without -w\n"
+    codes "FILE: several values, one behind another: each has to be JSON, and one an object with a kind\n"
 
 -- what is said of JSON behind a byte order mark
 -- rule: explain-json
@@ -100,8 +100,8 @@ pub record IsFollowed (bytes : List ℕ) : Type 0 where
 abbrev pub IsMore : List ℕ → List ℕ → Type 0
 IsMore bytes words = (words ≡ []) ⊎ ((words ≡ several_words) × IsFollowed bytes)
 
--- the line with the place that `serde_json` gives, and what is behind it; which place it is isn't
--- stated
+-- the line with the place at which `serde_json` finds a fault, and what is behind it; which place
+-- it is isn't stated
 pub record IsPlaced (More : List ℕ → Type 0) (words : List ℕ) : Type 0 where
   pub line : ℕ
   pub column : ℕ

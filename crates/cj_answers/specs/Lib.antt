@@ -14,6 +14,8 @@ pub mod Moments
 pub mod Nearest
 pub mod NextText
 pub mod Outcome
+pub mod Previous
+pub mod PreviousText
 pub mod Shapes
 pub mod Suggestion
 pub mod Times

@@ -87,7 +87,7 @@ fn field_hint(text: &str) -> &'static str
     if blanks >= 5 && has_letter(text) {
         "schedule: want the five fields alone, without the command of a crontab's line\n"
     } else if blanks == 0 && has_point(text) {
-        "schedule: it looks like the name of a file; check, plan, run, why, audit and upcoming read files\n"
+        "schedule: it looks like the name of a file; describe -f says its schedules, and check, plan, run, why, audit and upcoming read files\n"
     } else {
         ""
     }

@@ -1,17 +1,21 @@
-// What the commands take for the bytes of an input: JSON as it is, and JSON of what YAML says.
-ghost use Rattle.std.specs.Prelude.{◌≡◌, [], IfOk, string_bytes};
+// What the commands take for the bytes of an input: JSON as it is, and JSON of what YAML says, or
+// several values, an array or a watch.
+ghost use Rattle.std.specs.Prelude.{◌≡◌, [], true, IfOk, IfSome, string_bytes};
 ghost use Rattle.std.specs.Bool.{OnTrue};
 ghost use Rattle.serde_json.specs.Data.{Data};
 ghost use Rattle.serde_json.specs.View.{view};
-ghost use Rattle.cj_manifest.specs.Reading.{IsNoValue};
+ghost use Rattle.cj_manifest.specs.Reading.{IsNoValue, Reads};
 ghost use Rattle.cj_answers.specs.declared.json.TextShape.TheVariants.{Plain};
-ghost use Rattle.cj_answers.specs.Inputs.{IsTaken, IsTextOf};
+ghost use Rattle.cj_answers.specs.Inputs.{IsTaken, IsTextOf, is_several};
 ghost use Rattle.cj_answers.specs.Json.{shape_of};
 
-use crate::json::may_be_yaml;
+use crate::events::event_of;
+use crate::items::{Items, Passed, list_value};
+use crate::json::{TextShape, may_be_yaml, shape_of};
+use crate::json_texts::{is_one_object, values_in};
 use crate::shapes::shape_words;
-use crate::yaml_lists::{Items, list_value};
 use cj_io::Failure;
+use cj_scenario::{SceneFault, value_of};
 use cj_yaml::{Document, FaultKind, Warning, read};
 use serde_json::Value;
 use std::alloc::Global;
@@ -34,6 +38,16 @@ fn text_of(alloc: Global, value: &Value) -> Result<Vec<u8>, Failure>
 {
     let text = value.to_string(alloc)?;
     Ok(text.into_bytes())
+}
+
+fn as_it_is(alloc: Global, bytes: Vec<u8>) -> JsonInput
+    ensures bytes { result.bytes ≡ bytes }
+    ensures said { string_bytes result.said ≡ [] }
+{
+    JsonInput {
+        bytes,
+        said: String::new(alloc),
+    }
 }
 
 // Adds the lines of warnings, up to the most that are told.
@@ -68,44 +82,106 @@ fn warned(alloc: Global, documents: &[Document]) -> Result<String, Failure> {
     Ok(said)
 }
 
-// Whether a document says anything.
-fn says(document: &Document) -> bool {
-    !document.value.is_null()
+// Adds the lines on what was passed over.
+fn push_passed(alloc: Global, said: &mut String, passed: Passed) -> Result<(), Failure> {
+    let Passed { others, marks } = passed;
+    if others > 0 {
+        let line = format!(in alloc; "FILE: objects of other kinds, passed over: {others}\n")?;
+        said.push_str(line.as_str())?;
+    }
+    if marks > 0 {
+        let line = format!(in alloc; "FILE: BOOKMARK and ERROR events, passed over: {marks}\n")?;
+        said.push_str(line.as_str())?;
+    }
+    Ok(())
 }
 
-// Whether a document is a mapping or a list.
-fn is_nested(document: &Document) -> bool {
-    document.value.is_object() || document.value.is_array()
+// Whether a value is an object of Kubernetes, which has a kind, or an event of a watch.
+fn is_object(value: &Value) -> bool {
+    let is_kind = value.get("kind").and_then(Value::as_str).is_some();
+    is_kind || event_of(value).is_some()
 }
 
-// Takes several documents as a list of their objects.
-fn take_several(
+// Whether a value is such an object, or an array with one.
+fn has_object(value: &Value) -> bool {
+    match value {
+        Value::Array(items) => items.iter().any(is_object),
+        _ => is_object(value),
+    }
+}
+
+// Whether the objects in a value are taken for it: it is an array with an object, or an event of a
+// watch.
+fn is_several(value: &Value) -> bool
+    ensures { OnTrue result (is_several (view value.now) ≡ true) }
+{
+    if value.is_array() {
+        has_object(value)
+    } else {
+        event_of(value).is_some()
+    }
+}
+
+// Takes the objects of several values as a list.
+fn objects_of(
     alloc: Global,
-    documents: Vec<Document>,
+    values: Vec<Value>,
     mut said: String,
 ) -> Result<(Value, String), Failure> {
     let mut items = Items::new(alloc);
-    for document in documents {
-        let Document { value, .. } = document;
-        items.push(value)?;
+    for value in values {
+        items.push(alloc, value)?;
     }
-    if items.passed() > 0 {
-        let count = items.passed();
-        let line = format!(in alloc; "FILE: objects of other kinds, passed over: {count}\n")?;
-        said.push_str(line.as_str())?;
-    }
+    push_passed(alloc, &mut said, items.passed())?;
     Ok((list_value(alloc, items)?, said))
 }
 
-// The value of the one document that says anything.
-fn only_value(documents: Vec<Document>) -> Value {
+// What is taken for several values.
+fn of_values(alloc: Global, values: Vec<Value>, said: String) -> Result<JsonInput, Failure>
+    ensures { IfOk result (λ t. (d : Data) × IsTextOf d t.bytes.items) }
+{
+    let (value, said) = objects_of(alloc, values, said)?;
+    let bytes = text_of(alloc, &value)?;
+    Ok(JsonInput { bytes, said })
+}
+
+// What is taken for one value whose objects are.
+fn of_several(alloc: Global, value: Value) -> Result<JsonInput, Failure>
+    ensures { IfOk result (λ t. (d : Data) × IsTextOf d t.bytes.items) }
+{
+    let mut values = Vec::new(alloc);
+    values.push(value)?;
+    of_values(alloc, values, String::new(alloc))
+}
+
+// The values of documents that say anything.
+fn document_values(alloc: Global, documents: Vec<Document>) -> Result<Vec<Value>, Failure> {
+    let mut values = Vec::new(alloc);
     for document in documents {
-        if says(&document) {
-            let Document { value, .. } = document;
-            return value;
+        let Document { value, .. } = document;
+        if !value.is_null() {
+            values.push(value)?;
         }
     }
-    Value::Null
+    Ok(values)
+}
+
+// The value of one document, or the list of the objects of several.
+fn documents_value(
+    alloc: Global,
+    values: Vec<Value>,
+    said: String,
+) -> Result<(Value, String), Failure> {
+    let mut values = values;
+    if values.len() == 1 {
+        if let Some(value) = values.pop() {
+            if !is_several(&value) {
+                return Ok((value, said));
+            }
+            values.push(value)?;
+        }
+    }
+    objects_of(alloc, values, said)
 }
 
 // What is taken for documents, at least one of which is a mapping or a list.
@@ -113,24 +189,15 @@ fn of_documents(alloc: Global, documents: Vec<Document>) -> Result<JsonInput, Fa
     ensures { IfOk result (λ t. (d : Data) × IsTextOf d t.bytes.items) }
 {
     let said = warned(alloc, documents.as_slice())?;
-    let count = documents.iter().filter(|document| says(document)).count();
-    let (value, said) = if count > 1 {
-        take_several(alloc, documents, said)?
-    } else {
-        (only_value(documents), said)
-    };
+    let values = document_values(alloc, documents)?;
+    let (value, said) = documents_value(alloc, values, said)?;
     let bytes = text_of(alloc, &value)?;
     Ok(JsonInput { bytes, said })
 }
 
-fn as_it_is(alloc: Global, bytes: Vec<u8>) -> JsonInput
-    ensures bytes { result.bytes ≡ bytes }
-    ensures said { string_bytes result.said ≡ [] }
-{
-    JsonInput {
-        bytes,
-        said: String::new(alloc),
-    }
+// Whether a document is a mapping or a list.
+fn is_nested(document: &Document) -> bool {
+    document.value.is_object() || document.value.is_array()
 }
 
 // Whether YAML is to be read of the bytes: they are no JSON, and nothing that people have by
@@ -145,10 +212,8 @@ fn is_asked(alloc: Global, bytes: &[u8]) -> Result<bool, Failure>
     }
 }
 
-/// What is taken for the bytes of an input. JSON stays as it is, and so does what is no YAML. Of
-/// YAML the value is taken, if it is a mapping or a list. Several documents are taken as the list
-/// of their objects that `kubectl get` prints, without those of other kinds.
-pub fn json_input(alloc: Global, bytes: Vec<u8>) -> Result<JsonInput, Failure>
+// What is taken for bytes that begin neither as JSON nor behind a byte order mark as JSON.
+fn of_plain(alloc: Global, bytes: Vec<u8>) -> Result<JsonInput, Failure>
     ensures { IfOk result (λ t. IsTaken bytes.items t.bytes.items (string_bytes t.said)) }
 {
     if !is_asked(alloc, bytes.as_slice())? {
@@ -166,5 +231,68 @@ pub fn json_input(alloc: Global, bytes: Vec<u8>) -> Result<JsonInput, Failure>
             FaultKind::OutOfMemory => Err(Failure::Memory),
             _ => Ok(as_it_is(alloc, bytes)),
         },
+    }
+}
+
+// What is taken for values one behind another; none where they aren't, or none has an object.
+fn of_texts(alloc: Global, text: &[u8]) -> Result<Option<JsonInput>, Failure>
+    ensures { IfOk result (λ o. IfSome o (λ t. (d : Data) × IsTextOf d t.bytes.items)) }
+{
+    match values_in(alloc, text)? {
+        Some(values) if values.iter().any(has_object) => {
+            Ok(Some(of_values(alloc, values, String::new(alloc))?))
+        }
+        _ => Ok(None),
+    }
+}
+
+// What is taken for bytes that are no JSON: perhaps they are values one behind another.
+fn of_no_value(alloc: Global, bytes: Vec<u8>) -> Result<JsonInput, Failure>
+    requires { IsNoValue bytes.items }
+    ensures { IfOk result (λ t. IsTaken bytes.items t.bytes.items (string_bytes t.said)) }
+{
+    match of_texts(alloc, bytes.as_slice())? {
+        Some(input) => Ok(input),
+        None => Ok(as_it_is(alloc, bytes)),
+    }
+}
+
+// What is taken for JSON of this value.
+fn of_value(alloc: Global, bytes: Vec<u8>, value: Value) -> Result<JsonInput, Failure>
+    requires { Reads bytes.items (view value) }
+    ensures { IfOk result (λ t. IsTaken bytes.items t.bytes.items (string_bytes t.said)) }
+{
+    if is_several(&value) {
+        of_several(alloc, value)
+    } else {
+        Ok(as_it_is(alloc, bytes))
+    }
+}
+
+// What is taken for bytes that begin as JSON.
+fn of_braced(alloc: Global, bytes: Vec<u8>) -> Result<JsonInput, Failure>
+    ensures { IfOk result (λ t. IsTaken bytes.items t.bytes.items (string_bytes t.said)) }
+{
+    if is_one_object(bytes.as_slice()) {
+        return Ok(as_it_is(alloc, bytes));
+    }
+    match value_of(alloc, bytes.as_slice()) {
+        Ok(value) => of_value(alloc, bytes, value),
+        Err(SceneFault::Memory) => Err(Failure::Memory),
+        Err(_) => of_no_value(alloc, bytes),
+    }
+}
+
+/// What is taken for the bytes of an input. A JSON object stays as it is, and so does what is
+/// neither JSON nor YAML. Of YAML the value is taken, if it is a mapping or a list. Several values
+/// or documents, an array of objects, and the events of a watch are taken as the list of their
+/// objects that `kubectl get` prints, without those of other kinds.
+pub fn json_input(alloc: Global, bytes: Vec<u8>) -> Result<JsonInput, Failure>
+    ensures { IfOk result (λ t. IsTaken bytes.items t.bytes.items (string_bytes t.said)) }
+{
+    match shape_of(bytes.as_slice()) {
+        TextShape::Plain => of_plain(alloc, bytes),
+        TextShape::Braced => of_braced(alloc, bytes),
+        TextShape::Marked | TextShape::Empty => Ok(as_it_is(alloc, bytes)),
     }
 }

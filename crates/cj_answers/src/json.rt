@@ -6,6 +6,7 @@ ghost use Rattle.cj_manifest.specs.Reading.{IsNoValue, Reads};
 ghost use Rattle.cj_answers.specs.declared.json.TextShape.TheVariants.{Plain};
 ghost use Rattle.cj_answers.specs.Json.{IsJsonWords, IsMore, IsPlaced, IsYamlWords, first_byte, is_blank, is_brace, is_braced, is_marked, json_line, marked_words, shape_by, shape_of};
 
+use crate::json_texts::{broken_text, first_text};
 use crate::yaml_words::yaml_words;
 use cj_io::Failure;
 use cj_scenario::{SceneFault, value_of};
@@ -25,7 +26,7 @@ pub(crate) enum TextShape {
     Plain,
 }
 
-fn is_blank(byte: u8) -> bool
+pub(crate) fn is_blank(byte: u8) -> bool
     ensures { result ≡ is_blank byte }
 {
     byte == b' ' || byte == b'\t' || byte == b'\n' || byte == b'\r'
@@ -78,8 +79,8 @@ fn is_marked(bytes: &[u8]) -> bool
     }
 }
 
-// What it looks like, by that byte.
-fn shape_of(bytes: &[u8]) -> TextShape
+/// What it looks like, by that byte.
+pub(crate) fn shape_of(bytes: &[u8]) -> TextShape
     ensures { result ≡ shape_of bytes.now }
 {
     if is_marked(bytes) {
@@ -107,7 +108,7 @@ struct TextPlace {
 }
 
 // The place that `serde_json` gives.
-fn place_of(alloc: Global, bytes: &[u8]) -> Result<TextPlace, Failure> {
+fn place_in(alloc: Global, bytes: &[u8]) -> Result<TextPlace, Failure> {
     match Value::from_slice(alloc, bytes) {
         Ok(_) => Ok(TextPlace { line: 0, column: 0 }),
         Err(error) if error.is_memory() => Err(Failure::Memory),
@@ -118,27 +119,56 @@ fn place_of(alloc: Global, bytes: &[u8]) -> Result<TextPlace, Failure> {
     }
 }
 
-// How many bytes are before that place.
-fn bytes_before(bytes: &[u8], place: TextPlace) -> usize {
-    let mut line = 1usize;
-    let mut start = 0;
-    for index in 0..bytes.len() {
-        if line >= place.line {
-            break;
-        }
-        if bytes[index] == b'\n' {
-            line = line.saturating_add(1);
-            start = index + 1;
-        }
+// The place behind a text, from 1.
+fn place_behind(text: &[u8]) -> TextPlace {
+    let mut place = TextPlace { line: 1, column: 1 };
+    for byte in text {
+        place = if *byte == b'\n' {
+            TextPlace {
+                line: place.line.saturating_add(1),
+                column: 1,
+            }
+        } else {
+            TextPlace {
+                line: place.line,
+                column: place.column.saturating_add(1),
+            }
+        };
     }
-    start.saturating_add(place.column.saturating_sub(1))
+    place
+}
+
+// A place in a text that begins at another place.
+fn place_from(start: TextPlace, place: TextPlace) -> TextPlace {
+    let column = if place.line <= 1 {
+        start.column.saturating_add(place.column).saturating_sub(1)
+    } else {
+        place.column
+    };
+    TextPlace {
+        line: start.line.saturating_add(place.line).saturating_sub(1),
+        column,
+    }
+}
+
+// The place at which the first of the values isn't one.
+fn place_of(alloc: Global, bytes: &[u8]) -> Result<TextPlace, Failure> {
+    let Some((before, text)) = broken_text(alloc, bytes)? else {
+        return place_in(alloc, bytes);
+    };
+    if before > bytes.len() {
+        return place_in(alloc, bytes);
+    }
+    let (front, _rest) = bytes.split_at(before);
+    Ok(place_from(place_behind(front), place_in(alloc, text)?))
 }
 
 // What is said of JSON behind a byte order mark.
 const MARKED_WORDS: &str = "FILE: a byte order mark is before the JSON, which has none\n";
 
+// What is said of several values, the first of which can be read.
 const SEVERAL_WORDS: &str =
-    "FILE: one JSON value behind another, as kubectl get -w prints them; one is wanted, as it prints without -w\n";
+    "FILE: several values, one behind another: each has to be JSON, and one an object with a kind\n";
 
 // Whether the bytes are a value.
 fn is_value(alloc: Global, bytes: &[u8]) -> Result<bool, Failure>
@@ -152,11 +182,14 @@ fn is_value(alloc: Global, bytes: &[u8]) -> Result<bool, Failure>
     }
 }
 
-// What is said where a value ends before that place, and more is behind it.
-fn more_words(alloc: Global, bytes: &[u8], place: TextPlace) -> Result<&'static str, Failure>
+// What is said where a value is at the front, and more behind it.
+fn more_words(alloc: Global, bytes: &[u8]) -> Result<&'static str, Failure>
     ensures { IfOk result (λ s. IsMore bytes.now s.now) }
 {
-    let count = bytes_before(bytes, place);
+    let Some((_text, rest)) = first_text(bytes) else {
+        return Ok("");
+    };
+    let count = bytes.len().saturating_sub(rest.len());
     if count >= bytes.len() {
         return Ok("");
     }
@@ -182,14 +215,14 @@ fn braced_words(alloc: Global, bytes: &[u8]) -> Result<String, Failure>
     ensures { IfOk result (λ s. IsPlaced (IsMore bytes.now) (string_bytes s)) }
 {
     let place = place_of(alloc, bytes)?;
-    let more = more_words(alloc, bytes, place)?;
+    let more = more_words(alloc, bytes)?;
     Ok(placed(alloc, place, more)?)
 }
 
 fn marked_words(alloc: Global, bytes: &[u8]) -> Result<String, Failure>
     ensures { IfOk result (λ s. IsPlaced (λ more. more ≡ marked_words) (string_bytes s)) }
 {
-    let place = place_of(alloc, bytes)?;
+    let place = place_in(alloc, bytes)?;
     Ok(placed(alloc, place, MARKED_WORDS)?)
 }
 
@@ -202,8 +235,9 @@ fn plain_words(alloc: Global, bytes: &[u8]) -> Result<String, Failure>
 }
 
 /// What is said of bytes that are no JSON, by what they look like: that they are empty; or the
-/// place at which `serde_json` finds that they are none, with a line where one value is behind
-/// another or a byte order mark is in front, or on why they are no YAML.
+/// place at which `serde_json` finds that they are none, or one of several values is none, with a
+/// line where the first of several can be read or a byte order mark is in front, or on why they are
+/// no YAML.
 pub fn json_words(alloc: Global, bytes: &[u8]) -> Result<String, Failure>
     ensures { IfOk result (λ s. IsJsonWords bytes.now (string_bytes s)) }
 {

@@ -1,5 +1,5 @@
 -- The command line, as `clap` reads it.
-use Rattle.std.specs.Prelude.{◌≡◌, ℕ, ◌≤◌, List, [], ◌∷◌, codes, Option, None, Some, option_map, Bool, true, false, bytes_eq}
+use Rattle.std.specs.Prelude.{◌≡◌, ℕ, ◌≤◌, List, [], ◌∷◌, codes, Option, None, Some, option_map, Bool, true, false, bytes_eq, ◌||◌, if◌then◌else◌}
 use Rattle.std.specs.Prelude.{⊤, ◌≢◌, ◌⊎◌, Result, IfOk, IfErr, map, unwrap_or, slice_get}
 use Rattle.std.specs.Borrow.{Bor}
 use Rattle.std.specs.Str.Parse.{IsNumeral, digits_value, without_leading_plus}
@@ -10,17 +10,20 @@ use Rattle.clap.specs.declared.builder.value_parser.ValueParser.TheVariants.{Uns
 use Rattle.cj_args.specs.declared.request.AuditRequest.{AuditRequest}
 use Rattle.cj_args.specs.declared.request.CheckRequest.{CheckRequest}
 use Rattle.cj_args.specs.declared.request.ControlRequest.{ControlRequest}
+use Rattle.cj_args.specs.declared.crontab.CrontabRequest.{CrontabRequest}
 use Rattle.cj_args.specs.declared.request.DescribeRequest.{DescribeRequest}
 use Rattle.cj_args.specs.declared.request.NextRequest.{NextRequest}
 use Rattle.cj_args.specs.declared.request.PlanRequest.{PlanRequest}
+use Rattle.cj_args.specs.declared.previous.PreviousRequest.{PreviousRequest}
 use Rattle.cj_args.specs.declared.report.ReportRequest.{ReportRequest}
 use Rattle.cj_args.specs.declared.request.ReplayRequest.{ReplayRequest}
 use Rattle.cj_args.specs.declared.request.RunRequest.{RunRequest}
 use Rattle.cj_args.specs.declared.request.UpcomingRequest.{UpcomingRequest}
 use Rattle.cj_args.specs.declared.request.WhyRequest.{WhyRequest}
 use Rattle.cj_args.specs.declared.request.ZoneWords.{ZoneWords}
+use Rattle.cj_args.specs.declared.scenario.ScenarioRequest.{ScenarioRequest}
 use Rattle.cj_args.specs.declared.request.Request.{Request}
-use Rattle.cj_args.specs.declared.request.Request.TheVariants.{Audit, Check, Control, Describe, Next, Plan, Replay, Report, Run, Upcoming, Why}
+use Rattle.cj_args.specs.declared.request.Request.TheVariants.{Audit, Check, Control, Crontab, Describe, Next, Plan, Previous, Replay, Report, Run, Scenario, Upcoming, Why}
 use Rattle.cj_args.specs.declared.word_fault.WordFault.{WordFault}
 use Rattle.cj_args.specs.declared.word_fault.WordFault.TheVariants.{Incomplete, OutOfMemory, Refused}
 
@@ -141,19 +144,23 @@ plan_app = with_zones (with_rule (with_rule (with_rule (new_app (codes "plan")) 
 abbrev pub replay_app : App
 replay_app = with_zones (with_rule (new_app (codes "replay")) file_rule)
 
-abbrev pub workers_rule : Rule
-workers_rule = record (new_rule (codes "workers")) {
+-- how many workers there are, or how many syncs may be under way at once, and how many where nobody
+-- says it
+-- rules: run-workers, control-options
+abbrev pub workers_rule : Text → Rule
+workers_rule usual = record (new_rule (codes "workers")) {
   long = Some (codes "workers");
-  required = true;
   value_names = 1;
   parser = Some (Unsigned 1 32);
+  defaults = usual ∷ [];
 }
 
--- `cronsim run FILE --workers N [--timeline] [--history] [--svg] [-o FORMAT] [--zone NAME=RULE]..
+-- `cronsim run FILE [--workers N] [--timeline] [--history] [--svg] [-o FORMAT] [--zone NAME=RULE]..
 -- [--zoneinfo DIR] [--explain]`
 abbrev pub run_app : App
 run_app =
-    let of = with_rule (with_rule (new_app (codes "run")) file_rule) workers_rule in
+    let workers = workers_rule (codes "2") in
+    let of = with_rule (with_rule (new_app (codes "run")) file_rule) workers in
     let shown = with_rule (with_rule of (flag_rule (codes "timeline")))
     (flag_rule (codes "history")) in
     with_zones (with_rule (with_rule shown (flag_rule (codes "svg"))) lines_rule)
@@ -176,20 +183,38 @@ namespace_rule =
 abbrev pub all_rule : Rule
 all_rule = record (flag_rule (codes "all-namespaces")) { short = Some 65 }
 
--- `cronsim why FILE [--now TIME] [--cron [NAMESPACE/]NAME].. [-n NAMESPACE] [-A] [-o FORMAT]
+-- the file of a command on a cluster: standard input where nobody names one
+-- rule: input-default
+abbrev pub input_rule : Rule
+input_rule = record (new_rule (codes "file")) { value_names = 1; defaults = codes "-" ∷ [] }
+
+-- one such file or more
+-- rule: input-default
+abbrev pub inputs_rule : Rule
+inputs_rule =
+    record input_rule { range = Some (record { start_inclusive = 1; end_inclusive = usize_max }) }
+
+-- `cronsim why [FILE] [--now TIME] [--cron [NAMESPACE/]NAME].. [-n NAMESPACE] [-A] [-o FORMAT]
 -- [--problems] [--zone NAME=RULE].. [--zoneinfo DIR] [--explain]`
 abbrev pub why_app : App
 why_app =
-    let of = with_rule (with_rule (new_app (codes "why")) file_rule) moment_rule in
+    let of = with_rule (with_rule (new_app (codes "why")) input_rule) moment_rule in
     let named = with_rule (with_rule (with_rule of crons_rule) namespace_rule) all_rule in
     with_zones (with_rule (with_rule named (output_rule (codes "table")))
     (flag_rule (codes "problems")))
 
--- `cronsim audit FILE [-A] [-o FORMAT] [--svg] [--zone NAME=RULE].. [--zoneinfo DIR] [--explain]`
+-- an option with one value, which may be left out
+abbrev pub left_rule : Text → Rule
+left_rule id = record (new_rule id) { long = Some id; value_names = 1 }
+
+-- `cronsim audit [FILE] [--since TIME] [--now TIME] [--cron [NAMESPACE/]NAME].. [-n NAMESPACE] [-A]
+-- [-o FORMAT] [--svg] [--zone NAME=RULE].. [--zoneinfo DIR] [--explain]`
 abbrev pub audit_app : App
 audit_app =
-    let of = with_rule (with_rule (new_app (codes "audit")) file_rule) all_rule in
-    with_zones (with_rule (with_rule of lines_rule) (flag_rule (codes "svg")))
+    let file = with_rule (new_app (codes "audit")) input_rule in
+    let of = with_rule (with_rule file (left_rule (codes "since"))) moment_rule in
+    let named = with_rule (with_rule (with_rule of crons_rule) namespace_rule) all_rule in
+    with_zones (with_rule (with_rule named lines_rule) (flag_rule (codes "svg")))
 
 -- the start of a window, which may be left out
 abbrev pub from_rule : Rule
@@ -212,24 +237,32 @@ peaks_rule = record (new_rule (codes "peaks")) {
   defaults = codes "0" ∷ [];
 }
 
--- `cronsim upcoming FILE.. [--from TIME] [--for LENGTH] [--cron [NAMESPACE/]NAME].. [-n NAMESPACE]
--- [-A] [--peaks N] [-o FORMAT] [--svg] [--zone NAME=RULE].. [--zoneinfo DIR] [--explain]`
+-- `cronsim upcoming [FILE].. [--from TIME] [--for LENGTH | --until TIME] ..
+-- [--cron [NAMESPACE/]NAME].. [-n NAMESPACE] [-A] [--minutes] [--peaks N] [-o FORMAT] [--svg]
+-- [--zone NAME=RULE].. [--zoneinfo DIR] [--explain]`
 abbrev pub upcoming_app : App
 upcoming_app =
-    let of = with_rule (with_rule (with_rule (new_app (codes "upcoming")) files_rule) from_rule)
-    length_rule in
+    let from = with_rule (with_rule (new_app (codes "upcoming")) inputs_rule) from_rule in
+    let of = with_rule (with_rule from length_rule) (left_rule (codes "until")) in
     let named = with_rule (with_rule (with_rule of crons_rule) namespace_rule) all_rule in
-    with_zones (with_rule (with_rule (with_rule named peaks_rule) lines_rule) (flag_rule (codes "svg")))
+    let told = with_rule (with_rule named (flag_rule (codes "minutes"))) peaks_rule in
+    with_zones (with_rule (with_rule told lines_rule) (flag_rule (codes "svg")))
 
 -- a start that may be left out
 abbrev pub since_rule : Rule
 since_rule = record (new_rule (codes "after")) { long = Some (codes "after"); value_names = 1 }
 
--- `cronsim describe SCHEDULE [--after TIME] [--count N] [--zone RULE] [--time-zone NAME] [-o
+-- a flag that says that the argument is the name of a file
+abbrev pub in_file_rule : Rule
+in_file_rule = record (flag_rule (codes "file")) { short = Some 102 }
+
+-- `cronsim describe SCHEDULE [-f] [--after TIME] [--count N] [--zone RULE] [--time-zone NAME] [-o
 -- FORMAT] [--zoneinfo DIR] [--explain]`
+-- rule: describe-file
 abbrev pub describe_app : App
 describe_app =
-    let from = with_rule (with_rule (new_app (codes "describe")) schedule_rule) since_rule in
+    let of = with_rule (with_rule (new_app (codes "describe")) schedule_rule) in_file_rule in
+    let from = with_rule of since_rule in
     let zoned = with_rule (with_rule (with_rule from (count_rule (codes "5"))) zone_rule)
     time_zone_rule in
     with_folder (with_rule zoned lines_rule)
@@ -239,27 +272,51 @@ abbrev pub usual_rule : Text → Text → Rule
 usual_rule id usual =
     record (new_rule id) { long = Some id; value_names = 1; defaults = usual ∷ [] }
 
--- an option with one value, which may be left out
-abbrev pub left_rule : Text → Rule
-left_rule id = record (new_rule id) { long = Some id; value_names = 1 }
-
--- `cronsim report FILE.. [--since TIME] [--now TIME] [--zone NAME=RULE].. [--zoneinfo DIR]
--- [--explain]`
+-- `cronsim report [FILE].. [--since TIME] [--now TIME] [--cron [NAMESPACE/]NAME].. [-n NAMESPACE]
+-- [-A] [--zone NAME=RULE].. [--zoneinfo DIR] [--explain]`
 -- rule: report
 abbrev pub report_app : App
 report_app =
-    let of = with_rule (with_rule (new_app (codes "report")) files_rule) (left_rule (codes "since")) in
-    with_zones (with_rule of moment_rule)
+    let of = with_rule (with_rule (new_app (codes "report")) inputs_rule) (left_rule (codes "since")) in
+    let named = with_rule (with_rule (with_rule of moment_rule) crons_rule) namespace_rule in
+    with_zones (with_rule named all_rule)
 
--- how many syncs may be under way at once
--- rule: control-options
-abbrev pub syncs_rule : Rule
-syncs_rule = record (new_rule (codes "workers")) {
-  long = Some (codes "workers");
-  value_names = 1;
-  parser = Some (Unsigned 1 32);
-  defaults = codes "8" ∷ [];
-}
+-- `cronsim crontab FILE [--system] [--image IMAGE] [--shell SHELL] [-n NAMESPACE] ..`
+abbrev pub made_app : App
+made_app =
+    let of = with_rule (with_rule (new_app (codes "crontab")) file_rule)
+    (flag_rule (codes "system")) in
+    with_rule (with_rule (with_rule of (left_rule (codes "image"))) (left_rule (codes "shell")))
+    namespace_rule
+
+-- `.. [--time-zone NAME] [--now TIME] [-o FORMAT] [--zone NAME=RULE].. [--zoneinfo DIR]
+-- [--explain]`
+-- rule: crontab
+abbrev pub crontab_app : App
+crontab_app =
+    let at = with_rule (with_rule made_app (left_rule (codes "time-zone"))) (left_rule (codes "now"))
+    in
+    with_zones (with_rule at lines_rule)
+
+-- `cronsim previous SCHEDULE [--before TIME] [--count N] [--zone RULE] [--time-zone NAME] [-o
+-- FORMAT] [--zoneinfo DIR] [--explain]`
+-- rule: previous-lines
+abbrev pub previous_app : App
+previous_app =
+    let of = with_rule (new_app (codes "previous")) schedule_rule in
+    let upto = with_rule of (left_rule (codes "before")) in
+    let zoned = with_rule (with_rule (with_rule upto (count_rule (codes "1"))) zone_rule)
+    time_zone_rule in
+    with_folder (with_rule zoned lines_rule)
+
+-- `cronsim scenario [FILE] [--from TIME] [--for LENGTH | --until TIME] ..
+-- [--cron [NAMESPACE/]NAME].. [-n NAMESPACE] [--zone NAME=RULE].. [--zoneinfo DIR] [--explain]`
+-- rule: scenario
+abbrev pub scenario_app : App
+scenario_app =
+    let from = with_rule (with_rule (new_app (codes "scenario")) input_rule) from_rule in
+    let of = with_rule (with_rule from length_rule) (left_rule (codes "until")) in
+    with_zones (with_rule (with_rule of crons_rule) namespace_rule)
 
 -- labels, by the letter that `kubectl` has for them
 abbrev pub selector_rule : Rule
@@ -269,7 +326,8 @@ selector_rule = record (new_rule (codes "selector"))
 -- `cronsim control [--workers N] [-n NAMESPACE] [-l SELECTOR] [--only-annotated] [--dry-run] ..`
 abbrev pub chosen_app : App
 chosen_app =
-    let of = with_rule (with_rule (new_app (codes "control")) syncs_rule) namespace_rule in
+    let workers = workers_rule (codes "8") in
+    let of = with_rule (with_rule (new_app (codes "control")) workers) namespace_rule in
     with_rule (with_rule (with_rule of selector_rule) (flag_rule (codes "only-annotated")))
     (flag_rule (codes "dry-run"))
 
@@ -306,11 +364,17 @@ clustered_app = with_subcommand (with_subcommand acting_app why_app.top) audit_a
 
 -- those and the commands on the times to come
 abbrev pub asked_app : App
-asked_app = with_subcommand (with_subcommand clustered_app upcoming_app.top) describe_app.top
+asked_app =
+    let asked = with_subcommand (with_subcommand clustered_app upcoming_app.top) describe_app.top in
+    with_subcommand asked previous_app.top
 
--- those and the command that prints a page
+-- those and the commands that make a page or a scenario of a cluster
+abbrev pub made_of_app : App
+made_of_app = with_subcommand (with_subcommand asked_app report_app.top) scenario_app.top
+
+-- those and the command that reads a crontab
 abbrev pub reported_app : App
-reported_app = with_subcommand asked_app report_app.top
+reported_app = with_subcommand made_of_app crontab_app.top
 
 -- those and the controller of a cluster
 -- rules: words, help
@@ -412,6 +476,10 @@ pub record IsWhy (rows : List Row) (r : WhyRequest) : Type 0 where
 -- and for those of `audit`
 pub record IsAudit (rows : List Row) (r : AuditRequest) : Type 0 where
   pub file : first_of (codes "file") rows ≡ Some r.file.now
+  pub since : first_of (codes "since") rows ≡ option_map (λ s. s.now) r.since
+  pub moment : first_of (codes "now") rows ≡ option_map (λ s. s.now) r.moment
+  pub crons : texts_of (codes "cron") rows ≡ map (λ s. s.now) r.crons.items
+  pub namespace : first_of (codes "namespace") rows ≡ option_map (λ s. s.now) r.namespace
   pub output : first_of (codes "output") rows ≡ Some r.output.now
   pub svg : r.svg ≡ is_given (codes "svg") rows
   pub zones : AreZones rows r.zones
@@ -422,8 +490,10 @@ pub record IsUpcoming (rows : List Row) (r : UpcomingRequest) : Type 0 where
   pub files : texts_of (codes "file") rows ≡ map (λ s. s.now) r.files.items
   pub from : first_of (codes "from") rows ≡ option_map (λ s. s.now) r.from
   pub length : first_of (codes "for") rows ≡ Some r.length.now
+  pub until : first_of (codes "until") rows ≡ option_map (λ s. s.now) r.until
   pub crons : texts_of (codes "cron") rows ≡ map (λ s. s.now) r.crons.items
   pub namespace : first_of (codes "namespace") rows ≡ option_map (λ s. s.now) r.namespace
+  pub minutes : r.minutes ≡ is_given (codes "minutes") rows
   pub peaks : (text : Text) × (first_of (codes "peaks") rows ≡ Some text) × IsDecimal text r.peaks
   pub most : r.peaks ≤ 1_000
   pub output : first_of (codes "output") rows ≡ Some r.output.now
@@ -434,6 +504,7 @@ pub record IsUpcoming (rows : List Row) (r : UpcomingRequest) : Type 0 where
 -- and for those of `describe`
 pub record IsDescribe (rows : List Row) (r : DescribeRequest) : Type 0 where
   pub schedule : first_of (codes "schedule") rows ≡ Some r.schedule.now
+  pub is_file : r.is_file ≡ is_given (codes "file") rows
   pub after : first_of (codes "after") rows ≡ option_map (λ s. s.now) r.after
   pub count : (text : Text) × (first_of (codes "count") rows ≡ Some text) × IsDecimal text r.count
   pub least : 1 ≤ r.count
@@ -444,12 +515,54 @@ pub record IsDescribe (rows : List Row) (r : DescribeRequest) : Type 0 where
   pub folder : first_of (codes "zoneinfo") rows ≡ option_map (λ s. s.now) r.folder
   pub explain : r.explain ≡ is_given (codes "explain") rows
 
+-- and for those of `previous`
+-- rule: previous-lines
+pub record IsPrevious (rows : List Row) (r : PreviousRequest) : Type 0 where
+  pub schedule : first_of (codes "schedule") rows ≡ Some r.schedule.now
+  pub before : first_of (codes "before") rows ≡ option_map (λ s. s.now) r.before
+  pub count : (text : Text) × (first_of (codes "count") rows ≡ Some text) × IsDecimal text r.count
+  pub least : 1 ≤ r.count
+  pub most : r.count ≤ 1_000
+  pub zone : first_of (codes "zone") rows ≡ option_map (λ s. s.now) r.zone
+  pub time_zone : first_of (codes "time-zone") rows ≡ option_map (λ s. s.now) r.time_zone
+  pub output : first_of (codes "output") rows ≡ Some r.output.now
+  pub folder : first_of (codes "zoneinfo") rows ≡ option_map (λ s. s.now) r.folder
+  pub explain : r.explain ≡ is_given (codes "explain") rows
+
+-- and for those of `scenario`
+-- rule: scenario
+pub record IsScenario (rows : List Row) (r : ScenarioRequest) : Type 0 where
+  pub file : first_of (codes "file") rows ≡ Some r.file.now
+  pub from : first_of (codes "from") rows ≡ option_map (λ s. s.now) r.from
+  pub length : first_of (codes "for") rows ≡ Some r.length.now
+  pub until : first_of (codes "until") rows ≡ option_map (λ s. s.now) r.until
+  pub crons : texts_of (codes "cron") rows ≡ map (λ s. s.now) r.crons.items
+  pub namespace : first_of (codes "namespace") rows ≡ option_map (λ s. s.now) r.namespace
+  pub zones : AreZones rows r.zones
+  pub explain : r.explain ≡ is_given (codes "explain") rows
+
 -- and for those of `report`
 -- rule: report
 pub record IsReport (rows : List Row) (r : ReportRequest) : Type 0 where
   pub files : texts_of (codes "file") rows ≡ map (λ s. s.now) r.files.items
   pub since : first_of (codes "since") rows ≡ option_map (λ s. s.now) r.since
   pub moment : first_of (codes "now") rows ≡ option_map (λ s. s.now) r.moment
+  pub crons : texts_of (codes "cron") rows ≡ map (λ s. s.now) r.crons.items
+  pub namespace : first_of (codes "namespace") rows ≡ option_map (λ s. s.now) r.namespace
+  pub zones : AreZones rows r.zones
+  pub explain : r.explain ≡ is_given (codes "explain") rows
+
+-- and for those of `crontab`
+-- rule: crontab
+pub record IsCrontab (rows : List Row) (r : CrontabRequest) : Type 0 where
+  pub file : first_of (codes "file") rows ≡ Some r.file.now
+  pub system : r.system ≡ is_given (codes "system") rows
+  pub image : first_of (codes "image") rows ≡ option_map (λ s. s.now) r.image
+  pub shell : first_of (codes "shell") rows ≡ option_map (λ s. s.now) r.shell
+  pub namespace : first_of (codes "namespace") rows ≡ option_map (λ s. s.now) r.namespace
+  pub time_zone : first_of (codes "time-zone") rows ≡ option_map (λ s. s.now) r.time_zone
+  pub moment : first_of (codes "now") rows ≡ option_map (λ s. s.now) r.moment
+  pub output : first_of (codes "output") rows ≡ Some r.output.now
   pub zones : AreZones rows r.zones
   pub explain : r.explain ≡ is_given (codes "explain") rows
 
@@ -488,6 +601,12 @@ IsOfRows found (Describe r) =
     (rows : List Row) × (found ≡ Some (codes "describe", rows)) × IsDescribe rows r
 IsOfRows found (Report r) =
     (rows : List Row) × (found ≡ Some (codes "report", rows)) × IsReport rows r
+IsOfRows found (Crontab r) =
+    (rows : List Row) × (found ≡ Some (codes "crontab", rows)) × IsCrontab rows r
+IsOfRows found (Previous r) =
+    (rows : List Row) × (found ≡ Some (codes "previous", rows)) × IsPrevious rows r
+IsOfRows found (Scenario r) =
+    (rows : List Row) × (found ≡ Some (codes "scenario", rows)) × IsScenario rows r
 IsOfRows found (Control r) =
     (rows : List Row) × (found ≡ Some (codes "control", rows)) × IsControl rows r
 
@@ -500,6 +619,14 @@ IsOf words r = IsOfRows (subcommand_of cronsim_app words) r
 abbrev pub first_file : List (Bor Text) → Option Text
 first_file files = option_map (λ s. s.now) (slice_get files 0)
 
+-- the schedules are those of a file's CronJobs: where it is said, and of standard input
+-- rule: describe-file
+abbrev pub is_in_file : DescribeRequest → Bool
+is_in_file r = r.is_file || bytes_eq r.schedule.now (codes "-")
+
+abbrev pub described_file : DescribeRequest → Option Text
+described_file r = if is_in_file r then Some r.schedule.now else None
+
 -- the name of the file that a request has read, the first one of several, where it has one read
 abbrev pub file_of : Request → Option Text
 file_of (Next r) = None
@@ -510,8 +637,11 @@ file_of (Run r) = Some r.file.now
 file_of (Why r) = Some r.file.now
 file_of (Audit r) = Some r.file.now
 file_of (Upcoming r) = first_file r.files.items
-file_of (Describe r) = None
+file_of (Describe r) = described_file r
+file_of (Previous r) = None
 file_of (Report r) = first_file r.files.items
+file_of (Crontab r) = Some r.file.now
+file_of (Scenario r) = Some r.file.now
 file_of (Control r) = option_map (λ s. s.now) r.check
 
 -- the zones that the words give, where a command takes them
@@ -526,7 +656,10 @@ zones_of (Why r) = Some r.zones
 zones_of (Audit r) = Some r.zones
 zones_of (Upcoming r) = Some r.zones
 zones_of (Describe r) = None
+zones_of (Previous r) = None
 zones_of (Report r) = Some r.zones
+zones_of (Crontab r) = Some r.zones
+zones_of (Scenario r) = Some r.zones
 zones_of (Control r) = None
 
 -- the name of the folder in which a request has zones looked up, where one is given
@@ -541,7 +674,10 @@ folder_of (Why r) = option_map (λ s. s.now) r.zones.folder
 folder_of (Audit r) = option_map (λ s. s.now) r.zones.folder
 folder_of (Upcoming r) = option_map (λ s. s.now) r.zones.folder
 folder_of (Describe r) = option_map (λ s. s.now) r.folder
+folder_of (Previous r) = option_map (λ s. s.now) r.folder
 folder_of (Report r) = option_map (λ s. s.now) r.zones.folder
+folder_of (Crontab r) = option_map (λ s. s.now) r.zones.folder
+folder_of (Scenario r) = option_map (λ s. s.now) r.zones.folder
 folder_of (Control r) = option_map (λ s. s.now) r.folder
 
 -- whether a request has its refusal explained
@@ -556,7 +692,10 @@ explains (Why r) = r.explain
 explains (Audit r) = r.explain
 explains (Upcoming r) = r.explain
 explains (Describe r) = r.explain
+explains (Previous r) = r.explain
 explains (Report r) = r.explain
+explains (Crontab r) = r.explain
+explains (Scenario r) = r.explain
 explains (Control r) = r.explain
 
 -- when words are refused: `clap` doesn't take them, or no request has the values that it states for

@@ -1,6 +1,6 @@
 // The arguments of the commands.
 ghost use Rattle.cj_args.specs.Building.{IsArg, option_rule, positional_rule, required_rule};
-ghost use Rattle.cj_args.specs.Command.{all_rule, count_rule, crons_rule, explain_rule, files_rule, flag_rule, length_rule, lines_rule, namespace_rule, output_rule, peaks_rule, selector_rule, syncs_rule, usual_rule, workers_rule, zones_rule};
+ghost use Rattle.cj_args.specs.Command.{all_rule, count_rule, crons_rule, explain_rule, files_rule, flag_rule, in_file_rule, input_rule, inputs_rule, length_rule, lines_rule, namespace_rule, output_rule, peaks_rule, selector_rule, usual_rule, workers_rule, zones_rule};
 
 use crate::help;
 use clap::builder::ValueParser;
@@ -66,17 +66,31 @@ pub(crate) fn length_arg<'a>(alloc: Global) -> Arg<'a>
     option_arg(alloc, "for", "LENGTH", help::LENGTH).default_value("24h")
 }
 
-/// How many workers are started.
-pub(crate) fn workers_arg<'a>(alloc: Global) -> Arg<'a>
-    ensures { IsArg workers_rule result }
+/// How many workers there are, or how many syncs may be under way at once, and how many where
+/// nobody says it.
+pub(crate) fn workers_arg<'a>(alloc: Global, usual: &'a str, help: &'a str) -> Arg<'a>
+    ensures { IsArg (workers_rule usual.entry.now) result }
 {
-    required_arg(
-        alloc,
-        "workers",
-        "N",
-        "How many workers to run, 1 to 32, each in its own thread",
-    )
-    .value_parser(ValueParser::unsigned(1, 32))
+    option_arg(alloc, "workers", "N", help)
+        .value_parser(ValueParser::unsigned(1, 32))
+        .default_value(usual)
+}
+
+/// The file of a command on a cluster: standard input where nobody names one.
+pub(crate) fn input_arg<'a>(alloc: Global, file: &'a str) -> Arg<'a>
+    ensures { IsArg input_rule result }
+{
+    Arg::new(alloc, "file")
+        .value_name("FILE")
+        .help(file)
+        .default_value("-")
+}
+
+/// One such file or more.
+pub(crate) fn inputs_arg<'a>(alloc: Global, files: &'a str) -> Arg<'a>
+    ensures { IsArg inputs_rule result }
+{
+    input_arg(alloc, files).num_args(1..)
 }
 
 /// An option with one value, and the value that it has where nobody gives one.
@@ -90,15 +104,6 @@ pub(crate) fn usual_arg<'a>(
     ensures { IsArg (usual_rule id.entry.now usual.entry.now) result }
 {
     option_arg(alloc, id, value, help).default_value(usual)
-}
-
-/// How many syncs may be under way at once.
-pub(crate) fn syncs_arg<'a>(alloc: Global) -> Arg<'a>
-    ensures { IsArg syncs_rule result }
-{
-    option_arg(alloc, "workers", "N", help::SYNCS)
-        .value_parser(ValueParser::unsigned(1, 32))
-        .default_value("8")
 }
 
 /// The labels of the CronJobs that are looked after.
@@ -128,11 +133,11 @@ pub(crate) fn crons_arg<'a>(alloc: Global) -> Arg<'a>
     option_arg(alloc, "cron", "[NAMESPACE/]NAME", help::CRON).action(ArgAction::Append)
 }
 
-/// The namespace of those that are asked about.
-pub(crate) fn namespace_arg<'a>(alloc: Global) -> Arg<'a>
+/// A namespace.
+pub(crate) fn namespace_arg<'a>(alloc: Global, help: &'a str) -> Arg<'a>
     ensures { IsArg namespace_rule result }
 {
-    option_arg(alloc, "namespace", "NAMESPACE", help::NAMESPACE).short('n')
+    option_arg(alloc, "namespace", "NAMESPACE", help).short('n')
 }
 
 /// That all namespaces are meant, as they are without it: for those who know it from `kubectl`.
@@ -140,6 +145,13 @@ pub(crate) fn all_arg<'a>(alloc: Global) -> Arg<'a>
     ensures { IsArg all_rule result }
 {
     flag_arg(alloc, "all-namespaces", help::ALL).short('A')
+}
+
+/// That the schedules are those of a file's CronJobs, by the letter that `kubectl` has for files.
+pub(crate) fn in_file_arg<'a>(alloc: Global) -> Arg<'a>
+    ensures { IsArg in_file_rule result }
+{
+    flag_arg(alloc, "file", help::IN_FILE).short('f')
 }
 
 /// How the answer is printed, and how it is where nobody says so.
@@ -151,7 +163,7 @@ pub(crate) fn output_arg<'a>(alloc: Global, usual: &'a str, forms: &'a str) -> A
         .default_value(usual)
 }
 
-/// The option for the form of an answer that has lines and JSON.
+/// The option for the form of an answer that has lines, JSON and YAML.
 pub(crate) fn lines_arg<'a>(alloc: Global) -> Arg<'a>
     ensures { IsArg lines_rule result }
 {

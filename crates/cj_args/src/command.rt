@@ -2,15 +2,18 @@
 ghost use Rattle.std.specs.Prelude.{◌≡◌, IfOk};
 ghost use Rattle.clap.specs.Words.{App, Rule, app_of, new_app, with_rule, with_subcommand};
 ghost use Rattle.cj_args.specs.Building.{IsArg, IsCommand, bare_app};
-ghost use Rattle.cj_args.specs.Command.{acting_app, asked_app, audit_app, check_app, chosen_app, clustered_app, control_app, cronsim_app, deciding_app, describe_app, file_rule, next_app, plan_app, reading_app, replay_app, reported_app, run_app, upcoming_app, why_app, with_folder, with_zones};
+ghost use Rattle.cj_args.specs.Command.{acting_app, asked_app, audit_app, check_app, chosen_app, clustered_app, control_app, cronsim_app, deciding_app, describe_app, file_rule, input_rule, made_of_app, next_app, plan_app, reading_app, replay_app, reported_app, run_app, upcoming_app, why_app, with_folder, with_zones};
 
 use crate::arguments::{
-    all_arg, count_arg, crons_arg, explain_arg, files_arg, flag_arg, length_arg, lines_arg,
-    namespace_arg, option_arg, output_arg, peaks_arg, positional_arg, required_arg, selector_arg,
-    syncs_arg, usual_arg, workers_arg, zones_arg,
+    all_arg, count_arg, crons_arg, explain_arg, files_arg, flag_arg, in_file_arg, input_arg,
+    inputs_arg, length_arg, lines_arg, namespace_arg, option_arg, output_arg, peaks_arg,
+    positional_arg, required_arg, selector_arg, usual_arg, workers_arg, zones_arg,
 };
+use crate::crontab::crontab_command;
 use crate::help;
+use crate::previous::previous_command;
 use crate::report::report_command;
+use crate::scenario::scenario_command;
 use clap::{Arg, Command};
 use std::alloc::{AllocError, Global};
 
@@ -51,8 +54,8 @@ fn with_command<'a>(
     command?.subcommand(below?)
 }
 
-// The command with the folder of zone files, and the flag that every command has.
-fn with_folder<'a>(
+/// The command with the folder of zone files, and the flag that every command has.
+pub(crate) fn with_folder<'a>(
     alloc: Global,
     command: Result<Command<'a>, AllocError>,
 ) -> Result<Command<'a>, AllocError>
@@ -74,8 +77,8 @@ pub(crate) fn with_zones<'a>(
     with_folder(alloc, with_arg(command, zones_arg(alloc)))
 }
 
-// A command that reads a file, with no other argument yet.
-fn file_command<'a>(
+/// A command that reads a file, with no other argument yet.
+pub(crate) fn file_command<'a>(
     alloc: Global,
     name: &'a str,
     about: &'a str,
@@ -86,6 +89,20 @@ fn file_command<'a>(
 {
     let command = new_command(alloc, name, about, after);
     with_arg(Ok(command), positional_arg(alloc, "file", "FILE", file))
+}
+
+/// A command on a cluster, with no other argument than its file yet.
+pub(crate) fn cluster_command<'a>(
+    alloc: Global,
+    name: &'a str,
+    about: &'a str,
+    after: &'a str,
+    file: &'a str,
+) -> Result<Command<'a>, AllocError>
+    ensures { IfOk result (IsCommand (with_rule (new_app name.entry.now) input_rule)) }
+{
+    let command = new_command(alloc, name, about, after);
+    with_arg(Ok(command), input_arg(alloc, file))
 }
 
 fn next_command<'a>(alloc: Global) -> Result<Command<'a>, AllocError>
@@ -166,7 +183,7 @@ fn run_command<'a>(alloc: Global) -> Result<Command<'a>, AllocError>
         help::RUN,
         help::COURSE,
     );
-    let command = with_arg(command, workers_arg(alloc));
+    let command = with_arg(command, workers_arg(alloc, "2", help::WORKERS));
     let command = with_arg(command, flag_arg(alloc, "timeline", help::TIMELINE));
     let command = with_arg(command, flag_arg(alloc, "history", help::HISTORY));
     let command = with_arg(command, flag_arg(alloc, "svg", help::SVG));
@@ -177,7 +194,7 @@ fn run_command<'a>(alloc: Global) -> Result<Command<'a>, AllocError>
 fn why_command<'a>(alloc: Global) -> Result<Command<'a>, AllocError>
     ensures { IfOk result (IsCommand why_app) }
 {
-    let command = file_command(
+    let command = cluster_command(
         alloc,
         "why",
         "Say what each CronJob of a cluster missed, and what its next sync does",
@@ -186,7 +203,7 @@ fn why_command<'a>(alloc: Global) -> Result<Command<'a>, AllocError>
     );
     let command = with_arg(command, option_arg(alloc, "now", "TIME", help::NOW));
     let command = with_arg(command, crons_arg(alloc));
-    let command = with_arg(command, namespace_arg(alloc));
+    let command = with_arg(command, namespace_arg(alloc, help::NAMESPACE));
     let command = with_arg(command, all_arg(alloc));
     let command = with_arg(command, output_arg(alloc, "table", help::OUTPUT));
     let command = with_arg(command, flag_arg(alloc, "problems", help::PROBLEMS));
@@ -196,13 +213,17 @@ fn why_command<'a>(alloc: Global) -> Result<Command<'a>, AllocError>
 fn audit_command<'a>(alloc: Global) -> Result<Command<'a>, AllocError>
     ensures { IfOk result (IsCommand audit_app) }
 {
-    let command = file_command(
+    let command = cluster_command(
         alloc,
         "audit",
         "Find duplicate, overlapping, early and undue Jobs in a cluster, and due times without a Job",
         help::AUDIT,
         help::CLUSTER,
     );
+    let command = with_arg(command, option_arg(alloc, "since", "TIME", help::AUDITED));
+    let command = with_arg(command, option_arg(alloc, "now", "TIME", help::AUDIT_NOW));
+    let command = with_arg(command, crons_arg(alloc));
+    let command = with_arg(command, namespace_arg(alloc, help::NAMESPACE));
     let command = with_arg(command, all_arg(alloc));
     let command = with_arg(command, lines_arg(alloc));
     let command = with_arg(command, flag_arg(alloc, "svg", help::DRAWN));
@@ -215,15 +236,17 @@ fn upcoming_command<'a>(alloc: Global) -> Result<Command<'a>, AllocError>
     let command = new_command(
         alloc,
         "upcoming",
-        "Print what starts next, minute by minute, and which minutes are the fullest",
+        "Print what starts next, a line a CronJob, and which minutes are the fullest",
         help::UPCOMING,
     );
-    let command = with_arg(Ok(command), files_arg(alloc, help::LISTS));
+    let command = with_arg(Ok(command), inputs_arg(alloc, help::LISTS));
     let command = with_arg(command, option_arg(alloc, "from", "TIME", help::FROM));
     let command = with_arg(command, length_arg(alloc));
+    let command = with_arg(command, option_arg(alloc, "until", "TIME", help::UNTIL));
     let command = with_arg(command, crons_arg(alloc));
-    let command = with_arg(command, namespace_arg(alloc));
+    let command = with_arg(command, namespace_arg(alloc, help::NAMESPACE));
     let command = with_arg(command, all_arg(alloc));
+    let command = with_arg(command, flag_arg(alloc, "minutes", help::MINUTES));
     let command = with_arg(command, peaks_arg(alloc));
     let command = with_arg(command, lines_arg(alloc));
     let command = with_arg(command, flag_arg(alloc, "svg", help::DRAWN));
@@ -236,13 +259,14 @@ fn describe_command<'a>(alloc: Global) -> Result<Command<'a>, AllocError>
     let command = new_command(
         alloc,
         "describe",
-        "Put a schedule into a sentence, and print its next times by the clock of its zone",
+        "Put a schedule into a sentence, and print its next times; or those of a file's CronJobs",
         help::DESCRIBE,
     );
     let command = with_arg(
         Ok(command),
-        positional_arg(alloc, "schedule", "SCHEDULE", help::SCHEDULE),
+        positional_arg(alloc, "schedule", "SCHEDULE", help::SCHEDULE_OR_FILE),
     );
+    let command = with_arg(command, in_file_arg(alloc));
     let command = with_arg(command, option_arg(alloc, "after", "TIME", help::SINCE));
     let command = with_arg(command, count_arg(alloc, "5"));
     let command = with_arg(command, option_arg(alloc, "zone", "RULE", help::ZONE));
@@ -264,8 +288,8 @@ fn chosen_command<'a>(alloc: Global) -> Result<Command<'a>, AllocError>
         "Run the CronJobs of a cluster: requests go out line by line, and answers come in",
         help::CONTROL,
     );
-    let command = with_arg(Ok(command), syncs_arg(alloc));
-    let command = with_arg(command, namespace_arg(alloc));
+    let command = with_arg(Ok(command), workers_arg(alloc, "8", help::SYNCS));
+    let command = with_arg(command, namespace_arg(alloc, help::NAMESPACE));
     let command = with_arg(command, selector_arg(alloc));
     let command = with_arg(
         command,
@@ -347,14 +371,23 @@ fn asked_command<'a>(alloc: Global) -> Result<Command<'a>, AllocError>
     ensures { IfOk result (IsCommand asked_app) }
 {
     let command = with_command(clustered_command(alloc), upcoming_command(alloc));
-    with_command(command, describe_command(alloc))
+    let command = with_command(command, describe_command(alloc));
+    with_command(command, previous_command(alloc))
 }
 
-// Those and the command that prints a page.
+// Those and the commands that make a page or a scenario of a cluster.
+fn made_command<'a>(alloc: Global) -> Result<Command<'a>, AllocError>
+    ensures { IfOk result (IsCommand made_of_app) }
+{
+    let command = with_command(asked_command(alloc), report_command(alloc));
+    with_command(command, scenario_command(alloc))
+}
+
+// Those and the command that reads a crontab.
 fn reported_command<'a>(alloc: Global) -> Result<Command<'a>, AllocError>
     ensures { IfOk result (IsCommand reported_app) }
 {
-    with_command(asked_command(alloc), report_command(alloc))
+    with_command(made_command(alloc), crontab_command(alloc))
 }
 
 /// The program's command line: those, and the controller of a cluster.

@@ -5,6 +5,14 @@
 pub(crate) const SCHEDULE: &str =
     "A crontab schedule of five fields, or a macro: '*/15 9-17 * * mon-fri', @daily";
 
+/// The schedule of `describe`.
+pub(crate) const SCHEDULE_OR_FILE: &str =
+    "A crontab schedule of five fields, or a macro: '*/15 9-17 * * mon-fri', @daily. With -f a file with CronJobs instead; - reads them from standard input";
+
+/// That `describe` is given a file.
+pub(crate) const IN_FILE: &str =
+    "Describe the schedule of each CronJob in a file: a manifest, or the output of `kubectl get cronjobs -o json`, in JSON or YAML";
+
 /// The start of its search.
 pub(crate) const AFTER: &str = "Print times after this one, in UTC: 2024-01-01T00:00:00Z";
 
@@ -22,7 +30,7 @@ pub(crate) const FOLDER: &str =
 
 /// The files of `check`.
 pub(crate) const MANIFESTS: &str =
-    "File with a manifest in JSON; - reads standard input. With several files, each line begins with its file";
+    "File with manifests, in JSON or YAML; - reads standard input. With several files, each line begins with its file";
 
 /// Whether warnings refuse a manifest.
 pub(crate) const STRICT: &str =
@@ -34,23 +42,23 @@ pub(crate) const LOOK: &str =
 
 /// The file of `plan`.
 pub(crate) const SCENARIO: &str =
-    "File with a scenario in JSON: a CronJob, its Jobs and zones; - reads standard input";
+    "File with a scenario, in JSON or YAML: a CronJob, its Jobs and zones; - reads standard input";
 
 /// The file of `replay`.
 pub(crate) const SCRIPT: &str =
-    "File with a script in JSON: callers, and steps that say who does what; - reads standard input";
+    "File with a script, in JSON or YAML: callers, and steps that say who does what; - reads standard input";
 
 /// The file of `run`.
 pub(crate) const COURSE: &str =
-    "File with a scenario in JSON: a clock, CronJobs, how their Jobs run, edits; - reads standard input";
+    "File with a scenario, in JSON or YAML: a clock, CronJobs, how their Jobs run, edits; - reads standard input";
 
 /// The files of `upcoming`.
 pub(crate) const LISTS: &str =
-    "File with the manifest of a CronJob in JSON, or with the output of `kubectl get cronjobs -o json`; - reads standard input";
+    "File with CronJobs, in JSON or YAML: manifests, or the output of `kubectl get cronjobs -o json`; - reads standard input";
 
 /// The file of `why` and of `audit`.
 pub(crate) const CLUSTER: &str =
-    "File with the output of `kubectl get cronjobs,jobs -o json`; - reads standard input";
+    "File with the output of `kubectl get cronjobs,jobs -o json`, or of -o yaml; - reads standard input";
 
 /// The time of `plan`.
 pub(crate) const MOMENT: &str = "Plan for this time, in UTC: 2024-01-01T00:00:00Z";
@@ -66,6 +74,16 @@ pub(crate) const FROM: &str =
 /// Its length.
 pub(crate) const LENGTH: &str =
     "Length of the window, in minutes, hours or days: 90m, 24h, 7d; at most 3000d";
+
+/// The end of the window.
+pub(crate) const UNTIL: &str = "End of the window, in place of its length: a moment as --from";
+
+/// How many workers a run has.
+pub(crate) const WORKERS: &str = "How many workers to run, 1 to 32, each in its own thread";
+
+/// Its minutes.
+pub(crate) const MINUTES: &str =
+    "Print each minute in which something starts, with the CronJobs that start then, instead of the table";
 
 /// How many of its fullest minutes.
 pub(crate) const PEAKS: &str =
@@ -101,17 +119,25 @@ pub(crate) const NAMESPACE: &str = "Only CronJobs in this namespace";
 /// All of them.
 pub(crate) const ALL: &str = "Taken as kubectl has it; all namespaces are read anyway";
 
+/// From when on an audit is.
+pub(crate) const AUDITED: &str =
+    "Show findings from this moment on: as --now, or a distance from it: -12h. Without it, all of them";
+
+/// The moment of an audit.
+pub(crate) const AUDIT_NOW: &str =
+    "Moment that a distance of --since counts from, and up to which --explain tells what clocks do: 2024-01-01T00:00:00Z, 2024-01-01, now, -1h. Without it, now for --since, and a day behind the last Job for clocks";
+
 /// How CronJobs are printed.
 pub(crate) const OUTPUT: &str =
-    "Output format: table for people, where --explain or a single --cron adds the reasons in full; lines for programs; json for one JSON value with all of it";
+    "Output format: table for people, where --explain or a single --cron adds the reasons in full; lines for programs; json or yaml for one value with all of it";
 
 /// How other answers are.
 pub(crate) const LINES: &str =
-    "Output format: lines, or json for one JSON value with the same content";
+    "Output format: lines; json or yaml for one value with the same content";
 
 /// How a run is.
 pub(crate) const RAN: &str =
-    "Output format: lines for the report; json for one JSON value with the Jobs, the reasons, and the due times that got no Job. --timeline, --history and --svg take precedence";
+    "Output format: lines for the report; json or yaml for one value with the Jobs, the reasons, and the due times that got no Job. --timeline, --history and --svg take precedence";
 
 /// Which of them.
 pub(crate) const PROBLEMS: &str =
@@ -163,14 +189,15 @@ Exit status:
 
 /// Of `check`.
 pub(crate) const CHECK: &str = "Examples:
-  cronsim check docs/examples/manifest.json
-  cronsim check --strict deploy/*.json
+  cronsim check deploy/*.yaml
+  helm template . | cronsim check --strict -
+  cronsim check docs/examples/manifest.json -o json
 
 What it prints:
   ok KIND NAMESPACE/NAME                 the manifest has no fault
   warning FIELD                          Kubernetes drops this field, since it knows no such field; --explain names a similar one
   refused 2 FIELD CAUSE                  this field has a fault
-  refused 1 Syntax                       the file isn't JSON
+  refused 1 Syntax                       the file is neither JSON nor YAML
   item N ..                              one of these, for item N of a list
   item N duplicate KIND NAMESPACE/NAME   an earlier item has this name
 
@@ -251,8 +278,9 @@ Exit status:
   3  reading or writing failed, or memory ran out";
 
 /// Of `audit`.
-pub(crate) const AUDIT: &str = "Example:
+pub(crate) const AUDIT: &str = "Examples:
   kubectl get cronjobs,jobs -A -o json | cronsim audit -
+  kubectl get cronjobs,jobs -A -o json | cronsim audit - -n prod --since -24h --explain
 
 What it prints:
   manual NAMESPACE/JOB                  somebody created this Job by hand, so it isn't checked
@@ -265,19 +293,28 @@ What it prints:
 
 Exit status:
   0  nothing is found, and every item could be read
-  1  something is found or an item is refused, as standard output says; or the format, a zone or the input is refused: standard error says which, --explain why
+  1  something is found or an item is refused, as standard output says; or the format, a time, a zone, a CronJob or the input is refused: standard error says which, --explain why
   2  the command line is wrong
   3  reading or writing failed, or memory ran out";
 
 /// Of `upcoming`.
 pub(crate) const UPCOMING: &str = "Examples:
   kubectl get cronjobs -A -o json | cronsim upcoming - --peaks 3
-  cronsim upcoming deploy/*.json --from 2024-01-01 --for 7d
+  cronsim upcoming deploy/*.yaml --from 2024-01-01 --for 7d
+  cronsim upcoming deploy/*.yaml --for 1h --minutes
 
-What it prints:
+Columns of the table:
+  STARTS     how often it starts in the window
+  NEXT       when it starts next, be it after the window
+  IN         how long after the window's start that is
+  LAST       when it starts last in the window
+  EVERY      how far apart its starts in the window are, if all are equally far
+  SCHEDULE   its schedule in words, and the zone whose clock it goes by
+
+Lines above and below it:
   item N refused 2 FIELD CAUSE               item N is left out for this fault; --explain explains it. With several files, FILE: comes first
   item N duplicate KIND NAMESPACE/NAME       an earlier item has this name
-  start TIME NAMESPACE/NAME ..               these CronJobs start in this minute
+  start TIME NAMESPACE/NAME ..               with --minutes: these CronJobs start in this minute
   suspended NAMESPACE/NAME                   it starts nothing: spec.suspend is true
   never NAMESPACE/NAME                       its schedule isn't due within 3,000 days
   skips ZONE LOCAL LOCAL TIME                at TIME, in UTC, the zone's clock goes forward from the one local time to the other
@@ -295,6 +332,8 @@ Exit status:
 pub(crate) const DESCRIBE: &str = "Examples:
   cronsim describe '30 2 * * mon-fri' --time-zone Europe/Berlin
   cronsim describe @daily --after 2024-01-01 --count 3 --zone CET-1CEST,M3.5.0,M10.5.0/3
+  cronsim describe -f deploy/backup.yaml
+  kubectl get cronjobs -A -o json | cronsim describe -
 
 What it prints after the sentence:
   WEEKDAY LOCAL OFFSET TIME in SPAN   a due time: on the zone's clock, with its offset from UTC; in UTC; and how far away
@@ -302,11 +341,16 @@ What it prints after the sentence:
   repeats ZONE LOCAL LOCAL TIME       at TIME, before the next line, the clock goes back, and shows the times between twice
   none within 3,000 days              there is no further due time
 
+What it prints of a file:
+  NAMESPACE/NAME SCHEDULE SENTENCE       a CronJob, its schedule in words, and its zone; --after, --count and --time-zone are not used
+  item N refused 2 FIELD CAUSE           item N is left out for this fault; --explain explains it
+  item N duplicate KIND NAMESPACE/NAME   an earlier item has this name
+
 Exit status:
-  0  they are printed
-  1  the format, the schedule, the time or the zone is refused: standard error says which, --explain why
+  0  they are printed, and every item could be read
+  1  an item is refused, as standard output says; or the format, the schedule, the time, the zone or the file is refused: standard error says which, --explain why
   2  the command line is wrong
-  3  writing failed, or memory ran out";
+  3  reading or writing failed, or memory ran out";
 
 /// Of `control`.
 pub(crate) const CONTROL: &str = "Examples:

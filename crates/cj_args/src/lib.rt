@@ -7,19 +7,25 @@
 
 mod arguments;
 mod command;
+mod crontab;
 mod help;
+mod previous;
 mod report;
 mod request;
+mod scenario;
 mod tips;
 mod word_fault;
 mod words;
 
 pub use command::VERSION;
+pub use crontab::CrontabRequest;
+pub use previous::PreviousRequest;
 pub use report::ReportRequest;
 pub use request::{
     AuditRequest, CheckRequest, ControlRequest, DescribeRequest, NextRequest, PlanRequest,
     ReplayRequest, Request, RunRequest, UpcomingRequest, WhyRequest, ZoneWords,
 };
+pub use scenario::ScenarioRequest;
 pub use tips::word_tips;
 pub use word_fault::WordFault;
 pub use words::parse_words;

@@ -4,9 +4,9 @@ ghost use Rattle.clap.specs.Words.{found_of, rows_of};
 ghost use Rattle.cj_args.specs.Building.{IsCommand};
 ghost use Rattle.cj_args.specs.Command.{IsReport, Reads, report_app};
 
-use crate::arguments::{files_arg, option_arg};
+use crate::arguments::{all_arg, crons_arg, inputs_arg, namespace_arg, option_arg};
 use crate::command::{new_command, with_arg, with_zones};
-use crate::help::NOW;
+use crate::help::{NAMESPACE, NOW};
 use crate::request::ZoneWords;
 use crate::word_fault::WordFault;
 use crate::words::{is_given, optional_text, texts, zone_words};
@@ -24,6 +24,11 @@ pub struct ReportRequest<'a> {
     /// The moment that the page looks from. Where none is given, a program with a clock puts its
     /// own time here.
     pub moment: Option<&'a str>,
+    /// The CronJobs that are asked about, each as NAMESPACE/NAME or as NAME; all of them where none
+    /// is given.
+    pub crons: Vec<&'a str>,
+    /// The namespace of those that are asked about; all of them where none is given.
+    pub namespace: Option<&'a str>,
     /// The zones that the CronJobs may name.
     pub zones: ZoneWords<'a>,
     /// Whether a refusal is explained.
@@ -32,7 +37,7 @@ pub struct ReportRequest<'a> {
 
 // Its files.
 const CLUSTERS: &str =
-    "File with the output of `kubectl get cronjobs,jobs -o json`; - reads standard input. Several files are read as one cluster";
+    "File with the output of `kubectl get cronjobs,jobs -o json`, or of -o yaml; - reads standard input. Several files are read as one cluster";
 
 // The start of its findings and Jobs.
 const SINCE: &str =
@@ -42,6 +47,7 @@ const SINCE: &str =
 const REPORT: &str = "Examples:
   kubectl get cronjobs,jobs -A -o json | cronsim report - >report.html
   cronsim report docs/examples/doubles.json --now 2024-01-01T03:00:00Z --since -12h >report.html
+  kubectl get cronjobs,jobs -A -o json | cronsim report - -n prod --cron backup >backup.html
 
 What the page has:
   when it is of, of which files, and which items were passed over
@@ -55,7 +61,7 @@ The page needs nothing from elsewhere, and runs no script but one that sorts its
 
 Exit status:
   0  the page is printed, and every item could be read
-  1  an item is refused, as the page says; or a time, a zone or the input is refused: standard error says which, --explain why
+  1  an item is refused, as the page says; or a time, a zone, a CronJob or the input is refused: standard error says which, --explain why
   2  the command line is wrong
   3  reading or writing failed, or memory ran out";
 
@@ -69,9 +75,12 @@ pub(crate) fn report_command<'a>(alloc: Global) -> Result<Command<'a>, AllocErro
         "Print a page on a cluster, as HTML: findings, CronJobs, Jobs, and what comes",
         REPORT,
     );
-    let command = with_arg(Ok(command), files_arg(alloc, CLUSTERS));
+    let command = with_arg(Ok(command), inputs_arg(alloc, CLUSTERS));
     let command = with_arg(command, option_arg(alloc, "since", "TIME", SINCE));
     let command = with_arg(command, option_arg(alloc, "now", "TIME", NOW));
+    let command = with_arg(command, crons_arg(alloc));
+    let command = with_arg(command, namespace_arg(alloc, NAMESPACE));
+    let command = with_arg(command, all_arg(alloc));
     with_zones(alloc, command)
 }
 
@@ -84,11 +93,14 @@ pub(crate) fn report_request<'a>(
 {
     let since = optional_text(found, "since");
     let moment = optional_text(found, "now");
+    let namespace = optional_text(found, "namespace");
     let explain = is_given(found, "explain");
     Ok(ReportRequest {
         files: texts(alloc, found, "file")?,
         since,
         moment,
+        crons: texts(alloc, found, "cron")?,
+        namespace,
         zones: zone_words(alloc, found)?,
         explain,
     })

@@ -1,8 +1,11 @@
 // What the words of a command line ask for.
 ghost use Rattle.std.specs.Prelude.{◌≡◌, option_map};
-ghost use Rattle.cj_args.specs.Command.{first_file};
+ghost use Rattle.cj_args.specs.Command.{described_file, first_file, is_in_file};
 
+use crate::crontab::CrontabRequest;
+use crate::previous::PreviousRequest;
 use crate::report::ReportRequest;
+use crate::scenario::ScenarioRequest;
 
 /// What a command line asks for.
 #[derive(Debug, Drop)]
@@ -25,8 +28,14 @@ pub enum Request<'a> {
     Upcoming(UpcomingRequest<'a>),
     /// A schedule in a sentence, and its next times.
     Describe(DescribeRequest<'a>),
+    /// The last due times of a schedule.
+    Previous(PreviousRequest<'a>),
     /// A page on a cluster.
     Report(ReportRequest<'a>),
+    /// What the lines of a crontab do, or the CronJobs that are made of them.
+    Crontab(CrontabRequest<'a>),
+    /// A scenario of a cluster.
+    Scenario(ScenarioRequest<'a>),
     /// The CronJobs of a cluster run, or a transcript of that checked.
     Control(ControlRequest<'a>),
 }
@@ -47,8 +56,11 @@ impl<'a> Request<'a> {
             Request::Why(why) => Some(why.file),
             Request::Audit(audit) => Some(audit.file),
             Request::Upcoming(upcoming) => first_file(upcoming.files.as_slice()),
-            Request::Describe(_) => None,
+            Request::Describe(describe) => described_file(describe),
+            Request::Previous(_) => None,
             Request::Report(report) => first_file(report.files.as_slice()),
+            Request::Crontab(crontab) => Some(crontab.file),
+            Request::Scenario(scenario) => Some(scenario.file),
             Request::Control(control) => control.check,
         }
     }
@@ -67,7 +79,10 @@ impl<'a> Request<'a> {
             Request::Audit(audit) => Some(&audit.zones),
             Request::Upcoming(upcoming) => Some(&upcoming.zones),
             Request::Describe(_) => None,
+            Request::Previous(_) => None,
             Request::Report(report) => Some(&report.zones),
+            Request::Crontab(crontab) => Some(&crontab.zones),
+            Request::Scenario(scenario) => Some(&scenario.zones),
             Request::Control(_) => None,
         }
     }
@@ -86,7 +101,10 @@ impl<'a> Request<'a> {
             Request::Audit(audit) => audit.zones.folder,
             Request::Upcoming(upcoming) => upcoming.zones.folder,
             Request::Describe(describe) => describe.folder,
+            Request::Previous(previous) => previous.folder,
             Request::Report(report) => report.zones.folder,
+            Request::Crontab(crontab) => crontab.zones.folder,
+            Request::Scenario(scenario) => scenario.zones.folder,
             Request::Control(control) => control.folder,
         }
     }
@@ -105,7 +123,10 @@ impl<'a> Request<'a> {
             Request::Audit(audit) => audit.explain,
             Request::Upcoming(upcoming) => upcoming.explain,
             Request::Describe(describe) => describe.explain,
+            Request::Previous(previous) => previous.explain,
             Request::Report(report) => report.explain,
+            Request::Crontab(crontab) => crontab.explain,
+            Request::Scenario(scenario) => scenario.explain,
             Request::Control(control) => control.explain,
         }
     }
@@ -241,6 +262,16 @@ pub struct WhyRequest<'a> {
 pub struct AuditRequest<'a> {
     /// The name of the file with the cluster's objects; `-` is standard input.
     pub file: &'a str,
+    /// From when on there are findings; all of them where none is given.
+    pub since: Option<&'a str>,
+    /// The moment that is looked from. Where none is given but `since` is, a program with a clock
+    /// puts its own here.
+    pub moment: Option<&'a str>,
+    /// The CronJobs that are asked about, each as NAMESPACE/NAME or as NAME; all of them where none
+    /// is given.
+    pub crons: Vec<&'a str>,
+    /// The namespace of those that are asked about; all of them where none is given.
+    pub namespace: Option<&'a str>,
     /// How the answer is printed: `lines` or `json`.
     pub output: &'a str,
     /// Whether a picture is printed in place of that.
@@ -261,11 +292,15 @@ pub struct UpcomingRequest<'a> {
     pub from: Option<&'a str>,
     /// How long the window is, as `24h`.
     pub length: &'a str,
+    /// The moment at which the window ends; its length counts where none is given.
+    pub until: Option<&'a str>,
     /// The CronJobs that are asked about, each as NAMESPACE/NAME or as NAME; all of them where none
     /// is given.
     pub crons: Vec<&'a str>,
     /// The namespace of those that are asked about; all of them where none is given.
     pub namespace: Option<&'a str>,
+    /// Whether each minute is printed in which something starts, in place of a line a CronJob.
+    pub minutes: bool,
     /// How many of the fullest minutes are asked for, 0 to 1,000.
     pub peaks: u16,
     /// How the answer is printed: `lines` or `json`.
@@ -281,8 +316,10 @@ pub struct UpcomingRequest<'a> {
 /// The words of the command `describe`, as they were given.
 #[derive(Debug, Drop)]
 pub struct DescribeRequest<'a> {
-    /// The crontab schedule.
+    /// The crontab schedule, or the name of a file with CronJobs; `-` is standard input.
     pub schedule: &'a str,
+    /// Whether it is said that it is the name of a file.
+    pub is_file: bool,
     /// The start, which is excluded. Where none is given, a program with a clock puts its own time
     /// here.
     pub after: Option<&'a str>,
@@ -298,6 +335,29 @@ pub struct DescribeRequest<'a> {
     pub folder: Option<&'a str>,
     /// Whether a refusal is explained.
     pub explain: bool,
+}
+
+impl DescribeRequest<'_> {
+    ghost use Rattle.cj_args.specs.Command.{is_in_file};
+
+    /// Whether the schedules are those of a file's CronJobs: where it is said, and of standard
+    /// input.
+    pub fn is_in_file(&self) -> bool
+        ensures { result ≡ is_in_file self.now }
+    {
+        self.is_file || self.schedule == "-"
+    }
+}
+
+// The name of the file whose CronJobs are described, if they are.
+fn described_file<'a>(describe: &DescribeRequest<'a>) -> Option<&'a str>
+    ensures { option_map (λ s. s.now) result ≡ described_file describe.now }
+{
+    if describe.is_in_file() {
+        Some(describe.schedule)
+    } else {
+        None
+    }
 }
 
 /// The words of the command `control`, as they were given.

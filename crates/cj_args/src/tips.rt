@@ -6,16 +6,20 @@ use std::alloc::{AllocError, Global};
 fn option_tip(word: &str) -> &'static str {
     match word {
         "--json" | "-json" | "-j" => "-o json prints JSON",
-        "--yaml" => "-o json prints JSON; YAML isn't printed",
+        "--yaml" | "-yaml" | "-y" => "-o yaml prints YAML",
         "--tz" | "--timezone" | "-tz" | "--local" | "--utc" => {
             "next and describe take --zone Europe/Berlin; CronJobs name their zones themselves"
         }
         "--until" | "--to" | "--end" | "--hours" | "--days" => {
-            "--for says how long the window is: --for 24h, --for 7d"
+            "upcoming and scenario take --for 24h or --until TIME"
         }
-        "--since" | "--start" => "upcoming takes --from, next and describe take --after",
+        "--since" | "--start" =>
+            "upcoming takes --from, next and describe take --after, previous takes --before",
         "--limit" | "--number" | "--num" | "--times" | "-c" => "--count says how many: --count 5",
         "-f" | "--file" | "--filename" => "the file stands alone: cronsim check FILE",
+        "-R" | "-r" | "--recursive" => {
+            "a folder isn't looked through: name its files, as in cronsim check deploy/*.yaml"
+        }
         "-w" | "--watch" => "it answers once, and ends",
         "-v" | "--verbose" | "-q" | "--quiet" => "--explain says more; nothing says less",
         "--format" => "-o says the format: -o json",
@@ -26,6 +30,7 @@ fn option_tip(word: &str) -> &'static str {
 // What is meant by the name of a command that doesn't exist.
 fn command_tip(word: &str) -> &'static str {
     match word {
+        "cron" | "convert" | "import" => "cronsim crontab FILE reads a crontab",
         "version" => "cronsim --version prints the version",
         "validate" | "lint" | "verify" => "cronsim check FILE checks manifests",
         "explain" => {
@@ -34,30 +39,36 @@ fn command_tip(word: &str) -> &'static str {
         "list" | "schedule" | "ls" | "get" => {
             "cronsim upcoming FILE prints what starts, cronsim next SCHEDULE --after TIME when"
         }
-        "simulate" | "sim" => "cronsim run FILE --workers 2 runs a scenario",
-        "prev" | "last" => "cronsim next SCHEDULE --after TIME prints later times only",
+        "simulate" | "sim" => "cronsim run FILE runs a scenario",
+        "prev" | "last" => "cronsim previous SCHEDULE --before TIME prints earlier times",
         _ => "",
     }
 }
 
-// The commands that read a file.
-fn reads_file(command: &str) -> bool {
+// Whether the command can't do without a file.
+fn wants_file(command: &str) -> bool {
     match command {
-        "check" | "plan" | "replay" | "run" | "why" | "audit" | "upcoming" | "report" => true,
+        "check" | "plan" | "replay" | "run" | "crontab" => true,
         _ => false,
     }
 }
 
+// The commands on one schedule.
+fn takes_schedule(command: &str) -> bool {
+    command == "next" || command == "describe" || command == "previous"
+}
+
 // The commands that there are.
 const COMMANDS: &[&str] = &[
-    "next", "check", "plan", "replay", "run", "why", "audit", "upcoming", "describe", "report",
-    "control",
+    "next", "check", "plan", "replay", "run", "why", "audit", "upcoming", "describe", "previous",
+    "report", "scenario", "crontab", "control",
 ];
 
 // Whether a word may be the value of the option before it.
 fn takes_value(word: &str) -> bool {
     match word {
         "--explain" | "--strict" | "--svg" | "--timeline" | "--history" | "--problems" => false,
+        "--minutes" | "--file" | "--system" => false,
         _ => word.starts_with("--") && !word.contains('=') || word == "-o" || word == "-n",
     }
 }
@@ -77,9 +88,9 @@ fn count_alone(words: &[&str]) -> usize {
 
 // What is wrong with how many of a command's words stand alone.
 fn count_tip(command: &str, alone: usize) -> &'static str {
-    if reads_file(command) && alone == 0 {
-        "FILE is wanted; - reads what is piped in: kubectl get cronjobs,jobs -A -o json | cronsim why -"
-    } else if (command == "next" || command == "describe") && alone > 1 {
+    if wants_file(command) && alone == 0 {
+        "FILE is wanted; - reads what is piped in: helm template . | cronsim check -"
+    } else if takes_schedule(command) && alone > 1 {
         "a schedule stands in quotes, as one word: cronsim describe '*/5 * * * *'"
     } else {
         ""
@@ -94,9 +105,7 @@ fn has_option(words: &[&str], name: &str) -> bool {
 // What is wanted where an option that has to be given isn't.
 fn required_tip(command: &str, words: &[&str]) -> &'static str {
     let has_moment = has_option(words, "--after") || has_option(words, "--now");
-    let is_given = has_moment || has_option(words, "--workers");
-    match (command, is_given) {
-        ("run", false) => "any number of workers will do: --workers 2",
+    match (command, has_moment) {
         ("next", false) => {
             "for the next times from now on: --after $(date -u +%FT%TZ), or cronsim describe SCHEDULE"
         }

@@ -5,11 +5,14 @@ ghost use Rattle.cj_args.specs.Command.{AreZones, IsAudit, IsCheck, IsControl, I
 ghost use Rattle.cj_args.specs.declared.word_fault.WordFault.TheVariants.{Incomplete};
 
 use crate::command::cronsim_command;
+use crate::crontab::crontab_request;
+use crate::previous::previous_request;
 use crate::report::report_request;
 use crate::request::{
     AuditRequest, CheckRequest, ControlRequest, DescribeRequest, NextRequest, PlanRequest,
     ReplayRequest, Request, RunRequest, UpcomingRequest, WhyRequest, ZoneWords,
 };
+use crate::scenario::scenario_request;
 use crate::word_fault::WordFault;
 use clap::ArgMatches;
 use std::alloc::{AllocError, Global};
@@ -21,8 +24,8 @@ pub(crate) fn optional_text<'a>(found: &ArgMatches<'a>, id: &str) -> Option<&'a 
     found.get_str(id)
 }
 
-// The value of an argument that has one.
-fn text<'a>(found: &ArgMatches<'a>, id: &str) -> Result<&'a str, WordFault>
+/// The value of an argument that has one.
+pub(crate) fn text<'a>(found: &ArgMatches<'a>, id: &str) -> Result<&'a str, WordFault>
     ensures found { IfOk result (λ s. first_of id.now (rows_of (found_of found.now)) ≡ Some s.now) }
     ensures missing { IfErr result (λ e. (e ≡ Incomplete)
         × (first_of id.now (rows_of (found_of found.now)) ≡ None)) }
@@ -43,8 +46,8 @@ pub(crate) fn is_given(found: &ArgMatches<'_>, id: &str) -> bool
     }
 }
 
-// A count of due times.
-fn count(text: &str) -> Result<u16, WordFault>
+/// A count of due times.
+pub(crate) fn count(text: &str) -> Result<u16, WordFault>
     ensures decimal { IfOk result (IsDecimal text.now) }
     ensures least { IfOk result (λ n. 1 ≤ n) }
     ensures most { IfOk result (λ n. n ≤ 1_000) }
@@ -223,11 +226,18 @@ fn audit_request<'a>(alloc: Global, found: &ArgMatches<'a>) -> Result<AuditReque
     ensures { Reads (IsAudit (rows_of (found_of found.now))) result }
 {
     let file = text(found, "file")?;
+    let since = optional_text(found, "since");
+    let moment = optional_text(found, "now");
+    let namespace = optional_text(found, "namespace");
     let output = text(found, "output")?;
     let svg = is_given(found, "svg");
     let explain = is_given(found, "explain");
     Ok(AuditRequest {
         file,
+        since,
+        moment,
+        crons: texts(alloc, found, "cron")?,
+        namespace,
         output,
         svg,
         zones: zone_words(alloc, found)?,
@@ -243,7 +253,9 @@ fn upcoming_request<'a>(
 {
     let from = optional_text(found, "from");
     let length = text(found, "for")?;
+    let until = optional_text(found, "until");
     let namespace = optional_text(found, "namespace");
+    let minutes = is_given(found, "minutes");
     let peaks = peaks(text(found, "peaks")?)?;
     let output = text(found, "output")?;
     let svg = is_given(found, "svg");
@@ -252,8 +264,10 @@ fn upcoming_request<'a>(
         files: texts(alloc, found, "file")?,
         from,
         length,
+        until,
         crons: texts(alloc, found, "cron")?,
         namespace,
+        minutes,
         peaks,
         output,
         svg,
@@ -271,6 +285,7 @@ fn describe_request<'a>(found: &ArgMatches<'a>) -> Result<DescribeRequest<'a>, W
     let output = text(found, "output")?;
     Ok(DescribeRequest {
         schedule,
+        is_file: is_given(found, "file"),
         after: optional_text(found, "after"),
         count,
         zone: optional_text(found, "zone"),
@@ -322,7 +337,10 @@ fn request_named<'a>(
         "audit" => audit_request(alloc, found).map(Request::Audit),
         "upcoming" => upcoming_request(alloc, found).map(Request::Upcoming),
         "describe" => describe_request(found).map(Request::Describe),
+        "previous" => previous_request(found).map(Request::Previous),
         "report" => report_request(alloc, found).map(Request::Report),
+        "crontab" => crontab_request(alloc, found).map(Request::Crontab),
+        "scenario" => scenario_request(alloc, found).map(Request::Scenario),
         "control" => control_request(found).map(Request::Control),
         _ => Err(WordFault::Incomplete),
     }

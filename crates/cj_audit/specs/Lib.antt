@@ -16,3 +16,4 @@ pub mod Faults
 pub mod Items
 pub mod Audit
 pub mod Told
+pub mod Since

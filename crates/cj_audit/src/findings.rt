@@ -1,13 +1,27 @@
-ghost use Rattle.std.specs.Prelude.{◌≡◌, IfOk, IfErr};
+ghost use Rattle.std.specs.Prelude.{◌≡◌, IfOk, IfErr, filter};
 ghost use Rattle.std.specs.BTreeSet.{IsOrdered};
 ghost use Rattle.cj_base.specs.declared.refusal.Refusal.TheVariants.{OutOfMemory};
 ghost use Rattle.cj_audit.specs.Order.{finding_cmp};
+ghost use Rattle.cj_audit.specs.Since.{is_since};
 
 use crate::finding::Finding;
-use cj_types::Refusal;
+use crate::kind::FindingKind;
+use cj_types::{Refusal, Seconds};
 use std::alloc::Global;
 use std::collections::BTreeSet;
 use std::marker::Model;
+
+fn is_since(first: Seconds, finding: &Finding) -> bool
+    ensures { result ≡ is_since first finding.now }
+{
+    let is_stuck = match finding.kind {
+        FindingKind::Stuck => true,
+        FindingKind::Twice | FindingKind::Beside(_) | FindingKind::Undue => false,
+        FindingKind::Early | FindingKind::Missing | FindingKind::Stray => false,
+    };
+    let is_later = first.get() <= finding.time.get();
+    is_stuck || is_later
+}
 
 /// Findings in their order. Contracts see their list.
 #[derive(Debug, Drop)]
@@ -30,6 +44,15 @@ impl Findings {
         ensures { result.now ≡ self.now }
     {
         self.items.as_slice()
+    }
+
+    /// The findings whose time isn't before then, and those of CronJobs that are stuck.
+    pub fn since(self, first: Seconds) -> Findings
+        ensures { result ≡ filter (is_since first) self }
+    {
+        let mut items = self.items;
+        items.retain(|finding| is_since(first, finding));
+        Findings { items }
     }
 
     /// The findings of the set.

@@ -8,12 +8,13 @@ use Rattle.cj_base.specs.declared.refusal.Refusal.TheVariants.{Invalid, Syntax}
 use Rattle.cj_cluster.specs.kubectl.Texts.{IsNoList, IsSplit}
 use Rattle.cj_manifest.specs.declared.manifest.Manifest.{Manifest}
 use Rattle.cj_manifest.specs.Either.{key_of, kind_of, manifest_draft, manifest_faults, manifest_warnings}
-use Rattle.cj_manifest.specs.Reading.{IsReading, IsRefused}
+use Rattle.cj_manifest.specs.Reading.{IsReading, IsRefused, Reads}
 use Rattle.cj_types.specs.Keys.{Place}
 use Rattle.cj_zone.specs.declared.zone.Zone.{Zone}
 use Rattle.cj_answers.specs.as_json.Forms.{IsJsonLine}
-use Rattle.cj_audit.specs.Faults.{fault_object, faults_data}
+use Rattle.cj_audit.specs.Faults.{faults_data}
 use Rattle.cj_check.specs.Seen.{IsNoneSeen, NextItem}
+use Rattle.cj_check.specs.ToldFaults.{home_in, kind_in, meta_in, text_or_null, told_faults, told_object}
 use Rattle.cj_check.specs.declared.seen.SeenKeys.{SeenKeys}
 
 -- ---- a manifest
@@ -35,7 +36,8 @@ item_object faults place kind name namespace warnings = object (
 abbrev pub syntax_fault : Data
 syntax_fault = object (
     member (codes "cause") (string (codes "Syntax")) (
-    member (codes "field") null no_members))
+    member (codes "field") null (
+    member (codes "message") (string (codes "neither JSON nor YAML")) no_members)))
 
 abbrev pub refused_item : Data → Data → Data
 refused_item place faults = item_object faults place null null null (array (items_of []))
@@ -60,12 +62,25 @@ pub record IsSyntaxItem (zones : List Zone) (place : Data) (bytes : List ℕ) (d
   pub refused : IsRefused (manifest_faults zones) bytes Syntax
   pub are : d ≡ syntax_item place
 
--- a manifest with these faults
+-- a manifest with these faults, and what its value says of the object
+-- rule: check-json
+abbrev pub faulty_item : Data → Data → List FieldFault → Data
+faulty_item place said faults =
+    item_object (told_faults faults) place (text_or_null (kind_in said))
+    (text_or_null (meta_in (codes "name") said)) (string (home_in said)) (array (items_of []))
+
+-- so it is of bytes that are JSON of a value
+-- rule: check-json
+abbrev pub IsFaultyData : Data → List FieldFault → List ℕ → Data → Type 0
+IsFaultyData place faults bytes d =
+    (said : Data) → Reads bytes said → d ≡ faulty_item place said faults
+
+-- a manifest with faults
 pub record IsFaultyItem (zones : List Zone) (place : Data) (bytes : List ℕ) (d : Data)
     : Type 0 where
   pub faults : List FieldFault
   pub refused : IsRefused (manifest_faults zones) bytes (Invalid faults)
-  pub are : d ≡ refused_item place (faults_data faults)
+  pub are : IsFaultyData place faults bytes d
 
 -- one without a fault
 pub record IsFineItem (zones : List Zone) (place : Data) (bytes : List ℕ) (d : Data) : Type 0 where
@@ -87,8 +102,9 @@ IsItemData zones place bytes d =
 -- rules: check-json, json-faults
 abbrev pub taken_item : Data → Data
 taken_item place =
-    refused_item place (array (items_of (fault_object (codes "NotAllowed") (codes "metadata.name")
-    ∷ [])))
+    refused_item place (array (items_of (
+    told_object (codes "NotAllowed") (codes "metadata.name") (codes
+    "an earlier item of this kind has this name") ∷ [])))
 
 abbrev pub IsItemTold : List Zone → ℕ → List ℕ → Data → Bool → Option Manifest → Type 0
 IsItemTold zones n text d true found = d ≡ taken_item (place_data (Some n))

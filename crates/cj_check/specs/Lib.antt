@@ -9,3 +9,6 @@ pub mod Reports
 pub mod Seen
 pub mod Several
 pub mod Strays
+pub mod Crontab
+pub mod CrontabOutcome
+pub mod ToldFaults

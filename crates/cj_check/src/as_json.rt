@@ -1,19 +1,22 @@
 // What `check` finds, as JSON values.
-ghost use Rattle.std.specs.Prelude.{◌≡◌, ◌++◌, ◌∷◌, [], IfErr, IfOk, OnOk, Some, map, string_bytes, true};
+ghost use Rattle.std.specs.Prelude.{◌≡◌, ◌++◌, ◌∷◌, [], IfErr, IfOk, List, OnOk, Some, map, string_bytes, true};
 ghost use Rattle.cj_base.specs.declared.refusal.Refusal.TheVariants.{OutOfMemory};
 ghost use Rattle.cj_manifest.specs.Either.{key_of, kind_of, manifest_faults};
 ghost use Rattle.cj_manifest.specs.Reading.{IsRefused};
 ghost use Rattle.cj_zone.specs.Table.{zones_of};
-ghost use Rattle.serde_json.specs.Data.{string};
-ghost use Rattle.serde_json.specs.View.{view};
+ghost use Rattle.serde_json.specs.Data.{array, string};
+ghost use Rattle.serde_json.specs.View.{items_of, view};
 ghost use Rattle.cj_audit.specs.Faults.{faults_data};
+ghost use Rattle.cj_base.specs.declared.faults.FieldFault.{FieldFault as Fault};
+ghost use Rattle.cj_check.specs.ToldFaults as told;
 ghost use Rattle.cj_answers.specs.as_json.Forms.{IsJsonLine};
-ghost use Rattle.cj_check.specs.AsJson.{IsItemData, check_data, fine_item, item_object, place_data, refused_item, syntax_item, taken_item, unread_line};
+ghost use Rattle.cj_check.specs.AsJson.{IsFaultyData, IsItemData, check_data, faulty_item, fine_item, item_object, place_data, refused_item, syntax_item, taken_item, unread_line};
 
+use crate::told_faults::{home_in, kind_in, meta_in, text_value, told_faults};
 use cj_answers::value_line;
-use cj_audit::faults_value;
 use cj_base::FieldFault;
 use cj_manifest::{Manifest, Warning};
+use cj_scenario::{SceneFault, value_of};
 use cj_types::{Key, Refusal};
 use cj_zone::ZoneTable;
 use serde_json::{Value, json};
@@ -24,6 +27,27 @@ pub(crate) fn place_value(place: u64) -> Value
     ensures { view result ≡ place_data (Some place) }
 {
     Value::from(place)
+}
+
+fn item_object(
+    alloc: Global,
+    place: Value,
+    faults: Value,
+    kind: Value,
+    name: Value,
+    namespace: &str,
+) -> Result<Value, AllocError>
+    ensures { IfOk result (λ v. view v ≡ item_object (view faults) (view place) (view kind)
+        (view name) (string namespace.now) (array (items_of []))) }
+{
+    json!(in alloc; {
+        "faults": faults,
+        "item": place,
+        "kind": kind,
+        "name": name,
+        "namespace": namespace,
+        "warnings": []
+    })
 }
 
 fn refused_item(alloc: Global, place: Value, faults: Value) -> Result<Value, AllocError>
@@ -42,16 +66,39 @@ fn refused_item(alloc: Global, place: Value, faults: Value) -> Result<Value, All
 fn syntax_item(alloc: Global, place: Value) -> Result<Value, AllocError>
     ensures { IfOk result (λ v. view v ≡ syntax_item (view place)) }
 {
-    let faults = json!(in alloc; [{"cause": "Syntax", "field": null}])?;
+    let faults = json!(in alloc; [{
+        "cause": "Syntax",
+        "field": null,
+        "message": "neither JSON nor YAML"
+    }])?;
     refused_item(alloc, place, faults)
 }
 
-fn faulty_item(alloc: Global, place: Value, faults: &[FieldFault]) -> Result<Value, Refusal>
-    ensures ok { IfOk result (λ v. view v ≡ refused_item (view place) (faults_data faults.now)) }
+// The value of a manifest with these faults, by what its value says of the object.
+fn said_item(alloc: Global, place: Value, said: &Value, faults: Value) -> Result<Value, AllocError>
+    ensures { (fs : List Fault) → view faults ≡ told.told_faults fs
+        → IfOk result (λ v. view v ≡ faulty_item (view place) (view said.now) fs) }
+{
+    let kind = text_value(alloc, kind_in(said))?;
+    let name = text_value(alloc, meta_in(said, "name"))?;
+    item_object(alloc, place, faults, kind, name, home_in(said))
+}
+
+fn faulty_item(
+    alloc: Global,
+    place: Value,
+    bytes: &[u8],
+    faults: &[FieldFault],
+) -> Result<Value, Refusal>
+    ensures ok { IfOk result (λ v. IsFaultyData (view place) faults.now bytes.now (view v)) }
     ensures err { IfErr result (λ e. e ≡ OutOfMemory) }
 {
-    let faults = faults_value(alloc, faults)?;
-    Ok(refused_item(alloc, place, faults)?)
+    let faults = told_faults(alloc, faults)?;
+    match value_of(alloc, bytes) {
+        Ok(value) => Ok(said_item(alloc, place, &value, faults)?),
+        Err(SceneFault::Memory) => Err(Refusal::OutOfMemory),
+        Err(_) => Ok(refused_item(alloc, place, faults)?),
+    }
 }
 
 fn push_path(alloc: Global, values: &mut Vec<Value>, warning: &Warning) -> Result<(), AllocError>
@@ -119,7 +166,7 @@ pub(crate) fn refused_value(
 {
     match refusal {
         Refusal::Syntax => Ok(syntax_item(alloc, place)?),
-        Refusal::Invalid(faults) => faulty_item(alloc, place, faults.as_slice()),
+        Refusal::Invalid(faults) => faulty_item(alloc, place, bytes, faults.as_slice()),
         _ => Err(Refusal::OutOfMemory),
     }
 }
@@ -128,7 +175,11 @@ pub(crate) fn refused_value(
 pub(crate) fn taken_item(alloc: Global, place: Value) -> Result<Value, AllocError>
     ensures { IfOk result (λ v. view v ≡ taken_item (view place)) }
 {
-    let faults = json!(in alloc; [{"cause": "NotAllowed", "field": "metadata.name"}])?;
+    let faults = json!(in alloc; [{
+        "cause": "NotAllowed",
+        "field": "metadata.name",
+        "message": "an earlier item of this kind has this name"
+    }])?;
     refused_item(alloc, place, faults)
 }
 

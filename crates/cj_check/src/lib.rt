@@ -11,15 +11,20 @@
 mod as_json;
 mod check;
 mod check_list;
+mod crontab;
 mod dropped;
 mod fault_words;
 mod manifest;
+mod places;
 mod plan;
 mod report;
 mod seen;
 mod several;
 mod strays;
+mod told_faults;
 
 pub use check::{check_answer, check_file_answer};
+pub use crontab::{crontab_answer, crontab_zones};
+pub use places::fault_places;
 pub use plan::{asked_detection, plan_answer, refused_scene};
 pub use several::{FileAnswer, FileState, count_of, several_answer};

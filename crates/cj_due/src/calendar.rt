@@ -4,4 +4,5 @@ mod minute;
 mod month;
 mod shown;
 
+pub use minute::next_minute;
 pub use shown::{next_shown, previous_shown};

@@ -12,6 +12,6 @@ mod field;
 mod members;
 mod schedule;
 
-pub use fault::{explain_fault, explain_faults};
+pub use fault::{cause_of, explain_fault, explain_faults};
 pub use members::look;
 pub use schedule::explain_schedule;

@@ -1,3 +1,4 @@
 pub mod AskedForms
 pub mod CallsLemmas
 pub mod FilesLemmas
+pub mod NightLemmas

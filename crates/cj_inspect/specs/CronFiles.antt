@@ -1,5 +1,5 @@
 -- What is read of files with CronJobs: manifests, and what a client prints of a cluster.
-use Rattle.std.specs.Prelude.{◌≡◌, ◌⊎◌, ℕ, List, [], ◌∷◌, ◌++◌}
+use Rattle.std.specs.Prelude.{◌≡◌, ◌⊎◌, ℕ, List, [], ◌∷◌, ◌++◌, false, filter, not}
 use Rattle.std.specs.FinMap as map
 use Rattle.cj_base.specs.declared.faults.FieldFault.{FieldFault}
 use Rattle.cj_base.specs.declared.refusal.Refusal.TheVariants.{Invalid, Syntax}
@@ -13,6 +13,7 @@ use Rattle.cj_cluster.specs.declared.cron.ClusterCron.{ClusterCron}
 use Rattle.cj_cluster.specs.declared.kubectl.fault.ListFault.{ListFault}
 use Rattle.cj_cluster.specs.declared.kubectl.list.ClusterList.{ClusterList}
 use Rattle.cj_cluster.specs.kubectl.Reading.{IsClusterList, IsRefusedList}
+use Rattle.cj_answers.specs.Clusters.{is_other, is_read}
 use Rattle.cj_inspect.specs.declared.cron_files.CronFile.{CronFile}
 use Rattle.cj_inspect.specs.declared.cron_files.FileCrons.{FileCrons}
 
@@ -54,12 +55,36 @@ pub record IsManifest (zones : List Zone) (name bytes : List ℕ) (r : FileCrons
   pub reads : Drafts zones bytes draft
   pub drafted : IsDrafted name draft r
 
+-- a list without the notes of objects of other kinds
+abbrev pub without_others : ClusterList → ClusterList
+without_others list = record {
+  cluster = list.cluster;
+  notes = filter (λ n. not (is_other n.said)) list.notes;
+}
+
+-- an item of the list that these bytes are is refused; so it is that of the same manifests as a
+-- server would have them, without objects of other kinds
+-- rule: upcoming-manifests
+pub record IsServed (zones : List Zone) (bytes : List ℕ) (list : ClusterList) : Type 0 where
+  pub own : ClusterList
+  pub read : IsClusterList zones bytes own
+  pub refused : is_read own.notes ≡ false
+  pub served : List ℕ
+  pub whole : ClusterList
+  pub is_whole : IsClusterList zones served whole
+  pub is : list ≡ without_others whole
+
+-- the list that the bytes are, or that
+-- rule: upcoming-manifests
+abbrev pub IsServedList : List Zone → List ℕ → ClusterList → Type 0
+IsServedList zones bytes list = IsClusterList zones bytes list ⊎ IsServed zones bytes list
+
 -- else what a client prints
 -- rules: upcoming-files, cluster-list
 pub record IsPrinted (zones : List Zone) (name bytes : List ℕ) (r : FileCrons) : Type 0 where
   pub none : DraftsNone zones bytes
   pub list : ClusterList
-  pub read : IsClusterList zones bytes list
+  pub read : IsServedList zones bytes list
   pub listed : IsListed name list r
 
 -- what is read of a file

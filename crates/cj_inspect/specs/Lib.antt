@@ -1,7 +1,12 @@
 pub mod Audit
 pub mod Calls
 pub mod CronFiles
+pub mod Describing
+pub mod Narrowing
+pub mod Nights
 pub mod Report
+pub mod Scenario
+pub mod Sums
 pub mod Upcoming
 pub mod Why
 pub mod Windows

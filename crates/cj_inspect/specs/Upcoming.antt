@@ -1,5 +1,5 @@
 -- What `upcoming` answers of CronJobs.
-use Rattle.std.specs.Prelude.{◌≡◌, ◌⊎◌, ℕ, ◌+◌, ◌≤◌, List, [], ◌∷◌, ◌++◌, ◌&&◌, ◌||◌, not, bytes_eq, length, nat_lt, Option, None, Some, IfSome, option_map, Bool, true, false, codes}
+use Rattle.std.specs.Prelude.{◌≡◌, ◌⊎◌, ℕ, ◌+◌, ◌-◌, ◌≤◌, nat_le, List, [], ◌∷◌, ◌++◌, ◌&&◌, ◌||◌, not, bytes_eq, length, map, nat_lt, Option, None, Some, IfSome, option_map, Bool, true, false, codes, decimal, ◌==◌, if◌then◌else◌}
 use Rattle.std.specs.Borrow.{Bor}
 use Rattle.std.specs.List.{list_all, list_any}
 use Rattle.cj_base.specs.Instant.{last_second}
@@ -21,10 +21,11 @@ use Rattle.cj_answers.specs.Clusters.{RefusesList, ending_by, is_read, note_line
 use Rattle.cj_inspect.specs.CronFiles.{AreFiles, Stops}
 use Rattle.cj_answers.specs.Given.{AreGiven, IsNoneGiven, pair_words}
 use Rattle.cj_answers.specs.Marks.{marked}
-use Rattle.cj_answers.specs.Moments.{asked_moment}
+use Rattle.cj_answers.specs.Moments.{asked_moment, moment_of}
 use Rattle.cj_answers.specs.Outcome.{IsInForm, Outcome, RefusesForm, explained, outcome_of, refusal}
 use Rattle.cj_inspect.specs.Why.{IsNoticed, chosen, is_noted, is_noted_in, is_nothing, line_where}
-use Rattle.cj_inspect.specs.Windows.{IsCounted}
+use Rattle.cj_inspect.specs.Nights.{TellsNights}
+use Rattle.cj_inspect.specs.Windows.{IsCounted, IsSummed, window_look}
 use Rattle.cj_answers.specs.as_json.Forms.{is_json}
 use Rattle.cj_inspect.specs.as_json.Upcoming.{IsWindowJson, files_data}
 
@@ -119,10 +120,33 @@ pub record RefusesMany (r : UpcomingRequest) (zones : List Zone) (w : Span) (fs 
   pub more : HasMore zones w (meant_of r fs) most_starts
   pub answer : o ≡ explained r.explain many_words (refusal (codes "cronsim: starts\n"))
 
+-- `FILE: objects of other kinds, passed over: N`, of several files with the name of the file
+abbrev pub passed_mark : Bool → List ℕ → List ℕ
+passed_mark true name = name
+passed_mark false name = codes "FILE"
+
+-- nothing is said where there are none
+abbrev pub passed_words : Bool → List ℕ → ℕ → List ℕ
+passed_words true mark count = []
+passed_words false mark count =
+    mark ++ (codes ": objects of other kinds, passed over: " ++ (decimal count ++ codes "\n"))
+
+-- rule: upcoming-manifests
+abbrev pub passed_line : Bool → FileCrons → List ℕ
+passed_line several f = passed_words (f.passed == 0) (passed_mark several f.name) f.passed
+
+abbrev pub passed_lines : Bool → List FileCrons → List ℕ
+passed_lines several [] = []
+passed_lines several (f ∷ fs) = passed_line several f ++ passed_lines several fs
+
 -- done where no item was refused
--- rule: upcoming-status
+-- rules: upcoming-manifests, upcoming-status
 abbrev pub told : List FileCrons → List ℕ → Outcome
-told fs text = record { ending = ending_by (are_read fs); printed = text; said = [] }
+told fs text = record {
+  ending = ending_by (are_read fs);
+  printed = text;
+  said = passed_lines (is_several fs) fs;
+}
 
 -- the items that can't be used, then the lines of the window
 pub record IsWindowLines (zones : List Zone) (w : Span) (fs : List FileCrons)
@@ -131,27 +155,47 @@ pub record IsWindowLines (zones : List Zone) (w : Span) (fs : List FileCrons)
   pub window : IsCounted zones w crons most lines
   pub are : text ≡ all_lines (is_several fs) fs ++ lines
 
+-- those items, then a line for each CronJob, and what else is told of the window
+-- rule: upcoming-summary
+pub record IsWindowSum (zones : List Zone) (w : Span) (fs : List FileCrons)
+    (crons : List ClusterCron) (text : List ℕ) : Type 0 where
+  pub lines : List ℕ
+  pub window : IsSummed zones w crons lines
+  pub are : text ≡ all_lines (is_several fs) fs ++ lines
+
+-- the minutes where they are asked for
+-- rules: upcoming-lines, upcoming-summary
+abbrev pub IsWindowTold : Bool → List Zone → Span → List FileCrons → List ClusterCron → ℕ
+    → List ℕ → Type 0
+IsWindowTold true zones w fs crons most text = IsWindowLines zones w fs crons most text
+IsWindowTold false zones w fs crons most text = IsWindowSum zones w fs crons text
+
 -- in JSON, or in lines
 -- rules: upcoming-json, upcoming-lines
-abbrev pub IsWindowPrinted : Bool → List Zone → Span → List FileCrons → List ClusterCron → ℕ
+abbrev pub IsWindowPrinted : Bool → Bool → List Zone → Span → List FileCrons → List ClusterCron → ℕ
     → List ℕ → Type 0
-IsWindowPrinted true zones w fs crons most text =
+IsWindowPrinted true minutes zones w fs crons most text =
     IsWindowJson zones w crons most (files_data (is_several fs) fs) text
-IsWindowPrinted false zones w fs crons most text = IsWindowLines zones w fs crons most text
+IsWindowPrinted false minutes zones w fs crons most text =
+    IsWindowTold minutes zones w fs crons most text
 
 -- a picture, of which nothing is said; or else that
 -- rule: upcoming-svg
-abbrev pub IsWindowShown : Bool → Bool → List Zone → Span → List FileCrons → List ClusterCron → ℕ
-    → List ℕ → Type 0
-IsWindowShown true json zones w fs crons most text = Unit {0}
-IsWindowShown false json zones w fs crons most text =
-    IsWindowPrinted json zones w fs crons most text
+abbrev pub IsWindowShown : Bool → Bool → Bool → List Zone → Span → List FileCrons
+    → List ClusterCron → ℕ → List ℕ → Type 0
+IsWindowShown true json minutes zones w fs crons most text = Unit {0}
+IsWindowShown false json minutes zones w fs crons most text =
+    IsWindowPrinted json minutes zones w fs crons most text
 
+-- with what clocks do in the window
+-- rule: clock-nights
 pub record TellsWindow (r : UpcomingRequest) (zones : List Zone) (w : Span) (fs : List FileCrons)
     (o : Outcome) : Type 0 where
   pub text : List ℕ
-  pub window : IsWindowShown r.svg (is_json r.output.now) zones w fs (meant_of r fs) r.peaks text
-  pub answer : o ≡ explained r.explain (all_words (is_several fs) fs) (told fs text)
+  pub window : IsWindowShown r.svg (is_json r.output.now) r.minutes zones w fs (meant_of r fs)
+      r.peaks text
+  pub nights : TellsNights r.explain zones (window_look w) (map (λ c. c.cron) (meant_of r fs))
+      (explained r.explain (all_words (is_several fs) fs) (told fs text)) o
 
 -- a CronJob of the files is in the namespace that is given, if one is, be it one that can't be used
 -- rule: why-named
@@ -234,17 +278,39 @@ IsNoWindow from (Some n) = (n ≤ reach) × (from + n ≤ last_second) → ⊥
 abbrev pub length_words : List ℕ
 length_words = codes "--for: want minutes, hours or days, as 90m, 24h or 7d, at most 3000d, and an end before the year 9999\n"
 
+-- so long from one instant to another that isn't before it
+abbrev pub between : ℕ → Option ℕ → Option ℕ
+between from None = None
+between from (Some end) = if nat_le from end then Some (end - from) else None
+
+-- how long the window is: up to the moment that is given as its end, else as its length says
+-- rule: upcoming-until
+abbrev pub length_for : ℕ → List ℕ → Option (Bor (List ℕ)) → Option ℕ
+length_for from text None = length_of text
+length_for from text (Some until) = between from (moment_of until.now)
+
+-- what an end has to be
+-- rule: upcoming-until
+abbrev pub until_words : List ℕ
+until_words = codes "--until: want a moment as --from, not before the start and at most 3000d behind it\n"
+
+-- what is wanted of a window that is refused
+-- rules: upcoming-length, upcoming-until
+abbrev pub end_words : Option (Bor (List ℕ)) → List ℕ
+end_words None = length_words
+end_words (Some until) = until_words
+
 -- then the length
 pub record RefusesLength (r : UpcomingRequest) (o : Outcome) : Type 0 where
   pub from : ℕ
   pub start : asked_moment r.from ≡ Some from
-  pub none : IsNoWindow from (length_of r.length.now)
-  pub answer : o ≡ explained r.explain length_words (refusal (codes "cronsim: length\n"))
+  pub none : IsNoWindow from (length_for from r.length.now r.until)
+  pub answer : o ≡ explained r.explain (end_words r.until) (refusal (codes "cronsim: length\n"))
 
 pub record IsWindowOf (r : UpcomingRequest) (w : Span) : Type 0 where
   pub from : ℕ
   pub start : asked_moment r.from ≡ Some from
-  pub window : IsWindow from (length_of r.length.now) w
+  pub window : IsWindow from (length_for from r.length.now r.until) w
 
 -- then a zone
 pub record RefusesUpcomingZone (r : UpcomingRequest) (files : List ZoneFile) (o : Outcome)

@@ -1,5 +1,5 @@
 -- What `why` answers of a cluster.
-use Rattle.std.specs.Prelude.{◌≡◌, ◌⊎◌, ℕ, ◌==◌, ◌≤◌, nat_lt, List, [], ◌∷◌, ◌++◌, ◌&&◌, ◌||◌, not, filter, length, Option, None, Some, IfSome, option_map, unwrap_or, Bool, true, false, bytes_eq, codes}
+use Rattle.std.specs.Prelude.{◌≡◌, ◌⊎◌, ℕ, ◌==◌, ◌≤◌, nat_lt, List, [], ◌∷◌, ◌++◌, ◌&&◌, ◌||◌, not, filter, length, map as map_list, Option, None, Some, IfSome, option_map, unwrap_or, Bool, true, false, bytes_eq, codes}
 use Rattle.std.specs.Borrow.{Bor}
 use Rattle.std.specs.List.{list_all, list_any}
 use Rattle.std.specs.FinMap as map
@@ -25,6 +25,8 @@ use Rattle.cj_answers.specs.Outcome.{Outcome, explained, refusal}
 use Rattle.cj_answers.specs.as_json.Forms.{IsJsonLine, is_json}
 use Rattle.cj_inspect.specs.as_json.Why.{why_data}
 use Rattle.cj_inspect.specs.Calls.{AreCallsJson}
+use Rattle.cj_inspect.specs.Nights.{IsNightData, TellsNights}
+use Rattle.cj_inspect.specs.declared.nights.look.Look.TheVariants.{Around}
 use Rattle.cj_why.specs.reviews.CronJson.{AreCronJson}
 use Rattle.serde_json.specs.Data.{Data}
 
@@ -175,7 +177,7 @@ is_output text = (bytes_eq text (codes "table") || is_lines text) || is_json tex
 -- what a form has to be
 -- rules: explain, why-output
 abbrev pub output_words : List ℕ
-output_words = codes "--output: want table, lines or json\n"
+output_words = codes "--output: want table, lines, json or yaml\n"
 
 -- why, in full: people ask for it, or name one CronJob
 -- rule: why-table
@@ -227,15 +229,18 @@ pub record PrintsTable (r : WhyRequest) (zones : List Zone) (now : ℕ) (list : 
   pub answer : o ≡ explained r.explain (note_words list.notes)
       (reviewed (is_fine r rows) list.notes table)
 
--- what is known of these CronJobs, and what their next syncs would write, as one JSON value
--- rules: why-json, why-calls
+-- what is known of these CronJobs, what their next syncs would write, and what their clocks do, as
+-- one JSON value
+-- rules: why-json, why-calls, clock-nights
 pub record IsWhyJson (zones : List Zone) (now : ℕ) (list : ClusterList) (lined : List ClusterCron)
     (text : List ℕ) : Type 0 where
   pub crons : List Data
   pub are : AreCronJson zones list.cluster now lined crons
   pub calls : List Data
   pub told : AreCallsJson zones list.cluster now lined calls
-  pub line : IsJsonLine (why_data now calls crons list.notes) text
+  pub clocks : Data
+  pub clocks_are : IsNightData clocks
+  pub line : IsJsonLine (why_data now calls clocks crons list.notes) text
 
 -- that alone is printed, and done where no item was refused, and none of those wants a look
 -- rule: why-status
@@ -265,12 +270,15 @@ abbrev pub IsPrinted : Bool → WhyRequest → List Zone → ℕ → ClusterList
 IsPrinted true r zones now list o = PrintsReview r zones now list o
 IsPrinted false r zones now list o = IsWhole (is_json r.output.now) r zones now list o
 
--- with what is told beside it
--- rules: why-named, why-early
+-- with what the clocks of those that are meant do, and what is told beside it
+-- rules: clock-nights, why-named, why-early
 pub record TellsReview (r : WhyRequest) (zones : List Zone) (now : ℕ) (list : ClusterList)
     (o : Outcome) : Type 0 where
+  pub printed : Outcome
+  pub prints : IsPrinted (is_lines r.output.now) r zones now list printed
   pub base : Outcome
-  pub prints : IsPrinted (is_lines r.output.now) r zones now list base
+  pub nights : TellsNights r.explain zones (Around now) (map_list (λ c. c.cron) (meant_of r list))
+      printed base
   pub notices : IsNoticed (has_home (within_of r) list)
       (is_early now (map.values list.cluster.crons)) base o
 

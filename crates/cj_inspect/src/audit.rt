@@ -1,5 +1,5 @@
 // What `audit` answers of a cluster.
-ghost use Rattle.std.specs.Prelude.{◌≡◌, ◌++◌, IfOk, IfErr, false, length, string_bytes};
+ghost use Rattle.std.specs.Prelude.{◌≡◌, ◌⊎◌, ◌++◌, IfOk, IfErr, false, length, map as map_list, string_bytes};
 ghost use Rattle.std.specs.FinMap as map;
 ghost use Rattle.cj_base.specs.declared.refusal.Refusal.TheVariants.{OutOfMemory};
 ghost use Rattle.cj_zone.specs.Table.{zones_of};
@@ -7,18 +7,26 @@ ghost use Rattle.cj_audit.specs.Lines.{audit_lines};
 ghost use Rattle.cj_audit.specs.Manual.{manual_lines};
 ghost use Rattle.cj_audit.specs.Told.{times_words};
 ghost use Rattle.cj_audit.specs.Words.{audit_words};
-ghost use Rattle.cj_cluster.specs.kubectl.Reading.{IsClusterList};
-ghost use Rattle.cj_inspect.specs.Audit.{AuditsList, IsAuditAnswer, alone_line, IsAuditOutcome, IsAuditedOf, audited, is_clean, manual_words, words_of};
+ghost use Rattle.cj_inspect.specs.Audit.{AuditsKnown, AuditsList, AuditsWhole, IsAuditAnswer, IsAuditOutcome, IsAuditedOf, IsWholeAudited, RefusesAuditCron, alone_line, audited, is_clean, manual_words, seen, unknown_of, words_of};
+ghost use Rattle.cj_inspect.specs.Nights.{TellsNights};
 ghost use Rattle.cj_answers.specs.Clusters as told;
 ghost use Rattle.cj_answers.specs.Outcome.{explained, outcome_of};
 ghost use Rattle.cj_inspect.specs.as_json.Audit.{IsAuditPrinted, IsAuditShown};
 ghost use Rattle.cj_answers.specs.as_json.Forms.{is_json};
 
+mod asking;
+
 use crate::as_json::audit::audit_json;
-use crate::why::{MOST_LIST_BYTES, MOST_LIST_READS, joined};
+use crate::audit::asking::{audit_moment, base_of, refused_audit_since};
+use crate::narrowing::narrowed_list;
+use crate::nights::{Look, cluster_look, with_nights};
+use crate::report::asked_since;
+use crate::why::naming::unknown_lines;
+use crate::why::notices::{has_home, with_home_notice};
+use crate::why::{MOST_LIST_BYTES, MOST_LIST_READS, is_nothing, joined, refused_unknown};
 use cj_answers::{
     Answer, ending_by, given_zones, is_form, is_json, is_read, note_lines, note_words,
-    refused_form, refused_list, refused_pair,
+    refused_form, refused_list, refused_now, refused_pair,
 };
 use cj_args::AuditRequest;
 use cj_audit::{
@@ -28,6 +36,7 @@ use cj_base::{Refusal, both};
 use cj_cluster::{ClusterList, read_cluster};
 use cj_io::{Failure, ZoneFile, read_input};
 use cj_picture::cluster_picture;
+use cj_types::Seconds;
 use cj_zone::ZoneTable;
 use std::alloc::Global;
 use std::io::Read;
@@ -87,6 +96,8 @@ fn printed(
     alloc: Global,
     svg: bool,
     output: &str,
+    zones: &ZoneTable,
+    look: &Look,
     list: &ClusterList,
     findings: &Findings,
 ) -> Result<String, Refusal>
@@ -97,7 +108,7 @@ fn printed(
     if svg {
         drawn(alloc, list, findings)
     } else if is_json(output) {
-        audit_json(alloc, list, findings)
+        audit_json(alloc, zones, look, list, findings)
     } else {
         lines(alloc, list, findings)
     }
@@ -184,40 +195,140 @@ fn told_of(
     Ok(answer.explained(explain, words)?)
 }
 
-fn list_audited(
+// With what the clocks of the CronJobs do, where people ask for it.
+fn with_clocks(
     alloc: Global,
     explain: bool,
-    svg: bool,
-    output: &str,
     zones: &ZoneTable,
-    bytes: &[u8],
+    look: &Look,
+    list: &ClusterList,
+    answer: Answer,
+) -> Result<Answer, Failure>
+    ensures { IfOk result (λ a. TellsNights explain (zones_of zones.now) look.now
+        (map_list (λ c. c.cron) (map.values list.now.cluster.crons)) (outcome_of answer)
+        (outcome_of a)) }
+{
+    let crons = list.cluster.crons(alloc)?;
+    Ok(with_nights(alloc, explain, zones, look, crons.as_slice(), answer)?)
+}
+
+// What is wrong in the part of a list that is asked about.
+fn list_audited(
+    alloc: Global,
+    audit_of: &AuditRequest<'_>,
+    zones: &ZoneTable,
+    since: Option<Seconds>,
+    now: Option<Seconds>,
     list: &ClusterList,
 ) -> Result<Answer, Failure>
-    requires { IsClusterList (zones_of zones.now) bytes.now list.now }
-    ensures { IfOk result (λ a. AuditsList explain svg (is_json output.now) (zones_of zones.now)
-        bytes.now (outcome_of a)) }
+    ensures { IfOk result (λ a. AuditsList audit_of.now (zones_of zones.now) since list.now
+        (outcome_of a)) }
 {
-    let findings = audit(alloc, zones, &list.cluster, list.notes.as_slice())?;
+    let (explain, svg, output) = (audit_of.explain, audit_of.svg, audit_of.output);
+    let first = since;
+    let all = audit(alloc, zones, &list.cluster, list.notes.as_slice())?;
+    let findings = seen(all, since);
+    let look = cluster_look(alloc, &list.cluster, first, now)?;
     let words = words(alloc, list, &findings)?;
-    let printed = printed(alloc, svg, output, list, &findings)?;
-    told_of(alloc, explain, list, &findings, printed, words.as_str())
+    let printed = printed(alloc, svg, output, zones, &look, list, &findings)?;
+    let answer = told_of(alloc, explain, list, &findings, printed, words.as_str())?;
+    with_clocks(alloc, explain, zones, &look, list, answer)
+}
+
+// The findings from then on.
+fn seen(findings: Findings, since: Option<Seconds>) -> Findings
+    ensures { result ≡ seen since findings }
+{
+    match since {
+        Some(first) => findings.since(first),
+        None => findings,
+    }
+}
+
+// What is answered where each CronJob that is named is there, with what is told beside it.
+fn part_audited(
+    alloc: Global,
+    audit: &AuditRequest<'_>,
+    zones: &ZoneTable,
+    since: Option<Seconds>,
+    now: Option<Seconds>,
+    whole: ClusterList,
+) -> Result<Answer, Failure>
+    ensures { IfOk result (λ a. AuditsWhole audit.now (zones_of zones.now) since whole
+        (outcome_of a)) }
+{
+    let within = audit.namespace;
+    let crons = whole.cluster.crons(alloc)?;
+    let home = has_home(within, &whole, crons.as_slice());
+    let list = narrowed_list(alloc, within, audit.crons.as_slice(), whole)?;
+    let answer = list_audited(alloc, audit, zones, since, now, &list)?;
+    Ok(with_home_notice(alloc, within, crons.as_slice(), home, answer)?)
+}
+
+// What is answered where these lines tell which are unknown.
+fn known_audited(
+    alloc: Global,
+    audit: &AuditRequest<'_>,
+    zones: &ZoneTable,
+    since: Option<Seconds>,
+    now: Option<Seconds>,
+    whole: ClusterList,
+    unknown: &str,
+) -> Result<Answer, Failure>
+    ensures { IfOk result (λ a. RefusesAuditCron audit.now unknown.now (outcome_of a)
+        ⊎ AuditsKnown audit.now (zones_of zones.now) since whole unknown.now (outcome_of a)) }
+{
+    if is_nothing(unknown) {
+        part_audited(alloc, audit, zones, since, now, whole)
+    } else {
+        refused_unknown(alloc, audit.explain, unknown)
+    }
+}
+
+fn unknown_of(
+    alloc: Global,
+    audit: &AuditRequest<'_>,
+    whole: &ClusterList,
+) -> Result<String, Refusal>
+    ensures { IfOk result (λ s. string_bytes s ≡ unknown_of audit.now whole.now) }
+{
+    let crons = whole.cluster.crons(alloc)?;
+    let texts = audit.crons.as_slice();
+    let notes = whole.notes.as_slice();
+    unknown_lines(alloc, audit.namespace, texts, crons.as_slice(), notes)
+}
+
+// What is answered of a list that was read.
+fn whole_audited(
+    alloc: Global,
+    audit: &AuditRequest<'_>,
+    zones: &ZoneTable,
+    since: Option<Seconds>,
+    now: Option<Seconds>,
+    whole: ClusterList,
+) -> Result<Answer, Failure>
+    ensures { IfOk result (λ a. IsWholeAudited audit.now (zones_of zones.now) since whole
+        (outcome_of a)) }
+{
+    let unknown = unknown_of(alloc, audit, &whole)?;
+    known_audited(alloc, audit, zones, since, now, whole, unknown.as_str())
 }
 
 // What the bytes of a list are answered.
 fn bytes_audited(
     alloc: Global,
-    explain: bool,
-    svg: bool,
-    output: &str,
+    audit: &AuditRequest<'_>,
     zones: &ZoneTable,
+    since: Option<Seconds>,
+    now: Option<Seconds>,
     bytes: &[u8],
 ) -> Result<Answer, Failure>
-    ensures { IfOk result (λ a. IsAuditedOf explain svg (is_json output.now) (zones_of zones.now)
-        bytes.now (outcome_of a)) }
+    ensures { IfOk result (λ a. IsAuditedOf audit.now (zones_of zones.now) since bytes.now
+        (outcome_of a)) }
 {
     match read_cluster(alloc, bytes, zones) {
-        Ok(list) => list_audited(alloc, explain, svg, output, zones, bytes, &list),
-        Err(fault) => refused_list(alloc, explain, bytes, fault),
+        Ok(list) => whole_audited(alloc, audit, zones, since, now, list),
+        Err(fault) => refused_list(alloc, audit.explain, bytes, fault),
     }
 }
 
@@ -231,22 +342,21 @@ fn form_answer<R: Read>(
     ensures { IfOk result (λ a. IsAuditAnswer audit.now files.now (R.remaining input.old)
         (outcome_of a)) }
 {
+    let Some(now) = audit_moment(alloc, audit.moment)? else {
+        return Ok(refused_now(alloc, audit.explain)?);
+    };
+    let Some(since) = asked_since(alloc, base_of(now), audit.since)? else {
+        return Ok(refused_audit_since(alloc, audit.explain)?);
+    };
     let Some(zones) = given_zones(alloc, &audit.zones, files)? else {
         return refused_pair(alloc, audit.explain);
     };
     let bytes = read_input(alloc, input, MOST_LIST_BYTES, MOST_LIST_READS)?;
-    bytes_audited(
-        alloc,
-        audit.explain,
-        audit.svg,
-        audit.output,
-        &zones,
-        bytes.as_slice(),
-    )
+    bytes_audited(alloc, audit, &zones, since, now, bytes.as_slice())
 }
 
 /// What the command `audit` answers: the form of what is printed is looked at first, then the
-/// zones, then all of the input is read.
+/// moment, then from when on, then the zones, then all of the input is read.
 pub fn audit_answer<R: Read>(
     alloc: Global,
     audit: &AuditRequest<'_>,

@@ -1,13 +1,17 @@
 // What is read of files with CronJobs.
-ghost use Rattle.std.specs.Prelude.{◌≡◌, ◌∷◌, ◌++◌, [], IfErr, IfOk, MatchOption, OnOk};
+ghost use Rattle.std.specs.Prelude.{◌≡◌, ◌∷◌, ◌++◌, [], IfErr, IfOk, MatchOption, OnOk, false, filter, not};
 ghost use Rattle.cj_base.specs.declared.refusal.Refusal.TheVariants.{OutOfMemory};
 ghost use Rattle.cj_cluster.specs.declared.kubectl.fault.ListFault.TheVariants.{Memory};
-ghost use Rattle.cj_cluster.specs.kubectl.Reading.{IsRefusedList};
+ghost use Rattle.cj_answers.specs.Clusters.{is_other, is_read};
+ghost use Rattle.cj_cluster.specs.kubectl.Reading.{IsClusterList, IsRefusedList};
 ghost use Rattle.cj_zone.specs.Table.{zones_of};
-ghost use Rattle.cj_inspect.specs.CronFiles.{AddsFile, AreFiles, Drafts, DraftsNone, IsCron, IsDrafted, IsFile, IsListed, Stops};
+ghost use Rattle.cj_inspect.specs.CronFiles.{AddsFile, AreFiles, Drafts, DraftsNone, IsCron, IsDrafted, IsFile, IsListed, IsServedList, Stops, without_others};
 
+use crate::manifests::served_text;
+use cj_answers::is_read;
 use cj_cluster::{
-    Cluster, ClusterCron, ClusterList, CronMarks, ItemNote, ItemNotes, ListFault, read_cluster,
+    Cluster, ClusterCron, ClusterList, CronMarks, ItemNote, ItemNotes, ListFault, Said,
+    read_cluster,
 };
 use cj_manifest::read_cronjob;
 use cj_types::{
@@ -35,6 +39,8 @@ pub(crate) struct FileCrons {
     pub crons: Listing<Shared<ClusterCron>>,
     /// What else it has, with a note of each item that can't be used.
     pub list: ClusterList,
+    /// How many objects of other kinds are passed over without a note.
+    pub passed: u64,
 }
 
 impl FileCrons {
@@ -120,16 +126,110 @@ fn drafted(alloc: Global, name: Text, draft: CronJobDraft) -> Result<FileCrons, 
         cluster: Cluster::new(alloc),
         notes: ItemNotes::new(alloc),
     };
-    Ok(FileCrons { name, crons, list })
+    Ok(FileCrons {
+        name,
+        crons,
+        list,
+        passed: 0,
+    })
 }
 
 // The file of what a client prints.
-fn listed(alloc: Global, name: Text, list: ClusterList) -> Result<FileCrons, Refusal>
-    ensures ok { IfOk result (IsListed name list) }
+fn listed(alloc: Global, name: Text, found: ReadList) -> Result<FileCrons, Refusal>
+    ensures ok { IfOk result (IsListed name found.list) }
     ensures err { IfErr result (λ e. e ≡ OutOfMemory) }
 {
+    let ReadList { list, passed } = found;
     let crons = list.cluster.crons(alloc)?;
-    Ok(FileCrons { name, crons, list })
+    Ok(FileCrons {
+        name,
+        crons,
+        list,
+        passed,
+    })
+}
+
+// A list, and how many objects of other kinds are left out of it.
+#[derive(Drop)]
+struct ReadList {
+    list: ClusterList,
+    passed: u64,
+}
+
+fn is_other(note: &ItemNote) -> bool
+    ensures { result ≡ is_other note.now.said }
+{
+    match &note.said {
+        Said::Kind(_) => true,
+        Said::Refused(_) | Said::Taken(_, _) => false,
+    }
+}
+
+// How many objects are of other kinds.
+fn others_count(notes: &[ItemNote]) -> u64 {
+    let mut count: u64 = 0;
+    for note in notes {
+        if is_other(note) {
+            count = count.saturating_add(1);
+        }
+    }
+    count
+}
+
+// The notes but those of objects of other kinds.
+fn own_notes(mut notes: Vec<ItemNote>) -> Vec<ItemNote>
+    ensures { result.items ≡ filter (λ n. not (is_other n.said)) notes.items }
+{
+    notes.retain(|note| !is_other(note));
+    notes
+}
+
+// The list without objects of other kinds.
+fn without_others(list: ClusterList) -> ReadList
+    ensures { result.list ≡ without_others list }
+{
+    let (cluster, notes) = list.into_parts();
+    let passed = others_count(notes.as_slice());
+    let list = ClusterList {
+        cluster,
+        notes: ItemNotes::of(own_notes(notes.into_items())),
+    };
+    ReadList { list, passed }
+}
+
+// The list, or that of the same manifests as a server would have them.
+fn served_list(
+    alloc: Global,
+    bytes: &[u8],
+    zones: &ZoneTable,
+    list: ClusterList,
+) -> Result<ReadList, ListFault>
+    requires read { IsClusterList (zones_of zones.now) bytes.now list }
+    requires some { is_read list.notes ≡ false }
+    ensures read { IfOk result (λ r. IsServedList (zones_of zones.now) bytes.now r.list) }
+    ensures refused { IfErr result (λ e. e ≡ Memory) }
+{
+    let Some(served) = served_text(alloc, bytes)? else {
+        return Ok(ReadList { list, passed: 0 });
+    };
+    match read_cluster(alloc, served.as_slice(), zones) {
+        Ok(list) => Ok(without_others(list)),
+        Err(ListFault::Memory) => Err(ListFault::Memory),
+        Err(_) => Ok(ReadList { list, passed: 0 }),
+    }
+}
+
+// The list of what a client prints, or of manifests.
+fn read_list(alloc: Global, bytes: &[u8], zones: &ZoneTable) -> Result<ReadList, ListFault>
+    ensures read { IfOk result (λ r. IsServedList (zones_of zones.now) bytes.now r.list) }
+    ensures refused { IfErr result (IsRefusedList bytes.now) }
+{
+    let list = read_cluster(alloc, bytes, zones)?;
+    if is_read(list.notes.as_slice()) {
+        return Ok(ReadList { list, passed: 0 });
+    }
+    let read = served_list(alloc, bytes, zones, list)?;
+    Ok(read)
 }
 
 // What a manifest without a fault says; none where the bytes are no such manifest.
@@ -150,8 +250,12 @@ fn draft_of(
     }
 }
 
-// What is read of a file: the manifest of a CronJob without a fault, else what a client prints.
-fn read_file(alloc: Global, file: &CronFile<'_>, zones: &ZoneTable) -> Result<FileCrons, ListFault>
+/// What is read of a file: the manifest of a CronJob without a fault, else what a client prints.
+pub(crate) fn read_file(
+    alloc: Global,
+    file: &CronFile<'_>,
+    zones: &ZoneTable,
+) -> Result<FileCrons, ListFault>
     ensures read { IfOk result (IsFile (zones_of zones.now) file.now) }
     ensures refused { IfErr result (IsRefusedList file.now.bytes.now) }
 {
@@ -162,8 +266,8 @@ fn read_file(alloc: Global, file: &CronFile<'_>, zones: &ZoneTable) -> Result<Fi
             Ok(read)
         }
         None => {
-            let list = read_cluster(alloc, file.bytes, zones)?;
-            let read = listed(alloc, name, list)?;
+            let found = read_list(alloc, file.bytes, zones)?;
+            let read = listed(alloc, name, found)?;
             Ok(read)
         }
     }

@@ -10,15 +10,26 @@
 mod as_json;
 mod audit;
 mod calls;
+mod columns;
 mod cron_files;
+mod describing;
 mod html;
+mod manifests;
+mod narrowing;
+mod nights;
 mod report;
+mod scenario;
+mod schedules;
+mod spans;
 mod upcoming;
 mod why;
 mod windows;
 
 pub use audit::audit_answer;
 pub use cron_files::CronFile;
+pub use describing::describing_answer;
+pub use nights::{Look, nights_text};
 pub use report::{report_answer, report_files_answer};
+pub use scenario::scenario_answer;
 pub use upcoming::{upcoming_answer, upcoming_files_answer};
 pub use why::{MOST_LIST_BYTES, MOST_LIST_READS, why_answer};

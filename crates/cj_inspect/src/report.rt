@@ -8,16 +8,19 @@ ghost use Rattle.cj_inspect.specs.Report.{IsReportOutcome, asked_since, since_of
 
 use crate::cron_files::CronFile;
 use crate::html::{Subject, add_cluster, page_text};
-use crate::why::{MOST_LIST_BYTES, MOST_LIST_READS};
+use crate::narrowing::{is_everything, narrowed_cluster};
+use crate::why::naming::{told_items, unknown_lines};
+use crate::why::notices::{has_cron, has_note, with_home_notice};
+use crate::why::{MOST_LIST_BYTES, MOST_LIST_READS, refused_unknown};
 use cj_answers::{
     Answer, asked_moment, by_clock, ending_by, given_zones, is_read, marked, note_words,
     refused_list, refused_now, refused_pair,
 };
 use cj_args::ReportRequest;
 use cj_audit::{Findings, audit, has_jobs_alone};
-use cj_cluster::{Cluster, ClusterList, ItemNote, ListFault, Said, read_cluster};
+use cj_cluster::{Cluster, ClusterCron, ClusterList, ItemNote, ListFault, Said, read_cluster};
 use cj_io::{Failure, ZoneFile, read_input};
-use cj_types::{Refusal, Seconds};
+use cj_types::{Refusal, Seconds, Shared};
 use cj_zone::ZoneTable;
 use std::alloc::{AllocError, Global};
 use std::io::Read;
@@ -257,6 +260,58 @@ fn told(
     Ok(answer.explained(report.explain, all.words.as_str())?)
 }
 
+// The files with the CronJobs that are asked about.
+fn narrowed(alloc: Global, report: &ReportRequest<'_>, all: Gathered) -> Result<Gathered, Refusal> {
+    let (within, texts) = (report.namespace, report.crons.as_slice());
+    if is_everything(within, texts) {
+        return Ok(all);
+    }
+    let Gathered {
+        cluster,
+        notes,
+        passed,
+        words,
+    } = all;
+    Ok(Gathered {
+        cluster: narrowed_cluster(alloc, within, texts, &cluster)?,
+        notes: told_items(within, texts, notes),
+        passed,
+        words,
+    })
+}
+
+// Whether one of them is in the namespace that is given, if one is.
+fn has_home(within: Option<&str>, notes: &[ItemNote], crons: &[Shared<ClusterCron>]) -> bool {
+    match within {
+        None => true,
+        Some(namespace) => has_cron(namespace, crons) || has_note(namespace, notes),
+    }
+}
+
+// The answer for what the files have, if each CronJob that is named is there.
+fn known_told(
+    alloc: Global,
+    report: &ReportRequest<'_>,
+    zones: &ZoneTable,
+    now: Seconds,
+    since: Option<Seconds>,
+    all: Gathered,
+) -> Result<Answer, Failure>
+    requires { local_zone zones.now ≡ Some (utc_zone (codes "UTC")) }
+{
+    let (within, texts) = (report.namespace, report.crons.as_slice());
+    let crons = all.cluster.crons(alloc)?;
+    let crons = crons.as_slice();
+    let unknown = unknown_lines(alloc, within, texts, crons, all.notes.as_slice())?;
+    if !unknown.is_empty() {
+        return refused_unknown(alloc, report.explain, unknown.as_str());
+    }
+    let home = has_home(within, all.notes.as_slice(), crons);
+    let part = narrowed(alloc, report, all)?;
+    let answer = told(alloc, report, zones, now, since, &part)?;
+    Ok(with_home_notice(alloc, within, crons, home, answer)?)
+}
+
 // The answer for the files.
 fn sources_told(
     alloc: Global,
@@ -269,7 +324,7 @@ fn sources_told(
     requires { local_zone zones.now ≡ Some (utc_zone (codes "UTC")) }
 {
     match gather(alloc, report.explain, zones, sources)? {
-        Gathering::Known(all) => told(alloc, report, zones, now, since, &all),
+        Gathering::Known(all) => known_told(alloc, report, zones, now, since, all),
         Gathering::Refused(answer) => Ok(answer),
     }
 }
@@ -287,7 +342,7 @@ fn since_of(alloc: Global, now: Seconds, text: &str) -> Result<Option<Seconds>, 
 }
 
 // From when on, if the words say it; none where they say no moment.
-fn asked_since(
+pub(crate) fn asked_since(
     alloc: Global,
     now: Seconds,
     text: Option<&str>,

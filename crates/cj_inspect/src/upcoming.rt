@@ -1,22 +1,29 @@
 // What `upcoming` answers of CronJobs.
-ghost use Rattle.std.specs.Prelude.{◌≡◌, ◌⊎◌, ◌++◌, IfErr, IfOk, IfSome, IsNone, OnOk, codes, option_map, string_bytes};
+ghost use Rattle.std.specs.Prelude.{◌≡◌, ◌⊎◌, ◌++◌, IfErr, IfOk, IfSome, IsNone, OnOk, codes, map, option_map, string_bytes};
 ghost use Rattle.std.specs.List.{list_any};
 ghost use Rattle.cj_cluster.specs.kubectl.Reading.{IsRefusedList};
 ghost use Rattle.cj_zone.specs.Table.{zones_of};
-ghost use Rattle.cj_upcoming.specs.Length.{length_of};
 ghost use Rattle.cj_upcoming.specs.Upcoming.{HasMore};
 ghost use Rattle.cj_upcoming.specs.declared.fault.StartsFault.TheVariants.{TooMany};
 ghost use Rattle.cj_answers.specs.Outcome.{explained, outcome_of, refusal};
+ghost use Rattle.cj_inspect.specs.Nights.{TellsNights};
 ghost use Rattle.cj_inspect.specs.Why.{is_noted_in, line_where};
+ghost use Rattle.cj_inspect.specs.Windows.{window_look};
 ghost use Rattle.cj_answers.specs.as_json.Forms.{is_json};
-ghost use Rattle.cj_inspect.specs.Upcoming.{IsAsked, IsNoWindow, IsTold, IsToldOf, IsUpcomingFiles, IsUpcomingOutcome, IsWindow, IsWindowAsked, IsWindowLines, IsWindowPrinted, IsWindowShown, RefusesMany, RefusesMarked, TellsNoticed, TellsWindow, all_crons, all_lines, all_words, are_read, file_lines, file_words, from_words, has_home, is_noted_of, is_several, is_unknown, length_words, many_words, mark_for, meant_of, most_starts, told, unknown_lines, unknown_of};
+ghost use Rattle.cj_inspect.specs.Upcoming.{IsAsked, IsNoWindow, IsTold, IsToldOf, IsUpcomingFiles, IsUpcomingOutcome, IsWindow, IsWindowAsked, IsWindowLines, IsWindowPrinted, IsWindowShown, IsWindowSum, IsWindowTold, RefusesMany, RefusesMarked, TellsNoticed, TellsWindow, all_crons, all_lines, all_words, are_read, between, end_words, file_lines, file_words, from_words, has_home, is_noted_of, is_several, is_unknown, length_for, length_words, many_words, mark_for, meant_of, most_starts, passed_line, passed_lines, passed_mark, told, unknown_lines, unknown_of};
+
+pub(crate) mod coming;
+pub(crate) mod peaks;
+pub(crate) mod sums;
+pub(crate) mod table;
 
 use crate::as_json::upcoming::{files_value, window_json};
 use crate::cron_files::{BadFile, CronFile, FileCrons, read_files};
+use crate::nights::with_nights;
 use crate::why::naming::{chosen, has_none, is_noted_one, push_where};
 use crate::why::notices::{has_cron, has_note, with_home_notice};
 use crate::why::{MOST_LIST_BYTES, MOST_LIST_READS, is_nothing, refused_unknown};
-use crate::windows::{counted_text, window_drawn};
+use crate::windows::{counted_text, summed_text, window_drawn, window_look};
 use cj_answers::{
     Answer, asked_moment, ending_by, given_zones, is_form, is_json, is_read, marked, note_lines,
     note_words, refused_form, refused_list, refused_pair,
@@ -171,8 +178,8 @@ fn push_unknown(
     Ok(())
 }
 
-// A line for each text that no CronJob is called.
-fn unknown_lines(
+/// A line for each text that no CronJob is called.
+pub(crate) fn unknown_lines(
     alloc: Global,
     within: Option<&str>,
     texts: &[&str],
@@ -227,15 +234,45 @@ fn refused_many(alloc: Global, explain: bool) -> Result<Answer, AllocError>
     Answer::refused(alloc, "cronsim: starts\n")?.explained(explain, MANY_WORDS)
 }
 
-// How what is printed ends.
-fn told(alloc: Global, files: &[FileCrons], printed: String) -> Answer
-    ensures { outcome_of result ≡ told files.now (string_bytes printed) }
+// How many objects of a file are passed over.
+fn passed_line(alloc: Global, several: bool, file: &FileCrons) -> Result<String, AllocError>
+    ensures { IfOk result (λ s. string_bytes s ≡ passed_line several file.now) }
 {
-    Answer {
+    let passed = file.passed;
+    if passed == 0 {
+        return Ok(String::new(alloc));
+    }
+    let mark = passed_mark(several, file.name.as_str());
+    format!(in alloc; "{mark}: objects of other kinds, passed over: {passed}\n")
+}
+
+// Which file is meant.
+fn passed_mark<'a>(several: bool, name: &'a str) -> &'a str
+    ensures { result.now ≡ passed_mark several name.now }
+{
+    if several { name } else { "FILE" }
+}
+
+fn passed_lines(alloc: Global, several: bool, files: &[FileCrons]) -> Result<String, AllocError>
+    ensures { IfOk result (λ s. string_bytes s ≡ passed_lines several files.now) }
+{
+    let mut text = String::new(alloc);
+    for file in files {
+        let line = passed_line(alloc, several, file)?;
+        text.push_str(line.as_str())?;
+    }
+    Ok(text)
+}
+
+// How what is printed ends, with what is passed over.
+fn told(alloc: Global, files: &[FileCrons], printed: String) -> Result<Answer, AllocError>
+    ensures { IfOk result (λ a. outcome_of a ≡ told files.now (string_bytes printed)) }
+{
+    Ok(Answer {
         ending: ending_by(are_read(files)),
         printed,
-        said: String::new(alloc),
-    }
+        said: passed_lines(alloc, is_several(files), files)?,
+    })
 }
 
 fn told_text(
@@ -249,7 +286,7 @@ fn told_text(
         (told files.now (string_bytes printed))) }
 {
     let words = all_words(alloc, is_several(files), files)?;
-    told(alloc, files, printed).explained(explain, words.as_str())
+    told(alloc, files, printed)?.explained(explain, words.as_str())
 }
 
 // The items that can't be used, in lines, with the lines of the window behind them.
@@ -281,6 +318,47 @@ fn window_lines(
     Ok(printed)
 }
 
+// A line for each of these CronJobs.
+fn window_sum(
+    alloc: Global,
+    zones: &ZoneTable,
+    window: &Window,
+    files: &[FileCrons],
+    crons: &[Shared<ClusterCron>],
+    peaks: usize,
+) -> Result<String, StartsFault>
+    ensures ok { IfOk result (λ s. IsWindowSum (zones_of zones.now) window.now files.now crons.now
+        (string_bytes s)) }
+    ensures many { IfErr result (λ e. e ≡ TooMany →
+        HasMore (zones_of zones.now) window.now crons.now most_starts) }
+{
+    let text = summed_text(alloc, zones, window, crons, MOST_STARTS, peaks)?;
+    let printed = with_items(alloc, files, text.as_str())?;
+    Ok(printed)
+}
+
+// The minutes, or a line for each CronJob.
+fn window_told(
+    alloc: Global,
+    minutes: bool,
+    zones: &ZoneTable,
+    window: &Window,
+    files: &[FileCrons],
+    crons: &[Shared<ClusterCron>],
+    peaks: usize,
+) -> Result<String, StartsFault>
+    ensures ok { IfOk result (λ s. IsWindowTold minutes (zones_of zones.now) window.now files.now
+        crons.now peaks (string_bytes s)) }
+    ensures many { IfErr result (λ e. e ≡ TooMany →
+        HasMore (zones_of zones.now) window.now crons.now most_starts) }
+{
+    if minutes {
+        window_lines(alloc, zones, window, files, crons, peaks)
+    } else {
+        window_sum(alloc, zones, window, files, crons, peaks)
+    }
+}
+
 // The answer as JSON or in lines.
 fn window_printed(
     alloc: Global,
@@ -291,7 +369,8 @@ fn window_printed(
     crons: &[Shared<ClusterCron>],
 ) -> Result<String, StartsFault>
     ensures ok { IfOk result (λ s. IsWindowPrinted (is_json upcoming.now.output.now)
-        (zones_of zones.now) window.now files.now crons.now upcoming.now.peaks (string_bytes s)) }
+        upcoming.now.minutes (zones_of zones.now) window.now files.now crons.now
+        upcoming.now.peaks (string_bytes s)) }
     ensures many { IfErr result (λ e. e ≡ TooMany →
         HasMore (zones_of zones.now) window.now crons.now most_starts) }
 {
@@ -300,7 +379,7 @@ fn window_printed(
         let items = files_value(alloc, is_several(files), files)?;
         window_json(alloc, zones, window, crons, MOST_STARTS, peaks, items)
     } else {
-        window_lines(alloc, zones, window, files, crons, peaks)
+        window_told(alloc, upcoming.minutes, zones, window, files, crons, peaks)
     }
 }
 
@@ -329,7 +408,8 @@ fn window_shown(
     crons: &[Shared<ClusterCron>],
 ) -> Result<String, StartsFault>
     ensures ok { IfOk result (λ s. IsWindowShown upcoming.now.svg (is_json upcoming.now.output.now)
-        (zones_of zones.now) window.now files.now crons.now upcoming.now.peaks (string_bytes s)) }
+        upcoming.now.minutes (zones_of zones.now) window.now files.now crons.now
+        upcoming.now.peaks (string_bytes s)) }
     ensures many { IfErr result (λ e. e ≡ TooMany →
         HasMore (zones_of zones.now) window.now crons.now most_starts) }
 {
@@ -338,6 +418,27 @@ fn window_shown(
     } else {
         window_printed(alloc, upcoming, zones, window, files, crons)
     }
+}
+
+// With what the clocks of these CronJobs do in the window, where people ask for it.
+fn told_clocks(
+    alloc: Global,
+    explain: bool,
+    zones: &ZoneTable,
+    window: &Window,
+    files: &[FileCrons],
+    crons: &[Shared<ClusterCron>],
+    printed: String,
+) -> Result<Answer, Failure>
+    ensures { IfOk result (λ a. TellsNights explain (zones_of zones.now) (window_look window.now)
+        (map (λ c. c.cron) crons.now)
+        (explained explain (all_words (is_several files.now) files.now)
+        (told files.now (string_bytes printed)))
+        (outcome_of a)) }
+{
+    let answer = told_text(alloc, explain, files, printed)?;
+    let look = window_look(window);
+    Ok(with_nights(alloc, explain, zones, &look, crons, answer)?)
 }
 
 // The answer for these CronJobs.
@@ -355,7 +456,7 @@ fn told_of(
         ⊎ TellsWindow upcoming.now (zones_of zones.now) window.now files.now (outcome_of a)) }
 {
     match window_shown(alloc, upcoming, zones, window, files, crons) {
-        Ok(text) => Ok(told_text(alloc, upcoming.explain, files, text)?),
+        Ok(text) => told_clocks(alloc, upcoming.explain, zones, window, files, crons, text),
         Err(StartsFault::TooMany) => Ok(refused_many(alloc, upcoming.explain)?),
         Err(StartsFault::Memory) => Err(Failure::Memory),
     }
@@ -508,7 +609,8 @@ enum Asked {
 const FROM_WORDS: &str =
     "--from: want a time like 2024-01-01T00:00:00Z or 2024-01-01T01:00:00+01:00, a date like 2024-01-01, now, or -1h or +2d from now\n";
 
-fn refused_start(alloc: Global, explain: bool) -> Result<Answer, AllocError>
+/// What is answered where the start of a window is refused.
+pub(crate) fn refused_start(alloc: Global, explain: bool) -> Result<Answer, AllocError>
     ensures { IfOk result (λ a. outcome_of a ≡ explained explain from_words
         (refusal (codes "cronsim: time\n"))) }
 {
@@ -519,21 +621,74 @@ fn refused_start(alloc: Global, explain: bool) -> Result<Answer, AllocError>
 const LENGTH_WORDS: &str =
     "--for: want minutes, hours or days, as 90m, 24h or 7d, at most 3000d, and an end before the year 9999\n";
 
-fn refused_length(alloc: Global, explain: bool) -> Result<Answer, AllocError>
-    ensures { IfOk result (λ a. outcome_of a ≡ explained explain length_words
-        (refusal (codes "cronsim: length\n"))) }
+// What an end has to be.
+const UNTIL_WORDS: &str =
+    "--until: want a moment as --from, not before the start and at most 3000d behind it\n";
+
+// What is wanted of a window that is refused.
+fn end_words(until: Option<&str>) -> &'static str
+    ensures { result.now ≡ end_words until.entry }
 {
-    Answer::refused(alloc, "cronsim: length\n")?.explained(explain, LENGTH_WORDS)
+    match until {
+        Some(_) => UNTIL_WORDS,
+        None => LENGTH_WORDS,
+    }
 }
 
-// The window from an instant on that is so long.
-fn window_from(from: Seconds, length: &str) -> Option<Window>
-    ensures some { IfSome result (IsWindow from (length_of length.now)) }
-    ensures none { IsNone result → IsNoWindow from (length_of length.now) }
+/// What is answered where the length or the end of a window is refused.
+pub(crate) fn refused_length(
+    alloc: Global,
+    explain: bool,
+    until: Option<&str>,
+) -> Result<Answer, AllocError>
+    ensures { IfOk result (λ a. outcome_of a ≡ explained explain (end_words until.entry)
+        (refusal (codes "cronsim: length\n"))) }
 {
-    match read_length(length) {
-        Some(length) => Window::new(from, length),
-        None => None,
+    Answer::refused(alloc, "cronsim: length\n")?.explained(explain, end_words(until))
+}
+
+// So long from one instant to another that isn't before it.
+fn between(from: Seconds, end: Option<Seconds>) -> Option<u64>
+    ensures { result ≡ between from end }
+{
+    let end = end?;
+    if from.get() <= end.get() {
+        Some(end.get() - from.get())
+    } else {
+        None
+    }
+}
+
+// How long the window is: up to the moment that is given as its end, else as its length says.
+fn length_for(
+    alloc: Global,
+    from: Seconds,
+    length: &str,
+    until: Option<&str>,
+) -> Result<Option<u64>, AllocError>
+    ensures { IfOk result (λ n. n ≡ length_for from length.now until.entry) }
+{
+    match until {
+        Some(_) => Ok(between(from, asked_moment(alloc, until)?)),
+        None => Ok(read_length(length)),
+    }
+}
+
+/// The window from an instant on that is so long, or up to that moment.
+pub(crate) fn window_from(
+    alloc: Global,
+    from: Seconds,
+    length: &str,
+    until: Option<&str>,
+) -> Result<Option<Window>, AllocError>
+    ensures some { IfOk result (λ w. IfSome w (IsWindow from
+        (length_for from length.now until.entry))) }
+    ensures none { IfOk result (λ w. IsNone w → IsNoWindow from
+        (length_for from length.now until.entry)) }
+{
+    match length_for(alloc, from, length, until)? {
+        Some(length) => Ok(Window::new(from, length)),
+        None => Ok(None),
     }
 }
 
@@ -548,8 +703,9 @@ fn window_asked(
     let Some(from) = asked_moment(alloc, upcoming.from)? else {
         return Ok(Asked::Refused(refused_start(alloc, upcoming.explain)?));
     };
-    let Some(window) = window_from(from, upcoming.length) else {
-        return Ok(Asked::Refused(refused_length(alloc, upcoming.explain)?));
+    let Some(window) = window_from(alloc, from, upcoming.length, upcoming.until)? else {
+        let refused = refused_length(alloc, upcoming.explain, upcoming.until)?;
+        return Ok(Asked::Refused(refused));
     };
     let Some(zones) = given_zones(alloc, &upcoming.zones, files)? else {
         return Ok(Asked::Refused(refused_pair(alloc, upcoming.explain)?));

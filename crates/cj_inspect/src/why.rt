@@ -1,10 +1,12 @@
 // What `why` answers of a cluster.
-ghost use Rattle.std.specs.Prelude.{◌≡◌, ◌⊎◌, ◌++◌, IfOk, Some, codes, length, string_bytes};
+ghost use Rattle.std.specs.Prelude.{◌≡◌, ◌⊎◌, ◌++◌, IfOk, Some, codes, length, map as map_list, string_bytes};
 ghost use Rattle.std.specs.FinMap as map;
 ghost use Rattle.cj_zone.specs.Table.{local_zone, zones_of};
 ghost use Rattle.cj_zone.specs.Zones.{utc_zone};
 ghost use Rattle.cj_answers.specs.Outcome.{explained, outcome_of, refusal};
 ghost use Rattle.cj_answers.specs.as_json.Forms.{is_json};
+ghost use Rattle.cj_inspect.specs.Nights.{TellsNights};
+ghost use Rattle.cj_inspect.specs.declared.nights.look.Look.TheVariants.{Around};
 ghost use Rattle.cj_inspect.specs.Why.{IsListReviewed, IsReviewed, IsPrinted, IsWhole, IsWhyAnswer, IsWhyOutcome, PrintsKnown, RefusesCron, TellsReview, is_lines, is_nothing, is_output, meant_of, output_words};
 
 pub(crate) mod lines;
@@ -13,6 +15,7 @@ pub(crate) mod notices;
 mod table;
 
 use crate::as_json::clusters::json_reviewed;
+use crate::nights::{Look, with_nights};
 use crate::why::lines::lines_reviewed;
 use crate::why::naming::{meant_of, narrowed, unknown_of};
 use crate::why::notices::with_notices;
@@ -131,6 +134,27 @@ fn meant_reviewed(
     reviewed(alloc, why, zones, bytes, list, all, meant.as_slice(), now)
 }
 
+// With what the clocks of those that are meant do, where people ask for it.
+fn with_clocks(
+    alloc: Global,
+    why: &WhyRequest<'_>,
+    zones: &ZoneTable,
+    list: &ClusterList,
+    crons: &[Shared<ClusterCron>],
+    now: Seconds,
+    answer: Answer,
+) -> Result<Answer, Failure>
+    requires all { crons.now ≡ map.values list.now.cluster.crons }
+    ensures { IfOk result (λ a. TellsNights why.now.explain (zones_of zones.now) (Around now)
+        (map_list (λ c. c.cron) (meant_of why.now list.now)) (outcome_of answer)
+        (outcome_of a)) }
+{
+    let meant = meant_of(alloc, why, list, crons)?;
+    let look = Look::Around(now);
+    let explain = why.explain;
+    Ok(with_nights(alloc, explain, zones, &look, meant.as_slice(), answer)?)
+}
+
 pub(crate) fn is_nothing(words: &str) -> bool
     ensures { result ≡ is_nothing words.now }
 {
@@ -153,6 +177,7 @@ fn noticed_reviewed(
         (outcome_of a)) }
 {
     let answer = meant_reviewed(alloc, why, zones, bytes, list, crons, now)?;
+    let answer = with_clocks(alloc, why, zones, list, crons, now, answer)?;
     Ok(with_notices(alloc, why, list, crons, now, answer)?)
 }
 
@@ -261,7 +286,7 @@ fn no_output(alloc: Global, explain: bool) -> Result<Answer, AllocError>
 {
     Answer::refused(alloc, "cronsim: output\n")?.explained(
         explain,
-        "--output: want table, lines or json\n",
+        "--output: want table, lines, json or yaml\n",
     )
 }
 

@@ -2,6 +2,7 @@
 ghost use Rattle.std.specs.Prelude.{◌<◌, IfSome, length, ◌≡◌, IfErr};
 ghost use Rattle.cj_base.specs.declared.refusal.Refusal.TheVariants.{OutOfMemory};
 
+use crate::short::shortened;
 use crate::svg::escaped;
 use cj_types::{CronJob, Key, Policy, Refusal, Shared};
 use std::alloc::Global;
@@ -187,18 +188,42 @@ fn policy_words(cron: &CronJob) -> &'static str {
     }
 }
 
+fn key_text(alloc: Global, key: &Key) -> Result<String, Refusal>
+    ensures err { IfErr result (λ e. e ≡ OutOfMemory) }
+{
+    let namespace = key.namespace();
+    let name = key.name();
+    Ok(format!(in alloc; "{namespace}/{name}")?)
+}
+
+// Its schedule, and the zone whose clock it goes by, if it names one.
+fn schedule_text(alloc: Global, cron: &CronJob) -> Result<String, Refusal>
+    ensures err { IfErr result (λ e. e ≡ OutOfMemory) }
+{
+    let spec = cron.spec.get();
+    let mut text = escaped(alloc, spec.schedule.as_str())?;
+    if let Some(zone) = &spec.time_zone {
+        let zone = escaped(alloc, zone.as_str())?;
+        text.push_str(" ")?;
+        text.push_str(zone.as_str())?;
+    }
+    Ok(text)
+}
+
 fn push_dense_head(alloc: Global, text: &mut String, lane: &Lane) -> Result<(), Refusal>
     ensures err { IfErr result (λ e. e ≡ OutOfMemory) }
 {
     let y = lane.y.saturating_add(16);
     let key = lane.cron.get().key.key();
-    let namespace = key.namespace();
-    let name = key.name();
+    let name = key_text(alloc, key)?;
+    let name = name.as_str();
+    let short = shortened(alloc, name)?;
+    let short = short.as_str();
     let policy = policy_words(lane.cron.get());
-    let schedule = escaped(alloc, lane.cron.get().spec.get().schedule.as_str())?;
+    let schedule = schedule_text(alloc, lane.cron.get())?;
     let schedule = schedule.as_str();
     let head = format!(in alloc;
-        "<text class=\"h\" x=\"16\" y=\"{y}\"><title>{namespace}/{name}, {policy}, {schedule}</title>{namespace}/{name}</text>\n"
+        "<text class=\"h\" x=\"16\" y=\"{y}\"><title>{name}, {policy}, {schedule}</title>{short}</text>\n"
     )?;
     Ok(text.push_str(head.as_str())?)
 }
@@ -207,10 +232,12 @@ fn push_name(alloc: Global, text: &mut String, y: u64, key: &Key) -> Result<(), 
     ensures err { IfErr result (λ e. e ≡ OutOfMemory) }
 {
     let y = y.saturating_add(20);
-    let namespace = key.namespace();
-    let name = key.name();
+    let name = key_text(alloc, key)?;
+    let name = name.as_str();
+    let short = shortened(alloc, name)?;
+    let short = short.as_str();
     let head = format!(in alloc;
-        "<text class=\"h\" x=\"16\" y=\"{y}\"><title>{namespace}/{name}</title>{namespace}/{name}</text>"
+        "<text class=\"h\" x=\"16\" y=\"{y}\"><title>{name}</title>{short}</text>"
     )?;
     Ok(text.push_str(head.as_str())?)
 }
@@ -220,7 +247,7 @@ fn push_spec(alloc: Global, text: &mut String, y: u64, cron: &CronJob) -> Result
 {
     let y = y.saturating_add(37);
     let policy = policy_words(cron);
-    let schedule = escaped(alloc, cron.spec.get().schedule.as_str())?;
+    let schedule = schedule_text(alloc, cron)?;
     let schedule = schedule.as_str();
     let head = format!(in alloc;
         "<text class=\"dim\" x=\"16\" y=\"{y}\"><title>{schedule}</title>{policy}  {schedule}</text>\n"
@@ -238,7 +265,8 @@ fn push_head(alloc: Global, text: &mut String, dense: bool, lane: &Lane) -> Resu
     push_spec(alloc, text, lane.y, lane.cron.get())
 }
 
-/// The heads of the lanes that are shown: name, policy and schedule, cut off where the bars begin.
+/// The heads of the lanes that are shown: name, policy and schedule with the zone, cut off where
+/// the bars begin. A long name has `…` for its middle; all of it shows under the pointer.
 pub(crate) fn push_heads(
     alloc: Global,
     text: &mut String,

@@ -15,6 +15,7 @@ mod heat;
 mod lanes;
 mod page;
 mod run;
+mod short;
 mod style;
 mod svg;
 

@@ -1,5 +1,5 @@
 -- What is given of several files.
-use Rattle.std.proofs.Common.{◌≡◌, ℕ, List, subst}
+use Rattle.std.proofs.Common.{ℕ, List}
 use Rattle.std.specs.Prelude.{Option, Result, Ok, Err, IfOk}
 use Rattle.std.specs.Result.{IsOkAnd}
 use Rattle.cj_io.specs.declared.exit_status.ExitStatus.{ExitStatus}
@@ -8,14 +8,7 @@ use Rattle.cj_answers.specs.declared.answer.Answer.{Answer}
 use Rattle.cj_answers.specs.Outcome.{Outcome, outcome_of}
 use Rattle.cj_program.specs.Writing.{IsGiven}
 
--- For serve_several, clause given: an answer that is this outcome and was given.
-pub given_as : (r : Result Answer Failure) (o : Outcome) (status : ExitStatus) (out out' err err' : Option (List ℕ))
-    → IfOk r (λ a. outcome_of a ≡ o) → IsOkAnd r (λ a. IsGiven status (outcome_of a) out out' err err')
-    → IsGiven status o out out' err err'
-given_as (Ok a) o status out out' err err' is g = subst (λ (x : Outcome). IsGiven status x out out' err err') is g
-given_as (Err e) o status out out' err err' is g = absurd g
-
--- For serve_upcoming, clause given: an answer of which this holds, and that was given.
+-- For serve_several and serve_upcoming, clause given: an answer of which this holds, and that was given.
 pub given_one : (r : Result Answer Failure) (Is : Outcome → Type 0) (status : ExitStatus)
     (out out' err err' : Option (List ℕ))
     → IfOk r (λ a. Is (outcome_of a)) → IsOkAnd r (λ a. IsGiven status (outcome_of a) out out' err err')

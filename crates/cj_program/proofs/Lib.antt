@@ -4,3 +4,4 @@ pub mod Given
 pub mod Runs
 pub mod Scenes
 pub mod GivenFiles
+pub mod Formed

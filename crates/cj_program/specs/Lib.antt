@@ -4,5 +4,6 @@ pub mod Replay
 pub mod Run
 pub mod Shown
 pub mod Answers
+pub mod Forms
 pub mod Writing
 pub mod Told

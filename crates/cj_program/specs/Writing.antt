@@ -7,7 +7,7 @@ use Rattle.cj_io.specs.Statuses.{failure_line}
 use Rattle.cj_io.specs.Writing.{AppendsSome}
 use Rattle.cj_args.specs.declared.request.ReplayRequest.{ReplayRequest}
 use Rattle.cj_args.specs.declared.request.Request.{Request}
-use Rattle.cj_args.specs.declared.request.Request.TheVariants.{Audit, Check, Control, Describe, Next, Plan, Replay, Report, Run, Upcoming, Why}
+use Rattle.cj_args.specs.declared.request.Request.TheVariants.{Audit, Check, Control, Crontab, Describe, Next, Plan, Previous, Replay, Report, Run, Scenario, Upcoming, Why}
 use Rattle.cj_io.specs.declared.zone_files.file.ZoneFile.{ZoneFile}
 use Rattle.cj_program.specs.Answers.{IsOutcome}
 use Rattle.cj_answers.specs.Outcome.{Outcome, status_of}
@@ -88,7 +88,13 @@ IsFailed (Upcoming r) files input out out' err err'
     = FailsAnswer (Upcoming r) files input out out' err err'
 IsFailed (Describe r) files input out out' err err'
     = FailsAnswer (Describe r) files input out out' err err'
+IsFailed (Previous r) files input out out' err err'
+    = FailsAnswer (Previous r) files input out out' err err'
 IsFailed (Report r) files input out out' err err'
     = FailsAnswer (Report r) files input out out' err err'
+IsFailed (Crontab r) files input out out' err err'
+    = FailsAnswer (Crontab r) files input out out' err err'
+IsFailed (Scenario r) files input out out' err err'
+    = FailsAnswer (Scenario r) files input out out' err err'
 IsFailed (Control r) files input out out' err err'
     = FailsAnswer (Control r) files input out out' err err'

@@ -7,6 +7,7 @@
 #![tactic(auto)]
 
 mod as_json;
+mod forms;
 mod remarks;
 mod replay;
 mod run;
@@ -20,10 +21,10 @@ pub use cj_answers::{
     JsonInput, by_clock, json_input, marked, nearest_zone, next_text, shape_words,
 };
 pub use cj_args::{
-    CheckRequest, ControlRequest, ReportRequest, Request, UpcomingRequest, WordFault, parse_words,
-    word_tips,
+    CheckRequest, ControlRequest, CrontabRequest, ReportRequest, Request, UpcomingRequest,
+    WordFault, parse_words, word_tips,
 };
-pub use cj_check::{FileAnswer, check_file_answer};
+pub use cj_check::{FileAnswer, check_file_answer, crontab_zones, fault_places};
 pub use cj_inspect::{CronFile, MOST_LIST_BYTES, MOST_LIST_READS};
 pub use cj_io::{
     ExitStatus, Failure, FileBytes, MOST_BYTES, MOST_READS, ZoneFile, is_file_name, read_input,

@@ -6,13 +6,16 @@ ghost use Rattle.cj_program.specs.Answers.{IsOutcome};
 ghost use Rattle.cj_answers.specs.Outcome.{Outcome, outcome_of, status_of};
 ghost use Rattle.cj_program.specs.Writing.{IsCut, IsFailed, IsGiven, IsUnanswered};
 
+use crate::forms::formed;
 use crate::replay::serve_replay;
 use crate::run::run_answer;
 use crate::writing::give;
-use cj_answers::{Answer, Ending, describe_answer, next_answer};
+use cj_answers::{Answer, Ending, next_answer, previous_answer};
 use cj_args::Request;
-use cj_check::{check_answer, plan_answer};
-use cj_inspect::{audit_answer, report_answer, upcoming_answer, why_answer};
+use cj_check::{check_answer, crontab_answer, plan_answer};
+use cj_inspect::{
+    audit_answer, describing_answer, report_answer, scenario_answer, upcoming_answer, why_answer,
+};
 use cj_io::{ExitStatus, Failure, ZoneFile, tell_failure};
 use cj_run::Meter;
 use std::alloc::Global;
@@ -87,24 +90,52 @@ pub fn serve<T: Threads + Wait + Sync, R: Read, W: Write, E: Write>(
         (W.contents out.old) (W.contents out.new) (E.contents err.old) (E.contents err.new) }
 {
     match request {
-        Request::Next(next) => give_answer(next_answer(alloc, next, files), out, err),
-        Request::Check(check) => give_answer(check_answer(alloc, check, files, input), out, err),
-        Request::Plan(plan) => give_answer(plan_answer(alloc, plan, files, input), out, err),
+        Request::Next(next) => {
+            let answer = next_answer(alloc, next, files);
+            give_answer(formed(alloc, next.output, answer), out, err)
+        }
+        Request::Check(check) => {
+            let answer = check_answer(alloc, check, files, input);
+            give_answer(formed(alloc, check.output, answer), out, err)
+        }
+        Request::Plan(plan) => {
+            let answer = plan_answer(alloc, plan, files, input);
+            give_answer(formed(alloc, plan.output, answer), out, err)
+        }
         Request::Replay(replay) => serve_replay(alloc, replay, files, input, out, err),
-        Request::Run(run) => give_answer(run_answer(rt, alloc, run, files, input, meter), out, err),
-        Request::Why(why) => give_answer(why_answer(alloc, why, files, input), out, err),
-        Request::Audit(audit) => give_answer(audit_answer(alloc, audit, files, input), out, err),
+        Request::Run(run) => {
+            let answer = run_answer(rt, alloc, run, files, input, meter);
+            give_answer(formed(alloc, run.output, answer), out, err)
+        }
+        Request::Why(why) => {
+            let answer = why_answer(alloc, why, files, input);
+            give_answer(formed(alloc, why.output, answer), out, err)
+        }
+        Request::Audit(audit) => {
+            let answer = audit_answer(alloc, audit, files, input);
+            give_answer(formed(alloc, audit.output, answer), out, err)
+        }
         Request::Upcoming(upcoming) => {
-            give_answer(upcoming_answer(alloc, upcoming, files, input), out, err)
+            let answer = upcoming_answer(alloc, upcoming, files, input);
+            give_answer(formed(alloc, upcoming.output, answer), out, err)
         }
         Request::Describe(describe) => {
-            give_answer(describe_answer(alloc, describe, files), out, err)
+            let answer = describing_answer(alloc, describe, files, input);
+            give_answer(formed(alloc, describe.output, answer), out, err)
         }
-        Request::Report(report) => give_answer(
-            report_answer(alloc, report, files, input),
-            out,
-            err,
-        ),
+        Request::Previous(previous) => {
+            let answer = previous_answer(alloc, previous, files);
+            give_answer(formed(alloc, previous.output, answer), out, err)
+        }
+        Request::Report(report) => {
+            give_answer(report_answer(alloc, report, files, input), out, err)
+        }
+        Request::Scenario(scenario) => {
+            give_answer(scenario_answer(alloc, scenario, files, input), out, err)
+        }
+        Request::Crontab(crontab) => {
+            give_answer(crontab_answer(alloc, crontab, files, input), out, err)
+        }
         Request::Control(_) => give_answer(no_answer(), out, err),
     }
 }

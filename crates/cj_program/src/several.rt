@@ -7,8 +7,10 @@ ghost use Rattle.cj_answers.specs.Outcome.{Outcome};
 ghost use Rattle.cj_check.specs.Several.{has_state, several};
 ghost use Rattle.cj_inspect.specs.Report.{IsReportOutcome};
 ghost use Rattle.cj_inspect.specs.Upcoming.{IsUpcomingFiles};
+ghost use Rattle.cj_program.specs.Forms.{InForm};
 ghost use Rattle.cj_program.specs.Writing.{IsGiven};
 
+use crate::forms::formed;
 use crate::serving::give_answer;
 use cj_args::{CheckRequest, ReportRequest, UpcomingRequest};
 use cj_check::{FileAnswer, FileState, count_of, several_answer};
@@ -27,11 +29,14 @@ pub fn serve_several<W: Write, E: Write>(
     out: &mut W,
     err: &mut E,
 ) -> ExitStatus
-    ensures given { result ≢ Status.Failed → IsGiven result (several check.now files.now)
-        (W.contents out.old) (W.contents out.new) (E.contents err.old) (E.contents err.new) }
+    ensures given { result ≢ Status.Failed → (o : Outcome)
+        × InForm check.now.output.now (λ m. m ≡ several check.now files.now) o
+        × IsGiven result o (W.contents out.old) (W.contents out.new) (E.contents err.old)
+        (E.contents err.new) }
     ensures read { result ≢ Status.Failed → count_by (has_state Unread) files.now ≡ 0 }
 {
-    let status = give_answer(several_answer(alloc, check, files), out, err);
+    let answer = several_answer(alloc, check, files);
+    let status = give_answer(formed(alloc, check.output, answer), out, err);
     if count_of(FileState::Unread, files) > 0 {
         return ExitStatus::Failed;
     }
@@ -49,15 +54,12 @@ pub fn serve_upcoming<W: Write, E: Write>(
     err: &mut E,
 ) -> ExitStatus
     ensures given { result ≢ Status.Failed → (o : Outcome)
-        × IsUpcomingFiles upcoming.now files.now sources.now o
+        × InForm upcoming.now.output.now (IsUpcomingFiles upcoming.now files.now sources.now) o
         × IsGiven result o (W.contents out.old) (W.contents out.new) (E.contents err.old)
         (E.contents err.new) }
 {
-    give_answer(
-        upcoming_files_answer(alloc, upcoming, files, sources),
-        out,
-        err,
-    )
+    let answer = upcoming_files_answer(alloc, upcoming, files, sources);
+    give_answer(formed(alloc, upcoming.output, answer), out, err)
 }
 
 /// Gives what `report` answers of several files that were read, for which these zone files were,

@@ -3,6 +3,7 @@ pub mod TimesLemmas
 pub mod Sets
 pub mod LineLemmas
 pub mod RowLemmas
+pub mod StageLemmas
 pub mod Ready
 pub mod Counts
 pub mod Powers

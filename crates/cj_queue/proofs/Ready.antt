@@ -1,6 +1,6 @@
 -- The map by time and key that agrees with the times has the keys of `by_time`.
-use Rattle.std.proofs.Common.{◌≡◌, ℕ, ◌==◌, ◌<◌, ◌≤◌, ◌++◌, append_assoc, append-nil, Result, Ok, Err, Bool, true, false, cond, ◌&&◌, List, [], ◌∷◌, map as map_list, Option, Some, None, refl, sym, ap, ◌∙◌, subst, arith}
-use Rattle.std.specs.Prelude.{T, nat_le, OnOk, OnErr}
+use Rattle.std.proofs.Common.{◌≡◌, ℕ, ◌==◌, ◌<◌, ◌≤◌, ◌+◌, length, Result, Ok, Err, Bool, true, false, cond, ◌&&◌, List, [], ◌∷◌, map as map_list, Option, Some, None, refl, sym, ap, ◌∙◌, subst, arith}
+use Rattle.std.specs.Prelude.{T, nat_le, OnOk, OnErr, IfSome, IfNone}
 use Rattle.std.proofs.lemmas.Bool.Decides.{nat_tests}
 use Rattle.std.specs.declared.cmp.Ordering.{Ordering}
 use Rattle.std.specs.declared.cmp.Ordering.TheVariants.{Less, Equal, Greater}
@@ -12,7 +12,7 @@ use Rattle.std.specs.FinMap.Entries.{below_all}
 use Rattle.std.specs.BTreeMap.{BTreeMap}
 use Rattle.std.specs.List.Sorted.{IsStrictlySortedBy}
 use Rattle.cj_types.specs.Keys.{Place, place_cmp}
-use Rattle.cj_queue.specs.Times.{timed_cmp, Waiting, by_time, ready_in, at_time, time_of, earlier, waits_for, Agrees, SetsTime, SameTimes}
+use Rattle.cj_queue.specs.Times.{timed_cmp, Waiting, Times, by_time, ready_in, at_time, time_of, earlier, waits_for, Agrees, SetsTime, SameTimes}
 use Rattle.cj_table.proofs.Order.{places_total, places_exact}
 use Rattle.std.specs.List.{AllByRecursion}
 use Rattle.std.proofs.lemmas.Map.Keys.{sorted_head, sorted_tail}
@@ -128,16 +128,16 @@ by_time_at m t k =
     ∙ swapped (map.entries m) t k (map.entries_sorted m)
     ∙ ap (λ o. at_time o t) (sym (map.get-entries m k))
 
--- For Waits::ready: where both maps agree, the order's keys are those of by_time of the times.
-pub order_keys : (times : BTreeMap Place ℕ) (order : BTreeMap (ℕ × Place) (Unit {0})) → Agrees times order
+-- For Waits::count_ready and take_ready: where both maps agree, the order's keys are those of by_time of the times.
+pub order_keys : (times : Times) (order : BTreeMap (ℕ × Place) (Unit {0})) → Agrees times order
     → IsStrictlySortedBy timed_cmp (map_list (λ e. e.0) order.entries)
-    → map_list (λ e. e.0) order.entries ≡ map.keys (by_time (map.from_entries times.entries))
+    → map_list (λ e. e.0) order.entries ≡ map.keys (by_time (map.from_entries times))
 order_keys times order agree sorted =
-    let m : Waiting = map.from_entries times.entries in
+    let m : Waiting = map.from_entries times in
     let same : map.from_entries {R = timed_cmp} order.entries ≡ by_time m =
     map.same_map timed_total timed_exact _ _ (λ p.
     get_rows timed_total timed_exact order.entries p ∙ agree.same p.1 p.0
-    ∙ ap (λ o. at_time o p.0) (sym (get_rows places_total places_exact times.entries p.1)) ∙ sym (by_time_at m p.0 p.1))
+    ∙ ap (λ o. at_time o p.0) (sym (get_rows places_total places_exact times p.1)) ∙ sym (by_time_at m p.0 p.1))
     in
     ap (map_list (λ (e : (ℕ × Place) × Unit {0}). e.0))
     (sym (rows_entries timed_total timed_exact order.entries sorted)) ∙ ap
@@ -173,25 +173,73 @@ taken : {A : Type 0} (b : Bool) (x y : A) → b ≡ true → cond b x y ≡ x
 taken true x y e = refl
 taken false x y e = cc (e)
 
--- For first_ready: with a ready key more, those found and the ready ones to come are still all.
-pub ready_step : (found : List Place) (rest next : List (ℕ × Place)) (p : ℕ × Place) (now : ℕ) (all : List Place)
-    → found ++ ready_in rest now ≡ all → rest ≡ p ∷ next → p.0 ≤ now → (found ++ p.1 ∷ []) ++ ready_in next now ≡ all
-ready_step found rest next p now all inv e le =
-    append_assoc found (p.1 ∷ []) (ready_in next now)
-    ∙ ap (λ l. found ++ l) (sym (taken (nat_le p.0 now) (p.1 ∷ ready_in next now) (ready_in next now)
-    (grind (arith, nat_tests, le))) ∙ sym (ap (λ ps. ready_in ps now) e))
-    ∙ inv
+-- Where the first entry's time isn't above now, its key is the first that is ready.
+pub ready_head : (rest next : List (ℕ × Place)) (p : ℕ × Place) (now : ℕ) → rest ≡ p ∷ next → p.0 ≤ now
+    → ready_in rest now ≡ p.1 ∷ ready_in next now
+ready_head rest next p now e le =
+    ap (λ ps. ready_in ps now) e
+    ∙ taken (nat_le p.0 now) (p.1 ∷ ready_in next now) (ready_in next now) (grind (arith, nat_tests, le))
 
--- For first_ready: where the next entry's time is above now, those found are all that are ready.
-pub ready_stop : (found : List Place) (rest next : List (ℕ × Place)) (p : ℕ × Place) (now : ℕ) (all : List Place)
-    → found ++ ready_in rest now ≡ all → rest ≡ p ∷ next → IsStrictlySortedBy timed_cmp rest → now < p.0 → found ≡ all
-ready_stop found rest next p now all inv e sorted lt =
-    sym (append-nil found)
-    ∙ ap (λ l. found ++ l) (sym (all_late next p now (subst (IsStrictlySortedBy timed_cmp) e sorted) lt)
-    ∙ sym (ap (λ ps. ready_in ps now) e))
-    ∙ inv
+-- Where the first entry's time is above now, none is ready.
+pub ready_none : (rest next : List (ℕ × Place)) (p : ℕ × Place) (now : ℕ) → rest ≡ p ∷ next
+    → IsStrictlySortedBy timed_cmp rest → now < p.0 → ready_in rest now ≡ []
+ready_none rest next p now e sorted lt =
+    ap (λ ps. ready_in ps now) e ∙ all_late next p now (subst (IsStrictlySortedBy timed_cmp) e sorted) lt
 
--- For first_ready: sorted entries stay sorted without the first of them.
+-- For count_until: no more entries are ready than there are.
+pub few_ready : (ps : List (ℕ × Place)) (now : ℕ) → length (ready_in ps now) ≤ length ps
+few_ready [] now = omega arith
+few_ready (p ∷ ps) now = by (nat_le p.0 now) (few_ready ps now)
+  where
+    by : (b : Bool) → length (ready_in ps now) ≤ length ps
+        → length (cond b (p.1 ∷ ready_in ps now) (ready_in ps now)) ≤ length (p ∷ ps)
+    by true h = omega (arith, h)
+    by false h = omega (arith, h)
+
+-- For count_until: with an entry that is ready, those counted and the ready ones to come are still all.
+pub count_step : (count total : ℕ) (rest next : List (ℕ × Place)) (p : ℕ × Place) (now : ℕ)
+    → count + length (ready_in rest now) ≡ total → rest ≡ p ∷ next → p.0 ≤ now
+    → (count + 1) + length (ready_in next now) ≡ total
+count_step count total rest next p now inv e le =
+    omega (arith, inv, ap (λ (ks : List Place). length ks) (ready_head rest next p now e le))
+
+-- For count_until: where the next entry's time is above now, those counted are all.
+pub count_stop : (count total : ℕ) (rest next : List (ℕ × Place)) (p : ℕ × Place) (now : ℕ)
+    → count + length (ready_in rest now) ≡ total → rest ≡ p ∷ next → IsStrictlySortedBy timed_cmp rest → now < p.0
+    → count ≡ total
+count_stop count total rest next p now inv e sorted lt =
+    omega (arith, inv, ap (λ (ks : List Place). length ks) (ready_none rest next p now e sorted lt))
+
+-- For count_until: where there is another entry that is ready, so many aren't counted yet.
+pub count_below : (count total : ℕ) (rest next : List (ℕ × Place)) (p : ℕ × Place) (now : ℕ)
+    → count + length (ready_in rest now) ≡ total → rest ≡ p ∷ next → p.0 ≤ now → count < total
+count_below count total rest next p now inv e le =
+    omega (arith, inv, ap (λ (ks : List Place). length ks) (ready_head rest next p now e le))
+
+-- ---- the keys that a tick adds
+
+-- For add_ready: with one key less to come, there is a turn less.
+pub turns_left : (xs ys : List Place) (k : Place) (n i : ℕ) → xs ≡ k ∷ ys → length xs + i ≡ n
+    → length ys + (i + 1) ≡ n
+turns_left xs ys k n i e h = omega (arith, h, ap (λ (ks : List Place). length ks) e)
+
+-- For add_ready: and one place less is needed.
+pub places_left : (xs ys : List Place) (k : Place) (room left : ℕ) → xs ≡ k ∷ ys → length xs ≤ room → room ≤ left + 1
+    → length ys ≤ left
+places_left xs ys k room left e h less = omega (arith, h, less, ap (λ (ks : List Place). length ks) e)
+
+-- For add_ready: there is room for a key that is to come.
+pub place_for : (xs ys : List Place) (k : Place) (room : ℕ) → xs ≡ k ∷ ys → length xs ≤ room → 0 < room
+place_for xs ys k room e h = omega (arith, h, ap (λ (ks : List Place). length ks) e)
+
+-- For add_ready: after the last turn no key is to come.
+pub none_left : (xs : List Place) (n i : ℕ) → length xs + i ≡ n → n ≤ i → xs ≡ []
+none_left [] n i h le = refl
+none_left (k ∷ xs) n i h le = absurd (omega (arith, h, le))
+
+-- ---- sorted entries
+
+-- For count_until: sorted entries stay sorted without the first of them.
 pub rest_sorted : (rest next : List (ℕ × Place)) (p : ℕ × Place) → rest ≡ p ∷ next → IsStrictlySortedBy timed_cmp rest
     → IsStrictlySortedBy timed_cmp next
 rest_sorted rest next p e sorted = sorted_tail timed_cmp p next (subst (IsStrictlySortedBy timed_cmp) e sorted)
@@ -208,26 +256,36 @@ pub on_err : {A E : Type 0} (r : Result A E) (P Q : Type 0) → (P → Q) → On
 on_err (Ok x) P Q f h = h
 on_err (Err x) P Q f h = f h
 
+-- Where an option promises P of what it has, and Q follows from P, it promises Q.
+pub on_some : {A : Type 0} (r : Option A) (P Q : A → Type 0) → ((x : A) → P x → Q x) → IfSome r P → IfSome r Q
+on_some None P Q f h = h
+on_some (Some x) P Q f h = f x h
+
+-- Where an option promises P if it is None, and Q follows from P, it promises Q if it is None.
+pub on_none : {A : Type 0} (r : Option A) (P Q : Type 0) → (P → Q) → IfNone r P → IfNone r Q
+on_none None P Q f h = f h
+on_none (Some x) P Q f h = h
+
 -- Where the times have a new one at a key and are else the same, the map has it inserted there.
-pub set_is : (old new : BTreeMap Place ℕ) (k : Place) (at : ℕ) → SetsTime old new k at
-    → map.from_entries {R = place_cmp} new.entries ≡ map.insert (map.from_entries old.entries) k at
-set_is old new k at sets = inserted places_total places_exact old.entries new.entries k at sets
+pub set_is : (old new : Times) (k : Place) (at : ℕ) → SetsTime old new k at
+    → map.from_entries {R = place_cmp} new ≡ map.insert (map.from_entries old) k at
+set_is old new k at sets = inserted places_total places_exact old new k at sets
 
 -- Where the times are the same at each key, they are the same map.
-pub same_is : (old new : BTreeMap Place ℕ) → SameTimes old new → map.from_entries {R = place_cmp} new.entries
-    ≡ map.from_entries old.entries
-same_is old new same = same_rows places_total places_exact old.entries new.entries same
+pub same_is : (old new : Times) → SameTimes old new → map.from_entries {R = place_cmp} new
+    ≡ map.from_entries old
+same_is old new same = same_rows places_total places_exact old new same
 
 -- The map of the times has at a key what a look-up in them finds.
-pub get_time : (times : BTreeMap Place ℕ) (k : Place) (o : Option ℕ) → time_of times k ≡ o
-    → map.get (map.from_entries {R = place_cmp} times.entries) k ≡ o
-get_time times k o e = get_rows places_total places_exact times.entries k ∙ e
+pub get_time : (times : Times) (k : Place) (o : Option ℕ) → time_of times k ≡ o
+    → map.get (map.from_entries {R = place_cmp} times) k ≡ o
+get_time times k o e = get_rows places_total places_exact times k ∙ e
 
 -- the key is put in with the earlier time
-pub waits_at_time : (times : BTreeMap Place ℕ) (k : Place) (at time : ℕ) (o : Option ℕ) → time_of times k ≡ o
-    → time ≡ earlier o at → waits_for (map.from_entries times.entries) k at
-    ≡ map.insert (map.from_entries times.entries) k time
-waits_at_time times k at time o e kept = ap (λ t. map.insert (map.from_entries {R = place_cmp} times.entries) k t)
+pub waits_at_time : (times : Times) (k : Place) (at time : ℕ) (o : Option ℕ) → time_of times k ≡ o
+    → time ≡ earlier o at → waits_for (map.from_entries times) k at
+    ≡ map.insert (map.from_entries times) k time
+waits_at_time times k at time o e kept = ap (λ t. map.insert (map.from_entries {R = place_cmp} times) k t)
     (ap (λ p. earlier p at) (get_time times k o e) ∙ sym kept)
 
 -- For put_again: to choose v at its key, where v stands there already, changes nothing.
@@ -249,11 +307,11 @@ put_again m k v e = alike _ _ (λ q.
     (λ t. ap (map.get m) (places_exact q k (tie_true (place_cmp q k) t)) ∙ e))
 
 -- a key that waits for no later time stays
-pub waits_on : (times : BTreeMap Place ℕ) (k : Place) (at time before : ℕ) → time_of times k ≡ Some before
-    → time ≡ earlier (Some before) at → before ≤ time → waits_for (map.from_entries times.entries) k at
-    ≡ map.from_entries times.entries
+pub waits_on : (times : Times) (k : Place) (at time before : ℕ) → time_of times k ≡ Some before
+    → time ≡ earlier (Some before) at → before ≤ time → waits_for (map.from_entries times) k at
+    ≡ map.from_entries times
 waits_on times k at time before e kept le =
     let same : time ≡ before = omega (arith, kept, le) in
     waits_at_time times k at time (Some before) e kept
-    ∙ ap (λ t. map.insert (map.from_entries {R = place_cmp} times.entries) k t) same
-    ∙ put_again (map.from_entries times.entries) k before (get_time times k (Some before) e)
+    ∙ ap (λ t. map.insert (map.from_entries {R = place_cmp} times) k t) same
+    ∙ put_again (map.from_entries times) k before (get_time times k (Some before) e)

@@ -1,13 +1,12 @@
 -- What a change of the line and the two sets makes of the row.
-use Rattle.std.proofs.Common.{◌≡◌, Bool, true, false, cond, ◌||◌, List, [], ◌∷◌, ◌++◌, drop, Some, refl, sym, ap, ◌∙◌, subst}
+use Rattle.std.proofs.Common.{◌≡◌, Bool, true, false, cond, ◌||◌, List, [], ◌∷◌, ◌++◌, drop, Some, refl, sym, ap, ◌∙◌}
 use Rattle.std.specs.FinMap as map
-use Rattle.std.specs.List.{find}
 use Rattle.std.proofs.lemmas.List.Folds.{list_any-append}
 use Rattle.cj_types.specs.Keys.{Place}
 use Rattle.cj_queue.specs.Queue.{Row, row_add, row_end, row_take, first, has}
-use Rattle.cj_queue.specs.Parts.{key_eq, keys_of, stands_in, with_last, IsLined, IsKept, ArePlaced}
+use Rattle.cj_queue.specs.Parts.{key_eq, keys_of, stands_in, IsLined}
 use Rattle.cj_queue.proofs.Sets.{has_keys, keys_put, keys_removal, same_keys, at_equal, eq_true, eq_self, eq_turned}
-use Rattle.cj_queue.proofs.LineLemmas.{head_once, tail_once, push_once, last_there, last_absent, behind, refuted, true_or_false}
+use Rattle.cj_queue.proofs.LineLemmas.{head_once, refuted, true_or_false}
 
 -- the row of a line, of the keys that were added again and of those that are being worked on
 abbrev pub row : List Place → List Place → List Place → Row
@@ -42,7 +41,7 @@ pub out_of_line : (l a p : List Place) (k : Place) → IsLined l a p → stands_
 out_of_line l a p k lined held = refuted (stands_in l k) (λ t. true_or_false (stands_in p k) held (lined.free k t))
 
 -- A key that isn't being worked on isn't among those that were added again.
-not_again : (l a p : List Place) (k : Place) → IsLined l a p → stands_in p k ≡ false → stands_in a k ≡ false
+pub not_again : (l a p : List Place) (k : Place) → IsLined l a p → stands_in p k ≡ false → stands_in a k ≡ false
 not_again l a p k lined free = refuted (stands_in a k) (λ t. true_or_false (stands_in p k) (lined.held k t) free)
 
 -- A key that stands in neither of two lists doesn't stand in the two put together.
@@ -57,7 +56,7 @@ cond_same true y f = f refl
 cond_same false y f = refl
 
 -- A list in which k stands needs no change to have k and else what it had.
-there : (s : List Place) (k : Place) → stands_in s k ≡ true → Sets s s k true
+pub there : (s : List Place) (k : Place) → stands_in s k ≡ true → Sets s s k true
 there s k e q = cond_same (key_eq k q) (stands_in s q) (at_equal (stands_in s) k q true e)
 
 -- For put_behind: where t sets the second of two tests to true, it sets to true that one holds.
@@ -78,7 +77,7 @@ add_dirty : (l a p : List Place) (k : Place) → stands_in (l ++ a) k ≡ true �
 add_dirty l a p k e = on (has (keys_of (l ++ a)) k) _ _ (has_keys (l ++ a) k ∙ e)
 
 -- An add of a key that stands in the line leaves the row as it is.
-add_lined : (l a p : List Place) (k : Place) → stands_in l k ≡ true → row_add (row l a p) k ≡ row l a p
+pub add_lined : (l a p : List Place) (k : Place) → stands_in l k ≡ true → row_add (row l a p) k ≡ row l a p
 add_lined l a p k e = add_dirty l a p k (list_any-append (key_eq k) l a ∙ ap (λ t. t || stands_in a k) e)
 
 -- one that is being worked on
@@ -127,7 +126,7 @@ put_last l a k q =
     ∙ ap (cond (key_eq k q) true) (sym (list_any-append (key_eq q) l a))
 
 -- An add of a key that is neither dirty nor being worked on puts it last in the line.
-add_new : (l m a p : List Place) (k : Place) → IsLined l a p → stands_in p k ≡ false → stands_in l k ≡ false
+pub add_new : (l m a p : List Place) (k : Place) → IsLined l a p → stands_in p k ≡ false → stands_in l k ≡ false
     → m ≡ l ++ k ∷ [] → row_add (row l a p) k ≡ row m a p
 add_new l m a p k lined free absent last =
     off (has (keys_of (l ++ a)) k) _ _ (has_keys (l ++ a) k ∙ neither l a k absent (not_again l a p k lined free))
@@ -138,78 +137,7 @@ add_new l m a p k lined free absent last =
     })
     ∙ ap (λ n. row n a p) (sym last)
 
--- Where one of two tests holds and the second one fails, the first one holds.
-or_false : (a b : Bool) → (a || (b || false)) ≡ true → (b ≡ false → a ≡ true)
-or_false a true e f = absurd (cc f)
-or_false true false e f = refl
-or_false false false e f = e
-
--- a key that is not being worked on goes last
-pub lined_push : (l m a p : List Place) (k : Place) → IsLined l a p → stands_in p k ≡ false → stands_in l k ≡ false
-    → m ≡ l ++ k ∷ [] → IsLined m a p
-lined_push l m a p k lined free absent last = subst (λ x. IsLined x a p) (sym last) (record {
-  free = λ q t. by q (key_eq q k) refl (sym (list_any-append (key_eq q) l (k ∷ [])) ∙ t);
-  held = lined.held;
-  once = push_once l k lined.once absent;
-})
-  where
-    by : (q : Place) (b : Bool) → key_eq q k ≡ b → (stands_in l q || (key_eq q k || false)) ≡ true
-        → stands_in p q ≡ false
-    by q true e t = ap (stands_in p) (eq_true q k e) ∙ free
-    by q false e t = lined.free q (or_false (stands_in l q) (key_eq q k) t e)
-
--- For Work::add and add_key: with a key that isn't being worked on last in the line, the row is what row_add says.
-pub add_last : (l m a p : List Place) (k : Place) → IsLined l a p → stands_in p k ≡ false → m ≡ with_last l k
-    → row_add (row l a p) k ≡ row m a p
-add_last l m a p k lined free last = by (stands_in l k) refl
-  where
-    by : (t : Bool) → stands_in l k ≡ t → row_add (row l a p) k ≡ row m a p
-    by true e = add_lined l a p k e ∙ ap (λ n. row n a p) (sym (last ∙ last_there l k e))
-    by false e = add_new l m a p k lined free e (last ∙ last_absent l k e)
-
--- For Work::add and add_key: IsKept stays when a key that isn't being worked on goes last, and places stay.
-pub kept_last : (l m a p old new : List Place) (k : Place) → IsKept l a p old → stands_in p k ≡ false
-    → m ≡ with_last l k
-    → ArePlaced old new → IsKept m a p new
-kept_last l m a p old new k kept free last more = record {
-  lined = by (stands_in l k) refl;
-  placed = λ q t. more q (kept.placed q t);
-}
-  where
-    by : (t : Bool) → stands_in l k ≡ t → IsLined m a p
-    by true e = subst (λ n. IsLined n a p) (sym (last ∙ last_there l k e)) kept.lined
-    by false e = lined_push l m a p k kept.lined free e (last ∙ last_absent l k e)
-
 -- ---- the end of the work on a key
-
--- A test that fails still fails where another may set it to false.
-still_out : (t b : Bool) → b ≡ false → cond t false b ≡ false
-still_out true b e = refl
-still_out false b e = e
-
--- For lined_off: where a test implies another, it still does after the same removal from both.
-still_held : (t y z : Bool) → cond t false y ≡ true → (y ≡ true → z ≡ true) → cond t false z ≡ true
-still_held true y z e f = absurd (cc e)
-still_held false y z e f = f e
-
--- IsLined stays when k leaves those that were added again and those that are being worked on.
-pub lined_off : (l a b p o : List Place) (k : Place) → IsLined l a p → Sets a b k false → Sets p o k false
-    → IsLined l b o
-lined_off l a b p o k lined removal sets = record {
-  free = λ q t. sets q ∙ still_out (key_eq k q) (stands_in p q) (lined.free q t);
-  held = λ q t. sets q ∙ still_held (key_eq k q) (stands_in a q) (stands_in p q) (sym (removal q) ∙ t) (lined.held q);
-  once = lined.once;
-}
-
--- what a look-up finds is the key
-pub found_is : (a : List Place) (k j : Place) → find (key_eq k) a ≡ Some j → j ≡ k
-found_is [] k j e = absurd (cc e)
-found_is (x ∷ a) k j e = by (key_eq k x) refl e (found_is a k j)
-  where
-    by : (b : Bool) → key_eq k x ≡ b → cond b (Some x) (find (key_eq k) a) ≡ Some j
-        → (find (key_eq k) a ≡ Some j → j ≡ k) → j ≡ k
-    by true t e f = let same : x ≡ j = cc e in sym same ∙ sym (eq_true k x t)
-    by false t e f = f e
 
 -- For end_again: a key that goes from those added again to the line's end is as dirty as before.
 moved : (x t y : Bool) → (t ≡ true → y ≡ true) → ((x || (t || false)) || cond t false y) ≡ (x || y)
@@ -276,78 +204,10 @@ take_is (x ∷ l) m a p o k lined h removal sets =
         removal_first (key_eq x q) (stands_in (l ++ a) q) (at_equal (stands_in (l ++ a)) x q false absent)
         ∙ ap (λ t. cond (key_eq x q) false (t || stands_in (l ++ a) q)) (eq_turned x q)
 
--- A test that holds still holds where another may set it to true.
-put_still : (t b : Bool) → b ≡ true → cond t true b ≡ true
-put_still true b e = refl
-put_still false b e = e
+-- ---- the same keys
 
--- IsLined stays when the first key leaves the line to be worked on.
-pub lined_take : (l m a p o : List Place) (k : Place) → IsLined l a p → first l ≡ Some k → m ≡ drop 1 l
-    → Sets p o k true → IsLined m a o
-lined_take [] m a p o k lined h removal sets = absurd (cc h)
-lined_take (x ∷ l) m a p o k lined h removal sets = subst (λ y. IsLined y a o) (sym removal) (record {
-  free = λ q t. sets q ∙ off (key_eq k q) true (stands_in p q) (other q t)
-      ∙ lined.free q (one_of (key_eq q x) (stands_in l q) t);
-  held = λ q t. sets q ∙ put_still (key_eq k q) (stands_in p q) (lined.held q t);
-  once = tail_once x l lined.once;
-})
-  where
-    other : (q : Place) → stands_in l q ≡ true → key_eq k q ≡ false
-    other q t =
-        let same : x ≡ k = cc h in behind k q l (subst (λ j. stands_in l j ≡ false) same (head_once x l lined.once)) t
-
--- ---- room
-
--- For Work::reserve: with the same keys added again, the same keys are dirty.
+-- With the same keys added again, the same keys are dirty.
 pub same_dirty : (l a b : List Place) → ((q : Place) → stands_in b q ≡ stands_in a q)
     → keys_of (l ++ b) ≡ keys_of (l ++ a)
 same_dirty l a b h = same_keys (l ++ a) (l ++ b) (λ q. list_any-append (key_eq q) l b
     ∙ ap (λ t. stands_in l q || t) (h q) ∙ sym (list_any-append (key_eq q) l a))
-
--- For Work::reserve: IsKept stays when the same keys are those that were added again.
-pub kept_same : (l a b p ps : List Place) → IsKept l a p ps → ((q : Place) → stands_in b q ≡ stands_in a q)
-    → IsKept l b p ps
-kept_same l a b p ps kept h = record {
-  lined = record {
-    free = kept.lined.free;
-    held = λ q t. kept.lined.held q (sym (h q) ∙ t);
-    once = kept.lined.once;
-  };
-  placed = λ q t. kept.placed q (sym (h q) ∙ t);
-}
-
--- ---- places
-
--- For Work::prepare: IsKept stays where each place does.
-pub kept_more : (l a p old new : List Place) → IsKept l a p old → ArePlaced old new → IsKept l a p new
-kept_more l a p old new kept more = record {
-  lined = kept.lined;
-  placed = λ q t. more q (kept.placed q t);
-}
-
--- For Work::add: where the places are the same, each has its place.
-pub same_places : (old new : List Place) → new ≡ old → ArePlaced old new
-same_places old new same q t = ap (λ ps. stands_in ps q) same ∙ t
-
--- For Work::end: each of those that were added again has a place, without one of them.
-pub placed_off : (a b ps : List Place) (k : Place) → ArePlaced a ps → Sets a b k false → ArePlaced b ps
-placed_off a b ps k placed sets q h = by (key_eq k q) refl (sym (sets q) ∙ h)
-  where
-    by : (t : Bool) → key_eq k q ≡ t → cond (key_eq k q) false (stands_in a q) ≡ true → stands_in ps q ≡ true
-    by true e f = absurd (cc (sym (on (key_eq k q) false (stands_in a q) e) ∙ f))
-    by false e f = placed q (sym (off (key_eq k q) false (stands_in a q) e) ∙ f)
-
--- For Work::take: each of those that were added again has a place still, since none of them stands in the line.
-pub placed_take : (l a p old new : List Place) → IsLined l a p → ArePlaced a old
-    → ((q : Place) → stands_in l q ≡ false → stands_in old q ≡ true → stands_in new q ≡ true) → ArePlaced a new
-placed_take l a p old new lined placed kept q h =
-    kept q (out_of_line l a p q lined (lined.held q h)) (placed q h)
-
--- For Work::prepare_all: with one key more that has a place, and the others' places kept, all have one.
-pub placed_last : (ks old new : List Place) (k : Place) → ArePlaced ks old → ArePlaced old new → stands_in new k ≡ true
-    → ArePlaced (ks ++ k ∷ []) new
-placed_last ks old new k placed more there q h = by (key_eq q k) refl (sym (list_any-append (key_eq q) ks (k ∷ [])) ∙ h)
-  where
-    by : (t : Bool) → key_eq q k ≡ t → (stands_in ks q || (key_eq q k || false)) ≡ true → stands_in new q ≡ true
-    by true e f = ap (stands_in new) (eq_true q k e) ∙ there
-    by false e f = more q (placed q (or_false (stands_in ks q) (key_eq q k) f e))

@@ -10,8 +10,36 @@ use Rattle.std.specs.declared.cmp.Ordering.TheVariants.{Less, Equal, Greater}
 use Rattle.std.specs.Ordering.{nat_cmp, ordering_then, is_eq}
 use Rattle.std.specs.BTreeMap.{BTreeMap, is_at, get}
 use Rattle.cj_types.specs.Keys.{Place, place_cmp}
-use Rattle.cj_queue.specs.Times.{timed_cmp, time_of, waits_at, at_time, Agrees, SetsTime, SameTimes, Leaves}
+use Rattle.cj_queue.specs.Times.{timed_cmp, Times, time_of, waits_at, at_time, Agrees, SetsTime, SameTimes, Leaves}
 use Rattle.cj_table.proofs.Order.{places_exact}
+use Rattle.cj_queue.specs.Parts.{key_eq}
+use Rattle.cj_queue.proofs.Sets.{eq_is}
+
+-- ---- look-ups by `==`
+
+-- A look-up by == finds the time that one by the order of keys does.
+pub timed : (es : Times) (k : Place) → lookup (key_eq k) es ≡ time_of es k
+timed es k = λ i. lookup (λ q. eq_is k q i) es
+
+-- new has w at the key by ==, and at every other key what old has
+abbrev pub SetsKey : Times → Times → Place → Option ℕ → Type 0
+SetsKey old new k w = (q : Place) → lookup (key_eq q) new ≡ cond (key_eq k q) w (lookup (key_eq q) old)
+
+-- What a map by == has after a write, the times have.
+pub times_set : (es fs : Times) (k : Place) (w : Option ℕ) → SetsKey es fs k w → (q : Place)
+    → time_of fs q ≡ cond (is_at (place_cmp k) q) w (time_of es q)
+times_set es fs k w h q = sym (timed fs q) ∙ h q ∙ (λ i. cond (eq_is k q i) w (timed es q i))
+
+-- For take_first: a key of the order waits for its time.
+pub time_there : (o : Option ℕ) (t : ℕ) → at_time o t ≡ Some tt → o ≡ Some t
+time_there None t e = absurd (cc e)
+time_there (Some s) t e = by (eqb s t) refl e
+  where
+    by : (b : Bool) → eqb s t ≡ b → cond b (Some (tt {0})) None ≡ Some tt → Some s ≡ Some t
+    by true h f = let same : s ≡ t = grind (arith, nat_tests, h) in ap (λ n. Some n) same
+    by false h f = absurd (cc f)
+
+-- ---- the two maps
 
 -- An order that ties is Equal.
 equal : (r : Ordering) → T (is_eq r) → r ≡ Equal
@@ -34,7 +62,7 @@ timed_is : (a t : ℕ) (k q : Place) → is_at (timed_cmp (a, k)) (t, q) ≡ con
 timed_is a t k q = eq_then (nat_cmp a t) (place_cmp k q) ∙ ap (λ b. cond b (is_at (place_cmp k) q) false) (eq_nat a t)
 
 -- What the times have at a key, they have at each key that ties with it.
-tied : (m : BTreeMap Place ℕ) (k q : Place) (o : Option ℕ) → time_of m k ≡ o → T (is_at (place_cmp k) q)
+tied : (m : Times) (k q : Place) (o : Option ℕ) → time_of m k ≡ o → T (is_at (place_cmp k) q)
     → time_of m q ≡ o
 tied m k q o h t = subst (λ q. time_of m q ≡ o) (places_exact k q (equal _ t)) h
 
@@ -91,7 +119,7 @@ SetsOrder old new a k w = (p : ℕ × Place) → get timed_cmp new p ≡ cond (i
     (get timed_cmp old p)
 
 -- For put_new: the two maps agree after a key that didn't wait is put into both with its time.
-pub agrees_new : (times new : BTreeMap Place ℕ) (order last : BTreeMap (ℕ × Place) (Unit {0})) (k : Place) (a : ℕ)
+pub agrees_new : (times new : Times) (order last : BTreeMap (ℕ × Place) (Unit {0})) (k : Place) (a : ℕ)
     → Agrees times order → time_of times k ≡ None → SetsTime times new k a → SetsOrder order last a k (Some tt)
     → Agrees new last
 agrees_new times new order last k a agree none sets orders = record {
@@ -104,7 +132,7 @@ agrees_new times new order last k a agree none sets orders = record {
 }
 
 -- For put_earlier: the two maps agree after a key's time and its entry moved to an earlier time.
-pub agrees_earlier : (times new : BTreeMap Place ℕ) (order middle last : BTreeMap (ℕ × Place) (Unit {0})) (k : Place)
+pub agrees_earlier : (times new : Times) (order middle last : BTreeMap (ℕ × Place) (Unit {0})) (k : Place)
     (a b : ℕ) → a < b → Agrees times order → time_of times k ≡ Some b → SetsTime times new k a
     → SetsOrder order middle a k (Some tt) → SetsOrder middle last b k None → Agrees new last
 agrees_earlier times new order middle last k a b lt agree waits sets adds drops = record {
@@ -124,7 +152,7 @@ if_tied true a o f = sym (f tt)
 if_tied false a o f = refl
 
 -- a key that was put in is taken out again
-pub taken_back : (times middle new : BTreeMap Place ℕ) (k : Place) (a : ℕ) → time_of times k ≡ None
+pub taken_back : (times middle new : Times) (k : Place) (a : ℕ) → time_of times k ≡ None
     → SetsTime times middle k a → ((q : Place) → time_of new q ≡ cond (is_at (place_cmp k) q) None (time_of middle q))
     → SameTimes times new
 taken_back times middle new k a none sets drops q =
@@ -132,7 +160,7 @@ taken_back times middle new k a none sets drops q =
     (tied times k q None none)
 
 -- The two maps still agree where every time and every entry of the order is as it was.
-pub agrees_same : (times new : BTreeMap Place ℕ) (order last : BTreeMap (ℕ × Place) (Unit {0})) → Agrees times order
+pub agrees_same : (times new : Times) (order last : BTreeMap (ℕ × Place) (Unit {0})) → Agrees times order
     → SameTimes times new → ((p : ℕ × Place) → get timed_cmp last p ≡ get timed_cmp order p) → Agrees new last
 agrees_same times new order last agree same kept =
     record { same = λ q t. kept (t, q) ∙ agree.same q t ∙ ap (λ o. at_time o t) (sym (same q)) }
@@ -158,8 +186,8 @@ pub ok_since : {A E : Type 0} (r : Result A E) (o : Option ℕ) (b : ℕ) → On
 ok_since (Ok x) o b h w = refl
 ok_since (Err x) o b h w = cc
 
--- For remove_both: the two maps agree after a key that waits is taken out of both.
-pub agrees_removal : (times new : BTreeMap Place ℕ) (order last : BTreeMap (ℕ × Place) (Unit {0})) (k : Place) (b : ℕ)
+-- For take_first: the two maps agree after a key that waits is taken out of both.
+pub agrees_removal : (times new : Times) (order last : BTreeMap (ℕ × Place) (Unit {0})) (k : Place) (b : ℕ)
     → Agrees times order → time_of times k ≡ Some b → Leaves times new k → SetsOrder order last b k None
     → Agrees new last
 agrees_removal times new order last k b agree waits leaves drops = record {

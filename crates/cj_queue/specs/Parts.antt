@@ -1,13 +1,14 @@
 -- The parts of the queue in contracts, and the invariants of their types.
-use Rattle.std.specs.Prelude.{◌≡◌, ℕ, Bool, true, false, not, ◌&&◌, ◌==◌, unwrap_or, cond, if◌then◌else◌, List, [], ◌∷◌, ◌++◌, map, Option, refl}
+use Rattle.std.specs.Prelude.{◌≡◌, ℕ, Bool, true, false, not, ◌&&◌, ◌==◌, cond, List, [], ◌∷◌, ◌++◌, map, Option, Some, None, refl}
 use Rattle.std.specs.Ordering.{eq_of_both, on}
 use Rattle.std.specs.Cmp.Lexicographic.{pointwise}
-use Rattle.std.specs.List.{list_any}
+use Rattle.std.specs.List.{list_any, filter}
+use Rattle.std.specs.Map.{lookup, keys_of as keys_with}
 use Rattle.std.specs.FinMap.{FinMap, from_entries, insert, get as get_count}
-use Rattle.std.specs.BTreeMap.{BTreeMap, get}
-use Rattle.std.specs.Coded.{Coded, code_by, coded×, coded_list, coded_ℕ}
-use Rattle.cj_types.specs.Keys.{Place, place_cmp, coded_place}
-use Rattle.cj_table.specs.Tags.{hash_cmp}
+use Rattle.std.specs.Coded.{Coded, code_by, coded×, coded_ℕ}
+use Rattle.cj_types.specs.Keys.{Place, place_cmp}
+use Rattle.cj_queue.specs.declared.stage.Stage.{Stage}
+use Rattle.cj_queue.specs.declared.stage.Stage.TheVariants.{Lined, Held, Again}
 use Rattle.cj_queue.specs.Queue.{Keys, Row, row_code}
 
 -- whether two keys have the same bytes, as a key's `==` says
@@ -26,65 +27,87 @@ are_distinct (k ∷ ks) = not (stands_in ks k) && are_distinct ks
 abbrev pub keys_of : List Place → Keys
 keys_of ks = from_entries (map (λ k. (k, tt)) ks)
 
--- whether the key has a place that marks it as in the line
-abbrev pub is_lined : BTreeMap Place Bool → Place → Bool
-is_lined places k = unwrap_or (get hash_cmp places k) false
+-- ---- stages
 
--- just the keys of the line have a place that marks them so, and each is in the line once
-pub record IsMarked (line : List Place) (places : BTreeMap Place Bool) : Type 0 where
-  pub same : (k : Place) → is_lined places k ≡ stands_in line k
+-- the keys of the line and those that are being worked on, each with its stage
+abbrev pub Stages : Type 0
+Stages = List (Place × Stage)
+
+-- the key's stage, if it has one
+abbrev pub stage_of : Stages → Place → Option Stage
+stage_of stages k = lookup (key_eq k) stages
+
+-- whether a key of the stage is in the line
+abbrev pub is_lined : Option Stage → Bool
+is_lined None = false
+is_lined (Some Lined) = true
+is_lined (Some Held) = false
+is_lined (Some Again) = false
+
+-- whether it is being worked on
+abbrev pub is_held : Option Stage → Bool
+is_held None = false
+is_held (Some Lined) = false
+is_held (Some Held) = true
+is_held (Some Again) = true
+
+-- whether it was added again while it was worked on
+abbrev pub is_again : Option Stage → Bool
+is_again None = false
+is_again (Some Lined) = false
+is_again (Some Held) = false
+is_again (Some Again) = true
+
+-- the stage after an add
+-- rules: queue-add, add-while-held
+abbrev pub after_add : Option Stage → Stage
+after_add None = Lined
+after_add (Some Lined) = Lined
+after_add (Some Held) = Again
+after_add (Some Again) = Again
+
+-- the stage after the end of the work
+-- rules: queue-done, add-while-held
+abbrev pub after_end : Option Stage → Option Stage
+after_end None = None
+after_end (Some Lined) = None
+after_end (Some Held) = None
+after_end (Some Again) = Some Lined
+
+-- the keys whose stage passes the test
+abbrev pub keys_at : (Option Stage → Bool) → Stages → List Place
+keys_at test stages = filter (λ k. test (stage_of stages k)) (keys_with stages)
+
+-- new has the given stage at the key, and is else as old
+abbrev pub HasStage : Stages → Stages → Place → Option Stage → Type 0
+HasStage old new k s = (q : Place) → stage_of new q ≡ cond (key_eq k q) s (stage_of old q)
+
+-- a key is in the line just where its stage says so, and it is there once
+-- rule: queue-line
+pub record AreStaged (line : List Place) (stages : Stages) : Type 0 where
+  pub same : (k : Place) → is_lined (stage_of stages k) ≡ stands_in line k
   pub once : are_distinct line ≡ true
 
--- in new the key's place marks it as in the line, and every other key is marked as in old
-abbrev pub Marks : BTreeMap Place Bool → BTreeMap Place Bool → Place → Type 0
-Marks old new k = (q : Place) → is_lined new q ≡ cond (key_eq k q) true (is_lined old q)
+-- the row of a line, and of its keys and those that are being worked on with their stages
+abbrev pub row_of : List Place → Stages → Row
+row_of line stages = record { line = line; dirty = keys_of (line ++ keys_at is_again stages); processing = keys_of (keys_at is_held stages) }
 
--- the line with the key appended, unless it is in the line
-abbrev pub with_last : List Place → Place → List Place
-with_last line k = if stands_in line k then line else line ++ k ∷ []
-
--- each of the keys has a place
-abbrev pub ArePlaced : List Place → List Place → Type 0
-ArePlaced ks places = (k : Place) → stands_in ks k ≡ true → stands_in places k ≡ true
-
--- `Line` in contracts: its keys, the keys that have a place, and for how many more there is room
-pub record Line : Type 0 where
-  pub keys : List Place
-  pub places : List Place
-  pub room : ℕ
-
-abbrev pub line_code : Coded Line
-line_code =
-    code_by (List Place × (List Place × ℕ))
-    (coded× (coded_list coded_place) (coded× (coded_list coded_place) coded_ℕ))
-    (λ l. (l.keys, (l.places, l.room))) (λ p. record
-    { keys = p.0; places = (p.1).0; room = (p.1).1 }) (λ _. refl)
-
--- `Work` in contracts: the row, the keys that have a place in the line, and for how many adds there
--- is room
+-- `Work` in contracts: the row, and for how many adds there is room
 pub record Work : Type 0 where
   pub row : Row
-  pub places : List Place
   pub room : ℕ
 
 abbrev pub work_code : Coded Work
 work_code =
-    code_by (Row × (List Place × ℕ)) (coded× row_code (coded× (coded_list coded_place) coded_ℕ))
-    (λ r. (r.row, (r.places, r.room))) (λ p. record { row = p.0; places = (p.1).0; room = (p.1).1 })
-    (λ _. refl)
+    code_by (Row × ℕ) (coded× row_code coded_ℕ) (λ w. (w.row, w.room))
+    (λ p. record { row = p.0; room = p.1 }) (λ _. refl)
 
 -- no key of the line is being worked on, each key that was added again is, and no key is in the
 -- line more than once
--- rule: queue-line
 pub record IsLined (line again processing : List Place) : Type 0 where
   pub free : (k : Place) → stands_in line k ≡ true → stands_in processing k ≡ false
   pub held : (k : Place) → stands_in again k ≡ true → stands_in processing k ≡ true
   pub once : are_distinct line ≡ true
-
--- the lists are so, and each key that was added again has a place in the line
-pub record IsKept (line again processing places : List Place) : Type 0 where
-  pub lined : IsLined line again processing
-  pub placed : ArePlaced again places
 
 -- the number of failures in a row of each key
 abbrev pub Counts : Type 0

@@ -2,6 +2,7 @@
 use Rattle.std.specs.Prelude.{◌≡◌, ℕ, ◌==◌, if◌then◌else◌, cond, nat_le, min, List, [], ◌∷◌, map, Option, Some, None}
 use Rattle.std.specs.declared.cmp.Ordering.{Ordering}
 use Rattle.std.specs.Ordering.{nat_cmp, ordering_then}
+use Rattle.std.specs.Map.{lookup}
 use Rattle.std.specs.BTreeMap.{BTreeMap, is_at, get as at_key}
 use Rattle.std.specs.FinMap.{FinMap, get, insert, remove, from_entries, entries, keys}
 use Rattle.cj_types.specs.Keys.{Place, place_cmp}
@@ -45,9 +46,13 @@ without m (k ∷ ks) = without (remove m k) ks
 
 -- ---- the two maps in which they are kept
 
+-- the entries of the first map
+abbrev pub Times : Type 0
+Times = List (Place × ℕ)
+
 -- the key's time in the first map
-abbrev pub time_of : BTreeMap Place ℕ → Place → Option ℕ
-time_of times k = at_key place_cmp times k
+abbrev pub time_of : Times → Place → Option ℕ
+time_of times k = lookup (is_at (place_cmp k)) times
 
 -- whether the second map has the key at the time
 abbrev pub waits_at : BTreeMap (ℕ × Place) (Unit {0}) → ℕ → Place → Option (Unit {0})
@@ -60,19 +65,18 @@ at_time (Some s) t = if s == t then Some tt else None
 
 -- a key is in the order at its time, and nowhere else
 -- rule: queue-delay
-pub record Agrees (times : BTreeMap Place ℕ) (order : BTreeMap (ℕ × Place) (Unit {0}))
-    : Type 0 where
+pub record Agrees (times : Times) (order : BTreeMap (ℕ × Place) (Unit {0})) : Type 0 where
   pub same : (k : Place) (t : ℕ) → waits_at order t k ≡ at_time (time_of times k) t
 
 -- new has the given time at the key, and is else as old
-abbrev pub SetsTime : BTreeMap Place ℕ → BTreeMap Place ℕ → Place → ℕ → Type 0
+abbrev pub SetsTime : Times → Times → Place → ℕ → Type 0
 SetsTime old new k t = (q : Place)
     → time_of new q ≡ cond (is_at (place_cmp k) q) (Some t) (time_of old q)
 
 -- new has the same time as old at every key
-abbrev pub SameTimes : BTreeMap Place ℕ → BTreeMap Place ℕ → Type 0
+abbrev pub SameTimes : Times → Times → Type 0
 SameTimes old new = (q : Place) → time_of new q ≡ time_of old q
 
 -- new has nothing at the key, and is else as old
-abbrev pub Leaves : BTreeMap Place ℕ → BTreeMap Place ℕ → Place → Type 0
+abbrev pub Leaves : Times → Times → Place → Type 0
 Leaves old new k = (q : Place) → time_of new q ≡ cond (is_at (place_cmp k) q) None (time_of old q)

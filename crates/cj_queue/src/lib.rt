@@ -10,10 +10,12 @@ mod backoff;
 mod copies;
 mod failures;
 mod laws;
-mod line;
 mod queue;
+mod secret;
+mod stage;
 mod waits;
 mod work;
 
 pub use laws::{queue_laws, row_laws};
 pub use queue::Queue;
+pub use secret::Secret;

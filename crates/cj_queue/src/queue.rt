@@ -2,11 +2,12 @@ ghost use Rattle.std.specs.Prelude.{◌≡◌, ◌≤◌, ◌<◌, ◌+◌, IfOk
 ghost use Rattle.std.specs.FinMap as map;
 ghost use Rattle.cj_base.specs.declared.refusal.Refusal.TheVariants.{OutOfMemory};
 ghost use Rattle.cj_queue.specs.Queue.{new_queue, row_adds, row_end, added, taken, ended, added_after, ticked, closed, failures_of, delay, failed, forgotten, finished_ok, finished_retry, first, has};
-ghost use Rattle.cj_queue.specs.Times.{without, waits_for};
-ghost use Rattle.cj_queue.specs.Parts.{ArePlaced};
+ghost use Rattle.cj_queue.specs.Times.{ready, without, waits_for};
 
 use crate::backoff::{delay_after, one_more};
+use crate::copies::two_copies;
 use crate::failures::Failures;
+use crate::secret::Secret;
 use crate::waits::Waits;
 use crate::work::Work;
 use cj_types::{Key, Millis, Refusal, TryCopy};
@@ -65,10 +66,17 @@ impl Queue {
     pub fn new(alloc: Global) -> Queue
         ensures { result ≡ new_queue }
     {
+        Queue::keyed(alloc, Secret { first: 0, last: 0 })
+    }
+
+    /// An empty queue whose hashes have a secret: nobody can choose names that are slow to find.
+    pub fn keyed(alloc: Global, secret: Secret) -> Queue
+        ensures { result ≡ new_queue }
+    {
         Queue {
             alloc,
-            work: Work::new(alloc),
-            waits: Waits::new(alloc),
+            work: Work::new(alloc, secret),
+            waits: Waits::new(alloc, secret),
             failures: Failures::new(alloc),
             tick: 0,
             shut: false,
@@ -103,7 +111,7 @@ impl Queue {
         ensures err { OnErr result (self.new ≡ self.old) }
         ensures memory { IfErr result (λ e. e ≡ OutOfMemory) }
     {
-        self.work.take(self.alloc)
+        Ok(self.work.take())
     }
 
     /// Whether the key was taken, and the work on it isn't done.
@@ -121,7 +129,8 @@ impl Queue {
         ensures memory { IfErr result (λ e. e ≡ OutOfMemory) }
     {
         self.work.reserve(1)?;
-        self.work.end(key);
+        let copy = key.try_copy(self.alloc)?;
+        self.work.end(copy);
         Ok(())
     }
 
@@ -153,10 +162,9 @@ impl Queue {
             self.tick = self.tick.max(moment);
             return Ok(());
         }
-        let ready = self.waits.ready(self.alloc, moment)?;
-        self.work.reserve(ready.len())?;
-        self.work.prepare_all(self.alloc, &ready)?;
-        add_all(&mut self.waits, &mut self.work, ready);
+        let count = self.waits.count_ready(moment);
+        self.work.reserve(count)?;
+        add_ready(&mut self.waits, &mut self.work, moment, count);
         self.tick = self.tick.max(moment);
         Ok(())
     }
@@ -210,23 +218,23 @@ impl Queue {
         ensures memory { IfErr result (λ e. e ≡ OutOfMemory) }
     {
         self.work.reserve(2)?;
+        let ended = key.try_copy(self.alloc)?;
         let Some(next) = at_ms else {
-            end_well(&mut self.work, &mut self.failures, key);
+            end_well(&mut self.work, &mut self.failures, ended);
             return Ok(());
         };
         if self.shut {
-            end_well(&mut self.work, &mut self.failures, key);
+            end_well(&mut self.work, &mut self.failures, ended);
             return Ok(());
         }
         if next > self.tick {
             self.waits.keep(self.alloc, key, next)?;
-            end_well(&mut self.work, &mut self.failures, key);
+            end_well(&mut self.work, &mut self.failures, ended);
             return Ok(());
         }
-        self.work.prepare(self.alloc, key)?;
-        let again = key.try_copy(self.alloc)?;
-        end_well(&mut self.work, &mut self.failures, key);
-        self.work.add(again);
+        let (again, copy) = two_copies(self.alloc, key)?;
+        end_well(&mut self.work, &mut self.failures, ended);
+        self.work.add(again, copy);
         Ok(())
     }
 
@@ -240,48 +248,50 @@ impl Queue {
         let count = self.failures.get(key);
         let at = now_ms.get() + delay_after(count);
         self.work.reserve(2)?;
+        let ended = key.try_copy(self.alloc)?;
         if self.shut {
             self.failures.put(self.alloc, key, one_more(count))?;
-            self.work.end(key);
+            self.work.end(ended);
             return Ok(());
         }
         if at > self.tick {
             put_off(&mut self.waits, &mut self.failures, self.alloc, key, at)?;
-            self.work.end(key);
+            self.work.end(ended);
             return Ok(());
         }
-        self.work.prepare(self.alloc, key)?;
-        let again = key.try_copy(self.alloc)?;
+        let (again, copy) = two_copies(self.alloc, key)?;
         self.failures.put(self.alloc, key, one_more(count))?;
-        self.work.end(key);
-        self.work.add(again);
+        self.work.end(ended);
+        self.work.add(again, copy);
         Ok(())
     }
 }
 
-// Adds the keys, one after the other, and removes them from those that wait.
-fn add_all(waits: &mut Waits, work: &mut Work, keys: Vec<Key>)
-    requires room { length keys.items ≤ work.old.room }
-    requires placed { ArePlaced keys.items work.old.places }
-    ensures waits { waits.new ≡ without waits.old keys.items }
-    ensures rows { work.new.row ≡ row_adds work.old.row keys.items }
+// Adds the keys that wait for a time not above `now`, of which there are `count`, and has them wait
+// no more.
+fn add_ready(waits: &mut Waits, work: &mut Work, now: u64, count: usize)
+    requires count { count ≡ length (ready waits.old now) }
+    requires room { count ≤ work.old.room }
+    ensures waits { waits.new ≡ without waits.old (ready waits.old now) }
+    ensures rows { work.new.row ≡ row_adds work.old.row (ready waits.old now) }
 {
-    for key in keys {
-        waits.remove(&key);
-        work.add(key);
+    for _ in 0..count {
+        let Some((key, copy)) = waits.take_ready(now) else {
+            return;
+        };
+        work.add(key, copy);
     }
 }
 
 // Ends the work on the key, and forgets its failures.
-fn end_well(work: &mut Work, failures: &mut Failures, key: &Key)
+fn end_well(work: &mut Work, failures: &mut Failures, key: Key)
     requires room { 0 < work.old.room }
-    requires held { IsTrue (has work.old.row.processing key.now) }
-    ensures row { work.new.row ≡ row_end work.old.row key.now }
-    ensures places { work.new.places ≡ work.old.places }
+    requires held { IsTrue (has work.old.row.processing key) }
+    ensures row { work.new.row ≡ row_end work.old.row key }
     ensures room { work.old.room ≤ work.new.room + 1 }
-    ensures counts { failures.new ≡ map.remove failures.old key.now }
+    ensures counts { failures.new ≡ map.remove failures.old key }
 {
-    failures.remove(key);
+    failures.remove(&key);
     work.end(key);
 }
 

@@ -1,18 +1,21 @@
-ghost use Rattle.std.specs.Prelude.{◌≡◌, ◌<◌, IfOk, IfErr, OnOk, OnErr, None, Some, [], ◌∷◌, ◌++◌};
+ghost use Rattle.std.specs.Prelude.{◌≡◌, ◌<◌, IfErr, IfSome, IfNone, OnOk, OnErr, None, Some, [], ◌∷◌, length};
 ghost use Rattle.std.specs.FinMap as map;
 ghost use Rattle.cj_base.specs.declared.refusal.Refusal.TheVariants.{OutOfMemory};
 ghost use Rattle.std.specs.BTreeMap.{keys, IsOrdered};
 ghost use Rattle.cj_queue.specs.Times.{ready, ready_in, waits_for, earlier, timed_cmp, Agrees, SetsTime, SameTimes, Leaves, time_of};
 
 use crate::copies::two_copies;
+use crate::secret::Secret;
 use cj_types::{Key, Refusal, TryCopy};
 use std::alloc::Global;
-use std::collections::BTreeMap;
+use std::collections::{BTreeMap, HashMap};
 use std::marker::Model;
 
 /// Waiting keys, each with its time. Contracts see the time of each key.
 pub struct Waits {
-    times: BTreeMap<Key, u64>,
+    // The time of each key.
+    times: HashMap<Key, u64, Secret>,
+    // The same keys in the order of their times.
     order: BTreeMap<(u64, Key), ()>,
 }
 
@@ -34,16 +37,16 @@ impl Model for Waits {
 
     ghost view = { λ w. map.from_entries w.times.entries };
 
-    ghost invariant = { λ w. Agrees w.times w.order };
+    ghost invariant = { λ w. Agrees w.times.entries w.order };
 }
 
 impl Waits {
     /// No key waits.
-    pub fn new(alloc: Global) -> Waits
+    pub fn new(alloc: Global, secret: Secret) -> Waits
         ensures { result ≡ map.empty }
     {
         Waits {
-            times: BTreeMap::new(alloc),
+            times: HashMap::with_hasher(alloc, secret),
             order: BTreeMap::new(alloc),
         }
     }
@@ -68,13 +71,6 @@ impl Waits {
         }
     }
 
-    /// The key waits no more.
-    pub fn remove(&mut self, key: &Key)
-        ensures { self.new ≡ map.remove self.old key.now }
-    {
-        remove_both(&mut self.times, &mut self.order, key);
-    }
-
     /// Removes all waiting keys.
     pub fn clear(&mut self)
         ensures { self.new ≡ map.empty }
@@ -83,13 +79,22 @@ impl Waits {
         self.order.clear();
     }
 
-    /// The keys whose time is not above `now`, by time, then key.
-    pub fn ready(&self, alloc: Global, now: u64) -> Result<Vec<Key>, Refusal>
-        ensures ok { IfOk result (λ v. v.items ≡ ready self.now now) }
-        ensures memory { IfErr result (λ e. e ≡ OutOfMemory) }
+    /// How many keys have a time that isn't above `now`.
+    pub fn count_ready(&self, now: u64) -> usize
+        ensures { result ≡ length (ready self.now now) }
     {
-        let found = first_ready(&self.order, alloc, now)?;
-        Ok(found)
+        count_until(&self.order, now)
+    }
+
+    /// Takes the first key, by time, then key, whose time isn't above `now`. Answers it and a copy.
+    pub fn take_ready(&mut self, now: u64) -> Option<(Key, Key)>
+        ensures ready { IfSome result (λ p. ready self.old now ≡ p.0 ∷ ready self.new now) }
+        ensures copy { IfSome result (λ p. p.1 ≡ p.0) }
+        ensures leaves { IfSome result (λ p. self.new ≡ map.remove self.old p.0) }
+        ensures none { IfNone result (ready self.old now ≡ []) }
+        ensures stays { IfNone result (self.new ≡ self.old) }
+    {
+        take_first(&mut self.times, &mut self.order, now)
     }
 }
 
@@ -103,47 +108,66 @@ fn kept_time(before: Option<u64>, at: u64) -> u64
     }
 }
 
-// The keys of the entries whose time is not above `now`.
-fn first_ready(
-    order: &BTreeMap<(u64, Key), ()>,
-    alloc: Global,
-    now: u64,
-) -> Result<Vec<Key>, Refusal>
-    ensures ok { IfOk result (λ v. v.items ≡ ready_in (keys order.now) now) }
+// How many entries have a time that isn't above `now`.
+fn count_until(order: &BTreeMap<(u64, Key), ()>, now: u64) -> usize
+    ensures count { result ≡ length (ready_in (keys order.now) now) }
     ensures sorted { IsOrdered timed_cmp order.now }
-    ensures memory { IfErr result (λ e. e ≡ OutOfMemory) }
 {
-    let mut found = Vec::new(alloc);
-    for (at, key) in order.keys() {
+    let mut count = 0;
+    for (at, _) in order.keys() {
         if *at > now {
-            return Ok(found);
+            return count;
         }
-        push_copy(&mut found, alloc, key)?;
+        count += 1;
     }
-    Ok(found)
+    count
 }
 
-fn push_copy(found: &mut Vec<Key>, alloc: Global, key: &Key) -> Result<(), Refusal>
-    ensures ok { OnOk result (found.new.items ≡ found.old.items ++ key.now ∷ []) }
-    ensures memory { IfErr result (λ e. e ≡ OutOfMemory) }
+// Removes the first entry from both maps, where its time isn't above `now`. Answers both keys.
+fn take_first(
+    times: &mut HashMap<Key, u64, Secret>,
+    order: &mut BTreeMap<(u64, Key), ()>,
+    now: u64,
+) -> Option<(Key, Key)>
+    requires agree { Agrees times.old.entries order.old }
+    ensures agree { Agrees times.new.entries order.new }
+    ensures ready { IfSome result (λ p.
+        ready_in (keys order.old) now ≡ p.0 ∷ ready_in (keys order.new) now) }
+    ensures copy { IfSome result (λ p. p.1 ≡ p.0) }
+    ensures leaves { IfSome result (λ p. Leaves times.old.entries times.new.entries p.0) }
+    ensures none { IfNone result (ready_in (keys order.old) now ≡ []) }
+    ensures stays { IfNone result (times.new.entries ≡ times.old.entries) }
+    ensures was_sorted { IsOrdered timed_cmp order.old }
+    ensures sorted { IsOrdered timed_cmp order.new }
 {
-    let copy = key.try_copy(alloc)?;
-    found.push(copy).map_err(|_| Refusal::OutOfMemory)
+    let Some((at, _)) = order.keys().next() else {
+        return None;
+    };
+    if *at > now {
+        return None;
+    }
+    let Some(((_, key), _)) = order.pop_first() else {
+        return None;
+    };
+    let Some((copy, _)) = times.remove_entry(&key) else {
+        return None;
+    };
+    Some((key, copy))
 }
 
 // Adds a key that doesn't wait yet.
 fn put_new(
-    times: &mut BTreeMap<Key, u64>,
+    times: &mut HashMap<Key, u64, Secret>,
     order: &mut BTreeMap<(u64, Key), ()>,
     alloc: Global,
     key: &Key,
     at: u64,
 ) -> Result<(), Refusal>
-    requires agree { Agrees times.old order.old }
-    requires absent { time_of times.old key.now ≡ None }
-    ensures agree { Agrees times.new order.new }
-    ensures ok { OnOk result (SetsTime times.old times.new key.now at) }
-    ensures err { OnErr result (SameTimes times.old times.new) }
+    requires agree { Agrees times.old.entries order.old }
+    requires absent { time_of times.old.entries key.now ≡ None }
+    ensures agree { Agrees times.new.entries order.new }
+    ensures ok { OnOk result (SetsTime times.old.entries times.new.entries key.now at) }
+    ensures err { OnErr result (SameTimes times.old.entries times.new.entries) }
     ensures memory { IfErr result (λ e. e ≡ OutOfMemory) }
 {
     let (first, second) = two_copies(alloc, key)?;
@@ -159,19 +183,19 @@ fn put_new(
 
 // Gives a waiting key an earlier time.
 fn put_earlier(
-    times: &mut BTreeMap<Key, u64>,
+    times: &mut HashMap<Key, u64, Secret>,
     order: &mut BTreeMap<(u64, Key), ()>,
     alloc: Global,
     key: &Key,
     at: u64,
     before: u64,
 ) -> Result<(), Refusal>
-    requires agree { Agrees times.old order.old }
-    requires waits { time_of times.old key.now ≡ Some before }
+    requires agree { Agrees times.old.entries order.old }
+    requires waits { time_of times.old.entries key.now ≡ Some before }
     requires earlier { at < before }
-    ensures agree { Agrees times.new order.new }
-    ensures ok { OnOk result (SetsTime times.old times.new key.now at) }
-    ensures err { OnErr result (SameTimes times.old times.new) }
+    ensures agree { Agrees times.new.entries order.new }
+    ensures ok { OnOk result (SetsTime times.old.entries times.new.entries key.now at) }
+    ensures err { OnErr result (SameTimes times.old.entries times.new.entries) }
     ensures memory { IfErr result (λ e. e ≡ OutOfMemory) }
 {
     let last = (before, key.try_copy(alloc)?);
@@ -183,15 +207,4 @@ fn put_earlier(
     let _ = times.insert(first, at);
     order.remove(&last);
     Ok(())
-}
-
-// Removes the key from both maps.
-fn remove_both(times: &mut BTreeMap<Key, u64>, order: &mut BTreeMap<(u64, Key), ()>, key: &Key)
-    requires agree { Agrees times.old order.old }
-    ensures agree { Agrees times.new order.new }
-    ensures leaves { Leaves times.old times.new key.now }
-{
-    if let Some((kept, at)) = times.remove_entry(key) {
-        order.remove(&(at, kept));
-    }
 }

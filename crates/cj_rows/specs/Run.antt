@@ -7,9 +7,10 @@ use Rattle.cj_args.specs.Command.{IsOf, RefusesWords, file_of}
 use Rattle.cj_answers.specs.Inputs.{IsTaken}
 use Rattle.cj_answers.specs.Outcome.{Outcome, status_of}
 use Rattle.cj_program.specs.Told.{Telling, Tells}
+use Rattle.cj_args.specs.declared.crontab.CrontabRequest.{CrontabRequest}
 use Rattle.cj_args.specs.declared.request.ControlRequest.{ControlRequest}
 use Rattle.cj_args.specs.declared.request.Request.{Request}
-use Rattle.cj_args.specs.declared.request.Request.TheVariants.{Control}
+use Rattle.cj_args.specs.declared.request.Request.TheVariants.{Control, Crontab}
 use Rattle.cj_args.specs.declared.word_fault.WordFault.{WordFault}
 use Rattle.cj_rows.specs.declared.run.Seen.{Seen}
 
@@ -42,10 +43,16 @@ pub record IsServed (request : Request) (input : List ℕ) (g : Given) : Type 0 
 abbrev pub IsControl : Request → Type 0
 IsControl request = (r : ControlRequest) × (request ≡ Control r)
 
+-- a request on a crontab, whose input is taken as it is
+pub record IsCrontab (request : Request) (input : List ℕ) (g : Given) : Type 0 where
+  pub crontab : CrontabRequest
+  pub is : request ≡ Crontab crontab
+  pub served : g.status ≢ Failed → IsOutcomeOf request input [] g
+
 -- the request reads no file by its name, and is served so, unless it is for a controller
 pub record IsAnswered (request : Request) (input : List ℕ) (g : Given) : Type 0 where
   pub file : (file_of request ≡ None) ⊎ (file_of request ≡ Some (codes "-"))
-  pub outcome : IsServed request input g ⊎ IsControl request
+  pub outcome : IsServed request input g ⊎ IsControl request ⊎ IsCrontab request input g
 
 -- what words get that are no request
 pub record IsTelling (fault : WordFault) (g : Given) : Type 0 where

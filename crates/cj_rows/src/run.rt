@@ -1,5 +1,5 @@
 // Running a row.
-ghost use Rattle.std.specs.Prelude.{◌≡◌, ◌≢◌, ◌⊎◌, map, None, Some, IfOk, OnOk, codes, string_bytes};
+ghost use Rattle.std.specs.Prelude.{◌≡◌, ◌≢◌, ◌⊎◌, map, [], None, Some, IfOk, OnOk, codes, string_bytes};
 ghost use Rattle.cj_answers.specs.Inputs.{IsTaken};
 ghost use Rattle.cj_args.specs.Command.{file_of};
 ghost use Rattle.cj_rows.specs.Row.{stated_of};
@@ -49,6 +49,17 @@ fn taken(alloc: Global, input: &str) -> Result<JsonInput, Fault>
     json_input(alloc, bytes).map_err(|_| Fault::Memory)
 }
 
+// The input of a crontab, of which nothing else is taken.
+fn as_it_is(alloc: Global, input: &str) -> Result<JsonInput, Fault>
+    ensures bytes { IfOk result (λ t. t.bytes.items ≡ input.now) }
+    ensures said { IfOk result (λ t. string_bytes t.said ≡ []) }
+{
+    Ok(JsonInput {
+        bytes: Vec::from_slice(alloc, input.as_bytes())?,
+        said: String::new(alloc),
+    })
+}
+
 // What a request is answered on what is taken for its input, behind those words.
 fn served<T: Threads + Wait + Sync>(
     rt: &T,
@@ -80,6 +91,20 @@ fn served<T: Threads + Wait + Sync>(
     }
 }
 
+// What a request on a crontab is answered on that input.
+fn on_crontab<T: Threads + Wait + Sync>(
+    rt: &T,
+    alloc: Global,
+    request: &Request<'_>,
+    input: &str,
+) -> Result<Seen, Fault>
+    ensures { IfOk result (λ s. s.status ≢ Failed →
+        IsOutcomeOf request.now input.now [] (given_of s)) }
+{
+    let taken = as_it_is(alloc, input)?;
+    Ok(served(rt, alloc, request, taken))
+}
+
 // What a request that reads no file by its name is answered on that input.
 fn answered<T: Threads + Wait + Sync>(
     rt: &T,
@@ -92,6 +117,9 @@ fn answered<T: Threads + Wait + Sync>(
     reads_input(request)?;
     if let Request::Control(control) = request {
         return Ok(controlled(alloc, control, input));
+    }
+    if let Request::Crontab(_) = request {
+        return on_crontab(rt, alloc, request, input);
     }
     Ok(served(rt, alloc, request, taken(alloc, input)?))
 }

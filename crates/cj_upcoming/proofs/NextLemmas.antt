@@ -3,7 +3,7 @@ use Rattle.std.proofs.Common.{◌≡◌, ℕ, zero, suc, ◌+◌, List, [], ◌+
 use Rattle.cj_schedule.specs.Matches.{Sets}
 use Rattle.cj_zone.specs.declared.zone.Zone.{Zone}
 use Rattle.cj_due.specs.Due.{reach, IsQuiet, IsLeastDue}
-use Rattle.cj_upcoming.specs.Coming.{none_line, step_lines, AreComing}
+use Rattle.cj_upcoming.specs.Coming.{none_line, time_line, AddsStep, AreComing}
 
 -- what is left of a text, from one instant with so many times to come, makes it the whole text
 pub record Continues (s : Sets) (z : Zone) (start count at left : ℕ) (text : List ℕ) : Type 0 where
@@ -16,16 +16,25 @@ module _ (s : Sets) (z : Zone) (start count : ℕ) where
 
   -- With one time more the rest goes on from it.
   pub continues_time : (at left more t : ℕ) (old new : List ℕ) → left ≡ suc more → Continues s z start count at left old
-      → IsLeastDue s z at (at + reach) t → new ≡ old ++ step_lines z start at t → Continues s z start count t more new
-  continues_time at left more t old new e h least grown = record {
+      → IsLeastDue s z at (at + reach) t → AddsStep s z start at t old new → Continues s z start count t more new
+  continues_time at left more t old new e h least step = record {
     whole = λ rest is.
-        let go : AreComing s z start at (suc more) (step_lines z start at t ++ rest) =
-        inl (record { t = t; rest = rest; least = least; more = is; are = refl }) in
-        let P : ℕ → Type 0 = λ n. AreComing s z start at n (step_lines z start at t ++ rest) in
+        let added = step.lines ++ time_line z start t in
+        let go : AreComing s z start at (suc more) (added ++ rest) =
+        inl (record {
+          t = t;
+          rest = rest;
+          least = least;
+          lines = step.lines;
+          named = step.named;
+          more = is;
+          are = refl;
+        }) in
+        let P : ℕ → Type 0 = λ n. AreComing s z start at n (added ++ rest) in
         let Q : List ℕ → Type 0 = λ x. AreComing s z start start count x in
         let R : List ℕ → Type 0 = λ x. AreComing s z start start count (x ++ rest) in
-        subst R (sym grown) (subst Q (sym (append_assoc old (step_lines z start at t) rest))
-        (h.whole (step_lines z start at t ++ rest) (subst P (sym e) go)));
+        subst R (sym step.are) (subst Q (sym (append_assoc old added rest))
+        (h.whole (added ++ rest) (subst P (sym e) go)));
   }
 
   -- Where nothing is due any more the text ends.

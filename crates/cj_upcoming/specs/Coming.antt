@@ -8,7 +8,9 @@ use Rattle.cj_zone.specs.TimeText.{time_text_of}
 use Rattle.cj_due.specs.Due.{reach, IsQuiet, IsLeastDue}
 use Rattle.cj_upcoming.specs.Parts.{day_name}
 use Rattle.cj_upcoming.specs.Clocks.{civil_text, offset_text, span_text}
-use Rattle.cj_upcoming.specs.Changes.{changes, change_lines}
+use Rattle.cj_zone.specs.Zones.{utc_zone}
+use Rattle.cj_upcoming.specs.Changes.{changes}
+use Rattle.cj_upcoming.specs.Named.{AreNamedLines}
 
 -- `WEEKDAY LOCAL OFFSET TIME in SPAN`
 -- rule: describe-times
@@ -18,9 +20,13 @@ time_line z start t =
     ++ (offset_text (zone_offset z t) ++ (codes " " ++ (time_text_of t ++ (codes " in "
     ++ (span_text (t - start) ++ codes "\n"))))))))
 
--- what the clock skips or shows twice on the way to the least due time, and that time
-abbrev pub step_lines : Zone → ℕ → ℕ → ℕ → List ℕ
-step_lines z start after t = change_lines z (changes z after t) ++ time_line z start t
+-- behind the text stand what the clock skips or shows twice on the way to a due time, of what the
+-- schedule names, and that time
+-- rule: describe-times
+pub record AddsStep (s : Sets) (z : Zone) (start after t : ℕ) (text longer : List ℕ) : Type 0 where
+  pub lines : List ℕ
+  pub named : AreNamedLines s z (utc_zone (codes "UTC")) (changes z after t) lines
+  pub are : longer ≡ text ++ (lines ++ time_line z start t)
 
 -- the least due time after one, and the rest of the text, which goes on from it
 pub record GoesOn (s : Sets) (z : Zone) (start after : ℕ) (text : List ℕ)
@@ -28,8 +34,10 @@ pub record GoesOn (s : Sets) (z : Zone) (start after : ℕ) (text : List ℕ)
   pub t : ℕ
   pub rest : List ℕ
   pub least : IsLeastDue s z after (after + reach) t
+  pub lines : List ℕ
+  pub named : AreNamedLines s z (utc_zone (codes "UTC")) (changes z after t) lines
   pub more : Rest t rest
-  pub are : text ≡ step_lines z start after t ++ rest
+  pub are : text ≡ (lines ++ time_line z start t) ++ rest
 
 abbrev pub none_line : List ℕ
 none_line = codes "none within 3,000 days\n"

@@ -1,4 +1,6 @@
+pub mod BlockStyle
 pub mod Escapes
 pub mod Places
+pub mod ReadOf
 pub mod ReadsBack
 pub mod Words

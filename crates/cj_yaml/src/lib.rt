@@ -13,19 +13,22 @@
 //! API server, reads otherwise. An empty document is null. JSON texts are YAML, but
 //! `serde_json` reads them faster, and it knows `\ud83d\ude00` pairs, which are refused here.
 //!
-//! `write(alloc, &value)` prints a value in block style, as `kubectl get -o yaml` does.
+//! `write(alloc, &value)` prints a value in block style, as `kubectl get -o yaml` does. The text is
+//! read before it is given, so whoever has it can rely on `read` to give the value again.
 #![tactic(auto)]
 
 mod block;
 mod block_text;
 mod chars;
 mod cursor;
+mod document;
 mod double;
 mod escape;
 mod fault;
 mod flow;
 mod grow;
 mod law;
+mod literal;
 mod mark;
 mod notes;
 mod place;
@@ -33,15 +36,19 @@ mod places;
 mod plain;
 mod properties;
 mod quoted;
+mod read_back;
 mod resolve;
 mod scalar;
 mod stream;
+mod write_fault;
 mod writer;
 
+pub use document::Document;
 pub use fault::{Fault, FaultKind};
-pub use law::printed_texts_law;
+pub use law::{printed_texts_law, written_documents_law};
 pub use mark::{Warning, WarningKind};
 pub use place::Place;
 pub use places::{Places, Step};
-pub use stream::{Document, read};
-pub use writer::write;
+pub use read_back::{Reads, Yaml, write, write_for};
+pub use stream::read;
+pub use write_fault::WriteFault;

@@ -143,7 +143,7 @@ fn members_weight(members: &Map<String, Value>) -> usize {
 
 // Whether a value nests at most `room` deep.
 #[cycle(nests)]
-fn nests_within(value: &Value, room: usize) -> bool
+pub(crate) fn nests_within(value: &Value, room: usize) -> bool
     ensures { OnTrue result (depth (view value.now) ≤ room) }
 {
     match value {

@@ -1,13 +1,15 @@
-ghost use Rattle.std.specs.Prelude.{◌≡◌, ◌≤◌, IfErr, IsErrAnd, IsUtf8, OnOk};
+ghost use Rattle.std.specs.Prelude.{◌≡◌, ◌≤◌, [], ◌∷◌, IfErr, IfOk, IfSome, IsErrAnd, IsUtf8, OnOk, Some, option_map};
 ghost use Rattle.cj_yaml.specs.Places.{IsPlaceIn};
+ghost use Rattle.cj_yaml.specs.ReadOf.{IsReadOf, values};
 ghost use Rattle.cj_yaml.specs.declared.fault.FaultKind.TheVariants.{NotUtf8};
-ghost use Rattle.serde_json.specs.Data.{depth};
-ghost use Rattle.serde_json.specs.Read.{max_depth};
+ghost use Rattle.serde_json.specs.Data.{Data, depth};
+ghost use Rattle.serde_json.specs.Read as json;
 ghost use Rattle.serde_json.specs.View.{view};
 
 use crate::block::{Reader, Slot};
 use crate::chars::mark_len;
 use crate::cursor::Cursor;
+use crate::document::Document;
 use crate::fault::{Fault, FaultKind, Stop};
 use crate::mark::{Mark, Warning};
 use crate::notes::Notes;
@@ -17,28 +19,18 @@ use serde_json::Value;
 use std::alloc::Global;
 
 // The most levels that a value nests, as in JSON.
-const MAX_DEPTH: usize = 127;
+pub(crate) const MAX_DEPTH: usize = 127;
 
-/// A document of a stream.
-#[derive(Drop)]
-pub struct Document {
-    /// What it says; null where it is empty. It nests at most 127 levels deep.
-    pub value: Value,
-    /// Where the values in it stand.
-    pub places: Places,
-    /// What YAML 1.1 reads otherwise, in the order of the text.
-    pub warnings: Vec<Warning>,
-    ghost nests: { depth (view value) ≤ max_depth },
-}
-
-/// The documents of a stream, or its first fault.
+/// The documents of a stream, or its first fault. A JSON text is one document with the value that
+/// JSON gives it.
 pub fn read(alloc: Global, bytes: &[u8]) -> Result<Vec<Document>, Fault>
     ensures place { IfErr result (λ f. IsPlaceIn bytes.now f.place) }
+    ensures found { IfOk result (λ documents. IsReadOf bytes.now (values documents.items)) }
     ensures text { OnOk result (IsUtf8 bytes.now) }
     ensures no_text { ¬ (IsUtf8 bytes.now) → IsErrAnd result (λ f. f.kind ≡ NotUtf8) }
 {
     match simdutf8::compat::from_utf8(bytes) {
-        Ok(_) => match read_stream(alloc, bytes) {
+        Ok(_) => match read_text(alloc, bytes) {
             Ok(documents) => Ok(documents),
             Err(stop) => Err(Fault {
                 kind: stop.kind,
@@ -53,6 +45,60 @@ pub fn read(alloc: Global, bytes: &[u8]) -> Result<Vec<Document>, Fault>
 }
 
 // The documents of bytes in UTF-8.
+fn read_text(alloc: Global, bytes: &[u8]) -> Result<Vec<Document>, Stop>
+    requires { IsUtf8 bytes.now }
+    ensures { IfOk result (λ documents. (d : Data) → json.read bytes.now ≡ Some d
+        → values documents.items ≡ d ∷ []) }
+{
+    let documents = read_stream(alloc, bytes)?;
+    match json_value(alloc, bytes)? {
+        Some(value) => one_document(alloc, documents, value),
+        None => Ok(documents),
+    }
+}
+
+// The value of a JSON text.
+fn json_value(alloc: Global, bytes: &[u8]) -> Result<Option<Value>, Stop>
+    requires { IsUtf8 bytes.now }
+    ensures value { IfOk result (λ found. json.read bytes.now ≡ option_map view found) }
+    ensures nests { IfOk result (λ found. IfSome found (λ v. depth (view v) ≤ json.max_depth)) }
+{
+    match Value::from_slice(alloc, bytes) {
+        Ok(value) => Ok(Some(value)),
+        Err(error) if error.is_memory() => Err(Stop::new(FaultKind::OutOfMemory, 0)),
+        Err(_) => Ok(None),
+    }
+}
+
+// The document of a JSON text with the value that JSON gives it: `-0` isn't the number 0 there.
+fn one_document(
+    alloc: Global,
+    documents: Vec<Document>,
+    value: Value,
+) -> Result<Vec<Document>, Stop>
+    requires { depth (view value) ≤ json.max_depth }
+    ensures { IfOk result (λ found. values found.items ≡ view value ∷ []) }
+{
+    let mut documents = documents;
+    let Some(
+        Document {
+            places,
+            warnings,
+            ..
+        },
+    ) = documents.pop()
+    else {
+        return Err(Stop::new(FaultKind::FlowSyntax, 0));
+    };
+    let document = Document {
+        value,
+        places,
+        warnings,
+    };
+    Ok(Vec::from_array(alloc, [document])?)
+}
+
+// The documents of a stream in UTF-8.
 fn read_stream(alloc: Global, bytes: &[u8]) -> Result<Vec<Document>, Stop> {
     check_controls(bytes)?;
     let mut documents = Vec::new(alloc);

@@ -1,5 +1,6 @@
 use cj_program::{
-    Failure, FileBytes, MOST_READS, Text, ZoneFile, is_file_name, read_input, zones_named,
+    Failure, FileBytes, MOST_READS, Request, Text, ZoneFile, crontab_zones, is_file_name,
+    read_input, zones_named,
 };
 use memchr::memmem;
 use std::env;
@@ -84,6 +85,59 @@ pub fn push_input_files(
         }
     }
     Ok(())
+}
+
+// Whether a zone has a file here.
+fn has_file(files: &[ZoneFile], name: &str) -> bool {
+    files.iter().any(|file| file.name.as_str() == name)
+}
+
+// Whether a word gives a zone of that name its rule.
+fn is_rule_of(word: &str, name: &str) -> bool {
+    match word.split_once('=') {
+        Some((of, _)) => of == name,
+        None => false,
+    }
+}
+
+// Whether one of these words gives a zone its rule.
+fn has_rule(rules: &[&str], name: &str) -> bool {
+    rules.iter().any(|word| is_rule_of(word, name))
+}
+
+// Adds the file of a zone, unless it has one already or a rule.
+fn push_fresh(
+    rt: &HostRuntime,
+    files: &mut Vec<ZoneFile>,
+    folder: &str,
+    rules: &[&str],
+    name: &str,
+) -> Result<(), Failure> {
+    if has_file(files.as_slice(), name) || has_rule(rules, name) {
+        return Ok(());
+    }
+    push_file(rt, files, folder, name)
+}
+
+/// The files of the zones that a crontab and its request name.
+pub fn crontab_files(
+    rt: &HostRuntime,
+    request: &Request<'_>,
+    folder: &str,
+    input: &[u8],
+) -> Result<Vec<ZoneFile>, Failure> {
+    let mut files = Vec::new(rt.alloc());
+    let Request::Crontab(crontab) = request else {
+        return Ok(files);
+    };
+    let rules = crontab.zones.rules.as_slice();
+    let name = crontab.time_zone.unwrap_or("");
+    push_fresh(rt, &mut files, folder, rules, name)?;
+    let names = crontab_zones(rt.alloc(), input)?;
+    for name in names.as_slice() {
+        push_fresh(rt, &mut files, folder, rules, name.as_str())?;
+    }
+    Ok(files)
 }
 
 /// The files of the zones that the input names.

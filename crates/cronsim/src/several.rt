@@ -2,19 +2,71 @@ use crate::folder::{input_files, push_input_files};
 use crate::source::Input;
 use crate::streams::Output;
 use crate::taken::json_of;
-use crate::telling::{Served, at_terminal, tell, tell_more};
+use crate::telling::{Served, at_terminal, push_cause, tell, tell_more};
 use cj_program::{
     CheckRequest, CronFile, ExitStatus, Failure, FileAnswer, MOST_BYTES, MOST_LIST_BYTES,
     MOST_LIST_READS, MOST_READS, ReportRequest, UpcomingRequest, ZoneFile, check_file_answer,
-    read_input, serve_report, serve_several, serve_upcoming, shape_words, tell_failure,
+    fault_places, read_input, serve_report, serve_several, serve_upcoming, shape_words,
+    tell_failure,
 };
 use std::io;
 use std::io::Write;
 
-// Why a file can't be read, on a line for people.
-fn push_cause(causes: &mut Vec<u8>, name: &str, input: &Input) {
-    let cause = input.cause().unwrap_or("it can't be read, or is too long");
-    let _ = writeln!(causes, "{name}: {cause}");
+// What is said of a file that can't be read, where nobody knows the cause.
+const UNREAD: &str = "it can't be read, or is too long";
+
+// What people are told of files behind what is answered of them.
+#[derive(Drop)]
+struct Told {
+    lines: Vec<u8>,
+    // (whether nothing was told of the files yet)
+    is_first: bool,
+}
+
+// Adds what people are told of a file that was read: what it is, and where its faults stand.
+fn push_hints(
+    rt: &HostRuntime,
+    check: &CheckRequest<'_>,
+    name: &str,
+    files: &[ZoneFile],
+    source: &[u8],
+    lines: &mut Vec<u8>,
+) -> Result<(), Failure> {
+    let shape = shape_words(source);
+    if !shape.is_empty() {
+        let _ = write!(lines, "{name}: {shape}");
+    }
+    let places = fault_places(rt.alloc(), check, files, name, source)?;
+    let _ = lines.write_all(places.as_bytes());
+    Ok(())
+}
+
+// What is answered of the bytes of one of several files.
+fn bytes_answer<'a>(
+    rt: &HostRuntime,
+    check: &CheckRequest<'a>,
+    folder: &str,
+    name: &'a str,
+    bytes: Vec<u8>,
+    told: &mut Told,
+) -> Result<FileAnswer<'a>, Failure> {
+    let alloc = rt.alloc();
+    let source = if check.explain {
+        Vec::from_slice(alloc, bytes.as_slice())?
+    } else {
+        Vec::new(alloc)
+    };
+    let bytes = json_of(rt, Some(name), bytes, told.is_first)?;
+    let files = input_files(rt, folder, bytes.as_slice())?;
+    let answer = check_file_answer(alloc, check, name, files.as_slice(), &mut bytes.as_slice())?;
+    if check.explain {
+        let lines = &mut told.lines;
+        push_hints(rt, check, name, files.as_slice(), source.as_slice(), lines)?;
+    }
+    Ok(FileAnswer {
+        name,
+        answer: Some(answer),
+    })
 }
 
 // What is answered of one of several files; none where it can't be read.
@@ -23,28 +75,18 @@ fn answer_of<'a>(
     check: &CheckRequest<'a>,
     folder: &str,
     name: &'a str,
-    causes: &mut Vec<u8>,
+    told: &mut Told,
 ) -> Result<FileAnswer<'a>, Failure> {
-    let alloc = rt.alloc();
     let mut input = Input::open(rt, Some(name));
-    let bytes = match read_input(alloc, &mut input, MOST_BYTES, MOST_READS) {
-        Ok(bytes) => json_of(rt, Some(name), bytes)?,
-        Err(Failure::Memory) => return Err(Failure::Memory),
+    match read_input(rt.alloc(), &mut input, MOST_BYTES, MOST_READS) {
+        Ok(bytes) => bytes_answer(rt, check, folder, name, bytes, told),
+        Err(Failure::Memory) => Err(Failure::Memory),
         Err(_) => {
-            push_cause(causes, name, &input);
-            return Ok(FileAnswer { name, answer: None });
+            let cause = input.cause().unwrap_or(UNREAD);
+            push_cause(&mut told.lines, "check", name, cause, &input);
+            Ok(FileAnswer { name, answer: None })
         }
-    };
-    let files = input_files(rt, folder, bytes.as_slice())?;
-    let answer = check_file_answer(alloc, check, name, files.as_slice(), &mut bytes.as_slice())?;
-    let shape = shape_words(bytes.as_slice());
-    if check.explain && !shape.is_empty() {
-        let _ = write!(causes, "{name}: {shape}");
     }
-    Ok(FileAnswer {
-        name,
-        answer: Some(answer),
-    })
 }
 
 // Checks several files, one after another.
@@ -52,18 +94,22 @@ fn check_all<W: Write>(
     rt: &HostRuntime,
     check: &CheckRequest<'_>,
     folder: &str,
+    is_first: bool,
     out: &mut W,
 ) -> Result<Served, Failure> {
     let alloc = rt.alloc();
     let mut answers = Vec::new(alloc);
-    let mut causes = Vec::new(alloc);
+    let mut told = Told {
+        lines: Vec::new(alloc),
+        is_first,
+    };
     for name in check.files.as_slice() {
-        answers.push(answer_of(rt, check, folder, name, &mut causes)?)?;
+        answers.push(answer_of(rt, check, folder, name, &mut told)?)?;
     }
     let mut said = Vec::new(alloc);
     let status = serve_several(alloc, check, answers.as_slice(), out, &mut said);
     if check.explain || at_terminal(rt) {
-        let _ = said.write_all(causes.as_slice());
+        let _ = said.write_all(told.lines.as_slice());
     }
     Ok(Served { status, said })
 }
@@ -82,37 +128,41 @@ pub fn serve_files(
     folder: &str,
 ) -> Result<ExitStatus, Failure> {
     let mut out = Output::new(rt);
-    let first = check_all(rt, check, folder, &mut out)?;
+    let first = check_all(rt, check, folder, true, &mut out)?;
     let status = tell(rt, &first, out.is_closed());
     if wants_why(rt, check, &first) {
         check.explain = true;
-        let second = check_all(rt, check, folder, &mut io::sink())?;
+        let second = check_all(rt, check, folder, false, &mut io::sink())?;
         tell_more(rt, &first, &second);
     }
     Ok(status)
 }
 
 // All bytes of one of several files; none where it can't be read, which standard error says.
-fn bytes_of(rt: &HostRuntime, name: &str) -> Result<Option<Vec<u8>>, Failure> {
+fn bytes_of(rt: &HostRuntime, command: &str, name: &str) -> Result<Option<Vec<u8>>, Failure> {
     let mut input = Input::open(rt, Some(name));
     match read_input(rt.alloc(), &mut input, MOST_LIST_BYTES, MOST_LIST_READS) {
-        Ok(bytes) => Ok(Some(json_of(rt, Some(name), bytes)?)),
+        Ok(bytes) => Ok(Some(json_of(rt, Some(name), bytes, true)?)),
         Err(Failure::Memory) => Err(Failure::Memory),
         Err(failure) => {
             let err = &mut rt.stderr();
             let _ = tell_failure(failure, err);
-            let cause = input.cause().unwrap_or("it can't be read, or is too long");
-            let _ = writeln!(err, "{name}: {cause}");
+            let cause = input.cause().unwrap_or(UNREAD);
+            push_cause(err, command, name, cause, &input);
             Ok(None)
         }
     }
 }
 
 // The bytes of all files; none where one can't be read.
-fn all_bytes(rt: &HostRuntime, names: &[&str]) -> Result<Option<Vec<Vec<u8>>>, Failure> {
+fn all_bytes(
+    rt: &HostRuntime,
+    command: &str,
+    names: &[&str],
+) -> Result<Option<Vec<Vec<u8>>>, Failure> {
     let mut all = Vec::new(rt.alloc());
     for name in names {
-        match bytes_of(rt, name)? {
+        match bytes_of(rt, command, name)? {
             Some(bytes) => all.push(bytes)?,
             None => return Ok(None),
         }
@@ -161,7 +211,7 @@ pub fn serve_upcoming_files(
     folder: &str,
 ) -> Result<ExitStatus, Failure> {
     let alloc = rt.alloc();
-    let Some(all) = all_bytes(rt, upcoming.files.as_slice())? else {
+    let Some(all) = all_bytes(rt, "upcoming", upcoming.files.as_slice())? else {
         return Ok(ExitStatus::Failed);
     };
     let mut zone_files = Vec::new(alloc);
@@ -215,7 +265,7 @@ pub fn serve_report_files(
     folder: &str,
 ) -> Result<ExitStatus, Failure> {
     let alloc = rt.alloc();
-    let Some(all) = all_bytes(rt, report.files.as_slice())? else {
+    let Some(all) = all_bytes(rt, "report", report.files.as_slice())? else {
         return Ok(ExitStatus::Failed);
     };
     let mut zone_files = Vec::new(alloc);

@@ -44,6 +44,11 @@ impl Input {
         self.count > most
     }
 
+    /// Whether it is a directory.
+    pub fn is_folder(&self) -> bool {
+        matches!(self.source, Source::Unopened(ErrorKind::IsADirectory))
+    }
+
     /// Why the file could not be opened, for people.
     pub fn cause(&self) -> Option<&'static str> {
         match self.source {

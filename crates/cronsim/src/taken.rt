@@ -12,11 +12,16 @@ fn say(rt: &HostRuntime, name: Option<&str>, lines: &str) -> Result<(), Failure>
     Ok(())
 }
 
-/// What the commands take for the bytes of an input: of YAML its JSON. What there is to be said of
-/// it goes to standard error, with the name of the file where there are several.
-pub fn json_of(rt: &HostRuntime, name: Option<&str>, bytes: Vec<u8>) -> Result<Vec<u8>, Failure> {
+/// What the commands take for the bytes of an input: JSON of its objects. What there is to be said
+/// of it goes to standard error the first time, with the name of the file where there are several.
+pub fn json_of(
+    rt: &HostRuntime,
+    name: Option<&str>,
+    bytes: Vec<u8>,
+    is_first: bool,
+) -> Result<Vec<u8>, Failure> {
     let JsonInput { bytes, said } = json_input(rt.alloc(), bytes)?;
-    if !said.is_empty() {
+    if is_first && !said.is_empty() {
         say(rt, name, said.as_str())?;
     }
     Ok(bytes)

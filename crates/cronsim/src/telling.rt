@@ -2,7 +2,11 @@
 // answer, and at a terminal it says why a request is refused, as `--explain` does.
 use crate::source::Input;
 use crate::streams::Output;
-use cj_program::{ExitStatus, Failure, Meter, Request, ZoneFile, serve, shape_words, tell_failure};
+use cj_program::{
+    CheckRequest, ExitStatus, Failure, Meter, Request, ZoneFile, fault_places, serve, shape_words,
+    tell_failure,
+};
+use std::fs::metadata;
 use std::io;
 use std::io::{IsTerminal, Write};
 use std::sync::Wait;
@@ -18,6 +22,16 @@ pub struct Served {
 /// Whether people read what is said.
 pub fn at_terminal(rt: &HostRuntime) -> bool {
     rt.stderr().is_terminal()
+}
+
+/// Says at a terminal that what is typed there is read, where no pipe and no file is given.
+pub fn tell_waiting(rt: &HostRuntime, file: Option<&str>) {
+    if file == Some("-") && rt.stdin().is_terminal() && at_terminal(rt) {
+        let _ = writeln!(
+            rt.stderr(),
+            "cronsim: reading what is typed here, up to Ctrl-D; FILE names a file"
+        );
+    }
 }
 
 /// Says what there is to say, and answers the status. Where nobody reads the answer any more, as
@@ -61,7 +75,10 @@ pub fn explain(request: &mut Request<'_>) {
         Request::Audit(audit) => audit.explain = true,
         Request::Upcoming(upcoming) => upcoming.explain = true,
         Request::Describe(describe) => describe.explain = true,
+        Request::Previous(previous) => previous.explain = true,
         Request::Report(report) => report.explain = true,
+        Request::Crontab(crontab) => crontab.explain = true,
+        Request::Scenario(scenario) => scenario.explain = true,
         Request::Control(_) => {}
     }
 }
@@ -130,4 +147,59 @@ pub fn tell_shape(rt: &HostRuntime, request: &Request<'_>, status: ExitStatus, b
     }
     let file = request.file().unwrap_or("FILE");
     let _ = write!(&mut rt.stderr(), "{file}: {words}");
+}
+
+/// Says to people why a file can't be read; of a folder also how its files are named.
+pub fn push_cause<W: Write>(err: &mut W, command: &str, name: &str, cause: &str, input: &Input) {
+    let _ = writeln!(err, "{name}: {cause}");
+    if input.is_folder() && !command.is_empty() {
+        let folder = name.strip_suffix('/').unwrap_or(name);
+        let _ = writeln!(
+            err,
+            "{name}: its files are named one by one: cronsim {command} {folder}/*.yaml"
+        );
+    }
+}
+
+/// Says to people where the faults of manifests stand in the text that was read. That is looked at
+/// only where they are told why.
+pub fn tell_places(
+    rt: &HostRuntime,
+    check: &CheckRequest<'_>,
+    status: ExitStatus,
+    files: &[ZoneFile],
+    source: &[u8],
+) -> Result<(), Failure> {
+    let is_wanted = check.explain || status == ExitStatus::Refused && at_terminal(rt);
+    if is_wanted {
+        let name = check.files.as_slice().first().copied().unwrap_or("FILE");
+        let lines = fault_places(rt.alloc(), check, files, name, source)?;
+        let _ = rt.stderr().write_all(lines.as_bytes());
+    }
+    Ok(())
+}
+
+// The schedule of a request on one schedule.
+fn schedule_of<'a>(request: &Request<'a>) -> Option<&'a str> {
+    match request {
+        Request::Next(next) => Some(next.schedule),
+        Request::Describe(describe) => Some(describe.schedule),
+        Request::Previous(previous) => Some(previous.schedule),
+        _ => None,
+    }
+}
+
+/// Says to people that what they gave for a schedule is the name of a file.
+pub fn tell_file(rt: &HostRuntime, request: &Request<'_>, served: &Served) {
+    let is_wanted = request.explains() || at_terminal(rt);
+    let Some(name) = schedule_of(request) else {
+        return;
+    };
+    let is_schedule = served.said.as_slice().starts_with(b"cronsim: schedule ");
+    if is_wanted && is_schedule && metadata(rt, name).is_ok_and(|found| found.is_file()) {
+        let _ = writeln!(
+            &mut rt.stderr(),
+            "schedule: there is a file {name}; cronsim describe -f {name} describes its CronJobs"
+        );
+    }
 }

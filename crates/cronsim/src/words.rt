@@ -19,10 +19,11 @@ fn is_before(word: &str) -> bool {
 // Whether the value of the command's option may be a moment by the clock.
 fn takes_moment(command: &str, option: &str) -> bool {
     match command {
-        "check" | "why" => option == "--now",
-        "upcoming" => option == "--from",
+        "check" | "why" | "crontab" => option == "--now",
+        "upcoming" | "scenario" => option == "--from",
         "describe" => option == "--after",
-        "report" => option == "--now" || option == "--since",
+        "previous" => option == "--before",
+        "report" | "audit" => option == "--now" || option == "--since",
         _ => false,
     }
 }

@@ -43,6 +43,8 @@ pub fn without_names(
         Request::Audit(audit) => leave_out(rt, folder, &mut audit.zones.rules),
         Request::Upcoming(upcoming) => leave_out(rt, folder, &mut upcoming.zones.rules),
         Request::Report(report) => leave_out(rt, folder, &mut report.zones.rules),
+        Request::Crontab(crontab) => leave_out(rt, folder, &mut crontab.zones.rules),
+        Request::Scenario(scenario) => leave_out(rt, folder, &mut scenario.zones.rules),
         _ => Ok(()),
     }
 }
@@ -176,8 +178,14 @@ fn asked_zones(
     let mut asked = Vec::new(rt.alloc());
     match request {
         Request::Next(next) => push_words(rt, &mut asked, next.zone, next.time_zone)?,
+        Request::Describe(describe) if describe.is_in_file() => {
+            push_named(rt, &mut asked, &[], input)?;
+        }
         Request::Describe(describe) => {
             push_words(rt, &mut asked, describe.zone, describe.time_zone)?;
+        }
+        Request::Previous(previous) => {
+            push_words(rt, &mut asked, previous.zone, previous.time_zone)?;
         }
         _ => {
             if let Some(zones) = request.zones() {
@@ -227,7 +235,8 @@ fn may_lack_zone(rt: &HostRuntime, request: &Request<'_>, served: &Served) -> bo
     let is_wanted = request.explains() || at_terminal(rt);
     let is_refused = served.status == ExitStatus::Refused;
     let is_zone = served.said.as_slice().starts_with(b"cronsim: zone\n");
-    is_wanted && is_refused && (is_zone || request.zones().is_some())
+    let is_input = request.zones().is_some() || request.file().is_some();
+    is_wanted && is_refused && (is_zone || is_input)
 }
 
 /// Says to people which zones a refused request asks for and nobody knows: that there is no folder

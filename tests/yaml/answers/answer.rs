@@ -1,4 +1,4 @@
-use cj_yaml::{Document, Fault, Places, Step, read, write};
+use cj_yaml::{Document, Fault, Places, Step, WriteFault, read, write};
 use serde_json::{Map, Value};
 use std::alloc::{AllocError, Global};
 
@@ -70,13 +70,22 @@ fn document_value(alloc: Global, text: &[u8], document: Document) -> Result<Valu
         told.push(Value::String(format!(in alloc; "{warning}")?))?;
     }
     let shown = all_places(alloc, text, &places, &value)?;
-    let written = write(alloc, &value)?;
+    let written = written(alloc, &value)?;
     let mut members = Map::new(alloc);
     put(alloc, &mut members, "value", value)?;
     put(alloc, &mut members, "warnings", Value::Array(told))?;
     put(alloc, &mut members, "places", Value::Array(shown))?;
-    put(alloc, &mut members, "written", Value::String(written))?;
+    put(alloc, &mut members, "written", written)?;
     Ok(Value::Object(members))
+}
+
+// The text that is written of a value; null where none reads back.
+fn written(alloc: Global, value: &Value) -> Result<Value, AllocError> {
+    match write(alloc, value) {
+        Ok(text) => Ok(Value::String(text)),
+        Err(WriteFault::Memory) => Err(AllocError),
+        Err(_) => Ok(Value::Null),
+    }
 }
 
 // The places of a value and of those in it.

@@ -15,7 +15,8 @@ use cj_zone::Zone;
 use serde_json::{Value, json};
 use std::alloc::{AllocError, Global};
 
-fn time_values(alloc: Global, times: &[Seconds]) -> Result<Vec<Value>, Refusal>
+/// These times.
+pub(crate) fn time_values(alloc: Global, times: &[Seconds]) -> Result<Vec<Value>, Refusal>
     ensures ok { IfOk result (λ v. map view v.items ≡ map time_data times.now) }
     ensures err { IfErr result (λ e. e ≡ OutOfMemory) }
 {

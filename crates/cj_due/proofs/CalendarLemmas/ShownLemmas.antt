@@ -1,6 +1,7 @@
 -- The allowed minutes by their days.
 use Rattle.std.proofs.Common.{◌≡◌, ℕ, ◌+◌, ◌-◌, ◌*◌, ◌/◌, ◌%◌, ◌<◌, ◌≤◌, ◌&&◌, Bool, true, false, refl, sym, ap, ◌∙◌, arith, inl, inr, ℤ, pos, ◌*ℤ◌, unsigned_abs}
 use Rattle.std.proofs.lemmas.Bool.{cases_lt}
+use Rattle.std.proofs.lemmas.Bool.Decides.{nat_tests}
 use Rattle.std.specs.Int.{int_div_euclid, int_rem_euclid}
 use Rattle.jiff_core.proofs.SignedLemmas.{signed_arith}
 use Rattle.cj_schedule.specs.Matches.{Sets, has, matches_civil, matches_day}
@@ -59,6 +60,14 @@ minute_there : (s : Sets) (k : ℕ) → minute_at s k ≡ (minute_in_day s (k % 
 minute_there s k =
     let place : k / 1_440 * 1_440 + k % 1_440 ≡ k = omega arith in
     ap (minute_at s) (sym place) ∙ minute_at-day s (k / 1_440) (k % 1_440) (omega arith)
+
+-- Where two tests hold, the second does.
+and_right : (a b : Bool) → (a && b) ≡ true → b ≡ true
+and_right a b h = grind (arith, nat_tests)
+
+-- The day of an allowed minute is allowed.
+pub allowed_day : (s : Sets) (k : ℕ) → minute_at s k ≡ true → day_at s (k / 1_440) ≡ true
+allowed_day s k on = and_right (minute_in_day s (k % 1_440)) (day_at s (k / 1_440)) (sym (minute_there s k) ∙ on)
 
 -- No minute of a day that is not allowed is allowed.
 day_off : (s : Sets) (k day : ℕ) → k / 1_440 ≡ day → day_at s day ≡ false → minute_at s k ≡ false

@@ -41,7 +41,7 @@ fn next_by_hours(schedule: &Schedule, from: u8) -> Option<u64>
 }
 
 /// The least allowed minute of a day from `from` on.
-pub(crate) fn next_minute(schedule: &Schedule, from: u64) -> Option<u64>
+pub fn next_minute(schedule: &Schedule, from: u64) -> Option<u64>
     requires { from < 1_440 }
     ensures some { IfSome result (λ n. IsNext (minute_in_day schedule.now) from n) }
     ensures below { IfSome result (λ n. n < 1_440) }

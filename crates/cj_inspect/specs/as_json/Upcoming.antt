@@ -15,6 +15,7 @@ use Rattle.cj_upcoming.specs.json.Changes.{zone_changes_data}
 use Rattle.cj_upcoming.specs.json.Minutes.{minutes_data}
 use Rattle.cj_upcoming.specs.json.Standings.{AreStandingData}
 use Rattle.cj_json.specs.Values.{time_data}
+use Rattle.cj_inspect.specs.Nights.{IsNightData}
 use Rattle.cj_inspect.specs.declared.as_json.upcoming.Parts.{Parts}
 use Rattle.cj_inspect.specs.declared.cron_files.FileCrons.{FileCrons}
 use Rattle.cj_answers.specs.as_json.Forms.{IsJsonLine}
@@ -55,27 +56,32 @@ IsPeaksData most crons starts d =
     (peaks : List Minute) × IsPeaks most (minutes starts) peaks
     × (d ≡ minutes_data crons starts peaks)
 
--- where clocks are put, the CronJobs that start nothing, all minutes, and the fullest of them
+-- where clocks are put, what of that schedules name, the CronJobs that start nothing, all minutes,
+-- the fullest of them, and the starts of each CronJob
 pub record Told : Type 0 where
   pub changes : Data
+  pub clocks : Data
   pub idle : Data
   pub all_minutes : Data
   pub peaks : Data
+  pub summary : Data
 
 abbrev pub told_in : Parts → Told
 told_in p =
     record {
       changes = view p.changes;
+      clocks = view p.clocks;
       idle = view p.idle;
       all_minutes = view p.all_minutes;
-      peaks =
-          view p.peaks;
+      peaks = view p.peaks;
+      summary = view p.summary;
     }
 
 -- the members of the value for these starts
 pub record AreParts (zones : List Zone) (w : Span) (crons : List ClusterCron) (most : ℕ)
     (starts : List Start) (p : Told) : Type 0 where
   pub changes : p.changes ≡ zone_changes_data zones w (named [] crons)
+  pub clocks : IsNightData p.clocks
   pub idle : IsIdleData zones w.from crons p.idle
   pub all_minutes : p.all_minutes ≡ minutes_data crons starts (minutes starts)
   pub peaks : IsPeaksData most crons starts p.peaks
@@ -83,6 +89,7 @@ pub record AreParts (zones : List Zone) (w : Span) (crons : List ClusterCron) (m
 abbrev pub upcoming_object : Data → Data → ℕ → ℕ → Data → Told → Data
 upcoming_object from to crons starts files p = object (
     member (codes "changes") p.changes (
+    member (codes "clockChanges") p.clocks (
     member (codes "cronJobs") (number (unsigned crons)) (
     member (codes "files") files (
     member (codes "from") from (
@@ -90,11 +97,13 @@ upcoming_object from to crons starts files p = object (
     member (codes "minutes") p.all_minutes (
     member (codes "peaks") p.peaks (
     member (codes "starts") (number (unsigned starts)) (
-    member (codes "to") to no_members)))))))))
+    member (codes "summary") p.summary (
+    member (codes "to") to no_members)))))))))))
 
--- where clocks are put, how many CronJobs are meant, the items of the files that can't be used, the
--- window's start, the CronJobs that start nothing, the minutes in which something starts, the
--- fullest of them, how many starts there are, and the window's end
+-- where clocks are put, what of that schedules name, how many CronJobs are meant, the items of the
+-- files that can't be used, the window's start, the CronJobs that start nothing, the minutes in
+-- which something starts, the fullest of them, how many starts there are, those of each CronJob,
+-- and the window's end
 -- rule: upcoming-json
 abbrev pub upcoming_data : Span → ℕ → ℕ → Data → Told → Data
 upcoming_data w crons starts files p =

@@ -10,9 +10,11 @@ ghost use Rattle.cj_answers.specs.Outcome.{explained, outcome_of};
 ghost use Rattle.cj_inspect.specs.Why.{IsWhyJson, PrintsJson, meant_of, valued};
 ghost use Rattle.cj_inspect.specs.as_json.Why.{why_data, why_object};
 
+use crate::as_json::nights::nights_value;
 use crate::calls::calls_values;
+use crate::nights::Look;
 use crate::why::lines::is_fine;
-use cj_answers::{Answer, ending_by, is_read, note_words, value_line};
+use cj_answers::{Answer, ending_by, is_read, note_words, object_of, value_line};
 use cj_args::WhyRequest;
 use cj_audit::{others_value, refused_value};
 use cj_base::{Refusal, both};
@@ -21,44 +23,51 @@ use cj_io::Failure;
 use cj_types::{Seconds, Shared};
 use cj_why::{cron_values, problems};
 use cj_zone::{ZoneTable, time_text};
-use serde_json::{Value, json};
+use serde_json::Value;
 use std::alloc::{AllocError, Global};
+
+// The names of its members.
+const WHY_NAMES: &[&str] = &[
+    "calls",
+    "clockChanges",
+    "cronJobs",
+    "now",
+    "others",
+    "refused",
+];
 
 fn why_object(
     alloc: Global,
     calls: Value,
+    clocks: Value,
     crons: Value,
     now: Value,
-    others: Value,
-    refused: Value,
+    items: (Value, Value),
 ) -> Result<Value, AllocError>
-    ensures { IfOk result (λ v. view v
-        ≡ why_object (view calls) (view crons) (view now) (view others) (view refused)) }
+    ensures { IfOk result (λ v. view v ≡ why_object (view calls) (view clocks) (view crons)
+        (view now) (view items.0) (view items.1)) }
 {
-    json!(in alloc; {
-        "calls": calls,
-        "cronJobs": crons,
-        "now": now,
-        "others": others,
-        "refused": refused
-    })
+    let (others, refused) = items;
+    let values = [calls, clocks, crons, now, others, refused];
+    object_of(alloc, WHY_NAMES, values)
 }
 
 fn why_value(
     alloc: Global,
     now: Seconds,
     calls: Vec<Value>,
+    clocks: Value,
     crons: Vec<Value>,
     notes: &[ItemNote],
 ) -> Result<Value, Refusal>
-    ensures ok { IfOk result (λ v. view v
-        ≡ why_data now (map view calls.items) (map view crons.items) notes.now) }
+    ensures ok { IfOk result (λ v. view v ≡ why_data now (map view calls.items) (view clocks)
+        (map view crons.items) notes.now) }
     ensures err { IfErr result (λ e. e ≡ OutOfMemory) }
 {
     let (calls, crons) = (Value::Array(calls), Value::Array(crons));
     let now = Value::String(time_text(alloc, now)?);
-    let (others, refused) = both(others_value(alloc, notes), refused_value(alloc, notes))?;
-    Ok(why_object(alloc, calls, crons, now, others, refused)?)
+    let items = both(others_value(alloc, notes), refused_value(alloc, notes))?;
+    Ok(why_object(alloc, calls, clocks, crons, now, items)?)
 }
 
 // What is known of these CronJobs of a list that these bytes are, on a line.
@@ -76,8 +85,9 @@ fn why_line(
     ensures err { IfErr result (λ e. e ≡ OutOfMemory) }
 {
     let calls = calls_values(alloc, zones, bytes, &list.cluster, lined, now)?;
+    let clocks = nights_value(alloc, zones, &Look::Around(now), lined)?;
     let crons = cron_values(alloc, zones, &list.cluster, lined, now)?;
-    let value = why_value(alloc, now, calls, crons, list.notes.as_slice())?;
+    let value = why_value(alloc, now, calls, clocks, crons, list.notes.as_slice())?;
     Ok(value_line(alloc, &value)?)
 }
 

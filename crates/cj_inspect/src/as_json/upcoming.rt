@@ -7,8 +7,11 @@ ghost use Rattle.cj_upcoming.specs.Upcoming.{HasMore};
 ghost use Rattle.cj_upcoming.specs.declared.fault.StartsFault.TheVariants.{TooMany};
 ghost use Rattle.cj_inspect.specs.as_json.Upcoming.{AreParts, IsIdleData, IsWindowJson, TellsStarts, file_data, file_object, files_data, name_data, told_in, upcoming_data, upcoming_object};
 
+use crate::as_json::nights::nights_value;
+use crate::as_json::summary::summary_value;
 use crate::cron_files::FileCrons;
-use cj_answers::value_line;
+use crate::windows::window_look;
+use cj_answers::{object_of, value_line};
 use cj_audit::{others_value, refused_value};
 use cj_base::{all_four, both};
 use cj_cluster::ClusterCron;
@@ -85,9 +88,11 @@ pub(crate) fn files_value(
 #[derive(Drop)]
 pub(crate) struct Parts {
     changes: Value,
+    clocks: Value,
     idle: Value,
     all_minutes: Value,
     peaks: Value,
+    summary: Value,
 }
 
 fn idle_value(
@@ -115,6 +120,8 @@ fn parts_of(
         starts.now (told_in p)) }
     ensures err { IfErr result (λ e. e ≡ OutOfMemory) }
 {
+    let clocks = nights_value(alloc, zones, &window_look(window), crons)?;
+    let summary = summary_value(alloc, zones, window, crons)?;
     let (changes, idle, all_minutes, peaks) = all_four(
         zone_changes_value(alloc, zones, window, crons),
         idle_value(alloc, zones, window.from(), crons),
@@ -123,11 +130,28 @@ fn parts_of(
     )?;
     Ok(Parts {
         changes,
+        clocks,
         idle,
         all_minutes,
         peaks,
+        summary,
     })
 }
+
+// The names of its members.
+const UPCOMING_NAMES: &[&str] = &[
+    "changes",
+    "clockChanges",
+    "cronJobs",
+    "files",
+    "from",
+    "idle",
+    "minutes",
+    "peaks",
+    "starts",
+    "summary",
+    "to",
+];
 
 fn upcoming_object(
     alloc: Global,
@@ -140,24 +164,29 @@ fn upcoming_object(
         counts.1 (view files) (told_in parts)) }
 {
     let (from, to) = ends;
-    let (crons, starts) = counts;
+    let (crons, starts) = (Value::from(counts.0), Value::from(counts.1));
     let Parts {
         changes,
+        clocks,
         idle,
         all_minutes,
         peaks,
+        summary,
     } = parts;
-    json!(in alloc; {
-        "changes": changes,
-        "cronJobs": crons,
-        "files": files,
-        "from": from,
-        "idle": idle,
-        "minutes": all_minutes,
-        "peaks": peaks,
-        "starts": starts,
-        "to": to
-    })
+    let values = [
+        changes,
+        clocks,
+        crons,
+        files,
+        from,
+        idle,
+        all_minutes,
+        peaks,
+        starts,
+        summary,
+        to,
+    ];
+    object_of(alloc, UPCOMING_NAMES, values)
 }
 
 fn upcoming_value(

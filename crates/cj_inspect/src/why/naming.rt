@@ -19,7 +19,16 @@ fn key_text(alloc: Global, key: &Key) -> Result<String, AllocError>
     format!(in alloc; "{namespace}/{name}")
 }
 
-fn is_within(within: Option<&str>, namespace: &str) -> bool
+/// Namespace and name.
+pub(crate) fn key_text_of(
+    alloc: Global,
+    namespace: &str,
+    name: &str,
+) -> Result<String, AllocError> {
+    format!(in alloc; "{namespace}/{name}")
+}
+
+pub(crate) fn is_within(within: Option<&str>, namespace: &str) -> bool
     ensures { result ≡ is_within (option_map (λ s. s.now) within.entry) namespace.now }
 {
     match within {
@@ -49,7 +58,7 @@ fn is_called(within: Option<&str>, text: &str, key: &str, namespace: &str, name:
 }
 
 // Whether the CronJob is called one of the texts.
-fn is_called_one(
+pub(crate) fn is_called_one(
     within: Option<&str>,
     texts: &[&str],
     key: &str,
@@ -65,7 +74,7 @@ fn is_called_one(
         .any(|text| is_called(within, text, key, namespace, name))
 }
 
-fn has_no_text(texts: &[&str]) -> bool
+pub(crate) fn has_no_text(texts: &[&str]) -> bool
     ensures { result ≡ is_nothing texts.now }
 {
     texts.is_empty()
@@ -204,7 +213,7 @@ fn push_unknown(
 }
 
 // A line for each text that no CronJob is called.
-fn unknown_lines(
+pub(crate) fn unknown_lines(
     alloc: Global,
     within: Option<&str>,
     texts: &[&str],
@@ -239,7 +248,11 @@ fn is_told(within: Option<&str>, texts: &[&str], note: &ItemNote) -> bool
 }
 
 // Those of the notes that are told of.
-fn told_items(within: Option<&str>, texts: &[&str], mut items: Vec<ItemNote>) -> Vec<ItemNote>
+pub(crate) fn told_items(
+    within: Option<&str>,
+    texts: &[&str],
+    mut items: Vec<ItemNote>,
+) -> Vec<ItemNote>
     ensures { result.items
         ≡ filter (is_told (option_map (λ s. s.now) within.entry) texts.now) items.items }
 {

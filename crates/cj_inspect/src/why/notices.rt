@@ -43,8 +43,12 @@ pub(crate) fn has_note(namespace: &str, notes: &[ItemNote]) -> bool
     notes.iter().any(|note| is_noted_in(namespace, &note.cron))
 }
 
-// Whether a CronJob is in the namespace that is given, if one is.
-fn has_home(within: Option<&str>, list: &ClusterList, crons: &[Shared<ClusterCron>]) -> bool
+/// Whether a CronJob is in the namespace that is given, if one is.
+pub(crate) fn has_home(
+    within: Option<&str>,
+    list: &ClusterList,
+    crons: &[Shared<ClusterCron>],
+) -> bool
     requires { crons.now ≡ map.values list.now.cluster.crons }
     ensures { result ≡ has_home (option_map (λ s. s.now) within.entry) list.now }
 {

@@ -4,6 +4,7 @@ ghost use Rattle.cj_base.specs.declared.refusal.Refusal.TheVariants.{OutOfMemory
 
 use crate::axis::moment_text;
 use crate::heat::cells::{fullest, push_cells};
+use crate::heat::clocks::push_clocks;
 use crate::heat::grid::Grid;
 use crate::heat::rows::{push_minutes, push_rows};
 use crate::page::{line_count, push_frame, push_notes};
@@ -65,7 +66,8 @@ fn push_all(
 /// A picture of what starts in a window, as SVG: a row an hour, a column a minute, by UTC, and a
 /// cell for each minute in which something starts, the stronger the more, with its time, its count
 /// and the names of the CronJobs as its title. The sum of an hour is at its right, and these words,
-/// line by line, are below. The starts are in order, and name these CronJobs by their places.
+/// line by line, are below; each that says when a clock is put has a mark at its minute. The starts
+/// are in order, and name these CronJobs by their places.
 ///
 /// No more than 400 hours are drawn; that there are more is said.
 ///
@@ -94,6 +96,7 @@ pub fn heat_picture(
     push_frame(alloc, &mut text, 1040, height, "Starts by minute")?;
     push_caption(alloc, &mut text, window, crons.len(), starts.len(), most)?;
     push_all(alloc, &mut text, grid, crons, starts, minutes)?;
+    push_clocks(alloc, &mut text, grid, notes)?;
     push_notes(alloc, &mut text, top, notes)?;
     text.push_str("</svg>\n")?;
     Ok(text)

@@ -4,7 +4,7 @@ ghost use Rattle.cj_base.specs.declared.refusal.Refusal.TheVariants.{OutOfMemory
 ghost use Rattle.std.specs.FinMap as map;
 ghost use mathlib.Core.List.{reverse};
 ghost use Rattle.cj_world.specs.Worlds.{state_in};
-ghost use Rattle.cj_program.specs.remarks.Remarks.{IsAskedRemark, IsRemark, remark_words};
+ghost use Rattle.cj_program.specs.remarks.Remarks.{HasNights, IsAskedRemark, IsRemark, remark_words};
 ghost use Rattle.cj_program.specs.remarks.Standings as said;
 ghost use Rattle.cj_program.specs.remarks.Standings.{AreGapsOf};
 ghost use Rattle.cj_program.specs.remarks.Suspended.{suspended_lines};
@@ -18,6 +18,7 @@ use crate::remarks::suspended::suspended_text;
 use cj_calls::Entry;
 use cj_history::{Gap, Standing, all_gaps_of};
 use cj_hub::Closed;
+use cj_inspect::{Look, nights_text};
 use cj_io::Failure;
 use cj_script::Span;
 use cj_types::Refusal;
@@ -88,6 +89,25 @@ pub(crate) fn gaps_in(
     all_gaps_of(alloc, entries_of(closed), standing.as_slice(), at)
 }
 
+// The text, with the local times behind it that a clock skips, or shows twice, while the run's
+// clock goes on, and that a CronJob's schedule names.
+fn with_nights(
+    alloc: Global,
+    span: &Span,
+    zones: &ZoneTable,
+    closed: &Closed,
+    mut text: String,
+) -> Result<String, Refusal>
+    ensures { IfOk result (λ s. HasNights span.now zones.now closed.now (string_bytes text)
+        (string_bytes s)) }
+{
+    let (crons, _) = closed.objects()?;
+    let look = Look::Within(span.start(), last_instant(span));
+    let nights = nights_text(alloc, zones, &look, crons.as_slice())?;
+    text.push_str(nights.as_str())?;
+    Ok(text)
+}
+
 // What is said of a closed history.
 fn remark(
     alloc: Global,
@@ -100,7 +120,8 @@ fn remark(
 {
     let mut gaps = gaps_in(alloc, span, zones, closed)?;
     sort(&mut gaps)?;
-    text_of(alloc, most, span, closed, gaps.as_slice())
+    let text = text_of(alloc, most, span, closed, gaps.as_slice())?;
+    with_nights(alloc, span, zones, closed, text)
 }
 
 /// What is said to people of a run under this clock, and with these zones, where they ask for it.

@@ -3,7 +3,7 @@ use Rattle.cj_args.proofs.command.why_command.Goals as goal
 
 pub returns : goal.returns
 returns c =
-    let one = c.with_arg-command.ensures _ _ c.file_command-command.ensures c.option_arg.ensures in
+    let one = c.with_arg-command.ensures _ _ c.cluster_command-command.ensures c.option_arg.ensures in
     let two = c.with_arg-command-2.ensures _ _ one c.crons_arg.ensures in
     let three = c.with_arg-command-3.ensures _ _ two c.namespace_arg.ensures in
     let four = c.with_arg-command-4.ensures _ _ three c.all_arg.ensures in

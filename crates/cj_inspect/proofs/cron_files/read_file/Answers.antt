@@ -9,12 +9,12 @@ pub returns-in_ok-read-in-None-clause-read : goal.returns-in_ok-read-in-None-cla
 returns-in_ok-read-in-None-clause-read c =
     let zones = zones_of c.args.zones.now in
     let bytes = c.args.file.now.bytes.now in
-    let list = c.in_ok-list-in-None.list in
+    let list = c.in_ok-found-in-None.found.list in
     inr (record {
       none = subst (λ m. MatchOption m (DraftsNone zones bytes) (Drafts zones bytes)) c.in-None.is
           c.in_ok-draft.ensures.read;
       list = list;
-      read = c.in_ok-list-in-None.ensures.read;
+      read = c.in_ok-found-in-None.ensures.read;
       listed = subst (λ (n : List ℕ). IsListed n list c.in_ok-read-in-None.read) c.in_ok-name.ensures.ok
           c.in_ok-read-in-None.ensures.ok;
     })

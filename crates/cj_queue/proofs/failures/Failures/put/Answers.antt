@@ -11,7 +11,8 @@ use Rattle.cj_queue.proofs.failures.Failures.put.Goals as goal
 pub returns-clause-ok : goal.returns-clause-ok
 returns-clause-ok c =
     let h : is_err c.insert.result ≡ false = cc (c.is_err.ensures.value, c.if-is_err.false) in
-    let sets = subst (λ k. SetsTime c.self.inside.counts c.insert.new.self k c.args.count) c.in_ok-copy.ensures.ok
+    let sets = subst (λ k. SetsTime c.self.inside.counts.entries c.insert.new.self.entries k c.args.count)
+    c.in_ok-copy.ensures.ok
     (ok_of c.insert.result _ h c.insert.ensures.updates).0 in
     inserted_at c.self.inside.counts.entries c.insert.new.self.entries c.args.key.now c.args.count sets
     ∙ ap (λ (m : Counts). map.insert m c.args.key.now c.args.count) c.self.view_is

@@ -1,25 +1,37 @@
--- Work::add: its clause row, by where the key is, and the type's invariant where it goes last.
-use Rattle.std.proofs.Common.{sym, ap, ◌∙◌}
+-- Work::add: its clause row, by whether the key goes into the line, and the type's invariant where it does.
+use Rattle.std.proofs.Common.{◌≡◌, ◌++◌, ◌∷◌, [], not, is_some, sym, ap, ◌∙◌}
 use Rattle.cj_queue.specs.Queue.{row_add}
-use Rattle.cj_queue.proofs.RowLemmas.{add_held, add_last, kept_last, same_places}
+use Rattle.cj_queue.specs.Parts.{stage_of}
+use Rattle.cj_queue.proofs.StageLemmas.{added_last, added_known, staged_added, ok_part, ok_value}
 use Rattle.cj_queue.proofs.work.Work.add.Goals as goal
 
-pub returns-then-contains-clause-row : goal.returns-then-contains-clause-row
-returns-then-contains-clause-row c =
-    let held = sym c.contains.ensures ∙ c.if-contains.true in
-    sym (add_held c.self.inside.line.keys c.self.inside.again.keys c.put.new.set.keys c.self.inside.processing.keys
-    c.args.key held c.put.ensures.updates.0)
+pub invariant_of-self : goal.invariant_of-self
+invariant_of-self c =
+    let line = c.self.inside.line.items in
+    let stages = c.self.inside.stages.entries in
+    let goes = ok_value c.admit.result c.unwrap.result (λ goes. goes ≡ not (is_some (stage_of stages c.args.key)))
+    c.unwrap.ensures c.admit.ensures.goes in
+    staged_added line c.push_back_reserved.new.self.items stages c.admit.new.stages.entries c.args.key c.self.invariant
+    (ok_part c.admit.result c.unwrap.result _ c.unwrap.ensures c.admit.ensures.stage) (sym goes ∙ c.if-unwrap.true)
+    (c.push_back_reserved.ensures.items ∙ ap (λ k. line ++ k ∷ []) c.requires.same)
+
+pub returns-then-unwrap-clause-row : goal.returns-then-unwrap-clause-row
+returns-then-unwrap-clause-row c =
+    let line = c.self.inside.line.items in
+    let stages = c.self.inside.stages.entries in
+    let goes = ok_value c.admit.result c.unwrap.result (λ goes. goes ≡ not (is_some (stage_of stages c.args.key)))
+    c.unwrap.ensures c.admit.ensures.goes in
+    sym (added_last line c.push_back_reserved.new.self.items stages c.admit.new.stages.entries c.args.key
+    c.self.invariant (ok_part c.admit.result c.unwrap.result _ c.unwrap.ensures c.admit.ensures.stage)
+    (sym goes ∙ c.if-unwrap.true)
+    (c.push_back_reserved.ensures.items ∙ ap (λ k. line ++ k ∷ []) c.requires.same))
     ∙ ap (λ v. row_add v.row c.args.key) c.self.view_is
 
-pub invariant_of-self-else-contains : goal.invariant_of-self-else-contains
-invariant_of-self-else-contains c =
-    kept_last c.self.inside.line.keys c.push.new.self.keys c.self.inside.again.keys c.self.inside.processing.keys
-    c.self.inside.line.places c.push.new.self.places c.args.key c.self.invariant
-    (sym c.contains.ensures ∙ c.if-contains.false) c.push.ensures.keys
-    (same_places c.self.inside.line.places c.push.new.self.places c.push.ensures.places)
-
-pub returns-else-contains-clause-row : goal.returns-else-contains-clause-row
-returns-else-contains-clause-row c =
-    sym (add_last c.self.inside.line.keys c.push.new.self.keys c.self.inside.again.keys c.self.inside.processing.keys
-    c.args.key c.self.invariant.lined (sym c.contains.ensures ∙ c.if-contains.false) c.push.ensures.keys)
+pub returns-else-unwrap-clause-row : goal.returns-else-unwrap-clause-row
+returns-else-unwrap-clause-row c =
+    let stages = c.self.inside.stages.entries in
+    let goes = ok_value c.admit.result c.unwrap.result (λ goes. goes ≡ not (is_some (stage_of stages c.args.key)))
+    c.unwrap.ensures c.admit.ensures.goes in
+    sym (added_known c.self.inside.line.items stages c.admit.new.stages.entries c.args.key c.self.invariant
+    (ok_part c.admit.result c.unwrap.result _ c.unwrap.ensures c.admit.ensures.stage) (sym goes ∙ c.if-unwrap.false))
     ∙ ap (λ v. row_add v.row c.args.key) c.self.view_is

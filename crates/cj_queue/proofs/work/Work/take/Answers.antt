@@ -1,34 +1,22 @@
--- Work::take: its clause ok, and the type's invariant, where the line has a first key.
-use Rattle.std.proofs.Common.{◌≡◌, Some, true, cond, sym, ap, ◌∙◌}
-use Rattle.cj_queue.specs.Queue.{row_take, first}
-use Rattle.cj_queue.specs.Parts.{key_eq}
-use Rattle.cj_queue.proofs.RowLemmas.{Sets, take_is, lined_take, placed_take}
+-- Work::take: its clause row and the type's invariant, where the line has a first key, which has a stage.
+use Rattle.std.proofs.Common.{sym, ap, ◌∙◌}
+use Rattle.cj_queue.specs.Queue.{row_take}
+use Rattle.cj_queue.proofs.StageLemmas.{head_has, staged_taken, taken}
 use Rattle.cj_queue.proofs.work.Work.take.Goals as goal
+
+pub set_stage-requires : goal.set_stage-requires
+set_stage-requires c = record {
+  there = head_has c.self.inside.line.items c.pop_front.new.self.items c.self.inside.stages.entries c.in-Some.key
+      c.self.invariant c.in-Some.ensures.items;
+}
 
 pub invariant_of-self-2 : goal.invariant_of-self-2
 invariant_of-self-2 c =
-    let head : first c.self.inside.line.keys ≡ Some c.in_ok-copy.copy = cc (c.in-Some.ensures, c.in_ok-copy.ensures.ok)
-    in
-    let sets : Sets c.self.inside.processing.keys c.put.new.set.keys c.in_ok-copy.copy true
-    = λ q. c.put.ensures.updates.0 q
-    ∙ ap (cond (key_eq c.in_ok-copy.copy q) true) (c.make_room.ensures.same q) in
-    record {
-      lined = lined_take c.self.inside.line.keys c.pop_first.new.self.keys c.self.inside.again.keys
-          c.self.inside.processing.keys c.put.new.set.keys c.in_ok-copy.copy c.self.invariant.lined head
-          c.pop_first.ensures.keys sets;
-      placed = placed_take c.self.inside.line.keys c.self.inside.again.keys c.self.inside.processing.keys
-          c.self.inside.line.places c.pop_first.new.self.places c.self.invariant.lined c.self.invariant.placed
-          c.pop_first.ensures.kept;
-    }
+    staged_taken c.self.inside.line.items c.pop_front.new.self.items c.self.inside.stages.entries
+    c.set_stage.new.stages.entries c.in-Some.key c.self.invariant c.in-Some.ensures.items c.set_stage.ensures.stage
 
-pub returns-clause-ok : goal.returns-clause-ok
-returns-clause-ok c =
-    let head : first c.self.inside.line.keys ≡ Some c.in_ok-copy.copy = cc (c.in-Some.ensures, c.in_ok-copy.ensures.ok)
-    in
-    let sets : Sets c.self.inside.processing.keys c.put.new.set.keys c.in_ok-copy.copy true
-    = λ q. c.put.ensures.updates.0 q
-    ∙ ap (cond (key_eq c.in_ok-copy.copy q) true) (c.make_room.ensures.same q) in
-    sym (take_is c.self.inside.line.keys c.pop_first.new.self.keys c.self.inside.again.keys
-    c.self.inside.processing.keys
-    c.put.new.set.keys c.in_ok-copy.copy c.self.invariant.lined head c.pop_first.ensures.keys sets)
+pub returns-clause-row : goal.returns-clause-row
+returns-clause-row c =
+    sym (taken c.self.inside.line.items c.pop_front.new.self.items c.self.inside.stages.entries
+    c.set_stage.new.stages.entries c.in-Some.key c.self.invariant c.in-Some.ensures.items c.set_stage.ensures.stage)
     ∙ ap (λ v. row_take v.row) c.self.view_is

@@ -1,0 +1,13 @@
+-- of_plain: its clause where the documents are taken.
+use Rattle.std.proofs.Common.{◌≡◌, inl, inr, rules}
+use Rattle.std.proofs.lemmas.Result.{IfOk-weaker}
+use Rattle.cj_manifest.specs.Reading.{IsNoValue}
+use Rattle.cj_answers.specs.Json.{shape_of}
+use Rattle.cj_answers.specs.declared.json.TextShape.TheVariants.{Plain}
+use Rattle.cj_answers.proofs.inputs.of_plain.Goals as goal
+
+pub returns-then-any : goal.returns-then-any
+returns-then-any c =
+    let asked : IsNoValue c.args.bytes.items × (shape_of c.args.bytes.items ≡ Plain) = search rules in
+    IfOk-weaker c.of_documents.result _ _
+    (λ t h. inr (inl (record { none = asked.0; shape = asked.1; value = h.0; text = h.1 }))) c.of_documents.ensures

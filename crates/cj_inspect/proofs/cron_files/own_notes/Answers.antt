@@ -1,0 +1,7 @@
+-- own_notes: its clause, by the calls of the test that ran.
+use Rattle.std.proofs.Common.{rules}
+use Rattle.std.proofs.lemmas.Fn.{filter_same}
+use Rattle.cj_inspect.proofs.cron_files.own_notes.Goals as goal
+
+pub returns : goal.returns
+returns c = filter_same _ _ _ (λ x b f' k. search rules) _ _ c.retain.ensures.filtered
