@@ -3,9 +3,9 @@ use Rattle.std.specs.Prelude.{◌≡◌, ◌≢◌, ℕ, List, [], ◌∷◌, �
 use Rattle.std.specs.List.{list_all}
 use Rattle.cj_base.specs.declared.faults.FieldFault.{FieldFault}
 use Rattle.cj_explain.specs.Faults.{fault_words}
+use Rattle.cj_explain.specs.Taken.{kind_name, taken_message}
 use Rattle.cj_cluster.specs.declared.kubectl.notes.ItemNote.{ItemNote}
 use Rattle.cj_cluster.specs.declared.kubectl.notes.ListedKind.{ListedKind}
-use Rattle.cj_cluster.specs.declared.kubectl.notes.ListedKind.TheVariants as Of
 use Rattle.cj_cluster.specs.declared.kubectl.notes.Said.{Said}
 use Rattle.cj_cluster.specs.declared.kubectl.notes.Said.TheVariants as Was
 use Rattle.cj_cluster.specs.declared.kubectl.fault.ListFault.{ListFault}
@@ -27,10 +27,6 @@ item_prefix n = codes "item " ++ (decimal n ++ codes " ")
 abbrev pub item_fault_lines : ℕ → List FieldFault → List ℕ
 item_fault_lines n [] = []
 item_fault_lines n (f ∷ fs) = (item_prefix n ++ fault_line f) ++ item_fault_lines n fs
-
-abbrev pub kind_name : ListedKind → List ℕ
-kind_name Of.Cron = codes "CronJob"
-kind_name Of.Run = codes "Job"
 
 -- `duplicate KIND NAMESPACE/NAME`
 abbrev pub taken_line : ListedKind → List ℕ → List ℕ
@@ -57,9 +53,7 @@ item_fault_words n (f ∷ fs) = (item_prefix n ++ fault_words f) ++ item_fault_w
 
 -- rule: cluster-explained
 abbrev pub taken_words : ListedKind → List ℕ → List ℕ
-taken_words kind key =
-    codes "duplicate: two "
-    ++ (kind_name kind ++ (codes "s are named " ++ (key ++ codes "; the first one is read\n")))
+taken_words kind key = codes "duplicate: " ++ (taken_message kind key ++ codes "\n")
 
 abbrev pub said_words : ℕ → Said → List ℕ
 said_words n (Was.Kind kind) = []

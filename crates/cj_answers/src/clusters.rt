@@ -10,7 +10,7 @@ use crate::json::json_words;
 use crate::lines::print_fault;
 use cj_base::FieldFault;
 use cj_cluster::{ItemNote, ListFault, ListedKind, Said};
-use cj_explain::explain_fault;
+use cj_explain::{explain_fault, kind_name, taken_message};
 use cj_io::Failure;
 use std::alloc::{AllocError, Global};
 
@@ -50,15 +50,6 @@ fn kind_line(alloc: Global, kind: &str) -> Result<String, AllocError>
     ensures { IfOk result (λ s. string_bytes s ≡ codes "kind " ++ (kind.now ++ codes "\n")) }
 {
     format!(in alloc; "kind {kind}\n")
-}
-
-fn kind_name(kind: ListedKind) -> &'static str
-    ensures { result.now ≡ told.kind_name kind }
-{
-    match kind {
-        ListedKind::Cron => "CronJob",
-        ListedKind::Run => "Job",
-    }
 }
 
 fn taken_line(alloc: Global, kind: ListedKind, key: &str) -> Result<String, AllocError>
@@ -115,8 +106,9 @@ fn push_fault_words(
 fn taken_words(alloc: Global, kind: ListedKind, key: &str) -> Result<String, AllocError>
     ensures { IfOk result (λ s. string_bytes s ≡ told.taken_words kind key.now) }
 {
-    let kind = kind_name(kind);
-    format!(in alloc; "duplicate: two {kind}s are named {key}; the first one is read\n")
+    let message = taken_message(alloc, kind, key)?;
+    let message = message.as_str();
+    format!(in alloc; "duplicate: {message}\n")
 }
 
 fn push_said_words(

@@ -11,4 +11,4 @@ pub mod Several
 pub mod Strays
 pub mod Crontab
 pub mod CrontabOutcome
-pub mod ToldFaults
+pub mod SaidObject

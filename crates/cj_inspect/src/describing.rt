@@ -12,8 +12,9 @@ use cj_answers::{
     note_words, refused_form, refused_list, refused_pair, value_line,
 };
 use cj_args::{DescribeRequest, ZoneWords};
-use cj_audit::{others_value, refused_value};
+use cj_audit::others_value;
 use cj_cluster::ClusterCron;
+use cj_explain::refused_value;
 use cj_io::{Failure, ZoneFile, read_input};
 use cj_json::push_value;
 use cj_types::{Refusal, Shared};

@@ -19,6 +19,7 @@ pub(crate) mod table;
 
 use crate::as_json::upcoming::{files_value, window_json};
 use crate::cron_files::{BadFile, CronFile, FileCrons, read_files};
+use crate::drawing::{clock_of, clock_table};
 use crate::nights::with_nights;
 use crate::why::naming::{chosen, has_none, is_noted_one, push_where};
 use crate::why::notices::{has_cron, has_note, with_home_notice};
@@ -383,10 +384,12 @@ fn window_printed(
     }
 }
 
-// A picture of them, with the items that can't be used below it.
+// A picture of them, with the items that can't be used below it, by the clock that the word is of.
 fn drawn(
     alloc: Global,
+    word: Option<&str>,
     zones: &ZoneTable,
+    zone_files: &[ZoneFile],
     window: &Window,
     files: &[FileCrons],
     crons: &[Shared<ClusterCron>],
@@ -395,7 +398,17 @@ fn drawn(
         HasMore (zones_of zones.now) window.now crons.now most_starts) }
 {
     let items = all_lines(alloc, is_several(files), files)?;
-    window_drawn(alloc, zones, window, crons, MOST_STARTS, items.as_str())
+    let table = clock_table(alloc, word, zone_files)?;
+    let clock = clock_of(&table);
+    window_drawn(
+        alloc,
+        zones,
+        window,
+        crons,
+        MOST_STARTS,
+        items.as_str(),
+        clock,
+    )
 }
 
 // A picture, or else JSON or lines.
@@ -403,6 +416,7 @@ fn window_shown(
     alloc: Global,
     upcoming: &UpcomingRequest<'_>,
     zones: &ZoneTable,
+    zone_files: &[ZoneFile],
     window: &Window,
     files: &[FileCrons],
     crons: &[Shared<ClusterCron>],
@@ -414,7 +428,8 @@ fn window_shown(
         HasMore (zones_of zones.now) window.now crons.now most_starts) }
 {
     if upcoming.svg {
-        drawn(alloc, zones, window, files, crons)
+        let word = upcoming.clock.zone;
+        drawn(alloc, word, zones, zone_files, window, files, crons)
     } else {
         window_printed(alloc, upcoming, zones, window, files, crons)
     }
@@ -446,6 +461,7 @@ fn told_of(
     alloc: Global,
     upcoming: &UpcomingRequest<'_>,
     zones: &ZoneTable,
+    zone_files: &[ZoneFile],
     window: &Window,
     files: &[FileCrons],
     crons: &[Shared<ClusterCron>],
@@ -455,7 +471,7 @@ fn told_of(
         (outcome_of a)
         ⊎ TellsWindow upcoming.now (zones_of zones.now) window.now files.now (outcome_of a)) }
 {
-    match window_shown(alloc, upcoming, zones, window, files, crons) {
+    match window_shown(alloc, upcoming, zones, zone_files, window, files, crons) {
         Ok(text) => told_clocks(alloc, upcoming.explain, zones, window, files, crons, text),
         Err(StartsFault::TooMany) => Ok(refused_many(alloc, upcoming.explain)?),
         Err(StartsFault::Memory) => Err(Failure::Memory),
@@ -497,6 +513,7 @@ fn told_noticed(
     alloc: Global,
     upcoming: &UpcomingRequest<'_>,
     zones: &ZoneTable,
+    zone_files: &[ZoneFile],
     window: &Window,
     files: &[FileCrons],
     crons: &[Shared<ClusterCron>],
@@ -506,7 +523,15 @@ fn told_noticed(
         (outcome_of a)) }
 {
     let meant = meant_of(alloc, upcoming, files, crons)?;
-    let answer = told_of(alloc, upcoming, zones, window, files, meant.as_slice())?;
+    let answer = told_of(
+        alloc,
+        upcoming,
+        zones,
+        zone_files,
+        window,
+        files,
+        meant.as_slice(),
+    )?;
     let within = upcoming.namespace;
     let home = has_home(within, files, crons);
     Ok(with_home_notice(alloc, within, crons, home, answer)?)
@@ -517,6 +542,7 @@ fn told_known(
     alloc: Global,
     upcoming: &UpcomingRequest<'_>,
     zones: &ZoneTable,
+    zone_files: &[ZoneFile],
     window: &Window,
     files: &[FileCrons],
     crons: &[Shared<ClusterCron>],
@@ -528,7 +554,7 @@ fn told_known(
         (outcome_of a)) }
 {
     if is_nothing(unknown) {
-        told_noticed(alloc, upcoming, zones, window, files, crons)
+        told_noticed(alloc, upcoming, zones, zone_files, window, files, crons)
     } else {
         refused_unknown(alloc, upcoming.explain, unknown)
     }
@@ -539,6 +565,7 @@ fn files_told(
     alloc: Global,
     upcoming: &UpcomingRequest<'_>,
     zones: &ZoneTable,
+    zone_files: &[ZoneFile],
     window: &Window,
     files: &[FileCrons],
 ) -> Result<Answer, Failure>
@@ -552,6 +579,7 @@ fn files_told(
         alloc,
         upcoming,
         zones,
+        zone_files,
         window,
         files,
         crons,
@@ -584,6 +612,7 @@ fn sources_told(
     alloc: Global,
     upcoming: &UpcomingRequest<'_>,
     zones: &ZoneTable,
+    zone_files: &[ZoneFile],
     window: &Window,
     sources: &[CronFile<'_>],
 ) -> Result<Answer, Failure>
@@ -591,7 +620,7 @@ fn sources_told(
         (outcome_of a)) }
 {
     match read_files(alloc, sources, zones) {
-        Ok(files) => files_told(alloc, upcoming, zones, window, files.as_slice()),
+        Ok(files) => files_told(alloc, upcoming, zones, zone_files, window, files.as_slice()),
         Err(bad) => refused_file(alloc, upcoming.explain, sources.len() > 1, &bad),
     }
 }
@@ -741,7 +770,9 @@ pub fn upcoming_files_answer(
         (outcome_of a)) }
 {
     match words_asked(alloc, upcoming, files)? {
-        Asked::Known(window, zones) => sources_told(alloc, upcoming, &zones, &window, sources),
+        Asked::Known(window, zones) => sources_told(
+            alloc, upcoming, &zones, files, &window, sources,
+        ),
         Asked::Refused(answer) => Ok(answer),
     }
 }
@@ -764,7 +795,14 @@ pub fn upcoming_answer<R: Read>(
                 name: "",
                 bytes: bytes.as_slice(),
             };
-            sources_told(alloc, upcoming, &zones, &window, slice::from_ref(&source))
+            sources_told(
+                alloc,
+                upcoming,
+                &zones,
+                files,
+                &window,
+                slice::from_ref(&source),
+            )
         }
         Asked::Refused(answer) => Ok(answer),
     }

@@ -1,5 +1,6 @@
 // The names of zones in the words and in the input, and in the folder.
 use crate::folder::named_file;
+use crate::shown_zone::clock_of;
 use crate::telling::{Served, at_terminal};
 use cj_program::{ExitStatus, Failure, Request, ZoneFile, nearest_zone, zones_named};
 use std::fs::{metadata, read_dir};
@@ -196,6 +197,28 @@ fn asked_zones(
     Ok(asked)
 }
 
+// The zone by whose clock times are printed, where a name alone says which.
+fn push_clock(
+    rt: &HostRuntime,
+    asked: &mut Vec<AskedZone>,
+    request: &Request<'_>,
+) -> Result<(), Failure> {
+    let Some(clock) = clock_of(request) else {
+        return Ok(());
+    };
+    let by = if clock.is_local {
+        "--local"
+    } else {
+        "--time-zone"
+    };
+    match clock.zone {
+        Some(zone) if !zone.contains('=') && !zone.contains(',') => {
+            push_asked(rt, asked, by, zone)
+        }
+        _ => Ok(()),
+    }
+}
+
 // Whether the name is one of UTC, or of a zone whose file was read.
 fn is_known(name: &str, files: &[ZoneFile]) -> bool {
     name == "UTC" || name == "Etc/UTC" || files.iter().any(|file| file.name.as_str() == name)
@@ -229,14 +252,18 @@ fn tell_unknown(
     Ok(())
 }
 
+// Whether a zone is why a request was refused.
+fn lacks_zone(served: &Served) -> bool {
+    served.said.as_slice().starts_with(b"cronsim: zone\n")
+}
+
 // Whether people are to be told of a zone that may be why a request was refused. One on a schedule
 // says itself whether that was so.
 fn may_lack_zone(rt: &HostRuntime, request: &Request<'_>, served: &Served) -> bool {
     let is_wanted = request.explains() || at_terminal(rt);
     let is_refused = served.status == ExitStatus::Refused;
-    let is_zone = served.said.as_slice().starts_with(b"cronsim: zone\n");
     let is_input = request.zones().is_some() || request.file().is_some();
-    is_wanted && is_refused && (is_zone || is_input)
+    is_wanted && is_refused && (lacks_zone(served) || is_input)
 }
 
 /// Says to people which zones a refused request asks for and nobody knows: that there is no folder
@@ -252,7 +279,10 @@ pub fn tell_zones(
     if folder.is_empty() || !may_lack_zone(rt, request, served) {
         return Ok(());
     }
-    let asked = asked_zones(rt, request, input)?;
+    let mut asked = asked_zones(rt, request, input)?;
+    if lacks_zone(served) {
+        push_clock(rt, &mut asked, request)?;
+    }
     let is_lacking = asked
         .iter()
         .any(|zone| !is_known(zone.name.as_str(), files));

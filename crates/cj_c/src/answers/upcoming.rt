@@ -15,9 +15,10 @@ use crate::answers::text::{json_text, one_fault_text};
 use crate::answers::told::Told;
 use crate::answers::zones::{refused_zones, zones_of_text};
 use crate::status::RANGE;
-use cj_audit::{others_value, refused_value};
+use cj_audit::others_value;
 use cj_base::{Refusal, Seconds, all_four, both};
 use cj_cluster::{ClusterCron, ClusterList, ItemNote, read_cluster};
+use cj_explain::refused_value;
 use cj_json::time_value;
 use cj_types::Shared;
 use cj_upcoming::{

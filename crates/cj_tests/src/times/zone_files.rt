@@ -1,5 +1,5 @@
 use cj_base::{Refusal, Seconds};
-use cj_due::next_after;
+use cj_due::{DueTimes, next_after};
 use cj_schedule::Schedule;
 use cj_zone::{Zone, ZoneTable, read_time};
 use std::alloc::Global;
@@ -66,12 +66,14 @@ fn six_zones(alloc: Global) -> Result<ZoneTable, Refusal> {
     Ok(zones)
 }
 
-// Whether these are the next due times from the start on.
+// Whether these are the next due times from the start on, each looked for, and one after the other.
 fn are_due(schedule: &Schedule, zone: &Zone, start: Seconds, wanted: &str) -> bool {
+    let end = Seconds::new(Seconds::LAST).unwrap_or(start);
+    let mut times = DueTimes::new(schedule, zone, start, end);
     let mut at = start;
     for time in wanted.split(' ') {
         let next = next_after(schedule, zone, at);
-        if next != read_time(time) {
+        if next != read_time(time) || times.next() != next {
             return false;
         }
         at = next.unwrap_or(at);
