@@ -1,11 +1,12 @@
 // The options of a controller: of the words, and of a transcript.
 use cj_args::ControlRequest;
-use cj_base::{Refusal, Text};
+use cj_base::{Refusal, Text, all_four};
 use cj_control::ApiVersion;
+use cj_json::{object_of, text_or_null};
 use cj_machine::ControlOptions;
 use cj_types::Key;
-use serde_json::{Value, json};
-use std::alloc::{AllocError, Global};
+use serde_json::Value;
+use std::alloc::Global;
 
 /// Which option is refused.
 #[derive(Clone, Copy, Debug, PartialEq, Eq)]
@@ -102,29 +103,45 @@ pub fn options_of(
     })
 }
 
-fn text_value(alloc: Global, text: &Option<Text>) -> Result<Value, AllocError> {
+fn text_value(alloc: Global, text: &Option<Text>) -> Result<Value, Refusal> {
     match text {
-        Some(text) => Value::try_from_str(alloc, text.as_str()),
+        Some(text) => text_or_null(alloc, Some(text.as_str())),
         None => Ok(Value::Null),
     }
 }
 
+// The names of the options in a transcript.
+const OPTION_NAMES: &[&str] = &[
+    "apiVersion",
+    "dryRun",
+    "namespace",
+    "onlyAnnotated",
+    "replica",
+    "selector",
+    "workers",
+];
+
 /// The options as a transcript has them.
-pub fn options_value(alloc: Global, options: &ControlOptions) -> Result<Value, AllocError> {
-    let namespace = text_value(alloc, &options.namespace)?;
-    let selector = text_value(alloc, &options.selector)?;
-    let api = api_text(options.api);
-    let (dry_run, only_annotated) = (options.dry_run, options.only_annotated);
-    let (workers, replica) = (options.workers, options.replica.as_str());
-    json!(in alloc; {
-        "apiVersion": api,
-        "dryRun": dry_run,
-        "namespace": namespace,
-        "onlyAnnotated": only_annotated,
-        "replica": replica,
-        "selector": selector,
-        "workers": workers
-    })
+pub fn options_value(alloc: Global, options: &ControlOptions) -> Result<Value, Refusal> {
+    let (api, namespace, replica, selector) = all_four(
+        text_or_null(alloc, Some(api_text(options.api))),
+        text_value(alloc, &options.namespace),
+        text_or_null(alloc, Some(options.replica.as_str())),
+        text_value(alloc, &options.selector),
+    )?;
+    let dry_run = Value::from(options.dry_run);
+    let only_annotated = Value::from(options.only_annotated);
+    let workers = Value::from(options.workers);
+    let values = [
+        api,
+        dry_run,
+        namespace,
+        only_annotated,
+        replica,
+        selector,
+        workers,
+    ];
+    Ok(object_of(alloc, OPTION_NAMES, values)?)
 }
 
 /// The options that a value of a transcript has; none where it has no such members.

@@ -24,14 +24,18 @@ abbrev pub end_data : Option BarEnd → Data
 end_data None = null
 end_data (Some end) = end_object (time_or_null end.at) (how_name end.how)
 
-abbrev pub job_object : Data → List ℕ → Data → Data → List ℕ → List ℕ → Data
-job_object cron due end made name namespace = object (
+abbrev pub texts_object : Data → Data → Data → Data → Data → Data → Data
+texts_object cron due end made name namespace = object (
     member (codes "cronJob") cron (
-    member (codes "due") (string due) (
+    member (codes "due") due (
     member (codes "end") end (
     member (codes "made") made (
-    member (codes "name") (string name) (
-    member (codes "namespace") (string namespace) no_members))))))
+    member (codes "name") name (
+    member (codes "namespace") namespace no_members))))))
+
+abbrev pub job_object : Data → List ℕ → Data → Data → List ℕ → List ℕ → Data
+job_object cron due end made name namespace =
+    texts_object cron (string due) end made (string name) (string namespace)
 
 -- a Job that a worker made: the name of its CronJob, the time that it is for, as its annotation
 -- says it, its end, its making, and its key

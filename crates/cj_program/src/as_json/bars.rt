@@ -2,12 +2,13 @@
 ghost use Rattle.std.specs.Prelude.{◌≡◌, IfOk, IfErr, map};
 ghost use Rattle.cj_base.specs.declared.refusal.Refusal.TheVariants.{OutOfMemory};
 ghost use Rattle.cj_types.specs.Objects.{cron_of};
+ghost use Rattle.serde_json.specs.Data.{string};
 ghost use Rattle.serde_json.specs.View.{view};
 ghost use Rattle.cj_program.specs.as_json.Bars as json;
 ghost use Rattle.cj_json.specs.Values.{text_or_null, time_or_null};
 
 use cj_base::all_three;
-use cj_json::{push_value, text_or_null, time_or_null, time_value};
+use cj_json::{object_of, push_value, text_or_null, time_or_null, time_value};
 use cj_report::{Bar, BarEnd, How, due_word};
 use cj_types::{Job, Refusal};
 use serde_json::{Value, json};
@@ -52,6 +53,38 @@ fn end_value(alloc: Global, end: Option<BarEnd>) -> Result<Value, Refusal>
     }
 }
 
+// When the Job was due, its name and its namespace.
+fn texts_values(alloc: Global, due: &str, job: &Job) -> Result<(Value, Value, Value), Refusal>
+    ensures due { IfOk result (λ v. view v.0 ≡ string due.now) }
+    ensures name { IfOk result (λ v. view v.1 ≡ string job.now.key.name) }
+    ensures namespace { IfOk result (λ v. view v.2 ≡ string job.now.key.namespace) }
+    ensures err { IfErr result (λ e. e ≡ OutOfMemory) }
+{
+    all_three(
+        text_or_null(alloc, Some(due)),
+        text_or_null(alloc, Some(job.key.name())),
+        text_or_null(alloc, Some(job.key.namespace())),
+    )
+}
+
+// The names of a Job's members.
+const JOB_NAMES: &[&str] = &["cronJob", "due", "end", "made", "name", "namespace"];
+
+fn texts_object(
+    alloc: Global,
+    cron: Value,
+    end: Value,
+    made: Value,
+    texts: (Value, Value, Value),
+) -> Result<Value, AllocError>
+    ensures { IfOk result (λ v. view v ≡ json.texts_object (view cron) (view texts.0) (view end)
+        (view made) (view texts.1) (view texts.2)) }
+{
+    let (due, name, namespace) = texts;
+    let values = [cron, due, end, made, name, namespace];
+    object_of(alloc, JOB_NAMES, values)
+}
+
 // The name of the Job's CronJob, when the Job was due, and its end.
 fn job_object(
     alloc: Global,
@@ -60,19 +93,13 @@ fn job_object(
     end: Value,
     made: Value,
     job: &Job,
-) -> Result<Value, AllocError>
-    ensures { IfOk result (λ v. view v ≡ json.job_object (view cron) due.now (view end) (view made)
-        job.now.key.name job.now.key.namespace) }
+) -> Result<Value, Refusal>
+    ensures ok { IfOk result (λ v. view v ≡ json.job_object (view cron) due.now (view end)
+        (view made) job.now.key.name job.now.key.namespace) }
+    ensures err { IfErr result (λ e. e ≡ OutOfMemory) }
 {
-    let (name, namespace) = (job.key.name(), job.key.namespace());
-    json!(in alloc; {
-        "cronJob": cron,
-        "due": due,
-        "end": end,
-        "made": made,
-        "name": name,
-        "namespace": namespace
-    })
+    let texts = texts_values(alloc, due, job)?;
+    Ok(texts_object(alloc, cron, end, made, texts)?)
 }
 
 fn cron_name(alloc: Global, job: &Job) -> Result<Value, Refusal>
@@ -95,7 +122,7 @@ fn bar_value(alloc: Global, bar: &Bar) -> Result<Value, Refusal>
         end_value(alloc, bar.end),
         time_value(alloc, job.meta.created),
     )?;
-    Ok(job_object(alloc, cron, due_word(job), end, made, job)?)
+    job_object(alloc, cron, due_word(job), end, made, job)
 }
 
 fn bar_values(alloc: Global, bars: &[Bar]) -> Result<Vec<Value>, Refusal>

@@ -51,22 +51,28 @@ abbrev pub plan_for : CronMarks → List (List ℕ) → Policy → Steps → Dat
 plan_for marks unknown policy p =
     plan_where (not (is_halted marks) && is_known unknown policy p) p
 
+abbrev pub cron_object : Data → Data → Data → Data → Data → Data → Data → Data → Data → List ℕ
+    → Data
+cron_object lacks late missed name namespace next plan running verdict why = object (
+    member (codes "lacks") lacks (
+    member (codes "late") late (
+    member (codes "missed") missed (
+    member (codes "name") name (
+    member (codes "namespace") namespace (
+    member (codes "next") next (
+    member (codes "plan") plan (
+    member (codes "running") running (
+    member (codes "verdict") verdict (
+    member (codes "why") (string why) no_members))))))))))
+
 -- of a CronJob, by its key: the Jobs that the list lacks and those that run, the times that came
 -- too late and those it missed, its plan, when to look again, its verdict in a word, and why in
 -- full
 -- rule: why-json
 abbrev pub cron_data : Place → Data → Data → Data → Data → Data → Data → Verdict → List ℕ → Data
-cron_data key lacks running late missed plan next verdict why = object (
-    member (codes "lacks") lacks (
-    member (codes "late") late (
-    member (codes "missed") missed (
-    member (codes "name") (string key.name) (
-    member (codes "namespace") (string key.namespace) (
-    member (codes "next") next (
-    member (codes "plan") plan (
-    member (codes "running") running (
-    member (codes "verdict") (string (verdict_text verdict)) (
-    member (codes "why") (string why) no_members))))))))))
+cron_data key lacks running late missed plan next verdict why =
+    cron_object lacks late missed (string key.name) (string key.namespace) next plan running
+    (string (verdict_text verdict)) why
 
 -- what is known of a CronJob at a moment: the times it missed, its one plan, and why, in words
 -- rules: why-json, why-verdict, why-explained

@@ -3,6 +3,7 @@ ghost use Rattle.std.specs.Prelude.{◌≡◌, map, codes, Some, IfOk, IfErr, st
 ghost use Rattle.cj_base.specs.declared.refusal.Refusal.TheVariants.{OutOfMemory};
 ghost use Rattle.cj_decide.specs.Decision.{running_of};
 ghost use Rattle.cj_due.specs.Window.{window_of};
+ghost use Rattle.serde_json.specs.Data.{string};
 ghost use Rattle.serde_json.specs.View.{view};
 ghost use Rattle.cj_zone.specs.Table.{local_zone, zones_of};
 ghost use Rattle.cj_zone.specs.Zones.{utc_zone};
@@ -14,12 +15,12 @@ ghost use Rattle.cj_due.specs.declared.answer.Missed.{Missed};
 ghost use Rattle.cj_why.specs.reviews.Late.{base_of};
 ghost use Rattle.cj_why.specs.reviews.Review.{IsMissedOf};
 ghost use Rattle.cj_why.specs.reviews.Seen as seen;
-ghost use Rattle.cj_why.specs.reviews.Verdict.{next_of};
+ghost use Rattle.cj_why.specs.reviews.Verdict.{next_of, verdict_text};
 ghost use Rattle.cj_why.specs.reviews.ZoneFor.{zone_for};
 
 use crate::reviews::lacking::is_known;
 use crate::reviews::late::{base_of, late_of};
-use crate::reviews::plan_json::{jobs_value, names_value, plan_value};
+use crate::reviews::plan_json::{jobs_value, names_value, plan_value, text_value};
 use crate::reviews::reviewing::plan_of;
 use crate::reviews::rows::{next_of, row_verdict};
 use crate::reviews::seen::{found, lacking, unknown};
@@ -31,7 +32,7 @@ use cj_base::{all_three, both};
 use cj_cluster::{Cluster, ClusterCron, CronMarks};
 use cj_decide::Steps;
 use cj_due::Missed;
-use cj_json::{push_value, time_or_null, time_value};
+use cj_json::{object_of, push_value, time_or_null, time_value};
 use cj_status::running_found;
 use cj_types::{Key, ObjectName, Policy, Refusal, Seconds, Shared};
 use cj_zone::ZoneTable;
@@ -174,32 +175,73 @@ fn times_values(
     )
 }
 
+// Its name, its namespace and its verdict.
+fn texts_values(
+    alloc: Global,
+    key: &Key,
+    verdict: Verdict,
+) -> Result<(Value, Value, Value), Refusal>
+    ensures name { IfOk result (λ v. view v.0 ≡ string key.now.name) }
+    ensures namespace { IfOk result (λ v. view v.1 ≡ string key.now.namespace) }
+    ensures verdict { IfOk result (λ v. view v.2 ≡ string (verdict_text verdict)) }
+    ensures err { IfErr result (λ e. e ≡ OutOfMemory) }
+{
+    all_three(
+        text_value(alloc, key.name()),
+        text_value(alloc, key.namespace()),
+        text_value(alloc, verdict.text()),
+    )
+}
+
+// The names of a CronJob's members.
+const CRON_NAMES: &[&str] = &[
+    "lacks",
+    "late",
+    "missed",
+    "name",
+    "namespace",
+    "next",
+    "plan",
+    "running",
+    "verdict",
+    "why",
+];
+
 fn cron_object(
+    alloc: Global,
+    texts: (Value, Value, Value),
+    jobs: (Value, Value, Value),
+    times: (Value, Value, Value),
+    why: String,
+) -> Result<Value, AllocError>
+    ensures { IfOk result (λ v. view v ≡ json.cron_object (view jobs.0) (view times.2)
+        (view times.0) (view texts.0) (view texts.1) (view times.1) (view jobs.2) (view jobs.1)
+        (view texts.2) (string_bytes why)) }
+{
+    let (name, namespace, verdict) = texts;
+    let (lacks, running, plan) = jobs;
+    let (missed, next, late) = times;
+    let why = Value::String(why);
+    let values = [
+        lacks, late, missed, name, namespace, next, plan, running, verdict, why,
+    ];
+    object_of(alloc, CRON_NAMES, values)
+}
+
+fn named_object(
     alloc: Global,
     key: &Key,
     jobs: (Value, Value, Value),
     times: (Value, Value, Value),
     verdict: Verdict,
     why: String,
-) -> Result<Value, AllocError>
-    ensures { IfOk result (λ v. view v ≡ json.cron_data key.now (view jobs.0) (view jobs.1)
+) -> Result<Value, Refusal>
+    ensures ok { IfOk result (λ v. view v ≡ json.cron_data key.now (view jobs.0) (view jobs.1)
         (view times.2) (view times.0) (view jobs.2) (view times.1) verdict (string_bytes why)) }
+    ensures err { IfErr result (λ e. e ≡ OutOfMemory) }
 {
-    let (lacks, running, plan) = jobs;
-    let (missed, next, late) = times;
-    let why = Value::String(why);
-    json!(in alloc; {
-        "lacks": lacks,
-        "late": late,
-        "missed": missed,
-        "name": key.name(),
-        "namespace": key.namespace(),
-        "next": next,
-        "plan": plan,
-        "running": running,
-        "verdict": verdict.text(),
-        "why": why
-    })
+    let texts = texts_values(alloc, key, verdict)?;
+    Ok(cron_object(alloc, texts, jobs, times, why)?)
 }
 
 fn cron_value(
@@ -226,7 +268,7 @@ fn cron_value(
         times_values(alloc, zones, cron, late, plan.steps(), now),
         cron_words(alloc, zones, cluster, cron, now),
     )?;
-    Ok(cron_object(alloc, cron.cron.key.key(), jobs, times, verdict, why)?)
+    named_object(alloc, cron.cron.key.key(), jobs, times, verdict, why)
 }
 
 /// A value for each of these CronJobs of a cluster, in their order: how many times it missed by
