@@ -2,7 +2,6 @@ pub mod Comes
 pub mod LineMarks
 pub mod Nearness
 pub mod NextLemmas
-pub mod ObjectLemmas
 pub mod PreviousLemmas
 pub mod Ruled
 pub mod TimeLemmas

@@ -38,7 +38,7 @@ mod zoning;
 
 pub use advice::{all_dropped_words, manifest_advice};
 pub use answer::{Answer, Ending};
-pub use as_json::{is_form, is_json, is_yaml, object_of, refused_form, value_line, yaml_text};
+pub use as_json::{is_form, is_json, is_yaml, refused_form, value_line, yaml_text};
 pub use clusters::{ending_by, is_read, item_prefix, note_lines, note_words, refused_list};
 pub use coming::schedule_advice;
 pub use describe::describe_answer;

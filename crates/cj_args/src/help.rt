@@ -14,7 +14,8 @@ pub(crate) const IN_FILE: &str =
     "Describe the schedule of each CronJob in a file: a manifest, or the output of `kubectl get cronjobs -o json`, in JSON or YAML";
 
 /// The start of its search.
-pub(crate) const AFTER: &str = "Print times after this one, in UTC: 2024-01-01T00:00:00Z";
+pub(crate) const AFTER: &str =
+    "Print times after this one: a time (2024-01-01T00:00:00Z, 2024-01-01T01:00:00+01:00, or 2024-01-01 12:00 by the schedule's zone), a date (2024-01-01), now, or a distance from now (-1h, +2d; units s, m, h, d, w)";
 
 /// The rule of its zone.
 pub(crate) const ZONE: &str =
@@ -30,7 +31,7 @@ pub(crate) const FOLDER: &str =
 
 /// The files of `check`.
 pub(crate) const MANIFESTS: &str =
-    "File with manifests, in JSON or YAML; - reads standard input. With several files, each line begins with its file";
+    "File with manifests, in JSON or YAML, or a folder, whose files .yaml, .yml and .json are checked, and those of the folders in it; - reads standard input. With several files, each line begins with its file";
 
 /// Whether warnings refuse a manifest.
 pub(crate) const STRICT: &str =
@@ -61,7 +62,8 @@ pub(crate) const CLUSTER: &str =
     "File with the output of `kubectl get cronjobs,jobs -o json`, or of -o yaml; - reads standard input";
 
 /// The time of `plan`.
-pub(crate) const MOMENT: &str = "Plan for this time, in UTC: 2024-01-01T00:00:00Z";
+pub(crate) const MOMENT: &str =
+    "Plan for this time: a time (2024-01-01T00:00:00Z or 2024-01-01T01:00:00+01:00), a date (2024-01-01), now, or a distance from now (-1h, +2d; units s, m, h, d, w)";
 
 /// The time of `why`.
 pub(crate) const NOW: &str =
@@ -115,6 +117,10 @@ pub(crate) const CRON: &str =
 
 /// Their namespace.
 pub(crate) const NAMESPACE: &str = "Only CronJobs in this namespace";
+
+/// The namespace of events.
+pub(crate) const EVENTS: &str =
+    "With --timeline, print only the events of CronJobs and Jobs in this namespace";
 
 /// All of them.
 pub(crate) const ALL: &str = "Taken as kubectl has it; all namespaces are read anyway";
@@ -189,7 +195,8 @@ Exit status:
 
 /// Of `check`.
 pub(crate) const CHECK: &str = "Examples:
-  cronsim check deploy/*.yaml
+  cronsim check deploy
+  cronsim check deploy/backup.yaml deploy/report.yaml
   helm template . | cronsim check --strict -
   cronsim check docs/examples/manifest.json -o json
 

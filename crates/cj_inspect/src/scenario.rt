@@ -13,13 +13,13 @@ use crate::upcoming::{refused_length, refused_start, unknown_lines, window_from}
 use crate::why::naming::chosen;
 use crate::why::{MOST_LIST_BYTES, MOST_LIST_READS, is_nothing, refused_unknown};
 use cj_answers::{
-    Answer, asked_moment, ending_by, given_zones, is_read, note_lines, note_words, object_of,
+    Answer, asked_moment, ending_by, given_zones, is_read, note_lines, note_words,
     refused_list, refused_pair,
 };
 use cj_args::ScenarioRequest;
 use cj_cluster::ClusterCron;
 use cj_io::{Failure, ZoneFile, read_input};
-use cj_json::{push_value, time_value};
+use cj_json::{object_of, push_value, time_value};
 use cj_types::{Key, Refusal, Shared};
 use cj_upcoming::Window;
 use cj_zone::ZoneTable;

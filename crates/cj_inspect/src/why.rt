@@ -44,8 +44,8 @@ fn refused_cron(alloc: Global, explain: bool, words: &str) -> Result<Answer, All
     Answer::refused(alloc, "cronsim: cron\n")?.explained(explain, words)
 }
 
-// The same with the errors of a request.
-pub(crate) fn refused_unknown(alloc: Global, explain: bool, words: &str) -> Result<Answer, Failure>
+/// What is answered where a text names no CronJob, with these words for people.
+pub fn refused_unknown(alloc: Global, explain: bool, words: &str) -> Result<Answer, Failure>
     ensures { IfOk result (λ a. outcome_of a ≡ explained explain words.now
         (refusal (codes "cronsim: cron\n"))) }
 {

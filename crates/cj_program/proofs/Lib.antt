@@ -1,7 +1,13 @@
 pub mod Counted
 pub mod Refusals
 pub mod Given
+pub mod Clocked
+pub mod Cut
+pub mod Kept
+pub mod Playback
 pub mod Runs
+pub mod Replays
+pub mod Unknown
 pub mod Scenes
 pub mod GivenFiles
 pub mod Formed

@@ -1,5 +1,6 @@
 -- What `run` answers of a scenario.
-use Rattle.std.specs.Prelude.{◌≡◌, ◌≢◌, ◌⊎◌, ℕ, ◌≤◌, List, ◌++◌, length, Option, IfSome, Bool}
+use Rattle.std.specs.Prelude.{◌≡◌, ◌≢◌, ◌⊎◌, ℕ, ◌≤◌, List, [], ◌++◌, length, Option, IfSome, Bool, codes}
+use mathlib.Core.List.{reverse}
 use Rattle.cj_scenario.specs.declared.fault.SceneFault.{SceneFault}
 use Rattle.cj_scenario.specs.declared.fault.SceneFault.TheVariants as Why
 use Rattle.cj_scenario.specs.declared.detection.form.Form.TheVariants as A
@@ -7,13 +8,14 @@ use Rattle.cj_script.specs.simulation.Simulations.{IsSimulation, IsRefusedSimula
 use Rattle.cj_script.specs.declared.simulation.scenario.Simulation.{Simulation}
 use Rattle.cj_world.specs.Worlds.{WorldLog}
 use Rattle.cj_run.specs.Runs.{IsRun}
+use Rattle.cj_program.specs.Named.{unknown_of}
 use Rattle.cj_program.specs.Shown.{IsShown}
 use Rattle.cj_program.specs.remarks.Remarks.{IsAskedRemark, most_lines}
 use Rattle.cj_args.specs.declared.request.RunRequest.{RunRequest}
 use Rattle.cj_io.specs.declared.zone_files.file.ZoneFile.{ZoneFile}
 use Rattle.cj_io.specs.declared.zone_files.given.GivenZones.{GivenZones}
 use Rattle.cj_answers.specs.Given.{IsReadUnder, RefusesRule}
-use Rattle.cj_answers.specs.Outcome.{IsInForm, Outcome, RefusesForm, done, explained}
+use Rattle.cj_answers.specs.Outcome.{IsInForm, Outcome, RefusesForm, done, explained, refusal}
 use Rattle.cj_check.specs.Plan.{IsAskedDetection, IsSceneRefusal}
 
 -- the bytes are no scenario of a run, for another cause than memory
@@ -34,6 +36,7 @@ pub record PrintsReport (r : RunRequest) (given : GivenZones) (bytes : List ℕ)
   pub log : WorldLog
   pub text : List ℕ
   pub run : IsRun simulation r.workers log text
+  pub all_known : unknown_of r (reverse log.history) ≡ []
   pub printed : List ℕ
   pub shown : IsShown r simulation.span simulation.zones log text printed
   pub seen : List ℕ
@@ -43,9 +46,23 @@ pub record PrintsReport (r : RunRequest) (given : GivenZones) (bytes : List ℕ)
       remark
   pub answer : o ≡ explained r.explain (seen ++ remark) (done printed)
 
+-- a run of the scenario has no event of a CronJob that is named for its time line
+-- rule: run-named
+pub record RefusesNames (r : RunRequest) (given : GivenZones) (bytes : List ℕ) (o : Outcome)
+    : Type 0 where
+  pub simulation : Simulation
+  pub said : IsSimulation given bytes simulation
+  pub log : WorldLog
+  pub text : List ℕ
+  pub run : IsRun simulation r.workers log text
+  pub some : unknown_of r (reverse log.history) ≢ []
+  pub answer : o ≡ explained r.explain (unknown_of r (reverse log.history))
+      (refusal (codes "cronsim: cron\n"))
+
 -- what the bytes are answered under these zones
 abbrev pub IsRanOf : RunRequest → GivenZones → List ℕ → Outcome → Type 0
-IsRanOf r given bytes o = RefusesSimulation r.explain given bytes o ⊎ PrintsReport r given bytes o
+IsRanOf r given bytes o = RefusesSimulation r.explain given bytes o ⊎ RefusesNames r given bytes o
+    ⊎ PrintsReport r given bytes o
 
 -- what is read, all of the input, is run under the zones of the words and the files
 pub record RunsInput (r : RunRequest) (files : List ZoneFile) (input : Option (List ℕ))

@@ -8,6 +8,9 @@
 
 mod as_json;
 mod forms;
+mod lines;
+mod named;
+mod played;
 mod remarks;
 mod replay;
 mod run;

@@ -1,17 +1,23 @@
 // Running the whole controller.
-ghost use Rattle.std.specs.Prelude.{◌≡◌, ◌++◌, IfOk, string_bytes};
+ghost use Rattle.std.specs.Prelude.{◌≡◌, ◌++◌, [], IfOk, string_bytes};
+ghost use mathlib.Core.List.{reverse};
 ghost use Rattle.cj_script.specs.simulation.Simulations.{IsSimulation};
 ghost use Rattle.cj_io.specs.declared.zone_files.given.GivenZones.{GivenZones};
 ghost use Rattle.cj_answers.specs.Outcome.{done, explained, outcome_of};
+ghost use Rattle.cj_run.specs.Runs.{IsRun};
+ghost use Rattle.cj_program.specs.Forms.{is_nothing};
+ghost use Rattle.cj_program.specs.Named.{unknown_of};
 ghost use Rattle.cj_program.specs.Run.{IsRanOf, IsRunAnswer, IsRunOutcome};
 
-use crate::remarks::asked_remark;
+use crate::named::unknown_of;
+use crate::remarks::{asked_remark, entries_of};
 use crate::shown::shown;
 use cj_answers::{Answer, Ending, given_for, is_form, refused_form, refused_pair};
 use cj_args::RunRequest;
 use cj_check::{asked_detection, refused_scene};
+use cj_inspect::refused_unknown;
 use cj_io::{Failure, GivenZones, MOST_BYTES, MOST_READS, ZoneFile, read_input};
-use cj_run::{Meter, run_simulation};
+use cj_run::{Meter, Ran, run_simulation};
 use cj_scenario::Form;
 use cj_script::{Simulation, read_simulation};
 use std::alloc::{AllocError, Global};
@@ -44,6 +50,67 @@ fn reported(
     answer.explained(explain, words.as_str())
 }
 
+// What a run of the scenario that the bytes say is answered, where all that are named are in it.
+fn ran_answer(
+    alloc: Global,
+    run: &RunRequest<'_>,
+    bytes: &[u8],
+    simulation: &Simulation,
+    ran: Ran,
+) -> Result<Answer, Failure>
+    ensures { (given : GivenZones) → IsSimulation given bytes.now simulation.now →
+        IsRun simulation.now run.now.workers ran.closed (string_bytes ran.report) →
+        unknown_of run.now (reverse ran.closed.history) ≡ [] →
+        IfOk result (λ a. IsRanOf run.now given bytes.now (outcome_of a)) }
+{
+    let seen = asked_detection(alloc, run.explain, Form::Simulation, bytes)?;
+    let remark = asked_remark(
+        alloc,
+        run.explain,
+        MOST_LINES,
+        &simulation.span,
+        &simulation.zones,
+        ran.closed.get(),
+    )?;
+    let printed = shown(alloc, run, simulation, ran)?;
+    Ok(reported(alloc, run.explain, printed, seen.as_str(), remark.as_str())?)
+}
+
+// The lines of those that are named and are in no event of the run.
+fn unknown_in(alloc: Global, run: &RunRequest<'_>, ran: &Ran) -> Result<String, Failure>
+    ensures { IfOk result (λ s. string_bytes s
+        ≡ unknown_of run.now (reverse ran.now.closed.history)) }
+{
+    Ok(unknown_of(alloc, run, entries_of(ran.closed.get()))?)
+}
+
+fn is_nothing(text: &str) -> bool
+    ensures { result ≡ is_nothing text.now }
+{
+    text.is_empty()
+}
+
+// What it is answered where these lines tell which CronJobs are named and are in no event.
+fn named_answer(
+    alloc: Global,
+    run: &RunRequest<'_>,
+    bytes: &[u8],
+    simulation: &Simulation,
+    ran: Ran,
+    unknown: &str,
+) -> Result<Answer, Failure>
+    requires { unknown.now ≡ unknown_of run.now (reverse ran.closed.history) }
+    ensures { (given : GivenZones) → IsSimulation given bytes.now simulation.now →
+        IsRun simulation.now run.now.workers ran.closed (string_bytes ran.report) →
+        IfOk result (λ a. IsRanOf run.now given bytes.now (outcome_of a)) }
+{
+    if is_nothing(unknown) {
+        ran_answer(alloc, run, bytes, simulation, ran)
+    } else {
+        refused_unknown(alloc, run.explain, unknown)
+    }
+}
+
 // Runs the scenario that the bytes say.
 fn answered<T: Threads + Wait + Sync>(
     rt: &T,
@@ -57,17 +124,8 @@ fn answered<T: Threads + Wait + Sync>(
         IfOk result (λ a. IsRanOf run.now given bytes.now (outcome_of a)) }
 {
     let ran = run_simulation(rt, alloc, simulation, u64::from(run.workers), meter)?;
-    let seen = asked_detection(alloc, run.explain, Form::Simulation, bytes)?;
-    let remark = asked_remark(
-        alloc,
-        run.explain,
-        MOST_LINES,
-        &simulation.span,
-        &simulation.zones,
-        ran.closed.get(),
-    )?;
-    let printed = shown(alloc, run, simulation, ran)?;
-    Ok(reported(alloc, run.explain, printed, seen.as_str(), remark.as_str())?)
+    let unknown = unknown_in(alloc, run, &ran)?;
+    named_answer(alloc, run, bytes, simulation, ran, unknown.as_str())
 }
 
 fn bytes_answer<T: Threads + Wait + Sync>(

@@ -3,13 +3,14 @@ ghost use Rattle.std.specs.Prelude.{IfOk, string_bytes};
 ghost use Rattle.cj_program.specs.Shown.{IsShown};
 
 use crate::as_json::run_json;
+use crate::named::asked_timeline;
 use crate::remarks::entries_of;
 use cj_answers::is_json;
 use cj_args::RunRequest;
 use cj_hub::Closed;
 use cj_io::Failure;
 use cj_picture::picture_text;
-use cj_report::{history_text, timeline_text};
+use cj_report::history_text;
 use cj_run::Ran;
 use cj_script::Simulation;
 use std::alloc::Global;
@@ -29,7 +30,7 @@ fn shown_text(
 {
     let entries = entries_of(closed);
     if run.timeline {
-        Ok(timeline_text(alloc, entries)?)
+        Ok(asked_timeline(alloc, run, entries)?)
     } else if run.history {
         Ok(history_text(alloc, entries)?)
     } else if run.svg {

@@ -10,10 +10,11 @@ ghost use Rattle.cj_inspect.specs.as_json.Audit.{IsAuditJson, audit_data, audit_
 
 use crate::as_json::nights::nights_value;
 use crate::nights::Look;
-use cj_answers::{object_of, value_line};
+use cj_answers::value_line;
 use cj_audit::{Findings, findings_value, manual_value, others_value, refused_value};
 use cj_base::{Refusal, all_four, both};
 use cj_cluster::ClusterList;
+use cj_json::object_of;
 use cj_zone::ZoneTable;
 use serde_json::Value;
 use std::alloc::{AllocError, Global};

@@ -3,7 +3,7 @@
 ghost use Rattle.std.specs.Prelude.{◌≡◌, ◌≤◌, IfOk};
 ghost use Rattle.serde_json.specs.Data.{no_members, object};
 ghost use Rattle.serde_json.specs.View.{view};
-ghost use Rattle.cj_answers.specs.as_json.Objects.{put_all};
+ghost use Rattle.cj_json.specs.Named.{put_all};
 
 use serde_json::{Map, Value, put};
 use std::alloc::{AllocError, Global};

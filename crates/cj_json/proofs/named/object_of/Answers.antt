@@ -4,9 +4,9 @@ use Rattle.std.proofs.lemmas.List.{nil_from_length}
 use Rattle.serde_json.specs.Data.{object}
 use Rattle.serde_json.specs.View.{members_view}
 use Rattle.serde_json.proofs.Views.{view-Object}
-use Rattle.cj_answers.specs.as_json.Objects.{put_all}
-use Rattle.cj_answers.proofs.ObjectLemmas.{put_all-none}
-use Rattle.cj_answers.proofs.as_json.objects.object_of.Goals as goal
+use Rattle.cj_json.specs.Named.{put_all}
+use Rattle.cj_json.proofs.NamedLemmas.{put_all-none}
+use Rattle.cj_json.proofs.named.object_of.Goals as goal
 
 pub returns : goal.returns
 returns g c =

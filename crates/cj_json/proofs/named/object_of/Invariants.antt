@@ -3,8 +3,8 @@ use Rattle.std.proofs.Common.{◌≡◌}
 use Rattle.std.specs.Array.Iter.{array_into_iter_items}
 use Rattle.serde_json.specs.Data.{no_members}
 use Rattle.serde_json.specs.View.{members_view}
-use Rattle.cj_answers.specs.as_json.Objects.{put_all}
-use Rattle.cj_answers.proofs.as_json.objects.object_of.Given as goal
+use Rattle.cj_json.specs.Named.{put_all}
+use Rattle.cj_json.proofs.named.object_of.Given as goal
 
 abbrev pub invariant-loop-value : goal.invariant-loop-value
 invariant-loop-value g l =
