@@ -16,12 +16,13 @@
  * limit, up to PTRDIFF_MAX. Then the call refuses the text and reads no byte.
  *
  * No pointer of a call is NULL, even for length 0. If one of yours may be, pass cronsim_text(at),
- * of a buffer cronsim_buffer(at): NULL becomes the place of no byte, and all else stays.
+ * of a buffer cronsim_buffer(at), of an array of times cronsim_times(at): NULL becomes the place of
+ * no byte and of no time, and all else stays.
  *
- * Initialise each place that a call writes to: a bool to false, a buffer to any bytes. The call
- * writes there if it answers CRONSIM_DONE. If it answers CRONSIM_REFUSED, it writes only the fault,
- * or the answer in JSON. CRONSIM_ROOM is explained below. After any other answer all stays as it
- * was. No two pointers of a call overlap.
+ * Initialise each place that a call writes to: a bool to false, a buffer to any bytes, an array to
+ * any numbers. The call writes there if it answers CRONSIM_DONE. If it answers CRONSIM_REFUSED, it
+ * writes only the fault, or the answer in JSON. CRONSIM_ROOM is explained below. After any other
+ * answer all stays as it was. No two pointers of a call overlap.
  *
  * Memory comes from malloc, realloc and free. Only the calls that open a handle and those that
  * answer with a text ask for it. The latter free all of it before they return. Where memory runs
@@ -108,6 +109,12 @@ static inline uint8_t *cronsim_buffer(void *at) {
     return at ? (uint8_t *)at : &none;
 }
 
+/* The same of an array of times, whose capacity is 0 where it is NULL. */
+static inline uint64_t *cronsim_times(uint64_t *at) {
+    static uint64_t none;
+    return at ? at : &none;
+}
+
 /* Where a text has its fault, and which. */
 typedef struct cronsim_fault {
     /* 1 (the minute) to 5 (the day of the week); 0 is the whole schedule, 6 the zone */
@@ -149,6 +156,16 @@ void cronsim_close(cronsim_cron *cron);
  * CRONSIM_DONE; CRONSIM_NONE if there is none; CRONSIM_RANGE; CRONSIM_CLOSED.
  */
 uint32_t cronsim_next(cronsim_cron *cron, uint64_t after, uint64_t *due);
+
+/*
+ * Finds the due times after `after` and up to `until`, in order, as many as have room: writes them
+ * to the beginning of `times`, which has room for `capacity` numbers, and to `count` how many they
+ * are. The rest of `times` stays as it is. If they are fewer than `capacity`, these are all; else
+ * go on after the last one. Answers CRONSIM_DONE, even if there is none; CRONSIM_RANGE;
+ * CRONSIM_CLOSED.
+ */
+uint32_t cronsim_next_many(cronsim_cron *cron, uint64_t after, uint64_t until, uint64_t *times,
+                           size_t capacity, size_t *count);
 
 /* Finds the greatest due time after `after` and up to `until`. Answers CRONSIM_DONE; CRONSIM_NONE;
  * CRONSIM_RANGE; CRONSIM_CLOSED. */
@@ -234,8 +251,8 @@ uint32_t cronsim_plan(const uint8_t *scenario, size_t scenario_length, uint64_t 
  * `cronJobs` and `jobs`, how many it looked at; `findings`, each with its `finding` (twice, beside,
  * undue, early, missing, stray or stuck), the `namespace` and `name` of the CronJob, the `time`,
  * and the names of the `jobs`; `manual`, the Jobs that somebody made by hand; and in `refused` and
- * `others` the items of the list that it can't use. CRONSIM_REFUSED if the text is no list;
- * CRONSIM_ROOM; CRONSIM_MEMORY.
+ * `others` the items of the list that it can't use. A fault of a refused item also has a `message`
+ * in words. CRONSIM_REFUSED if the text is no list; CRONSIM_ROOM; CRONSIM_MEMORY.
  */
 uint32_t cronsim_audit(const uint8_t *list, size_t list_length, const uint8_t *zones,
                        size_t zones_length, uint8_t *answer, size_t capacity, size_t *length);

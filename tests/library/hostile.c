@@ -47,13 +47,16 @@ static void want_fault(const char *what, uint32_t status, cronsim_fault fault, u
 static void want_empty(cronsim_cron *cron) {
     cronsim_missed_times missed = {7, 8};
     uint64_t due = 9;
+    size_t found = 9;
     bool is_match = true;
     want("next, closed", cronsim_next(cron, 0, &due), CRONSIM_CLOSED);
+    want("next many, closed", cronsim_next_many(cron, 0, 60, &due, 1, &found), CRONSIM_CLOSED);
     want("previous, closed", cronsim_previous(cron, 0, 60, &due), CRONSIM_CLOSED);
     want("missed, closed", cronsim_missed(cron, 0, 60, &missed), CRONSIM_CLOSED);
     want("matches, closed", cronsim_matches(cron, 0, &is_match), CRONSIM_CLOSED);
     want("next past the end, closed", cronsim_next(cron, UINT64_MAX, &due), CRONSIM_CLOSED);
     want("nothing written", due == 9 && is_match && missed.count == 7 && missed.latest == 8, 1);
+    want("nothing counted", found, 9);
     cronsim_close(cron);
     cronsim_close(cron);
 }
@@ -179,9 +182,29 @@ static void ranges(void) {
     cronsim_cron cron = CRONSIM_CRON_INIT;
     cronsim_fault fault = {0, 0, 0};
     cronsim_missed_times missed = {7, 8};
-    uint64_t due = 9, last = 253370764799u;
+    uint64_t due = 9, last = 253370764799u, many[2] = {9, 9};
+    size_t found = 9;
     bool is_match = false;
     want("opened", cronsim_open(&cron, text("* * * * *"), 9, &fault), CRONSIM_DONE);
+    want("next many, past the end", cronsim_next_many(&cron, last + 1, last, many, 2, &found),
+         CRONSIM_RANGE);
+    want("next many, to past the end", cronsim_next_many(&cron, 0, UINT64_MAX, many, 2, &found),
+         CRONSIM_RANGE);
+    want("none of many written", found == 9 && many[0] == 9 && many[1] == 9, 1);
+    want("next many, turned round",
+         cronsim_next_many(&cron, 600, 60, many, 2, &found) == CRONSIM_DONE && found == 0, 1);
+    found = 9;
+    want("next many, no room",
+         cronsim_next_many(&cron, 0, last, many, 0, &found) == CRONSIM_DONE && found == 0, 1);
+    want("nothing written", many[0] == 9 && many[1] == 9, 1);
+    want("next many, two of a thousand million",
+         cronsim_next_many(&cron, 59, last, many, 2, &found) == CRONSIM_DONE && found == 2 &&
+             many[0] == 60 && many[1] == 120,
+         1);
+    want("next many, one for two",
+         cronsim_next_many(&cron, 120, 239, many, 2, &found) == CRONSIM_DONE && found == 1 &&
+             many[0] == 180 && many[1] == 120,
+         1);
     want("next after the end", cronsim_next(&cron, last, &due), CRONSIM_NONE);
     want("next, past the end", cronsim_next(&cron, last + 1, &due), CRONSIM_RANGE);
     want("next, UINT64_MAX", cronsim_next(&cron, UINT64_MAX, &due), CRONSIM_RANGE);
@@ -345,7 +368,7 @@ static void schedules(void) {
                   "[{\"cause\":\"Zone\",\"field\":\"zone\"}]");
 }
 
-// NULL is no byte, by the words of the header for it; of a text and of a buffer.
+// NULL is no byte, by the words of the header for it; of a text, of a buffer and of times.
 static void nulls(void) {
     cronsim_cron cron = CRONSIM_CRON_INIT;
     cronsim_fault fault = {0, 0, 0};
@@ -355,9 +378,17 @@ static void nulls(void) {
          cronsim_check(text("{"), 1, cronsim_text(NULL), 0, cronsim_buffer(NULL), 0, &size),
          CRONSIM_ROOM);
     want("its length", size, sizeof no_json - 1);
+    want("opened", cronsim_open(&cron, text("* * * * *"), 9, &fault), CRONSIM_DONE);
+    want("no times",
+         cronsim_next_many(&cron, 0, 600, cronsim_times(NULL), 0, &size) == CRONSIM_DONE &&
+             size == 0,
+         1);
+    cronsim_close(&cron);
     uint8_t byte = 7;
+    uint64_t time = 7;
     want("the same text", cronsim_text(&byte) == &byte, 1);
     want("the same buffer", cronsim_buffer(&byte) == &byte, 1);
+    want("the same times", cronsim_times(&time) == &time, 1);
 }
 
 // One of those calls with the request for memory of this number refused; tells whether one was.

@@ -30,7 +30,8 @@ static size_t bytes_of(char *digits) {
 // The times that have to come, each by the call for the next one, and the same looked at from the
 // other end.
 static void times(cronsim_cron *cron, uint64_t after) {
-    uint64_t at = after, due = 0, back = 0, count = 0;
+    uint64_t at = after, due = 0, back = 0, count = 0, first[3], many[4] = {7, 7, 7, 7};
+    size_t found = 9;
     cronsim_missed_times missed = {7, 7};
     for (char *word = strtok(NULL, "\t\n"); word; word = strtok(NULL, "\t\n")) {
         if (strcmp(word, "none") == 0) {
@@ -46,9 +47,15 @@ static void times(cronsim_cron *cron, uint64_t after) {
         want("a due time matches", is_match, true);
         want("previous", cronsim_previous(cron, at, due, &back), CRONSIM_DONE);
         want("the latest up to a due time", back, due);
+        if (count < 3) first[count] = due;
         at = due;
         count++;
     }
+    want("next many", cronsim_next_many(cron, after, at, many, 3, &found), CRONSIM_DONE);
+    want("how many had room", found, count < 3 ? count : 3);
+    for (size_t place = 0; place < found; place++)
+        want("one of many", many[place], first[place]);
+    want("past the capacity", many[3], 7);
     want("missed", cronsim_missed(cron, after, at, &missed), CRONSIM_DONE);
     want("how many were missed", missed.count, count > 100 ? 101 : count);
     want("the latest missed", missed.latest, count ? at : 0);

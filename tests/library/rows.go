@@ -54,10 +54,26 @@ func open(cron *C.cronsim_cron, schedule []byte, rule string) (C.uint32_t, C.cro
 	return status, fault
 }
 
+// Whether these are the due times after one instant and up to another, by a call with room for one
+// more.
+func areAll(cron *C.cronsim_cron, after, until C.uint64_t, wanted []C.uint64_t) bool {
+	many, found := make([]C.uint64_t, len(wanted)+1), C.size_t(0)
+	status := C.cronsim_next_many(cron, after, until, &many[0], C.size_t(len(many)), &found)
+	if status != C.CRONSIM_DONE || int(found) != len(wanted) {
+		return false
+	}
+	for place, due := range wanted {
+		if many[place] != due {
+			return false
+		}
+	}
+	return true
+}
+
 // Whether these times come, each by the call for the next one, and the same looked at from the
-// other end.
+// other end, and all at once.
 func times(cron *C.cronsim_cron, after uint64, wanted []string) bool {
-	at, count := C.uint64_t(after), 0
+	at, came := C.uint64_t(after), []C.uint64_t{}
 	var due, back C.uint64_t
 	var isMatch C.bool
 	var missed C.cronsim_missed_times
@@ -78,8 +94,12 @@ func times(cron *C.cronsim_cron, after uint64, wanted []string) bool {
 			return false
 		}
 		at = due
-		count++
+		came = append(came, due)
 	}
+	if !areAll(cron, C.uint64_t(after), at, came) {
+		return false
+	}
+	count := len(came)
 	latest, told := at, count
 	if count == 0 {
 		latest = 0
@@ -104,10 +124,11 @@ func sentence(schedule []byte, fault C.cronsim_fault) string {
 
 // Whether a handle answers that it is closed, and may be closed again.
 func isEmpty(cron *C.cronsim_cron) bool {
-	due, isMatch := C.uint64_t(7), C.bool(true)
+	due, found, isMatch := C.uint64_t(7), C.size_t(7), C.bool(true)
 	missed := C.cronsim_missed_times{7, 7}
 	statuses := []C.uint32_t{
 		C.cronsim_next(cron, 0, &due),
+		C.cronsim_next_many(cron, 0, 60, &due, 1, &found),
 		C.cronsim_previous(cron, 0, 60, &due),
 		C.cronsim_missed(cron, 0, 60, &missed),
 		C.cronsim_matches(cron, 0, &isMatch),
@@ -118,7 +139,7 @@ func isEmpty(cron *C.cronsim_cron) bool {
 			return false
 		}
 	}
-	return due == 7 && missed.count == 7 && missed.latest == 7
+	return due == 7 && found == 7 && missed.count == 7 && missed.latest == 7
 }
 
 func isRight(cron *C.cronsim_cron, line string) bool {

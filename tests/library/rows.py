@@ -49,10 +49,12 @@ def loaded(path):
     library.cronsim_open_file.argtypes = library.cronsim_open_rule.argtypes
     library.cronsim_close.argtypes, library.cronsim_close.restype = [cron], None
     library.cronsim_next.argtypes = [cron, c_uint64, number]
+    size = POINTER(c_size_t)
+    library.cronsim_next_many.argtypes = [cron, c_uint64, c_uint64, number, c_size_t, size]
     library.cronsim_previous.argtypes = [cron, c_uint64, c_uint64, number]
     library.cronsim_missed.argtypes = [cron, c_uint64, c_uint64, POINTER(Missed)]
     library.cronsim_matches.argtypes = [cron, c_uint64, POINTER(c_bool)]
-    answer = [c_char_p, c_size_t, POINTER(c_size_t)]
+    answer = [c_char_p, c_size_t, size]
     library.cronsim_fault_text.argtypes = [c_char_p, c_size_t, POINTER(Fault), *answer]
     return library
 
@@ -83,11 +85,25 @@ def opened(library, cron, schedule, rule, fault, by_file):
     )
 
 
+def many(library, cron, after, until):
+    """The due times after one instant and up to another, three by a call."""
+    times, found, some = (c_uint64 * 3)(), c_size_t(3), []
+    while found.value == len(times):
+        status = library.cronsim_next_many(
+            byref(cron), after, until, times, len(times), byref(found)
+        )
+        if status != DONE:
+            return None
+        some += times[: found.value]
+        after = some[-1] if some else after
+    return some
+
+
 def times(library, cron, after, wanted):
     """Whether these times come, each by the call for the next one, and the same looked at from the
-    other end."""
+    other end, and three at a time."""
     at, due, back, is_match, missed = after, c_uint64(0), c_uint64(0), c_bool(False), Missed(7, 7)
-    count = 0
+    came = []
     for word in wanted:
         if word == "none":
             if library.cronsim_next(byref(cron), at, byref(due)) != NONE:
@@ -105,9 +121,13 @@ def times(library, cron, after, wanted):
             or back.value != due.value
         ):
             return False
-        at, count = due.value, count + 1
+        at = due.value
+        came.append(at)
+    if many(library, cron, after, at) != came:
+        return False
     status = library.cronsim_missed(byref(cron), after, at, byref(missed))
-    return (status, missed.count, missed.latest) == (DONE, min(count, 101), at if count else 0)
+    count, latest = min(len(came), 101), at if came else 0
+    return (status, missed.count, missed.latest) == (DONE, count, latest)
 
 
 def sentence(library, schedule, fault):
@@ -121,15 +141,17 @@ def sentence(library, schedule, fault):
 
 def is_empty(library, cron):
     """Whether a handle answers that it is closed, and may be closed again."""
-    due, missed, is_match = c_uint64(7), Missed(7, 7), c_bool(True)
+    due, missed, is_match, found = c_uint64(7), Missed(7, 7), c_bool(True), c_size_t(7)
     statuses = {
         library.cronsim_next(byref(cron), 0, byref(due)),
+        library.cronsim_next_many(byref(cron), 0, 60, byref(due), 1, byref(found)),
         library.cronsim_previous(byref(cron), 0, 60, byref(due)),
         library.cronsim_missed(byref(cron), 0, 60, byref(missed)),
         library.cronsim_matches(byref(cron), 0, byref(is_match)),
     }
     library.cronsim_close(byref(cron))
-    return statuses == {CLOSED} and due.value == missed.count == missed.latest == 7
+    numbers = {due.value, missed.count, missed.latest, found.value}
+    return statuses == {CLOSED} and numbers == {7}
 
 
 def is_right(library, cron, line, by_file):

@@ -36,6 +36,14 @@ extern "C" {
     ) -> u32;
     fn cronsim_close(cron: &mut Cron);
     fn cronsim_next(cron: &mut Cron, after: u64, due: &mut u64) -> u32;
+    fn cronsim_next_many(
+        cron: &mut Cron,
+        after: u64,
+        until: u64,
+        times: *mut u64,
+        capacity: usize,
+        count: &mut usize,
+    ) -> u32;
     fn cronsim_previous(cron: &mut Cron, after: u64, until: u64, due: &mut u64) -> u32;
     fn cronsim_missed(cron: &mut Cron, after: u64, until: u64, missed: &mut Missed) -> u32;
     fn cronsim_matches(cron: &mut Cron, at: u64, is_match: &mut bool) -> u32;
@@ -82,6 +90,16 @@ impl Timetable {
         (status, due)
     }
 
+    /// All of an interval, by a call with room for `room` of them and one more.
+    fn next_many(&mut self, after: u64, until: u64, room: usize) -> Option<Vec<u64>> {
+        let (mut times, mut count) = (vec![0; room + 1], 0);
+        let (start, capacity) = (times.as_mut_ptr(), times.len());
+        let status =
+            unsafe { cronsim_next_many(&mut self.0, after, until, start, capacity, &mut count) };
+        times.truncate(count);
+        (status == DONE).then_some(times)
+    }
+
     fn previous(&mut self, after: u64, until: u64) -> (u32, u64) {
         let mut due = 0;
         let status = unsafe { cronsim_previous(&mut self.0, after, until, &mut due) };
@@ -110,9 +128,9 @@ fn text(digits: &str) -> Option<Vec<u8>> {
 }
 
 /// Whether these times come, each by the call for the next one, and the same looked at from the
-/// other end.
+/// other end, and all at once.
 fn times(cron: &mut Timetable, after: u64, wanted: &[&str]) -> bool {
-    let (mut at, mut count) = (after, 0);
+    let (mut at, mut came) = (after, Vec::new());
     for word in wanted {
         if *word == "none" {
             if cron.next(at).0 != NONE {
@@ -126,9 +144,11 @@ fn times(cron: &mut Timetable, after: u64, wanted: &[&str]) -> bool {
             return false;
         }
         at = due;
-        count += 1;
+        came.push(due);
     }
-    cron.missed(after, at) == (DONE, count.min(101), if count == 0 { 0 } else { at })
+    let (count, latest) = (came.len() as u64, came.last().copied().unwrap_or(0));
+    cron.next_many(after, at, came.len()) == Some(came)
+        && cron.missed(after, at) == (DONE, count.min(101), latest)
 }
 
 /// What is said of a fault; nothing where there are no words.

@@ -1,10 +1,9 @@
 """Random lists of a cluster's CronJobs and Jobs, and what their pictures must show."""
 import random
-import re
-from datetime import date
 
 from scenarios import START, time
 from svg import SVG, bars_of
+from zones import NAMED, UTC, changes, marks, place, printed_time, rows, second
 
 SCHEDULES = [
     "* * * * *",
@@ -124,6 +123,14 @@ def clusters():
     yield {"list": {"apiVersion": "v1", "kind": "List", "items": []}, "owned": [], "length": "24h"}
 
 
+def abroad(number, length):
+    """CronJobs that go by the clocks of zones."""
+    said = cluster(number, len(NAMED), 0, length)
+    for one, clock in zip(said["list"]["items"], NAMED):
+        one["spec"] |= {"timeZone": clock.name, "suspend": False}
+    return said | {"zones": NAMED}
+
+
 def titles(parts):
     return [part.findtext(f"{SVG}title") for part in parts]
 
@@ -170,26 +177,23 @@ def troubles(top, said, lines, wrong):
         wrong.append(f"marked: {sorted(marked ^ named)[:5]}")
 
 
-def starts(top, lines, wrong):
-    """A cell for each minute's line, at its place, with as many starts."""
+def starts(top, lines, wrong, clock=UTC, begin=START, named=()):
+    """A cell for each minute's line, at its place, with as many starts; the hours by the clock; and
+    a mark where one of the clocks that are named is put."""
     told = [line.split() for line in lines if line.startswith("start ")]
     cells = top.findall(f".//{SVG}g[@id='cells']/{SVG}rect")
-    rows = [rect for rect in top.iter(f"{SVG}rect") if rect.get("class") == "lane"]
-    drawn = told[:]
-    if len(rows) == 400:
-        drawn = [line for line in told if hour(line[1]) < hour(time(START)) + 400]
+    first = rows(top, clock, begin, wrong)
+    last = first + 3600 * sum(rect.get("class") == "lane" for rect in top.iter(f"{SVG}rect"))
+    drawn = [line for line in told if second(line[1]) < last]
+    marks(top, changes(named, begin, last), first, wrong)
     if len(cells) != len(drawn):
         wrong.append(f"{len(cells)} cells of {len(drawn)} minutes")
     for cell, title, (_, at, *names) in zip(cells, titles(cells), drawn):
         head, *under = title.split("\n")
-        if head != f"{at}, starts: {len(names)}" or under[:20] != names[:20]:
+        said, count = head.split(", starts: ")
+        moment = second(at)
+        told_so = (printed_time(said, clock, wrong), int(count), under[:20])
+        if told_so != (moment, len(names), names[:20]):
             wrong.append(f"{title!r} of {at} {len(names)} starts")
-        place = (132 + 14 * int(at[14:16]), 74 + 16 * (hour(at) - hour(time(START))))
-        if (int(cell.get("x")), int(cell.get("y"))) != place:
+        if (int(cell.get("x")), int(cell.get("y"))) != place(first, moment):
             wrong.append(f"{at} stands at {cell.attrib}")
-
-
-def hour(at):
-    """The number of an instant's hour."""
-    days, clock = re.match(r"(.*)T(..):", at).groups()
-    return date.fromisoformat(days).toordinal() * 24 + int(clock)

@@ -1,9 +1,8 @@
+pub mod ClockedLemmas
 pub mod Comes
 pub mod LineMarks
 pub mod Nearness
 pub mod NextLemmas
-pub mod ObjectLemmas
 pub mod PreviousLemmas
 pub mod Ruled
-pub mod TimeLemmas
 pub mod Zones

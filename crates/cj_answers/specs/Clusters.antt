@@ -1,12 +1,13 @@
 -- A list of a cluster's objects, in lines: the items that can't be used, and why bytes are no list.
-use Rattle.std.specs.Prelude.{◌≡◌, ◌≢◌, ℕ, List, [], ◌∷◌, ◌++◌, Bool, true, false, codes, decimal}
+use Rattle.std.specs.Prelude.{◌≡◌, ◌≢◌, ℕ, List, [], ◌∷◌, ◌++◌, Bool, true, false, Option, None, Some, codes, decimal}
 use Rattle.std.specs.List.{list_all}
 use Rattle.cj_base.specs.declared.faults.FieldFault.{FieldFault}
 use Rattle.cj_explain.specs.Faults.{fault_words}
+use Rattle.cj_explain.specs.Taken.{kind_name, taken_message}
 use Rattle.cj_cluster.specs.declared.kubectl.notes.ItemNote.{ItemNote}
 use Rattle.cj_cluster.specs.declared.kubectl.notes.ListedKind.{ListedKind}
-use Rattle.cj_cluster.specs.declared.kubectl.notes.ListedKind.TheVariants as Of
 use Rattle.cj_cluster.specs.declared.kubectl.notes.Said.{Said}
+use Rattle.cj_cluster.specs.declared.kubectl.object.ObjectNamed.{ObjectNamed}
 use Rattle.cj_cluster.specs.declared.kubectl.notes.Said.TheVariants as Was
 use Rattle.cj_cluster.specs.declared.kubectl.fault.ListFault.{ListFault}
 use Rattle.cj_cluster.specs.declared.kubectl.fault.ListFault.TheVariants as Why
@@ -28,10 +29,6 @@ abbrev pub item_fault_lines : ℕ → List FieldFault → List ℕ
 item_fault_lines n [] = []
 item_fault_lines n (f ∷ fs) = (item_prefix n ++ fault_line f) ++ item_fault_lines n fs
 
-abbrev pub kind_name : ListedKind → List ℕ
-kind_name Of.Cron = codes "CronJob"
-kind_name Of.Run = codes "Job"
-
 -- `duplicate KIND NAMESPACE/NAME`
 abbrev pub taken_line : ListedKind → List ℕ → List ℕ
 taken_line kind key = codes "duplicate " ++ (kind_name kind ++ (codes " " ++ (key ++ codes "\n")))
@@ -50,26 +47,33 @@ abbrev pub note_lines : List ItemNote → List ℕ
 note_lines [] = []
 note_lines (note ∷ notes) = said_lines note.place note.said ++ note_lines notes
 
--- for people: what is wrong with an item, and what is wanted
-abbrev pub item_fault_words : ℕ → List FieldFault → List ℕ
-item_fault_words n [] = []
-item_fault_words n (f ∷ fs) = (item_prefix n ++ fault_words f) ++ item_fault_words n fs
+-- for people, `item N (KIND NAMESPACE/NAME) ` where the item says its name
+-- rule: cluster-explained
+abbrev pub named_prefix : ℕ → Option ObjectNamed → List ℕ
+named_prefix n None = item_prefix n
+named_prefix n (Some o) =
+    codes "item " ++ (decimal n ++ (codes " (" ++ (o.kind ++ (codes " " ++ (o.namespace
+    ++ (codes "/" ++ (o.name ++ codes ") ")))))))
+
+-- what is wrong with an item, and what is wanted, behind its name
+abbrev pub item_fault_words : List ℕ → List FieldFault → List ℕ
+item_fault_words prefix [] = []
+item_fault_words prefix (f ∷ fs) = (prefix ++ fault_words f) ++ item_fault_words prefix fs
 
 -- rule: cluster-explained
 abbrev pub taken_words : ListedKind → List ℕ → List ℕ
-taken_words kind key =
-    codes "duplicate: two "
-    ++ (kind_name kind ++ (codes "s are named " ++ (key ++ codes "; the first one is read\n")))
+taken_words kind key = codes "duplicate: " ++ (taken_message kind key ++ codes "\n")
 
-abbrev pub said_words : ℕ → Said → List ℕ
-said_words n (Was.Kind kind) = []
-said_words n (Was.Refused faults) = item_fault_words n faults
-said_words n (Was.Taken kind key) = item_prefix n ++ taken_words kind key
+abbrev pub said_words : List ℕ → Said → List ℕ
+said_words prefix (Was.Kind kind) = []
+said_words prefix (Was.Refused faults) = item_fault_words prefix faults
+said_words prefix (Was.Taken kind key) = prefix ++ taken_words kind key
 
 -- rule: cluster-explained
 abbrev pub note_words : List ItemNote → List ℕ
 note_words [] = []
-note_words (note ∷ notes) = said_words note.place note.said ++ note_words notes
+note_words (note ∷ notes) =
+    said_words (named_prefix note.place note.object) note.said ++ note_words notes
 
 abbrev pub is_other : Said → Bool
 is_other (Was.Kind kind) = true

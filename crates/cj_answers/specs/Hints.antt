@@ -4,6 +4,7 @@ use Rattle.std.specs.List.{count_by, list_any}
 use Rattle.cj_base.specs.ScheduleCause.{cause_name}
 use Rattle.cj_base.specs.declared.schedule_fault.ScheduleCause.{ScheduleCause}
 use Rattle.cj_base.specs.declared.schedule_fault.ScheduleFault.{ScheduleFault}
+use Rattle.cj_answers.specs.Suggestion.{begins}
 
 -- the first byte, in UTF-8, of no-break spaces and wide blanks, long dashes, curly quotation marks
 -- and wide digits
@@ -43,5 +44,7 @@ schedule_hint text fault =
     "schedule: it has characters that only look like plain ones, as a no-break space or a long dash; want plain blanks and -\n"
     else if list_any is_quote text then codes
     "schedule: it has quotation marks in it; those around it are for the shell alone\n"
+    else if begins (codes "@every") text then codes
+    "schedule: @every is of Go's cron library; a CronJob has */15 * * * * for each quarter of an hour, and @hourly\n"
     else if is_fields fault.cause then field_hint text
     else []

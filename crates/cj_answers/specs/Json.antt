@@ -74,7 +74,7 @@ yaml_line place why = codes "FILE: no YAML at line "
 -- that it is YAML, but neither a mapping nor a list
 -- rule: explain-yaml
 abbrev pub scalar_words : List ℕ
-scalar_words = codes "FILE: neither a mapping nor a list of YAML\n"
+scalar_words = codes "FILE: neither a mapping nor a list of YAML; cronsim crontab reads a crontab\n"
 
 -- the place is one in the text; why it is no YAML isn't stated
 -- rule: explain-yaml

@@ -1,5 +1,6 @@
 pub mod Advice
 pub mod ClockWords
+pub mod Clocked
 pub mod Clusters
 pub mod Coming
 pub mod Describe
@@ -17,7 +18,8 @@ pub mod Outcome
 pub mod Previous
 pub mod PreviousText
 pub mod Shapes
+pub mod Spans
 pub mod Suggestion
-pub mod Times
+pub mod ZoneMoments
 pub mod Zoning
 pub mod as_json

@@ -1,4 +1,5 @@
--- Moments as people write them: RFC 3339, a date alone, `now`, or so much before or after it.
+-- Moments as people write them: RFC 3339, also without an offset, a date alone, `now`, or so much
+-- before or after it.
 use Rattle.std.specs.Prelude.{ℕ, ◌+◌, ◌-◌, ◌*◌, ◌==◌, ℤ, pos, negsuc, List, [], ◌∷◌, ◌++◌, ◌&&◌, Bool, true, bytes_eq, codes, nat_le, if◌then◌else◌, int_div, is_some, Option, None, Some, option_map, Result, Ok, Err}
 use Rattle.std.specs.Borrow.{Bor}
 use Rattle.cj_base.specs.Instant.{last_second}
@@ -20,15 +21,23 @@ instant_by (Err e) = None
 abbrev pub instant_of : List ℕ → Option ℕ
 instant_of text = instant_by (parse_timestamp text)
 
--- a date alone is its first moment in UTC
+-- what was read, or else a text
+abbrev pub or_instant : Option ℕ → List ℕ → Option ℕ
+or_instant (Some t) text = Some t
+or_instant None text = instant_of text
+
+-- a time without an offset is in UTC, and a date alone is its first moment there
 -- rule: moment-text
-abbrev pub or_date : Option ℕ → List ℕ → Option ℕ
-or_date (Some t) text = Some t
-or_date None text = instant_of (text ++ codes "T00:00:00Z")
+abbrev pub utc_of : List ℕ → Option ℕ
+utc_of text = or_instant (instant_of (text ++ codes "Z")) (text ++ codes "T00:00:00Z")
+
+abbrev pub or_utc : Option ℕ → List ℕ → Option ℕ
+or_utc (Some t) text = Some t
+or_utc None text = utc_of text
 
 -- rule: moment-text
 abbrev pub moment_of : List ℕ → Option ℕ
-moment_of text = or_date (instant_of text) text
+moment_of text = or_utc (instant_of text) text
 
 -- ---- where one is asked for
 

@@ -1,14 +1,12 @@
 -- What the program answers to a request.
-use Rattle.std.specs.Prelude.{◌≡◌, ◌≢◌, ◌⊎◌, ℕ, ◌≤◌, List, [], ◌++◌, Option, None, Some, Bool, true, false, codes, decimal, string_bytes}
+use Rattle.std.specs.Prelude.{◌≡◌, ◌⊎◌, ℕ, List, [], ◌++◌, Option, None, Some, Bool, true, false, codes, decimal, string_bytes}
 use Rattle.std.specs.Borrow.{Bor}
-use Rattle.cj_base.specs.Instant.{last_second}
 use Rattle.cj_base.specs.ScheduleCause.{cause_name}
 use Rattle.cj_base.specs.declared.schedule_fault.ScheduleFault.{ScheduleFault}
 use Rattle.cj_schedule.specs.Matches.{Sets}
 use Rattle.cj_schedule.specs.Grammar.{IsSchedule}
 use Rattle.cj_schedule.specs.Reading.{fault_of}
 use Rattle.cj_zone.specs.declared.zone.Zone.{Zone}
-use Rattle.cj_zone.specs.TimeText.{time_text_of}
 use Rattle.cj_io.specs.declared.exit_status.ExitStatus.{ExitStatus}
 use Rattle.cj_io.specs.declared.exit_status.ExitStatus.TheVariants as Status
 use Rattle.cj_io.specs.declared.zone_files.file.ZoneFile.{ZoneFile}
@@ -17,7 +15,7 @@ use Rattle.cj_answers.specs.ClockWords.{IsClockWords, clock_mark}
 use Rattle.cj_answers.specs.Hints.{schedule_hint}
 use Rattle.cj_answers.specs.as_json.Forms.{form_words, is_form, is_json}
 use Rattle.cj_answers.specs.as_json.Next.{IsNextPrinted}
-use Rattle.cj_answers.specs.Times.{IsTimeWords}
+use Rattle.cj_answers.specs.Moments.{moment_of}
 use Rattle.cj_answers.specs.Zoning.{IsNoZoneFor, IsZoneFor}
 use Rattle.cj_answers.specs.declared.answer.Answer.{Answer}
 use Rattle.cj_answers.specs.declared.answer.Ending.{Ending}
@@ -72,15 +70,6 @@ schedule_line f =
     ++ (decimal f.field
     ++ (codes " " ++ (decimal f.byte ++ (codes " " ++ (cause_name f.cause ++ codes "\n")))))
 
--- no instant up to the end of 9998 is printed so
-abbrev pub IsNoTime : List ℕ → Type 0
-IsNoTime text = (t : ℕ) → t ≤ last_second → text ≢ time_text_of t
-
--- the text is a printed instant up to the end of 9998
-pub record IsTime (text : List ℕ) (t : ℕ) : Type 0 where
-  pub in_range : t ≤ last_second
-  pub printed : text ≡ time_text_of t
-
 -- the line of a schedule's fault, what is wrong with the text, and what people may have overlooked
 -- rule: explain-hint
 pub record IsScheduleRefusal (explain : Bool) (text : List ℕ) (fault : ScheduleFault) (o : Outcome)
@@ -90,22 +79,15 @@ pub record IsScheduleRefusal (explain : Bool) (text : List ℕ) (fault : Schedul
   pub answer : o ≡ explained explain (words ++ schedule_hint text fault)
       (refusal (schedule_line fault))
 
--- a time is refused, with what is wanted of it and what may be meant
--- rule: explain-time
-pub record IsTimeRefusal (explain : Bool) (want option text : List ℕ) (o : Outcome) : Type 0 where
-  pub meant : List ℕ
-  pub words : IsTimeWords option text meant
-  pub answer : o ≡ explained explain (want ++ meant) (refusal (codes "cronsim: time\n"))
-
 -- what a start has to be
--- rule: explain
+-- rules: explain, moment-text
 abbrev pub after_words : List ℕ
-after_words = codes "--after: want a UTC time like 2024-01-01T00:00:00Z\n"
+after_words = codes "--after: want a time like 2024-01-01T00:00:00Z or 2024-01-01T01:00:00+01:00, a date like 2024-01-01, now, or -1h or +2d from now\n"
 
 -- what a rule has to be
 -- rule: explain
 abbrev pub rule_words : List ℕ
-rule_words = codes "--zone: want UTC or a POSIX rule like CET-1CEST,M3.5.0,M10.5.0/3\n"
+rule_words = codes "--zone: want UTC, a name like Europe/Berlin, or a POSIX rule like CET-1CEST,M3.5.0,M10.5.0/3\n"
 
 -- what the name of a zone has to be
 -- rule: explain
@@ -127,15 +109,15 @@ pub record RefusesSchedule (r : NextRequest) (o : Outcome) : Type 0 where
 pub record RefusesTime (r : NextRequest) (o : Outcome) : Type 0 where
   pub sets : Sets
   pub schedule : IsSchedule r.schedule.now sets
-  pub start : IsNoTime r.after.now
-  pub told : IsTimeRefusal r.explain after_words (codes "--after") r.after.now o
+  pub start : moment_of r.after.now ≡ None
+  pub answer : o ≡ explained r.explain after_words (refusal (codes "cronsim: time\n"))
 
 -- then the zone
 pub record RefusesZone (r : NextRequest) (files : List ZoneFile) (o : Outcome) : Type 0 where
   pub sets : Sets
   pub schedule : IsSchedule r.schedule.now sets
   pub after : ℕ
-  pub start : IsTime r.after.now after
+  pub start : moment_of r.after.now ≡ Some after
   pub none : IsNoZoneFor r.time_zone r.zone files
   pub answer : o ≡ explained r.explain (next_zone_words r.time_zone)
       (refusal (codes "cronsim: zone\n"))
@@ -155,7 +137,7 @@ pub record PrintsTimes (r : NextRequest) (files : List ZoneFile) (o : Outcome) :
   pub sets : Sets
   pub schedule : IsSchedule r.schedule.now sets
   pub after : ℕ
-  pub start : IsTime r.after.now after
+  pub start : moment_of r.after.now ≡ Some after
   pub zone : Zone
   pub is_zone : IsZoneFor r.time_zone r.zone files zone
   pub tells : TellsTimes r sets zone after o

@@ -9,8 +9,8 @@ use crate::answer::{Answer, Ending};
 use crate::json::json_words;
 use crate::lines::print_fault;
 use cj_base::FieldFault;
-use cj_cluster::{ItemNote, ListFault, ListedKind, Said};
-use cj_explain::explain_fault;
+use cj_cluster::{ItemNote, ListFault, ListedKind, ObjectNamed, Said};
+use cj_explain::{explain_fault, kind_name, taken_message};
 use cj_io::Failure;
 use std::alloc::{AllocError, Global};
 
@@ -52,15 +52,6 @@ fn kind_line(alloc: Global, kind: &str) -> Result<String, AllocError>
     format!(in alloc; "kind {kind}\n")
 }
 
-fn kind_name(kind: ListedKind) -> &'static str
-    ensures { result.now ≡ told.kind_name kind }
-{
-    match kind {
-        ListedKind::Cron => "CronJob",
-        ListedKind::Run => "Job",
-    }
-}
-
 fn taken_line(alloc: Global, kind: ListedKind, key: &str) -> Result<String, AllocError>
     ensures { IfOk result (λ s. string_bytes s ≡ told.taken_line kind key.now) }
 {
@@ -96,18 +87,44 @@ pub fn note_lines(alloc: Global, notes: &[ItemNote]) -> Result<String, AllocErro
     Ok(text)
 }
 
+// The beginning of the words on an item, with its name where it says one.
+fn named_prefix(
+    alloc: Global,
+    place: u64,
+    object: &Option<ObjectNamed>,
+) -> Result<String, AllocError>
+    ensures { IfOk result (λ s. string_bytes s ≡ told.named_prefix place object.now) }
+{
+    match object {
+        None => item_prefix(alloc, place),
+        Some(object) => {
+            let (kind, name) = (object.kind.as_str(), object.name.as_str());
+            let namespace = object.namespace.as_str();
+            format!(in alloc; "item {place} ({kind} {namespace}/{name}) ")
+        }
+    }
+}
+
+fn push_prefixed(text: &mut String, prefix: &str, words: &str) -> Result<(), AllocError>
+    ensures { OnOk result (string_bytes text.new
+        ≡ string_bytes text.old ++ (prefix.now ++ words.now)) }
+{
+    text.push_str(prefix)?;
+    text.push_str(words)
+}
+
 fn push_fault_words(
     alloc: Global,
     text: &mut String,
-    place: u64,
+    prefix: &str,
     faults: &[FieldFault],
 ) -> Result<(), AllocError>
     ensures { OnOk result (string_bytes text.new
-        ≡ string_bytes text.old ++ told.item_fault_words place faults.now) }
+        ≡ string_bytes text.old ++ told.item_fault_words prefix.now faults.now) }
 {
     for fault in faults {
         let words = explain_fault(alloc, *fault)?;
-        push_item(alloc, text, place, words.as_str())?;
+        push_prefixed(text, prefix, words.as_str())?;
     }
     Ok(())
 }
@@ -115,25 +132,26 @@ fn push_fault_words(
 fn taken_words(alloc: Global, kind: ListedKind, key: &str) -> Result<String, AllocError>
     ensures { IfOk result (λ s. string_bytes s ≡ told.taken_words kind key.now) }
 {
-    let kind = kind_name(kind);
-    format!(in alloc; "duplicate: two {kind}s are named {key}; the first one is read\n")
+    let message = taken_message(alloc, kind, key)?;
+    let message = message.as_str();
+    format!(in alloc; "duplicate: {message}\n")
 }
 
 fn push_said_words(
     alloc: Global,
     text: &mut String,
-    place: u64,
+    prefix: &str,
     said: &Said,
 ) -> Result<(), AllocError>
     ensures { OnOk result (string_bytes text.new
-        ≡ string_bytes text.old ++ told.said_words place said.now) }
+        ≡ string_bytes text.old ++ told.said_words prefix.now said.now) }
 {
     match said {
         Said::Kind(_) => Ok(()),
-        Said::Refused(faults) => push_fault_words(alloc, text, place, faults.as_slice()),
+        Said::Refused(faults) => push_fault_words(alloc, text, prefix, faults.as_slice()),
         Said::Taken(kind, key) => {
             let words = taken_words(alloc, *kind, key.as_str())?;
-            push_item(alloc, text, place, words.as_str())
+            push_prefixed(text, prefix, words.as_str())
         }
     }
 }
@@ -144,7 +162,8 @@ pub fn note_words(alloc: Global, notes: &[ItemNote]) -> Result<String, AllocErro
 {
     let mut text = String::new(alloc);
     for note in notes {
-        push_said_words(alloc, &mut text, note.place, &note.said)?;
+        let prefix = named_prefix(alloc, note.place, &note.object)?;
+        push_said_words(alloc, &mut text, prefix.as_str(), &note.said)?;
     }
     Ok(text)
 }

@@ -3,6 +3,7 @@ ghost use Rattle.std.specs.Prelude.{◌≡◌};
 ghost use Rattle.std.specs.List.{count_by, list_any};
 ghost use Rattle.cj_answers.specs.Hints.{field_hint, is_blank, is_fields, is_letter, is_odd, is_point, is_quote, schedule_hint};
 
+use crate::shapes::begins;
 use cj_base::ScheduleFault;
 
 // The first byte of a character that looks like a blank, a dash, a quotation mark, a digit or a
@@ -101,6 +102,8 @@ pub(crate) fn schedule_hint(text: &str, fault: ScheduleFault) -> &'static str
         "schedule: it has characters that only look like plain ones, as a no-break space or a long dash; want plain blanks and -\n"
     } else if has_quote(text) {
         "schedule: it has quotation marks in it; those around it are for the shell alone\n"
+    } else if begins(text.as_bytes(), b"@every") {
+        "schedule: @every is of Go's cron library; a CronJob has */15 * * * * for each quarter of an hour, and @hourly\n"
     } else if is_fields(fault) {
         field_hint(text)
     } else {

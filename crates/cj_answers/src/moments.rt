@@ -1,6 +1,6 @@
 // Moments as people write them.
 ghost use Rattle.std.specs.Prelude.{◌≡◌, ◌++◌, IfOk, codes};
-ghost use Rattle.cj_answers.specs.Moments.{asked_moment, instant_of, is_moment, moment_of, moment_words, second_of};
+ghost use Rattle.cj_answers.specs.Moments.{asked_moment, instant_of, is_moment, moment_of, moment_words, second_of, utc_of};
 ghost use Rattle.cj_answers.specs.Outcome.{explained, outcome_of, refusal};
 
 use crate::answer::Answer;
@@ -8,8 +8,8 @@ use cj_types::Seconds;
 use jiff::Timestamp;
 use std::alloc::{AllocError, Global};
 
-// So many seconds, where they are an instant.
-fn second_of(second: i64) -> Option<Seconds>
+/// So many seconds, where they are an instant.
+pub(crate) fn second_of(second: i64) -> Option<Seconds>
     ensures { result ≡ second_of second }
 {
     if second < 0 {
@@ -18,8 +18,8 @@ fn second_of(second: i64) -> Option<Seconds>
     Seconds::new(second.unsigned_abs())
 }
 
-// The instant that a text of RFC 3339 says; a fraction of a second is left out.
-fn instant_of(text: &str) -> Option<Seconds>
+/// The instant that a text of RFC 3339 says; a fraction of a second is left out.
+pub(crate) fn instant_of(text: &str) -> Option<Seconds>
     ensures { result ≡ instant_of text.now }
 {
     match text.parse::<Timestamp>() {
@@ -28,23 +28,34 @@ fn instant_of(text: &str) -> Option<Seconds>
     }
 }
 
-// The first moment of a date.
-fn date_of(alloc: Global, date: &str) -> Result<Option<Seconds>, AllocError>
-    ensures { IfOk result (λ m. m ≡ instant_of (date.now ++ codes "T00:00:00Z")) }
+// The instant of a text with this end.
+fn ended(alloc: Global, text: &str, end: &str) -> Result<Option<Seconds>, AllocError>
+    ensures { IfOk result (λ m. m ≡ instant_of (text.now ++ end.now)) }
 {
-    let mut text = String::from_str(alloc, date)?;
-    text.push_str("T00:00:00Z")?;
-    Ok(instant_of(text.as_str()))
+    let mut whole = String::from_str(alloc, text)?;
+    whole.push_str(end)?;
+    Ok(instant_of(whole.as_str()))
 }
 
-/// The moment that a text says: a time of RFC 3339 with `Z` or an offset, or a date alone, whose
-/// first moment in UTC it is; none where it says none, or one before 1970 or after 9998.
-pub(crate) fn moment_of(alloc: Global, text: &str) -> Result<Option<Seconds>, AllocError>
+/// The instant of a time without an offset, in UTC, or the first one of a date there.
+pub(crate) fn utc_of(alloc: Global, text: &str) -> Result<Option<Seconds>, AllocError>
+    ensures { IfOk result (λ m. m ≡ utc_of text.now) }
+{
+    match ended(alloc, text, "Z")? {
+        Some(time) => Ok(Some(time)),
+        None => ended(alloc, text, "T00:00:00Z"),
+    }
+}
+
+/// The moment that a text says: a time of RFC 3339, which is in UTC where it has no offset, or a
+/// date alone, whose first moment in UTC it is; none where it says none, or one before 1970 or
+/// after 9998.
+pub fn moment_of(alloc: Global, text: &str) -> Result<Option<Seconds>, AllocError>
     ensures { IfOk result (λ m. m ≡ moment_of text.now) }
 {
     match instant_of(text) {
         Some(time) => Ok(Some(time)),
-        None => date_of(alloc, text),
+        None => utc_of(alloc, text),
     }
 }
 

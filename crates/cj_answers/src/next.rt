@@ -1,6 +1,6 @@
 ghost use Rattle.std.specs.Prelude.{◌≡◌, IfOk, IfErr, codes, string_bytes};
 ghost use Rattle.cj_base.specs.declared.refusal.Refusal.TheVariants.{OutOfMemory};
-ghost use Rattle.cj_answers.specs.Outcome.{IsNextAnswer, IsNextOutcome, IsScheduleRefusal, TellsTimes, done, explained, next_zone_words, outcome_of, refusal, schedule_line};
+ghost use Rattle.cj_answers.specs.Outcome.{IsNextAnswer, IsNextOutcome, IsScheduleRefusal, TellsTimes, after_words, done, explained, next_zone_words, outcome_of, refusal, schedule_line};
 ghost use Rattle.cj_answers.specs.as_json.Forms.{is_json};
 ghost use Rattle.cj_answers.specs.as_json.Next.{IsNextPrinted};
 
@@ -8,15 +8,15 @@ use crate::answer::{Answer, Ending};
 use crate::as_json::{is_form, is_json, next_json, refused_form};
 use crate::clock_words::{clock_mark, clock_words};
 use crate::hints::schedule_hint;
+use crate::moments::moment_of;
 use crate::next_lines::next_text;
-use crate::times::refused_time;
 use crate::zoning::zones_for;
 use cj_args::NextRequest;
 use cj_base::{Refusal, ScheduleFault, Seconds};
 use cj_explain::explain_schedule;
 use cj_io::{Failure, ZoneFile};
 use cj_schedule::Schedule;
-use cj_zone::{Zone, read_time};
+use cj_zone::Zone;
 use std::alloc::{AllocError, Global};
 
 fn fault_text(alloc: Global, fault: ScheduleFault) -> Result<String, AllocError>
@@ -42,10 +42,19 @@ pub(crate) fn refused_schedule(
 }
 
 // What a start has to be.
-const AFTER_WORDS: &str = "--after: want a UTC time like 2024-01-01T00:00:00Z\n";
+const AFTER_WORDS: &str =
+    "--after: want a time like 2024-01-01T00:00:00Z or 2024-01-01T01:00:00+01:00, a date like 2024-01-01, now, or -1h or +2d from now\n";
+
+fn refused_time(alloc: Global, explain: bool) -> Result<Answer, AllocError>
+    ensures { IfOk result (λ a. outcome_of a ≡ explained explain after_words
+        (refusal (codes "cronsim: time\n"))) }
+{
+    Answer::refused(alloc, "cronsim: time\n")?.explained(explain, AFTER_WORDS)
+}
 
 // What a rule has to be.
-const RULE_WORDS: &str = "--zone: want UTC or a POSIX rule like CET-1CEST,M3.5.0,M10.5.0/3\n";
+const RULE_WORDS: &str =
+    "--zone: want UTC, a name like Europe/Berlin, or a POSIX rule like CET-1CEST,M3.5.0,M10.5.0/3\n";
 
 // What the name of a zone has to be.
 const TIME_ZONE_WORDS: &str =
@@ -129,8 +138,8 @@ fn form_answer(alloc: Global, next: &NextRequest<'_>, files: &[ZoneFile]) -> Res
             return Ok(refused_schedule(alloc, next.explain, next.schedule, fault)?);
         }
     };
-    let Some(after) = read_time(next.after) else {
-        return refused_time(alloc, next.explain, AFTER_WORDS, "--after", next.after);
+    let Some(after) = moment_of(alloc, next.after)? else {
+        return Ok(refused_time(alloc, next.explain)?);
     };
     let table = match zones_for(alloc, next.time_zone, next.zone, files) {
         Ok(table) => table,

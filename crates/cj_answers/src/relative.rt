@@ -4,7 +4,8 @@ ghost use Rattle.cj_answers.specs.Moments.{before, behind, by_clock, is_digit, s
 
 use cj_types::Seconds;
 
-fn is_digit(byte: u8) -> bool
+/// Whether it is a decimal digit.
+pub(crate) fn is_digit(byte: u8) -> bool
     ensures value { result ≡ is_digit byte }
     ensures most { result ≡ true → byte ≤ 57 }
 {
@@ -30,7 +31,8 @@ fn unit_of(byte: u8) -> Option<u64>
     }
 }
 
-fn span_end(count: u64, unit: u8, rest: &[u8]) -> Option<u64>
+/// So many of a unit in seconds, where nothing is behind it.
+pub(crate) fn span_end(count: u64, unit: u8, rest: &[u8]) -> Option<u64>
     requires { count ≤ 10_000_000_009 }
     ensures { result ≡ span_end count unit rest.now }
 {

@@ -3,7 +3,8 @@ ghost use Rattle.std.specs.Prelude.{◌≡◌, codes};
 ghost use Rattle.cj_answers.specs.Shapes.{encoding_words, is_message, is_table, shape_words};
 ghost use Rattle.cj_answers.specs.Suggestion.{begins};
 
-fn begins(bytes: &[u8], front: &[u8]) -> bool
+/// Whether bytes begin so.
+pub(crate) fn begins(bytes: &[u8], front: &[u8]) -> bool
     ensures { result ≡ begins front.now bytes.now }
 {
     bytes.strip_prefix(front).is_some()

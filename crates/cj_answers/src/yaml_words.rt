@@ -15,12 +15,36 @@ fn yaml_line(alloc: Global, place: Place, why: &str) -> Result<String, AllocErro
     format!(in alloc; "FILE: no YAML at line {line}, column {column}: {why}\n")
 }
 
+// Whether there is a no-break space, which editors and web pages put in the place of a blank.
+fn has_no_break_space(bytes: &[u8]) -> bool {
+    let mut last = 0;
+    for byte in bytes {
+        if last == 0xc2 && *byte == 0xa0 {
+            return true;
+        }
+        last = *byte;
+    }
+    false
+}
+
+// What people may do about such a fault.
+fn hint_of(bytes: &[u8], kind: &FaultKind) -> &'static str {
+    match kind {
+        FaultKind::AnchorName | FaultKind::Indicator =>
+            "; a schedule like * * * * * or @daily stands in quotes, and cronsim crontab reads a crontab",
+        FaultKind::MergeKey => ", which only readers of YAML 1.1 know; write out what it merges",
+        _ if has_no_break_space(bytes) => "; the text has a no-break space, which is no blank",
+        _ => "",
+    }
+}
+
 fn fault_words(alloc: Global, bytes: &[u8], fault: Fault) -> Result<String, Failure>
     requires { IsPlaceIn bytes.now fault.place }
     ensures { IfOk result (λ s. IsYamlWords bytes.now (string_bytes s)) }
 {
     let kind = fault.kind;
-    let why = format!(in alloc; "{kind}")?;
+    let hint = hint_of(bytes, &kind);
+    let why = format!(in alloc; "{kind}{hint}")?;
     Ok(yaml_line(alloc, fault.place, why.as_str())?)
 }
 
@@ -29,7 +53,10 @@ pub(crate) fn yaml_words(alloc: Global, bytes: &[u8]) -> Result<String, Failure>
     ensures { IfOk result (λ s. IsYamlWords bytes.now (string_bytes s)) }
 {
     match read(alloc, bytes) {
-        Ok(_) => Ok(String::from_str(alloc, "FILE: neither a mapping nor a list of YAML\n")?),
+        Ok(_) => Ok(String::from_str(
+            alloc,
+            "FILE: neither a mapping nor a list of YAML; cronsim crontab reads a crontab\n",
+        )?),
         Err(fault) => match fault.kind {
             FaultKind::OutOfMemory => Err(Failure::Memory),
             _ => fault_words(alloc, bytes, fault),

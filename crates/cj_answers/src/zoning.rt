@@ -90,7 +90,7 @@ fn zones_of(alloc: Global, word: Option<&str>, files: &[ZoneFile]) -> Result<Zon
 }
 
 /// A table whose local zone is the one that is asked for by `--time-zone` or by `--zone`.
-pub(crate) fn zones_for(
+pub fn zones_for(
     alloc: Global,
     name: Option<&str>,
     word: Option<&str>,

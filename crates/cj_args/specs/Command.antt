@@ -8,6 +8,7 @@ use Rattle.clap.specs.Words.{App, Row, Rule, Text, all_of, first_of, new_app, ne
 use Rattle.clap.specs.declared.builder.action.ArgAction.TheVariants.{Append, SetTrue}
 use Rattle.clap.specs.declared.builder.value_parser.ValueParser.TheVariants.{Unsigned}
 use Rattle.cj_args.specs.declared.request.AuditRequest.{AuditRequest}
+use Rattle.cj_args.specs.declared.clocks.ClockWords.{ClockWords}
 use Rattle.cj_args.specs.declared.request.CheckRequest.{CheckRequest}
 use Rattle.cj_args.specs.declared.request.ControlRequest.{ControlRequest}
 use Rattle.cj_args.specs.declared.crontab.CrontabRequest.{CrontabRequest}
@@ -77,6 +78,15 @@ explain_rule =
 abbrev pub with_folder : App → App
 with_folder a = with_rule (with_rule a folder_rule) explain_rule
 
+-- a flag, whose long name is its id
+abbrev pub flag_rule : Text → Rule
+flag_rule id = record (new_rule id) { long = Some id; action = Some SetTrue }
+
+-- by whose clock times are printed: `.. [--time-zone ZONE] [--local]`
+-- rule: local-times
+abbrev pub with_clock : App → App
+with_clock a = with_rule (with_rule a time_zone_rule) (flag_rule (codes "local"))
+
 -- `.. [--zone NAME=RULE].. [--zoneinfo DIR] [--explain]`
 abbrev pub with_zones : App → App
 with_zones a = with_folder (with_rule a zones_rule)
@@ -108,10 +118,6 @@ next_app =
 abbrev pub file_rule : Rule
 file_rule = record (new_rule (codes "file")) { required = true; value_names = 1 }
 
--- a flag, whose long name is its id
-abbrev pub flag_rule : Text → Rule
-flag_rule id = record (new_rule id) { long = Some id; action = Some SetTrue }
-
 -- one file or more
 -- rule: check-several
 abbrev pub files_rule : Rule
@@ -140,9 +146,10 @@ abbrev pub plan_app : App
 plan_app = with_zones (with_rule (with_rule (with_rule (new_app (codes "plan")) file_rule) now_rule)
     lines_rule)
 
--- `cronsim replay FILE [--zone NAME=RULE].. [--zoneinfo DIR] [--explain]`
+-- `cronsim replay FILE [-o FORMAT] [--zone NAME=RULE].. [--zoneinfo DIR] [--explain]`
+-- rule: replay-json
 abbrev pub replay_app : App
-replay_app = with_zones (with_rule (new_app (codes "replay")) file_rule)
+replay_app = with_zones (with_rule (with_rule (new_app (codes "replay")) file_rule) lines_rule)
 
 -- how many workers there are, or how many syncs may be under way at once, and how many where nobody
 -- says it
@@ -154,16 +161,6 @@ workers_rule usual = record (new_rule (codes "workers")) {
   parser = Some (Unsigned 1 32);
   defaults = usual ∷ [];
 }
-
--- `cronsim run FILE [--workers N] [--timeline] [--history] [--svg] [-o FORMAT] [--zone NAME=RULE]..
--- [--zoneinfo DIR] [--explain]`
-abbrev pub run_app : App
-run_app =
-    let workers = workers_rule (codes "2") in
-    let of = with_rule (with_rule (new_app (codes "run")) file_rule) workers in
-    let shown = with_rule (with_rule of (flag_rule (codes "timeline")))
-    (flag_rule (codes "history")) in
-    with_zones (with_rule (with_rule shown (flag_rule (codes "svg"))) lines_rule)
 
 -- an option that may be given several times
 abbrev pub crons_rule : Rule
@@ -178,6 +175,19 @@ abbrev pub namespace_rule : Rule
 namespace_rule =
     record (new_rule (codes "namespace"))
     { long = Some (codes "namespace"); short = Some 110; value_names = 1 }
+
+-- `cronsim run FILE [--workers N] [--timeline] [--history] [--svg] [-o FORMAT]
+-- [--cron [NAMESPACE/]NAME].. [-n NAMESPACE] [--time-zone ZONE] [--local] [--zone NAME=RULE]..
+-- [--zoneinfo DIR] [--explain]`
+-- rules: run-workers, run-named, local-times
+abbrev pub run_app : App
+run_app =
+    let workers = workers_rule (codes "2") in
+    let of = with_rule (with_rule (new_app (codes "run")) file_rule) workers in
+    let shown = with_rule (with_rule of (flag_rule (codes "timeline")))
+    (flag_rule (codes "history")) in
+    let told = with_rule (with_rule shown (flag_rule (codes "svg"))) lines_rule in
+    with_zones (with_clock (with_rule (with_rule told crons_rule) namespace_rule))
 
 -- a flag that changes nothing, by the letter that `kubectl` has for it: all namespaces
 abbrev pub all_rule : Rule
@@ -195,26 +205,27 @@ inputs_rule =
     record input_rule { range = Some (record { start_inclusive = 1; end_inclusive = usize_max }) }
 
 -- `cronsim why [FILE] [--now TIME] [--cron [NAMESPACE/]NAME].. [-n NAMESPACE] [-A] [-o FORMAT]
--- [--problems] [--zone NAME=RULE].. [--zoneinfo DIR] [--explain]`
+-- [--problems] [--time-zone ZONE] [--local] [--zone NAME=RULE].. [--zoneinfo DIR] [--explain]`
 abbrev pub why_app : App
 why_app =
     let of = with_rule (with_rule (new_app (codes "why")) input_rule) moment_rule in
     let named = with_rule (with_rule (with_rule of crons_rule) namespace_rule) all_rule in
-    with_zones (with_rule (with_rule named (output_rule (codes "table")))
-    (flag_rule (codes "problems")))
+    with_zones (with_clock (with_rule (with_rule named (output_rule (codes "table")))
+    (flag_rule (codes "problems"))))
 
 -- an option with one value, which may be left out
 abbrev pub left_rule : Text → Rule
 left_rule id = record (new_rule id) { long = Some id; value_names = 1 }
 
 -- `cronsim audit [FILE] [--since TIME] [--now TIME] [--cron [NAMESPACE/]NAME].. [-n NAMESPACE] [-A]
--- [-o FORMAT] [--svg] [--zone NAME=RULE].. [--zoneinfo DIR] [--explain]`
+-- [-o FORMAT] [--svg] [--time-zone ZONE] [--local] [--zone NAME=RULE].. [--zoneinfo DIR]
+-- [--explain]`
 abbrev pub audit_app : App
 audit_app =
     let file = with_rule (new_app (codes "audit")) input_rule in
     let of = with_rule (with_rule file (left_rule (codes "since"))) moment_rule in
     let named = with_rule (with_rule (with_rule of crons_rule) namespace_rule) all_rule in
-    with_zones (with_rule (with_rule named lines_rule) (flag_rule (codes "svg")))
+    with_zones (with_clock (with_rule (with_rule named lines_rule) (flag_rule (codes "svg"))))
 
 -- the start of a window, which may be left out
 abbrev pub from_rule : Rule
@@ -239,14 +250,14 @@ peaks_rule = record (new_rule (codes "peaks")) {
 
 -- `cronsim upcoming [FILE].. [--from TIME] [--for LENGTH | --until TIME] ..
 -- [--cron [NAMESPACE/]NAME].. [-n NAMESPACE] [-A] [--minutes] [--peaks N] [-o FORMAT] [--svg]
--- [--zone NAME=RULE].. [--zoneinfo DIR] [--explain]`
+-- [--time-zone ZONE] [--local] [--zone NAME=RULE].. [--zoneinfo DIR] [--explain]`
 abbrev pub upcoming_app : App
 upcoming_app =
     let from = with_rule (with_rule (new_app (codes "upcoming")) inputs_rule) from_rule in
     let of = with_rule (with_rule from length_rule) (left_rule (codes "until")) in
     let named = with_rule (with_rule (with_rule of crons_rule) namespace_rule) all_rule in
     let told = with_rule (with_rule named (flag_rule (codes "minutes"))) peaks_rule in
-    with_zones (with_rule (with_rule told lines_rule) (flag_rule (codes "svg")))
+    with_zones (with_clock (with_rule (with_rule told lines_rule) (flag_rule (codes "svg"))))
 
 -- a start that may be left out
 abbrev pub since_rule : Rule
@@ -404,6 +415,12 @@ pub record AreZones (rows : List Row) (z : ZoneWords) : Type 0 where
   pub rules : texts_of (codes "zone") rows ≡ map (λ s. s.now) z.rules.items
   pub folder : first_of (codes "zoneinfo") rows ≡ option_map (λ s. s.now) z.folder
 
+-- the clock is that which `clap` states for its options
+-- rules: words, local-times
+pub record IsClock (rows : List Row) (c : ClockWords) : Type 0 where
+  pub zone : first_of (codes "time-zone") rows ≡ option_map (λ s. s.now) c.zone
+  pub local : c.is_local ≡ is_given (codes "local") rows
+
 -- what the rows of a command are read as: a request that has the values which `clap` states for its
 -- arguments; no request, where none has these values; or no memory
 abbrev pub Reads : {R : Type 0} → (R → Type 0) → Result R WordFault → Type 0
@@ -445,6 +462,7 @@ pub record IsPlan (rows : List Row) (r : PlanRequest) : Type 0 where
 -- and for those of `replay`
 pub record IsReplay (rows : List Row) (r : ReplayRequest) : Type 0 where
   pub file : first_of (codes "file") rows ≡ Some r.file.now
+  pub output : first_of (codes "output") rows ≡ Some r.output.now
   pub zones : AreZones rows r.zones
   pub explain : r.explain ≡ is_given (codes "explain") rows
 
@@ -459,6 +477,9 @@ pub record IsRunOf (rows : List Row) (r : RunRequest) : Type 0 where
   pub history : r.history ≡ is_given (codes "history") rows
   pub svg : r.svg ≡ is_given (codes "svg") rows
   pub output : first_of (codes "output") rows ≡ Some r.output.now
+  pub crons : texts_of (codes "cron") rows ≡ map (λ s. s.now) r.crons.items
+  pub namespace : first_of (codes "namespace") rows ≡ option_map (λ s. s.now) r.namespace
+  pub clock : IsClock rows r.clock
   pub zones : AreZones rows r.zones
   pub explain : r.explain ≡ is_given (codes "explain") rows
 
@@ -470,6 +491,7 @@ pub record IsWhy (rows : List Row) (r : WhyRequest) : Type 0 where
   pub namespace : first_of (codes "namespace") rows ≡ option_map (λ s. s.now) r.namespace
   pub output : first_of (codes "output") rows ≡ Some r.output.now
   pub problems : r.problems ≡ is_given (codes "problems") rows
+  pub clock : IsClock rows r.clock
   pub zones : AreZones rows r.zones
   pub explain : r.explain ≡ is_given (codes "explain") rows
 
@@ -482,6 +504,7 @@ pub record IsAudit (rows : List Row) (r : AuditRequest) : Type 0 where
   pub namespace : first_of (codes "namespace") rows ≡ option_map (λ s. s.now) r.namespace
   pub output : first_of (codes "output") rows ≡ Some r.output.now
   pub svg : r.svg ≡ is_given (codes "svg") rows
+  pub clock : IsClock rows r.clock
   pub zones : AreZones rows r.zones
   pub explain : r.explain ≡ is_given (codes "explain") rows
 
@@ -498,6 +521,7 @@ pub record IsUpcoming (rows : List Row) (r : UpcomingRequest) : Type 0 where
   pub most : r.peaks ≤ 1_000
   pub output : first_of (codes "output") rows ≡ Some r.output.now
   pub svg : r.svg ≡ is_given (codes "svg") rows
+  pub clock : IsClock rows r.clock
   pub zones : AreZones rows r.zones
   pub explain : r.explain ≡ is_given (codes "explain") rows
 

@@ -9,6 +9,7 @@ use crate::arguments::{
     inputs_arg, length_arg, lines_arg, namespace_arg, option_arg, output_arg, peaks_arg,
     positional_arg, required_arg, selector_arg, usual_arg, workers_arg, zones_arg,
 };
+use crate::clocks::with_clock;
 use crate::crontab::crontab_command;
 use crate::help;
 use crate::previous::previous_command;
@@ -170,6 +171,7 @@ fn replay_command<'a>(alloc: Global) -> Result<Command<'a>, AllocError>
         help::REPLAY,
         help::SCRIPT,
     );
+    let command = with_arg(command, lines_arg(alloc));
     with_zones(alloc, command)
 }
 
@@ -188,7 +190,9 @@ fn run_command<'a>(alloc: Global) -> Result<Command<'a>, AllocError>
     let command = with_arg(command, flag_arg(alloc, "history", help::HISTORY));
     let command = with_arg(command, flag_arg(alloc, "svg", help::SVG));
     let command = with_arg(command, output_arg(alloc, "lines", help::RAN));
-    with_zones(alloc, command)
+    let command = with_arg(command, crons_arg(alloc));
+    let command = with_arg(command, namespace_arg(alloc, help::EVENTS));
+    with_zones(alloc, with_clock(alloc, command))
 }
 
 fn why_command<'a>(alloc: Global) -> Result<Command<'a>, AllocError>
@@ -207,7 +211,7 @@ fn why_command<'a>(alloc: Global) -> Result<Command<'a>, AllocError>
     let command = with_arg(command, all_arg(alloc));
     let command = with_arg(command, output_arg(alloc, "table", help::OUTPUT));
     let command = with_arg(command, flag_arg(alloc, "problems", help::PROBLEMS));
-    with_zones(alloc, command)
+    with_zones(alloc, with_clock(alloc, command))
 }
 
 fn audit_command<'a>(alloc: Global) -> Result<Command<'a>, AllocError>
@@ -227,7 +231,7 @@ fn audit_command<'a>(alloc: Global) -> Result<Command<'a>, AllocError>
     let command = with_arg(command, all_arg(alloc));
     let command = with_arg(command, lines_arg(alloc));
     let command = with_arg(command, flag_arg(alloc, "svg", help::DRAWN));
-    with_zones(alloc, command)
+    with_zones(alloc, with_clock(alloc, command))
 }
 
 fn upcoming_command<'a>(alloc: Global) -> Result<Command<'a>, AllocError>
@@ -250,7 +254,7 @@ fn upcoming_command<'a>(alloc: Global) -> Result<Command<'a>, AllocError>
     let command = with_arg(command, peaks_arg(alloc));
     let command = with_arg(command, lines_arg(alloc));
     let command = with_arg(command, flag_arg(alloc, "svg", help::DRAWN));
-    with_zones(alloc, command)
+    with_zones(alloc, with_clock(alloc, command))
 }
 
 fn describe_command<'a>(alloc: Global) -> Result<Command<'a>, AllocError>

@@ -14,7 +14,8 @@ pub(crate) const IN_FILE: &str =
     "Describe the schedule of each CronJob in a file: a manifest, or the output of `kubectl get cronjobs -o json`, in JSON or YAML";
 
 /// The start of its search.
-pub(crate) const AFTER: &str = "Print times after this one, in UTC: 2024-01-01T00:00:00Z";
+pub(crate) const AFTER: &str =
+    "Print times after this one: a time (2024-01-01T00:00:00Z, 2024-01-01T01:00:00+01:00, or 2024-01-01 12:00 by the schedule's zone), a date (2024-01-01), now, or a distance from now (-1h, +2d; units s, m, h, d, w)";
 
 /// The rule of its zone.
 pub(crate) const ZONE: &str =
@@ -30,7 +31,7 @@ pub(crate) const FOLDER: &str =
 
 /// The files of `check`.
 pub(crate) const MANIFESTS: &str =
-    "File with manifests, in JSON or YAML; - reads standard input. With several files, each line begins with its file";
+    "File with manifests, in JSON or YAML, or a folder, whose files .yaml, .yml and .json are checked, and those of the folders in it; - reads standard input. With several files, each line begins with its file";
 
 /// Whether warnings refuse a manifest.
 pub(crate) const STRICT: &str =
@@ -61,7 +62,8 @@ pub(crate) const CLUSTER: &str =
     "File with the output of `kubectl get cronjobs,jobs -o json`, or of -o yaml; - reads standard input";
 
 /// The time of `plan`.
-pub(crate) const MOMENT: &str = "Plan for this time, in UTC: 2024-01-01T00:00:00Z";
+pub(crate) const MOMENT: &str =
+    "Plan for this time: a time (2024-01-01T00:00:00Z or 2024-01-01T01:00:00+01:00), a date (2024-01-01), now, or a distance from now (-1h, +2d; units s, m, h, d, w)";
 
 /// The time of `why`.
 pub(crate) const NOW: &str =
@@ -73,10 +75,11 @@ pub(crate) const FROM: &str =
 
 /// Its length.
 pub(crate) const LENGTH: &str =
-    "Length of the window, in minutes, hours or days: 90m, 24h, 7d; at most 3000d";
+    "Length of the window: 90m, 24h, 7d, 2w, 1h30m; units s, m, h, d, w; at most 3000d";
 
 /// The end of the window.
-pub(crate) const UNTIL: &str = "End of the window, in place of its length: a moment as --from";
+pub(crate) const UNTIL: &str =
+    "End of the window, in place of its length: a moment as --from; a distance counts from now";
 
 /// How many workers a run has.
 pub(crate) const WORKERS: &str = "How many workers to run, 1 to 32, each in its own thread";
@@ -116,6 +119,10 @@ pub(crate) const CRON: &str =
 /// Their namespace.
 pub(crate) const NAMESPACE: &str = "Only CronJobs in this namespace";
 
+/// The namespace of events.
+pub(crate) const EVENTS: &str =
+    "With --timeline, print only the events of CronJobs and Jobs in this namespace";
+
 /// All of them.
 pub(crate) const ALL: &str = "Taken as kubectl has it; all namespaces are read anyway";
 
@@ -141,7 +148,7 @@ pub(crate) const RAN: &str =
 
 /// Which of them.
 pub(crate) const PROBLEMS: &str =
-    "Only CronJobs that need a look. This leaves out those that are suspended, missed nothing, or start for the one time they missed";
+    "Only CronJobs that need a look, and exit with status 1 if there are any. This leaves out those that are suspended, missed nothing, or start for the one time they missed, unless that was more than two minutes ago";
 
 /// How many syncs `control` has under way.
 pub(crate) const SYNCS: &str = "How many CronJobs to work on at once, 1 to 32";
@@ -189,7 +196,8 @@ Exit status:
 
 /// Of `check`.
 pub(crate) const CHECK: &str = "Examples:
-  cronsim check deploy/*.yaml
+  cronsim check deploy
+  cronsim check deploy/backup.yaml deploy/report.yaml
   helm template . | cronsim check --strict -
   cronsim check docs/examples/manifest.json -o json
 
@@ -273,7 +281,7 @@ Lines of each CronJob:
 
 Exit status:
   0  they are printed, and every item could be read
-  1  an item is refused, as standard output says; or the format, the time, a zone, a CronJob or the input is refused: standard error says which, --explain why
+  1  an item is refused, as standard output says, or with --problems a CronJob needs a look; or the format, the time, a zone, a CronJob or the input is refused: standard error says which, --explain why
   2  the command line is wrong
   3  reading or writing failed, or memory ran out";
 
@@ -288,7 +296,7 @@ What it prints:
   beside NAMESPACE/NAME JOB JOB         two Jobs overlapped, under Forbid or Replace
   undue NAMESPACE/NAME JOB TIME         the schedule isn't due at the Job's time
   early NAMESPACE/NAME JOB TIME         the Job was created before its time
-  missing NAMESPACE/NAME TIME           this due time has no Job, though later ones have
+  missing NAMESPACE/NAME TIME           this due time has no Job, though later ones have; cronsim why tells of those after the last Job
   stray NAMESPACE/JOB NAME              the list lacks the Job's CronJob
 
 Exit status:
@@ -337,8 +345,8 @@ pub(crate) const DESCRIBE: &str = "Examples:
 
 What it prints after the sentence:
   WEEKDAY LOCAL OFFSET TIME in SPAN   a due time: on the zone's clock, with its offset from UTC; in UTC; and how far away
-  skips ZONE LOCAL LOCAL TIME         at TIME, before the next line, the clock goes forward from the one local time to the other
-  repeats ZONE LOCAL LOCAL TIME       at TIME, before the next line, the clock goes back, and shows the times between twice
+  LOCAL, which the schedule names, is skipped: ..       the clock never shows this local time
+  LOCAL, which the schedule names, comes twice: ..      the clock shows it twice
   none within 3,000 days              there is no further due time
 
 What it prints of a file:

@@ -6,6 +6,7 @@
 #![tactic(auto)]
 
 mod arguments;
+mod clocks;
 mod command;
 mod crontab;
 mod help;
@@ -17,6 +18,7 @@ mod tips;
 mod word_fault;
 mod words;
 
+pub use clocks::ClockWords;
 pub use command::VERSION;
 pub use crontab::CrontabRequest;
 pub use previous::PreviousRequest;

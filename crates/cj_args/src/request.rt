@@ -2,6 +2,7 @@
 ghost use Rattle.std.specs.Prelude.{◌≡◌, option_map};
 ghost use Rattle.cj_args.specs.Command.{described_file, first_file, is_in_file};
 
+use crate::clocks::ClockWords;
 use crate::crontab::CrontabRequest;
 use crate::previous::PreviousRequest;
 use crate::report::ReportRequest;
@@ -207,6 +208,8 @@ pub struct PlanRequest<'a> {
 pub struct ReplayRequest<'a> {
     /// The name of the file with the script; `-` is standard input.
     pub file: &'a str,
+    /// How the answers are printed: `lines` or `json`.
+    pub output: &'a str,
     /// The zones that the CronJobs may name.
     pub zones: ZoneWords<'a>,
     /// Whether a refusal is explained.
@@ -228,6 +231,13 @@ pub struct RunRequest<'a> {
     pub svg: bool,
     /// Without any of these, the form of what is printed: any text.
     pub output: &'a str,
+    /// The CronJobs whose events are printed, each as NAMESPACE/NAME or as NAME; all of them where
+    /// none is given.
+    pub crons: Vec<&'a str>,
+    /// The namespace of the events that are printed; all of them where none is given.
+    pub namespace: Option<&'a str>,
+    /// By which zone's clock times are printed.
+    pub clock: ClockWords<'a>,
     /// The zones that the CronJobs may name.
     pub zones: ZoneWords<'a>,
     /// Whether a refusal is explained.
@@ -251,6 +261,8 @@ pub struct WhyRequest<'a> {
     pub output: &'a str,
     /// Whether only those are printed that want a look.
     pub problems: bool,
+    /// By which zone's clock times are printed.
+    pub clock: ClockWords<'a>,
     /// The zones that the CronJobs may name.
     pub zones: ZoneWords<'a>,
     /// Whether a refusal is explained.
@@ -276,6 +288,8 @@ pub struct AuditRequest<'a> {
     pub output: &'a str,
     /// Whether a picture is printed in place of that.
     pub svg: bool,
+    /// By which zone's clock times are printed.
+    pub clock: ClockWords<'a>,
     /// The zones that the CronJobs may name.
     pub zones: ZoneWords<'a>,
     /// Whether a refusal is explained.
@@ -307,6 +321,8 @@ pub struct UpcomingRequest<'a> {
     pub output: &'a str,
     /// Whether a picture is printed in place of that.
     pub svg: bool,
+    /// By which zone's clock times are printed.
+    pub clock: ClockWords<'a>,
     /// The zones that the CronJobs may name.
     pub zones: ZoneWords<'a>,
     /// Whether a refusal is explained.

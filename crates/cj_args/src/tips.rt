@@ -8,7 +8,7 @@ fn option_tip(word: &str) -> &'static str {
         "--json" | "-json" | "-j" => "-o json prints JSON",
         "--yaml" | "-yaml" | "-y" => "-o yaml prints YAML",
         "--tz" | "--timezone" | "-tz" | "--local" | "--utc" => {
-            "next and describe take --zone Europe/Berlin; CronJobs name their zones themselves"
+            "next and describe take --zone Europe/Berlin; why, audit, upcoming and run print times by --time-zone Europe/Berlin or --local"
         }
         "--until" | "--to" | "--end" | "--hours" | "--days" => {
             "upcoming and scenario take --for 24h or --until TIME"
@@ -18,7 +18,7 @@ fn option_tip(word: &str) -> &'static str {
         "--limit" | "--number" | "--num" | "--times" | "-c" => "--count says how many: --count 5",
         "-f" | "--file" | "--filename" => "the file stands alone: cronsim check FILE",
         "-R" | "-r" | "--recursive" => {
-            "a folder isn't looked through: name its files, as in cronsim check deploy/*.yaml"
+            "check looks through a folder, and the folders in it: cronsim check deploy"
         }
         "-w" | "--watch" => "it answers once, and ends",
         "-v" | "--verbose" | "-q" | "--quiet" => "--explain says more; nothing says less",
@@ -68,9 +68,14 @@ const COMMANDS: &[&str] = &[
 fn takes_value(word: &str) -> bool {
     match word {
         "--explain" | "--strict" | "--svg" | "--timeline" | "--history" | "--problems" => false,
-        "--minutes" | "--file" | "--system" => false,
+        "--minutes" | "--file" | "--system" | "--local" => false,
         _ => word.starts_with("--") && !word.contains('=') || word == "-o" || word == "-n",
     }
+}
+
+// The commands on a cluster that read one file.
+fn reads_cluster(command: &str) -> bool {
+    command == "why" || command == "audit" || command == "scenario"
 }
 
 // How many of the words stand alone.
@@ -92,6 +97,8 @@ fn count_tip(command: &str, alone: usize) -> &'static str {
         "FILE is wanted; - reads what is piped in: helm template . | cronsim check -"
     } else if takes_schedule(command) && alone > 1 {
         "a schedule stands in quotes, as one word: cronsim describe '*/5 * * * *'"
+    } else if reads_cluster(command) && alone > 1 {
+        "one FILE is read, and several lists in it are one: cat a.json b.json | cronsim why -"
     } else {
         ""
     }
@@ -107,9 +114,9 @@ fn required_tip(command: &str, words: &[&str]) -> &'static str {
     let has_moment = has_option(words, "--after") || has_option(words, "--now");
     match (command, has_moment) {
         ("next", false) => {
-            "for the next times from now on: --after $(date -u +%FT%TZ), or cronsim describe SCHEDULE"
+            "for the next times from now on: --after now, or cronsim describe SCHEDULE"
         }
-        ("plan", false) => "for a plan of now: --now $(date -u +%FT%TZ)",
+        ("plan", false) => "for a plan of now: --now now",
         _ => "",
     }
 }

@@ -4,6 +4,7 @@ ghost use Rattle.clap.specs.Words.{first_of, found_of, rows_of, subcommand_rows_
 ghost use Rattle.cj_args.specs.Command.{AreZones, IsAudit, IsCheck, IsControl, IsDecimal, IsDescribe, IsNext, IsOf, IsOfRows, IsPlan, IsReplay, IsRunOf, IsUpcoming, IsWhy, Reads, RefusesWords, is_given, texts_of};
 ghost use Rattle.cj_args.specs.declared.word_fault.WordFault.TheVariants.{Incomplete};
 
+use crate::clocks::clock_words;
 use crate::command::cronsim_command;
 use crate::crontab::crontab_request;
 use crate::previous::previous_request;
@@ -171,9 +172,11 @@ fn replay_request<'a>(alloc: Global, found: &ArgMatches<'a>) -> Result<ReplayReq
     ensures { Reads (IsReplay (rows_of (found_of found.now))) result }
 {
     let file = text(found, "file")?;
+    let output = text(found, "output")?;
     let explain = is_given(found, "explain");
     Ok(ReplayRequest {
         file,
+        output,
         zones: zone_words(alloc, found)?,
         explain,
     })
@@ -188,6 +191,7 @@ fn run_request<'a>(alloc: Global, found: &ArgMatches<'a>) -> Result<RunRequest<'
     let history = is_given(found, "history");
     let svg = is_given(found, "svg");
     let output = text(found, "output")?;
+    let namespace = optional_text(found, "namespace");
     let explain = is_given(found, "explain");
     Ok(RunRequest {
         file,
@@ -196,6 +200,9 @@ fn run_request<'a>(alloc: Global, found: &ArgMatches<'a>) -> Result<RunRequest<'
         history,
         svg,
         output,
+        crons: texts(alloc, found, "cron")?,
+        namespace,
+        clock: clock_words(found),
         zones: zone_words(alloc, found)?,
         explain,
     })
@@ -217,6 +224,7 @@ fn why_request<'a>(alloc: Global, found: &ArgMatches<'a>) -> Result<WhyRequest<'
         namespace,
         output,
         problems,
+        clock: clock_words(found),
         zones: zone_words(alloc, found)?,
         explain,
     })
@@ -240,6 +248,7 @@ fn audit_request<'a>(alloc: Global, found: &ArgMatches<'a>) -> Result<AuditReque
         namespace,
         output,
         svg,
+        clock: clock_words(found),
         zones: zone_words(alloc, found)?,
         explain,
     })
@@ -271,6 +280,7 @@ fn upcoming_request<'a>(
         peaks,
         output,
         svg,
+        clock: clock_words(found),
         zones: zone_words(alloc, found)?,
         explain,
     })

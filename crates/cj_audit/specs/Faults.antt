@@ -34,12 +34,12 @@ fault_object cause field = object (
     member (codes "field") (string field) no_members))
 
 -- a fault, by its cause and the path of its field
--- rules: json-faults, library-answers
+-- rule: library-answers
 abbrev pub fault_data : FieldFault → Data
 fault_data f = fault_object (cause_text f.cause) (path_of f.field)
 
 -- the faults, in their order
--- rules: json-faults, library-answers
+-- rule: library-answers
 abbrev pub faults_data : List FieldFault → Data
 faults_data fs = array (items_of (map fault_data fs))
 

@@ -33,7 +33,7 @@ beside_words e f time =
 unfoldable pub undue_words : Finding → List ℕ → List ℕ
 undue_words f time =
     codes "undue " ++ (f.namespace ++ (codes "/" ++ (f.cron ++ (codes ": its schedule isn't due at "
-    ++ (time ++ codes "; it may have been another then\n")))))
+    ++ (time ++ codes "; it may have been another then, or the controller went by another clock than UTC, as it may without spec.timeZone\n")))))
 
 -- rule: audit-explained
 unfoldable pub early_words : Finding → List ℕ → List ℕ

@@ -6,9 +6,9 @@ ghost use Rattle.serde_json.specs.View.{view};
 ghost use Rattle.cj_audit.specs.Audit.{audit_data, audit_object};
 
 use crate::findings::Findings;
-use crate::items::{others_value, refused_value};
+use crate::items::others_value;
 use crate::json::{findings_value, manual_value};
-use cj_base::{Refusal, all_four, both};
+use cj_base::{Refusal, all_three, both};
 use cj_cluster::ClusterList;
 use serde_json::{Value, json};
 use std::alloc::{AllocError, Global};
@@ -46,18 +46,21 @@ fn audit_object(
 }
 
 /// The findings, the counts of what was looked at, the Jobs that somebody made by hand, and the
-/// items that can't be used, as one object.
-pub fn audit_value(alloc: Global, list: &ClusterList, findings: &Findings) -> Result<Value, Refusal>
-    ensures ok { IfOk result (λ v. view v ≡ audit_data list.now findings.now) }
+/// items that can't be used, as one object. The value of the refused ones is given.
+pub fn audit_value(
+    alloc: Global,
+    list: &ClusterList,
+    findings: &Findings,
+    refused: Value,
+) -> Result<Value, Refusal>
+    ensures ok { IfOk result (λ v. view v ≡ audit_data list.now findings.now (view refused)) }
     ensures err { IfErr result (λ e. e ≡ OutOfMemory) }
 {
     let (crons, jobs) = counts(alloc, list)?;
-    let notes = list.notes.as_slice();
-    let (findings, manual, others, refused) = all_four(
+    let (findings, manual, others) = all_three(
         findings_value(alloc, findings),
         manual_value(alloc, &list.cluster),
-        others_value(alloc, notes),
-        refused_value(alloc, notes),
+        others_value(alloc, list.notes.as_slice()),
     )?;
     let items = (others, refused);
     Ok(audit_object(alloc, crons, jobs, findings, manual, items)?)

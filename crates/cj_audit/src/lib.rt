@@ -3,10 +3,10 @@
 //!
 //! Here belongs what a finding is, in which order findings come, and their lines and words; and the
 //! JSON values that the program prints and the library for other languages hands out: findings,
-//! faults of a manifest, items of a list that can't be used. How a cluster is read belongs to
-//! `cj_cluster`. The commands rest on `audit`: exactly these findings, each once; on `audit_text`
-//! and `audit_words`; and on `audit_value`, `faults_value` and `refused_value`, whose clauses name
-//! the value.
+//! faults of a manifest without words, items of a list that are neither a CronJob nor a Job. How a
+//! cluster is read belongs to `cj_cluster`. The commands rest on `audit`: exactly these findings,
+//! each once; on `audit_text` and `audit_words`; and on `audit_value`, `faults_value` and
+//! `others_value`, whose clauses name the value.
 #![tactic(auto)]
 
 mod answer;
@@ -37,7 +37,7 @@ pub use answer::audit_value;
 pub use faults::{cause_text, faults_value, one_fault};
 pub use finding::Finding;
 pub use findings::Findings;
-pub use items::{others_value, refused_value};
+pub use items::others_value;
 pub use json::{findings_value, manual_value};
 pub use kind::{Exclusive, FindingKind};
 pub use lines::audit_text;

@@ -55,7 +55,7 @@ fn undue_words(alloc: Global, finding: &Finding, time: &str) -> Result<String, A
 {
     let (namespace, cron) = (finding.namespace.as_str(), finding.cron.as_str());
     format!(in alloc;
-        "undue {namespace}/{cron}: its schedule isn't due at {time}; it may have been another then\n"
+        "undue {namespace}/{cron}: its schedule isn't due at {time}; it may have been another then, or the controller went by another clock than UTC, as it may without spec.timeZone\n"
     )
 }
 

@@ -6,7 +6,8 @@ use Rattle.std.proofs.Math.Nat.{max-le}
 use Rattle.std.specs.Prelude.{length, slice_get, ◌==◌}
 use Rattle.serde_json.specs.Data.{Data, depth}
 use Rattle.serde_json.specs.Written.{has_float}
-use Rattle.cj_audit.specs.Items.{others_data, refused_data}
+use Rattle.cj_audit.specs.Items.{others_data}
+use Rattle.cj_explain.specs.RefusedItems.{refused_data}
 use Rattle.cj_cluster.specs.declared.cron.ClusterCron.{ClusterCron}
 use Rattle.cj_cluster.specs.declared.kubectl.notes.ItemNote.{ItemNote}
 use Rattle.cj_schedule.specs.Matches.{Sets}

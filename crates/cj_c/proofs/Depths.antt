@@ -34,7 +34,9 @@ use Rattle.cj_why.specs.reviews.PlanJson.{claim_data, jobs_data, make_data, plan
 use Rattle.cj_c.specs.answers.Check.{sound_data}
 use Rattle.cj_audit.specs.Audit.{audit_data}
 use Rattle.cj_audit.specs.Faults.{fault_data, faults_data}
-use Rattle.cj_audit.specs.Items.{item_object, other_by, other_items, refused_by, refused_items}
+use Rattle.cj_audit.specs.Items.{other_by, other_items}
+use Rattle.cj_explain.specs.RefusedItems.{item_object, refused_by, refused_data, refused_items}
+use Rattle.cj_explain.specs.ToldFaults.{told_data, told_faults}
 
 -- of a value by what it is
 pub within_as : (k : ℕ) (v d : Data) → v ≡ d → depth d ≤ k → depth v ≤ k
@@ -71,6 +73,12 @@ joined k (d ∷ ds) es first second =
 pub faults_within : (k : ℕ) (fs : List FieldFault) → depth (faults_data fs) ≤ suc (suc k)
 faults_within k fs =
     up (suc k) _ (mapped (suc k) fault_data (λ f. up k _ (max-le (least k) (max-le (least k) (least k)))) fs)
+
+-- of faults in words too
+pub told_within : (k : ℕ) (fs : List FieldFault) → depth (told_faults fs) ≤ suc (suc k)
+told_within k fs =
+    up (suc k) _ (mapped (suc k) told_data
+    (λ f. up k _ (max-le (least k) (max-le (least k) (max-le (least k) (least k))))) fs)
 
 -- of texts in their order
 pub texts_within : (k : ℕ) (ts : List (List ℕ)) → depth (texts_data ts) ≤ suc k
@@ -177,10 +185,11 @@ pub refused_by_within : (k n : ℕ) (named : Option ObjectNamed) (said : Said)
     → AreWithin (suc (suc (suc k))) (refused_by n named said)
 refused_by_within k n named (Was.Kind kind) = least (suc (suc (suc k)))
 refused_by_within k n named (Was.Refused faults) =
-    max-le (item_within (suc (suc k)) n named _ (faults_within k faults)) (least (suc (suc (suc k))))
+    max-le (item_within (suc (suc k)) n named _ (told_within k faults)) (least (suc (suc (suc k))))
 refused_by_within k n named (Was.Taken kind key) =
     max-le (item_within (suc (suc k)) n named _ (up (suc k) _ (max-le
-    (up k _ (max-le (least k) (max-le (least k) (least k)))) (least (suc k))))) (least (suc (suc (suc k))))
+    (up k _ (max-le (least k) (max-le (least k) (max-le (least k) (least k))))) (least (suc k)))))
+    (least (suc (suc (suc k))))
 
 -- of the items that are refused
 pub refused_within : (k : ℕ) (notes : List ItemNote) → AreWithin (suc (suc (suc k))) (refused_items notes)
@@ -202,7 +211,8 @@ others_within k (note ∷ notes) =
     joined (suc k) (other_by note.place note.said) _ (other_by_within k note.place note.said) (others_within k notes)
 
 -- of an audit
-pub audit_within : (list : ClusterList) (fs : List Finding) → depth (audit_data list fs) ≤ 127
+pub audit_within : (list : ClusterList) (fs : List Finding)
+    → depth (audit_data list fs (refused_data list.notes)) ≤ 127
 audit_within list fs =
     up 126 _ (max-le (least 126) (max-le (findings_within 123 fs) (max-le (least 126)
     (max-le (up 125 _ (manual_within 124 list.cluster.times (map_of.values list.cluster.jobs)))

@@ -35,7 +35,9 @@ use Rattle.cj_why.specs.reviews.PlanJson.{claim_data, jobs_data, make_data, plan
 use Rattle.cj_c.specs.answers.Check.{sound_data}
 use Rattle.cj_audit.specs.Audit.{audit_data}
 use Rattle.cj_audit.specs.Faults.{fault_data, faults_data}
-use Rattle.cj_audit.specs.Items.{item_data, item_object, other_by, other_items, others_data, refused_by, refused_data, refused_items, taken_data}
+use Rattle.cj_audit.specs.Items.{other_by, other_items, others_data}
+use Rattle.cj_explain.specs.RefusedItems.{item_data, item_object, refused_by, refused_data, refused_items, taken_data}
+use Rattle.cj_explain.specs.ToldFaults.{told_data, told_faults}
 
 -- of a value by what it is
 pub free_as : (v d : Data) → v ≡ d → has_float d ≡ false → has_float v ≡ false
@@ -77,6 +79,10 @@ joined (d ∷ ds) es first second =
 -- of faults by their fields and causes
 pub faults_free : (fs : List FieldFault) → has_float (faults_data fs) ≡ false
 faults_free fs = mapped fault_data (λ f. refl) fs
+
+-- of faults in words too
+pub told_free : (fs : List FieldFault) → has_float (told_faults fs) ≡ false
+told_free fs = mapped told_data (λ f. refl) fs
 
 -- of texts in their order
 pub texts_free : (ts : List (List ℕ)) → has_float (texts_data ts) ≡ false
@@ -178,10 +184,10 @@ item_free n (Some o) faults h = neither (has_float faults) false h refl
 pub refused_by_free : (n : ℕ) (named : Option ObjectNamed) (said : Said) → AreFree (refused_by n named said)
 refused_by_free n named (Was.Kind kind) = refl
 refused_by_free n named (Was.Refused faults) =
-    neither (has_float (item_data n named faults)) false (item_free n named (faults_data faults) (faults_free faults))
+    neither (has_float (item_data n named faults)) false (item_free n named (told_faults faults) (told_free faults))
     refl
 refused_by_free n named (Was.Taken kind key) =
-    neither (has_float (taken_data n named)) false (item_free n named _ refl) refl
+    neither (has_float (taken_data n named kind key)) false (item_free n named _ refl) refl
 
 -- of the items that are refused
 pub refused_free : (notes : List ItemNote) → AreFree (refused_items notes)
@@ -203,7 +209,8 @@ others_free (note ∷ notes) =
     joined (other_by note.place note.said) _ (other_by_free note.place note.said) (others_free notes)
 
 -- of an audit
-pub audit_free : (list : ClusterList) (fs : List Finding) → has_float (audit_data list fs) ≡ false
+pub audit_free : (list : ClusterList) (fs : List Finding)
+    → has_float (audit_data list fs (refused_data list.notes)) ≡ false
 audit_free list fs =
     neither (has_float (findings_data fs)) _ (findings_free fs)
     (neither (has_float (manual_data list.cluster.times (map_of.values list.cluster.jobs))) _

@@ -6,7 +6,8 @@ use Rattle.std.specs.Prelude.{is_some}
 use Rattle.std.proofs.Math.Nat.{max-le}
 use Rattle.serde_json.specs.Data.{Data, depth}
 use Rattle.serde_json.specs.Written.{has_float}
-use Rattle.cj_audit.specs.Items.{others_data, refused_data}
+use Rattle.cj_audit.specs.Items.{others_data}
+use Rattle.cj_explain.specs.RefusedItems.{refused_data}
 use Rattle.cj_cluster.specs.Content.{Content, is_halted}
 use Rattle.cj_cluster.specs.declared.cron.ClusterCron.{ClusterCron}
 use Rattle.cj_cluster.specs.declared.kubectl.notes.ItemNote.{ItemNote}

@@ -1,7 +1,8 @@
 -- What the exported functions answer that look for due times, by the definitions of `cj_due`.
-use Rattle.std.specs.Prelude.{◌≡◌, ◌⊎◌, ℕ, ◌+◌, ◌<◌, ◌≤◌}
+use Rattle.std.specs.Prelude.{◌≡◌, ◌⊎◌, ℕ, ◌+◌, ◌<◌, ◌≤◌, List, [], ◌++◌, take, drop, length}
 use Rattle.cj_base.specs.Instant.{last_second}
 use Rattle.cj_due.specs.Due.{reach, missed_count, IsQuiet, IsLeastDue, IsLatestDue}
+use Rattle.cj_due.specs.DueTimes.{due_times}
 use Rattle.cj_c.specs.Status.{done, none, range}
 use Rattle.cj_c.specs.declared.times.CronMissed.{CronMissed}
 use Rattle.cj_c.specs.declared.timetable.Timetable.{Timetable}
@@ -18,6 +19,23 @@ IsNextDue t after old new status =
 -- one of two instants is out of range
 abbrev pub IsPastEnd : ℕ → ℕ → Type 0
 IsPastEnd lo hi = (last_second < lo) ⊎ (last_second < hi)
+
+-- the first `count` due times after an instant and up to another, in order, at the beginning of a
+-- buffer whose rest stays; all of them, unless the buffer is full
+-- rule: library-next-many
+pub record AreFirstDue (t : Timetable) (lo hi : ℕ) (old new : List ℕ) (count : ℕ) : Type 0 where
+  pub room : count ≤ length old
+  pub later : List ℕ
+  pub are : due_times t.schedule t.zone lo hi ≡ take count new ++ later
+  pub all : count < length old → later ≡ []
+  pub stays : drop count new ≡ drop count old
+
+-- those; or one of the two instants is out of range
+-- rule: library-next-many
+abbrev pub AreNextDue : Timetable → ℕ → ℕ → List ℕ → List ℕ → ℕ → ℕ → ℕ → Type 0
+AreNextDue t lo hi old new counted count status =
+    ((status ≡ done) × AreFirstDue t lo hi old new count)
+    ⊎ ((status ≡ range) × IsPastEnd lo hi × (new ≡ old) × (count ≡ counted))
 
 -- the greatest due time after an instant and up to another; or there is none; or one of them is out
 -- of range

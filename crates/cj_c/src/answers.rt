@@ -4,7 +4,7 @@
 //! Here belongs how such a text comes into its caller's buffer and what a refusal is there. What a
 //! manifest, a scenario or a list says belongs to `cj_manifest`, `cj_scenario` and `cj_cluster`, a
 //! plan to `cj_decide`, findings to `cj_audit`, reasons to `cj_why`, starts and the sentence of a
-//! schedule to `cj_upcoming`.
+//! schedule to `cj_upcoming`, the items of a list that are refused, in words, to `cj_explain`.
 
 mod audit;
 mod buffer;

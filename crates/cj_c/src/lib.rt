@@ -27,4 +27,4 @@ pub use fault::CronFault;
 pub use held::Held;
 pub use opening::{cronsim_close, cronsim_open, cronsim_open_file, cronsim_open_rule};
 pub use shown::cronsim_matches;
-pub use times::{CronMissed, cronsim_missed, cronsim_next, cronsim_previous};
+pub use times::{CronMissed, cronsim_missed, cronsim_next, cronsim_next_many, cronsim_previous};

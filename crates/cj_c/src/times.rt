@@ -1,12 +1,12 @@
 ghost use Rattle.std.specs.Prelude.{◌≡◌, ◌⊎◌, true, false};
 ghost use Rattle.cj_c.specs.Status.{closed};
-ghost use Rattle.cj_c.specs.Times.{IsNextDue, IsPreviousDue, IsMissedDue, IsMissedTold};
+ghost use Rattle.cj_c.specs.Times.{IsNextDue, AreNextDue, IsPreviousDue, IsMissedDue, IsMissedTold};
 
 use crate::held::Held;
 use crate::status::{CLOSED, DONE, NONE, RANGE};
 use crate::timetable::Timetable;
 use cj_base::Seconds;
-use cj_due::{Missed, latest_in, missed, next_after};
+use cj_due::{DueTimes, Missed, latest_in, missed, next_after};
 use std::alloc::Global;
 
 /// How many times were missed, and the latest of them.
@@ -32,6 +32,19 @@ fn next(t: &Timetable, after: u64, due: &mut u64) -> u32
         }
         None => NONE,
     }
+}
+
+fn next_many(t: &Timetable, lo: u64, hi: u64, times: &mut [u64], count: &mut usize) -> u32
+    ensures { AreNextDue t.now lo hi times.old times.new count.old count.new result }
+{
+    let Some(lo) = Seconds::new(lo) else {
+        return RANGE;
+    };
+    let Some(hi) = Seconds::new(hi) else {
+        return RANGE;
+    };
+    *count = DueTimes::new(&t.schedule, &t.zone, lo, hi).fill(times);
+    DONE
 }
 
 fn previous(t: &Timetable, lo: u64, hi: u64, due: &mut u64) -> u32
@@ -98,6 +111,31 @@ pub extern "C" fn cronsim_next(alloc: Global, cron: &mut Held, after: u64, due: 
         return CLOSED;
     };
     let status = next(&timetable, after, due);
+    cron.put(timetable);
+    status
+}
+
+/// The due times after one instant and up to another, in order, as many as have room.
+#[unsafe(no_mangle)]
+pub extern "C" fn cronsim_next_many(
+    alloc: Global,
+    cron: &mut Held,
+    after: u64,
+    until: u64,
+    times: &mut [u64],
+    count: &mut usize,
+) -> u32
+    ensures kept { cron.new.full ≡ cron.old.full }
+    ensures stays { cron.old.full ≡ true → cron.new.timetable ≡ cron.old.timetable }
+    ensures found { cron.old.full ≡ true →
+        AreNextDue cron.old.timetable after until times.old times.new count.old count.new result }
+    ensures closed { cron.old.full ≡ false →
+        (result ≡ closed) × (times.new ≡ times.old) × (count.new ≡ count.old) }
+{
+    let Some(timetable) = cron.take(alloc) else {
+        return CLOSED;
+    };
+    let status = next_many(&timetable, after, until, times, count);
     cron.put(timetable);
     status
 }

@@ -14,7 +14,8 @@ use Rattle.cj_zone.specs.declared.zone.Zone.{Zone}
 use Rattle.cj_answers.specs.as_json.Forms.{IsJsonLine}
 use Rattle.cj_audit.specs.Faults.{faults_data}
 use Rattle.cj_check.specs.Seen.{IsNoneSeen, NextItem}
-use Rattle.cj_check.specs.ToldFaults.{home_in, kind_in, meta_in, text_or_null, told_faults, told_object}
+use Rattle.cj_check.specs.SaidObject.{home_in, kind_in, meta_in, text_or_null}
+use Rattle.cj_explain.specs.ToldFaults.{told_faults, told_object}
 use Rattle.cj_check.specs.declared.seen.SeenKeys.{SeenKeys}
 
 -- ---- a manifest

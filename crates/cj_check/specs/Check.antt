@@ -14,6 +14,7 @@ use Rattle.cj_args.specs.declared.request.CheckRequest.{CheckRequest}
 use Rattle.cj_scenario.specs.declared.detection.form.Form.TheVariants as A
 use Rattle.cj_scenario.specs.detection.Detections.{IsDetection}
 use Rattle.cj_check.specs.FaultWords.{AreFaultWords}
+use Rattle.cj_check.specs.JobFields.{IsUnfit}
 use Rattle.cj_answers.specs.Json.{IsJsonWords}
 use Rattle.cj_answers.specs.Advice.{IsAdvice, dropped_words_all}
 use Rattle.cj_answers.specs.Coming.{IsScheduleAdvice}
@@ -30,14 +31,15 @@ is_no_text [] = true
 is_no_text (x ∷ xs) = false
 
 -- a warning refuses a manifest where that is wanted, unless it is harmless, and so does a schedule
--- that never comes, of which these words tell
--- rule: check-strict
+-- that never comes and a field of the Job's spec that holds something else, of which these words
+-- tell
+-- rules: check-job-fields, check-strict
 abbrev pub fine_ending : Bool → List (List ℕ) → List ℕ → Ending
-fine_ending strict warnings coming =
-    if strict && (list_any (λ w. not (is_harmless w)) warnings || not (is_no_text coming))
+fine_ending strict warnings told =
+    if strict && (list_any (λ w. not (is_harmless w)) warnings || not (is_no_text told))
     then Refused else Done
 
--- those words are said then, where they aren't anyway
+-- what tells of the schedule is said then, where it isn't anyway
 -- rule: check-strict
 abbrev pub strict_words : Bool → Bool → List ℕ → List ℕ
 strict_words true false coming = coming
@@ -91,7 +93,9 @@ pub record IsFaulty (explain : Bool) (zones : List Zone) (bytes : List ℕ) (o :
   pub seen : IsDetection A.Manifest bytes beside
   pub answer : o ≡ explained explain (words ++ beside) (faulty (fault_lines faults))
 
--- there is none, and every member that is dropped is named; `--explain` says what is worth a look
+-- there is none, and every member that is dropped is named; each field of the Job's spec that holds
+-- something else is told, and `--explain` says what is worth a look
+-- rule: check-job-fields
 pub record IsFine (r : CheckRequest) (alone : Bool) (zones : List Zone) (bytes : List ℕ)
     (o : Outcome) : Type 0 where
   pub manifest : Manifest
@@ -102,8 +106,11 @@ pub record IsFine (r : CheckRequest) (alone : Bool) (zones : List Zone) (bytes :
   pub advice : IsAdvice manifest zones (asked_moment r.moment) words
   pub coming : List ℕ
   pub comes : IsComingWords manifest zones coming
+  pub unfit : List ℕ
+  pub unfit_is : IsUnfit manifest unfit
   pub answer : o ≡ explained r.explain (dropped_words_all warnings ++ (words ++ pod_words alone))
-      (ended (fine_ending r.strict warnings coming) (strict_words r.strict r.explain coming)
+      (ended (fine_ending r.strict warnings (coming ++ unfit))
+      (strict_words r.strict r.explain coming ++ unfit)
       (ok_line (kind_of manifest) (key_of manifest) ++ warning_lines warnings))
 
 -- what the bytes of a manifest are answered under these zones

@@ -4,6 +4,7 @@ pub mod CheckList
 pub mod CheckOutcome
 pub mod Dropped
 pub mod FaultWords
+pub mod JobFields
 pub mod Plan
 pub mod Reports
 pub mod Seen
@@ -11,4 +12,4 @@ pub mod Several
 pub mod Strays
 pub mod Crontab
 pub mod CrontabOutcome
-pub mod ToldFaults
+pub mod SaidObject

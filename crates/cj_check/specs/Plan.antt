@@ -1,5 +1,5 @@
 -- What `plan` answers of a scenario.
-use Rattle.std.specs.Prelude.{◌≡◌, ◌≢◌, ◌⊎◌, ℕ, ◌≤◌, List, [], ◌++◌, length, Option, Some, IfSome, codes, Bool, true, false}
+use Rattle.std.specs.Prelude.{◌≡◌, ◌≢◌, ◌⊎◌, ℕ, ◌≤◌, List, [], ◌++◌, length, Option, None, Some, IfSome, codes, Bool, true, false}
 use Rattle.cj_types.specs.declared.cron.CronJob.{CronJob}
 use Rattle.cj_types.specs.declared.job.Job.{Job}
 use Rattle.cj_zone.specs.declared.zone.Zone.{Zone}
@@ -28,7 +28,8 @@ use Rattle.cj_answers.specs.Given.{IsReadUnder, RefusesRule}
 use Rattle.cj_explain.specs.Faults.{fault_words}
 use Rattle.cj_answers.specs.Json.{IsJsonWords}
 use Rattle.cj_check.specs.Strays.{IsStrays}
-use Rattle.cj_answers.specs.Outcome.{IsInForm, IsNoTime, IsTime, IsTimeRefusal, Outcome, RefusesForm, done, explained, refusal}
+use Rattle.cj_answers.specs.Moments.{moment_of, moment_words}
+use Rattle.cj_answers.specs.Outcome.{IsInForm, Outcome, RefusesForm, done, explained, refusal}
 use Rattle.cj_answers.specs.as_json.Forms.{IsJsonLine, is_json}
 
 -- ---- lines
@@ -61,11 +62,6 @@ pub record IsSceneRefusal (explain : Bool) (wanted : Form) (bytes : List ℕ) (f
   pub words : List ℕ
   pub are : IsSceneWords wanted bytes fault words
   pub answer : o ≡ explained explain words (refusal (scene_line fault))
-
--- what a moment has to be
--- rule: explain
-abbrev pub now_words : List ℕ
-now_words = codes "--now: want a UTC time like 2024-01-01T00:00:00Z\n"
 
 -- ---- the answer
 
@@ -141,20 +137,20 @@ IsPlannedFor explain json given bytes now o =
 
 -- the moment is refused first, and nothing is read then
 pub record RefusesMoment (r : PlanRequest) (o : Outcome) : Type 0 where
-  pub moment : IsNoTime r.moment.now
-  pub told : IsTimeRefusal r.explain now_words (codes "--now") r.moment.now o
+  pub moment : moment_of r.moment.now ≡ None
+  pub answer : o ≡ explained r.explain moment_words (refusal (codes "cronsim: time\n"))
 
 -- then a zone, and nothing is read then
 pub record RefusesPlanZone (r : PlanRequest) (o : Outcome) : Type 0 where
   pub now : ℕ
-  pub moment : IsTime r.moment.now now
+  pub moment : moment_of r.moment.now ≡ Some now
   pub refuses : RefusesRule r.zones r.explain o
 
 -- else what is read, all of the input, is planned for
 pub record PlansInput (r : PlanRequest) (files : List ZoneFile) (input : Option (List ℕ))
     (o : Outcome) : Type 0 where
   pub now : ℕ
-  pub moment : IsTime r.moment.now now
+  pub moment : moment_of r.moment.now ≡ Some now
   pub given : GivenZones
   pub zones : IsReadUnder r.zones files given
   pub bytes : List ℕ

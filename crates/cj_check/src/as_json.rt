@@ -8,13 +8,14 @@ ghost use Rattle.serde_json.specs.Data.{array, string};
 ghost use Rattle.serde_json.specs.View.{items_of, view};
 ghost use Rattle.cj_audit.specs.Faults.{faults_data};
 ghost use Rattle.cj_base.specs.declared.faults.FieldFault.{FieldFault as Fault};
-ghost use Rattle.cj_check.specs.ToldFaults as told;
+ghost use Rattle.cj_explain.specs.ToldFaults as told;
 ghost use Rattle.cj_answers.specs.as_json.Forms.{IsJsonLine};
 ghost use Rattle.cj_check.specs.AsJson.{IsFaultyData, IsItemData, check_data, faulty_item, fine_item, item_object, place_data, refused_item, syntax_item, taken_item, unread_line};
 
-use crate::told_faults::{home_in, kind_in, meta_in, text_value, told_faults};
+use crate::said_object::{home_in, kind_in, meta_in, text_value};
 use cj_answers::value_line;
 use cj_base::FieldFault;
+use cj_explain::told_faults;
 use cj_manifest::{Manifest, Warning};
 use cj_scenario::{SceneFault, value_of};
 use cj_types::{Key, Refusal};

@@ -14,14 +14,15 @@ mod check_list;
 mod crontab;
 mod dropped;
 mod fault_words;
+mod job_fields;
 mod manifest;
 mod places;
 mod plan;
 mod report;
+mod said_object;
 mod seen;
 mod several;
 mod strays;
-mod told_faults;
 
 pub use check::{check_answer, check_file_answer};
 pub use crontab::{crontab_answer, crontab_zones};

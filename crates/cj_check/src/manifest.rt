@@ -12,6 +12,7 @@ ghost use Rattle.cj_answers.specs.Outcome.{explained, outcome_of};
 ghost use Rattle.cj_check.specs.Check.{IsChecked, IsComingWords, IsNoJson, ended, faulty, fine_ending, is_alone, is_harmless, is_no_text, pod_words, strict_words};
 
 use crate::fault_words::fault_words;
+use crate::job_fields::unfit_words;
 use cj_answers::{
     Answer, Ending, all_dropped_words, asked_moment, json_words, manifest_advice, print_faults,
     print_ok, print_warnings, schedule_advice,
@@ -60,20 +61,21 @@ fn is_no_text(text: &str) -> bool
 }
 
 // The ending for a manifest with these warnings: `--strict` refuses any that isn't harmless, and a
-// schedule that never comes, of which these words tell.
-fn fine_ending(strict: bool, warnings: &[Warning], coming: &str) -> Ending
-    ensures { result ≡ fine_ending strict warnings.now coming.now }
+// schedule that never comes or a field of the Job's spec that holds something else, of which these
+// words tell.
+fn fine_ending(strict: bool, warnings: &[Warning], told: &str) -> Ending
+    ensures { result ≡ fine_ending strict warnings.now told.now }
 {
     let harms = has_harm(warnings);
-    let comes = is_no_text(coming);
-    if strict && (harms || !comes) {
+    let is_silent = is_no_text(told);
+    if strict && (harms || !is_silent) {
         Ending::Refused
     } else {
         Ending::Done
     }
 }
 
-// Those words, where `--strict` refuses the schedule and `--explain` doesn't say them anyway.
+// The words on the schedule, where `--strict` refuses it and `--explain` doesn't say them anyway.
 fn strict_words<'a>(strict: bool, explain: bool, coming: &'a str) -> &'a str
     ensures { result.now ≡ strict_words strict explain coming.now }
 {
@@ -128,6 +130,54 @@ fn fine_words(
     Ok(words)
 }
 
+// What `--strict` refuses a manifest for, beside its warnings.
+fn told_words(alloc: Global, coming: &str, unfit: &str) -> Result<String, AllocError>
+    ensures { IfOk result (λ s. string_bytes s ≡ coming.now ++ unfit.now) }
+{
+    let mut words = String::from_str(alloc, coming)?;
+    words.push_str(unfit)?;
+    Ok(words)
+}
+
+// What is said of a manifest without a fault, also where nobody asks for it.
+fn said_words(
+    alloc: Global,
+    check: &CheckRequest<'_>,
+    coming: &str,
+    unfit: &str,
+) -> Result<String, AllocError>
+    ensures { IfOk result (λ s. string_bytes s
+        ≡ strict_words check.now.strict check.now.explain coming.now ++ unfit.now) }
+{
+    told_words(
+        alloc,
+        strict_words(check.strict, check.explain, coming),
+        unfit,
+    )
+}
+
+// The answer for a manifest without a fault, before `--explain` adds to it.
+fn fine_alone(
+    alloc: Global,
+    check: &CheckRequest<'_>,
+    manifest: &Manifest,
+    warnings: &[Warning],
+    coming: &str,
+    unfit: &str,
+) -> Result<Answer, AllocError>
+    ensures { IfOk result (λ a. outcome_of a
+        ≡ ended (fine_ending check.now.strict warnings.now (coming.now ++ unfit.now))
+        (strict_words check.now.strict check.now.explain coming.now ++ unfit.now)
+        (ok_line (kind_of manifest.now) (key_of manifest.now) ++ warning_lines warnings.now)) }
+{
+    let told = told_words(alloc, coming, unfit)?;
+    Ok(Answer {
+        ending: fine_ending(check.strict, warnings, told.as_str()),
+        printed: fine_lines(alloc, manifest, warnings)?,
+        said: said_words(alloc, check, coming, unfit)?,
+    })
+}
+
 // The answer for a manifest without a fault.
 fn fine(
     alloc: Global,
@@ -137,20 +187,16 @@ fn fine(
     warnings: &[Warning],
     advice: &str,
     coming: &str,
+    unfit: &str,
 ) -> Result<Answer, Failure>
     ensures { IfOk result (λ a. outcome_of a ≡ explained check.now.explain
         (dropped_words_all warnings.now ++ (advice.now ++ pod_words alone))
-        (ended (fine_ending check.now.strict warnings.now coming.now)
-        (strict_words check.now.strict check.now.explain coming.now)
+        (ended (fine_ending check.now.strict warnings.now (coming.now ++ unfit.now))
+        (strict_words check.now.strict check.now.explain coming.now ++ unfit.now)
         (ok_line (kind_of manifest.now) (key_of manifest.now) ++ warning_lines warnings.now))) }
 {
     let words = fine_words(alloc, alone, warnings, advice)?;
-    let said = strict_words(check.strict, check.explain, coming);
-    let answer = Answer {
-        ending: fine_ending(check.strict, warnings, coming),
-        printed: fine_lines(alloc, manifest, warnings)?,
-        said: String::from_str(alloc, said)?,
-    };
+    let answer = fine_alone(alloc, check, manifest, warnings, coming, unfit)?;
     Ok(answer.explained(check.explain, words.as_str())?)
 }
 
@@ -240,8 +286,12 @@ pub(crate) fn fine_answer(
     let moment = asked_moment(alloc, check.moment)?;
     let words = manifest_advice(alloc, zones, manifest, moment)?;
     let coming = coming_words(zones, manifest);
+    let unfit = unfit_words(alloc, manifest)?;
     let words = words.as_str();
-    fine(alloc, check, alone, manifest, warnings, words, coming)
+    let unfit = unfit.as_str();
+    fine(
+        alloc, check, alone, manifest, warnings, words, coming, unfit,
+    )
 }
 
 /// The answer for bytes that are refused, alone or among others.

@@ -16,8 +16,8 @@ ghost use Rattle.cj_answers.specs.as_json.Forms.{is_json};
 use crate::dropped::asked_dropped;
 use crate::strays::strays;
 use cj_answers::{
-    Answer, Ending, given_for, is_form, is_json, json_words, print_fault, refused_form,
-    refused_pair, refused_time, value_line,
+    Answer, Ending, given_for, is_form, is_json, json_words, moment_of, print_fault, refused_form,
+    refused_now, refused_pair, value_line,
 };
 use cj_args::PlanRequest;
 use cj_decide::{Plan, Steps, decide};
@@ -26,7 +26,7 @@ use cj_io::{Failure, GivenZones, MOST_BYTES, MOST_READS, ZoneFile, read_input};
 use cj_scenario::{Form, Scene, SceneFault, detect, read_scene};
 use cj_types::{CronJob, FieldFault, Job, Refusal, Seconds, Shared};
 use cj_why::{plan_text, plan_value, why, zone_copy, zone_of};
-use cj_zone::{Zone, read_time};
+use cj_zone::Zone;
 use std::alloc::{AllocError, Global};
 use std::io::Read;
 
@@ -261,9 +261,6 @@ pub fn asked_detection(
     }
 }
 
-// What a moment has to be.
-const NOW_WORDS: &str = "--now: want a UTC time like 2024-01-01T00:00:00Z\n";
-
 // What is told of a scenario beside its plan.
 fn beside(alloc: Global, explain: bool, bytes: &[u8]) -> Result<String, Failure>
     ensures { IfOk result (λ s. IsBeside explain bytes.now (string_bytes s)) }
@@ -319,8 +316,8 @@ fn form_answer<R: Read>(
     ensures { IfOk result (λ a. IsPlanAnswer plan.now files.now (R.remaining input.old)
         (outcome_of a)) }
 {
-    let Some(now) = read_time(plan.moment) else {
-        return refused_time(alloc, plan.explain, NOW_WORDS, "--now", plan.moment);
+    let Some(now) = moment_of(alloc, plan.moment)? else {
+        return Ok(refused_now(alloc, plan.explain)?);
     };
     let Some(given) = given_for(alloc, &plan.zones, files)? else {
         return refused_pair(alloc, plan.explain);

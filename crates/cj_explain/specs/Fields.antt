@@ -54,6 +54,7 @@ need Of.ApiVersion = choices Of.ApiVersion
 need Of.Kind = choices Of.Kind
 need Of.JobTemplateRestartPolicy = choices Of.JobTemplateRestartPolicy
 need Of.RestartPolicy = choices Of.RestartPolicy
+need Of.Uid = codes "the text that the cluster gives it; kubectl get -o json prints it, and a manifest has none"
 need Of.ScheduleText = codes "a schedule like */15 * * * *"
 need field = form field
 

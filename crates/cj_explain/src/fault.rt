@@ -33,7 +33,7 @@ fn missing(alloc: Global, what: &str) -> Result<String, AllocError>
 }
 
 /// What is wrong with a field, and what it wants, without its path.
-pub fn cause_of(alloc: Global, field: Field, cause: Cause) -> Result<String, AllocError>
+pub(crate) fn cause_of(alloc: Global, field: Field, cause: Cause) -> Result<String, AllocError>
     ensures { IfOk result (λ s. string_bytes s ≡ cause_of field cause) }
 {
     match cause {

@@ -61,6 +61,9 @@ pub(crate) fn need(field: Field) -> &'static str
     match field {
         Field::ApiVersion | Field::Kind | Field::JobTemplateRestartPolicy | Field::RestartPolicy =>
             choices(field),
+        Field::Uid => {
+            "the text that the cluster gives it; kubectl get -o json prints it, and a manifest has none"
+        }
         Field::ScheduleText => "a schedule like */15 * * * *",
         _ => form(field),
     }

@@ -9,6 +9,7 @@ use Rattle.cj_audit.specs.Since.{is_since}
 use Rattle.cj_audit.specs.Manual.{manual_lines}
 use Rattle.cj_audit.specs.Told.{has_jobs_alone, times_words}
 use Rattle.cj_audit.specs.Words.{audit_words}
+use Rattle.cj_cluster.specs.declared.cron.ClusterCron.{ClusterCron}
 use Rattle.cj_cluster.specs.kubectl.Reading.{IsClusterList}
 use Rattle.cj_cluster.specs.declared.kubectl.list.ClusterList.{ClusterList}
 use Rattle.cj_args.specs.declared.request.AuditRequest.{AuditRequest}
@@ -58,14 +59,21 @@ abbrev pub manual_words : List ℕ → List ℕ
 manual_words [] = []
 manual_words (x ∷ xs) = codes "manual: somebody made such a Job, as kubectl create job --from does; no controller did, so no finding is of it\n"
 
+-- what no finding is of, in a list that has CronJobs
+-- rule: audit-scope
+abbrev pub scope_words : List ClusterCron → List ℕ
+scope_words [] = []
+scope_words (c ∷ cs) = codes "audit: due times after a CronJob's last Job are not looked at; cronsim why says what was missed since\n"
+
 -- what is wrong with the items that can't be used, what a Job made by hand means, how many tell
--- their time otherwise, and what the findings mean
--- rule: audit-explained
+-- their time otherwise, what the findings mean, and what no finding is of
+-- rules: audit-explained, audit-scope
 abbrev pub words_of : ClusterList → List Finding → List ℕ
 words_of list findings =
     note_words list.notes
     ++ (manual_words (manual_lines list.cluster.times (map.values list.cluster.jobs))
-    ++ (times_words list.cluster.times (map.values list.cluster.jobs) ++ audit_words findings))
+    ++ (times_words list.cluster.times (map.values list.cluster.jobs)
+    ++ (audit_words findings ++ scope_words (map.values list.cluster.crons))))
 
 -- ---- what is asked about
 

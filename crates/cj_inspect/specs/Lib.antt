@@ -2,6 +2,7 @@ pub mod Audit
 pub mod Calls
 pub mod CronFiles
 pub mod Describing
+pub mod Failures
 pub mod Narrowing
 pub mod Nights
 pub mod Report

@@ -96,7 +96,7 @@ pub record IsNightText (zones : List Zone) (look : Look) (crons : List CronJob) 
   pub are : AreNights zones look crons raw
   pub none : is_silent text ≡ is_silent raw
 
--- where people ask for it, it is told behind the answer
+-- where people ask for it, or the reasons are given in full, it is told behind the answer
 -- rule: clock-nights
 abbrev pub TellsNights : Bool → List Zone → Look → List CronJob → Outcome → Outcome → Type 0
 TellsNights false zones look crons base o = o ≡ base

@@ -9,6 +9,7 @@ use Rattle.cj_due.specs.Due.{reach}
 use Rattle.cj_cluster.specs.declared.cron.ClusterCron.{ClusterCron}
 use Rattle.cj_cluster.specs.declared.kubectl.fault.ListFault.{ListFault}
 use Rattle.cj_upcoming.specs.Length.{length_of}
+use Rattle.cj_answers.specs.Spans.{span_of}
 use Rattle.cj_upcoming.specs.Upcoming.{HasMore}
 use Rattle.cj_upcoming.specs.Window.{Span}
 use Rattle.cj_args.specs.declared.request.UpcomingRequest.{UpcomingRequest}
@@ -276,17 +277,23 @@ IsNoWindow from (Some n) = (n ≤ reach) × (from + n ≤ last_second) → ⊥
 -- what a length has to be
 -- rules: explain, upcoming-length
 abbrev pub length_words : List ℕ
-length_words = codes "--for: want minutes, hours or days, as 90m, 24h or 7d, at most 3000d, and an end before the year 9999\n"
+length_words = codes "--for: want units s, m, h, d, w, as 90m, 24h, 7d or 1h30m, at most 3000d, and an end before the year 9999\n"
 
 -- so long from one instant to another that isn't before it
 abbrev pub between : ℕ → Option ℕ → Option ℕ
 between from None = None
 between from (Some end) = if nat_le from end then Some (end - from) else None
 
+-- a length of one unit, or else of several
+-- rule: upcoming-length
+abbrev pub or_span : Option ℕ → List ℕ → Option ℕ
+or_span (Some length) text = Some length
+or_span None text = span_of text
+
 -- how long the window is: up to the moment that is given as its end, else as its length says
 -- rule: upcoming-until
 abbrev pub length_for : ℕ → List ℕ → Option (Bor (List ℕ)) → Option ℕ
-length_for from text None = length_of text
+length_for from text None = or_span (length_of text) text
 length_for from text (Some until) = between from (moment_of until.now)
 
 -- what an end has to be

@@ -25,6 +25,7 @@ use Rattle.cj_answers.specs.Outcome.{Outcome, explained, refusal}
 use Rattle.cj_answers.specs.as_json.Forms.{IsJsonLine, is_json}
 use Rattle.cj_inspect.specs.as_json.Why.{why_data}
 use Rattle.cj_inspect.specs.Calls.{AreCallsJson}
+use Rattle.cj_inspect.specs.Failures.{failed_lines}
 use Rattle.cj_inspect.specs.Nights.{IsNightData, TellsNights}
 use Rattle.cj_inspect.specs.declared.nights.look.Look.TheVariants.{Around}
 use Rattle.cj_why.specs.reviews.CronJson.{AreCronJson}
@@ -270,15 +271,29 @@ abbrev pub IsPrinted : Bool → WhyRequest → List Zone → ℕ → ClusterList
 IsPrinted true r zones now list o = PrintsReview r zones now list o
 IsPrinted false r zones now list o = IsWhole (is_json r.output.now) r zones now list o
 
--- with what the clocks of those that are meant do, and what is told beside it
--- rules: clock-nights, why-named, why-early
-pub record TellsReview (r : WhyRequest) (zones : List Zone) (now : ℕ) (list : ClusterList)
+-- with what the clocks of those that are meant do, where the reasons are given in full
+-- rule: clock-nights
+pub record TellsClocks (r : WhyRequest) (zones : List Zone) (now : ℕ) (list : ClusterList)
     (o : Outcome) : Type 0 where
   pub printed : Outcome
   pub prints : IsPrinted (is_lines r.output.now) r zones now list printed
+  pub nights : TellsNights (is_full r) zones (Around now) (map_list (λ c. c.cron) (meant_of r list))
+      printed o
+
+-- and with which of their Jobs failed
+-- rule: why-failures
+pub record TellsReasons (r : WhyRequest) (zones : List Zone) (now : ℕ) (list : ClusterList)
+    (o : Outcome) : Type 0 where
+  pub clocked : Outcome
+  pub clocks : TellsClocks r zones now list clocked
+  pub answer : o ≡ explained (is_full r) (failed_lines list.cluster (meant_of r list)) clocked
+
+-- and with what is told beside it
+-- rules: why-named, why-early
+pub record TellsReview (r : WhyRequest) (zones : List Zone) (now : ℕ) (list : ClusterList)
+    (o : Outcome) : Type 0 where
   pub base : Outcome
-  pub nights : TellsNights r.explain zones (Around now) (map_list (λ c. c.cron) (meant_of r list))
-      printed base
+  pub reasons : TellsReasons r zones now list base
   pub notices : IsNoticed (has_home (within_of r) list)
       (is_early now (map.values list.cluster.crons)) base o
 

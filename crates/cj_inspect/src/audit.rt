@@ -7,7 +7,7 @@ ghost use Rattle.cj_audit.specs.Lines.{audit_lines};
 ghost use Rattle.cj_audit.specs.Manual.{manual_lines};
 ghost use Rattle.cj_audit.specs.Told.{times_words};
 ghost use Rattle.cj_audit.specs.Words.{audit_words};
-ghost use Rattle.cj_inspect.specs.Audit.{AuditsKnown, AuditsList, AuditsWhole, IsAuditAnswer, IsAuditOutcome, IsAuditedOf, IsWholeAudited, RefusesAuditCron, alone_line, audited, is_clean, manual_words, seen, unknown_of, words_of};
+ghost use Rattle.cj_inspect.specs.Audit.{AuditsKnown, AuditsList, AuditsWhole, IsAuditAnswer, IsAuditOutcome, IsAuditedOf, IsWholeAudited, RefusesAuditCron, alone_line, audited, is_clean, manual_words, scope_words, seen, unknown_of, words_of};
 ghost use Rattle.cj_inspect.specs.Nights.{TellsNights};
 ghost use Rattle.cj_answers.specs.Clusters as told;
 ghost use Rattle.cj_answers.specs.Outcome.{explained, outcome_of};
@@ -18,6 +18,7 @@ mod asking;
 
 use crate::as_json::audit::audit_json;
 use crate::audit::asking::{audit_moment, base_of, refused_audit_since};
+use crate::drawing::{clock_of, clock_table};
 use crate::narrowing::narrowed_list;
 use crate::nights::{Look, cluster_look, with_nights};
 use crate::report::asked_since;
@@ -33,10 +34,10 @@ use cj_audit::{
     Finding, Findings, audit, audit_text, audit_words, has_jobs_alone, manual_text, times_text,
 };
 use cj_base::{Refusal, both};
-use cj_cluster::{ClusterList, read_cluster};
+use cj_cluster::{ClusterCron, ClusterList, read_cluster};
 use cj_io::{Failure, ZoneFile, read_input};
 use cj_picture::cluster_picture;
-use cj_types::Seconds;
+use cj_types::{Seconds, Shared};
 use cj_zone::ZoneTable;
 use std::alloc::Global;
 use std::io::Read;
@@ -83,31 +84,45 @@ fn lines(alloc: Global, list: &ClusterList, findings: &Findings) -> Result<Strin
     Ok(joined(alloc, lines.as_str(), found.as_str())?)
 }
 
-// A picture, with the items that can't be used below it.
-fn drawn(alloc: Global, list: &ClusterList, findings: &Findings) -> Result<String, Refusal>
+// A picture, with the items that can't be used below it, by the clock that the word is of.
+fn drawn(
+    alloc: Global,
+    word: Option<&str>,
+    files: &[ZoneFile],
+    list: &ClusterList,
+    findings: &Findings,
+) -> Result<String, Refusal>
     ensures err { IfErr result (λ e. e ≡ OutOfMemory) }
 {
     let lines = note_lines(alloc, list.notes.as_slice())?;
-    cluster_picture(alloc, &list.cluster, findings.as_slice(), lines.as_str())
+    let table = clock_table(alloc, word, files)?;
+    let clock = clock_of(&table);
+    cluster_picture(
+        alloc,
+        &list.cluster,
+        findings.as_slice(),
+        lines.as_str(),
+        clock,
+    )
 }
 
 // What is printed: a picture, or else JSON or lines.
 fn printed(
     alloc: Global,
-    svg: bool,
-    output: &str,
+    audit: &AuditRequest<'_>,
     zones: &ZoneTable,
+    files: &[ZoneFile],
     look: &Look,
     list: &ClusterList,
     findings: &Findings,
 ) -> Result<String, Refusal>
-    ensures ok { IfOk result (λ s. IsAuditShown svg (is_json output.now) list.now findings.now
-        (string_bytes s)) }
+    ensures ok { IfOk result (λ s. IsAuditShown audit.now.svg (is_json audit.now.output.now)
+        list.now findings.now (string_bytes s)) }
     ensures err { IfErr result (λ e. e ≡ OutOfMemory) }
 {
-    if svg {
-        drawn(alloc, list, findings)
-    } else if is_json(output) {
+    if audit.svg {
+        drawn(alloc, audit.clock.zone, files, list, findings)
+    } else if is_json(audit.output) {
         audit_json(alloc, zones, look, list, findings)
     } else {
         lines(alloc, list, findings)
@@ -157,17 +172,39 @@ fn manual_words(lines: &str) -> &'static str
     }
 }
 
-// What those lines and the findings mean.
+// What no finding is of, in a list that has CronJobs.
+fn scope_words(crons: &[Shared<ClusterCron>]) -> &'static str
+    ensures { result.now ≡ scope_words crons.now }
+{
+    if crons.is_empty() {
+        ""
+    } else {
+        "audit: due times after a CronJob's last Job are not looked at; cronsim why says what was missed since\n"
+    }
+}
+
+// What the findings mean, and what none is of.
+fn scoped_words(alloc: Global, list: &ClusterList, findings: &Findings) -> Result<String, Refusal>
+    ensures ok { IfOk result (λ s. string_bytes s
+        ≡ audit_words findings.now ++ scope_words (map.values list.now.cluster.crons)) }
+    ensures err { IfErr result (λ e. e ≡ OutOfMemory) }
+{
+    let found = audit_words(alloc, findings)?;
+    let crons = list.cluster.crons(alloc)?;
+    Ok(joined(alloc, found.as_str(), scope_words(crons.as_slice()))?)
+}
+
+// What those lines and the findings mean, and what no finding is of.
 fn found_words(alloc: Global, list: &ClusterList, findings: &Findings) -> Result<String, Refusal>
     ensures ok { IfOk result (λ s. string_bytes s
         ≡ manual_words (manual_lines list.now.cluster.times (map.values list.now.cluster.jobs))
         ++ (times_words list.now.cluster.times (map.values list.now.cluster.jobs)
-        ++ audit_words findings.now)) }
+        ++ (audit_words findings.now ++ scope_words (map.values list.now.cluster.crons)))) }
     ensures err { IfErr result (λ e. e ≡ OutOfMemory) }
 {
     let lines = manual_text(alloc, &list.cluster)?;
     let mut rest = times_text(alloc, &list.cluster)?;
-    let found = audit_words(alloc, findings)?;
+    let found = scoped_words(alloc, list, findings)?;
     rest.push_str(found.as_str())?;
     Ok(joined(alloc, manual_words(lines.as_str()), rest.as_str())?)
 }
@@ -217,6 +254,7 @@ fn list_audited(
     alloc: Global,
     audit_of: &AuditRequest<'_>,
     zones: &ZoneTable,
+    files: &[ZoneFile],
     since: Option<Seconds>,
     now: Option<Seconds>,
     list: &ClusterList,
@@ -224,13 +262,12 @@ fn list_audited(
     ensures { IfOk result (λ a. AuditsList audit_of.now (zones_of zones.now) since list.now
         (outcome_of a)) }
 {
-    let (explain, svg, output) = (audit_of.explain, audit_of.svg, audit_of.output);
-    let first = since;
+    let (explain, first) = (audit_of.explain, since);
     let all = audit(alloc, zones, &list.cluster, list.notes.as_slice())?;
     let findings = seen(all, since);
     let look = cluster_look(alloc, &list.cluster, first, now)?;
     let words = words(alloc, list, &findings)?;
-    let printed = printed(alloc, svg, output, zones, &look, list, &findings)?;
+    let printed = printed(alloc, audit_of, zones, files, &look, list, &findings)?;
     let answer = told_of(alloc, explain, list, &findings, printed, words.as_str())?;
     with_clocks(alloc, explain, zones, &look, list, answer)
 }
@@ -250,6 +287,7 @@ fn part_audited(
     alloc: Global,
     audit: &AuditRequest<'_>,
     zones: &ZoneTable,
+    files: &[ZoneFile],
     since: Option<Seconds>,
     now: Option<Seconds>,
     whole: ClusterList,
@@ -261,7 +299,7 @@ fn part_audited(
     let crons = whole.cluster.crons(alloc)?;
     let home = has_home(within, &whole, crons.as_slice());
     let list = narrowed_list(alloc, within, audit.crons.as_slice(), whole)?;
-    let answer = list_audited(alloc, audit, zones, since, now, &list)?;
+    let answer = list_audited(alloc, audit, zones, files, since, now, &list)?;
     Ok(with_home_notice(alloc, within, crons.as_slice(), home, answer)?)
 }
 
@@ -270,6 +308,7 @@ fn known_audited(
     alloc: Global,
     audit: &AuditRequest<'_>,
     zones: &ZoneTable,
+    files: &[ZoneFile],
     since: Option<Seconds>,
     now: Option<Seconds>,
     whole: ClusterList,
@@ -279,7 +318,7 @@ fn known_audited(
         ⊎ AuditsKnown audit.now (zones_of zones.now) since whole unknown.now (outcome_of a)) }
 {
     if is_nothing(unknown) {
-        part_audited(alloc, audit, zones, since, now, whole)
+        part_audited(alloc, audit, zones, files, since, now, whole)
     } else {
         refused_unknown(alloc, audit.explain, unknown)
     }
@@ -303,6 +342,7 @@ fn whole_audited(
     alloc: Global,
     audit: &AuditRequest<'_>,
     zones: &ZoneTable,
+    files: &[ZoneFile],
     since: Option<Seconds>,
     now: Option<Seconds>,
     whole: ClusterList,
@@ -311,7 +351,16 @@ fn whole_audited(
         (outcome_of a)) }
 {
     let unknown = unknown_of(alloc, audit, &whole)?;
-    known_audited(alloc, audit, zones, since, now, whole, unknown.as_str())
+    known_audited(
+        alloc,
+        audit,
+        zones,
+        files,
+        since,
+        now,
+        whole,
+        unknown.as_str(),
+    )
 }
 
 // What the bytes of a list are answered.
@@ -319,6 +368,7 @@ fn bytes_audited(
     alloc: Global,
     audit: &AuditRequest<'_>,
     zones: &ZoneTable,
+    files: &[ZoneFile],
     since: Option<Seconds>,
     now: Option<Seconds>,
     bytes: &[u8],
@@ -327,7 +377,7 @@ fn bytes_audited(
         (outcome_of a)) }
 {
     match read_cluster(alloc, bytes, zones) {
-        Ok(list) => whole_audited(alloc, audit, zones, since, now, list),
+        Ok(list) => whole_audited(alloc, audit, zones, files, since, now, list),
         Err(fault) => refused_list(alloc, audit.explain, bytes, fault),
     }
 }
@@ -352,7 +402,7 @@ fn form_answer<R: Read>(
         return refused_pair(alloc, audit.explain);
     };
     let bytes = read_input(alloc, input, MOST_LIST_BYTES, MOST_LIST_READS)?;
-    bytes_audited(alloc, audit, &zones, since, now, bytes.as_slice())
+    bytes_audited(alloc, audit, &zones, files, since, now, bytes.as_slice())
 }
 
 /// What the command `audit` answers: the form of what is printed is looked at first, then the

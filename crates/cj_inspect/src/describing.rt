@@ -12,10 +12,12 @@ use cj_answers::{
     note_words, refused_form, refused_list, refused_pair, value_line,
 };
 use cj_args::{DescribeRequest, ZoneWords};
-use cj_audit::{others_value, refused_value};
+use cj_audit::others_value;
+use cj_base::both;
 use cj_cluster::ClusterCron;
+use cj_explain::refused_value;
 use cj_io::{Failure, ZoneFile, read_input};
-use cj_json::push_value;
+use cj_json::{object_of, push_value, text_or_null};
 use cj_types::{Refusal, Shared};
 use cj_zone::ZoneTable;
 use serde_json::{Value, json};
@@ -80,17 +82,33 @@ fn file_lines(alloc: Global, zones: &ZoneTable, file: &FileCrons) -> Result<Stri
 
 // ---- JSON
 
-fn cron_object(alloc: Global, cron: &ClusterCron, words: &str) -> Result<Value, AllocError> {
+// The names of a CronJob's members.
+const CRON_NAMES: &[&str] = &[
+    "name",
+    "namespace",
+    "schedule",
+    "sentence",
+    "suspended",
+    "timeZone",
+];
+
+fn cron_object(alloc: Global, cron: &ClusterCron, words: String) -> Result<Value, Refusal> {
     let key = cron.cron.get().key.key();
     let spec = spec_of(cron);
-    json!(in alloc; {
-        "name": key.name(),
-        "namespace": key.namespace(),
-        "schedule": spec.schedule.as_str(),
-        "sentence": words,
-        "suspended": spec.suspend,
-        "timeZone": zone_name(spec)
-    })
+    let sentence = Value::String(words);
+    let suspended = Value::from(spec.suspend);
+    let ((name, namespace), (schedule, zone)) = both(
+        both(
+            text_or_null(alloc, Some(key.name())),
+            text_or_null(alloc, Some(key.namespace())),
+        ),
+        both(
+            text_or_null(alloc, Some(spec.schedule.as_str())),
+            text_or_null(alloc, Some(zone_name(spec))),
+        ),
+    )?;
+    let values = [name, namespace, schedule, sentence, suspended, zone];
+    Ok(object_of(alloc, CRON_NAMES, values)?)
 }
 
 fn cron_values(
@@ -101,7 +119,7 @@ fn cron_values(
     let mut values = Vec::new(alloc);
     for cron in crons {
         let words = words_of(alloc, zones, cron.get())?;
-        let value = cron_object(alloc, cron.get(), words.as_str())?;
+        let value = cron_object(alloc, cron.get(), words)?;
         push_value(&mut values, value)?;
     }
     Ok(values)

@@ -18,7 +18,7 @@ fn is_anywhere(within: Option<&str>) -> bool
 }
 
 /// Whether every CronJob is asked about.
-pub(crate) fn is_everything(within: Option<&str>, texts: &[&str]) -> bool
+pub fn is_everything(within: Option<&str>, texts: &[&str]) -> bool
     ensures { result ≡ is_everything (option_map (λ s. s.now) within.entry) texts.now }
 {
     let is_anywhere = is_anywhere(within);

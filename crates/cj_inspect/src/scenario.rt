@@ -13,13 +13,13 @@ use crate::upcoming::{refused_length, refused_start, unknown_lines, window_from}
 use crate::why::naming::chosen;
 use crate::why::{MOST_LIST_BYTES, MOST_LIST_READS, is_nothing, refused_unknown};
 use cj_answers::{
-    Answer, asked_moment, ending_by, given_zones, is_read, note_lines, note_words, object_of,
-    refused_list, refused_pair,
+    Answer, asked_moment, ending_by, given_zones, is_read, note_lines, note_words, refused_list,
+    refused_pair,
 };
 use cj_args::ScenarioRequest;
-use cj_cluster::ClusterCron;
+use cj_cluster::{ClusterCron, CronMarks};
 use cj_io::{Failure, ZoneFile, read_input};
-use cj_json::{push_value, time_value};
+use cj_json::{object_of, push_value, time_value};
 use cj_types::{Key, Refusal, Shared};
 use cj_upcoming::Window;
 use cj_zone::ZoneTable;
@@ -71,7 +71,27 @@ fn take(
     push_value(&mut parts.crons, manifest)
 }
 
-// Takes a CronJob over that was there at the start.
+// Why a CronJob starts nothing, as a server says it.
+fn halt_words(marks: CronMarks) -> &'static str {
+    if marks.is_deleting {
+        "is being deleted"
+    } else {
+        "is stuck (an entry of status.active has no name)"
+    }
+}
+
+fn say_halted(
+    alloc: Global,
+    parts: &mut Parts,
+    name: &str,
+    marks: CronMarks,
+) -> Result<(), AllocError> {
+    let words = halt_words(marks);
+    let line = format!(in alloc; "scenario: {name} {words}, so it is left out\n")?;
+    parts.said.push_str(line.as_str())
+}
+
+// Takes a CronJob over that starts Jobs and was there at the start.
 fn push_cron(
     alloc: Global,
     parts: &mut Parts,
@@ -80,7 +100,10 @@ fn push_cron(
     cron: &Shared<ClusterCron>,
 ) -> Result<(), Refusal> {
     let name = key_text(alloc, cron.get().cron.get().key.key())?;
-    if was_there(cron.get(), window.from()) {
+    let marks = cron.get().marks;
+    if marks.is_halted() {
+        Ok(say_halted(alloc, parts, name.as_str(), marks)?)
+    } else if was_there(cron.get(), window.from()) {
         take(alloc, parts, file, cron, name.as_str())
     } else {
         let words = "left out, since it was created after the start";

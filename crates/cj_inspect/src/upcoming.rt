@@ -3,6 +3,7 @@ ghost use Rattle.std.specs.Prelude.{◌≡◌, ◌⊎◌, ◌++◌, IfErr, IfOk,
 ghost use Rattle.std.specs.List.{list_any};
 ghost use Rattle.cj_cluster.specs.kubectl.Reading.{IsRefusedList};
 ghost use Rattle.cj_zone.specs.Table.{zones_of};
+ghost use Rattle.cj_upcoming.specs.Length.{length_of};
 ghost use Rattle.cj_upcoming.specs.Upcoming.{HasMore};
 ghost use Rattle.cj_upcoming.specs.declared.fault.StartsFault.TheVariants.{TooMany};
 ghost use Rattle.cj_answers.specs.Outcome.{explained, outcome_of, refusal};
@@ -10,7 +11,7 @@ ghost use Rattle.cj_inspect.specs.Nights.{TellsNights};
 ghost use Rattle.cj_inspect.specs.Why.{is_noted_in, line_where};
 ghost use Rattle.cj_inspect.specs.Windows.{window_look};
 ghost use Rattle.cj_answers.specs.as_json.Forms.{is_json};
-ghost use Rattle.cj_inspect.specs.Upcoming.{IsAsked, IsNoWindow, IsTold, IsToldOf, IsUpcomingFiles, IsUpcomingOutcome, IsWindow, IsWindowAsked, IsWindowLines, IsWindowPrinted, IsWindowShown, IsWindowSum, IsWindowTold, RefusesMany, RefusesMarked, TellsNoticed, TellsWindow, all_crons, all_lines, all_words, are_read, between, end_words, file_lines, file_words, from_words, has_home, is_noted_of, is_several, is_unknown, length_for, length_words, many_words, mark_for, meant_of, most_starts, passed_line, passed_lines, passed_mark, told, unknown_lines, unknown_of};
+ghost use Rattle.cj_inspect.specs.Upcoming.{IsAsked, IsNoWindow, IsTold, IsToldOf, IsUpcomingFiles, IsUpcomingOutcome, IsWindow, IsWindowAsked, IsWindowLines, IsWindowPrinted, IsWindowShown, IsWindowSum, IsWindowTold, RefusesMany, RefusesMarked, TellsNoticed, TellsWindow, all_crons, all_lines, all_words, are_read, between, end_words, file_lines, file_words, from_words, has_home, is_noted_of, is_several, is_unknown, length_for, length_words, many_words, mark_for, meant_of, most_starts, or_span, passed_line, passed_lines, passed_mark, told, unknown_lines, unknown_of};
 
 pub(crate) mod coming;
 pub(crate) mod peaks;
@@ -19,6 +20,7 @@ pub(crate) mod table;
 
 use crate::as_json::upcoming::{files_value, window_json};
 use crate::cron_files::{BadFile, CronFile, FileCrons, read_files};
+use crate::drawing::{clock_of, clock_table};
 use crate::nights::with_nights;
 use crate::why::naming::{chosen, has_none, is_noted_one, push_where};
 use crate::why::notices::{has_cron, has_note, with_home_notice};
@@ -26,7 +28,7 @@ use crate::why::{MOST_LIST_BYTES, MOST_LIST_READS, is_nothing, refused_unknown};
 use crate::windows::{counted_text, summed_text, window_drawn, window_look};
 use cj_answers::{
     Answer, asked_moment, ending_by, given_zones, is_form, is_json, is_read, marked, note_lines,
-    note_words, refused_form, refused_list, refused_pair,
+    note_words, read_span, refused_form, refused_list, refused_pair,
 };
 use cj_args::UpcomingRequest;
 use cj_cluster::ClusterCron;
@@ -383,10 +385,12 @@ fn window_printed(
     }
 }
 
-// A picture of them, with the items that can't be used below it.
+// A picture of them, with the items that can't be used below it, by the clock that the word is of.
 fn drawn(
     alloc: Global,
+    word: Option<&str>,
     zones: &ZoneTable,
+    zone_files: &[ZoneFile],
     window: &Window,
     files: &[FileCrons],
     crons: &[Shared<ClusterCron>],
@@ -395,7 +399,17 @@ fn drawn(
         HasMore (zones_of zones.now) window.now crons.now most_starts) }
 {
     let items = all_lines(alloc, is_several(files), files)?;
-    window_drawn(alloc, zones, window, crons, MOST_STARTS, items.as_str())
+    let table = clock_table(alloc, word, zone_files)?;
+    let clock = clock_of(&table);
+    window_drawn(
+        alloc,
+        zones,
+        window,
+        crons,
+        MOST_STARTS,
+        items.as_str(),
+        clock,
+    )
 }
 
 // A picture, or else JSON or lines.
@@ -403,6 +417,7 @@ fn window_shown(
     alloc: Global,
     upcoming: &UpcomingRequest<'_>,
     zones: &ZoneTable,
+    zone_files: &[ZoneFile],
     window: &Window,
     files: &[FileCrons],
     crons: &[Shared<ClusterCron>],
@@ -414,7 +429,8 @@ fn window_shown(
         HasMore (zones_of zones.now) window.now crons.now most_starts) }
 {
     if upcoming.svg {
-        drawn(alloc, zones, window, files, crons)
+        let word = upcoming.clock.zone;
+        drawn(alloc, word, zones, zone_files, window, files, crons)
     } else {
         window_printed(alloc, upcoming, zones, window, files, crons)
     }
@@ -446,6 +462,7 @@ fn told_of(
     alloc: Global,
     upcoming: &UpcomingRequest<'_>,
     zones: &ZoneTable,
+    zone_files: &[ZoneFile],
     window: &Window,
     files: &[FileCrons],
     crons: &[Shared<ClusterCron>],
@@ -455,7 +472,7 @@ fn told_of(
         (outcome_of a)
         ⊎ TellsWindow upcoming.now (zones_of zones.now) window.now files.now (outcome_of a)) }
 {
-    match window_shown(alloc, upcoming, zones, window, files, crons) {
+    match window_shown(alloc, upcoming, zones, zone_files, window, files, crons) {
         Ok(text) => told_clocks(alloc, upcoming.explain, zones, window, files, crons, text),
         Err(StartsFault::TooMany) => Ok(refused_many(alloc, upcoming.explain)?),
         Err(StartsFault::Memory) => Err(Failure::Memory),
@@ -497,6 +514,7 @@ fn told_noticed(
     alloc: Global,
     upcoming: &UpcomingRequest<'_>,
     zones: &ZoneTable,
+    zone_files: &[ZoneFile],
     window: &Window,
     files: &[FileCrons],
     crons: &[Shared<ClusterCron>],
@@ -506,7 +524,15 @@ fn told_noticed(
         (outcome_of a)) }
 {
     let meant = meant_of(alloc, upcoming, files, crons)?;
-    let answer = told_of(alloc, upcoming, zones, window, files, meant.as_slice())?;
+    let answer = told_of(
+        alloc,
+        upcoming,
+        zones,
+        zone_files,
+        window,
+        files,
+        meant.as_slice(),
+    )?;
     let within = upcoming.namespace;
     let home = has_home(within, files, crons);
     Ok(with_home_notice(alloc, within, crons, home, answer)?)
@@ -517,6 +543,7 @@ fn told_known(
     alloc: Global,
     upcoming: &UpcomingRequest<'_>,
     zones: &ZoneTable,
+    zone_files: &[ZoneFile],
     window: &Window,
     files: &[FileCrons],
     crons: &[Shared<ClusterCron>],
@@ -528,7 +555,7 @@ fn told_known(
         (outcome_of a)) }
 {
     if is_nothing(unknown) {
-        told_noticed(alloc, upcoming, zones, window, files, crons)
+        told_noticed(alloc, upcoming, zones, zone_files, window, files, crons)
     } else {
         refused_unknown(alloc, upcoming.explain, unknown)
     }
@@ -539,6 +566,7 @@ fn files_told(
     alloc: Global,
     upcoming: &UpcomingRequest<'_>,
     zones: &ZoneTable,
+    zone_files: &[ZoneFile],
     window: &Window,
     files: &[FileCrons],
 ) -> Result<Answer, Failure>
@@ -552,6 +580,7 @@ fn files_told(
         alloc,
         upcoming,
         zones,
+        zone_files,
         window,
         files,
         crons,
@@ -584,6 +613,7 @@ fn sources_told(
     alloc: Global,
     upcoming: &UpcomingRequest<'_>,
     zones: &ZoneTable,
+    zone_files: &[ZoneFile],
     window: &Window,
     sources: &[CronFile<'_>],
 ) -> Result<Answer, Failure>
@@ -591,7 +621,7 @@ fn sources_told(
         (outcome_of a)) }
 {
     match read_files(alloc, sources, zones) {
-        Ok(files) => files_told(alloc, upcoming, zones, window, files.as_slice()),
+        Ok(files) => files_told(alloc, upcoming, zones, zone_files, window, files.as_slice()),
         Err(bad) => refused_file(alloc, upcoming.explain, sources.len() > 1, &bad),
     }
 }
@@ -619,7 +649,7 @@ pub(crate) fn refused_start(alloc: Global, explain: bool) -> Result<Answer, Allo
 
 // What a length has to be.
 const LENGTH_WORDS: &str =
-    "--for: want minutes, hours or days, as 90m, 24h or 7d, at most 3000d, and an end before the year 9999\n";
+    "--for: want units s, m, h, d, w, as 90m, 24h, 7d or 1h30m, at most 3000d, and an end before the year 9999\n";
 
 // What an end has to be.
 const UNTIL_WORDS: &str =
@@ -659,6 +689,16 @@ fn between(from: Seconds, end: Option<Seconds>) -> Option<u64>
     }
 }
 
+// A length of one unit, or else of several.
+fn length_of(text: &str) -> Option<u64>
+    ensures { result ≡ or_span (length_of text.now) text.now }
+{
+    match read_length(text) {
+        Some(length) => Some(length),
+        None => read_span(text),
+    }
+}
+
 // How long the window is: up to the moment that is given as its end, else as its length says.
 fn length_for(
     alloc: Global,
@@ -670,7 +710,7 @@ fn length_for(
 {
     match until {
         Some(_) => Ok(between(from, asked_moment(alloc, until)?)),
-        None => Ok(read_length(length)),
+        None => Ok(length_of(length)),
     }
 }
 
@@ -741,7 +781,9 @@ pub fn upcoming_files_answer(
         (outcome_of a)) }
 {
     match words_asked(alloc, upcoming, files)? {
-        Asked::Known(window, zones) => sources_told(alloc, upcoming, &zones, &window, sources),
+        Asked::Known(window, zones) => sources_told(
+            alloc, upcoming, &zones, files, &window, sources,
+        ),
         Asked::Refused(answer) => Ok(answer),
     }
 }
@@ -764,7 +806,14 @@ pub fn upcoming_answer<R: Read>(
                 name: "",
                 bytes: bytes.as_slice(),
             };
-            sources_told(alloc, upcoming, &zones, &window, slice::from_ref(&source))
+            sources_told(
+                alloc,
+                upcoming,
+                &zones,
+                files,
+                &window,
+                slice::from_ref(&source),
+            )
         }
         Asked::Refused(answer) => Ok(answer),
     }

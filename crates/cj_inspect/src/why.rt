@@ -5,10 +5,12 @@ ghost use Rattle.cj_zone.specs.Table.{local_zone, zones_of};
 ghost use Rattle.cj_zone.specs.Zones.{utc_zone};
 ghost use Rattle.cj_answers.specs.Outcome.{explained, outcome_of, refusal};
 ghost use Rattle.cj_answers.specs.as_json.Forms.{is_json};
+ghost use Rattle.cj_inspect.specs.Failures.{failed_lines};
 ghost use Rattle.cj_inspect.specs.Nights.{TellsNights};
 ghost use Rattle.cj_inspect.specs.declared.nights.look.Look.TheVariants.{Around};
-ghost use Rattle.cj_inspect.specs.Why.{IsListReviewed, IsReviewed, IsPrinted, IsWhole, IsWhyAnswer, IsWhyOutcome, PrintsKnown, RefusesCron, TellsReview, is_lines, is_nothing, is_output, meant_of, output_words};
+ghost use Rattle.cj_inspect.specs.Why.{IsListReviewed, IsReviewed, IsPrinted, IsWhole, IsWhyAnswer, IsWhyOutcome, PrintsKnown, RefusesCron, TellsClocks, TellsReasons, TellsReview, is_full, is_lines, is_nothing, is_output, meant_of, output_words};
 
+mod failures;
 pub(crate) mod lines;
 pub(crate) mod naming;
 pub(crate) mod notices;
@@ -16,10 +18,11 @@ mod table;
 
 use crate::as_json::clusters::json_reviewed;
 use crate::nights::{Look, with_nights};
+use crate::why::failures::with_failures;
 use crate::why::lines::lines_reviewed;
 use crate::why::naming::{meant_of, narrowed, unknown_of};
 use crate::why::notices::with_notices;
-use crate::why::table::table_reviewed;
+use crate::why::table::{is_full, table_reviewed};
 use cj_answers::{
     Answer, asked_moment, given_zones, is_json, refused_list, refused_now, refused_pair,
 };
@@ -44,8 +47,8 @@ fn refused_cron(alloc: Global, explain: bool, words: &str) -> Result<Answer, All
     Answer::refused(alloc, "cronsim: cron\n")?.explained(explain, words)
 }
 
-// The same with the errors of a request.
-pub(crate) fn refused_unknown(alloc: Global, explain: bool, words: &str) -> Result<Answer, Failure>
+/// What is answered where a text names no CronJob, with these words for people.
+pub fn refused_unknown(alloc: Global, explain: bool, words: &str) -> Result<Answer, Failure>
     ensures { IfOk result (λ a. outcome_of a ≡ explained explain words.now
         (refusal (codes "cronsim: cron\n"))) }
 {
@@ -134,7 +137,7 @@ fn meant_reviewed(
     reviewed(alloc, why, zones, bytes, list, all, meant.as_slice(), now)
 }
 
-// With what the clocks of those that are meant do, where people ask for it.
+// With what the clocks of those that are meant do, where the reasons are given in full.
 fn with_clocks(
     alloc: Global,
     why: &WhyRequest<'_>,
@@ -145,20 +148,75 @@ fn with_clocks(
     answer: Answer,
 ) -> Result<Answer, Failure>
     requires all { crons.now ≡ map.values list.now.cluster.crons }
-    ensures { IfOk result (λ a. TellsNights why.now.explain (zones_of zones.now) (Around now)
+    ensures { IfOk result (λ a. TellsNights (is_full why.now) (zones_of zones.now) (Around now)
         (map_list (λ c. c.cron) (meant_of why.now list.now)) (outcome_of answer)
         (outcome_of a)) }
 {
     let meant = meant_of(alloc, why, list, crons)?;
     let look = Look::Around(now);
-    let explain = why.explain;
-    Ok(with_nights(alloc, explain, zones, &look, meant.as_slice(), answer)?)
+    let full = is_full(why);
+    Ok(with_nights(alloc, full, zones, &look, meant.as_slice(), answer)?)
+}
+
+// With how many of their Jobs failed, where the reasons are given in full.
+fn with_failed(
+    alloc: Global,
+    why: &WhyRequest<'_>,
+    list: &ClusterList,
+    crons: &[Shared<ClusterCron>],
+    answer: Answer,
+) -> Result<Answer, Failure>
+    requires all { crons.now ≡ map.values list.now.cluster.crons }
+    ensures { IfOk result (λ a. outcome_of a ≡ explained (is_full why.now)
+        (failed_lines list.now.cluster (meant_of why.now list.now)) (outcome_of answer)) }
+{
+    let meant = meant_of(alloc, why, list, crons)?;
+    let full = is_full(why);
+    Ok(with_failures(alloc, full, &list.cluster, meant.as_slice(), answer)?)
 }
 
 pub(crate) fn is_nothing(words: &str) -> bool
     ensures { result ≡ is_nothing words.now }
 {
     words.is_empty()
+}
+
+// With what the clocks do.
+fn clocked_reviewed(
+    alloc: Global,
+    why: &WhyRequest<'_>,
+    zones: &ZoneTable,
+    bytes: &[u8],
+    list: &ClusterList,
+    crons: &[Shared<ClusterCron>],
+    now: Seconds,
+) -> Result<Answer, Failure>
+    requires local { local_zone zones.now ≡ Some (utc_zone (codes "UTC")) }
+    requires all { crons.now ≡ map.values list.now.cluster.crons }
+    ensures { IfOk result (λ a. TellsClocks why.now (zones_of zones.now) now list.now
+        (outcome_of a)) }
+{
+    let answer = meant_reviewed(alloc, why, zones, bytes, list, crons, now)?;
+    with_clocks(alloc, why, zones, list, crons, now, answer)
+}
+
+// With which Jobs failed.
+fn reasons_reviewed(
+    alloc: Global,
+    why: &WhyRequest<'_>,
+    zones: &ZoneTable,
+    bytes: &[u8],
+    list: &ClusterList,
+    crons: &[Shared<ClusterCron>],
+    now: Seconds,
+) -> Result<Answer, Failure>
+    requires local { local_zone zones.now ≡ Some (utc_zone (codes "UTC")) }
+    requires all { crons.now ≡ map.values list.now.cluster.crons }
+    ensures { IfOk result (λ a. TellsReasons why.now (zones_of zones.now) now list.now
+        (outcome_of a)) }
+{
+    let answer = clocked_reviewed(alloc, why, zones, bytes, list, crons, now)?;
+    with_failed(alloc, why, list, crons, answer)
 }
 
 // With what is told beside it.
@@ -176,8 +234,7 @@ fn noticed_reviewed(
     ensures { IfOk result (λ a. TellsReview why.now (zones_of zones.now) now list.now
         (outcome_of a)) }
 {
-    let answer = meant_reviewed(alloc, why, zones, bytes, list, crons, now)?;
-    let answer = with_clocks(alloc, why, zones, list, crons, now, answer)?;
+    let answer = reasons_reviewed(alloc, why, zones, bytes, list, crons, now)?;
     Ok(with_notices(alloc, why, list, crons, now, answer)?)
 }
 

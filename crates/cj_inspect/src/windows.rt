@@ -16,7 +16,7 @@ use cj_types::{Refusal, Seconds, Shared};
 use cj_upcoming::{
     Start, StartsFault, Window, standings_text, upcoming, window_lines, zone_changes_text,
 };
-use cj_zone::{ZoneTable, time_text};
+use cj_zone::{Zone, ZoneTable, time_text};
 use std::alloc::{AllocError, Global};
 
 /// The changes of clocks in a window, behind its first instant.
@@ -186,7 +186,8 @@ fn below(
     Ok(format!(in alloc; "{items}{standings}{changes}")?)
 }
 
-/// A picture of what starts in a window, of CronJobs, with these lines below it.
+/// A picture of what starts in a window, of CronJobs, with these lines below it, by the clock of a
+/// zone or else by UTC.
 ///
 /// `TooMany` where there are more than `most` starts, `Memory` where memory is wanting.
 pub(crate) fn window_drawn(
@@ -196,12 +197,20 @@ pub(crate) fn window_drawn(
     crons: &[Shared<ClusterCron>],
     most: usize,
     items: &str,
+    clock: Option<&Zone>,
 ) -> Result<String, StartsFault>
     ensures many { IfErr result (λ e. e ≡ TooMany →
         HasMore (zones_of zones.now) window.now crons.now most) }
 {
     let starts = upcoming(alloc, zones, window, crons, most)?;
     let words = below(alloc, zones, window, crons, items)?;
-    let text = heat_picture(alloc, window, crons, starts.as_slice(), words.as_str())?;
+    let text = heat_picture(
+        alloc,
+        window,
+        crons,
+        starts.as_slice(),
+        words.as_str(),
+        clock,
+    )?;
     Ok(text)
 }

@@ -1,3 +1,4 @@
 pub mod Parts
+pub mod Named
 pub mod Objects
 pub mod Values

@@ -9,10 +9,12 @@ mod floats;
 mod job;
 mod members;
 mod meta;
+mod named;
 mod object;
 mod values;
 mod written;
 
 pub use floats::has_float;
+pub use named::object_of;
 pub use values::{push_value, text_or_null, time_or_null, time_value};
 pub use written::Written;

@@ -9,6 +9,7 @@
 
 mod axis;
 mod blocks;
+mod clock;
 mod cluster;
 mod crosses;
 mod heat;
@@ -18,6 +19,7 @@ mod run;
 mod short;
 mod style;
 mod svg;
+mod ticks;
 
 pub use cluster::cluster_picture;
 pub use heat::heat_picture;

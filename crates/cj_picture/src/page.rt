@@ -2,13 +2,15 @@
 ghost use Rattle.std.specs.Prelude.{◌≡◌, IfErr};
 ghost use Rattle.cj_base.specs.declared.refusal.Refusal.TheVariants.{OutOfMemory};
 
-use crate::axis::{Axis, moment_text, push_ticks};
+use crate::axis::{Axis, moment_text};
 use crate::blocks::{Block, push_blocks};
 use crate::crosses::{Cross, push_crosses};
 use crate::lanes::{Lane, Layout, push_grounds, push_heads};
 use crate::style::STYLE;
 use crate::svg::escaped;
+use crate::ticks::push_ticks;
 use cj_types::Refusal;
+use cj_zone::Zone;
 use std::alloc::Global;
 
 /// What is drawn in lanes, and where.
@@ -124,6 +126,7 @@ impl Page {
         &self,
         alloc: Global,
         text: &mut String,
+        clock: Option<&Zone>,
         called: &str,
         lines: u64,
     ) -> Result<(), Refusal>
@@ -134,7 +137,7 @@ impl Page {
         push_frame(alloc, text, 960, height, called)?;
         push_caption(alloc, text, self)?;
         push_grounds(alloc, text, self.lanes.as_slice())?;
-        push_ticks(alloc, text, self.axis, self.layout.bottom)?;
+        push_ticks(alloc, text, self.axis, clock, self.layout.bottom)?;
         push_heads(alloc, text, self.layout, self.lanes.as_slice())
     }
 
@@ -149,11 +152,12 @@ impl Page {
         push_hidden(alloc, text, self.layout)
     }
 
-    /// The page as SVG, with what it is called, the meaning of its colours, and words below, line
-    /// by line.
+    /// The page as SVG, by a zone's clock or else by UTC, with what it is called, the meaning of
+    /// its colours, and words below, line by line.
     pub(crate) fn text(
         &self,
         alloc: Global,
+        clock: Option<&Zone>,
         called: &str,
         legend: &str,
         words: &str,
@@ -161,7 +165,7 @@ impl Page {
         ensures err { IfErr result (λ e. e ≡ OutOfMemory) }
     {
         let mut text = String::new(alloc);
-        self.push_ground(alloc, &mut text, called, line_count(words))?;
+        self.push_ground(alloc, &mut text, clock, called, line_count(words))?;
         text.push_str(legend)?;
         self.push_front(alloc, &mut text)?;
         let top = self.layout.bottom.saturating_add(44);

@@ -1,7 +1,10 @@
 pub mod Counted
 pub mod Refusals
 pub mod Given
+pub mod Begins
+pub mod Playback
 pub mod Runs
+pub mod Replays
 pub mod Scenes
 pub mod GivenFiles
 pub mod Formed

@@ -21,8 +21,8 @@ use Rattle.cj_io.specs.declared.zone_files.given.GivenZones.{GivenZones}
 use Rattle.cj_answers.specs.Given.{IsNoneGiven, IsReadUnder, pair_words}
 use Rattle.cj_answers.specs.Outcome.{Outcome, done, explained, outcome_of, refusal, status_of}
 use Rattle.cj_check.specs.Plan.{IsSceneRefusal}
-use Rattle.cj_program.specs.Replay.{EndsBadly, EndsWell, IsRead, IsReplayOutcome}
-use Rattle.cj_program.specs.Writing.{FailsReplay, IsCut, IsGiven, IsUnanswered}
+use Rattle.cj_program.specs.Replay.{EndsBadly, EndsWell, IsRead, IsReplayLines}
+use Rattle.cj_program.specs.Writing.{FailsLines, IsCut, IsGiven, IsUnanswered}
 
 -- s is a script that was run; out and err are the outputs before it, out' and err' after it.
 module _ (s : Script) (out out' err err' : Option (List ℕ)) where
@@ -61,7 +61,7 @@ module _ (r : ReplayRequest) (files : List ZoneFile) (given : GivenZones) (zones
   -- For serve_bytes: the run of their script that ended well is an outcome of replay.
   pub run_served : (s : Script) → IsScript given bytes s → (status : ExitStatus)
       → (status ≡ Success) × EndsWell s out out' err err'
-      → (o : Outcome) × IsReplayOutcome r files input o × (status ≡ status_of o.ending) × Appends out out' o.printed
+      → (o : Outcome) × IsReplayLines r files input o × (status ≡ status_of o.ending) × Appends out out' o.printed
       × Appends err err' o.said
   run_served s is status (e, w) = (
     done w.text,
@@ -80,7 +80,7 @@ module _ (r : ReplayRequest) (files : List ZoneFile) (given : GivenZones) (zones
 
   -- For serve_bytes: where the run of their script ended badly, replay failed.
   pub run_failed : (s : Script) → IsScript given bytes s → EndsBadly s out out' err err'
-      → FailsReplay r files input out out' err err'
+      → FailsLines r files input out out' err err'
   run_failed s is b =
       inr (inr (record {
         script = s;
@@ -92,7 +92,7 @@ module _ (r : ReplayRequest) (files : List ZoneFile) (given : GivenZones) (zones
   module _ (fault : SceneFault) (why : IsRefusedScript given bytes fault) where
     -- A refusal of the bytes for another cause than memory is an outcome of replay.
     refused : (o : Outcome) → fault ≢ Why.Memory → IsSceneRefusal r.explain A.Script bytes fault o
-        → IsReplayOutcome r files input o
+        → IsReplayLines r files input o
     refused o told is = inr (inl (record {
       given = given;
       zones = zones;
@@ -108,7 +108,7 @@ module _ (r : ReplayRequest) (files : List ZoneFile) (given : GivenZones) (zones
     pub refusal_served : (status : ExitStatus) (made : Result Answer Failure) → IfOk made (λ _. fault ≢ Why.Memory)
         → IfOk made (λ a. IsSceneRefusal r.explain A.Script bytes fault (outcome_of a))
         → IsOkAnd made (λ a. IsGiven status (outcome_of a) out out' err err')
-        → (o : Outcome) × IsReplayOutcome r files input o × (status ≡ status_of o.ending) × Appends out out' o.printed
+        → (o : Outcome) × IsReplayLines r files input o × (status ≡ status_of o.ending) × Appends out out' o.printed
         × Appends err err' o.said
     refusal_served status (Ok a) told is g = (
       outcome_of a,
@@ -124,7 +124,7 @@ module _ (r : ReplayRequest) (files : List ZoneFile) (given : GivenZones) (zones
         → IfOk made (λ a. IsSceneRefusal r.explain A.Script bytes fault (outcome_of a))
         → IsUnanswered out out' err err' ⊎ IsOkAnd made
         (λ a. IsCut (outcome_of a).printed (outcome_of a).said out out' err err')
-        → FailsReplay r files input out out' err err'
+        → FailsLines r files input out out' err err'
     refusal_failed made told is (inl u) = inl u
     refusal_failed (Ok a) told is (inr c) = inr (inl
         (record { outcome = outcome_of a; answer = refused (outcome_of a) told is; cut = c }))
@@ -137,14 +137,14 @@ module _ (r : ReplayRequest) (files : List ZoneFile) (input out out' err err' : 
     (none : IsNoneGiven r.zones []) where
   -- What is answered then is an outcome of replay.
   refused_rule : (o : Outcome) → o ≡ explained r.explain pair_words (refusal (codes "cronsim: zone\n"))
-      → IsReplayOutcome r files input o
+      → IsReplayLines r files input o
   refused_rule o is = inl (record { zones = none; answer = is })
 
   -- For serve_replay: that answer, where it was given, is an outcome of replay.
   pub rule_served : (status : ExitStatus) (made : Result Answer Failure)
       → IfOk made (λ a. outcome_of a ≡ explained r.explain pair_words (refusal (codes "cronsim: zone\n")))
       → IsOkAnd made (λ a. IsGiven status (outcome_of a) out out' err err')
-      → (o : Outcome) × IsReplayOutcome r files input o × (status ≡ status_of o.ending) × Appends out out' o.printed
+      → (o : Outcome) × IsReplayLines r files input o × (status ≡ status_of o.ending) × Appends out out' o.printed
       × Appends err err' o.said
   rule_served status (Ok a) is g = (outcome_of a, refused_rule (outcome_of a) is, g.status_is, g.printed, g.said)
   rule_served status (Err e) is g = absurd g
@@ -154,7 +154,7 @@ module _ (r : ReplayRequest) (files : List ZoneFile) (input out out' err err' : 
       → IfOk made (λ a. outcome_of a ≡ explained r.explain pair_words (refusal (codes "cronsim: zone\n")))
       → IsUnanswered out out' err err' ⊎ IsOkAnd made
       (λ a. IsCut (outcome_of a).printed (outcome_of a).said out out' err err')
-      → FailsReplay r files input out out' err err'
+      → FailsLines r files input out out' err err'
   rule_failed made is (inl u) = inl u
   rule_failed (Ok a) is (inr c) = inr (inl
       (record { outcome = outcome_of a; answer = refused_rule (outcome_of a) is; cut = c }))

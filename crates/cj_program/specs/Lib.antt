@@ -3,6 +3,7 @@ pub mod as_json
 pub mod Replay
 pub mod Run
 pub mod Shown
+pub mod Named
 pub mod Answers
 pub mod Forms
 pub mod Writing

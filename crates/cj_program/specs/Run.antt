@@ -1,5 +1,5 @@
 -- What `run` answers of a scenario.
-use Rattle.std.specs.Prelude.{◌≡◌, ◌≢◌, ◌⊎◌, ℕ, ◌≤◌, List, ◌++◌, length, Option, IfSome, Bool}
+use Rattle.std.specs.Prelude.{◌≡◌, ◌≢◌, ◌⊎◌, ℕ, ◌≤◌, List, ◌++◌, length, Option, IfSome, Bool, codes}
 use Rattle.cj_scenario.specs.declared.fault.SceneFault.{SceneFault}
 use Rattle.cj_scenario.specs.declared.fault.SceneFault.TheVariants as Why
 use Rattle.cj_scenario.specs.declared.detection.form.Form.TheVariants as A
@@ -13,7 +13,7 @@ use Rattle.cj_args.specs.declared.request.RunRequest.{RunRequest}
 use Rattle.cj_io.specs.declared.zone_files.file.ZoneFile.{ZoneFile}
 use Rattle.cj_io.specs.declared.zone_files.given.GivenZones.{GivenZones}
 use Rattle.cj_answers.specs.Given.{IsReadUnder, RefusesRule}
-use Rattle.cj_answers.specs.Outcome.{IsInForm, Outcome, RefusesForm, done, explained}
+use Rattle.cj_answers.specs.Outcome.{IsInForm, Outcome, RefusesForm, done, explained, refusal}
 use Rattle.cj_check.specs.Plan.{IsAskedDetection, IsSceneRefusal}
 
 -- the bytes are no scenario of a run, for another cause than memory
@@ -43,9 +43,23 @@ pub record PrintsReport (r : RunRequest) (given : GivenZones) (bytes : List ℕ)
       remark
   pub answer : o ≡ explained r.explain (seen ++ remark) (done printed)
 
+-- a run of the scenario has no event of a CronJob that is named for its time line, as the lines of
+-- the refusal say
+-- rule: run-named
+pub record RefusesNames (r : RunRequest) (given : GivenZones) (bytes : List ℕ) (o : Outcome)
+    : Type 0 where
+  pub simulation : Simulation
+  pub said : IsSimulation given bytes simulation
+  pub log : WorldLog
+  pub text : List ℕ
+  pub run : IsRun simulation r.workers log text
+  pub lines : List ℕ
+  pub answer : o ≡ explained r.explain lines (refusal (codes "cronsim: cron\n"))
+
 -- what the bytes are answered under these zones
 abbrev pub IsRanOf : RunRequest → GivenZones → List ℕ → Outcome → Type 0
-IsRanOf r given bytes o = RefusesSimulation r.explain given bytes o ⊎ PrintsReport r given bytes o
+IsRanOf r given bytes o = RefusesSimulation r.explain given bytes o ⊎ RefusesNames r given bytes o
+    ⊎ PrintsReport r given bytes o
 
 -- what is read, all of the input, is run under the zones of the words and the files
 pub record RunsInput (r : RunRequest) (files : List ZoneFile) (input : Option (List ℕ))

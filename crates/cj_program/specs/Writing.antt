@@ -1,5 +1,5 @@
 -- What standard output and standard error hold where a writer fails.
-use Rattle.std.specs.Prelude.{◌≡◌, ◌⊎◌, ℕ, List, Option}
+use Rattle.std.specs.Prelude.{◌≡◌, ◌⊎◌, ℕ, Bool, false, true, List, Option}
 use Rattle.std.specs.Io.KnownBytes.{Appends, Keeps}
 use Rattle.cj_io.specs.declared.exit_status.ExitStatus.{ExitStatus}
 use Rattle.cj_io.specs.declared.failure.Failure.{Failure}
@@ -11,7 +11,8 @@ use Rattle.cj_args.specs.declared.request.Request.TheVariants.{Audit, Check, Con
 use Rattle.cj_io.specs.declared.zone_files.file.ZoneFile.{ZoneFile}
 use Rattle.cj_program.specs.Answers.{IsOutcome}
 use Rattle.cj_answers.specs.Outcome.{Outcome, status_of}
-use Rattle.cj_program.specs.Replay.{IsFailedRun, IsReplayOutcome}
+use Rattle.cj_answers.specs.as_json.Forms.{is_json}
+use Rattle.cj_program.specs.Replay.{IsFailedRun, IsReplayLines, IsReplayOutcome}
 
 -- standard output was cut off, and a line on standard error names the failure
 pub record IsOutputCut (printed : List ℕ) (out out' err err' : Option (List ℕ)) : Type 0 where
@@ -57,13 +58,36 @@ pub record IsRefusalCut (r : ReplayRequest) (files : List ZoneFile)
   pub answer : IsReplayOutcome r files input outcome
   pub cut : IsCut outcome.printed outcome.said out out' err err'
 
+-- the refusal of `replay` in lines was cut off
+pub record AreLinesCut (r : ReplayRequest) (files : List ZoneFile)
+    (input out out' err err' : Option (List ℕ)) : Type 0 where
+  pub outcome : Outcome
+  pub answer : IsReplayLines r files input outcome
+  pub cut : IsCut outcome.printed outcome.said out out' err err'
+
+-- `replay` failed in lines
+abbrev pub FailsLines : ReplayRequest → List ZoneFile → Option (List ℕ) → Option (List ℕ)
+    → Option (List ℕ) → Option (List ℕ) → Option (List ℕ) → Type 0
+FailsLines r files input out out' err err' =
+    IsUnanswered out out' err err' ⊎ AreLinesCut r files input out out' err err'
+    ⊎ IsFailedRun r files input out out' err err'
+
+-- where one value is wanted, nothing of it is printed before all of it is known
+-- rule: replay-json
+abbrev pub FailsReplayBy : Bool → ReplayRequest → List ZoneFile → Option (List ℕ)
+    → Option (List ℕ) → Option (List ℕ) → Option (List ℕ) → Option (List ℕ) → Type 0
+FailsReplayBy true r files input out out' err err' =
+    IsUnanswered out out' err err' ⊎ IsRefusalCut r files input out out' err err'
+FailsReplayBy false r files input out out' err err' =
+    IsUnanswered out out' err err' ⊎ IsRefusalCut r files input out out' err err'
+    ⊎ IsFailedRun r files input out out' err err'
+
 -- `replay` failed
 -- rule: statuses
 abbrev pub FailsReplay : ReplayRequest → List ZoneFile → Option (List ℕ) → Option (List ℕ)
     → Option (List ℕ) → Option (List ℕ) → Option (List ℕ) → Type 0
 FailsReplay r files input out out' err err' =
-    IsUnanswered out out' err err' ⊎ IsRefusalCut r files input out out' err err'
-    ⊎ IsFailedRun r files input out out' err err'
+    FailsReplayBy (is_json r.output.now) r files input out out' err err'
 
 -- another command did
 abbrev pub FailsAnswer : Request → List ZoneFile → Option (List ℕ) → Option (List ℕ)

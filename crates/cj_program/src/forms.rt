@@ -1,13 +1,18 @@
 // The form of what is printed: an answer that is one value, in YAML where the words ask for that,
-// and a refusal as a value too.
-ghost use Rattle.std.specs.Prelude.{◌≡◌, IfOk, string_bytes};
+// and a refusal as a value too; and in lines with the times of a zone's clock.
+ghost use Rattle.std.specs.Prelude.{◌≡◌, IfOk, codes, string_bytes};
 ghost use Rattle.serde_json.specs.View.{view};
-ghost use Rattle.cj_answers.specs.Outcome.{outcome_of};
-ghost use Rattle.cj_answers.specs.as_json.Forms.{is_yaml};
-ghost use Rattle.cj_program.specs.Forms.{IsFormed, IsInForm, IsPrintedAs, IsRefusalText, IsValued, IsYaml, refusal_data, tells_refusal};
+ghost use Rattle.cj_answers.specs.Outcome.{explained, outcome_of, refusal};
+ghost use Rattle.cj_answers.specs.as_json.Forms.{is_json, is_yaml};
+ghost use Rattle.cj_program.specs.Forms.{IsFormed, IsFormedBy, IsInForm, IsInFormBy, IsInZone, IsPrintedAs, IsRefusalText, IsShownBy, IsTimed, IsValued, IsYaml, IsZoned, clock_words, refusal_data, tells_refusal};
 
-use cj_answers::{Answer, Ending, is_json, is_yaml, value_line, yaml_text};
-use cj_io::Failure;
+use cj_answers::{
+    Answer, Ending, is_json, is_yaml, text_by_clock, value_line, yaml_text, zones_for,
+};
+use cj_args::ClockWords;
+use cj_io::{Failure, ZoneFile};
+use cj_types::Refusal;
+use cj_zone::Zone;
 use serde_json::{Value, json};
 use std::alloc::{AllocError, Global};
 
@@ -117,4 +122,111 @@ pub(crate) fn formed(
     ensures { IfOk result (λ a. IsFormed output.now answer (outcome_of a)) }
 {
     in_form(alloc, output, answer?)
+}
+
+// ---- times by a zone's clock
+
+fn refused_zone(alloc: Global, explain: bool) -> Result<Answer, AllocError>
+    ensures { IfOk result (λ a. outcome_of a ≡ explained explain clock_words
+        (refusal (codes "cronsim: zone\n"))) }
+{
+    Answer::refused(alloc, "cronsim: zone\n")?.explained(
+        explain,
+        "--time-zone: want UTC, the name of a zone, a POSIX rule like CET-1CEST,M3.5.0,M10.5.0/3, or NAME=RULE\n",
+    )
+}
+
+// Both texts with the times of the zone's clock.
+fn timed(alloc: Global, zone: &Zone, answer: Answer) -> Result<Answer, Failure>
+    ensures { IfOk result (λ a. IsTimed zone.now (outcome_of answer) (outcome_of a)) }
+{
+    let by_clock = text_by_clock(alloc, zone, answer.printed.as_str())?;
+    let said_by_clock = text_by_clock(alloc, zone, answer.said.as_str())?;
+    Ok(Answer {
+        ending: answer.ending,
+        printed: by_clock,
+        said: said_by_clock,
+    })
+}
+
+// The answer by the zone's clock, unless it is one value.
+fn shown_by(alloc: Global, output: &str, zone: &Zone, answer: Answer) -> Result<Answer, Failure>
+    ensures { IfOk result (λ a. IsShownBy (is_json output.now) zone.now (outcome_of answer)
+        (outcome_of a)) }
+{
+    if is_json(output) {
+        Ok(answer)
+    } else {
+        timed(alloc, zone, answer)
+    }
+}
+
+// The answer by the clock of the zone that is given, or the refusal of that.
+fn in_zone(
+    alloc: Global,
+    output: &str,
+    explain: bool,
+    zone: Option<&str>,
+    files: &[ZoneFile],
+    answer: Answer,
+) -> Result<Answer, Failure>
+    ensures { IfOk result (λ a. IsInZone output.now explain zone.entry files.now (outcome_of answer)
+        (outcome_of a)) }
+{
+    match zones_for(alloc, None, zone, files) {
+        Ok(table) => shown_by(alloc, output, table.default_zone(), answer),
+        Err(Refusal::OutOfMemory) => Err(Failure::Memory),
+        Err(_) => Ok(refused_zone(alloc, explain)?),
+    }
+}
+
+// The same where a zone is given; else the answer as it is.
+fn zoned(
+    alloc: Global,
+    output: &str,
+    explain: bool,
+    zone: Option<&str>,
+    files: &[ZoneFile],
+    answer: Answer,
+) -> Result<Answer, Failure>
+    ensures { IfOk result (λ a. IsZoned output.now explain zone.entry files.now (outcome_of answer)
+        (outcome_of a)) }
+{
+    match zone {
+        Some(_) => in_zone(alloc, output, explain, zone, files, answer),
+        None => Ok(answer),
+    }
+}
+
+// An answer by the clock and in the form that its words ask for.
+fn in_form_by(
+    alloc: Global,
+    output: &str,
+    explain: bool,
+    zone: Option<&str>,
+    files: &[ZoneFile],
+    answer: Answer,
+) -> Result<Answer, Failure>
+    ensures { IfOk result (λ a. IsInFormBy output.now explain zone.entry files.now
+        (outcome_of answer) (outcome_of a)) }
+{
+    let by_clock = zoned(alloc, output, explain, zone, files, answer)?;
+    in_form(alloc, output, by_clock)
+}
+
+/// An answer in the form that its words ask for, as `formed` has it, and by the clock that they ask
+/// for: in lines, in a table or in a picture its times are those of the zone's clock. One value
+/// stays as it is. A zone that there is none of is refused, whatever else the answer was.
+pub(crate) fn formed_by(
+    alloc: Global,
+    output: &str,
+    explain: bool,
+    clock: &ClockWords<'_>,
+    files: &[ZoneFile],
+    answer: Result<Answer, Failure>,
+) -> Result<Answer, Failure>
+    ensures { IfOk result (λ a. IsFormedBy output.now explain clock.now.zone files.now answer
+        (outcome_of a)) }
+{
+    in_form_by(alloc, output, explain, clock.zone, files, answer?)
 }

@@ -8,6 +8,9 @@
 
 mod as_json;
 mod forms;
+mod lines;
+mod named;
+mod played;
 mod remarks;
 mod replay;
 mod run;
@@ -18,11 +21,12 @@ mod told;
 mod writing;
 
 pub use cj_answers::{
-    JsonInput, by_clock, json_input, marked, nearest_zone, next_text, shape_words,
+    JsonInput, ZonedMoment, by_clock, json_input, marked, moment_in, nearest_zone, next_text,
+    shape_words, zones_for,
 };
 pub use cj_args::{
-    CheckRequest, ControlRequest, CrontabRequest, ReportRequest, Request, UpcomingRequest,
-    WordFault, parse_words, word_tips,
+    CheckRequest, ClockWords, ControlRequest, CrontabRequest, ReportRequest, Request,
+    UpcomingRequest, WordFault, parse_words, word_tips,
 };
 pub use cj_check::{FileAnswer, check_file_answer, crontab_zones, fault_places};
 pub use cj_inspect::{CronFile, MOST_LIST_BYTES, MOST_LIST_READS};
@@ -31,8 +35,8 @@ pub use cj_io::{
     tell_failure, zones_named,
 };
 pub use cj_run::Meter;
-pub use cj_types::{Seconds, Text};
-pub use cj_zone::time_text;
+pub use cj_types::{Refusal, Seconds, Text};
+pub use cj_zone::{ZoneTable, time_text};
 pub use serving::serve;
 pub use several::{serve_report, serve_several, serve_upcoming};
 pub use told::tell_fault;

@@ -1,15 +1,17 @@
-// Running a script.
+// Running a script: in lines that are written as it goes, or as one value.
 ghost use Rattle.std.specs.Prelude.{◌≡◌, ◌≢◌, List, ℕ, Option, [], codes, false, true};
 ghost use Rattle.std.specs.Io.KnownBytes.{Appends};
 ghost use Rattle.cj_io.specs.declared.exit_status.ExitStatus.TheVariants as Status;
 ghost use Rattle.cj_io.specs.Writing.{AppendsSome};
 ghost use Rattle.cj_answers.specs.Given.{IsReadUnder};
 ghost use Rattle.cj_answers.specs.Outcome.{Outcome, status_of};
-ghost use Rattle.cj_program.specs.Replay.{EndsBadly, EndsWell, IsRead, IsReplayOutcome};
-ghost use Rattle.cj_program.specs.Writing.{FailsReplay};
+ghost use Rattle.cj_program.specs.Replay.{EndsBadly, EndsWell, IsRead, IsReplayLines, IsReplayOutcome};
+ghost use Rattle.cj_program.specs.Writing.{FailsLines, FailsReplay};
 
+use crate::forms::formed;
+use crate::played::replay_answer;
 use crate::serving::give_answer;
-use cj_answers::{given_for, refused_pair};
+use cj_answers::{given_for, is_form, is_json, refused_form, refused_pair};
 use cj_args::ReplayRequest;
 use cj_check::refused_scene;
 use cj_io::{
@@ -64,12 +66,12 @@ fn serve_bytes<W: Write, E: Write>(
 ) -> ExitStatus
     ensures served { result ≢ Status.Failed → (files : List ZoneFile) (input : Option (List ℕ)) →
         IsReadUnder replay.now.zones files given.entry → IsRead input bytes.now →
-        (o : Outcome) × IsReplayOutcome replay.now files input o × (result ≡ status_of o.ending)
+        (o : Outcome) × IsReplayLines replay.now files input o × (result ≡ status_of o.ending)
         × Appends (W.contents out.old) (W.contents out.new) o.printed
         × Appends (E.contents err.old) (E.contents err.new) o.said }
     ensures failed { result ≡ Status.Failed → (files : List ZoneFile) (input : Option (List ℕ)) →
         IsReadUnder replay.now.zones files given.entry → IsRead input bytes.now →
-        FailsReplay replay.now files input (W.contents out.old) (W.contents out.new)
+        FailsLines replay.now files input (W.contents out.old) (W.contents out.new)
         (E.contents err.old) (E.contents err.new) }
 {
     match read_script(alloc, given, bytes) {
@@ -93,13 +95,13 @@ fn serve_given<R: Read, W: Write, E: Write>(
 ) -> ExitStatus
     ensures served { result ≢ Status.Failed → (files : List ZoneFile) →
         IsReadUnder replay.now.zones files given.entry →
-        (o : Outcome) × IsReplayOutcome replay.now files (R.remaining input.old) o
+        (o : Outcome) × IsReplayLines replay.now files (R.remaining input.old) o
         × (result ≡ status_of o.ending)
         × Appends (W.contents out.old) (W.contents out.new) o.printed
         × Appends (E.contents err.old) (E.contents err.new) o.said }
     ensures failed { result ≡ Status.Failed → (files : List ZoneFile) →
         IsReadUnder replay.now.zones files given.entry →
-        FailsReplay replay.now files (R.remaining input.old) (W.contents out.old)
+        FailsLines replay.now files (R.remaining input.old) (W.contents out.old)
         (W.contents out.new) (E.contents err.old) (E.contents err.new) }
 {
     match read_input(alloc, input, MOST_BYTES, MOST_READS) {
@@ -108,8 +110,35 @@ fn serve_given<R: Read, W: Write, E: Write>(
     }
 }
 
-/// Serves the command `replay`: the zones are looked at first, then all of the input is read.
-/// `Failed` also means that a step found the history full.
+// Replays in lines: the zones are looked at first, then all of the input is read.
+// `Failed` also means that a step found the history full.
+fn serve_lines<R: Read, W: Write, E: Write>(
+    alloc: Global,
+    replay: &ReplayRequest<'_>,
+    files: &[ZoneFile],
+    input: &mut R,
+    out: &mut W,
+    err: &mut E,
+) -> ExitStatus
+    ensures served { result ≢ Status.Failed → (o : Outcome)
+        × IsReplayLines replay.now files.now (R.remaining input.old) o
+        × (result ≡ status_of o.ending)
+        × Appends (W.contents out.old) (W.contents out.new) o.printed
+        × Appends (E.contents err.old) (E.contents err.new) o.said }
+    ensures failed { result ≡ Status.Failed → FailsLines replay.now files.now
+        (R.remaining input.old) (W.contents out.old) (W.contents out.new) (E.contents err.old)
+        (E.contents err.new) }
+{
+    match given_for(alloc, &replay.zones, files) {
+        Ok(Some(given)) => serve_given(alloc, replay, given, input, out, err),
+        Ok(None) => give_answer(refused_pair(alloc, replay.explain), out, err),
+        Err(failure) => tell_failure(failure, err),
+    }
+}
+
+/// Serves the command `replay`: the form is looked at first, then the zones, then all of the input
+/// is read. `Failed` also means that a step found the history full. One value is written whole, or
+/// nothing of it is.
 pub(crate) fn serve_replay<R: Read, W: Write, E: Write>(
     alloc: Global,
     replay: &ReplayRequest<'_>,
@@ -127,9 +156,12 @@ pub(crate) fn serve_replay<R: Read, W: Write, E: Write>(
         (R.remaining input.old) (W.contents out.old) (W.contents out.new) (E.contents err.old)
         (E.contents err.new) }
 {
-    match given_for(alloc, &replay.zones, files) {
-        Ok(Some(given)) => serve_given(alloc, replay, given, input, out, err),
-        Ok(None) => give_answer(refused_pair(alloc, replay.explain), out, err),
-        Err(failure) => tell_failure(failure, err),
+    if is_json(replay.output) {
+        let answer = replay_answer(alloc, replay, files, input);
+        give_answer(formed(alloc, replay.output, answer), out, err)
+    } else if is_form(replay.output) {
+        serve_lines(alloc, replay, files, input, out, err)
+    } else {
+        give_answer(refused_form(alloc, replay.explain), out, err)
     }
 }

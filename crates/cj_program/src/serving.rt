@@ -6,7 +6,7 @@ ghost use Rattle.cj_program.specs.Answers.{IsOutcome};
 ghost use Rattle.cj_answers.specs.Outcome.{Outcome, outcome_of, status_of};
 ghost use Rattle.cj_program.specs.Writing.{IsCut, IsFailed, IsGiven, IsUnanswered};
 
-use crate::forms::formed;
+use crate::forms::{formed, formed_by};
 use crate::replay::serve_replay;
 use crate::run::run_answer;
 use crate::writing::give;
@@ -105,19 +105,49 @@ pub fn serve<T: Threads + Wait + Sync, R: Read, W: Write, E: Write>(
         Request::Replay(replay) => serve_replay(alloc, replay, files, input, out, err),
         Request::Run(run) => {
             let answer = run_answer(rt, alloc, run, files, input, meter);
-            give_answer(formed(alloc, run.output, answer), out, err)
+            give_answer(
+                formed_by(alloc, run.output, run.explain, &run.clock, files, answer),
+                out,
+                err,
+            )
         }
         Request::Why(why) => {
             let answer = why_answer(alloc, why, files, input);
-            give_answer(formed(alloc, why.output, answer), out, err)
+            give_answer(
+                formed_by(alloc, why.output, why.explain, &why.clock, files, answer),
+                out,
+                err,
+            )
         }
         Request::Audit(audit) => {
             let answer = audit_answer(alloc, audit, files, input);
-            give_answer(formed(alloc, audit.output, answer), out, err)
+            give_answer(
+                formed_by(
+                    alloc,
+                    audit.output,
+                    audit.explain,
+                    &audit.clock,
+                    files,
+                    answer,
+                ),
+                out,
+                err,
+            )
         }
         Request::Upcoming(upcoming) => {
             let answer = upcoming_answer(alloc, upcoming, files, input);
-            give_answer(formed(alloc, upcoming.output, answer), out, err)
+            give_answer(
+                formed_by(
+                    alloc,
+                    upcoming.output,
+                    upcoming.explain,
+                    &upcoming.clock,
+                    files,
+                    answer,
+                ),
+                out,
+                err,
+            )
         }
         Request::Describe(describe) => {
             let answer = describing_answer(alloc, describe, files, input);

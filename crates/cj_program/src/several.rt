@@ -7,10 +7,10 @@ ghost use Rattle.cj_answers.specs.Outcome.{Outcome};
 ghost use Rattle.cj_check.specs.Several.{has_state, several};
 ghost use Rattle.cj_inspect.specs.Report.{IsReportOutcome};
 ghost use Rattle.cj_inspect.specs.Upcoming.{IsUpcomingFiles};
-ghost use Rattle.cj_program.specs.Forms.{InForm};
+ghost use Rattle.cj_program.specs.Forms.{InForm, InFormBy};
 ghost use Rattle.cj_program.specs.Writing.{IsGiven};
 
-use crate::forms::formed;
+use crate::forms::{formed, formed_by};
 use crate::serving::give_answer;
 use cj_args::{CheckRequest, ReportRequest, UpcomingRequest};
 use cj_check::{FileAnswer, FileState, count_of, several_answer};
@@ -54,12 +54,24 @@ pub fn serve_upcoming<W: Write, E: Write>(
     err: &mut E,
 ) -> ExitStatus
     ensures given { result ≢ Status.Failed → (o : Outcome)
-        × InForm upcoming.now.output.now (IsUpcomingFiles upcoming.now files.now sources.now) o
+        × InFormBy upcoming.now.output.now upcoming.now.explain upcoming.now.clock.zone files.now
+        (IsUpcomingFiles upcoming.now files.now sources.now) o
         × IsGiven result o (W.contents out.old) (W.contents out.new) (E.contents err.old)
         (E.contents err.new) }
 {
     let answer = upcoming_files_answer(alloc, upcoming, files, sources);
-    give_answer(formed(alloc, upcoming.output, answer), out, err)
+    give_answer(
+        formed_by(
+            alloc,
+            upcoming.output,
+            upcoming.explain,
+            &upcoming.clock,
+            files,
+            answer,
+        ),
+        out,
+        err,
+    )
 }
 
 /// Gives what `report` answers of several files that were read, for which these zone files were,

@@ -1,3 +1,4 @@
+use crate::shown_zone::clock_of;
 use cj_program::{
     Failure, FileBytes, MOST_READS, Request, Text, ZoneFile, crontab_zones, is_file_name,
     read_input, zones_named,
@@ -92,8 +93,8 @@ fn has_file(files: &[ZoneFile], name: &str) -> bool {
     files.iter().any(|file| file.name.as_str() == name)
 }
 
-// Whether a word gives a zone of that name its rule.
-fn is_rule_of(word: &str, name: &str) -> bool {
+/// Whether a word gives a zone of that name its rule.
+pub fn is_rule_of(word: &str, name: &str) -> bool {
     match word.split_once('=') {
         Some((of, _)) => of == name,
         None => false,
@@ -117,6 +118,20 @@ fn push_fresh(
         return Ok(());
     }
     push_file(rt, files, folder, name)
+}
+
+/// Adds the file of the zone by whose clock times are printed, unless it has one already or a rule.
+pub fn push_clock_file(
+    rt: &HostRuntime,
+    files: &mut Vec<ZoneFile>,
+    folder: &str,
+    rules: &[&str],
+    zone: Option<&str>,
+) -> Result<(), Failure> {
+    match zone {
+        Some(zone) if zone != "UTC" => push_fresh(rt, files, folder, rules, zone),
+        _ => Ok(()),
+    }
 }
 
 /// The files of the zones that a crontab and its request name.
@@ -144,5 +159,20 @@ pub fn crontab_files(
 pub fn input_files(rt: &HostRuntime, folder: &str, input: &[u8]) -> Result<Vec<ZoneFile>, Failure> {
     let mut files = Vec::new(rt.alloc());
     push_input_files(rt, &mut files, folder, input)?;
+    Ok(files)
+}
+
+/// The files of the zones that the input names, and of the one by whose clock times are printed.
+pub fn request_files(
+    rt: &HostRuntime,
+    request: &Request<'_>,
+    folder: &str,
+    input: &[u8],
+) -> Result<Vec<ZoneFile>, Failure> {
+    let mut files = input_files(rt, folder, input)?;
+    let (Some(clock), Some(zones)) = (clock_of(request), request.zones()) else {
+        return Ok(files);
+    };
+    push_clock_file(rt, &mut files, folder, zones.rules.as_slice(), clock.zone)?;
     Ok(files)
 }

@@ -8,14 +8,18 @@ mod clock;
 mod control;
 mod folder;
 mod folding;
+mod listing;
+mod machine;
 mod progress;
 mod several;
+mod shown_zone;
 mod source;
 mod streams;
 mod taken;
 mod telling;
 mod words;
 mod zone_names;
+mod zoned;
 
 use cj_program::{
     ExitStatus, Failure, MOST_BYTES, MOST_LIST_BYTES, MOST_LIST_READS, MOST_READS, Meter, Request,
@@ -23,22 +27,24 @@ use cj_program::{
 };
 use clock::moment_by_clock;
 use control::serve_control;
-use folder::{crontab_files, folder_set, input_files, named_file};
+use folder::{crontab_files, folder_set, named_file, request_files};
 use folding::tell_folded;
+use listing::{Listing, files_listed};
 use progress::{is_shown, serve_shown};
 use several::{serve_files, serve_report_files, serve_upcoming_files};
+use shown_zone::{local_zone, with_zone};
 use source::Input;
+use std::alloc::Global;
 use std::io::{IsTerminal, Write};
 use std::process::ExitCode;
 use std::sync::Wait;
 use std::thread::Threads;
 use std::time::Clock;
 use taken::json_of;
-use telling::{
-    at_terminal, push_cause, serve_on, tell_file, tell_places, tell_shape, tell_waiting,
-};
+use telling::{at_terminal, serve_on, tell_file, tell_places, tell_shape, tell_waiting};
 use words::{asked, joined};
 use zone_names::{tell_zones, without_names};
+use zoned::moment_by_zone;
 
 // Whether the schedules of a file's CronJobs are asked about.
 fn describes_file(request: &Request<'_>) -> bool {
@@ -84,16 +90,6 @@ fn tells_files(rt: &HostRuntime, request: &Request<'_>) -> bool {
     }
 }
 
-// The command of a request that takes several files; an empty text for others.
-fn lists_files(request: &Request<'_>) -> &'static str {
-    match request {
-        Request::Check(_) => "check",
-        Request::Upcoming(_) => "upcoming",
-        Request::Report(_) => "report",
-        _ => "",
-    }
-}
-
 // The bytes of an input, kept for what people are told of places in them.
 fn kept_source(
     rt: &HostRuntime,
@@ -136,7 +132,7 @@ fn tell_unread(rt: &HostRuntime, request: &Request<'_>, status: ExitStatus, inpu
     let err = &mut rt.stderr();
     let most = most_bytes(request);
     if let Some(cause) = input.cause() {
-        push_cause(err, lists_files(request), file, cause, input);
+        let _ = writeln!(err, "{file}: {cause}");
     } else if input.is_above(most) && !matches!(request, Request::Control(_)) {
         let _ = writeln!(
             err,
@@ -161,7 +157,7 @@ fn serve_with_folder<T: Threads + Wait + Sync>(
             let source = kept_source(rt, request, bytes.as_slice())?;
             let bytes = json_of(rt, None, bytes, true)?;
             let bytes = bytes.as_slice();
-            let files = input_files(rt, folder, bytes)?;
+            let files = request_files(rt, request, folder, bytes)?;
             let served = serve_on(threads, rt, request, files.as_slice(), Some(bytes), meter);
             tell_shape(rt, request, served.status, bytes);
             tell_source(
@@ -244,13 +240,11 @@ fn serve_request<T: Threads + Wait + Sync>(
         return serve_with_folder(threads, rt, request, folder, input, meter);
     }
     match request {
-        Request::Check(check) if check.files.len() > 1 => serve_files(rt, check, folder),
-        Request::Upcoming(upcoming) if upcoming.files.len() > 1 => {
+        Request::Check(check) if input.is_several() => serve_files(rt, check, folder),
+        Request::Upcoming(upcoming) if input.is_several() => {
             serve_upcoming_files(rt, upcoming, folder)
         }
-        Request::Report(report) if report.files.len() > 1 => {
-            serve_report_files(rt, report, folder)
-        }
+        Request::Report(report) if input.is_several() => serve_report_files(rt, report, folder),
         Request::Control(control) => Ok(serve_control(rt, control, folder, input)),
         Request::Crontab(_) => serve_crontab(threads, rt, request, folder, input, meter),
         Request::Next(_) | Request::Describe(_) | Request::Previous(_) => {
@@ -265,6 +259,8 @@ fn serve_request<T: Threads + Wait + Sync>(
 // out.
 fn clock_moment(rt: &HostRuntime, request: &Request<'_>) -> Result<Option<String>, Failure> {
     match request {
+        Request::Next(next) => moment_by_clock(rt, Some(next.after)),
+        Request::Plan(plan) => moment_by_clock(rt, Some(plan.moment)),
         Request::Check(check) if check.explain || check.moment.is_some() => {
             moment_by_clock(rt, check.moment)
         }
@@ -307,20 +303,33 @@ fn with_end<'a>(mut request: Request<'a>, end: Option<&'a str>) -> Request<'a> {
     request
 }
 
-// The file of a request that reads one file. Each of several files is opened when its turn comes.
-fn only_file<'a>(request: &Request<'a>) -> Option<&'a str> {
+// The names of the files of a request that takes several; none of other requests.
+fn file_names<'r, 'a>(request: &'r Request<'a>) -> &'r [&'a str] {
     match request {
-        Request::Check(check) if check.files.len() > 1 => None,
-        Request::Upcoming(upcoming) if upcoming.files.len() > 1 => None,
-        Request::Report(report) if report.files.len() > 1 => None,
-        _ => request.file(),
+        Request::Check(check) => check.files.as_slice(),
+        Request::Upcoming(upcoming) => upcoming.files.as_slice(),
+        Request::Report(report) => report.files.as_slice(),
+        _ => &[],
     }
+}
+
+// The request with these files.
+fn with_files<'a>(mut request: Request<'a>, files: Vec<&'a str>) -> Request<'a> {
+    match &mut request {
+        Request::Check(check) => check.files = files,
+        Request::Upcoming(upcoming) => upcoming.files = files,
+        Request::Report(report) => report.files = files,
+        _ => {}
+    }
+    request
 }
 
 // The request with that moment, where it means one.
 fn at_moment<'a>(mut request: Request<'a>, moment: Option<&'a str>) -> Request<'a> {
     if moment.is_some() {
         match &mut request {
+            Request::Next(next) => next.after = moment.unwrap_or(next.after),
+            Request::Plan(plan) => plan.moment = moment.unwrap_or(plan.moment),
             Request::Check(check) => check.moment = moment,
             Request::Why(why) => why.moment = moment,
             Request::Audit(audit) => audit.moment = moment,
@@ -336,18 +345,23 @@ fn at_moment<'a>(mut request: Request<'a>, moment: Option<&'a str>) -> Request<'
     request
 }
 
-// Opens the file of a request and serves it.
-fn serve_parsed<T: Threads + Wait + Clock + Sync>(
+// What a request reads: its file, or several, each of which is opened when its turn comes.
+fn input_of(rt: &HostRuntime, request: &Request<'_>, is_listed: bool) -> Input {
+    if is_listed || file_names(request).len() > 1 {
+        return Input::several();
+    }
+    tell_waiting(rt, request.file());
+    Input::open(rt, request.file())
+}
+
+// Opens what a request reads, whose files may be those of a folder, and serves it.
+fn serve_opened<T: Threads + Wait + Clock + Sync>(
     threads: &T,
     rt: &HostRuntime,
-    request: Request<'_>,
+    mut request: Request<'_>,
+    is_listed: bool,
 ) -> Result<ExitStatus, Failure> {
-    let moment = clock_moment(rt, &request)?;
-    let end = clock_end(rt, &request)?;
-    let request = at_moment(request, moment.as_ref().map(|text| text.as_str()));
-    let mut request = with_end(request, end.as_ref().map(|text| text.as_str()));
-    tell_waiting(rt, only_file(&request));
-    let mut input = Input::open(rt, only_file(&request));
+    let mut input = input_of(rt, &request, is_listed);
     let status = if is_shown(rt, &request) {
         serve_shown(threads, rt, &mut request, &mut input)?
     } else {
@@ -355,6 +369,59 @@ fn serve_parsed<T: Threads + Wait + Clock + Sync>(
     };
     tell_unread(rt, &request, status, &input);
     Ok(status)
+}
+
+// The texts of words.
+fn texts_of<'a>(alloc: Global, words: &'a [String]) -> Result<Vec<&'a str>, Failure> {
+    let mut texts = Vec::new(alloc);
+    for word in words {
+        texts.push(word.as_str())?;
+    }
+    Ok(texts)
+}
+
+// Serves a request, with the files of folders in their place.
+fn serve_listed<T: Threads + Wait + Clock + Sync>(
+    threads: &T,
+    rt: &HostRuntime,
+    request: Request<'_>,
+) -> Result<ExitStatus, Failure> {
+    match files_listed(rt, file_names(&request))? {
+        Listing::Plain => serve_opened(threads, rt, request, false),
+        Listing::Refused => Ok(ExitStatus::Refused),
+        Listing::Files(files) => {
+            let files = texts_of(rt.alloc(), files.as_slice())?;
+            serve_opened(threads, rt, with_files(request, files), true)
+        }
+    }
+}
+
+// The moment that a request means by its zone's clock, where its text has no offset.
+fn zoned_moment(rt: &HostRuntime, request: &Request<'_>) -> Result<Option<String>, Failure> {
+    let set = folder_set(rt)?;
+    let set = set.as_ref().map(|folder| folder.as_str());
+    moment_by_zone(
+        rt,
+        request,
+        request.folder().or(set).unwrap_or(MACHINE_FOLDER),
+    )
+}
+
+// Serves a request, with what its words leave to the machine: moments by its clock, and its zone.
+fn serve_parsed<T: Threads + Wait + Clock + Sync>(
+    threads: &T,
+    rt: &HostRuntime,
+    request: Request<'_>,
+) -> Result<ExitStatus, Failure> {
+    let moment = clock_moment(rt, &request)?;
+    let end = clock_end(rt, &request)?;
+    let zone = local_zone(rt, &request)?;
+    let request = at_moment(request, moment.as_ref().map(|text| text.as_str()));
+    let request = with_end(request, end.as_ref().map(|text| text.as_str()));
+    let request = with_zone(request, zone.as_ref().map(|text| text.as_str()));
+    let zoned = zoned_moment(rt, &request)?;
+    let request = at_moment(request, zoned.as_ref().map(|text| text.as_str()));
+    serve_listed(threads, rt, request)
 }
 
 // Says to people what may be meant by words that are wrong.
@@ -375,10 +442,7 @@ fn run<T: Threads + Wait + Clock + Sync>(
     let alloc = rt.alloc();
     let given: Vec<String> = std::env::args(rt)?.collect(alloc)?;
     let args = joined(alloc, given.as_slice())?;
-    let mut words = Vec::new(alloc);
-    for arg in &args {
-        words.push(arg.as_str())?;
-    }
+    let words = texts_of(alloc, args.as_slice())?;
     let words = asked(words.as_slice());
     match parse_words(alloc, words) {
         Ok(request) => serve_parsed(threads, rt, request),

@@ -1,8 +1,8 @@
-use crate::folder::{input_files, push_input_files};
+use crate::folder::{input_files, push_clock_file, push_input_files};
 use crate::source::Input;
 use crate::streams::Output;
 use crate::taken::json_of;
-use crate::telling::{Served, at_terminal, push_cause, tell, tell_more};
+use crate::telling::{Served, at_terminal, tell, tell_more};
 use cj_program::{
     CheckRequest, CronFile, ExitStatus, Failure, FileAnswer, MOST_BYTES, MOST_LIST_BYTES,
     MOST_LIST_READS, MOST_READS, ReportRequest, UpcomingRequest, ZoneFile, check_file_answer,
@@ -14,6 +14,18 @@ use std::io::Write;
 
 // What is said of a file that can't be read, where nobody knows the cause.
 const UNREAD: &str = "it can't be read, or is too long";
+
+// What is said of a folder that stands among the files, since its own can't all be named.
+const UNLISTED: &str = "it can't be listed, or has names that aren't UTF-8";
+
+// Why one of several files can't be read.
+fn cause_of(input: &Input) -> &'static str {
+    if input.is_folder() {
+        UNLISTED
+    } else {
+        input.cause().unwrap_or(UNREAD)
+    }
+}
 
 // What people are told of files behind what is answered of them.
 #[derive(Drop)]
@@ -82,8 +94,8 @@ fn answer_of<'a>(
         Ok(bytes) => bytes_answer(rt, check, folder, name, bytes, told),
         Err(Failure::Memory) => Err(Failure::Memory),
         Err(_) => {
-            let cause = input.cause().unwrap_or(UNREAD);
-            push_cause(&mut told.lines, "check", name, cause, &input);
+            let cause = cause_of(&input);
+            let _ = writeln!(&mut told.lines, "{name}: {cause}");
             Ok(FileAnswer { name, answer: None })
         }
     }
@@ -139,7 +151,7 @@ pub fn serve_files(
 }
 
 // All bytes of one of several files; none where it can't be read, which standard error says.
-fn bytes_of(rt: &HostRuntime, command: &str, name: &str) -> Result<Option<Vec<u8>>, Failure> {
+fn bytes_of(rt: &HostRuntime, name: &str) -> Result<Option<Vec<u8>>, Failure> {
     let mut input = Input::open(rt, Some(name));
     match read_input(rt.alloc(), &mut input, MOST_LIST_BYTES, MOST_LIST_READS) {
         Ok(bytes) => Ok(Some(json_of(rt, Some(name), bytes, true)?)),
@@ -147,22 +159,18 @@ fn bytes_of(rt: &HostRuntime, command: &str, name: &str) -> Result<Option<Vec<u8
         Err(failure) => {
             let err = &mut rt.stderr();
             let _ = tell_failure(failure, err);
-            let cause = input.cause().unwrap_or(UNREAD);
-            push_cause(err, command, name, cause, &input);
+            let cause = cause_of(&input);
+            let _ = writeln!(err, "{name}: {cause}");
             Ok(None)
         }
     }
 }
 
 // The bytes of all files; none where one can't be read.
-fn all_bytes(
-    rt: &HostRuntime,
-    command: &str,
-    names: &[&str],
-) -> Result<Option<Vec<Vec<u8>>>, Failure> {
+fn all_bytes(rt: &HostRuntime, names: &[&str]) -> Result<Option<Vec<Vec<u8>>>, Failure> {
     let mut all = Vec::new(rt.alloc());
     for name in names {
-        match bytes_of(rt, command, name)? {
+        match bytes_of(rt, name)? {
             Some(bytes) => all.push(bytes)?,
             None => return Ok(None),
         }
@@ -211,7 +219,7 @@ pub fn serve_upcoming_files(
     folder: &str,
 ) -> Result<ExitStatus, Failure> {
     let alloc = rt.alloc();
-    let Some(all) = all_bytes(rt, "upcoming", upcoming.files.as_slice())? else {
+    let Some(all) = all_bytes(rt, upcoming.files.as_slice())? else {
         return Ok(ExitStatus::Failed);
     };
     let mut zone_files = Vec::new(alloc);
@@ -221,6 +229,8 @@ pub fn serve_upcoming_files(
         push_input_files(rt, &mut zone_files, folder, bytes)?;
         sources.push(CronFile { name: *name, bytes })?;
     }
+    let rules = upcoming.zones.rules.as_slice();
+    push_clock_file(rt, &mut zone_files, folder, rules, upcoming.clock.zone)?;
     Ok(serve_read(rt, upcoming, zone_files.as_slice(), sources.as_slice()))
 }
 
@@ -265,7 +275,7 @@ pub fn serve_report_files(
     folder: &str,
 ) -> Result<ExitStatus, Failure> {
     let alloc = rt.alloc();
-    let Some(all) = all_bytes(rt, "report", report.files.as_slice())? else {
+    let Some(all) = all_bytes(rt, report.files.as_slice())? else {
         return Ok(ExitStatus::Failed);
     };
     let mut zone_files = Vec::new(alloc);

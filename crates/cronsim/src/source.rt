@@ -9,6 +9,8 @@ enum Source {
     File(File),
     /// A file that could not be opened, or is a directory, for this cause: every read fails.
     Unopened(ErrorKind),
+    /// Several files, each of which is opened when its turn comes: every read fails here.
+    Several,
 }
 
 /// What a command reads, and how many bytes of it were read.
@@ -31,12 +33,25 @@ impl Input {
         Input { source, count: 0 }
     }
 
+    /// That of several files.
+    pub fn several() -> Input {
+        Input {
+            source: Source::Several,
+            count: 0,
+        }
+    }
+
     /// An input whose every read fails.
     pub fn unreadable() -> Input {
         Input {
             source: Source::Unopened(ErrorKind::Other),
             count: 0,
         }
+    }
+
+    /// Whether it is that of several files.
+    pub fn is_several(&self) -> bool {
+        matches!(self.source, Source::Several)
     }
 
     /// Whether more bytes were read than so many.
@@ -56,7 +71,7 @@ impl Input {
             Source::Unopened(ErrorKind::PermissionDenied) => Some("permission denied"),
             Source::Unopened(ErrorKind::IsADirectory) => Some("is a directory"),
             Source::Unopened(_) => Some("it can't be opened"),
-            Source::Standard(_) | Source::File(_) => None,
+            Source::Standard(_) | Source::File(_) | Source::Several => None,
         }
     }
 }
@@ -68,6 +83,7 @@ impl Read for Input {
             Source::Standard(input) => input.read(buf),
             Source::File(file) => file.read(buf),
             Source::Unopened(kind) => Err(io::Error::from(*kind)),
+            Source::Several => Err(io::Error::from(ErrorKind::Other)),
         };
         match &read {
             Ok(count) => self.count = self.count.saturating_add(*count),

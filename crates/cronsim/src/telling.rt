@@ -149,18 +149,6 @@ pub fn tell_shape(rt: &HostRuntime, request: &Request<'_>, status: ExitStatus, b
     let _ = write!(&mut rt.stderr(), "{file}: {words}");
 }
 
-/// Says to people why a file can't be read; of a folder also how its files are named.
-pub fn push_cause<W: Write>(err: &mut W, command: &str, name: &str, cause: &str, input: &Input) {
-    let _ = writeln!(err, "{name}: {cause}");
-    if input.is_folder() && !command.is_empty() {
-        let folder = name.strip_suffix('/').unwrap_or(name);
-        let _ = writeln!(
-            err,
-            "{name}: its files are named one by one: cronsim {command} {folder}/*.yaml"
-        );
-    }
-}
-
 /// Says to people where the faults of manifests stand in the text that was read. That is looked at
 /// only where they are told why.
 pub fn tell_places(
@@ -170,7 +158,11 @@ pub fn tell_places(
     files: &[ZoneFile],
     source: &[u8],
 ) -> Result<(), Failure> {
-    let is_wanted = check.explain || status == ExitStatus::Refused && at_terminal(rt);
+    let is_wanted = match status {
+        ExitStatus::Failed => false,
+        ExitStatus::Refused => check.explain || at_terminal(rt),
+        _ => check.explain,
+    };
     if is_wanted {
         let name = check.files.as_slice().first().copied().unwrap_or("FILE");
         let lines = fault_places(rt.alloc(), check, files, name, source)?;

@@ -19,9 +19,9 @@ fn is_before(word: &str) -> bool {
 // Whether the value of the command's option may be a moment by the clock.
 fn takes_moment(command: &str, option: &str) -> bool {
     match command {
-        "check" | "why" | "crontab" => option == "--now",
-        "upcoming" | "scenario" => option == "--from",
-        "describe" => option == "--after",
+        "check" | "why" | "crontab" | "plan" => option == "--now",
+        "upcoming" | "scenario" => option == "--from" || option == "--until",
+        "describe" | "next" => option == "--after",
         "previous" => option == "--before",
         "report" | "audit" => option == "--now" || option == "--since",
         _ => false,

@@ -1,5 +1,6 @@
 // The names of zones in the words and in the input, and in the folder.
 use crate::folder::named_file;
+use crate::shown_zone::clock_of;
 use crate::telling::{Served, at_terminal};
 use cj_program::{ExitStatus, Failure, Request, ZoneFile, nearest_zone, zones_named};
 use std::fs::{metadata, read_dir};
@@ -196,9 +197,54 @@ fn asked_zones(
     Ok(asked)
 }
 
+// The zone by whose clock times are printed, where a name alone says which.
+fn push_clock(
+    rt: &HostRuntime,
+    asked: &mut Vec<AskedZone>,
+    request: &Request<'_>,
+) -> Result<(), Failure> {
+    let Some(clock) = clock_of(request) else {
+        return Ok(());
+    };
+    let by = if clock.is_local {
+        "--local"
+    } else {
+        "--time-zone"
+    };
+    match clock.zone {
+        Some(zone) if !zone.contains('=') && !zone.contains(',') => {
+            push_asked(rt, asked, by, zone)
+        }
+        _ => Ok(()),
+    }
+}
+
 // Whether the name is one of UTC, or of a zone whose file was read.
 fn is_known(name: &str, files: &[ZoneFile]) -> bool {
     name == "UTC" || name == "Etc/UTC" || files.iter().any(|file| file.name.as_str() == name)
+}
+
+// Whether a text is a distance from UTC, as `UTC+2` or `+02:00`.
+fn is_distance(name: &str) -> bool {
+    let behind = name.strip_prefix("UTC").unwrap_or(name);
+    let behind = behind.strip_prefix("GMT").unwrap_or(behind);
+    behind.starts_with('+') || behind.starts_with('-')
+}
+
+// Whether a text may be what a clock shows beside its time, as `BST`.
+fn is_abbreviation(name: &str) -> bool {
+    name.len() <= 5 && name.as_bytes().iter().all(|byte| byte.is_ascii_uppercase())
+}
+
+// What people may write in the place of a name that names no zone.
+fn hint_of(name: &str) -> &'static str {
+    if is_distance(name) {
+        "; Etc/GMT-2 is two hours ahead of UTC all year"
+    } else if is_abbreviation(name) {
+        "; an abbreviation is of no one zone: want a name like Europe/London"
+    } else {
+        ""
+    }
 }
 
 // Says which zones aren't known, and which may be meant.
@@ -215,7 +261,12 @@ fn tell_unknown(
         if is_known(name, files) {
             continue;
         }
-        let meant = nearest_zone(rt.alloc(), name, names.as_slice())?;
+        let hint = hint_of(name);
+        let meant = if hint.is_empty() {
+            nearest_zone(rt.alloc(), name, names.as_slice())?
+        } else {
+            None
+        };
         let _ = match meant {
             Some(meant) => {
                 writeln!(
@@ -223,10 +274,15 @@ fn tell_unknown(
                     "{by}: no zone {name} in {folder}; did you mean {meant}?"
                 )
             }
-            None => writeln!(err, "{by}: no zone {name} in {folder}"),
+            None => writeln!(err, "{by}: no zone {name} in {folder}{hint}"),
         };
     }
     Ok(())
+}
+
+// Whether a zone is why a request was refused.
+fn lacks_zone(served: &Served) -> bool {
+    served.said.as_slice().starts_with(b"cronsim: zone\n")
 }
 
 // Whether people are to be told of a zone that may be why a request was refused. One on a schedule
@@ -234,9 +290,8 @@ fn tell_unknown(
 fn may_lack_zone(rt: &HostRuntime, request: &Request<'_>, served: &Served) -> bool {
     let is_wanted = request.explains() || at_terminal(rt);
     let is_refused = served.status == ExitStatus::Refused;
-    let is_zone = served.said.as_slice().starts_with(b"cronsim: zone\n");
     let is_input = request.zones().is_some() || request.file().is_some();
-    is_wanted && is_refused && (is_zone || is_input)
+    is_wanted && is_refused && (lacks_zone(served) || is_input)
 }
 
 /// Says to people which zones a refused request asks for and nobody knows: that there is no folder
@@ -252,7 +307,10 @@ pub fn tell_zones(
     if folder.is_empty() || !may_lack_zone(rt, request, served) {
         return Ok(());
     }
-    let asked = asked_zones(rt, request, input)?;
+    let mut asked = asked_zones(rt, request, input)?;
+    if lacks_zone(served) {
+        push_clock(rt, &mut asked, request)?;
+    }
     let is_lacking = asked
         .iter()
         .any(|zone| !is_known(zone.name.as_str(), files));

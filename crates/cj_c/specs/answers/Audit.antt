@@ -5,6 +5,7 @@ use Rattle.cj_audit.specs.Audit.{audit_data}
 use Rattle.cj_audit.specs.Findings.{IsAudit}
 use Rattle.cj_cluster.specs.kubectl.Reading.{IsClusterList}
 use Rattle.cj_cluster.specs.declared.kubectl.list.ClusterList.{ClusterList}
+use Rattle.cj_explain.specs.RefusedItems.{refused_data}
 use Rattle.cj_zone.specs.declared.zone.Zone.{Zone}
 use Rattle.cj_c.specs.answers.Texts.{IsJsonText}
 use Rattle.cj_c.specs.answers.Zones.{AreZonesOf}
@@ -18,4 +19,4 @@ pub record IsAudited (bytes zones_text text : List ℕ) : Type 0 where
   pub read : IsClusterList zones bytes list
   pub findings : List Finding
   pub found : IsAudit zones list.cluster list.notes findings
-  pub printed : IsJsonText (audit_data list findings) text
+  pub printed : IsJsonText (audit_data list findings (refused_data list.notes)) text

@@ -5,6 +5,8 @@ ghost use Rattle.cj_audit.specs.declared.finding.Finding.{Finding};
 ghost use Rattle.cj_base.specs.declared.refusal.Refusal.TheVariants.{OutOfMemory};
 ghost use Rattle.cj_zone.specs.Table.{zones_of};
 ghost use Rattle.cj_audit.specs.Audit.{audit_data};
+ghost use Rattle.cj_explain.specs.RefusedItems.{refused_data};
+ghost use Rattle.serde_json.specs.View.{view};
 ghost use Rattle.cj_c.specs.answers.Audit.{IsAudited};
 ghost use Rattle.cj_c.specs.answers.Buffers.{IsAnswered, IsTold};
 ghost use Rattle.cj_c.specs.answers.Lists.{IsListRefusal};
@@ -16,21 +18,34 @@ use crate::answers::lists::refused_list;
 use crate::answers::text::json_text;
 use crate::answers::told::Told;
 use crate::answers::zones::{refused_zones, zones_of_text};
-use cj_audit::{audit, audit_value};
+use cj_audit::{Findings, audit, audit_value};
 use cj_base::Refusal;
 use cj_cluster::{ClusterList, read_cluster};
+use cj_explain::refused_value;
 use cj_zone::ZoneTable;
+use serde_json::Value;
 use std::alloc::Global;
+
+// The value for these findings in a list.
+fn found_value(alloc: Global, list: &ClusterList, findings: &Findings) -> Result<Value, Refusal>
+    ensures ok { IfOk result (λ v. view v
+        ≡ audit_data list.now findings.now (refused_data list.now.notes)) }
+    ensures err { IfErr result (λ e. e ≡ OutOfMemory) }
+{
+    let refused = refused_value(alloc, list.notes.as_slice())?;
+    audit_value(alloc, list, findings, refused)
+}
 
 // The text for a list under these zones.
 fn audit_text(alloc: Global, list: &ClusterList, zones: &ZoneTable) -> Result<String, Refusal>
     ensures ok { IfOk result (λ s. (findings : List Finding)
         × IsAudit (zones_of zones.now) list.now.cluster list.now.notes findings
-        × IsJsonText (audit_data list.now findings) (string_bytes s)) }
+        × IsJsonText (audit_data list.now findings (refused_data list.now.notes))
+        (string_bytes s)) }
     ensures err { IfErr result (λ e. e ≡ OutOfMemory) }
 {
     let findings = audit(alloc, zones, &list.cluster, list.notes.as_slice())?;
-    let value = audit_value(alloc, list, &findings)?;
+    let value = found_value(alloc, list, &findings)?;
     json_text(alloc, &value)
 }
 

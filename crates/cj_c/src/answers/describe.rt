@@ -23,11 +23,11 @@ use crate::status::RANGE;
 use crate::zones::{Unzoned, utc};
 use cj_audit::cause_text;
 use cj_base::{Cause, Refusal, ScheduleFault, Seconds, TryCopy, all_three};
-use cj_json::time_value;
+use cj_json::{object_of, time_value};
 use cj_schedule::Schedule;
 use cj_upcoming::{coming_changes, coming_times, coming_value, sentence};
 use cj_zone::{Zone, ZoneTable};
-use serde_json::{Value, json};
+use serde_json::Value;
 use std::alloc::{AllocError, Global};
 
 // ---- the zone
@@ -139,6 +139,11 @@ fn changes_value(
     Ok(Value::Array(coming_changes(alloc, zone, after, times)?))
 }
 
+// The names of its members.
+const DESCRIBE_NAMES: &[&str] = &[
+    "after", "changes", "schedule", "sentence", "timeZone", "times",
+];
+
 fn describe_object(
     alloc: Global,
     schedule: &str,
@@ -148,16 +153,11 @@ fn describe_object(
     ensures { IfOk result (λ v. view v ≡ describe_object (view times.0) (view times.1) schedule.now
         (view words.0) (view words.1) (view times.2)) }
 {
+    let schedule = Value::try_from_str(alloc, schedule)?;
     let (sentence, zone) = words;
     let (after, changes, times) = times;
-    json!(in alloc; {
-        "after": after,
-        "changes": changes,
-        "schedule": schedule,
-        "sentence": sentence,
-        "timeZone": zone,
-        "times": times
-    })
+    let values = [after, changes, schedule, sentence, zone, times];
+    object_of(alloc, DESCRIBE_NAMES, values)
 }
 
 fn describe_value(

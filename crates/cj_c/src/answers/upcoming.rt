@@ -15,10 +15,11 @@ use crate::answers::text::{json_text, one_fault_text};
 use crate::answers::told::Told;
 use crate::answers::zones::{refused_zones, zones_of_text};
 use crate::status::RANGE;
-use cj_audit::{others_value, refused_value};
+use cj_audit::others_value;
 use cj_base::{Refusal, Seconds, all_four, both};
 use cj_cluster::{ClusterCron, ClusterList, ItemNote, read_cluster};
-use cj_json::time_value;
+use cj_explain::refused_value;
+use cj_json::{object_of, time_value};
 use cj_types::Shared;
 use cj_upcoming::{
     Start, StartsFault, Window, peaks_value, standing_values, starts_value, upcoming,
@@ -96,6 +97,11 @@ fn parts_of(
     })
 }
 
+// The names of its members.
+const UPCOMING_NAMES: &[&str] = &[
+    "changes", "cronJobs", "files", "from", "idle", "minutes", "peaks", "starts", "to",
+];
+
 fn upcoming_object(
     alloc: Global,
     ends: (Value, Value),
@@ -107,24 +113,25 @@ fn upcoming_object(
         counts.1 (view files) (told_in parts)) }
 {
     let (from, to) = ends;
-    let (crons, starts) = counts;
+    let (crons, starts) = (Value::from(counts.0), Value::from(counts.1));
     let Parts {
         changes,
         idle,
         all_minutes,
         peaks,
     } = parts;
-    json!(in alloc; {
-        "changes": changes,
-        "cronJobs": crons,
-        "files": files,
-        "from": from,
-        "idle": idle,
-        "minutes": all_minutes,
-        "peaks": peaks,
-        "starts": starts,
-        "to": to
-    })
+    let values = [
+        changes,
+        crons,
+        files,
+        from,
+        idle,
+        all_minutes,
+        peaks,
+        starts,
+        to,
+    ];
+    object_of(alloc, UPCOMING_NAMES, values)
 }
 
 fn upcoming_value(

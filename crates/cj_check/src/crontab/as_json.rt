@@ -1,5 +1,6 @@
 // What `crontab` prints as JSON.
 use crate::crontab::clock::Clocks;
+use crate::crontab::command::Command;
 use crate::crontab::entries::Entry;
 use crate::crontab::line::{Job, Line, Reboot};
 use crate::crontab::lines::{fault_words, job_sentence};
@@ -7,7 +8,8 @@ use crate::crontab::notes::notes_of;
 use crate::crontab::setting::Setting;
 use crate::crontab::told::whole_notes;
 use cj_answers::value_line;
-use cj_json::push_value;
+use cj_base::{all_three, both};
+use cj_json::{object_of, push_value, text_or_null};
 use cj_types::Refusal;
 use serde_json::{Value, json};
 use std::alloc::{AllocError, Global};
@@ -22,22 +24,28 @@ fn texts_value(alloc: Global, texts: &[String]) -> Result<Value, Refusal> {
     Ok(Value::Array(values))
 }
 
-fn text_value(alloc: Global, text: Option<&str>) -> Result<Value, AllocError> {
-    match text {
-        Some(text) => Value::try_from_str(alloc, text),
-        None => Ok(Value::Null),
-    }
-}
-
 fn number_value(number: usize) -> Value {
     Value::from(number as u64)
 }
 
-fn input_value(alloc: Global, input: &Option<String>) -> Result<Value, AllocError> {
+fn input_value(alloc: Global, input: &Option<String>) -> Result<Value, Refusal> {
     match input {
-        Some(text) => Value::try_from_str(alloc, text.as_str()),
+        Some(text) => text_or_null(alloc, Some(text.as_str())),
         None => Ok(Value::Null),
     }
+}
+
+// A command, its input, and who runs it.
+fn command_values(
+    alloc: Global,
+    command: &Command,
+    user: Option<&str>,
+) -> Result<(Value, Value, Value), Refusal> {
+    all_three(
+        text_or_null(alloc, Some(command.text.as_str())),
+        input_value(alloc, &command.input),
+        text_or_null(alloc, user),
+    )
 }
 
 fn setting_value(
@@ -56,23 +64,67 @@ fn setting_value(
     })
 }
 
+// The names of the members of a reboot's line.
+const REBOOT_NAMES: &[&str] = &["command", "input", "kind", "line", "notes", "user"];
+
+fn reboot_object(
+    alloc: Global,
+    kind: Value,
+    number: Value,
+    notes: Value,
+    started: (Value, Value, Value),
+) -> Result<Value, AllocError> {
+    let (command, input, user) = started;
+    let values = [command, input, kind, number, notes, user];
+    object_of(alloc, REBOOT_NAMES, values)
+}
+
 fn reboot_value(
     alloc: Global,
     number: Value,
     notes: Value,
     reboot: &Reboot<'_>,
+) -> Result<Value, Refusal> {
+    let (kind, started) = both(
+        text_or_null(alloc, Some("reboot")),
+        command_values(alloc, &reboot.command, reboot.user),
+    )?;
+    Ok(reboot_object(alloc, kind, number, notes, started)?)
+}
+
+// The schedule of a line as it is written, as Kubernetes takes it, and in a sentence.
+fn schedule_values(
+    alloc: Global,
+    job: &Job<'_>,
+    zone: Option<&str>,
+) -> Result<(Value, Value, Value), Refusal> {
+    let given = Value::String(job.when.given(alloc)?);
+    let sentence = Value::String(job_sentence(alloc, job, zone)?);
+    let schedule = Value::try_from_str(alloc, job.text.as_str())?;
+    Ok((given, schedule, sentence))
+}
+
+// The names of the members of a Job's line.
+const JOB_NAMES: &[&str] = &[
+    "command", "given", "input", "kind", "line", "notes", "schedule", "sentence", "timeZone",
+    "user",
+];
+
+fn job_object(
+    alloc: Global,
+    words: (Value, Value),
+    number: Value,
+    notes: Value,
+    when: (Value, Value, Value),
+    started: (Value, Value, Value),
 ) -> Result<Value, AllocError> {
-    let user = text_value(alloc, reboot.user)?;
-    let input = input_value(alloc, &reboot.command.input)?;
-    let command = reboot.command.text.as_str();
-    json!(in alloc; {
-        "command": command,
-        "input": input,
-        "kind": "reboot",
-        "line": number,
-        "notes": notes,
-        "user": user
-    })
+    let (kind, zone) = words;
+    let (given, schedule, sentence) = when;
+    let (command, input, user) = started;
+    let values = [
+        command, given, input, kind, number, notes, schedule, sentence, zone, user,
+    ];
+    object_of(alloc, JOB_NAMES, values)
 }
 
 fn job_value(
@@ -82,25 +134,12 @@ fn job_value(
     job: &Job<'_>,
     zone: Option<&str>,
 ) -> Result<Value, Refusal> {
-    let user = text_value(alloc, job.user)?;
-    let input = input_value(alloc, &job.command.input)?;
-    let zone_value = text_value(alloc, zone)?;
-    let given = job.when.given(alloc)?;
-    let sentence = job_sentence(alloc, job, zone)?;
-    let command = job.command.text.as_str();
-    let (given, sentence, schedule) = (given.as_str(), sentence.as_str(), job.text.as_str());
-    Ok(json!(in alloc; {
-        "command": command,
-        "given": given,
-        "input": input,
-        "kind": "job",
-        "line": number,
-        "notes": notes,
-        "schedule": schedule,
-        "sentence": sentence,
-        "timeZone": zone_value,
-        "user": user
-    })?)
+    let (words, when, started) = all_three(
+        both(text_or_null(alloc, Some("job")), text_or_null(alloc, zone)),
+        schedule_values(alloc, job, zone),
+        command_values(alloc, &job.command, job.user),
+    )?;
+    Ok(job_object(alloc, words, number, notes, when, started)?)
 }
 
 fn refused_value(alloc: Global, number: Value, words: &str) -> Result<Value, AllocError> {
@@ -119,7 +158,7 @@ fn entry_value(alloc: Global, clocks: &Clocks<'_>, entry: &Entry<'_>) -> Result<
     match &entry.line {
         Line::Setting(setting) => Ok(setting_value(alloc, number, notes, setting)?),
         Line::Job(job) => job_value(alloc, number, notes, job, entry.zone),
-        Line::Reboot(reboot) => Ok(reboot_value(alloc, number, notes, reboot)?),
+        Line::Reboot(reboot) => reboot_value(alloc, number, notes, reboot),
         Line::Refused(fault) => {
             let words = fault_words(alloc, fault)?;
             Ok(refused_value(alloc, number, words.as_str())?)

@@ -5,7 +5,8 @@ use Rattle.cj_audit.specs.declared.finding.Finding.{Finding}
 use Rattle.cj_audit.specs.Lines.{audit_lines}
 use Rattle.cj_audit.specs.Manual.{manual_lines}
 use Rattle.cj_cluster.specs.declared.kubectl.list.ClusterList.{ClusterList}
-use Rattle.cj_audit.specs.Items.{others_data, refused_data}
+use Rattle.cj_audit.specs.Items.{others_data}
+use Rattle.cj_explain.specs.RefusedItems.{refused_data}
 use Rattle.cj_audit.specs.Json.{findings_data, manual_data}
 use Rattle.serde_json.specs.Data.{Data, number, unsigned, object, member, no_members}
 use Rattle.cj_inspect.specs.Nights.{IsNightData}

@@ -19,7 +19,8 @@ use Rattle.cj_inspect.specs.Nights.{IsNightData}
 use Rattle.cj_inspect.specs.declared.as_json.upcoming.Parts.{Parts}
 use Rattle.cj_inspect.specs.declared.cron_files.FileCrons.{FileCrons}
 use Rattle.cj_answers.specs.as_json.Forms.{IsJsonLine}
-use Rattle.cj_audit.specs.Items.{others_data, refused_data}
+use Rattle.cj_audit.specs.Items.{others_data}
+use Rattle.cj_explain.specs.RefusedItems.{refused_data}
 
 -- ---- the files
 

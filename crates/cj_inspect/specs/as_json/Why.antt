@@ -5,7 +5,8 @@ use Rattle.serde_json.specs.Data.{Data, array, object, member, no_members}
 use Rattle.serde_json.specs.View.{items_of}
 use Rattle.cj_cluster.specs.declared.kubectl.notes.ItemNote.{ItemNote}
 use Rattle.cj_json.specs.Values.{time_data}
-use Rattle.cj_audit.specs.Items.{others_data, refused_data}
+use Rattle.cj_audit.specs.Items.{others_data}
+use Rattle.cj_explain.specs.RefusedItems.{refused_data}
 
 abbrev pub why_object : Data → Data → Data → Data → Data → Data → Data
 why_object calls clocks crons now others refused = object (

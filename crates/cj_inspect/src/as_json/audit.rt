@@ -3,17 +3,20 @@ ghost use Rattle.std.specs.Prelude.{◌≡◌, IfOk, IfErr, length, string_bytes
 ghost use Rattle.std.specs.FinMap as map;
 ghost use Rattle.cj_base.specs.declared.refusal.Refusal.TheVariants.{OutOfMemory};
 ghost use Rattle.serde_json.specs.View.{view};
-ghost use Rattle.cj_audit.specs.Items.{others_data, refused_data};
+ghost use Rattle.cj_audit.specs.Items.{others_data};
 ghost use Rattle.cj_audit.specs.Json.{findings_data, manual_data};
+ghost use Rattle.cj_explain.specs.RefusedItems.{refused_data};
 ghost use Rattle.cj_inspect.specs.Nights.{IsNightData};
 ghost use Rattle.cj_inspect.specs.as_json.Audit.{IsAuditJson, audit_data, audit_object};
 
 use crate::as_json::nights::nights_value;
 use crate::nights::Look;
-use cj_answers::{object_of, value_line};
-use cj_audit::{Findings, findings_value, manual_value, others_value, refused_value};
+use cj_answers::value_line;
+use cj_audit::{Findings, findings_value, manual_value, others_value};
 use cj_base::{Refusal, all_four, both};
 use cj_cluster::ClusterList;
+use cj_explain::refused_value;
+use cj_json::object_of;
 use cj_zone::ZoneTable;
 use serde_json::Value;
 use std::alloc::{AllocError, Global};

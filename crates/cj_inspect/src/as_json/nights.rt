@@ -5,8 +5,9 @@ ghost use Rattle.serde_json.specs.View.{view};
 ghost use Rattle.cj_inspect.specs.Nights.{IsNightData};
 
 use crate::nights::{Look, Night, Parts, nights_of, parts_of};
+use cj_base::{all_three, both};
 use cj_cluster::ClusterCron;
-use cj_json::push_value;
+use cj_json::{object_of, push_value, text_or_null};
 use cj_types::{Key, Refusal, Shared};
 use cj_zone::ZoneTable;
 use serde_json::{Value, json};
@@ -36,22 +37,55 @@ fn change_word(fate: &str) -> &'static str {
     }
 }
 
-fn night_object(
+// What the clock does, the local time of which it does so, and the zone.
+fn clock_values(
     alloc: Global,
     zone: &str,
     parts: &Parts<'_>,
+) -> Result<(Value, Value, Value), Refusal>
+    ensures { IfErr result (λ e. e ≡ OutOfMemory) }
+{
+    all_three(
+        text_or_null(alloc, Some(change_word(parts.fate))),
+        text_or_null(alloc, Some(parts.named)),
+        text_or_null(alloc, Some(zone)),
+    )
+}
+
+// From where to where the clock goes, and when.
+fn span_values(alloc: Global, parts: &Parts<'_>) -> Result<(Value, Value, Value), Refusal>
+    ensures { IfErr result (λ e. e ≡ OutOfMemory) }
+{
+    all_three(
+        text_or_null(alloc, Some(parts.from)),
+        text_or_null(alloc, Some(parts.to)),
+        text_or_null(alloc, Some(parts.time)),
+    )
+}
+
+// The names of its members.
+const NIGHT_NAMES: &[&str] = &[
+    "change", "cronJobs", "from", "local", "time", "timeZone", "to",
+];
+
+fn night_object(
+    alloc: Global,
+    clock: (Value, Value, Value),
+    span: (Value, Value, Value),
     crons: Value,
 ) -> Result<Value, AllocError> {
-    let change = change_word(parts.fate);
-    json!(in alloc; {
-        "change": change,
-        "cronJobs": crons,
-        "from": parts.from,
-        "local": parts.named,
-        "time": parts.time,
-        "timeZone": zone,
-        "to": parts.to
-    })
+    let (change, local, zone) = clock;
+    let (from, to, time) = span;
+    let values = [change, crons, from, local, time, zone, to];
+    object_of(alloc, NIGHT_NAMES, values)
+}
+
+// The value for a local time, with its CronJobs.
+fn night_value(alloc: Global, zone: &str, parts: &Parts<'_>, crons: Value) -> Result<Value, Refusal>
+    ensures { IfErr result (λ e. e ≡ OutOfMemory) }
+{
+    let (clock, span) = both(clock_values(alloc, zone, parts), span_values(alloc, parts))?;
+    Ok(night_object(alloc, clock, span, crons)?)
 }
 
 fn push_night(alloc: Global, values: &mut Vec<Value>, night: &Night) -> Result<(), Refusal>
@@ -61,7 +95,7 @@ fn push_night(alloc: Global, values: &mut Vec<Value>, night: &Night) -> Result<(
         return Ok(());
     };
     let crons = Value::Array(key_values(alloc, night.crons.as_slice())?);
-    let value = night_object(alloc, night.zone.as_str(), &parts, crons)?;
+    let value = night_value(alloc, night.zone.as_str(), &parts, crons)?;
     push_value(values, value)
 }
 

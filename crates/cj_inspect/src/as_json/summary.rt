@@ -4,13 +4,14 @@ ghost use Rattle.cj_base.specs.declared.refusal.Refusal.TheVariants.{OutOfMemory
 
 use crate::schedules::{spec_of, zone_name};
 use crate::upcoming::coming::{Coming, coming_of};
-use cj_base::all_three;
+use crate::upcoming::sums::Sum;
+use cj_base::{all_three, both};
 use cj_cluster::ClusterCron;
-use cj_json::{push_value, time_or_null};
+use cj_json::{object_of, push_value, text_or_null, time_or_null};
 use cj_types::{Refusal, Shared};
 use cj_upcoming::Window;
 use cj_zone::ZoneTable;
-use serde_json::{Value, json};
+use serde_json::Value;
 use std::alloc::{AllocError, Global};
 
 // How many seconds there are, null where none are told.
@@ -21,38 +22,72 @@ fn every_value(every: Option<u64>) -> Value {
     }
 }
 
-fn object(
-    alloc: Global,
-    coming: &Coming,
-    first: Value,
-    last: Value,
-    next: Value,
-) -> Result<Value, AllocError> {
-    let cron = coming.cron.get();
-    let key = cron.cron.get().key.key();
-    let spec = spec_of(cron);
-    let every = every_value(coming.sum.every);
-    json!(in alloc; {
-        "everySeconds": every,
-        "first": first,
-        "last": last,
-        "name": key.name(),
-        "namespace": key.namespace(),
-        "next": next,
-        "schedule": spec.schedule.as_str(),
-        "sentence": coming.words.as_str(),
-        "starts": coming.sum.count,
-        "timeZone": zone_name(spec)
-    })
-}
-
-fn value(alloc: Global, coming: &Coming) -> Result<Value, Refusal> {
-    let (first, last, next) = all_three(
+// The first of its starts, the last, and the next one.
+fn time_values(alloc: Global, coming: &Coming) -> Result<(Value, Value, Value), Refusal> {
+    all_three(
         time_or_null(alloc, coming.sum.first),
         time_or_null(alloc, coming.sum.last),
         time_or_null(alloc, coming.next),
+    )
+}
+
+// Its name and its namespace.
+fn key_values(alloc: Global, coming: &Coming) -> Result<(Value, Value), Refusal> {
+    let key = coming.cron.get().cron.get().key.key();
+    both(
+        text_or_null(alloc, Some(key.name())),
+        text_or_null(alloc, Some(key.namespace())),
+    )
+}
+
+// Its schedule, that in a sentence, and its time zone.
+fn schedule_values(alloc: Global, coming: &Coming) -> Result<(Value, Value, Value), Refusal> {
+    let spec = spec_of(coming.cron.get());
+    all_three(
+        text_or_null(alloc, Some(spec.schedule.as_str())),
+        text_or_null(alloc, Some(coming.words.as_str())),
+        text_or_null(alloc, Some(zone_name(spec))),
+    )
+}
+
+// The names of its members.
+const SUMMARY_NAMES: &[&str] = &[
+    "everySeconds",
+    "first",
+    "last",
+    "name",
+    "namespace",
+    "next",
+    "schedule",
+    "sentence",
+    "starts",
+    "timeZone",
+];
+
+fn object(
+    alloc: Global,
+    sum: Sum,
+    times: (Value, Value, Value),
+    key: (Value, Value),
+    words: (Value, Value, Value),
+) -> Result<Value, AllocError> {
+    let (every, starts) = (every_value(sum.every), Value::from(sum.count));
+    let (first, last, next) = times;
+    let (name, namespace) = key;
+    let (schedule, sentence, zone) = words;
+    let values = [
+        every, first, last, name, namespace, next, schedule, sentence, starts, zone,
+    ];
+    object_of(alloc, SUMMARY_NAMES, values)
+}
+
+fn value(alloc: Global, coming: &Coming) -> Result<Value, Refusal> {
+    let (times, key, words) = all_three(
+        time_values(alloc, coming),
+        key_values(alloc, coming),
+        schedule_values(alloc, coming),
     )?;
-    Ok(object(alloc, coming, first, last, next)?)
+    Ok(object(alloc, coming.sum, times, key, words)?)
 }
 
 fn values(alloc: Global, all: &[Coming]) -> Result<Vec<Value>, Refusal> {

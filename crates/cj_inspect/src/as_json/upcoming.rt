@@ -11,11 +11,12 @@ use crate::as_json::nights::nights_value;
 use crate::as_json::summary::summary_value;
 use crate::cron_files::FileCrons;
 use crate::windows::window_look;
-use cj_answers::{object_of, value_line};
-use cj_audit::{others_value, refused_value};
+use cj_answers::value_line;
+use cj_audit::others_value;
 use cj_base::{all_four, both};
 use cj_cluster::ClusterCron;
-use cj_json::{push_value, time_value};
+use cj_explain::refused_value;
+use cj_json::{object_of, push_value, time_value};
 use cj_types::{Refusal, Seconds, Shared};
 use cj_upcoming::{
     Start, StartsFault, Window, peaks_value, standing_values, starts_value, upcoming,

@@ -30,7 +30,7 @@ fn push_heat(
 ) -> Result<(), Refusal>
     ensures err { IfErr result (λ e. e ≡ OutOfMemory) }
 {
-    let picture = heat_picture(alloc, window, crons, starts, "")?;
+    let picture = heat_picture(alloc, window, crons, starts, "", None)?;
     Ok(push_picture(text, "Starts by minute", picture.as_str())?)
 }
 

@@ -26,7 +26,7 @@ pub(crate) fn push_jobs(
     ensures err { IfErr result (λ e. e ≡ OutOfMemory) }
 {
     let seen = cluster_since(alloc, since, cluster)?;
-    let picture = cluster_picture(alloc, &seen, findings, "")?;
+    let picture = cluster_picture(alloc, &seen, findings, "", None)?;
     text.push_str(HEAD)?;
     push_picture(text, "Time line of the Jobs", picture.as_str())?;
     Ok(text.push_str("</section>\n")?)

@@ -1,5 +1,5 @@
-// The nights of the year to come in which a clock skips local times, or shows some twice, that a
-// schedule names.
+// The nights from a week before to a year from then on in which a clock skips local times, or shows
+// some twice, that a schedule names.
 ghost use Rattle.std.specs.Prelude.{◌≡◌, IfErr, Some, codes};
 ghost use Rattle.cj_base.specs.declared.refusal.Refusal.TheVariants.{OutOfMemory};
 ghost use Rattle.cj_zone.specs.Table.{local_zone, zones_of};
@@ -17,10 +17,12 @@ use std::alloc::{AllocError, Global};
 
 const YEAR: u64 = 366 * 86_400;
 
+const WEEK: u64 = 7 * 86_400;
+
 const HEAD: &str =
     "<div class=\"wide\" tabindex=\"0\" role=\"region\" aria-label=\"Table of the clock changes\">
 <table class=\"sorted\">
-<caption>In the 366 days to come: a local time that a clock skips starts nothing then, and one that it shows twice is due twice, unless spec.concurrencyPolicy keeps a Job from starting.</caption>
+<caption>From a week before, or --since, to 366 days from then on: a local time that a clock skips starts nothing, and one that it shows twice is due twice, unless spec.concurrencyPolicy keeps a Job from starting.</caption>
 <thead>
 <tr><th scope=\"col\">CronJob</th><th scope=\"col\">Zone</th><th scope=\"col\">When (UTC)</th><th scope=\"col\">What</th></tr>
 </thead>
@@ -32,6 +34,15 @@ fn year_from(now: Seconds) -> Seconds {
     match Seconds::new(now.get().saturating_add(YEAR)) {
         Some(end) => end,
         None => now,
+    }
+}
+
+// The moment from which they are looked for: a week before, or an earlier one that is asked for.
+fn looked_from(now: Seconds, since: Option<Seconds>) -> Seconds {
+    let week = Seconds::new(now.get().saturating_sub(WEEK)).unwrap_or(now);
+    match since {
+        Some(since) if since.get() < week.get() => since,
+        _ => week,
     }
 }
 
@@ -57,6 +68,7 @@ fn lines_of(
     alloc: Global,
     zones: &ZoneTable,
     cron: &CronJob,
+    from: Seconds,
     now: Seconds,
 ) -> Result<String, Refusal>
     requires { local_zone zones.now ≡ Some (utc_zone (codes "UTC")) }
@@ -70,7 +82,7 @@ fn lines_of(
         return Ok(String::new(alloc));
     };
     let utc = zones.default_zone();
-    named_changes_text(alloc, &schedule, zone, utc, now, year_from(now))
+    named_changes_text(alloc, &schedule, zone, utc, from, year_from(now))
 }
 
 // The rows of all CronJobs.
@@ -78,6 +90,7 @@ fn all_rows(
     alloc: Global,
     zones: &ZoneTable,
     crons: &[Shared<ClusterCron>],
+    from: Seconds,
     now: Seconds,
 ) -> Result<String, Refusal>
     requires { local_zone zones.now ≡ Some (utc_zone (codes "UTC")) }
@@ -86,28 +99,30 @@ fn all_rows(
     let mut rows = String::new(alloc);
     for cron in crons {
         let cron = cron.get().cron.get();
-        let lines = lines_of(alloc, zones, cron, now)?;
+        let lines = lines_of(alloc, zones, cron, from, now)?;
         push_nights(&mut rows, cron, lines.as_str())?;
     }
     Ok(rows)
 }
 
-/// The section of the clock changes of the year from then on.
+/// The section of the clock changes from a week before, or an earlier moment that is asked for, to
+/// a year from then on.
 pub(crate) fn push_changes(
     alloc: Global,
     text: &mut String,
     zones: &ZoneTable,
     crons: &[Shared<ClusterCron>],
     now: Seconds,
+    since: Option<Seconds>,
 ) -> Result<(), Refusal>
     requires { local_zone zones.now ≡ Some (utc_zone (codes "UTC")) }
     ensures err { IfErr result (λ e. e ≡ OutOfMemory) }
 {
-    let rows = all_rows(alloc, zones, crons, now)?;
-    text.push_str("<section id=\"nights\">\n<h2>Clock changes of the year to come</h2>\n")?;
+    let rows = all_rows(alloc, zones, crons, looked_from(now, since), now)?;
+    text.push_str("<section id=\"nights\">\n<h2>Clock changes</h2>\n")?;
     if rows.is_empty() {
         text.push_str(
-            "<p>None: in the 366 days to come no clock skips a local time that a schedule names, or shows one twice.</p>\n",
+            "<p>None: from a week before, or --since, to 366 days from then on no clock skips a local time that a schedule names, or shows one twice.</p>\n",
         )?;
     } else {
         text.push_str(HEAD)?;

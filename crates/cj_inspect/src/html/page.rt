@@ -62,21 +62,21 @@ fn push_sections(
     requires { local_zone zones.now ≡ Some (utc_zone (codes "UTC")) }
     ensures err { IfErr result (λ e. e ≡ OutOfMemory) }
 {
-    let (now, since) = (subject.now, subject.since);
+    let now = subject.now;
     let crons = cluster.crons(alloc)?;
     let crons = crons.as_slice();
     push_found(alloc, text, cluster, findings, subject.alone)?;
     push_crons(alloc, text, zones, cluster, crons, now)?;
-    push_jobs(alloc, text, cluster, since, findings)?;
+    push_jobs(alloc, text, cluster, subject.since, findings)?;
     push_day(alloc, text, zones, crons, now)?;
-    push_changes(alloc, text, zones, crons, now)
+    push_changes(alloc, text, zones, crons, now, subject.since)
 }
 
 /// A page on a cluster at a moment, as HTML that needs nothing from elsewhere: when it is of, of
 /// which files, and what was passed over; these findings of `cj_audit`, kind by kind, each with its
 /// sentence, and what to do; a table of the CronJobs; the Jobs over time; what starts in the day to
-/// come; and the local times that a clock skips, or shows twice, in the year to come, and that a
-/// schedule names.
+/// come; and the local times that a clock skips, or shows twice, from a week before to a year from
+/// then on, and that a schedule names.
 ///
 /// # Errors
 ///

@@ -39,7 +39,7 @@ pub(crate) fn push_style(alloc: Global, text: &mut String) -> Result<(), Refusal
 {
     let nothing = Cluster::new(alloc);
     let none = Vec::new(alloc);
-    let picture = cluster_picture(alloc, &nothing, none.as_slice(), "")?;
+    let picture = cluster_picture(alloc, &nothing, none.as_slice(), "", None)?;
     let (_, style, _) = parted(picture.as_str());
     text.push_str(style)?;
     Ok(text.push_str("\n")?)

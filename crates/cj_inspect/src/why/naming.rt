@@ -20,15 +20,14 @@ fn key_text(alloc: Global, key: &Key) -> Result<String, AllocError>
 }
 
 /// Namespace and name.
-pub(crate) fn key_text_of(
-    alloc: Global,
-    namespace: &str,
-    name: &str,
-) -> Result<String, AllocError> {
+pub fn key_text_of(alloc: Global, namespace: &str, name: &str) -> Result<String, AllocError>
+    ensures { IfOk result (λ s. string_bytes s ≡ key_text namespace.now name.now) }
+{
     format!(in alloc; "{namespace}/{name}")
 }
 
-pub(crate) fn is_within(within: Option<&str>, namespace: &str) -> bool
+/// Whether the namespace is the one that is given, if one is.
+pub fn is_within(within: Option<&str>, namespace: &str) -> bool
     ensures { result ≡ is_within (option_map (λ s. s.now) within.entry) namespace.now }
 {
     match within {
@@ -57,8 +56,8 @@ fn is_called(within: Option<&str>, text: &str, key: &str, namespace: &str, name:
     is_key || (is_name && is_at_home)
 }
 
-// Whether the CronJob is called one of the texts.
-pub(crate) fn is_called_one(
+/// Whether the CronJob is called one of the texts.
+pub fn is_called_one(
     within: Option<&str>,
     texts: &[&str],
     key: &str,
@@ -74,7 +73,8 @@ pub(crate) fn is_called_one(
         .any(|text| is_called(within, text, key, namespace, name))
 }
 
-pub(crate) fn has_no_text(texts: &[&str]) -> bool
+/// Whether no CronJob is named.
+pub fn has_no_text(texts: &[&str]) -> bool
     ensures { result ≡ is_nothing texts.now }
 {
     texts.is_empty()
@@ -166,8 +166,9 @@ fn is_unknown(
     Ok(has_none && !is_noted)
 }
 
+/// The end of the line on a text that no CronJob is called.
 #[tactic(auto, unfolding(crate::specs::Why::unknown_end))]
-fn unknown_end() -> &'static str
+pub fn unknown_end() -> &'static str
     ensures { result.now ≡ unknown_end }
 {
     "; want NAMESPACE/NAME, or NAME in the namespace of -n, else in default\n"

@@ -16,8 +16,8 @@ use cj_why::{CronRow, cron_rows, table_text};
 use cj_zone::ZoneTable;
 use std::alloc::{AllocError, Global};
 
-// Whether the reasons are given in full: `--explain` asks for it, or one CronJob is named.
-fn is_full(why: &WhyRequest<'_>) -> bool
+/// Whether the reasons are given in full: `--explain` asks for it, or one CronJob is named.
+pub(crate) fn is_full(why: &WhyRequest<'_>) -> bool
     ensures { result ≡ is_full why.now }
 {
     why.explain || why.crons.as_slice().len() == 1

@@ -11,6 +11,7 @@ use crate::style::CLUSTER_LEGEND;
 use cj_audit::Finding;
 use cj_cluster::{Cluster, ClusterCron};
 use cj_types::{Refusal, Shared};
+use cj_zone::Zone;
 use std::alloc::Global;
 
 fn lanes_of(alloc: Global, crons: &[Shared<ClusterCron>]) -> Result<Vec<Lane>, Refusal>
@@ -63,7 +64,8 @@ fn page_of(alloc: Global, cluster: &Cluster, findings: &[Finding]) -> Result<Pag
 /// around their bars, with what it means as its title. The number of findings is below, and then
 /// these words, line by line.
 ///
-/// Of more than forty CronJobs each gets one line, and those with nothing to show are counted.
+/// The moments above the lanes are by the clock of the zone, or else by UTC. Of more than forty
+/// CronJobs each gets one line, and those with nothing to show are counted.
 ///
 /// # Errors
 ///
@@ -73,11 +75,18 @@ pub fn cluster_picture(
     cluster: &Cluster,
     findings: &[Finding],
     words: &str,
+    clock: Option<&Zone>,
 ) -> Result<String, Refusal>
     ensures err { IfErr result (λ e. e ≡ OutOfMemory) }
 {
     let page = page_of(alloc, cluster, findings)?;
     let mut below = summary(alloc, findings)?;
     below.push_str(words)?;
-    page.text(alloc, "Jobs of a cluster", CLUSTER_LEGEND, below.as_str())
+    page.text(
+        alloc,
+        clock,
+        "Jobs of a cluster",
+        CLUSTER_LEGEND,
+        below.as_str(),
+    )
 }

@@ -90,8 +90,7 @@ fn push_rect(
 ) -> Result<(), Refusal>
     ensures err { IfErr result (λ e. e ≡ OutOfMemory) }
 {
-    let at = minute.time.get();
-    let x = grid.x(at / 60 % 60);
+    let x = grid.x(grid.minute(minute.time.get()));
     let y = grid.y(row);
     let count = minute.count;
     let shade = hundredths(alloc, strength(grid.most, count as u64))?;

@@ -38,7 +38,7 @@ fn push_mark(
     let Some(row) = grid.row(at.get()) else {
         return Ok(());
     };
-    let x = grid.x(at.get() / 60 % 60).saturating_sub(1);
+    let x = grid.x(grid.minute(at.get())).saturating_sub(1);
     let y = grid.y(row);
     let line = escaped(alloc, line)?;
     let line = line.as_str();

@@ -1,5 +1,7 @@
 // Where the minutes of a window stand: a row an hour, a column a minute.
+use crate::clock::{offset_at, past_of};
 use cj_upcoming::Window;
+use cj_zone::Zone;
 
 const HOUR: u64 = 3_600;
 
@@ -19,7 +21,7 @@ const HIGH: u64 = 16;
 /// The hours that are drawn.
 #[derive(Clone, Copy, Debug)]
 pub(crate) struct Grid {
-    /// The number of the first hour since 1970, and how many there are.
+    /// When the first hour begins, and how many there are.
     pub(crate) first: u64,
     pub(crate) rows: u64,
     /// The starts of the fullest minute.
@@ -27,11 +29,14 @@ pub(crate) struct Grid {
 }
 
 impl Grid {
-    /// The hours of the window; `most` starts are in its fullest minute.
-    pub(crate) fn new(window: &Window, most: u64) -> Grid {
-        let first = window.from().get() / HOUR;
-        let last = window.end().get().saturating_sub(1) / HOUR;
-        let rows = last.saturating_sub(first).saturating_add(1);
+    /// The hours of the window, of which the first begins where the clock shows a full one; `most`
+    /// starts are in its fullest minute.
+    pub(crate) fn new(window: &Window, clock: Option<&Zone>, most: u64) -> Grid {
+        let from = window.from().get();
+        let past = past_of(offset_at(clock, from), HOUR, from);
+        let first = from.saturating_sub(past);
+        let last = window.end().get().saturating_sub(1);
+        let rows = (last.saturating_sub(first) / HOUR).saturating_add(1);
         Grid {
             first,
             rows: rows.min(MOST_ROWS),
@@ -41,13 +46,18 @@ impl Grid {
 
     /// The row of an instant, where it is drawn.
     pub(crate) fn row(self, at: u64) -> Option<u64> {
-        let row = (at / HOUR).checked_sub(self.first)?;
+        let row = at.checked_sub(self.first)? / HOUR;
         if row < self.rows { Some(row) } else { None }
+    }
+
+    /// The minute of an instant in its row.
+    pub(crate) fn minute(self, at: u64) -> u64 {
+        at.saturating_sub(self.first) / 60 % 60
     }
 
     /// The first second of a row.
     pub(crate) fn start(self, row: u64) -> u64 {
-        self.first.saturating_add(row).saturating_mul(HOUR)
+        self.first.saturating_add(row.saturating_mul(HOUR))
     }
 
     /// Where a row begins, from above.

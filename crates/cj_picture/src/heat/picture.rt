@@ -8,17 +8,33 @@ use crate::heat::clocks::push_clocks;
 use crate::heat::grid::Grid;
 use crate::heat::rows::{push_minutes, push_rows};
 use crate::page::{line_count, push_frame, push_notes};
+use crate::svg::escaped;
 use cj_cluster::ClusterCron;
 use cj_types::{Refusal, Shared};
 use cj_upcoming::{Minute, Start, Window, minutes_of};
-use cj_zone::time_text;
+use cj_zone::{Zone, time_text};
 use std::alloc::Global;
 
-// From when to when, how much starts, and in how many minutes.
+// By which clock the hours are.
+fn clock_words(alloc: Global, clock: Option<&Zone>) -> Result<String, Refusal>
+    ensures err { IfErr result (λ e. e ≡ OutOfMemory) }
+{
+    match clock {
+        Some(zone) => {
+            let name = escaped(alloc, zone.name())?;
+            let name = name.as_str();
+            Ok(format!(in alloc; "the clock of {name}")?)
+        }
+        None => Ok(String::from_str(alloc, "UTC")?),
+    }
+}
+
+// From when to when, by which clock, how much starts, and in how many minutes.
 fn push_caption(
     alloc: Global,
     text: &mut String,
     window: &Window,
+    clock: Option<&Zone>,
     crons: usize,
     starts: usize,
     most: usize,
@@ -29,8 +45,10 @@ fn push_caption(
     let from = from.as_str();
     let end = time_text(alloc, window.end())?;
     let end = end.as_str();
+    let clock = clock_words(alloc, clock)?;
+    let clock = clock.as_str();
     let caption = format!(in alloc;
-        "<text class=\"h\" x=\"16\" y=\"22\">What starts from {from} to {end}, by UTC</text><text class=\"dim\" x=\"16\" y=\"40\">CronJobs: {crons}, starts: {starts}, in the fullest minute: {most}</text>\n"
+        "<text class=\"h\" x=\"16\" y=\"22\">What starts from {from} to {end}, by {clock}</text><text class=\"dim\" x=\"16\" y=\"40\">CronJobs: {crons}, starts: {starts}, in the fullest minute: {most}</text>\n"
     )?;
     Ok(text.push_str(caption.as_str())?)
 }
@@ -52,6 +70,7 @@ fn push_all(
     alloc: Global,
     text: &mut String,
     grid: Grid,
+    clock: Option<&Zone>,
     crons: &[Shared<ClusterCron>],
     starts: &[Start],
     minutes: &[Minute],
@@ -59,15 +78,18 @@ fn push_all(
     ensures err { IfErr result (λ e. e ≡ OutOfMemory) }
 {
     push_minutes(alloc, text, grid)?;
-    push_rows(alloc, text, grid, minutes)?;
+    push_rows(alloc, text, grid, clock, minutes)?;
     push_cells(alloc, text, grid, crons, starts, minutes)
 }
 
-/// A picture of what starts in a window, as SVG: a row an hour, a column a minute, by UTC, and a
-/// cell for each minute in which something starts, the stronger the more, with its time, its count
-/// and the names of the CronJobs as its title. The sum of an hour is at its right, and these words,
-/// line by line, are below; each that says when a clock is put has a mark at its minute. The starts
-/// are in order, and name these CronJobs by their places.
+/// A picture of what starts in a window, as SVG: a row an hour, a column a minute, by the clock of
+/// the zone or else by UTC, and a cell for each minute in which something starts, the stronger the
+/// more, with its time, its count and the names of the CronJobs as its title. The sum of an hour is
+/// at its right, and these words, line by line, are below; each that says when a clock is put has a
+/// mark at its minute. The starts are in order, and name these CronJobs by their places.
+///
+/// The first row begins at a full hour of the clock; where the clock is put by less than an hour,
+/// the rows behind it don't.
 ///
 /// No more than 400 hours are drawn; that there are more is said.
 ///
@@ -80,13 +102,14 @@ pub fn heat_picture(
     crons: &[Shared<ClusterCron>],
     starts: &[Start],
     words: &str,
+    clock: Option<&Zone>,
 ) -> Result<String, Refusal>
     ensures err { IfErr result (λ e. e ≡ OutOfMemory) }
 {
     let minutes = minutes_of(alloc, starts)?;
     let minutes = minutes.as_slice();
     let most = fullest(minutes);
-    let grid = Grid::new(window, most as u64);
+    let grid = Grid::new(window, clock, most as u64);
     let mut notes = cut_words(alloc, window, grid)?;
     notes.push_str(words)?;
     let notes = notes.as_str();
@@ -94,8 +117,9 @@ pub fn heat_picture(
     let height = top.saturating_add(line_count(notes).saturating_mul(16));
     let mut text = String::new(alloc);
     push_frame(alloc, &mut text, 1040, height, "Starts by minute")?;
-    push_caption(alloc, &mut text, window, crons.len(), starts.len(), most)?;
-    push_all(alloc, &mut text, grid, crons, starts, minutes)?;
+    let (all, count) = (crons.len(), starts.len());
+    push_caption(alloc, &mut text, window, clock, all, count, most)?;
+    push_all(alloc, &mut text, grid, clock, crons, starts, minutes)?;
     push_clocks(alloc, &mut text, grid, notes)?;
     push_notes(alloc, &mut text, top, notes)?;
     text.push_str("</svg>\n")?;

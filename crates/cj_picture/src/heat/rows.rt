@@ -2,10 +2,11 @@
 ghost use Rattle.std.specs.Prelude.{◌≡◌, IfErr};
 ghost use Rattle.cj_base.specs.declared.refusal.Refusal.TheVariants.{OutOfMemory};
 
-use crate::axis::moment_text;
+use crate::clock::{parts, shown_text};
 use crate::heat::grid::Grid;
 use cj_types::Refusal;
 use cj_upcoming::Minute;
+use cj_zone::Zone;
 use std::alloc::Global;
 
 fn push_minute(alloc: Global, text: &mut String, grid: Grid, minute: u64) -> Result<(), Refusal>
@@ -45,23 +46,23 @@ fn sum_of(grid: Grid, row: u64, minutes: &[Minute]) -> u64 {
     sum
 }
 
-// The date and hour of a row: the date in the first row and at midnight.
-fn label(alloc: Global, grid: Grid, row: u64) -> Result<String, Refusal>
+// The date and hour of a row by the clock: the date in the first row and where a day begins.
+fn label(alloc: Global, grid: Grid, clock: Option<&Zone>, row: u64) -> Result<String, Refusal>
     ensures err { IfErr result (λ e. e ≡ OutOfMemory) }
 {
-    let start = grid.start(row);
-    let time = moment_text(alloc, start)?;
-    let (date, clock) = time.as_str().split_once('T').unwrap_or(("", ""));
-    let clock = clock.split_once(":00Z").unwrap_or((clock, "")).0;
-    let named = row == 0 || start % 86_400 == 0;
+    let before = shown_text(alloc, clock, grid.start(row.saturating_sub(1)))?;
+    let shown = shown_text(alloc, clock, grid.start(row))?;
+    let (date, time) = parts(shown.as_str());
+    let named = row == 0 || date != parts(before.as_str()).0;
     let date = if named { date } else { "" };
-    Ok(format!(in alloc; "{date} {clock}")?)
+    Ok(format!(in alloc; "{date} {time}")?)
 }
 
 fn push_row(
     alloc: Global,
     text: &mut String,
     grid: Grid,
+    clock: Option<&Zone>,
     row: u64,
     minutes: &[Minute],
 ) -> Result<(), Refusal>
@@ -69,7 +70,7 @@ fn push_row(
 {
     let y = grid.y(row);
     let below = y.saturating_add(11);
-    let label = label(alloc, grid, row)?;
+    let label = label(alloc, grid, clock, row)?;
     let label = label.as_str();
     let left = grid.x(0);
     let edge = left.saturating_sub(8);
@@ -86,12 +87,13 @@ pub(crate) fn push_rows(
     alloc: Global,
     text: &mut String,
     grid: Grid,
+    clock: Option<&Zone>,
     minutes: &[Minute],
 ) -> Result<(), Refusal>
     ensures err { IfErr result (λ e. e ≡ OutOfMemory) }
 {
     for row in 0..grid.rows {
-        push_row(alloc, text, grid, row, minutes)?;
+        push_row(alloc, text, grid, clock, row, minutes)?;
     }
     Ok(())
 }

@@ -15,6 +15,7 @@ use cj_calls::Entry;
 use cj_history::gaps_of;
 use cj_report::{bars_of, marks_of};
 use cj_types::Refusal;
+use cj_zone::Zone;
 use std::alloc::Global;
 
 // The bars of the history, in these lanes.
@@ -87,15 +88,20 @@ fn page_of(alloc: Global, entries: &[Entry]) -> Result<Page, Refusal>
 /// with a tick at the time that it was due; and a cross where a sync said why it started none, or a
 /// due time got none, with the reason as its title.
 ///
-/// Of more than forty CronJobs each gets one line, and those with nothing to show are counted. It
-/// has no font or script from elsewhere, and colours for light pages and for dark ones.
+/// The moments above the lanes are by the clock of the zone, or else by UTC. Of more than forty
+/// CronJobs each gets one line, and those with nothing to show are counted. It has no font or
+/// script from elsewhere, and colours for light pages and for dark ones.
 ///
 /// # Errors
 ///
 /// `OutOfMemory`.
-pub fn picture_text(alloc: Global, entries: &[Entry]) -> Result<String, Refusal>
+pub fn picture_text(
+    alloc: Global,
+    entries: &[Entry],
+    clock: Option<&Zone>,
+) -> Result<String, Refusal>
     ensures err { IfErr result (λ e. e ≡ OutOfMemory) }
 {
     let page = page_of(alloc, entries)?;
-    page.text(alloc, "Time line of a run", RUN_LEGEND, "")
+    page.text(alloc, clock, "Time line of a run", RUN_LEGEND, "")
 }

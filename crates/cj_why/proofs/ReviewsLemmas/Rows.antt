@@ -22,12 +22,12 @@ module _ (problems explain : Bool) (zones : List Zone) (content : Content) (now 
   -- With one CronJob more, the rows have its row, where it is shown.
   pub grows_one : (c : ClusterCron) (rest : List ClusterCron) (rows : List CronRow) (row : CronRow)
       → Grows (c ∷ rest) rows
-      → IsRow explain zones content now c row → Grows rest (rows ++ shown_if (is_shown problems row) row)
+      → IsRow explain zones content now c row → Grows rest (rows ++ shown_if (is_shown problems now row) row)
   grows_one c rest rows row h is = record {
     whole = λ more k.
         subst (λ r. AreRows problems explain zones content now crons r)
-        (sym (append_assoc rows (shown_if (is_shown problems row) row) more))
-        (h.whole (shown_if (is_shown problems row) row ++ more) (row, more, is, k, refl));
+        (sym (append_assoc rows (shown_if (is_shown problems now row) row) more))
+        (h.whole (shown_if (is_shown problems now row) row ++ more) (row, more, is, k, refl));
   }
 
   -- Behind the last CronJob the rows are all.
@@ -43,7 +43,7 @@ module _ (problems explain : Bool) (zones : List Zone) (content : Content) (now 
   -- The same at a place in the list, whose CronJob is the next.
   pub grows_rest : (i : ℕ) (c : ClusterCron) (rows more : List CronRow) (row : CronRow) → i < length crons
       → c ≡ get_or crons i c → Grows (drop i crons) rows → IsRow explain zones content now c row
-      → more ≡ rows ++ shown_if (is_shown problems row) row → Grows (drop (i + 1) crons) more
+      → more ≡ rows ++ shown_if (is_shown problems now row) row → Grows (drop (i + 1) crons) more
   grows_rest i c rows more row inside at h is m =
       subst (λ r. Grows (drop (i + 1) crons) r) (sym m)
       (grows_one c (drop (i + 1) crons) rows row (subst (λ r. Grows r rows) (rest_at i c inside at) h) is)

@@ -34,8 +34,8 @@ pub record IsRow (explain : Bool) (zones : List Zone) (content : Content) (now :
 
 -- the row is shown: all are, or it wants a look
 -- rule: why-problems
-abbrev pub is_shown : Bool → CronRow → Bool
-is_shown problems row = not problems || is_problem row.verdict row.missed
+abbrev pub is_shown : Bool → ℕ → CronRow → Bool
+is_shown problems now row = not problems || is_problem row.verdict now row.missed
 
 abbrev pub shown_if : Bool → CronRow → List CronRow
 shown_if true row = row ∷ []
@@ -49,7 +49,7 @@ AreRows problems explain zones content now [] rows = rows ≡ []
 AreRows problems explain zones content now (c ∷ cs) rows =
     (row : CronRow) × (rest : List CronRow) × IsRow explain zones content now c row
     × AreRows problems explain zones content now cs rest
-    × (rows ≡ shown_if (is_shown problems row) row ++ rest)
+    × (rows ≡ shown_if (is_shown problems now row) row ++ rest)
 
 abbrev pub crons_of : List CronRow → List ClusterCron
 crons_of rows = map (λ row. row.cron) rows

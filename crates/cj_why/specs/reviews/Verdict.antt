@@ -1,7 +1,7 @@
 -- In a word, why a CronJob starts a Job at a moment, or why not, and which CronJobs want a look:
 -- Kubernetes CronJob documentation, "Schedule suspension", "Deadline for delayed Job start", "Time
 -- zones" and "Concurrency policy".
-use Rattle.std.specs.Prelude.{ℕ, nat_lt, List, ◌&&◌, not, Bool, true, false, if◌then◌else◌, Option, None, Some, codes, is_some}
+use Rattle.std.specs.Prelude.{ℕ, ◌+◌, nat_lt, List, ◌&&◌, ◌||◌, not, Bool, true, false, if◌then◌else◌, Option, None, Some, codes, is_some}
 use Rattle.std.specs.List.{list_any}
 use Rattle.std.specs.FinMap as maps
 use Rattle.cj_types.specs.declared.job.JobDraft.{JobDraft}
@@ -95,28 +95,34 @@ next_of c p = if is_halted c.marks then None else p.next
 
 -- ---- which want a look
 
--- more than the one time was missed whose Job starts
-abbrev pub is_behind : Missed → Bool
-is_behind Kind.None = false
-is_behind (Kind.Some count latest) = nat_lt 1 count
-is_behind (Kind.Many latest) = true
+-- a controller that runs would have started it: it is more than two minutes ago
+-- rule: why-problems
+abbrev pub is_overdue : ℕ → ℕ → Bool
+is_overdue now latest = nat_lt (latest + 120) now
+
+-- more than the one time was missed whose Job starts, or that one is overdue
+-- rule: why-problems
+abbrev pub is_behind : ℕ → Missed → Bool
+is_behind now Kind.None = false
+is_behind now (Kind.Some count latest) = nat_lt 1 count || is_overdue now latest
+is_behind now (Kind.Many latest) = true
 
 -- a CronJob that is suspended or being deleted is as somebody wants it
 -- rule: why-problems
-abbrev pub is_problem : Verdict → Missed → Bool
-is_problem Starts missed = is_behind missed
-is_problem Replaces missed = is_behind missed
-is_problem NothingMissed missed = false
-is_problem Deleting missed = false
-is_problem Suspended missed = false
-is_problem SkippedRunning missed = true
-is_problem NameTaken missed = true
-is_problem LacksJobs missed = true
-is_problem NeverInTime missed = true
-is_problem NeverDue missed = true
-is_problem ZoneUnknown missed = true
-is_problem TooLate missed = true
-is_problem Stuck missed = true
+abbrev pub is_problem : Verdict → ℕ → Missed → Bool
+is_problem Starts now missed = is_behind now missed
+is_problem Replaces now missed = is_behind now missed
+is_problem NothingMissed now missed = false
+is_problem Deleting now missed = false
+is_problem Suspended now missed = false
+is_problem SkippedRunning now missed = true
+is_problem NameTaken now missed = true
+is_problem LacksJobs now missed = true
+is_problem NeverInTime now missed = true
+is_problem NeverDue now missed = true
+is_problem ZoneUnknown now missed = true
+is_problem TooLate now missed = true
+is_problem Stuck now missed = true
 
 -- ---- in words
 

@@ -8,7 +8,7 @@ ghost use Rattle.cj_why.specs.reviews.PlanJson as json;
 
 use cj_base::{all_four, all_three, both};
 use cj_decide::{Claim, JobRef, Steps};
-use cj_json::{push_value, time_or_null, time_value};
+use cj_json::{object_of, push_value, time_or_null, time_value};
 use cj_types::{CronStatus, JobDraft, ObjectName, Reason, Refusal, Seconds};
 use serde_json::{Value, json};
 use std::alloc::{AllocError, Global};
@@ -138,6 +138,11 @@ fn status_value(alloc: Global, status: &Option<CronStatus>) -> Result<Value, Ref
     }
 }
 
+// The names of a plan's members.
+const PLAN_NAMES: &[&str] = &[
+    "claim", "clean", "drop", "make", "next", "reasons", "status",
+];
+
 // The steps up to the Job that is made, that one, and what comes after it.
 fn plan_object(
     alloc: Global,
@@ -151,15 +156,8 @@ fn plan_object(
         (view before.2) (view make) (view next) (view reasons) (view status)) }
 {
     let (claim, clean, dropped) = before;
-    json!(in alloc; {
-        "claim": claim,
-        "clean": clean,
-        "drop": dropped,
-        "make": make,
-        "next": next,
-        "reasons": reasons,
-        "status": status
-    })
+    let values = [claim, clean, dropped, make, next, reasons, status];
+    object_of(alloc, PLAN_NAMES, values)
 }
 
 /// A plan: the claimed time, the Jobs that go before the one that is made and after it, that one,

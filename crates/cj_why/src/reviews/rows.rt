@@ -95,18 +95,23 @@ fn row_of(
     })
 }
 
-fn is_shown(problems: bool, row: &CronRow) -> bool
-    ensures { result ≡ is_shown problems row.now }
+fn is_shown(problems: bool, now: Seconds, row: &CronRow) -> bool
+    ensures { result ≡ is_shown problems now row.now }
 {
-    !problems || is_problem(row.verdict, row.missed)
+    !problems || is_problem(row.verdict, now, row.missed)
 }
 
-fn push_shown(rows: &mut Vec<CronRow>, problems: bool, row: CronRow) -> Result<(), Refusal>
+fn push_shown(
+    rows: &mut Vec<CronRow>,
+    problems: bool,
+    now: Seconds,
+    row: CronRow,
+) -> Result<(), Refusal>
     ensures ok { OnOk result (rows.new.items ≡ rows.old.items
-        ++ shown_if (is_shown problems row) row) }
+        ++ shown_if (is_shown problems now row) row) }
     ensures err { IfErr result (λ e. e ≡ OutOfMemory) }
 {
-    if is_shown(problems, &row) {
+    if is_shown(problems, now, &row) {
         rows.push(row).map_err(|_| Refusal::OutOfMemory)?;
     }
     Ok(())
@@ -132,7 +137,7 @@ pub fn cron_rows(
     let mut rows = Vec::new(alloc);
     for cron in crons {
         let row = row_of(alloc, explain, zones, cluster, cron, now)?;
-        push_shown(&mut rows, problems, row)?;
+        push_shown(&mut rows, problems, now, row)?;
     }
     Ok(rows)
 }

@@ -1,7 +1,7 @@
 // In a word, why a CronJob starts a Job at a moment, or why not.
 ghost use Rattle.std.specs.Prelude.{◌≡◌};
 ghost use Rattle.std.specs.List.{list_any};
-ghost use Rattle.cj_why.specs.reviews.Verdict.{by_claim, by_deadline, by_marks, by_suspension, by_zone, is_behind, is_problem, is_skipped, is_some_missed, is_taken, resting, starting, verdict_of, verdict_text};
+ghost use Rattle.cj_why.specs.reviews.Verdict.{by_claim, by_deadline, by_marks, by_suspension, by_zone, is_behind, is_overdue, is_problem, is_skipped, is_some_missed, is_taken, resting, starting, verdict_of, verdict_text};
 
 use crate::reviews::lacking::is_sure;
 use crate::running::lacks_any;
@@ -217,22 +217,31 @@ pub(crate) fn verdict_of(
     by_marks(cron.marks, by_suspension(spec.suspend, never, known, steps))
 }
 
-fn is_behind(missed: Missed) -> bool
-    ensures { result ≡ is_behind missed }
+fn is_overdue(now: Seconds, latest: Seconds) -> bool
+    ensures { result ≡ is_overdue now latest }
+{
+    latest.get() + 120 < now.get()
+}
+
+fn is_behind(now: Seconds, missed: Missed) -> bool
+    ensures { result ≡ is_behind now missed }
 {
     match missed {
         Missed::None => false,
-        Missed::Some { count, .. } => 1 < count,
+        Missed::Some { count, latest } => {
+            let is_overdue = is_overdue(now, latest);
+            1 < count || is_overdue
+        }
         Missed::Many { .. } => true,
     }
 }
 
-/// Whether a CronJob of that verdict, which missed that number of times, wants a look.
-pub(crate) fn is_problem(verdict: Verdict, missed: Missed) -> bool
-    ensures { result ≡ is_problem verdict missed }
+/// Whether a CronJob of that verdict, which missed that number of times by a moment, wants a look.
+pub(crate) fn is_problem(verdict: Verdict, now: Seconds, missed: Missed) -> bool
+    ensures { result ≡ is_problem verdict now missed }
 {
     match verdict {
-        Verdict::Starts | Verdict::Replaces => is_behind(missed),
+        Verdict::Starts | Verdict::Replaces => is_behind(now, missed),
         Verdict::NothingMissed | Verdict::Suspended | Verdict::Deleting => false,
         Verdict::SkippedRunning
         | Verdict::NameTaken

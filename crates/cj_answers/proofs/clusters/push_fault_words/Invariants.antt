@@ -5,5 +5,5 @@ use Rattle.cj_answers.proofs.clusters.push_fault_words.Given as goal
 
 abbrev pub invariant-loop-fault : goal.invariant-loop-fault
 invariant-loop-fault l =
-    string_bytes l.text ++ item_fault_words l.place (drop l.fault-index l.faults)
-    ≡ string_bytes l.initial.text ++ item_fault_words l.place l.faults
+    string_bytes l.text ++ item_fault_words l.prefix (drop l.fault-index l.faults)
+    ≡ string_bytes l.initial.text ++ item_fault_words l.prefix l.faults

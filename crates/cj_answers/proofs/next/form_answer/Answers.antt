@@ -1,5 +1,5 @@
 -- form_answer: its ensures where schedule, start and zone are read and the due times are printed.
-use Rattle.std.proofs.Common.{inr}
+use Rattle.std.proofs.Common.{◌∙◌, inr, sym}
 use Rattle.std.proofs.lemmas.Result.{IfOk-weaker}
 use Rattle.cj_answers.proofs.next.form_answer.Goals as goal
 
@@ -10,7 +10,7 @@ returns c =
       sets = c.in-Ok.schedule;
       schedule = c.in-Ok.ensures.found;
       after = c.in-Some.after;
-      start = record { in_range = c.in-Some.ensures.in_range; printed = c.in-Some.ensures.found };
+      start = sym c.in_ok-after.ensures ∙ c.in-Some.is;
       zone = c.default_zone.result.now;
       is_zone = c.in-Ok-zones_for.ensures.ok c.default_zone.result.now c.default_zone.ensures;
       tells = h;

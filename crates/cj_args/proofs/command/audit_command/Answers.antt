@@ -9,4 +9,4 @@ returns c =
     let four = c.with_arg-command-4.ensures _ _ three c.namespace_arg.ensures in
     let five = c.with_arg-command-5.ensures _ _ four c.all_arg.ensures in
     let six = c.with_arg-command-6.ensures _ _ five c.lines_arg.ensures in
-    c.with_zones.ensures _ (c.with_arg-command-7.ensures _ _ six c.flag_arg.ensures)
+    c.with_zones.ensures _ (c.with_clock.ensures _ (c.with_arg-command-7.ensures _ _ six c.flag_arg.ensures))

@@ -1,4 +1,4 @@
--- run_command: its ensures, from the file, its own five arguments and the options behind them.
+-- run_command: its ensures, from the file, its own seven arguments and the options behind them.
 use Rattle.cj_args.proofs.command.run_command.Goals as goal
 
 pub returns : goal.returns
@@ -7,4 +7,7 @@ returns c =
     let two = c.with_arg-command-2.ensures _ _ one c.flag_arg.ensures in
     let three = c.with_arg-command-3.ensures _ _ two c.flag_arg-2.ensures in
     let four = c.with_arg-command-4.ensures _ _ three c.flag_arg-3.ensures in
-    c.with_zones.ensures _ (c.with_arg-command-5.ensures _ _ four c.output_arg.ensures)
+    let five = c.with_arg-command-5.ensures _ _ four c.output_arg.ensures in
+    let six = c.with_arg-command-6.ensures _ _ five c.crons_arg.ensures in
+    let seven = c.with_arg-command-7.ensures _ _ six c.namespace_arg.ensures in
+    c.with_zones.ensures _ (c.with_clock.ensures _ seven)

@@ -13,4 +13,4 @@ returns c =
     let eight = c.with_arg-command-8.ensures _ _ seven c.flag_arg.ensures in
     let nine = c.with_arg-command-9.ensures _ _ eight c.peaks_arg.ensures in
     let ten = c.with_arg-command-10.ensures _ _ nine c.lines_arg.ensures in
-    c.with_zones.ensures _ (c.with_arg-command-11.ensures _ _ ten c.flag_arg-2.ensures)
+    c.with_zones.ensures _ (c.with_clock.ensures _ (c.with_arg-command-11.ensures _ _ ten c.flag_arg-2.ensures))

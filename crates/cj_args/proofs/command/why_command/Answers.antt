@@ -8,4 +8,4 @@ returns c =
     let three = c.with_arg-command-3.ensures _ _ two c.namespace_arg.ensures in
     let four = c.with_arg-command-4.ensures _ _ three c.all_arg.ensures in
     let five = c.with_arg-command-5.ensures _ _ four c.output_arg.ensures in
-    c.with_zones.ensures _ (c.with_arg-command-6.ensures _ _ five c.flag_arg.ensures)
+    c.with_zones.ensures _ (c.with_clock.ensures _ (c.with_arg-command-6.ensures _ _ five c.flag_arg.ensures))

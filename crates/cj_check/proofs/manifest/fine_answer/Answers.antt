@@ -11,5 +11,6 @@ returns c = λ bytes read.
     (string_bytes c.in_ok-words.words)) c.in_ok-moment.ensures c.in_ok-words.ensures.ok in
     fine_checked c.args.check.now c.args.alone (zones_of c.args.zones.now) bytes c.args.manifest.now
     (string_bytes c.in_ok-words.words) c.as_str-words.result.now c.coming_words-coming.result.now
-    c.args.warnings.now c.args.warnings.now c.fine.result refl c.as_str-words.ensures.value told
-    c.coming_words-coming.ensures read c.fine.ensures
+    (string_bytes c.in_ok-unfit.unfit) c.as_str-unfit.result.now c.args.warnings.now c.args.warnings.now
+    c.fine.result refl c.as_str-words.ensures.value c.as_str-unfit.ensures.value told c.coming_words-coming.ensures
+    c.in_ok-unfit.ensures read c.fine.ensures

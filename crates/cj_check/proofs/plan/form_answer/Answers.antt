@@ -1,6 +1,6 @@
 -- form_answer: its ensures where the moment and the rules are taken, from what the scenario is answered under the
 -- zones.
-use Rattle.std.proofs.Common.{◌≡◌, inr, ℕ, List, ◌≤◌, rules, subst, sym}
+use Rattle.std.proofs.Common.{◌≡◌, ◌∙◌, inr, ℕ, List, ◌≤◌, subst, sym}
 use Rattle.std.proofs.lemmas.Result.{IfOk-weaker}
 use Rattle.std.specs.Prelude.{IfSome, MatchOption, []}
 use Rattle.cj_answers.specs.Given.{IsNoneGiven, IsReadUnder}
@@ -14,7 +14,7 @@ returns g c =
     c.in_ok-given.ensures in
     IfOk-weaker c.scene_answer.result _ _ (λ a planned. inr (inr (record {
       now = c.in-Some.now;
-      moment = search rules;
+      moment = sym c.in_ok-now.ensures ∙ c.in-Some.is;
       given = c.in-Some-2.given;
       zones = under;
       bytes = c.as_slice.result.now;

@@ -1,5 +1,5 @@
 -- serve: its clauses served and failed, for each of the commands.
-use Rattle.cj_program.proofs.Formed.{in_form}
+use Rattle.cj_program.proofs.Formed.{in_form, in_form_by}
 use Rattle.cj_program.proofs.Given.{cut, failed_at, replayed_at, served_at}
 use Rattle.cj_program.proofs.serving.serve.Goals as goal
 
@@ -61,61 +61,65 @@ returns-in-Replay-clause-failed g c = λ e. failed_at c.args.request.now c.args.
 pub returns-in-Run-clause-served : goal.returns-in-Run-clause-served
 returns-in-Run-clause-served g c = λ lt. served_at c.args.request.now c.args.files.now
     (g.R.Read.remaining c.args.input.now) _ _ _ _ _
-    c.in-Run.is c.formed-in-Run.result _
-    (in_form _ c.run_answer-answer.result c.formed-in-Run.result _ c.run_answer-answer.ensures c.formed-in-Run.ensures)
+    c.in-Run.is c.formed_by.result _
+    (in_form_by _ _ _ _ c.run_answer-answer.result c.formed_by.result
+    _ c.run_answer-answer.ensures c.formed_by.ensures)
     (c.give_answer-in-Run.ensures.given lt)
 
 pub returns-in-Run-clause-failed : goal.returns-in-Run-clause-failed
 returns-in-Run-clause-failed g c = λ e. failed_at c.args.request.now c.args.files.now
     (g.R.Read.remaining c.args.input.now) _ _ _ _ _
-    c.in-Run.is (cut _ _ _ _ _ _ _ c.formed-in-Run.result
-    (in_form _ c.run_answer-answer.result c.formed-in-Run.result _ c.run_answer-answer.ensures c.formed-in-Run.ensures)
+    c.in-Run.is (cut _ _ _ _ _ _ _ c.formed_by.result
+    (in_form_by _ _ _ _ c.run_answer-answer.result c.formed_by.result
+    _ c.run_answer-answer.ensures c.formed_by.ensures)
     (c.give_answer-in-Run.ensures.failed e))
 
 pub returns-in-Why-clause-served : goal.returns-in-Why-clause-served
 returns-in-Why-clause-served g c = λ lt. served_at c.args.request.now c.args.files.now
     (g.R.Read.remaining c.args.input.now) _ _ _ _ _
-    c.in-Why.is c.formed-in-Why.result _
-    (in_form _ c.why_answer-answer.result c.formed-in-Why.result _ c.why_answer-answer.ensures c.formed-in-Why.ensures)
+    c.in-Why.is c.formed_by-in-Why.result _
+    (in_form_by _ _ _ _ c.why_answer-answer.result c.formed_by-in-Why.result
+    _ c.why_answer-answer.ensures c.formed_by-in-Why.ensures)
     (c.give_answer-in-Why.ensures.given lt)
 
 pub returns-in-Why-clause-failed : goal.returns-in-Why-clause-failed
 returns-in-Why-clause-failed g c = λ e. failed_at c.args.request.now c.args.files.now
     (g.R.Read.remaining c.args.input.now) _ _ _ _ _
-    c.in-Why.is (cut _ _ _ _ _ _ _ c.formed-in-Why.result
-    (in_form _ c.why_answer-answer.result c.formed-in-Why.result _ c.why_answer-answer.ensures c.formed-in-Why.ensures)
+    c.in-Why.is (cut _ _ _ _ _ _ _ c.formed_by-in-Why.result
+    (in_form_by _ _ _ _ c.why_answer-answer.result c.formed_by-in-Why.result
+    _ c.why_answer-answer.ensures c.formed_by-in-Why.ensures)
     (c.give_answer-in-Why.ensures.failed e))
 
 pub returns-in-Audit-clause-served : goal.returns-in-Audit-clause-served
 returns-in-Audit-clause-served g c = λ lt. served_at c.args.request.now c.args.files.now
     (g.R.Read.remaining c.args.input.now) _ _ _ _ _
-    c.in-Audit.is c.formed-in-Audit.result _
-    (in_form _ c.audit_answer-answer.result c.formed-in-Audit.result
-    _ c.audit_answer-answer.ensures c.formed-in-Audit.ensures)
+    c.in-Audit.is c.formed_by-in-Audit.result _
+    (in_form_by _ _ _ _ c.audit_answer-answer.result c.formed_by-in-Audit.result
+    _ c.audit_answer-answer.ensures c.formed_by-in-Audit.ensures)
     (c.give_answer-in-Audit.ensures.given lt)
 
 pub returns-in-Audit-clause-failed : goal.returns-in-Audit-clause-failed
 returns-in-Audit-clause-failed g c = λ e. failed_at c.args.request.now c.args.files.now
     (g.R.Read.remaining c.args.input.now) _ _ _ _ _
-    c.in-Audit.is (cut _ _ _ _ _ _ _ c.formed-in-Audit.result
-    (in_form _ c.audit_answer-answer.result c.formed-in-Audit.result
-    _ c.audit_answer-answer.ensures c.formed-in-Audit.ensures)
+    c.in-Audit.is (cut _ _ _ _ _ _ _ c.formed_by-in-Audit.result
+    (in_form_by _ _ _ _ c.audit_answer-answer.result c.formed_by-in-Audit.result
+    _ c.audit_answer-answer.ensures c.formed_by-in-Audit.ensures)
     (c.give_answer-in-Audit.ensures.failed e))
 
 pub returns-in-Upcoming-clause-served : goal.returns-in-Upcoming-clause-served
 returns-in-Upcoming-clause-served g c = λ lt. served_at c.args.request.now c.args.files.now
     (g.R.Read.remaining c.args.input.now) _ _ _ _ _
-    c.in-Upcoming.is c.formed-in-Upcoming.result _
-    (in_form _ c.upcoming_answer-answer.result c.formed-in-Upcoming.result
-    _ c.upcoming_answer-answer.ensures c.formed-in-Upcoming.ensures)
+    c.in-Upcoming.is c.formed_by-in-Upcoming.result _
+    (in_form_by _ _ _ _ c.upcoming_answer-answer.result c.formed_by-in-Upcoming.result
+    _ c.upcoming_answer-answer.ensures c.formed_by-in-Upcoming.ensures)
     (c.give_answer-in-Upcoming.ensures.given lt)
 
 pub returns-in-Upcoming-clause-failed : goal.returns-in-Upcoming-clause-failed
 returns-in-Upcoming-clause-failed g c = λ e. failed_at c.args.request.now c.args.files.now
     (g.R.Read.remaining c.args.input.now) _ _ _ _ _
-    c.in-Upcoming.is (cut _ _ _ _ _ _ _ c.formed-in-Upcoming.result
-    (in_form _ c.upcoming_answer-answer.result c.formed-in-Upcoming.result
-    _ c.upcoming_answer-answer.ensures c.formed-in-Upcoming.ensures)
+    c.in-Upcoming.is (cut _ _ _ _ _ _ _ c.formed_by-in-Upcoming.result
+    (in_form_by _ _ _ _ c.upcoming_answer-answer.result c.formed_by-in-Upcoming.result
+    _ c.upcoming_answer-answer.ensures c.formed_by-in-Upcoming.ensures)
     (c.give_answer-in-Upcoming.ensures.failed e))
 
 pub returns-in-Describe-clause-served : goal.returns-in-Describe-clause-served

@@ -1,9 +1,0 @@
--- The members of an object of JSON.
-use Rattle.std.proofs.Common.{◌≡◌, refl, ℕ, List, [], ◌∷◌, Bor}
-use Rattle.serde_json.specs.Data.{Members}
-use Rattle.cj_answers.specs.as_json.Objects.{put_all}
-
--- no value gives no member
-pub put_all-none : (names : List (Bor (List ℕ))) (ms : Members) → put_all names [] ms ≡ ms
-put_all-none [] ms = refl
-put_all-none (_ ∷ _) ms = refl
