@@ -1,7 +1,7 @@
 // The files of the folders that are among the files of a command.
 use cj_program::Failure;
 use std::fs::{FileType, metadata, read_dir};
-use std::io::Write;
+use std::io::{Error, ErrorKind, Write};
 
 // The most files that are taken of a folder, and the most folders that are looked into.
 const MOST_FILES: usize = 10_000;
@@ -110,17 +110,30 @@ fn push_entry(
     }
 }
 
+// What an entry that can't be looked at is to its folder: it isn't seen whole. Want of memory ends
+// the search.
+fn seen_despite(error: &Error) -> Result<bool, Untaken> {
+    match error.kind() {
+        ErrorKind::OutOfMemory => Err(Untaken::Memory),
+        _ => Ok(false),
+    }
+}
+
 // Notes the entries of a folder, but for hidden ones; answers whether all of them could be looked
 // at.
 fn push_entries(rt: &HostRuntime, found: &mut Found, at: &Below) -> Result<bool, Untaken> {
-    let Ok(entries) = read_dir(rt, at.prefix.as_str()) else {
-        return Ok(false);
+    let entries = match read_dir(rt, at.prefix.as_str()) {
+        Ok(entries) => entries,
+        Err(error) => return seen_despite(&error),
     };
     let mut is_whole = true;
     for entry in entries {
-        let Ok(entry) = entry else {
-            is_whole = false;
-            continue;
+        let entry = match entry {
+            Ok(entry) => entry,
+            Err(error) => {
+                is_whole = seen_despite(&error)?;
+                continue;
+            }
         };
         let last = entry.file_name();
         if last.starts_with('.') {
@@ -128,7 +141,7 @@ fn push_entries(rt: &HostRuntime, found: &mut Found, at: &Below) -> Result<bool,
         }
         match entry.file_type() {
             Ok(kind) => push_entry(rt, found, at, last, kind)?,
-            Err(_) => is_whole = false,
+            Err(error) => is_whole = seen_despite(&error)?,
         }
     }
     Ok(is_whole)
