@@ -1,6 +1,6 @@
 -- What `--explain` says of local times that a zone's clock skips, or shows twice, and that a
 -- schedule names.
-use Rattle.std.specs.Prelude.{◌≡◌, ℕ, ◌+◌, min, List, [], Option, None, Some, codes}
+use Rattle.std.specs.Prelude.{◌≡◌, ℕ, ◌+◌, ◌-◌, min, List, [], Option, None, Some, codes}
 use Rattle.std.specs.Borrow.{Bor}
 use Rattle.cj_base.specs.Instant.{last_second}
 use Rattle.cj_schedule.specs.Grammar.{IsSchedule}
@@ -15,6 +15,10 @@ use Rattle.cj_answers.specs.Marks.{marked}
 -- 366 days later
 abbrev pub year_after : ℕ → ℕ
 year_after t = min (t + 31_622_400) last_second
+
+-- and earlier, or the first second of 1970
+abbrev pub year_before : ℕ → ℕ
+year_before t = t - 31_622_400
 
 -- the lines of the year after an instant, each with a mark before it
 -- rule: explain-clock

@@ -7,6 +7,7 @@ use Rattle.cj_schedule.specs.Reading.{fault_of}
 use Rattle.cj_zone.specs.declared.zone.Zone.{Zone}
 use Rattle.cj_io.specs.declared.zone_files.file.ZoneFile.{ZoneFile}
 use Rattle.cj_args.specs.declared.previous.PreviousRequest.{PreviousRequest}
+use Rattle.cj_answers.specs.ClockWords.{IsClockWords, clock_mark, year_before}
 use Rattle.cj_answers.specs.Moments.{asked_moment}
 use Rattle.cj_answers.specs.Outcome.{IsInForm, IsScheduleRefusal, Outcome, RefusesForm, done, explained, next_zone_words, refusal}
 use Rattle.cj_answers.specs.as_json.Forms.{is_json}
@@ -42,6 +43,17 @@ pub record RefusesPastZone (r : PreviousRequest) (files : List ZoneFile) (o : Ou
   pub answer : o ≡ explained r.explain (next_zone_words r.time_zone)
       (refusal (codes "cronsim: zone\n"))
 
+-- the due times of a schedule in a zone are printed, in lines or as JSON; `--explain` adds what the
+-- zone's clock skipped or showed twice in the year before
+-- rule: explain-clock
+pub record TellsPast (r : PreviousRequest) (sets : Sets) (zone : Zone) (before : ℕ) (o : Outcome)
+    : Type 0 where
+  pub text : List ℕ
+  pub printed : IsPreviousPrinted (is_json r.output.now) r sets zone before text
+  pub words : List ℕ
+  pub clock : IsClockWords (clock_mark r.time_zone) sets zone (year_before before) words
+  pub answer : o ≡ explained r.explain words (done text)
+
 -- else the due times are printed
 pub record PrintsPast (r : PreviousRequest) (files : List ZoneFile) (o : Outcome) : Type 0 where
   pub sets : Sets
@@ -50,9 +62,7 @@ pub record PrintsPast (r : PreviousRequest) (files : List ZoneFile) (o : Outcome
   pub start : asked_moment r.before ≡ Some before
   pub zone : Zone
   pub is_zone : IsZoneFor r.time_zone r.zone files zone
-  pub text : List ℕ
-  pub printed : IsPreviousPrinted (is_json r.output.now) r sets zone before text
-  pub answer : o ≡ done text
+  pub tells : TellsPast r sets zone before o
 
 -- what `previous` answers in a form that there is
 -- rules: previous-json, previous-lines

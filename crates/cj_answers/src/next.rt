@@ -86,7 +86,12 @@ fn printed(alloc: Global, text: String) -> Answer
     }
 }
 
-fn told(alloc: Global, explain: bool, text: String, words: &str) -> Result<Answer, AllocError>
+pub(crate) fn told(
+    alloc: Global,
+    explain: bool,
+    text: String,
+    words: &str,
+) -> Result<Answer, AllocError>
     ensures { IfOk result (λ a. outcome_of a
         ≡ explained explain words.now (done (string_bytes text))) }
 {

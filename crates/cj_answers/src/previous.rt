@@ -1,16 +1,18 @@
 // What `previous` answers of a schedule.
 ghost use Rattle.std.specs.Prelude.{◌≡◌, IfErr, IfOk, codes, string_bytes};
 ghost use Rattle.cj_base.specs.declared.refusal.Refusal.TheVariants.{OutOfMemory};
+ghost use Rattle.cj_answers.specs.ClockWords.{IsClockWords, year_before};
 ghost use Rattle.cj_answers.specs.Outcome.{explained, outcome_of, refusal};
-ghost use Rattle.cj_answers.specs.Previous.{IsPreviousAnswer, IsPreviousOutcome, before_words};
+ghost use Rattle.cj_answers.specs.Previous.{IsPreviousAnswer, IsPreviousOutcome, TellsPast, before_words};
 ghost use Rattle.cj_answers.specs.as_json.Forms.{is_json};
 ghost use Rattle.cj_answers.specs.as_json.Previous.{IsPreviousPrinted};
 
-use crate::answer::{Answer, Ending};
+use crate::answer::Answer;
 use crate::as_json::{is_form, is_json, previous_json, refused_form};
+use crate::clock_words::{clock_mark, clock_words};
 use crate::moments::asked_moment;
-use crate::next::{refused_schedule, refused_zone, zone_words};
-use crate::previous_times::previous_text;
+use crate::next::{refused_schedule, refused_zone, told, zone_words};
+use crate::previous_times::{earlier, previous_text};
 use crate::zoning::zones_for;
 use cj_args::PreviousRequest;
 use cj_base::{Refusal, Seconds};
@@ -49,6 +51,40 @@ fn printed(
     }
 }
 
+// 366 days.
+const YEAR: u64 = 31_622_400;
+
+// What the zone's clock skipped, or showed twice, in the year before the moment.
+fn past_clock(
+    alloc: Global,
+    mark: &str,
+    schedule: &Schedule,
+    zone: &Zone,
+    before: Seconds,
+) -> Result<String, Refusal>
+    ensures ok { IfOk result (λ s. IsClockWords mark.now schedule.now zone.now (year_before before)
+        (string_bytes s)) }
+    ensures err { IfErr result (λ e. e ≡ OutOfMemory) }
+{
+    clock_words(alloc, mark, schedule, zone, earlier(before, YEAR))
+}
+
+// The due times, and what there is to say of the zone's clock.
+fn times_answer(
+    alloc: Global,
+    previous: &PreviousRequest<'_>,
+    schedule: &Schedule,
+    zone: &Zone,
+    before: Seconds,
+) -> Result<Answer, Failure>
+    ensures { IfOk result (λ a. TellsPast previous.now schedule.now zone.now before (outcome_of a)) }
+{
+    let text = printed(alloc, previous, schedule, zone, before)?;
+    let mark = clock_mark(previous.time_zone);
+    let words = past_clock(alloc, mark, schedule, zone, before)?;
+    Ok(told(alloc, previous.explain, text, words.as_str())?)
+}
+
 // What is answered in a form that there is: the schedule is looked at first, then the moment, then
 // the zone.
 fn form_answer(
@@ -75,12 +111,7 @@ fn form_answer(
             return Ok(refused_zone(alloc, previous.explain, words)?);
         }
     };
-    let zone = table.default_zone();
-    Ok(Answer {
-        ending: Ending::Done,
-        printed: printed(alloc, previous, &schedule, zone, before)?,
-        said: String::new(alloc),
-    })
+    times_answer(alloc, previous, &schedule, table.default_zone(), before)
 }
 
 /// What the command `previous` answers: the form of what is printed is looked at first, then the

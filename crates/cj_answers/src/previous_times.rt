@@ -14,8 +14,8 @@ use std::alloc::{AllocError, Global};
 // 3,000 days in seconds, as `reach` of the definitions.
 const REACH: u64 = 259_200_000;
 
-// So many seconds earlier, or the first second of 1970.
-fn earlier(time: Seconds, seconds: u64) -> Seconds
+/// So many seconds earlier, or the first second of 1970.
+pub(crate) fn earlier(time: Seconds, seconds: u64) -> Seconds
     ensures { result ≡ time - seconds }
 {
     match Seconds::new(time.get().saturating_sub(seconds)) {

@@ -3,6 +3,7 @@ use crate::entries::read_entry;
 use crate::verdict::{Repeated, Verdict};
 use cj_args::{ControlRequest, VERSION};
 use cj_io::{ExitStatus, Failure, Kept, LineReader, Taken, write_and_flush};
+use cj_machine::Secret;
 use std::alloc::Global;
 use std::io::{Read, Write};
 
@@ -138,11 +139,12 @@ fn tell_version<E: Write>(alloc: Global, repeated: &Repeated, err: &mut E) -> Re
 pub fn check_transcript<R: Read, W: Write, E: Write>(
     alloc: Global,
     control: &ControlRequest<'_>,
+    secret: Secret,
     input: &mut R,
     out: &mut W,
     err: &mut E,
 ) -> Result<ExitStatus, Failure> {
-    let mut repeated = Repeated::new(alloc)?;
+    let mut repeated = Repeated::new(alloc, secret)?;
     let (number, ending) = compare_all(alloc, &mut repeated, input, out)?;
     tell_version(alloc, &repeated, err)?;
     match ending {

@@ -17,5 +17,6 @@ mod verdict;
 mod zone_source;
 
 pub use check::check_transcript;
+pub use cj_machine::Secret;
 pub use session::run_session;
 pub use zone_source::ZoneSource;

@@ -7,7 +7,7 @@ use crate::zone_source::ZoneSource;
 use cj_args::ControlRequest;
 use cj_base::{Refusal, Text};
 use cj_io::{ExitStatus, Failure, Kept, LineReader, Taken, write_and_flush, write_whole};
-use cj_machine::Machine;
+use cj_machine::{Machine, Secret};
 use cj_zone::ZoneTable;
 use std::alloc::Global;
 use std::io::{Read, Write};
@@ -245,6 +245,7 @@ impl<'a, 'b, Z: ZoneSource, T: Write + Drop> Session<'a, 'b, Z, T> {
 pub fn run_session<Z: ZoneSource, T: Write + Drop, R: Read, W: Write, E: Write>(
     alloc: Global,
     control: &ControlRequest<'_>,
+    secret: Secret,
     source: &mut Z,
     transcript: Option<T>,
     input: &mut R,
@@ -270,7 +271,7 @@ pub fn run_session<Z: ZoneSource, T: Write + Drop, R: Read, W: Write, E: Write>(
     recorder.write()?;
     let mut session = Session {
         alloc,
-        machine: Machine::new(alloc, options)?,
+        machine: Machine::new(alloc, options, secret)?,
         zones: ZoneTable::new(alloc)?,
         source,
         recorder,

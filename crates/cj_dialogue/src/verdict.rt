@@ -3,7 +3,7 @@ use crate::entries::Entry;
 use cj_args::VERSION;
 use cj_base::{Refusal, Text};
 use cj_io::Failure;
-use cj_machine::{ControlOptions, Machine};
+use cj_machine::{ControlOptions, Machine, Secret};
 use cj_zone::ZoneTable;
 use std::alloc::Global;
 
@@ -24,6 +24,7 @@ pub enum Verdict {
 #[derive(Drop)]
 pub struct Repeated {
     alloc: Global,
+    secret: Secret,
     machine: Option<Machine>,
     zones: ZoneTable,
     due: Vec<String>,
@@ -40,9 +41,10 @@ pub struct Repeated {
 
 impl Repeated {
     /// It has read nothing.
-    pub fn new(alloc: Global) -> Result<Repeated, Failure> {
+    pub fn new(alloc: Global, secret: Secret) -> Result<Repeated, Failure> {
         Ok(Repeated {
             alloc,
+            secret,
             machine: None,
             zones: ZoneTable::new(alloc)?,
             due: Vec::new(alloc),
@@ -76,7 +78,7 @@ impl Repeated {
         if version.as_str() != VERSION {
             self.version = Some(version);
         }
-        self.machine = Some(Machine::new(self.alloc, options)?);
+        self.machine = Some(Machine::new(self.alloc, options, self.secret)?);
         Ok(Verdict::Agrees)
     }
 

@@ -18,7 +18,7 @@ use crate::receipt::Receipt;
 use crate::state::HubState;
 use cj_calls::{Call, Caller, Entry, Role};
 use cj_types::{Limits, Refusal, Shared, Version};
-use cj_world::World;
+use cj_world::{Secret, World};
 use std::alloc::{AllocError, Global};
 use std::marker::Model;
 
@@ -96,7 +96,20 @@ impl Book {
         }) }
         ensures err { IfErr result (λ e. e ≡ OutOfMemory) }
     {
-        let world = World::new(alloc, limits)?;
+        Book::keyed(alloc, limits, Secret { first: 0, last: 0 })
+    }
+
+    /// Such a book, the hashes of whose queue have a secret.
+    pub fn keyed(alloc: Global, limits: Limits, secret: Secret) -> Result<Book, Refusal>
+        ensures ok { IfOk result (λ b. b ≡ record {
+          limits = limits;
+          history = [];
+          roles = [];
+          given_up = false;
+        }) }
+        ensures err { IfErr result (λ e. e ≡ OutOfMemory) }
+    {
+        let world = World::keyed(alloc, limits, secret)?;
         Ok(Book {
             alloc,
             limits,

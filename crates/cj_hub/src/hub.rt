@@ -20,6 +20,7 @@ use crate::rest::AtRest;
 use crate::state::HubState;
 use cj_calls::{Call, Role};
 use cj_types::{Limits, Refusal, Version};
+use cj_world::Secret;
 use std::alloc::Global;
 use std::sync::{Condvar, Mutex, MutexGuard, Wait};
 use std::thread;
@@ -51,7 +52,14 @@ impl Hub {
     pub fn new(alloc: Global, limits: Limits) -> Result<Hub, Refusal>
         ensures { IfErr result (λ e. e ≡ OutOfMemory) }
     {
-        let book = Book::new(alloc, limits)?;
+        Hub::keyed(alloc, limits, Secret { first: 0, last: 0 })
+    }
+
+    /// Such a hub, the hashes of whose queue have a secret.
+    pub fn keyed(alloc: Global, limits: Limits, secret: Secret) -> Result<Hub, Refusal>
+        ensures { IfErr result (λ e. e ≡ OutOfMemory) }
+    {
+        let book = Book::keyed(alloc, limits, secret)?;
         Ok(Hub {
             guarded: Mutex::new(Guarded::new(book)),
             keys: Condvar::new(),

@@ -62,18 +62,6 @@ fn mark_of(alloc: Global, several: bool, name: &str) -> Result<String, AllocErro
     }
 }
 
-// The mark before the lines of an item: the file's, and which object it is.
-fn object_mark(alloc: Global, mark: &str, note: &ItemNote) -> Result<String, AllocError> {
-    match &note.object {
-        Some(object) => {
-            let (kind, name) = (object.kind.as_str(), object.name.as_str());
-            let namespace = object.namespace.as_str();
-            format!(in alloc; "{mark}{kind} {namespace}/{name}, ")
-        }
-        None => String::from_str(alloc, mark),
-    }
-}
-
 // What is wrong with an item, and which object it is; nothing of one of another kind.
 fn push_item(
     alloc: Global,
@@ -82,8 +70,7 @@ fn push_item(
     note: &ItemNote,
 ) -> Result<(), AllocError> {
     let words = note_words(alloc, slice::from_ref(note))?;
-    let mark = object_mark(alloc, mark, note)?;
-    let lines = marked(alloc, mark.as_str(), words.as_str())?;
+    let lines = marked(alloc, mark, words.as_str())?;
     passed.push_str(lines.as_str())
 }
 

@@ -13,6 +13,7 @@ mod machine;
 mod mirror;
 mod source;
 
+pub use cj_queue::Secret;
 pub use feeds::Feeds;
 pub use machine::{ControlOptions, Machine};
 pub use mirror::Mirror;

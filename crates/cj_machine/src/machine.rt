@@ -35,6 +35,7 @@ use crate::machine::syncing::{answered, begin_next};
 use crate::source::Source;
 use cj_base::{Millis, Refusal, Seconds, Text};
 use cj_control::{Ledger, Line, LineFault, LineKind, read_line};
+use cj_queue::Secret;
 use cj_zone::ZoneTable;
 pub use options::ControlOptions;
 use std::alloc::Global;
@@ -70,13 +71,13 @@ impl Model for Machine {
 }
 
 impl Machine {
-    /// A controller that has heard nothing yet.
-    pub fn new(alloc: Global, options: ControlOptions) -> Result<Machine, Refusal>
+    /// A controller that has heard nothing yet. The secret is that of the hashes of its queue.
+    pub fn new(alloc: Global, options: ControlOptions, secret: Secret) -> Result<Machine, Refusal>
         ensures ok { IfOk result (IsNew options.workers) }
         ensures err { IfErr result (λ e. e ≡ OutOfMemory) }
     {
         let ledger = Ledger::new(alloc, options.workers);
-        let driver = Driver::new(alloc, options)?;
+        let driver = Driver::new(alloc, options, secret)?;
         Ok(Machine { ledger, driver })
     }
 

@@ -36,6 +36,7 @@ pub use cj_io::{
 };
 pub use cj_run::Meter;
 pub use cj_types::{Refusal, Seconds, Text};
+pub use cj_world::Secret;
 pub use cj_zone::{ZoneTable, time_text};
 pub use serving::serve;
 pub use several::{serve_report, serve_several, serve_upcoming};

@@ -12,6 +12,7 @@ use cj_check::refused_scene;
 use cj_io::{Failure, GivenZones, MOST_BYTES, MOST_READS, ZoneFile, read_input};
 use cj_scenario::Form;
 use cj_script::{Script, read_script};
+use cj_world::Secret;
 use std::alloc::Global;
 use std::io::Read;
 
@@ -31,11 +32,12 @@ fn script_answer(
     explain: bool,
     bytes: &[u8],
     script: &Script,
+    secret: Secret,
 ) -> Result<Answer, Failure>
     ensures { (given : GivenZones) → IsScript given bytes.now script.now →
         IfOk result (λ a. IsPlayedOf explain given bytes.now (outcome_of a)) }
 {
-    let text = replay_json(alloc, script)?;
+    let text = replay_json(alloc, script, secret)?;
     Ok(printed(alloc, text))
 }
 
@@ -44,11 +46,12 @@ fn bytes_answer(
     explain: bool,
     given: GivenZones<'_>,
     bytes: &[u8],
+    secret: Secret,
 ) -> Result<Answer, Failure>
     ensures { IfOk result (λ a. IsPlayedOf explain given.entry bytes.now (outcome_of a)) }
 {
     match read_script(alloc, given, bytes) {
-        Ok(script) => script_answer(alloc, explain, bytes, &script),
+        Ok(script) => script_answer(alloc, explain, bytes, &script, secret),
         Err(fault) => refused_scene(alloc, explain, Form::Script, bytes, fault),
     }
 }
@@ -60,6 +63,7 @@ pub(crate) fn replay_answer<R: Read>(
     replay: &ReplayRequest<'_>,
     files: &[ZoneFile],
     input: &mut R,
+    secret: Secret,
 ) -> Result<Answer, Failure>
     ensures { IfOk result (λ a. IsReplayValue replay.now files.now (R.remaining input.old)
         (outcome_of a)) }
@@ -68,5 +72,5 @@ pub(crate) fn replay_answer<R: Read>(
         return refused_pair(alloc, replay.explain);
     };
     let bytes = read_input(alloc, input, MOST_BYTES, MOST_READS)?;
-    bytes_answer(alloc, replay.explain, given, bytes.as_slice())
+    bytes_answer(alloc, replay.explain, given, bytes.as_slice(), secret)
 }

@@ -20,6 +20,7 @@ use cj_io::{
 use cj_replay::replay;
 use cj_scenario::Form;
 use cj_script::{Script, read_script};
+use cj_world::Secret;
 use std::alloc::Global;
 use std::io::{Read, Write};
 
@@ -40,6 +41,7 @@ fn end_of<E: Write>(is_full: bool, err: &mut E) -> ExitStatus
 fn run_script<W: Write, E: Write>(
     alloc: Global,
     script: &Script,
+    secret: Secret,
     out: &mut W,
     err: &mut E,
 ) -> ExitStatus
@@ -49,7 +51,7 @@ fn run_script<W: Write, E: Write>(
     ensures badly { result ≡ Status.Failed → EndsBadly script.now (W.contents out.old)
         (W.contents out.new) (E.contents err.old) (E.contents err.new) }
 {
-    match replay(alloc, script, out) {
+    match replay(alloc, script, secret, out) {
         Ok(is_full) => end_of(is_full, err),
         Err(failure) => tell_failure(failure, err),
     }
@@ -61,6 +63,7 @@ fn serve_bytes<W: Write, E: Write>(
     replay: &ReplayRequest<'_>,
     given: GivenZones<'_>,
     bytes: &[u8],
+    secret: Secret,
     out: &mut W,
     err: &mut E,
 ) -> ExitStatus
@@ -75,7 +78,7 @@ fn serve_bytes<W: Write, E: Write>(
         (E.contents err.old) (E.contents err.new) }
 {
     match read_script(alloc, given, bytes) {
-        Ok(script) => run_script(alloc, &script, out, err),
+        Ok(script) => run_script(alloc, &script, secret, out, err),
         Err(fault) => give_answer(
             refused_scene(alloc, replay.explain, Form::Script, bytes, fault),
             out,
@@ -90,6 +93,7 @@ fn serve_given<R: Read, W: Write, E: Write>(
     replay: &ReplayRequest<'_>,
     given: GivenZones<'_>,
     input: &mut R,
+    secret: Secret,
     out: &mut W,
     err: &mut E,
 ) -> ExitStatus
@@ -105,7 +109,7 @@ fn serve_given<R: Read, W: Write, E: Write>(
         (W.contents out.new) (E.contents err.old) (E.contents err.new) }
 {
     match read_input(alloc, input, MOST_BYTES, MOST_READS) {
-        Ok(bytes) => serve_bytes(alloc, replay, given, bytes.as_slice(), out, err),
+        Ok(bytes) => serve_bytes(alloc, replay, given, bytes.as_slice(), secret, out, err),
         Err(failure) => tell_failure(failure, err),
     }
 }
@@ -117,6 +121,7 @@ fn serve_lines<R: Read, W: Write, E: Write>(
     replay: &ReplayRequest<'_>,
     files: &[ZoneFile],
     input: &mut R,
+    secret: Secret,
     out: &mut W,
     err: &mut E,
 ) -> ExitStatus
@@ -130,7 +135,7 @@ fn serve_lines<R: Read, W: Write, E: Write>(
         (E.contents err.new) }
 {
     match given_for(alloc, &replay.zones, files) {
-        Ok(Some(given)) => serve_given(alloc, replay, given, input, out, err),
+        Ok(Some(given)) => serve_given(alloc, replay, given, input, secret, out, err),
         Ok(None) => give_answer(refused_pair(alloc, replay.explain), out, err),
         Err(failure) => tell_failure(failure, err),
     }
@@ -144,6 +149,7 @@ pub(crate) fn serve_replay<R: Read, W: Write, E: Write>(
     replay: &ReplayRequest<'_>,
     files: &[ZoneFile],
     input: &mut R,
+    secret: Secret,
     out: &mut W,
     err: &mut E,
 ) -> ExitStatus
@@ -157,10 +163,10 @@ pub(crate) fn serve_replay<R: Read, W: Write, E: Write>(
         (E.contents err.new) }
 {
     if is_json(replay.output) {
-        let answer = replay_answer(alloc, replay, files, input);
+        let answer = replay_answer(alloc, replay, files, input, secret);
         give_answer(formed(alloc, replay.output, answer), out, err)
     } else if is_form(replay.output) {
-        serve_lines(alloc, replay, files, input, out, err)
+        serve_lines(alloc, replay, files, input, secret, out, err)
     } else {
         give_answer(refused_form(alloc, replay.explain), out, err)
     }

@@ -102,7 +102,15 @@ pub fn serve<T: Threads + Wait + Sync, R: Read, W: Write, E: Write>(
             let answer = plan_answer(alloc, plan, files, input);
             give_answer(formed(alloc, plan.output, answer), out, err)
         }
-        Request::Replay(replay) => serve_replay(alloc, replay, files, input, out, err),
+        Request::Replay(replay) => serve_replay(
+            alloc,
+            replay,
+            files,
+            input,
+            meter.secret(),
+            out,
+            err,
+        ),
         Request::Run(run) => {
             let answer = run_answer(rt, alloc, run, files, input, meter);
             give_answer(

@@ -10,7 +10,7 @@ use crate::report::world_report;
 use crate::step::make_step;
 use cj_io::{Failure, Pending};
 use cj_script::{Script, Step};
-use cj_world::World;
+use cj_world::{Secret, World};
 use cj_zone::ZoneTable;
 use std::alloc::Global;
 use std::io::Write;
@@ -119,14 +119,20 @@ fn replay_on<W: Write>(
 /// whether a step found the history full, which stops nothing.
 ///
 /// Lines are written as the steps go, through a buffer of 64 KiB. Where memory or the writer fails
-/// the replay ends, and a beginning of its output was printed.
+/// the replay ends, and a beginning of its output was printed. The secret is that of the hashes of
+/// the world's queue.
 #[tactic(auto, using(crate::proofs::Printed::nothing_done))]
-pub fn replay<W: Write>(alloc: Global, script: &Script, out: &mut W) -> Result<bool, Failure>
+pub fn replay<W: Write>(
+    alloc: Global,
+    script: &Script,
+    secret: Secret,
+    out: &mut W,
+) -> Result<bool, Failure>
     ensures whole { IfOk result (λ full. (text : List ℕ) × IsReplayed script.now text full
         × Appends (W.contents out.old) (W.contents out.new) text) }
     ensures begun { OnErr result ((text : List ℕ) × IsPartOf script.now text
         × AppendsSome (W.contents out.old) (W.contents out.new) text) }
 {
-    let mut world = World::new(alloc, script.limits)?;
+    let mut world = World::keyed(alloc, script.limits, secret)?;
     replay_on(alloc, script, &mut world, out)
 }

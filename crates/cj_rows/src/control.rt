@@ -1,7 +1,7 @@
 // Running a controller, or checking a transcript of one, on a row's input.
 use crate::run::Seen;
 use cj_args::ControlRequest;
-use cj_dialogue::{ZoneSource, check_transcript, run_session};
+use cj_dialogue::{Secret, ZoneSource, check_transcript, run_session};
 use cj_io::{ExitStatus, Failure, FileBytes, tell_failure};
 use std::alloc::Global;
 
@@ -24,13 +24,15 @@ fn written(
     said: &mut Vec<u8>,
 ) -> Result<ExitStatus, Failure> {
     let mut input: &[u8] = input.as_bytes();
+    let secret = Secret { first: 0, last: 0 };
     if control.check.is_some() {
-        return check_transcript(alloc, control, &mut input, printed, said);
+        return check_transcript(alloc, control, secret, &mut input, printed, said);
     }
     let transcript: Option<Vec<u8>> = None;
     run_session(
         alloc,
         control,
+        secret,
         &mut NoZones,
         transcript,
         &mut input,

@@ -27,6 +27,7 @@ use cj_calls::{Caller, Role};
 use cj_hub::{Closed, Hub, HubState, Pass};
 use cj_informer::Informer;
 use cj_io::Failure;
+use cj_queue::Secret;
 use cj_report::report_text;
 use cj_script::Simulation;
 use cj_types::{Heap, Limits, Max};
@@ -213,6 +214,7 @@ fn validate(
     simulation: &Simulation,
     callers: &[Caller],
     user: u64,
+    secret: Secret,
     closed: &Closed,
 ) -> Result<(), RunError>
     ensures valid { OnOk result (IsValid simulation.now callers.now user closed.now.history) }
@@ -222,7 +224,7 @@ fn validate(
 {
     let valid = is_valid(alloc, simulation, callers, user, closed.history())?;
     let zoned = are_zoned(&simulation.zones, closed.history());
-    let rests = comes_to_rest(alloc, &simulation.span, closed.history())?;
+    let rests = comes_to_rest(alloc, secret, &simulation.span, closed.history())?;
     if valid && zoned && rests {
         Ok(())
     } else {
@@ -249,6 +251,7 @@ fn report(
     alloc: Global,
     hub: Heap<Hub>,
     simulation: &Simulation,
+    secret: Secret,
     participants: Participants,
 ) -> Result<Ran, RunError>
     ensures { IfOk result (λ r. IsReport simulation.now participants r.closed
@@ -259,7 +262,14 @@ fn report(
     let callers = numbered(alloc, passes.as_slice())?;
     let closed = close(alloc, hub, passes)?;
     promised(closed.get());
-    validate(alloc, simulation, callers.as_slice(), user, closed.get())?;
+    validate(
+        alloc,
+        simulation,
+        callers.as_slice(),
+        user,
+        secret,
+        closed.get(),
+    )?;
     let report = closed_report(alloc, closed.get())?;
     Ok(Ran { report, closed })
 }
@@ -337,9 +347,10 @@ fn run_whole<R: Threads + Wait + Sync>(
     ensures { IfOk result (λ r. IsRun simulation.now workers r.closed (string_bytes r.report)) }
 {
     let limits = Limits::new(16_777_216, 1_000).unwrap();
-    let hub = Heap::new(alloc, Hub::new(alloc, limits)?)?;
+    let secret = meter.secret();
+    let hub = Heap::new(alloc, Hub::keyed(alloc, limits, secret)?)?;
     let participants = run_to_end(rt, alloc, hub.get(), simulation, workers, meter)?;
-    report(alloc, hub, simulation, participants)
+    report(alloc, hub, simulation, secret, participants)
 }
 
 /// Runs a scenario on an empty world with that many workers. Returns the history with the report of

@@ -12,7 +12,7 @@ ghost use Rattle.cj_run.specs.Upkeep.{ComesToRest, Goes, IsClear, IsIdle, Looks,
 
 use crate::turns::{Progress, begins, ends};
 use cj_calls::{Call, End, Entry, Reply};
-use cj_queue::Queue;
+use cj_queue::{Queue, Secret};
 use cj_script::Span;
 use cj_table::Table;
 use cj_types::{CronJobDraft, Key, Refusal, Seconds, Shared, TryCopy};
@@ -165,12 +165,12 @@ fn no_hands(hands: &BTreeMap<u64, Hand>) -> bool
 impl Work {
     // Nobody has anything to do.
     #[tactic(auto, using(crate::proofs::Kept::none_held))]
-    fn new(alloc: Global) -> Work
+    fn new(alloc: Global, secret: Secret) -> Work
         ensures queue { result.queue ≡ new_queue }
         ensures hands { (n : ℕ) → hand_by result.hands n ≡ None }
     {
         Work {
-            queue: Queue::new(alloc),
+            queue: Queue::keyed(alloc, secret),
             hands: BTreeMap::new(alloc),
         }
     }
@@ -312,13 +312,18 @@ impl Upkeep {
 
 /// Whether no key was queued and none held where an instant was over, the queue wasn't shut, and
 /// the key of each CronJob that was created had been taken. It reads each entry once.
-pub(crate) fn comes_to_rest(alloc: Global, span: &Span, entries: &[Entry]) -> Result<bool, Refusal>
+pub(crate) fn comes_to_rest(
+    alloc: Global,
+    secret: Secret,
+    span: &Span,
+    entries: &[Entry],
+) -> Result<bool, Refusal>
     ensures { IfOk result (λ kept. IsTrue kept → (window : ℕ) →
         IsLegal window (reverse entries.now) → ComesToRest window span.now (reverse entries.now)) }
 {
     let mut upkeep = Upkeep {
         progress: Progress::new(),
-        work: Work::new(alloc),
+        work: Work::new(alloc, secret),
         untaken: Table::new(alloc),
         kept: true,
     };

@@ -14,6 +14,7 @@ mod worker;
 mod world;
 
 pub use api::{by_informer, by_runner, by_user};
+pub use cj_queue::Secret;
 pub use cj_types::Limits;
 pub use worker::by_worker;
 pub use world::World;

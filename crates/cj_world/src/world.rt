@@ -15,7 +15,7 @@ ghost use Rattle.cj_world.specs.Worlds.{Applied, Entered, receipts_of, state_in}
 use crate::advance::{Made, advance};
 use cj_base::both;
 use cj_calls::{Answer, Call, Caller, Entry};
-use cj_queue::Queue;
+use cj_queue::{Queue, Secret};
 use cj_state::{InFlight, InFlightSyncs, State};
 use cj_store::Store;
 use cj_types::{CronJob, Job, Key, Limits, Listing, Refusal, Shared, TryCopy, Version};
@@ -80,12 +80,20 @@ impl World {
         ensures ok { IfOk result (λ w. w ≡ record { limits = limits; history = [] }) }
         ensures err { IfErr result (λ e. e ≡ OutOfMemory) }
     {
+        World::keyed(alloc, limits, Secret { first: 0, last: 0 })
+    }
+
+    /// Such a world, the hashes of whose queue have a secret.
+    pub fn keyed(alloc: Global, limits: Limits, secret: Secret) -> Result<World, Refusal>
+        ensures ok { IfOk result (λ w. w ≡ record { limits = limits; history = [] }) }
+        ensures err { IfErr result (λ e. e ≡ OutOfMemory) }
+    {
         let watch = WatchLog::new(alloc, window_of(limits))?;
         let state = State {
             store: Store::new(alloc),
             watch,
             mirror: Mirror::new(alloc),
-            queue: Queue::new(alloc),
+            queue: Queue::keyed(alloc, secret),
             syncs: InFlightSyncs::new(alloc),
         };
         Ok(World {

@@ -1,4 +1,5 @@
 use crate::folder::file_of;
+use crate::secret::new_secret;
 use crate::source::Input;
 use cj_dialogue::{ZoneSource, check_transcript, run_session};
 use cj_program::{ControlRequest, ExitStatus, Failure, FileBytes, is_file_name, tell_failure};
@@ -33,6 +34,7 @@ fn run_on(
     run_session(
         rt.alloc(),
         control,
+        new_secret(rt),
         &mut source,
         transcript,
         input,
@@ -60,7 +62,7 @@ fn run_control(
 ) -> Result<ExitStatus, Failure> {
     if control.check.is_some() {
         let (out, err) = (&mut rt.stdout(), &mut rt.stderr());
-        return check_transcript(rt.alloc(), control, input, out, err);
+        return check_transcript(rt.alloc(), control, new_secret(rt), input, out, err);
     }
     tell_terminal(rt);
     let Some(name) = control.transcript else {

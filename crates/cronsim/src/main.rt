@@ -11,6 +11,7 @@ mod folding;
 mod listing;
 mod machine;
 mod progress;
+mod secret;
 mod several;
 mod shown_zone;
 mod source;
@@ -31,6 +32,7 @@ use folder::{crontab_files, folder_set, named_file, request_files};
 use folding::tell_folded;
 use listing::{Listing, files_listed};
 use progress::{is_shown, serve_shown};
+use secret::new_secret;
 use several::{serve_files, serve_report_files, serve_upcoming_files};
 use shown_zone::{local_zone, with_zone};
 use source::Input;
@@ -42,7 +44,7 @@ use std::thread::Threads;
 use std::time::Clock;
 use taken::json_of;
 use telling::{at_terminal, serve_on, tell_file, tell_places, tell_shape, tell_waiting};
-use words::{asked, joined};
+use words::{asked, clash, joined};
 use zone_names::{tell_zones, without_names};
 use zoned::moment_by_zone;
 
@@ -365,7 +367,13 @@ fn serve_opened<T: Threads + Wait + Clock + Sync>(
     let status = if is_shown(rt, &request) {
         serve_shown(threads, rt, &mut request, &mut input)?
     } else {
-        serve_request(threads, rt, &mut request, &mut input, &Meter::new())?
+        serve_request(
+            threads,
+            rt,
+            &mut request,
+            &mut input,
+            &Meter::keyed(new_secret(rt)),
+        )?
     };
     tell_unread(rt, &request, status, &input);
     Ok(status)
@@ -434,6 +442,28 @@ fn tell_tips(rt: &HostRuntime, status: ExitStatus, words: &[&str]) {
     }
 }
 
+// Says that two options can't be used beside each other.
+fn tell_clash(rt: &HostRuntime, one: &str, other: &str) -> ExitStatus {
+    let _ = writeln!(
+        &mut rt.stderr(),
+        "error: the argument '{one}' cannot be used with '{other}'\n\nFor more information, try '--help'."
+    );
+    ExitStatus::Usage
+}
+
+// Serves the request of words that are read, unless they clash.
+fn serve_words<T: Threads + Wait + Clock + Sync>(
+    threads: &T,
+    rt: &HostRuntime,
+    request: Request<'_>,
+    words: &[&str],
+) -> Result<ExitStatus, Failure> {
+    match clash(words) {
+        Some((one, other)) => Ok(tell_clash(rt, one, other)),
+        None => serve_parsed(threads, rt, request),
+    }
+}
+
 // Reads the words of the command line, and serves the request that they are.
 fn run<T: Threads + Wait + Clock + Sync>(
     threads: &T,
@@ -445,7 +475,7 @@ fn run<T: Threads + Wait + Clock + Sync>(
     let words = texts_of(alloc, args.as_slice())?;
     let words = asked(words.as_slice());
     match parse_words(alloc, words) {
-        Ok(request) => serve_parsed(threads, rt, request),
+        Ok(request) => serve_words(threads, rt, request, words),
         Err(fault) => {
             let status = if rt.stdout().is_terminal() {
                 tell_folded(rt, &fault)?

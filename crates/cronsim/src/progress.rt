@@ -1,5 +1,6 @@
 // The progress of a run on a terminal: a line on standard error, which is cleared when the run is
 // over.
+use crate::secret::new_secret;
 use crate::serve_request;
 use crate::source::Input;
 use cj_program::{ExitStatus, Failure, Meter, Request};
@@ -57,7 +58,7 @@ pub fn serve_shown<T: Threads + Wait + Clock + Sync>(
     request: &mut Request<'_>,
     input: &mut Input,
 ) -> Result<ExitStatus, Failure> {
-    let meter = Meter::new();
+    let meter = Meter::keyed(new_secret(rt));
     let (end, ended) = bounded(rt.alloc(), 1)?;
     thread::scope(
         thread::scope_env(),

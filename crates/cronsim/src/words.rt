@@ -10,6 +10,28 @@ pub fn asked<'w, 'a>(words: &'w [&'a str]) -> &'w [&'a str] {
     }
 }
 
+// Whether an option is among the words.
+fn is_given(words: &[&str], option: &str) -> bool {
+    words.iter().any(|word| match word.strip_prefix(option) {
+        Some(rest) => rest.is_empty() || rest.starts_with('='),
+        None => false,
+    })
+}
+
+/// Two options that are given, as the help has them, of which one says what the other would.
+pub fn clash(words: &[&str]) -> Option<(&'static str, &'static str)> {
+    let command = words.get(1).copied().unwrap_or("");
+    let in_file = is_given(words, "-f") || is_given(words, "--file");
+    match command {
+        "upcoming" | "scenario" if is_given(words, "--for") && is_given(words, "--until") => {
+            Some(("--for <LENGTH>", "--until <TIME>"))
+        }
+        "describe" if in_file && is_given(words, "--after") => Some(("--file", "--after <TIME>")),
+        "describe" if in_file && is_given(words, "--count") => Some(("--file", "--count <N>")),
+        _ => None,
+    }
+}
+
 // Whether a word is a moment before now, as `-1h`.
 fn is_before(word: &str) -> bool {
     let bytes = word.as_bytes();

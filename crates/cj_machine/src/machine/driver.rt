@@ -10,7 +10,7 @@ use crate::machine::task::Task;
 use crate::source::Source;
 use cj_base::{Refusal, Text, TryCopy};
 use cj_control::HeldBy;
-use cj_queue::Queue;
+use cj_queue::{Queue, Secret};
 use cj_table::Table;
 use std::alloc::Global;
 
@@ -91,7 +91,7 @@ fn counted(alloc: Global, count: u64, word: &str) -> Result<String, Refusal> {
 
 impl Driver {
     /// What a controller keeps that has heard nothing yet.
-    pub fn new(alloc: Global, options: ControlOptions) -> Result<Driver, Refusal>
+    pub fn new(alloc: Global, options: ControlOptions, secret: Secret) -> Result<Driver, Refusal>
         ensures err { IfErr result (λ e. e ≡ OutOfMemory) }
     {
         let namespace = options.namespace.try_copy(alloc)?;
@@ -100,7 +100,7 @@ impl Driver {
         Ok(Driver {
             options,
             feeds,
-            queue: Queue::new(alloc),
+            queue: Queue::keyed(alloc, secret),
             tasks: Vec::new(alloc),
             memos: Table::new(alloc),
             told: Vec::new(alloc),

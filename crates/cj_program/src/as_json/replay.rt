@@ -11,6 +11,7 @@ use cj_io::Failure;
 use cj_json::push_value;
 use cj_replay::replay;
 use cj_script::{Script, Step};
+use cj_world::Secret;
 use serde_json::{Value, json};
 use std::alloc::{AllocError, Global};
 
@@ -178,11 +179,11 @@ fn replay_value(alloc: Global, script: &Script, text: &str) -> Result<Value, Fai
 }
 
 // What a replay of the script prints. It is a failure where a step found the history full.
-fn replayed_text(alloc: Global, script: &Script) -> Result<String, Failure>
+fn replayed_text(alloc: Global, script: &Script, secret: Secret) -> Result<String, Failure>
     ensures { IfOk result (λ s. IsReplayed script.now (string_bytes s) false) }
 {
     let mut bytes = Vec::new(alloc);
-    if replay(alloc, script, &mut bytes)? {
+    if replay(alloc, script, secret, &mut bytes)? {
         return Err(Failure::HistoryFull);
     }
     match String::from_utf8(bytes) {
@@ -193,10 +194,10 @@ fn replayed_text(alloc: Global, script: &Script) -> Result<String, Failure>
 
 /// A replay of the script as one JSON value on a line: its steps, with the texts of their lines,
 /// and the lines of the report. It is a failure where a step found the history full.
-pub(crate) fn replay_json(alloc: Global, script: &Script) -> Result<String, Failure>
+pub(crate) fn replay_json(alloc: Global, script: &Script, secret: Secret) -> Result<String, Failure>
     ensures { IfOk result (λ s. json.IsReplayJson script.now (string_bytes s)) }
 {
-    let text = replayed_text(alloc, script)?;
+    let text = replayed_text(alloc, script, secret)?;
     let value = replay_value(alloc, script, text.as_str())?;
     Ok(value_line(alloc, &value)?)
 }
