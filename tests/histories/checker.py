@@ -8,7 +8,7 @@ on with what the line says.
 """
 import re
 
-WINDOW = 1000
+WINDOW = 100_000
 ROLES = {
     "User": {
         "createCron",

@@ -346,7 +346,7 @@ fn run_whole<R: Threads + Wait + Sync>(
 ) -> Result<Ran, RunError>
     ensures { IfOk result (λ r. IsRun simulation.now workers r.closed (string_bytes r.report)) }
 {
-    let limits = Limits::new(16_777_216, 1_000).unwrap();
+    let limits = Limits::new(16_777_216, 100_000).unwrap();
     let secret = meter.secret();
     let hub = Heap::new(alloc, Hub::keyed(alloc, limits, secret)?)?;
     let participants = run_to_end(rt, alloc, hub.get(), simulation, workers, meter)?;
