@@ -77,7 +77,8 @@ fn times_answer(
     zone: &Zone,
     before: Seconds,
 ) -> Result<Answer, Failure>
-    ensures { IfOk result (λ a. TellsPast previous.now schedule.now zone.now before (outcome_of a)) }
+    ensures { IfOk result (λ a. TellsPast previous.now schedule.now zone.now before
+        (outcome_of a)) }
 {
     let text = printed(alloc, previous, schedule, zone, before)?;
     let mark = clock_mark(previous.time_zone);
