@@ -145,6 +145,11 @@ abbrev pub is_early : ℕ → List ClusterCron → Bool
 is_early now crons =
     not (is_nothing crons) && list_all (λ c. nat_lt now c.cron.meta.created) crons
 
+-- there is no CronJob, and no item that is refused or of another kind
+-- rule: why-early
+abbrev pub is_bare : ClusterList → Bool
+is_bare list = is_nothing (map.values list.cluster.crons) && is_nothing list.notes
+
 -- refused where no CronJob is in the namespace
 abbrev pub ending_at_home : Bool → Ending → Ending
 ending_at_home true ending = ending
@@ -295,7 +300,7 @@ pub record TellsReview (r : WhyRequest) (zones : List Zone) (now : ℕ) (list : 
   pub base : Outcome
   pub reasons : TellsReasons r zones now list base
   pub notices : IsNoticed (has_home (within_of r) list)
-      (is_early now (map.values list.cluster.crons)) base o
+      (is_early now (map.values list.cluster.crons) || is_bare list) base o
 
 -- the CronJobs that are named are all there
 pub record PrintsKnown (r : WhyRequest) (zones : List Zone) (now : ℕ) (list : ClusterList)

@@ -1,11 +1,11 @@
-// What `why` and `upcoming` tell beside their answers: of a namespace that has no CronJob, and of a
-// moment before all of them.
-ghost use Rattle.std.specs.Prelude.{◌≡◌, ◌++◌, ◌&&◌, bytes_eq, nat_lt, IfOk, IfErr, false, not, option_map, string_bytes};
+// What `why` and `upcoming` tell beside their answers: of a namespace that has no CronJob, of a
+// moment before all of them, and of a list without any.
+ghost use Rattle.std.specs.Prelude.{◌≡◌, ◌++◌, ◌&&◌, ◌||◌, bytes_eq, nat_lt, IfOk, IfErr, false, not, option_map, string_bytes};
 ghost use Rattle.std.specs.List.{list_all, list_any};
 ghost use Rattle.std.specs.FinMap as map;
 ghost use Rattle.cj_base.specs.declared.refusal.Refusal.TheVariants.{OutOfMemory};
 ghost use Rattle.cj_answers.specs.Outcome.{outcome_of};
-ghost use Rattle.cj_inspect.specs.Why.{IsNoticed, ending_at_home, has_home, is_early, is_noted_in, is_nothing, noticed, within_of};
+ghost use Rattle.cj_inspect.specs.Why.{IsNoticed, ending_at_home, has_home, is_bare, is_early, is_noted_in, is_nothing, noticed, within_of};
 
 use crate::why::naming::has_none;
 use cj_answers::{Answer, Ending};
@@ -83,6 +83,26 @@ fn is_early(now: Seconds, crons: &[Shared<ClusterCron>]) -> bool
     !has_none && is_before_each
 }
 
+// Whether there is no CronJob, and no item that is refused or of another kind.
+fn is_bare(list: &ClusterList, crons: &[Shared<ClusterCron>]) -> bool
+    requires { crons.now ≡ map.values list.now.cluster.crons }
+    ensures { result ≡ is_bare list.now }
+{
+    let has_none = has_none(crons);
+    let is_unnoted = list.notes.as_slice().is_empty();
+    has_none && is_unnoted
+}
+
+// Whether no CronJob is there by the moment.
+fn is_too_soon(list: &ClusterList, crons: &[Shared<ClusterCron>], now: Seconds) -> bool
+    requires { crons.now ≡ map.values list.now.cluster.crons }
+    ensures { result ≡ (is_early now crons.now || is_bare list.now) }
+{
+    let is_early = is_early(now, crons);
+    let is_bare = is_bare(list, crons);
+    is_early || is_bare
+}
+
 // One namespace more, unless it is the last one again.
 fn push_namespace(text: &mut String, last: &str, namespace: &str) -> Result<(), AllocError> {
     if last == namespace {
@@ -137,6 +157,28 @@ fn early_words(alloc: Global, now: Seconds) -> Result<String, Refusal>
     Ok(format!(in alloc; "cronsim: --now {time} is before each CronJob of the list was created\n")?)
 }
 
+// That the list has no CronJob.
+fn bare_words(alloc: Global) -> Result<String, Refusal>
+    ensures ok { IfOk result (λ s. is_nothing (string_bytes s) ≡ false) }
+    ensures err { IfErr result (λ e. e ≡ OutOfMemory) }
+{
+    Ok(String::from_str(
+        alloc,
+        "cronsim: the list has no CronJob; kubectl get cronjobs,jobs -A -o json prints both kinds\n",
+    )?)
+}
+
+fn soon_words(alloc: Global, crons: &[Shared<ClusterCron>], now: Seconds) -> Result<String, Refusal>
+    ensures ok { IfOk result (λ s. is_nothing (string_bytes s) ≡ false) }
+    ensures err { IfErr result (λ e. e ≡ OutOfMemory) }
+{
+    if crons.is_empty() {
+        bare_words(alloc)
+    } else {
+        early_words(alloc, now)
+    }
+}
+
 fn notice(
     alloc: Global,
     within: Option<&str>,
@@ -150,7 +192,7 @@ fn notice(
 {
     match (home, early) {
         (false, _) => home_words(alloc, within, crons),
-        (true, true) => early_words(alloc, now),
+        (true, true) => soon_words(alloc, crons, now),
         (true, false) => Ok(String::new(alloc)),
     }
 }
@@ -191,11 +233,12 @@ pub(crate) fn with_notices(
 ) -> Result<Answer, Refusal>
     requires { crons.now ≡ map.values list.now.cluster.crons }
     ensures ok { IfOk result (λ a. IsNoticed (has_home (within_of why.now) list.now)
-        (is_early now (map.values list.now.cluster.crons)) (outcome_of answer) (outcome_of a)) }
+        (is_early now (map.values list.now.cluster.crons) || is_bare list.now)
+        (outcome_of answer) (outcome_of a)) }
     ensures err { IfErr result (λ e. e ≡ OutOfMemory) }
 {
     let home = has_home(why.namespace, list, crons);
-    let early = is_early(now, crons);
+    let early = is_too_soon(list, crons, now);
     let words = notice(alloc, why.namespace, crons, now, home, early)?;
     noticed(home, words, answer)
 }
