@@ -21,11 +21,26 @@ is_blank b = b == 32 || b == 9
 abbrev pub is_letter : ℕ → Bool
 is_letter b = nat_le 97 b && nat_le b 122
 
+-- or from A to Z
+abbrev pub is_any_letter : ℕ → Bool
+is_any_letter b = (nat_le 97 b && nat_le b 122) || (nat_le 65 b && nat_le b 90)
+
 abbrev pub is_point : ℕ → Bool
 is_point b = b == 46
 
 abbrev pub is_fields : ScheduleCause → Bool
 is_fields cause = bytes_eq (cause_name cause) (codes "Fields")
+
+abbrev pub is_syntax : ScheduleCause → Bool
+is_syntax cause = bytes_eq (cause_name cause) (codes "Syntax")
+
+-- names in full, and what other programs have
+-- rule: explain-hint
+abbrev pub name_hint : List ℕ → List ℕ
+name_hint text =
+    if list_any is_any_letter text then codes
+    "schedule: the names there are have three letters, JAN to DEC and SUN to SAT; L, W, # and H of other programs have no place here\n"
+    else []
 
 -- a line of a crontab, and the name of a file
 -- rule: explain-hint
@@ -47,4 +62,5 @@ schedule_hint text fault =
     else if begins (codes "@every") text then codes
     "schedule: @every is of Go's cron library; a CronJob has */15 * * * * for each quarter of an hour, and @hourly\n"
     else if is_fields fault.cause then field_hint text
+    else if is_syntax fault.cause then name_hint text
     else []

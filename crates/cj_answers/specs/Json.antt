@@ -52,7 +52,7 @@ json_line line column = codes "FILE: no JSON at line "
 
 -- rule: explain-json
 abbrev pub empty_words : List ℕ
-empty_words = codes "FILE: empty; JSON is wanted\n"
+empty_words = codes "FILE: empty; JSON or YAML is wanted\n"
 
 -- rule: explain-json
 abbrev pub several_words : List ℕ

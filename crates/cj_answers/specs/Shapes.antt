@@ -14,6 +14,10 @@ is_message bytes =
     || begins (codes "Unable to connect") bytes
     || begins (codes "No resources found") bytes
 
+-- what Helm makes manifests of
+abbrev pub is_template : List ℕ → Bool
+is_template bytes = begins (codes "{{") bytes
+
 -- UTF-16 behind a byte order mark, and what gzip packs (RFC 1952)
 abbrev pub encoding_words : List ℕ → List ℕ
 encoding_words bytes =
@@ -29,4 +33,6 @@ shape_words bytes =
     if is_table bytes
     then codes "it is kubectl's table; kubectl get -o json prints JSON\n"
     else if is_message bytes then codes "it is a message of kubectl, and no object\n"
+    else if is_template bytes
+    then codes "it is a template of Helm; helm template . | cronsim check - checks what it makes\n"
     else encoding_words bytes

@@ -1,7 +1,7 @@
 // What is wrong with texts that people take for schedules, beside the place of the fault.
 ghost use Rattle.std.specs.Prelude.{◌≡◌};
 ghost use Rattle.std.specs.List.{count_by, list_any};
-ghost use Rattle.cj_answers.specs.Hints.{field_hint, is_blank, is_fields, is_letter, is_odd, is_point, is_quote, schedule_hint};
+ghost use Rattle.cj_answers.specs.Hints.{field_hint, is_any_letter, is_blank, is_fields, is_letter, is_odd, is_point, is_quote, is_syntax, name_hint, schedule_hint};
 
 use crate::shapes::begins;
 use cj_base::ScheduleFault;
@@ -32,6 +32,12 @@ fn is_letter(byte: u8) -> bool
     b'a' <= byte && byte <= b'z'
 }
 
+fn is_any_letter(byte: u8) -> bool
+    ensures { result ≡ is_any_letter byte }
+{
+    (b'a' <= byte && byte <= b'z') || (b'A' <= byte && byte <= b'Z')
+}
+
 fn is_point(byte: u8) -> bool
     ensures { result ≡ is_point byte }
 {
@@ -56,6 +62,12 @@ fn has_letter(text: &str) -> bool
     text.as_bytes().iter().any(|byte| is_letter(*byte))
 }
 
+fn has_any_letter(text: &str) -> bool
+    ensures { result ≡ list_any is_any_letter text.now }
+{
+    text.as_bytes().iter().any(|byte| is_any_letter(*byte))
+}
+
 fn has_point(text: &str) -> bool
     ensures { result ≡ list_any is_point text.now }
 {
@@ -78,6 +90,23 @@ fn is_fields(fault: ScheduleFault) -> bool
     ensures { result ≡ is_fields fault.cause }
 {
     fault.cause.name() == "Fields"
+}
+
+fn is_syntax(fault: ScheduleFault) -> bool
+    ensures { result ≡ is_syntax fault.cause }
+{
+    fault.cause.name() == "Syntax"
+}
+
+// Of a text with names in full, or with what other programs have.
+fn name_hint(text: &str) -> &'static str
+    ensures { result.now ≡ name_hint text.now }
+{
+    if has_any_letter(text) {
+        "schedule: the names there are have three letters, JAN to DEC and SUN to SAT; L, W, # and H of other programs have no place here\n"
+    } else {
+        ""
+    }
 }
 
 // Of a text with another number of fields: that of a crontab's line, and the name of a file.
@@ -106,6 +135,8 @@ pub(crate) fn schedule_hint(text: &str, fault: ScheduleFault) -> &'static str
         "schedule: @every is of Go's cron library; a CronJob has */15 * * * * for each quarter of an hour, and @hourly\n"
     } else if is_fields(fault) {
         field_hint(text)
+    } else if is_syntax(fault) {
+        name_hint(text)
     } else {
         ""
     }

@@ -10,7 +10,7 @@ ghost use Rattle.cj_answers.specs.Inputs.{IsTaken, IsTextOf, is_several};
 ghost use Rattle.cj_answers.specs.Json.{shape_of};
 
 use crate::events::event_of;
-use crate::items::{Items, Passed, list_value};
+use crate::items::{Items, Passed, is_other, list_value};
 use crate::json::{TextShape, may_be_yaml, shape_of};
 use crate::json_texts::{is_one_object, values_in};
 use crate::shapes::shape_words;
@@ -84,10 +84,19 @@ fn warned(alloc: Global, documents: &[Document]) -> Result<String, Failure> {
 
 // Adds the lines on what was passed over.
 fn push_passed(alloc: Global, said: &mut String, passed: Passed) -> Result<(), Failure> {
-    let Passed { others, marks } = passed;
+    let Passed {
+        others,
+        near,
+        marks,
+    } = passed;
     if others > 0 {
         let line = format!(in alloc; "FILE: objects of other kinds, passed over: {others}\n")?;
         said.push_str(line.as_str())?;
+    }
+    if near > 0 {
+        said.push_str(
+            "FILE: a kind among these differs from CronJob or Job in capital letters or an s alone\n",
+        )?;
     }
     if marks > 0 {
         let line = format!(in alloc; "FILE: BOOKMARK and ERROR events, passed over: {marks}\n")?;
@@ -175,7 +184,7 @@ fn documents_value(
     let mut values = values;
     if values.len() == 1 {
         if let Some(value) = values.pop() {
-            if !is_several(&value) {
+            if !is_several(&value) && !is_other(&value) {
                 return Ok((value, said));
             }
             values.push(value)?;
@@ -286,7 +295,8 @@ fn of_braced(alloc: Global, bytes: Vec<u8>) -> Result<JsonInput, Failure>
 /// What is taken for the bytes of an input. A JSON object stays as it is, and so does what is
 /// neither JSON nor YAML. Of YAML the value is taken, if it is a mapping or a list. Several values
 /// or documents, an array of objects, and the events of a watch are taken as the list of their
-/// objects that `kubectl get` prints, without those of other kinds.
+/// objects that `kubectl get` prints, without those of other kinds. So is one document of YAML of
+/// another kind.
 pub fn json_input(alloc: Global, bytes: Vec<u8>) -> Result<JsonInput, Failure>
     ensures { IfOk result (λ t. IsTaken bytes.items t.bytes.items (string_bytes t.said)) }
 {

@@ -12,6 +12,8 @@ use std::collections::BTreeMap;
 pub(crate) struct Passed {
     /// How many objects of kinds that no command looks at.
     pub others: u64,
+    /// How many of them have a kind that people may have meant for one that is looked at.
+    pub near: u64,
     /// How many events of a watch that tell of no object.
     pub marks: u64,
 }
@@ -45,7 +47,7 @@ fn meta_at<'v>(value: &'v Value, name: &str) -> Option<&'v str> {
 }
 
 // Whether it is an object of a kind that no command looks at. What says no kind isn't.
-fn is_other(value: &Value) -> bool {
+pub(crate) fn is_other(value: &Value) -> bool {
     match text_at(value, "kind") {
         Some(kind) => {
             let is_ours = kind == "CronJob" || kind == "Job";
@@ -54,6 +56,13 @@ fn is_other(value: &Value) -> bool {
         }
         None => false,
     }
+}
+
+// Whether its kind may be meant for one that commands look at.
+fn is_near(value: &Value) -> bool {
+    let kind = text_at(value, "kind").unwrap_or("");
+    let is_cron = kind.eq_ignore_ascii_case("CronJob") || kind.eq_ignore_ascii_case("CronJobs");
+    is_cron || kind.eq_ignore_ascii_case("Job") || kind.eq_ignore_ascii_case("Jobs")
 }
 
 // The uid of an object, if it has one.
@@ -173,6 +182,7 @@ impl Items {
             places: BTreeMap::new(alloc),
             passed: Passed {
                 others: 0,
+                near: 0,
                 marks: 0,
             },
         }
@@ -210,11 +220,19 @@ impl Items {
         Ok(())
     }
 
+    // Passes over an object of another kind.
+    fn pass(&mut self, value: &Value) {
+        self.passed.others = self.passed.others.saturating_add(1);
+        if is_near(value) {
+            self.passed.near = self.passed.near.saturating_add(1);
+        }
+    }
+
     // Adds an object, unless its kind is another. One that was seen before stands as it is now: a
     // watch tells that by the object, other inputs by its uid alone.
     fn push_seen(&mut self, alloc: Global, value: Value, watched: bool) -> Result<(), Failure> {
         if is_other(&value) {
-            self.passed.others = self.passed.others.saturating_add(1);
+            self.pass(&value);
             return Ok(());
         }
         let key = identity(alloc, &value)?;
@@ -225,7 +243,7 @@ impl Items {
     // Leaves an object out that was deleted.
     fn leave(&mut self, alloc: Global, value: &Value) -> Result<(), Failure> {
         if is_other(value) {
-            self.passed.others = self.passed.others.saturating_add(1);
+            self.pass(value);
             return Ok(());
         }
         let key = identity(alloc, value)?;

@@ -242,7 +242,7 @@ pub fn json_words(alloc: Global, bytes: &[u8]) -> Result<String, Failure>
     ensures { IfOk result (λ s. IsJsonWords bytes.now (string_bytes s)) }
 {
     match shape_of(bytes) {
-        TextShape::Empty => Ok(String::from_str(alloc, "FILE: empty; JSON is wanted\n")?),
+        TextShape::Empty => Ok(String::from_str(alloc, "FILE: empty; JSON or YAML is wanted\n")?),
         TextShape::Braced => braced_words(alloc, bytes),
         TextShape::Marked => marked_words(alloc, bytes),
         TextShape::Plain => plain_words(alloc, bytes),

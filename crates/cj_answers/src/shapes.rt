@@ -1,6 +1,6 @@
 // Texts that are no JSON and that people have by mistake.
 ghost use Rattle.std.specs.Prelude.{◌≡◌, codes};
-ghost use Rattle.cj_answers.specs.Shapes.{encoding_words, is_message, is_table, shape_words};
+ghost use Rattle.cj_answers.specs.Shapes.{encoding_words, is_message, is_table, is_template, shape_words};
 ghost use Rattle.cj_answers.specs.Suggestion.{begins};
 
 /// Whether bytes begin so.
@@ -28,6 +28,13 @@ fn is_message(bytes: &[u8]) -> bool
         || begins(bytes, b"No resources found")
 }
 
+// What Helm makes manifests of.
+fn is_template(bytes: &[u8]) -> bool
+    ensures { result ≡ is_template bytes.now }
+{
+    begins(bytes, b"{{")
+}
+
 // How the bytes have to be read before they are text.
 fn encoding_words(bytes: &[u8]) -> &'static str
     ensures { result.now ≡ encoding_words bytes.now }
@@ -49,6 +56,8 @@ pub fn shape_words(bytes: &[u8]) -> &'static str
         "it is kubectl's table; kubectl get -o json prints JSON\n"
     } else if is_message(bytes) {
         "it is a message of kubectl, and no object\n"
+    } else if is_template(bytes) {
+        "it is a template of Helm; helm template . | cronsim check - checks what it makes\n"
     } else {
         encoding_words(bytes)
     }

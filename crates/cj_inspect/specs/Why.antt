@@ -110,11 +110,19 @@ unknown_of r list =
 abbrev pub meant_of : WhyRequest → ClusterList → List ClusterCron
 meant_of r list = chosen (within_of r) r.crons.items (map.values list.cluster.crons)
 
--- an item that can't be used is told of: where CronJobs are named, one that is of such a CronJob
+-- an item may be of a CronJob in the namespace that is given, if one is
+abbrev pub is_near : Option (List ℕ) → Option CronName → Bool
+is_near None cron = true
+is_near (Some namespace) None = true
+is_near (Some namespace) (Some n) = bytes_eq n.namespace namespace
+
+-- an item that can't be used is told of: where CronJobs are named, one that is of such a CronJob,
+-- else one that may be of the namespace
 -- rule: why-named
 abbrev pub is_told : Option (List ℕ) → List (Bor (List ℕ)) → ItemNote → Bool
 is_told within texts note =
-    is_nothing texts || list_any (λ t. is_noted within t.now note.cron) texts
+    (is_nothing texts && is_near within note.cron)
+    || list_any (λ t. is_noted within t.now note.cron) texts
 
 -- the list with the items that are told of
 -- rule: why-named

@@ -34,7 +34,7 @@ use listing::{Listing, files_listed};
 use progress::{is_shown, serve_shown};
 use secret::new_secret;
 use several::{serve_files, serve_report_files, serve_upcoming_files};
-use shown_zone::{local_zone, with_zone};
+use shown_zone::{local_zone, names_unshown, with_zone};
 use source::Input;
 use std::alloc::Global;
 use std::io::{IsTerminal, Write};
@@ -46,7 +46,7 @@ use taken::json_of;
 use telling::{at_terminal, serve_on, tell_file, tell_places, tell_shape, tell_waiting};
 use words::{asked, clash, joined};
 use zone_names::{tell_zones, without_names};
-use zoned::moment_by_zone;
+use zoned::{moment_by_zone, moment_text, other_text, tell_skipped};
 
 // Whether the schedules of a file's CronJobs are asked about.
 fn describes_file(request: &Request<'_>) -> bool {
@@ -293,12 +293,13 @@ fn clock_end(rt: &HostRuntime, request: &Request<'_>) -> Result<Option<String>, 
     }
 }
 
-// The request with that end, where it means one.
+// The request with that end, or start of what is shown, where it means one.
 fn with_end<'a>(mut request: Request<'a>, end: Option<&'a str>) -> Request<'a> {
     if end.is_some() {
         match &mut request {
             Request::Upcoming(upcoming) => upcoming.until = end,
             Request::Scenario(scenario) => scenario.until = end,
+            Request::Audit(audit) => audit.since = end,
             _ => {}
         }
     }
@@ -404,15 +405,49 @@ fn serve_listed<T: Threads + Wait + Clock + Sync>(
     }
 }
 
-// The moment that a request means by its zone's clock, where its text has no offset.
-fn zoned_moment(rt: &HostRuntime, request: &Request<'_>) -> Result<Option<String>, Failure> {
+// The moment that a text of a request means by its zone's clock, where it has no offset.
+fn zoned_moment(
+    rt: &HostRuntime,
+    request: &Request<'_>,
+    text: Option<&str>,
+) -> Result<Option<String>, Failure> {
     let set = folder_set(rt)?;
     let set = set.as_ref().map(|folder| folder.as_str());
-    moment_by_zone(
-        rt,
-        request,
-        request.folder().or(set).unwrap_or(MACHINE_FOLDER),
-    )
+    let folder = request.folder().or(set).unwrap_or(MACHINE_FOLDER);
+    moment_by_zone(rt, request, folder, text)
+}
+
+// Says that `--zone` alone doesn't change by which clock times are printed.
+fn tell_unshown(rt: &HostRuntime) {
+    let _ = writeln!(
+        &mut rt.stderr(),
+        "--zone: times are printed in UTC; --time-zone NAME prints them by that zone's clock"
+    );
+}
+
+// Serves a request whose moments may be by a zone's clock. A moment that this clock skips is told
+// behind the refusal.
+fn serve_zoned<T: Threads + Wait + Clock + Sync>(
+    threads: &T,
+    rt: &HostRuntime,
+    request: Request<'_>,
+) -> Result<ExitStatus, Failure> {
+    let moment = zoned_moment(rt, &request, moment_text(&request))?;
+    let moment = moment.as_ref().map(|text| text.as_str());
+    let end = zoned_moment(rt, &request, other_text(&request))?;
+    let end = end.as_ref().map(|text| text.as_str());
+    let is_wanted = request.explains() || at_terminal(rt);
+    let is_unshown = is_wanted && names_unshown(&request);
+    let request = with_end(at_moment(request, moment), end);
+    let status = serve_listed(threads, rt, request)?;
+    if is_wanted {
+        tell_skipped(rt, moment);
+        tell_skipped(rt, end);
+    }
+    if is_unshown {
+        tell_unshown(rt);
+    }
+    Ok(status)
 }
 
 // Serves a request, with what its words leave to the machine: moments by its clock, and its zone.
@@ -427,9 +462,7 @@ fn serve_parsed<T: Threads + Wait + Clock + Sync>(
     let request = at_moment(request, moment.as_ref().map(|text| text.as_str()));
     let request = with_end(request, end.as_ref().map(|text| text.as_str()));
     let request = with_zone(request, zone.as_ref().map(|text| text.as_str()));
-    let zoned = zoned_moment(rt, &request)?;
-    let request = at_moment(request, zoned.as_ref().map(|text| text.as_str()));
-    serve_listed(threads, rt, request)
+    serve_zoned(threads, rt, request)
 }
 
 // Says to people what may be meant by words that are wrong.

@@ -14,6 +14,20 @@ pub fn clock_of<'r, 'a>(request: &'r Request<'a>) -> Option<&'r ClockWords<'a>> 
     }
 }
 
+/// Whether a request names a zone by `--zone` alone, and prints its times in UTC.
+pub fn names_unshown(request: &Request<'_>) -> bool {
+    let (Some(clock), Some(zones)) = (clock_of(request), request.zones()) else {
+        return false;
+    };
+    let is_shown = clock.zone.is_some() || clock.is_local;
+    !is_shown
+        && zones
+            .rules
+            .as_slice()
+            .iter()
+            .any(|word| !word.contains('='))
+}
+
 /// The machine's zone, where a request asks for its clock and names no zone.
 pub fn local_zone(rt: &HostRuntime, request: &Request<'_>) -> Result<Option<String>, Failure> {
     match clock_of(request) {

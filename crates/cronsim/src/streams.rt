@@ -1,3 +1,4 @@
+use memchr::memmem;
 use std::io;
 use std::io::{ErrorKind, Stdout, Write};
 
@@ -7,6 +8,7 @@ pub struct Output {
     out: Stdout,
     count: usize,
     is_closed: bool,
+    has_refused: bool,
 }
 
 impl Output {
@@ -16,12 +18,18 @@ impl Output {
             out: rt.stdout(),
             count: 0,
             is_closed: false,
+            has_refused: false,
         }
     }
 
     /// Whether it took nothing.
     pub fn is_empty(&self) -> bool {
         self.count == 0
+    }
+
+    /// Whether it took the line of an item that is refused, as far as one write shows it.
+    pub fn has_refused(&self) -> bool {
+        self.has_refused
     }
 
     /// Whether nobody reads it any more, as behind `head`.
@@ -32,6 +40,7 @@ impl Output {
 
 impl Write for Output {
     fn write(&mut self, buf: &[u8]) -> io::Result<usize> {
+        self.has_refused = self.has_refused || memmem::find(buf, b" refused ").is_some();
         let written = self.out.write(buf);
         match &written {
             Ok(count) => self.count = self.count.saturating_add(*count),

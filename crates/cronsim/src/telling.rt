@@ -91,6 +91,25 @@ pub fn wants_why(rt: &HostRuntime, request: &Request<'_>, served: &Served, out: 
     is_refused && is_whole && at_terminal(rt)
 }
 
+// Whether people are to be told of the items that are refused: they read what is said, and nobody
+// asked for it already.
+fn wants_items(rt: &HostRuntime, request: &Request<'_>, served: &Served, out: &Output) -> bool {
+    let is_refused = served.status == ExitStatus::Refused && !request.explains();
+    is_refused && out.has_refused() && at_terminal(rt)
+}
+
+// Says what a second answer has to say of items and the first hadn't.
+fn tell_items(rt: &HostRuntime, first: &Served, second: &Served) {
+    let (first, second) = (first.said.as_slice(), second.said.as_slice());
+    let more = second.strip_prefix(first).unwrap_or(second);
+    for line in more.split(|byte| *byte == b'\n') {
+        if line.starts_with(b"item ") {
+            let _ = rt.stderr().write_all(line);
+            let _ = rt.stderr().write_all(b"\n");
+        }
+    }
+}
+
 // Serves a request on the bytes of its input; without them each read fails.
 fn answer<T: Threads + Wait + Sync, W: Write>(
     threads: &T,
@@ -134,6 +153,10 @@ pub fn serve_on<T: Threads + Wait + Sync>(
         explain(request);
         let second = answer(threads, rt, request, files, bytes, meter, &mut io::sink());
         tell_more(rt, &first, &second);
+    } else if wants_items(rt, request, &first, &out) {
+        explain(request);
+        let second = answer(threads, rt, request, files, bytes, meter, &mut io::sink());
+        tell_items(rt, &first, &second);
     }
     first
 }

@@ -3,7 +3,7 @@ ghost use Rattle.std.specs.Prelude.{◌≡◌, ◌++◌, IfOk, OnOk, codes, filt
 ghost use Rattle.std.specs.List.{list_any};
 ghost use Rattle.std.specs.FinMap as map;
 ghost use Rattle.cj_cluster.specs.kubectl.Named.{key_text};
-ghost use Rattle.cj_inspect.specs.Why.{chosen, is_called, is_meant, is_noted, is_nothing, is_told, is_unknown, is_within, line_of, line_where, meant_of, narrowed, unknown_end, unknown_line, unknown_lines, unknown_of};
+ghost use Rattle.cj_inspect.specs.Why.{chosen, is_called, is_meant, is_near, is_noted, is_nothing, is_told, is_unknown, is_within, line_of, line_where, meant_of, narrowed, unknown_end, unknown_line, unknown_lines, unknown_of};
 
 use cj_args::WhyRequest;
 use cj_cluster::{ClusterCron, ClusterList, CronName, ItemNote, ItemNotes};
@@ -239,13 +239,28 @@ fn is_named(within: Option<&str>, texts: &[&str], cron: &Option<CronName>) -> bo
     texts.iter().any(|text| is_noted(within, text, cron))
 }
 
+// Whether it may be a CronJob of the namespace, if one is given.
+fn is_near(within: Option<&str>, cron: &Option<CronName>) -> bool
+    ensures { result ≡ is_near (option_map (λ s. s.now) within.entry) cron.now }
+{
+    match within {
+        None => true,
+        Some(namespace) => match cron {
+            None => true,
+            Some(cron) => cron.namespace.as_str() == namespace,
+        },
+    }
+}
+
 fn is_told(within: Option<&str>, texts: &[&str], note: &ItemNote) -> bool
     ensures { result
         ≡ is_told (option_map (λ s. s.now) within.entry) texts.now note.now }
 {
     let has_no_text = has_no_text(texts);
+    let is_near = is_near(within, &note.cron);
+    let is_near_enough = has_no_text && is_near;
     let is_named = is_named(within, texts, &note.cron);
-    has_no_text || is_named
+    is_near_enough || is_named
 }
 
 // Those of the notes that are told of.

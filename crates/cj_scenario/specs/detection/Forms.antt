@@ -39,8 +39,8 @@ form_of d = form_by (kind_in d) d
 -- what such a text is for
 -- rule: explain-input
 abbrev pub form_words : Form → List ℕ
-form_words A.List = codes "FILE: a list, whose items cronsim check, why, upcoming and audit take\n"
-form_words A.Manifest = codes "FILE: a manifest, which cronsim check takes\n"
+form_words A.List = codes "FILE: a list, whose items cronsim check, why, upcoming and audit take; cronsim scenario makes a scenario of it\n"
+form_words A.Manifest = codes "FILE: a manifest, which cronsim check and upcoming take; cronsim scenario makes a scenario of it\n"
 form_words A.Scenario = codes "FILE: a scenario, which cronsim plan takes\n"
 form_words A.Script = codes "FILE: a script, which cronsim replay takes\n"
 form_words A.Simulation = codes "FILE: a scenario of a run, which cronsim run takes\n"

@@ -89,9 +89,10 @@ impl Form {
     {
         match self {
             Form::List => {
-                "FILE: a list, whose items cronsim check, why, upcoming and audit take\n"
+                "FILE: a list, whose items cronsim check, why, upcoming and audit take; cronsim scenario makes a scenario of it\n"
             }
-            Form::Manifest => "FILE: a manifest, which cronsim check takes\n",
+            Form::Manifest =>
+                "FILE: a manifest, which cronsim check and upcoming take; cronsim scenario makes a scenario of it\n",
             Form::Scenario => "FILE: a scenario, which cronsim plan takes\n",
             Form::Script => "FILE: a script, which cronsim replay takes\n",
             Form::Simulation => "FILE: a scenario of a run, which cronsim run takes\n",
