@@ -43,7 +43,9 @@ use std::sync::Wait;
 use std::thread::Threads;
 use std::time::Clock;
 use taken::json_of;
-use telling::{at_terminal, serve_on, tell_file, tell_places, tell_shape, tell_waiting};
+use telling::{
+    at_terminal, serve_on, tell_file, tell_manifest, tell_places, tell_shape, tell_waiting,
+};
 use words::{asked, clash, joined};
 use zone_names::{tell_zones, without_names};
 use zoned::{moment_by_zone, moment_text, other_text, tell_skipped};
@@ -162,13 +164,15 @@ fn serve_with_folder<T: Threads + Wait + Sync>(
             let files = request_files(rt, request, folder, bytes)?;
             let served = serve_on(threads, rt, request, files.as_slice(), Some(bytes), meter);
             tell_shape(rt, request, served.status, bytes);
-            tell_source(
-                rt,
-                request,
-                served.status,
-                files.as_slice(),
-                source.as_ref(),
-            )?;
+            if !served.is_of_words() {
+                tell_source(
+                    rt,
+                    request,
+                    served.status,
+                    files.as_slice(),
+                    source.as_ref(),
+                )?;
+            }
             tell_zones(rt, request, &served, folder, files.as_slice(), bytes)?;
             Ok(served.status)
         }
@@ -219,6 +223,7 @@ fn serve_crontab<T: Threads + Wait + Sync>(
             let bytes = bytes.as_slice();
             let files = crontab_files(rt, request, folder, bytes)?;
             let served = serve_on(threads, rt, request, files.as_slice(), Some(bytes), meter);
+            tell_manifest(rt, request, served.status, bytes);
             Ok(served.status)
         }
         Err(Failure::Memory) => Err(Failure::Memory),

@@ -9,6 +9,7 @@ pub struct Output {
     count: usize,
     is_closed: bool,
     has_refused: bool,
+    has_warned: bool,
 }
 
 impl Output {
@@ -19,6 +20,7 @@ impl Output {
             count: 0,
             is_closed: false,
             has_refused: false,
+            has_warned: false,
         }
     }
 
@@ -32,6 +34,11 @@ impl Output {
         self.has_refused
     }
 
+    /// Whether it took a warning, as far as one write shows it.
+    pub fn has_warned(&self) -> bool {
+        self.has_warned
+    }
+
     /// Whether nobody reads it any more, as behind `head`.
     pub fn is_closed(&self) -> bool {
         self.is_closed
@@ -41,6 +48,7 @@ impl Output {
 impl Write for Output {
     fn write(&mut self, buf: &[u8]) -> io::Result<usize> {
         self.has_refused = self.has_refused || memmem::find(buf, b" refused ").is_some();
+        self.has_warned = self.has_warned || memmem::find(buf, b"\nwarning ").is_some();
         let written = self.out.write(buf);
         match &written {
             Ok(count) => self.count = self.count.saturating_add(*count),

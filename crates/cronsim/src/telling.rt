@@ -6,6 +6,7 @@ use cj_program::{
     CheckRequest, ExitStatus, Failure, Meter, Request, ZoneFile, fault_places, serve, shape_words,
     tell_failure,
 };
+use memchr::memmem;
 use std::fs::metadata;
 use std::io;
 use std::io::{IsTerminal, Write};
@@ -17,6 +18,13 @@ use std::thread::Threads;
 pub struct Served {
     pub status: ExitStatus,
     pub said: Vec<u8>,
+}
+
+impl Served {
+    /// Whether what is refused is a word of the request, and no input.
+    pub fn is_of_words(&self) -> bool {
+        self.said.as_slice().starts_with(b"cronsim: ")
+    }
 }
 
 /// Whether people read what is said.
@@ -53,14 +61,20 @@ pub fn tell(rt: &HostRuntime, served: &Served, is_closed: bool) -> ExitStatus {
     ExitStatus::Failed
 }
 
+// Whether a line is there and isn't among those that were said.
+fn is_fresh(line: &[u8], said: &[u8]) -> bool {
+    !line.is_empty() && memmem::find(said, line).is_none()
+}
+
 /// Says what a second answer has to say and the first hadn't.
 pub fn tell_more(rt: &HostRuntime, first: &Served, second: &Served) {
-    let (first, second) = (first.said.as_slice(), second.said.as_slice());
-    let more = match second.strip_prefix(first) {
-        Some(more) => more,
-        None => second,
-    };
-    let _ = rt.stderr().write_all(more);
+    let said = first.said.as_slice();
+    for line in second.said.as_slice().split(|byte| *byte == b'\n') {
+        if is_fresh(line, said) {
+            let _ = rt.stderr().write_all(line);
+            let _ = rt.stderr().write_all(b"\n");
+        }
+    }
 }
 
 /// The request with its refusal explained.
@@ -83,12 +97,14 @@ pub fn explain(request: &mut Request<'_>) {
     }
 }
 
-/// Whether people are to be told why a request was refused: they read what is said, nobody asked
-/// for it already, and standard output has none of the answer. `check` has refusals there.
+/// Whether people are to be told why a request was refused, or what it is warned of: they read what
+/// is said, nobody asked for it already, and standard output has none of the answer. `check` has
+/// refusals and warnings there.
 pub fn wants_why(rt: &HostRuntime, request: &Request<'_>, served: &Served, out: &Output) -> bool {
-    let is_refused = served.status == ExitStatus::Refused && !request.explains();
-    let is_whole = out.is_empty() || matches!(request, Request::Check(_));
-    is_refused && is_whole && at_terminal(rt)
+    let is_check = matches!(request, Request::Check(_));
+    let is_refused = served.status == ExitStatus::Refused && (is_check || out.is_empty());
+    let is_warned = served.status == ExitStatus::Success && is_check && out.has_warned();
+    !request.explains() && (is_refused || is_warned) && at_terminal(rt)
 }
 
 // Whether people are to be told of the items that are refused: they read what is said, and nobody
@@ -100,10 +116,9 @@ fn wants_items(rt: &HostRuntime, request: &Request<'_>, served: &Served, out: &O
 
 // Says what a second answer has to say of items and the first hadn't.
 fn tell_items(rt: &HostRuntime, first: &Served, second: &Served) {
-    let (first, second) = (first.said.as_slice(), second.said.as_slice());
-    let more = second.strip_prefix(first).unwrap_or(second);
-    for line in more.split(|byte| *byte == b'\n') {
-        if line.starts_with(b"item ") {
+    let said = first.said.as_slice();
+    for line in second.said.as_slice().split(|byte| *byte == b'\n') {
+        if line.starts_with(b"item ") && is_fresh(line, said) {
             let _ = rt.stderr().write_all(line);
             let _ = rt.stderr().write_all(b"\n");
         }
@@ -170,6 +185,19 @@ pub fn tell_shape(rt: &HostRuntime, request: &Request<'_>, status: ExitStatus, b
     }
     let file = request.file().unwrap_or("FILE");
     let _ = write!(&mut rt.stderr(), "{file}: {words}");
+}
+
+/// Says to people who give a manifest for a crontab what reads manifests.
+pub fn tell_manifest(rt: &HostRuntime, request: &Request<'_>, status: ExitStatus, bytes: &[u8]) {
+    let is_wanted = request.explains() || at_terminal(rt);
+    let is_manifest = memmem::find(bytes, b"apiVersion:").is_some();
+    if status == ExitStatus::Refused && is_manifest && is_wanted {
+        let file = request.file().unwrap_or("FILE");
+        let _ = writeln!(
+            &mut rt.stderr(),
+            "{file}: it looks like a manifest; cronsim check reads those"
+        );
+    }
 }
 
 /// Says to people where the faults of manifests stand in the text that was read. That is looked at

@@ -291,8 +291,7 @@ fn may_lack_zone(rt: &HostRuntime, request: &Request<'_>, served: &Served) -> bo
     let is_wanted = request.explains() || at_terminal(rt);
     let is_refused = served.status == ExitStatus::Refused;
     let is_input = request.zones().is_some() || request.file().is_some();
-    let is_of_words = served.said.as_slice().starts_with(b"cronsim: ");
-    is_wanted && is_refused && (lacks_zone(served) || is_input && !is_of_words)
+    is_wanted && is_refused && (lacks_zone(served) || is_input && !served.is_of_words())
 }
 
 /// Says to people which zones a refused request asks for and nobody knows: that there is no folder
