@@ -11,7 +11,8 @@ SVG = "{http://www.w3.org/2000/svg}"
 
 
 class Document(HTMLParser):
-    """What a page has: its findings (`found`), how many there are of a kind (`kinds`), and its text
+    """What a page has: its findings (`found`), how many there are of a kind (`kinds`), what it says
+    of the CronJobs that want a look (`looks`), those that its table marks (`marked`), and its text
     without markup. What is wrong with it is put into `wrong`."""
 
     def __init__(self, html, wrong):
@@ -19,6 +20,7 @@ class Document(HTMLParser):
         self.html, self.wrong = html, wrong
         self.open, self.ids, self.levels = [], [], []
         self.text, self.found, self.kinds, self.tables = "", [], {}, {}
+        self.looks, self.marked = [], []
         self.pictures, self.section = {}, None
         self.cell, self.item, self.skipped = None, None, False
         self.feed(html)
@@ -41,7 +43,9 @@ class Document(HTMLParser):
             self.tables[self.section].append([])
         if tag in ("td", "th") and "tbody" in self.open:
             self.cell = ""
-        if tag == "li" and self.section == "findings" and self.kinds:
+        if tag == "td" and given.get("class") == "look":
+            self.marked.append(self.tables[self.section][-1][0])
+        if tag == "li" and (self.section == "look" or self.section == "findings" and self.kinds):
             self.item = ""
         if tag == "span" and given.get("class") == "jobs":
             self.skipped = True
@@ -73,8 +77,11 @@ class Document(HTMLParser):
             self.tables[self.section][-1].append(self.cell.strip())
             self.cell = None
         if tag == "li" and self.item is not None:
-            self.found.append(self.item.strip())
-            self.kinds[list(self.kinds)[-1]] += 1
+            if self.section == "look":
+                self.looks.append(self.item.strip())
+            else:
+                self.found.append(self.item.strip())
+                self.kinds[list(self.kinds)[-1]] += 1
             self.item = None
         if tag == "span":
             self.skipped = False

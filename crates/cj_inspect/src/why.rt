@@ -10,7 +10,7 @@ ghost use Rattle.cj_inspect.specs.Nights.{TellsNights};
 ghost use Rattle.cj_inspect.specs.declared.nights.look.Look.TheVariants.{Around};
 ghost use Rattle.cj_inspect.specs.Why.{IsListReviewed, IsReviewed, IsPrinted, IsWhole, IsWhyAnswer, IsWhyOutcome, PrintsKnown, RefusesCron, TellsClocks, TellsReasons, TellsReview, is_full, is_lines, is_nothing, is_output, meant_of, output_words};
 
-mod failures;
+pub(crate) mod failures;
 pub(crate) mod lines;
 pub(crate) mod naming;
 pub(crate) mod notices;

@@ -12,7 +12,7 @@ mod since;
 mod start;
 
 pub use reviews::{
-    CronRow, Reviewed, Verdict, cron_rows, cron_values, found, listed, plan_of, plan_text,
-    plan_value, problems, review, table_text, zone_copy, zone_of,
+    CronRow, Reviewed, Verdict, cron_rows, cron_values, found, is_problem, listed, plan_of,
+    plan_text, plan_value, problems, review, table_text, zone_copy, zone_of,
 };
 pub use start::why;

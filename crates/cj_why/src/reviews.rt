@@ -21,5 +21,5 @@ pub use rows::{CronRow, cron_rows, problems};
 pub use seen::{found, listed};
 pub use steps_text::plan_text;
 pub use table::table_text;
-pub use verdict::Verdict;
+pub use verdict::{Verdict, is_problem};
 pub use zone_for::{zone_copy, zone_of};

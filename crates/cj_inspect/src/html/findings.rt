@@ -148,7 +148,7 @@ pub(crate) fn push_found(
     push_alone(text, alone)?;
     if findings.is_empty() {
         text.push_str(
-            "<p>None: no Job is double, overlapping, early, undue or without its CronJob, no due time between Jobs lacks one, and no CronJob is stuck.</p>\n",
+            "<p>None of what audit looks for: no Job is double, overlapping, early, undue or without its CronJob, no due time between Jobs lacks one, and no CronJob is stuck. A Job that failed is no finding, nor is a time missed since the last Job.</p>\n",
         )?;
     }
     push_groups(alloc, text, findings)?;

@@ -16,14 +16,18 @@ pub(crate) struct Counts {
     pub(crate) crons: usize,
     pub(crate) jobs: usize,
     pub(crate) findings: usize,
+    /// How many CronJobs want a look.
+    pub(crate) looks: u64,
 }
 
 // The head of the document, with its title.
 fn push_document(alloc: Global, text: &mut String, now: &str, counts: Counts) -> Result<(), Refusal>
     ensures err { IfErr result (λ e. e ≡ OutOfMemory) }
 {
-    let findings = counts.findings;
-    let title = format!(in alloc; "<title>CronJobs at {now}, findings: {findings}</title>\n")?;
+    let (findings, looks) = (counts.findings, counts.looks);
+    let title = format!(in alloc;
+        "<title>CronJobs at {now}, findings: {findings}, to look at: {looks}</title>\n"
+    )?;
     text.push_str(HEAD)?;
     text.push_str(title.as_str())?;
     text.push_str("<style>\n")?;
@@ -58,9 +62,10 @@ fn push_files(text: &mut String, files: &[&str]) -> Result<(), AllocError> {
 }
 
 fn push_counts(alloc: Global, text: &mut String, counts: Counts) -> Result<(), AllocError> {
-    let (crons, jobs, findings) = (counts.crons, counts.jobs, counts.findings);
+    let (crons, jobs) = (counts.crons, counts.jobs);
+    let (findings, looks) = (counts.findings, counts.looks);
     let words = format!(in alloc;
-        "<dt>CronJobs</dt><dd>{crons}</dd>\n<dt>Jobs</dt><dd>{jobs}</dd>\n<dt>Findings</dt><dd>{findings}</dd>\n"
+        "<dt>CronJobs</dt><dd>{crons}</dd>\n<dt>CronJobs to look at</dt><dd>{looks}</dd>\n<dt>Jobs</dt><dd>{jobs}</dd>\n<dt>Findings</dt><dd>{findings}</dd>\n"
     )?;
     text.push_str(words.as_str())
 }
@@ -78,6 +83,7 @@ fn push_passed(alloc: Global, text: &mut String, passed: &str) -> Result<(), All
 }
 
 const LINKS: &str = "<nav aria-label=\"Sections\">
+<a href=\"#look\">CronJobs that want a look</a>
 <a href=\"#findings\">Findings</a>
 <a href=\"#cronjobs\">CronJobs</a>
 <a href=\"#jobs\">Jobs over time</a>

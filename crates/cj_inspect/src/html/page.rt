@@ -9,7 +9,9 @@ use crate::html::day::push_day;
 use crate::html::findings::push_found;
 use crate::html::head::{Counts, push_head};
 use crate::html::jobs::push_jobs;
+use crate::html::looks::push_looks;
 use crate::html::nights::push_changes;
+use crate::html::seen::{SeenCron, look_count, seen_crons};
 use crate::html::since::findings_since;
 use crate::html::style::FOOT;
 use cj_audit::Finding;
@@ -37,16 +39,17 @@ pub struct Subject<'a> {
 fn counts_of(
     alloc: Global,
     cluster: &Cluster,
-    crons: usize,
+    seen: &[SeenCron],
     findings: usize,
 ) -> Result<Counts, Refusal>
     ensures err { IfErr result (λ e. e ≡ OutOfMemory) }
 {
     let jobs = cluster.jobs(alloc)?;
     Ok(Counts {
-        crons,
+        crons: seen.len(),
         jobs: jobs.as_slice().len(),
         findings,
+        looks: look_count(seen),
     })
 }
 
@@ -57,6 +60,7 @@ fn push_sections(
     zones: &ZoneTable,
     cluster: &Cluster,
     findings: &[Finding],
+    seen: &[SeenCron],
     subject: &Subject<'_>,
 ) -> Result<(), Refusal>
     requires { local_zone zones.now ≡ Some (utc_zone (codes "UTC")) }
@@ -65,18 +69,19 @@ fn push_sections(
     let now = subject.now;
     let crons = cluster.crons(alloc)?;
     let crons = crons.as_slice();
+    push_looks(alloc, text, seen)?;
     push_found(alloc, text, cluster, findings, subject.alone)?;
-    push_crons(alloc, text, zones, cluster, crons, now)?;
+    push_crons(alloc, text, zones, seen)?;
     push_jobs(alloc, text, cluster, subject.since, findings)?;
     push_day(alloc, text, zones, crons, now)?;
     push_changes(alloc, text, zones, crons, now, subject.since)
 }
 
 /// A page on a cluster at a moment, as HTML that needs nothing from elsewhere: when it is of, of
-/// which files, and what was passed over; these findings of `cj_audit`, kind by kind, each with its
-/// sentence, and what to do; a table of the CronJobs; the Jobs over time; what starts in the day to
-/// come; and the local times that a clock skips, or shows twice, from a week before to a year from
-/// then on, and that a schedule names.
+/// which files, and what was passed over; the CronJobs that want a look; these findings of
+/// `cj_audit`, kind by kind, each with its sentence, and what to do; a table of the CronJobs; the
+/// Jobs over time; what starts in the day to come; and the local times that a clock skips, or shows
+/// twice, from a week before to a year from then on, and that a schedule names.
 ///
 /// # Errors
 ///
@@ -94,10 +99,12 @@ pub fn page_text(
     let findings = findings_since(alloc, subject.since, findings)?;
     let findings = findings.as_slice();
     let crons = cluster.crons(alloc)?;
-    let counts = counts_of(alloc, cluster, crons.as_slice().len(), findings.len())?;
+    let seen = seen_crons(alloc, zones, cluster, crons.as_slice(), subject.now)?;
+    let seen = seen.as_slice();
+    let counts = counts_of(alloc, cluster, seen, findings.len())?;
     let mut text = String::new(alloc);
     push_head(alloc, &mut text, subject, counts)?;
-    push_sections(alloc, &mut text, zones, cluster, findings, subject)?;
+    push_sections(alloc, &mut text, zones, cluster, findings, seen, subject)?;
     text.push_str(FOOT)?;
     Ok(text)
 }

@@ -5,12 +5,13 @@ ghost use Rattle.cj_zone.specs.Table.{local_zone, zones_of};
 ghost use Rattle.cj_zone.specs.Zones.{utc_zone};
 
 use crate::html::clock::clock_text;
+use crate::html::seen::SeenCron;
 use crate::html::text::{push_between, push_cell, push_lines, push_text};
 use cj_due::Missed;
 use cj_schedule::Schedule;
 use cj_types::{CronJob, CronSpec, Policy, Refusal, Seconds, Text};
 use cj_upcoming::sentence;
-use cj_why::{CronRow, Verdict, zone_of};
+use cj_why::{CronRow, zone_of};
 use cj_zone::{ZoneTable, local, time_text};
 use std::alloc::{AllocError, Global};
 
@@ -109,40 +110,31 @@ fn push_missed(alloc: Global, text: &mut String, missed: Missed) -> Result<(), A
     }
 }
 
-// Whether nobody need look at a CronJob with that verdict: the verdicts are those of which `why
-// --problems` has no row. How many times were missed, which it looks at too, has its own column.
-fn is_calm(verdict: Verdict) -> bool {
-    match verdict {
-        Verdict::Starts
-        | Verdict::Replaces
-        | Verdict::NothingMissed
-        | Verdict::Suspended
-        | Verdict::Deleting => true,
-        Verdict::SkippedRunning
-        | Verdict::NameTaken
-        | Verdict::LacksJobs
-        | Verdict::NeverInTime
-        | Verdict::NeverDue
-        | Verdict::ZoneUnknown
-        | Verdict::TooLate
-        | Verdict::Stuck => false,
+// Which of the CronJob's Jobs failed, where some did.
+fn push_failed(text: &mut String, failed: &str) -> Result<(), AllocError> {
+    if failed.is_empty() {
+        return Ok(());
     }
+    push_between(text, "\n<p>", failed, "</p>\n")
 }
 
-// Why, in a word, and the reasons behind it. The first of their lines names the CronJob again.
-fn push_why(text: &mut String, row: &CronRow) -> Result<(), AllocError> {
-    let open = if is_calm(row.verdict) {
-        "<td data-column=\"Why\"><details><summary>"
-    } else {
+// Why, in a word, and the reasons behind it, of which the first line names the CronJob again; with
+// a mark where it wants a look.
+fn push_why(text: &mut String, seen: &SeenCron) -> Result<(), AllocError> {
+    let open = if seen.wants_look {
         "<td data-column=\"Why\" class=\"look\"><details><summary>"
+    } else {
+        "<td data-column=\"Why\"><details><summary>"
     };
-    let words = row.words.as_str();
+    let words = seen.row.words.as_str();
     let reasons = words.split_once('\n').unwrap_or(("", words)).1;
     text.push_str(open)?;
-    push_text(text, row.verdict.text())?;
+    push_text(text, seen.row.verdict.text())?;
     text.push_str("</summary>\n")?;
     push_lines(text, "<p>", reasons, "</p>\n")?;
-    text.push_str("</details></td>\n")
+    text.push_str("</details>")?;
+    push_failed(text, seen.failed.as_str())?;
+    text.push_str("</td>\n")
 }
 
 // The cells on times.
@@ -168,19 +160,19 @@ pub(crate) fn push_row(
     alloc: Global,
     text: &mut String,
     zones: &ZoneTable,
-    row: &CronRow,
+    seen: &SeenCron,
 ) -> Result<(), Refusal>
     requires { local_zone zones.now ≡ Some (utc_zone (codes "UTC")) }
     ensures err { IfErr result (λ e. e ≡ OutOfMemory) }
 {
-    let cron = row.cron.get().cron.get();
+    let cron = seen.row.cron.get().cron.get();
     let spec = cron.spec.get();
     text.push_str("<tr>\n")?;
     push_name(text, cron)?;
     push_schedule(alloc, text, spec)?;
     push_cell(text, "Zone", zone_name(&spec.time_zone))?;
     push_cell(text, "Policy", policy_words(spec))?;
-    push_times(alloc, text, zones, row)?;
-    push_why(text, row)?;
+    push_times(alloc, text, zones, &seen.row)?;
+    push_why(text, seen)?;
     Ok(text.push_str("</tr>\n")?)
 }

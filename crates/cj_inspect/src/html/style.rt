@@ -39,7 +39,7 @@ th,td{text-align:left;vertical-align:top;padding:.35rem .6rem;border-bottom:1px 
 thead th{background:var(--ground);white-space:nowrap}
 tbody th{overflow-wrap:anywhere;min-width:9rem}
 td[data-column^=Last],td[data-column^=Next],td[data-column^=When]{white-space:nowrap;font-variant-numeric:tabular-nums}
-.look summary{color:var(--mark);font-weight:600}
+.look summary,.look>p{color:var(--mark);font-weight:600}
 td[data-column=Schedule]{min-width:8.5rem}
 td>code{display:block;white-space:nowrap}
 td summary{white-space:nowrap}

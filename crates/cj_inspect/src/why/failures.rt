@@ -10,7 +10,8 @@ use cj_cluster::{Cluster, ClusterCron, JobTimes};
 use cj_types::{Job, Outcome, Refusal, Seconds, Shared};
 use std::alloc::{AllocError, Global};
 
-fn is_failed(job: &Job) -> bool
+/// Whether the Job failed.
+pub(crate) fn is_failed(job: &Job) -> bool
     ensures { result ≡ is_failed job.now }
 {
     matches!(job.outcome, Some(Outcome::Failed))
@@ -42,7 +43,8 @@ fn failed_among(
     Ok(failed)
 }
 
-fn failures(
+/// Those of a cluster's Jobs that are the CronJob's and failed, in the order of their names.
+pub(crate) fn failures(
     alloc: Global,
     cluster: &Cluster,
     cron: &ClusterCron,
@@ -86,8 +88,8 @@ fn later<'a>(cluster: &Cluster, last: &'a Shared<Job>, job: &'a Shared<Job>) -> 
     }
 }
 
-// The last of these Jobs, which are in the order of their names.
-fn last_of<'a>(
+/// The last of these Jobs, which are in the order of their names.
+pub(crate) fn last_of<'a>(
     cluster: &Cluster,
     first: &'a Shared<Job>,
     others: &'a [Shared<Job>],
@@ -115,8 +117,8 @@ fn count_line(
     format!(in alloc; "{namespace}/{name}: {count} of its Jobs in the list failed, last {last}\n")
 }
 
-// A line where there are such.
-fn failed_line(
+/// A line where there are such.
+pub(crate) fn failed_line(
     alloc: Global,
     cluster: &Cluster,
     cron: &ClusterCron,

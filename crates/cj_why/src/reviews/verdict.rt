@@ -237,7 +237,7 @@ fn is_behind(now: Seconds, missed: Missed) -> bool
 }
 
 /// Whether a CronJob of that verdict, which missed that number of times by a moment, wants a look.
-pub(crate) fn is_problem(verdict: Verdict, now: Seconds, missed: Missed) -> bool
+pub fn is_problem(verdict: Verdict, now: Seconds, missed: Missed) -> bool
     ensures { result ≡ is_problem verdict now missed }
 {
     match verdict {
