@@ -449,7 +449,7 @@ fn serve_zoned<T: Threads + Wait + Clock + Sync>(
         tell_skipped(rt, moment);
         tell_skipped(rt, end);
     }
-    if is_unshown {
+    if is_unshown && status == ExitStatus::Success {
         tell_unshown(rt);
     }
     Ok(status)

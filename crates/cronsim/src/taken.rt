@@ -1,15 +1,13 @@
-use cj_program::{Failure, JsonInput, json_input, marked};
+use cj_program::{Failure, JsonInput, json_input};
 use std::io::Write;
 
 // Says lines to people, each behind the name of the file that they are about, if it is given.
-fn say(rt: &HostRuntime, name: Option<&str>, lines: &str) -> Result<(), Failure> {
-    let alloc = rt.alloc();
-    let lines = match name {
-        Some(name) => marked(alloc, format!(in alloc; "{name}: ")?.as_str(), lines)?,
-        None => String::from_str(alloc, lines)?,
-    };
-    let _ = rt.stderr().write_all(lines.as_bytes());
-    Ok(())
+fn say(rt: &HostRuntime, name: Option<&str>, lines: &str) {
+    let name = name.unwrap_or("FILE");
+    for line in lines.lines() {
+        let rest = line.strip_prefix("FILE: ").unwrap_or(line);
+        let _ = writeln!(&mut rt.stderr(), "{name}: {rest}");
+    }
 }
 
 /// What the commands take for the bytes of an input: JSON of its objects. What there is to be said
@@ -22,7 +20,7 @@ pub fn json_of(
 ) -> Result<Vec<u8>, Failure> {
     let JsonInput { bytes, said } = json_input(rt.alloc(), bytes)?;
     if is_first && !said.is_empty() {
-        say(rt, name, said.as_str())?;
+        say(rt, name, said.as_str());
     }
     Ok(bytes)
 }
