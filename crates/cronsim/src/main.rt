@@ -159,7 +159,7 @@ fn serve_with_folder<T: Threads + Wait + Sync>(
     match read_input(rt.alloc(), input, most, reads) {
         Ok(bytes) => {
             let source = kept_source(rt, request, bytes.as_slice())?;
-            let bytes = json_of(rt, None, bytes, true)?;
+            let bytes = json_of(rt, bytes)?;
             let bytes = bytes.as_slice();
             let files = request_files(rt, request, folder, bytes)?;
             let served = serve_on(threads, rt, request, files.as_slice(), Some(bytes), meter);

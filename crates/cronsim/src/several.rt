@@ -1,7 +1,7 @@
 use crate::folder::{input_files, push_clock_file, push_input_files};
 use crate::source::Input;
 use crate::streams::Output;
-use crate::taken::json_of;
+use crate::taken::{Taken, named_json, tell_others};
 use crate::telling::{Served, at_terminal, tell, tell_more};
 use cj_program::{
     CheckRequest, CronFile, ExitStatus, Failure, FileAnswer, MOST_BYTES, MOST_LIST_BYTES,
@@ -33,6 +33,8 @@ struct Told {
     lines: Vec<u8>,
     // (whether nothing was told of the files yet)
     is_first: bool,
+    // (how many objects of other kinds are passed over)
+    others: u64,
 }
 
 // Adds what people are told of a file that was read: what it is, and where its faults stand.
@@ -68,7 +70,8 @@ fn bytes_answer<'a>(
     } else {
         Vec::new(alloc)
     };
-    let bytes = json_of(rt, Some(name), bytes, told.is_first)?;
+    let Taken { bytes, others } = named_json(rt, name, bytes, told.is_first)?;
+    told.others = told.others.saturating_add(others);
     let files = input_files(rt, folder, bytes.as_slice())?;
     let answer = check_file_answer(alloc, check, name, files.as_slice(), &mut bytes.as_slice())?;
     if check.explain {
@@ -114,12 +117,16 @@ fn check_all<W: Write>(
     let mut told = Told {
         lines: Vec::new(alloc),
         is_first,
+        others: 0,
     };
     for name in check.files.as_slice() {
         answers.push(answer_of(rt, check, folder, name, &mut told)?)?;
     }
     let mut said = Vec::new(alloc);
     let status = serve_several(alloc, check, answers.as_slice(), out, &mut said);
+    if is_first {
+        tell_others(told.others, &mut said);
+    }
     if check.explain || at_terminal(rt) {
         let _ = said.write_all(told.lines.as_slice());
     }
@@ -150,11 +157,11 @@ pub fn serve_files(
     Ok(status)
 }
 
-// All bytes of one of several files; none where it can't be read, which standard error says.
-fn bytes_of(rt: &HostRuntime, name: &str) -> Result<Option<Vec<u8>>, Failure> {
+// What is taken of one of several files; none where it can't be read, which standard error says.
+fn bytes_of(rt: &HostRuntime, name: &str) -> Result<Option<Taken>, Failure> {
     let mut input = Input::open(rt, Some(name));
     match read_input(rt.alloc(), &mut input, MOST_LIST_BYTES, MOST_LIST_READS) {
-        Ok(bytes) => Ok(Some(json_of(rt, Some(name), bytes, true)?)),
+        Ok(bytes) => Ok(Some(named_json(rt, name, bytes, true)?)),
         Err(Failure::Memory) => Err(Failure::Memory),
         Err(failure) => {
             let err = &mut rt.stderr();
@@ -169,12 +176,17 @@ fn bytes_of(rt: &HostRuntime, name: &str) -> Result<Option<Vec<u8>>, Failure> {
 // The bytes of all files; none where one can't be read.
 fn all_bytes(rt: &HostRuntime, names: &[&str]) -> Result<Option<Vec<Vec<u8>>>, Failure> {
     let mut all = Vec::new(rt.alloc());
+    let mut count: u64 = 0;
     for name in names {
         match bytes_of(rt, name)? {
-            Some(bytes) => all.push(bytes)?,
+            Some(Taken { bytes, others }) => {
+                all.push(bytes)?;
+                count = count.saturating_add(others);
+            }
             None => return Ok(None),
         }
     }
+    tell_others(count, &mut rt.stderr());
     Ok(Some(all))
 }
 
