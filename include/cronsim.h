@@ -34,7 +34,7 @@
  * Give a handle to one call at a time, even to one that only looks for times, which keeps what is
  * in it: where threads look at once, each opens a handle of its own. A handle may move to another
  * thread if you order that, by a lock or a join. Don't call from a signal handler, nor in
- * the forked child of a process that has threads. No call was seen to take more than 81 KiB of
+ * the forked child of a process that has threads. No call was seen to take more than 112 KiB of
  * stack, even for JSON that nests as deep as it may.
  */
 #ifndef CRONSIM_H

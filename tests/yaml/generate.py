@@ -6,8 +6,8 @@ documents. `mutated(random, text)` changes some of its bytes.
 """
 WORDS = """
 app web nginx:1.25 schedule image a b-c name/with.dots x_y cron.example.com yes no on off true null
-~ 1 -5 0644 0x1f 0o17 1.5 1e3 .5 5. 12:30 2024-01-01 007 1_000 0b11 +3 -0 9223372036854775808
-18446744073709551616 1.7976931348623157e308 y n NULL False .5e-3 089
+~ 1 -5 0644 0x1f 0o17 1.5 1e3 .5 5. 12:30 2024-01-01 007 1_000 -_1 0X1F 0b11 +3 -0
+9223372036854775808 18446744073709551616 1.7976931348623157e308 y n NULL False .5e-3 089
 """.split()
 TEXTS = """
  | |a b|a: b|a #b|- a|? a|#a|'|"|\\|a~b|a~|~a|a~~|  a~b|a ~b|\ta|a\tb|é|日本語|\U0001f600

@@ -5,3 +5,4 @@ pub mod Depth
 pub mod ListLemmas
 pub mod ItemLemmas
 pub mod TextLemmas
+pub mod StreamLemmas

@@ -9,3 +9,4 @@ pub mod Named
 pub mod Objects
 pub mod Reading
 pub mod Texts
+pub mod Streamed

@@ -17,6 +17,7 @@ mod owners;
 mod read;
 mod runs;
 mod status;
+mod streamed;
 mod texts;
 mod times;
 mod typed;

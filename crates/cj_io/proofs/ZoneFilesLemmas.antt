@@ -1,3 +1,4 @@
 pub mod FileNames
 pub mod Rules
 pub mod Files
+pub mod Pruned

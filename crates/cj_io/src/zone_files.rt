@@ -6,6 +6,7 @@ mod given;
 mod name_list;
 mod named;
 mod pair;
+mod pruned;
 mod refused;
 mod table;
 

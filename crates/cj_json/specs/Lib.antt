@@ -2,3 +2,4 @@ pub mod Parts
 pub mod Named
 pub mod Objects
 pub mod Values
+pub mod Tokens

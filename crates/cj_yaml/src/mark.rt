@@ -5,7 +5,7 @@ use thiserror::Error;
 #[derive(Clone, Copy, Debug, Error)]
 pub enum WarningKind {
     /// `yes`, `no`, `on`, `off`, `y` and `n`: texts here, booleans there.
-    #[error("a text here, but true or false in YAML 1.1, which the API server reads; quote it")]
+    #[error("a text here, but the API server reads a boolean; write true or false, or quote it")]
     Boolean,
     /// `0644`: read as octal, as the API server does. YAML 1.2 has it decimal.
     #[error("read as octal, as the API server does")]

@@ -212,18 +212,33 @@ fn is_fraction(bytes: &[u8]) -> bool {
     }
 }
 
-// `1_000` and `0b11`, behind a sign: numbers of YAML 1.1 alone.
+// Whether bytes are digits to that base, with underscores among them.
+fn are_gapped(bytes: &[u8], radix: u32) -> bool
+    requires low { 2 ≤ radix }
+    requires high { radix ≤ 36 }
+{
+    !bytes.is_empty()
+        && bytes
+            .iter()
+            .all(|b| *b == b'_' || char::from(*b).is_digit(radix))
+}
+
+// `1_000`, `0b11`, `0X1F` and, behind a sign, `_1`: numbers of YAML 1.1 alone.
 fn is_old_number(bytes: &[u8]) -> bool {
     match bytes {
-        [b'0', b'b', bits @ ..] => {
-            !bits.is_empty() && bits.iter().all(|b| matches!(*b, b'0' | b'1' | b'_'))
-        }
-        [b'0'..=b'9', rest @ ..] => {
-            rest.contains(&b'_')
-                && rest
-                    .iter()
-                    .all(|b| b.is_ascii_digit() || *b == b'_' || *b == b'.')
-        }
+        [b'0', b'b' | b'B', bits @ ..] => are_gapped(bits, 2),
+        [b'0', b'o' | b'O', octal @ ..] => are_gapped(octal, 8),
+        [b'0', b'x' | b'X', hex @ ..] => are_gapped(hex, 16),
+        [b'0'..=b'9' | b'_', ..] => is_gapped_number(bytes),
         _ => false,
     }
+}
+
+// Whether bytes are decimal digits, with an underscore and perhaps a point among them.
+fn is_gapped_number(bytes: &[u8]) -> bool {
+    bytes.contains(&b'_')
+        && bytes.iter().any(|b| b.is_ascii_digit())
+        && bytes
+            .iter()
+            .all(|b| b.is_ascii_digit() || *b == b'_' || *b == b'.')
 }

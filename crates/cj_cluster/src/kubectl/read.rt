@@ -14,6 +14,7 @@ use crate::kubectl::fault::ListFault;
 use crate::kubectl::item::read_item;
 use crate::kubectl::list::{ClusterList, add_item, empty_list};
 use crate::kubectl::lists::{items_of, text_at};
+use crate::kubectl::streamed::stream_list;
 use crate::kubectl::typed::{item_kind, typed_copy, unsaid_kind};
 use cj_types::{Refusal, Uid};
 use cj_zone::ZoneTable;
@@ -33,9 +34,9 @@ pub(crate) fn value_of(alloc: Global, bytes: &[u8]) -> Result<Value, ListFault>
     }
 }
 
-// Adds the item at a place; unchanged where there is no memory, as for a place past the greatest
-// number that an object may have.
-fn add_value(
+/// Adds the item at a place; unchanged where there is no memory, as for a place past the greatest
+/// number that an object may have.
+pub(crate) fn add_value(
     alloc: Global,
     list: &mut ClusterList,
     place: u64,
@@ -106,6 +107,21 @@ fn list_of(
     Ok(list)
 }
 
+// Reads the same as a whole, as a value.
+fn read_whole(alloc: Global, bytes: &[u8], zones: &ZoneTable) -> Result<ClusterList, ListFault>
+    ensures read { IfOk result (IsClusterList (zones_of zones.now) bytes.now) }
+    ensures refused { IfErr result (IsRefusedList bytes.now) }
+{
+    let value = value_of(alloc, bytes)?;
+    match items_of(&value) {
+        Some(items) => {
+            let version = text_at(&value, "apiVersion");
+            list_of(alloc, items, item_kind(&value), version, zones)
+        }
+        None => Err(ListFault::Form),
+    }
+}
+
 /// Reads what `kubectl get cronjobs,jobs -o json` prints, under the zones of a table: a list of
 /// objects, as `kind` says, or one CronJob or Job. In a list of one kind an item that says no kind
 /// is of the list's, and of its version.
@@ -125,12 +141,9 @@ pub fn read_cluster(
     ensures read { IfOk result (IsClusterList (zones_of zones.now) bytes.now) }
     ensures refused { IfErr result (IsRefusedList bytes.now) }
 {
-    let value = value_of(alloc, bytes)?;
-    match items_of(&value) {
-        Some(items) => {
-            let version = text_at(&value, "apiVersion");
-            list_of(alloc, items, item_kind(&value), version, zones)
-        }
-        None => Err(ListFault::Form),
+    match stream_list(alloc, bytes, zones) {
+        Ok(list) => Ok(list),
+        Err(Refusal::OutOfMemory) => Err(ListFault::Memory),
+        Err(_) => read_whole(alloc, bytes, zones),
     }
 }

@@ -5,6 +5,7 @@ ghost use Rattle.serde_json.specs.View.{view, items_view, members_view};
 ghost use Rattle.cj_io.specs.zone_files.Named.{AreZonesNamed, zone_in, zones_in, zones_in_items, zones_in_members};
 
 use crate::zone_files::name_list::ZoneNames;
+use crate::zone_files::pruned::pruned_value;
 use cj_base::{Refusal, Text};
 use serde_json::{Map, Value};
 use std::alloc::Global;
@@ -67,19 +68,37 @@ fn push_in_members(
     Ok(())
 }
 
+/// The names in a value, in their order. The only error is want of memory.
+pub(crate) fn names_in(alloc: Global, value: &Value) -> Result<ZoneNames, Refusal>
+    ensures ok { IfOk result (λ names. names ≡ zones_in (view value.now)) }
+    ensures memory { IfErr result (λ e. e ≡ OutOfMemory) }
+{
+    let mut names = ZoneNames::new(alloc);
+    push_zones(alloc, &mut names, value)?;
+    Ok(names)
+}
+
+// Reads the bytes as a whole, as a value.
+fn named_whole(alloc: Global, bytes: &[u8]) -> Result<ZoneNames, Refusal>
+    ensures named { IfOk result (λ names. AreZonesNamed bytes.now names) }
+    ensures memory { IfErr result (λ e. e ≡ OutOfMemory) }
+{
+    match Value::from_slice(alloc, bytes) {
+        Ok(value) => names_in(alloc, &value),
+        Err(error) if error.is_memory() => Err(Refusal::OutOfMemory),
+        Err(_) => Ok(ZoneNames::new(alloc)),
+    }
+}
+
 /// The texts of the members named `timeZone`, wherever they stand in the JSON value that the bytes
 /// are, in their order there; none where the bytes are no JSON. The only error is want of memory.
 pub fn zones_named(alloc: Global, bytes: &[u8]) -> Result<ZoneNames, Refusal>
     ensures named { IfOk result (λ names. AreZonesNamed bytes.now names) }
     ensures memory { IfErr result (λ e. e ≡ OutOfMemory) }
 {
-    let mut names = ZoneNames::new(alloc);
-    match Value::from_slice(alloc, bytes) {
-        Ok(value) => {
-            push_zones(alloc, &mut names, &value)?;
-            Ok(names)
-        }
-        Err(error) if error.is_memory() => Err(Refusal::OutOfMemory),
-        Err(_) => Ok(names),
+    match pruned_value(alloc, bytes) {
+        Ok(value) => names_in(alloc, &value),
+        Err(Refusal::OutOfMemory) => Err(Refusal::OutOfMemory),
+        Err(_) => named_whole(alloc, bytes),
     }
 }
