@@ -20,8 +20,6 @@ PATIENCE = 1800
 # A run over more instants than these takes half a minute on a build without proofs.
 MOST_INSTANTS = 600
 IS_QUICK = os.environ.get("QUICK") == "1"
-# A moment by the machine's clock.
-OFFSET = re.compile(r"now|[-+]\d+[smhdw]")
 # Where a fault of YAML stands, as the program itself says.
 PLACE = re.compile(r"^-:\d+:\d+: .*\n", re.M)
 BUILT = 'root=$1; . "$root/tools/common"; built'
@@ -68,19 +66,9 @@ def moment_of(words):
     return None
 
 
-def asks_clock(row):
-    """Whether the built program would look at the machine's clock, which the row's answer knows
-    nothing of."""
-    words = row["words"]
-    if words[:1] == ["next"] or not row["stderr"].startswith("cronsim: time"):
-        return False
-    named = any(word.partition("=")[0] in ("--now", "--from", "--after") for word in words)
-    return not named or bool(OFFSET.fullmatch(moment_of(words) or ""))
-
-
 def can_be_asked(row):
-    """Whether the built program can be given the row's words, and answers as the row does."""
-    return not any("\0" in word for word in row["words"]) and not asks_clock(row)
+    """Whether the built program can be given the row's words."""
+    return not any("\0" in word for word in row["words"])
 
 
 def left_out(usual, quick, what):

@@ -1,12 +1,10 @@
 //! Tests of the crates up to the controller's threads, which cost the gate most of what they cost
 //! but once.
 //!
-//! Of what stands below the world: the texts of uids, versions and Jobs' names, the Job that a
-//! CronJob makes, that copies and comparisons see each field, and the order of keys; instants,
-//! zones and due times (`times`), manifests (`manifests`), the store (`store`), the watch window
-//! and the mirror (`watch`), and the work queue (`queue`). Of what stands over it: the world
-//! (`world`), the hub (`hub`), syncs and workers (`worker`). And one sync of any number of
-//! controllers (`fence`).
+//! Of what stands below the world: zones and due times (`times`), manifests (`manifests`), the
+//! store (`store`), the watch window (`watch`) and the work queue (`queue`). Of what stands over
+//! it: the world (`world`), the hub (`hub`), syncs and workers (`worker`). And one sync of any
+//! number of controllers (`fence`).
 //!
 //! Here belongs what no row of data and no clause can show. A test's process ends with it, so what
 //! is slow to drop (a hub, a closing, an answer, passes) is let go of by `mem::forget`, and where
@@ -17,29 +15,13 @@
 #[cfg(test)]
 mod calls;
 #[cfg(test)]
-mod compared;
-#[cfg(test)]
-mod entries;
-#[cfg(test)]
 mod fence;
 #[cfg(test)]
 mod hub;
 #[cfg(test)]
 mod hubs;
-#[cfg(test)]
-mod jobs;
-#[cfg(test)]
-mod keys;
-#[cfg(test)]
-mod made;
 mod manifests;
-#[cfg(test)]
-mod numbers;
 mod queue;
-#[cfg(test)]
-mod rows;
-#[cfg(test)]
-mod samples;
 mod store;
 mod times;
 mod watch;

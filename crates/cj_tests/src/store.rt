@@ -1,7 +1,4 @@
-// Tests of the store: a worked row of calls, two thousand Jobs, ten thousand calls beside a plain
-// list, and plans that are made in turn.
-#[cfg(test)]
-mod ask;
+// Tests of the store: a worked row of calls, two thousand Jobs, and plans that are made in turn.
 #[cfg(test)]
 mod boxed;
 #[cfg(test)]
@@ -11,11 +8,7 @@ mod drafts;
 #[cfg(test)]
 mod listed;
 #[cfg(test)]
-mod plain;
-#[cfg(test)]
 mod planned;
-#[cfg(test)]
-mod random;
 #[cfg(test)]
 mod rows;
 #[cfg(test)]

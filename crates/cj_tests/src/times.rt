@@ -1,10 +1,8 @@
-// Tests of the values below the stored types, of zones and due times: what no command shows.
+// Tests of zones and due times: what no command shows.
 #[cfg(test)]
 mod counts;
 #[cfg(test)]
 mod lower_ends;
-#[cfg(test)]
-mod values;
 #[cfg(test)]
 mod windows;
 #[cfg(test)]

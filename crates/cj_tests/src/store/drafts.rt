@@ -1,11 +1,12 @@
-use crate::store::ask::{Ask, name_at, spec_at};
 use cj_base::{all_four, all_three, both};
 use cj_types::{
-    CronJobDraft, CronKey, CronSpec, CronStatus, DraftMeta, HistoryLimit, JobDraft, JobTemplate,
-    Key, Labels, Names, OwnerRef, OwnerRefs, Policy, Refusal, Seconds, Shared, SpecText, Text, Uid,
-    Version, version_text,
+    CronJobDraft, CronKey, CronSpec, DraftMeta, HistoryLimit, JobDraft, JobTemplate, Key, Labels,
+    OwnerRef, OwnerRefs, Policy, Refusal, Seconds, Shared, SpecText, Text, Version, version_text,
 };
 use std::alloc::Global;
+
+/// The name of the CronJob.
+pub const CRON: &str = "n0";
 
 pub fn seconds(count: u64) -> Result<Seconds, Refusal> {
     Seconds::new(count).ok_or(Refusal::Syntax)
@@ -18,21 +19,10 @@ fn version_given(alloc: Global, version: Option<u64>) -> Result<Option<Text>, Re
     }
 }
 
-fn uid_given(alloc: Global, count: Option<u64>) -> Result<Option<Text>, Refusal> {
-    match count {
-        Some(count) => {
-            let uid = Uid::new(count).ok_or(Refusal::Syntax)?;
-            Ok(Some(uid.text(alloc)?))
-        }
-        None => Ok(None),
-    }
-}
-
-fn meta(alloc: Global, ask: &Ask) -> Result<DraftMeta, Refusal> {
-    let (uid, version) = both(uid_given(alloc, ask.uid), version_given(alloc, ask.version))?;
+fn meta(alloc: Global, version: Option<u64>) -> Result<DraftMeta, Refusal> {
     Ok(DraftMeta {
-        uid,
-        version,
+        uid: None,
+        version: version_given(alloc, version)?,
         labels: Labels::new(alloc),
         annotations: Labels::new(alloc),
     })
@@ -64,30 +54,21 @@ fn shared_spec(alloc: Global, schedule: &str) -> Result<Shared<CronSpec>, Refusa
     Shared::new(alloc, cron_spec(alloc, schedule)?)
 }
 
-pub fn cron_draft(alloc: Global, ask: &Ask) -> Result<CronJobDraft, Refusal> {
+/// The CronJob with this schedule and no status, and the version that it carries.
+pub fn cron_draft(
+    alloc: Global,
+    schedule: &str,
+    version: Option<u64>,
+) -> Result<CronJobDraft, Refusal> {
     let (key, meta, spec) = all_three(
-        CronKey::new(alloc, "default", name_at(ask.name)),
-        meta(alloc, ask),
-        shared_spec(alloc, spec_at(ask.spec)),
+        CronKey::new(alloc, "default", CRON),
+        meta(alloc, version),
+        shared_spec(alloc, schedule),
     )?;
     Ok(CronJobDraft { key, meta, spec })
 }
 
-pub fn status(alloc: Global, time: u64) -> Result<CronStatus, Refusal> {
-    let time = seconds(time)?;
-    Ok(CronStatus {
-        active: Names::new(alloc),
-        last_schedule_time: Some(time),
-        last_successful_time: None,
-    })
-}
-
-fn one_owner(
-    alloc: Global,
-    name: &str,
-    uid: &str,
-    is_controller: bool,
-) -> Result<OwnerRefs, Refusal> {
+fn one_owner(alloc: Global, name: &str, uid: &str) -> Result<OwnerRefs, Refusal> {
     let (api_version, kind, name, uid) = all_four(
         Text::new(alloc, "batch/v1"),
         Text::new(alloc, "CronJob"),
@@ -100,40 +81,17 @@ fn one_owner(
         kind,
         name,
         uid,
-        controller: is_controller,
+        controller: true,
         block_owner_deletion: true,
     })?;
     Ok(owners)
-}
-
-fn owners(alloc: Global, place: usize) -> Result<OwnerRefs, Refusal> {
-    match place {
-        0 => Ok(OwnerRefs::new(alloc)),
-        1 => one_owner(alloc, "n0", "u", false),
-        _ => one_owner(alloc, name_at(place - 2), "u", true),
-    }
-}
-
-pub fn job_draft(alloc: Global, ask: &Ask) -> Result<JobDraft, Refusal> {
-    let (key, meta, owners, spec) = all_four(
-        Key::new(alloc, "default", name_at(ask.name)),
-        meta(alloc, ask),
-        owners(alloc, ask.owner),
-        spec_text(alloc, spec_at(ask.spec)),
-    )?;
-    Ok(JobDraft {
-        key,
-        meta,
-        owners,
-        spec,
-    })
 }
 
 // A Job that a CronJob of this name and uid controls.
 pub fn owned_draft(alloc: Global, name: &str, cron: &str, uid: &str) -> Result<JobDraft, Refusal> {
     let (key, owners, spec) = all_three(
         Key::new(alloc, "default", name),
-        one_owner(alloc, cron, uid, true),
+        one_owner(alloc, cron, uid),
         spec_text(alloc, "{}"),
     )?;
     Ok(JobDraft {

@@ -56,8 +56,8 @@ fn owners(alloc: Global) -> Result<OwnerRefs, Refusal> {
 
 type Head = Heap<(Key, SpecText)>;
 
-fn head(alloc: Global, name: &str) -> Result<Head, Refusal> {
-    let key = Key::new(alloc, "default", name)?;
+fn head(alloc: Global) -> Result<Head, Refusal> {
+    let key = Key::new(alloc, "default", "a")?;
     let text = Text::new(alloc, "{}")?;
     Heap::new(alloc, (key, SpecText::new(alloc, text)?))
 }
@@ -75,41 +75,18 @@ fn job_of(head: Head, meta: Meta, owners: OwnerRefs) -> Job
     }
 }
 
-pub fn job(alloc: Global, name: &str, version: u64) -> Result<Shared<Job>, Refusal>
+fn job(alloc: Global, version: u64) -> Result<Shared<Job>, Refusal>
     ensures { IfOk result (λ j. j.meta.version ≡ version) }
 {
-    let head = head(alloc, name)?;
+    let head = head(alloc)?;
     let owners = owners(alloc)?;
     Shared::new(alloc, job_of(head, meta(alloc, version)?, owners))
 }
 
-// An event of one of three kinds about one of two Jobs.
-pub fn event(alloc: Global, tag: u8, version: u64) -> Result<Event, Refusal>
+// The making of the Job.
+pub fn added(alloc: Global, version: u64) -> Result<Event, Refusal>
     ensures { IfOk result (λ e. version_of e ≡ version) }
 {
-    let name = if tag < 3 { "a" } else { "b" };
-    let object = Object::Job(job(alloc, name, version)?);
-    Ok(match tag % 3 {
-        0 => Event::Added(object),
-        1 => Event::Modified(object),
-        _ => Event::Deleted(object),
-    })
-}
-
-// 0 for the Job `a`, 3 for `b`, 6 for a CronJob.
-fn tag_of_object(object: &Object) -> u8 {
-    match object {
-        Object::Job(job) if job.key.name() == "a" => 0,
-        Object::Job(_) => 3,
-        Object::Cron(_) => 6,
-    }
-}
-
-// The tag of the event, from 0 to 5.
-pub fn tag_of(event: &Event) -> u8 {
-    match event {
-        Event::Added(object) => tag_of_object(object),
-        Event::Modified(object) => tag_of_object(object).saturating_add(1),
-        Event::Deleted(object) => tag_of_object(object).saturating_add(2),
-    }
+    let job = job(alloc, version)?;
+    Ok(Event::Added(Object::Job(job)))
 }
