@@ -1,11 +1,12 @@
-//! Makes calls on a hub and on worlds while somebody outside refuses requests for memory. The tests
-//! of refusals run it, with each request refused in turn. It prints nothing that they don't
-//! compare, and takes all that it does from the crates below.
+//! Makes calls on a hub and on worlds while somebody outside refuses requests for memory.
+//!
+//! Here belongs what tests/refusals runs to see that a refused call leaves all as it was, and is
+//! then made as usual. Nothing is built on it.
 //!
 //! Without arguments it makes eleven calls through one pass of a hub, and closes it. The exit
 //! status is the number of calls that were entered, 20 where there was no memory for a hub and a
 //! pass, 30 where the pass counts another number than was entered, and 31 where the hub isn't
-//! closed. So the tests can see that a refused call leaves pass and hub as they were.
+//! closed.
 //!
 //! With FILE PLACE CALL DETAIL it makes one call on a world, at the place of a step of the script
 //! in the file: `trials` says what is compared. It writes what the call is usually answered, then
