@@ -10,6 +10,7 @@ pub mod Nexts
 pub mod Entries
 pub mod Whole
 pub mod Lost
+pub mod Success
 pub mod Spared
 pub mod Runs
 pub mod Help

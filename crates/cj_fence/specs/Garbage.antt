@@ -46,6 +46,6 @@ abbrev pub IsCleared : Type 0
 IsCleared =
     (h es : List Told) (y : ℕ) (n : List ℕ) (c : Cron) (x : Row Job)
     → IsLegal (es ++ h) → AllFollow (es ++ h) → OthersKeepTo c.uid (es ++ h)
-    → own y h ≡ [] → Undisturbed y es h → IsGarbage h n c x
+    → own y h ≡ [] → Undisturbed c.uid y es h → IsGarbage h n c x
     → IsWhole c.uid (seen_of (own y (es ++ h)))
     → IsRemoved (look (state_of (es ++ h)).jobs (ref_of x))

@@ -1,6 +1,9 @@
 -- Help: whoever claimed a Job and then stopped, the next sync that nobody disturbs starts it.
 use Rattle.std.specs.Prelude.{◌⊎◌, ◌≡◌, ℕ, true, List, [], ◌∷◌, ◌++◌, Some}
 use Rattle.cj_fence.specs.declared.refs.Ref.{Ref}
+use Rattle.cj_fence.specs.declared.objects.Cron.{Cron}
+use Rattle.cj_fence.specs.declared.objects.Job.{Job}
+use Rattle.cj_fence.specs.declared.cluster.Cluster.{Cluster}
 use Rattle.cj_fence.specs.declared.answer.Answer.{Answer}
 use Rattle.cj_fence.specs.declared.answer.Answer.TheVariants as Is
 use Rattle.cj_fence.specs.declared.answer.Stamp.{Stamp}
@@ -8,9 +11,10 @@ use Rattle.cj_fence.specs.declared.sync.Sync.{Sync}
 use Rattle.cj_fence.specs.declared.call.Call.{Call}
 use Rattle.cj_fence.specs.declared.call.Call.TheVariants as Of
 use Rattle.cj_fence.specs.declared.sync.Sync.TheVariants.{Gone, Ready, Holding, Tidying}
+use Rattle.cj_fence.specs.Tables.{find}
 use Rattle.cj_fence.specs.Server.{served}
 use Rattle.cj_fence.specs.Protocol.{Own, seen_of, May}
-use Rattle.cj_fence.specs.History.{Deed, Asked, Wrote, Told, state_of, own, Claimed, claim_of, started, IsLegal, AllFollow}
+use Rattle.cj_fence.specs.History.{Deed, Asked, Wrote, Told, after, state_of, own, Claimed, claim_of, started, IsLegal, AllFollow}
 use Rattle.cj_fence.specs.Others.{OthersKeepTo}
 use Rattle.cj_fence.specs.Lost.{IsWaiting}
 
@@ -20,12 +24,42 @@ IsPlain y h t (Asked x call reached a) = (x ≡ y) × (reached ≡ true)
     × (a ≡ (served (state_of h) t call).answer)
 IsPlain y h t (Wrote w) = ⊥
 
--- entries behind a history that are all such calls of this sync: nobody else calls or writes
--- meanwhile
+-- a call of another sync, or a write of others
+abbrev pub IsOthers : ℕ → Deed → Type 0
+IsOthers y (Asked x call reached a) = x ≡ y → ⊥
+IsOthers y (Wrote w) = Unit {0}
+
+-- a Job stands under this name that has the metadata.uid of this one
+pub record StillStands (s : Cluster) (n : List ℕ) (j : Job) : Type 0 where
+  pub job : Job
+  pub stands : find n s.jobs ≡ Some job
+  pub uid : job.uid ≡ j.uid
+
+-- The CronJob of this uid stays as it is, and so does each held Job whose controller it is. Any
+-- other Job of it still stands: that it has finished may be written meanwhile, say.
 -- rule: helped
-abbrev pub Undisturbed : ℕ → List Told → List Told → Type 0
-Undisturbed y [] h = Unit {0}
-Undisturbed y (e ∷ es) h = IsPlain y (es ++ h) e.stamp e.deed × Undisturbed y es h
+pub record LeavesAlone (u : List ℕ) (old new : Cluster) : Type 0 where
+  pub cron : (n : List ℕ) (c : Cron) → find n old.crons ≡ Some c → c.uid ≡ u
+      → find n new.crons ≡ Some c
+  pub held : (n : List ℕ) (j : Job) → find n old.jobs ≡ Some j → j.owner ≡ u → j.held ≡ true
+      → find n new.jobs ≡ Some j
+  pub jobs : (n : List ℕ) (j : Job) → find n old.jobs ≡ Some j → j.owner ≡ u → StillStands new n j
+
+-- an entry of others beside this sync that leaves its CronJob alone: a reading, say, or whatever is
+-- about other CronJobs
+-- rule: helped
+pub record IsBeside (u : List ℕ) (y : ℕ) (s : Cluster) (t : Stamp) (d : Deed) : Type 0 where
+  pub others : IsOthers y d
+  pub leaves : LeavesAlone u s (after s t d)
+
+-- entries behind a history: each is such a call of this sync, or of others and leaves the CronJob
+-- of this uid alone
+-- rule: helped
+abbrev pub Undisturbed : List ℕ → ℕ → List Told → List Told → Type 0
+Undisturbed u y [] h = Unit {0}
+Undisturbed u y (e ∷ es) h =
+    (IsPlain y (es ++ h) e.stamp e.deed ⊎ IsBeside u y (state_of (es ++ h)) e.stamp e.deed)
+    × Undisturbed u y es h
 
 -- a sync that has come past all that was claimed before: it may claim, has claimed, or clears
 -- rule: helped
@@ -42,7 +76,7 @@ abbrev pub HelpLaw : Type 0
 HelpLaw =
     (h es : List Told) (y : ℕ) (r : Ref) (k : Claimed)
     → IsLegal (es ++ h) → AllFollow (es ++ h) → OthersKeepTo k.owner (es ++ h)
-    → own y h ≡ [] → Undisturbed y es h
+    → own y h ≡ [] → Undisturbed k.owner y es h
     → claim_of h r ≡ Some k → IsWaiting h r
     → HasLooked k.owner (seen_of (own y (es ++ h))) → started (es ++ h) r ≡ true
 
@@ -85,6 +119,6 @@ abbrev pub NeverStuck : Type 0
 NeverStuck =
     (u : List ℕ) (h es : List Told) (y : ℕ)
     → IsLegal (es ++ h) → AllFollow (es ++ h) → OthersKeepTo u (es ++ h)
-    → own y h ≡ [] → Undisturbed y es h → IsSyncOf u (own y (es ++ h))
+    → own y h ≡ [] → Undisturbed u y es h → IsSyncOf u (own y (es ++ h))
     → HasNext (seen_of (own y (es ++ h)))
     ⊎ (IsDone (seen_of (own y (es ++ h))) ⊎ HasExpired (own y (es ++ h)))

@@ -6,6 +6,7 @@ pub mod Protocol
 pub mod History
 pub mod Others
 pub mod Fence
+pub mod Success
 pub mod Lost
 pub mod Help
 pub mod Garbage

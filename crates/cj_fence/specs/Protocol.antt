@@ -19,7 +19,7 @@ use Rattle.cj_fence.specs.declared.sync.Sync.{Sync}
 use Rattle.cj_fence.specs.declared.sync.Sync.TheVariants.{Fresh, Looking, Ready, Holding, Starting, Tidying, Gone, Over}
 use Rattle.cj_fence.specs.Texts.{is_same}
 use Rattle.cj_fence.specs.Objects.{ref_of, is_ref, has_ref, named, without_ref, is_policy, waits, is_dead}
-use Rattle.cj_fence.specs.Server.{made}
+use Rattle.cj_fence.specs.Server.{made, with_claim, with_tidy}
 
 -- ---- what a sync has heard
 
@@ -157,11 +157,11 @@ is_deleted call answer = false
 
 -- the status that this sync claimed by
 abbrev pub has_claimed : At → Claim → List ℕ → At
-has_claimed at w v = record at { cron = record at.cron { version = v; last = w.time; active = w.active } }
+has_claimed at w v = record at { cron = with_claim w v at.cron }
 
 -- the status that this sync tidied
 abbrev pub has_tidied : At → Tidy → List ℕ → At
-has_tidied at w v = record at { cron = record at.cron { version = v; active = w.active } }
+has_tidied at w v = record at { cron = with_tidy w v at.cron }
 
 -- what runs once this sync has started its Job
 abbrev pub has_started : At → Held → At
@@ -256,15 +256,23 @@ pub record MayHold (at : At) (j : Job) : Type 0 where
   pub time : at.cron.last < j.time
   pub alone : lets_hold at.cron.policy at.alive ≡ true
 
--- step 4: the status without the dead, on the version read, where there are dead ones: a write that
--- changes nothing gets no version
+-- status.lastSuccessfulTime, where it is sent, is later than the one read (Kubernetes API
+-- reference, CronJobStatus: "when was the last time the job successfully completed")
+-- rule: last-success
+abbrev pub IsLater : Option ℕ → ℕ → Type 0
+IsLater None read = Unit {0}
+IsLater (Some sent) read = read < sent
+
+-- step 4: the status without the dead, on the version read, where there are dead ones or there is a
+-- later success: a write that changes nothing gets no version
 -- rule: fence-tidy
 pub record MayTidy (at : At) (w : Tidy) : Type 0 where
   pub name : w.name ≡ at.name
   pub uid : w.uid ≡ at.cron.uid
   pub version : w.version ≡ at.cron.version
   pub active : w.active ≡ at.alive
-  pub changes : w.active ≡ at.cron.active → ⊥
+  pub success : IsLater w.success at.cron.success
+  pub changes : w.success ≡ None → w.active ≡ at.cron.active → ⊥
 
 -- with no held Job at hand
 abbrev pub MayReady : At → Call → Type 0
@@ -274,8 +282,8 @@ MayReady at (Of.Tidy w) = MayTidy at w
 MayReady at Of.ListJobs = Unit {0}
 MayReady at call = ⊥
 
--- step 6: the claim, on the version read: the held Job's time, and in status.active all that runs
--- and the held Job
+-- step 6: the claim, on the version read: the held Job's time, in status.active all that runs and
+-- the held Job, and a later success if there is one
 -- rule: fence-claim
 pub record MayClaim (at : At) (h : Held) (w : Claim) : Type 0 where
   pub name : w.name ≡ at.name
@@ -284,6 +292,7 @@ pub record MayClaim (at : At) (h : Held) (w : Claim) : Type 0 where
   pub time : w.time ≡ h.found.time
   pub job : w.job ≡ h.job
   pub active : w.active ≡ at.alive ++ h.job ∷ []
+  pub success : IsLater w.success at.cron.success
 
 -- with a held Job at hand: its claim, or what may be called without it, as where it is left alone
 -- for another name

@@ -1,7 +1,7 @@
 -- The API server's part: what each call answers and what it leaves (Kubernetes API concepts and
 -- conventions: uid and resourceVersion as preconditions, JSON patch tests, finalizers, the
 -- subresource status).
-use Rattle.std.specs.Prelude.{ℕ, Bool, true, false, ◌&&◌, ◌||◌, List, [], Option, Some, None, if◌then◌else◌}
+use Rattle.std.specs.Prelude.{ℕ, Bool, true, false, ◌&&◌, ◌||◌, List, [], Option, Some, None, unwrap_or, if◌then◌else◌}
 use Rattle.cj_fence.specs.declared.refs.Ref.{Ref}
 use Rattle.cj_fence.specs.declared.objects.Cron.{Cron}
 use Rattle.cj_fence.specs.declared.objects.Job.{Job}
@@ -53,11 +53,27 @@ create s t n j (Some old) = refuses s
 abbrev pub takes : List ℕ → List ℕ → Cron → Bool
 takes u v c = is_same c.uid u && is_same c.version v
 
+-- status.lastSuccessfulTime after a write that sends one or none: a merge patch leaves what it
+-- doesn't send
+-- rule: last-success
+abbrev pub success_after : Option ℕ → Cron → ℕ
+success_after sent c = unwrap_or sent c.success
+
+-- a CronJob with the status of a claim, under this version
+abbrev pub with_claim : Claim → List ℕ → Cron → Cron
+with_claim w v c = record c
+    { version = v; last = w.time; active = w.active; success = success_after w.success c }
+
+-- a CronJob with a status without its dead, under this version
+abbrev pub with_tidy : Tidy → List ℕ → Cron → Cron
+with_tidy w v c = record c { version = v; active = w.active; success = success_after w.success c }
+
 -- the status after a claim
 abbrev pub claimed : Stamp → Claim → Cron → Cron
-claimed t w c = record c { version = t.version; last = w.time; active = w.active }
+claimed t w c = with_claim w t.version c
 
--- PATCH of a CronJob's /status: the last schedule time and the active Jobs
+-- PATCH of a CronJob's /status: the last schedule time, the active Jobs, and the last success if it
+-- is sent
 -- rule: fence-server
 abbrev pub claim : Cluster → Stamp → Claim → Option Cron → Served
 claim s t w None = refuses s
@@ -67,9 +83,9 @@ claim s t w (Some c) =
 
 -- the status after it was tidied
 abbrev pub tidied : Stamp → Tidy → Cron → Cron
-tidied t w c = record c { version = t.version; active = w.active }
+tidied t w c = with_tidy w t.version c
 
--- PATCH of a CronJob's /status: the active Jobs
+-- PATCH of a CronJob's /status: the active Jobs, and the last success if it is sent
 -- rule: fence-server
 abbrev pub tidy : Cluster → Stamp → Tidy → Option Cron → Served
 tidy s t w None = refuses s
@@ -134,7 +150,8 @@ served s t (Of.Expire r v now) = expire_where s t r v (look s.jobs r)
 
 -- a CronJob that somebody writes keeps its uid; a new one gets a uid, and no status
 abbrev pub put_cron : Stamp → Cron → Option Cron → Cron
-put_cron t c None = record c { uid = t.uid; version = t.version; last = 0; active = [] }
+put_cron t c None = record c
+    { uid = t.uid; version = t.version; last = 0; active = []; success = 0 }
 put_cron t c (Some old) = record c { uid = old.uid; version = t.version }
 
 -- a Job that somebody writes keeps its uid and its deletionTimestamp; a new one is made as by POST

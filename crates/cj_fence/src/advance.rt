@@ -346,6 +346,7 @@ fn has_tidied(alloc: Global, mut at: At, sent: &Tidy, version: &Text) -> Result<
 {
     at.cron.version = version.try_copy(alloc)?;
     at.cron.active = sent.active.try_copy(alloc)?;
+    at.cron.success = sent.success.unwrap_or(at.cron.success);
     Ok(at)
 }
 
@@ -357,6 +358,7 @@ fn has_claimed(alloc: Global, mut at: At, sent: &Claim, version: &Text) -> Resul
     at.cron.version = version.try_copy(alloc)?;
     at.cron.active = sent.active.try_copy(alloc)?;
     at.cron.last = sent.time;
+    at.cron.success = sent.success.unwrap_or(at.cron.success);
     Ok(at)
 }
 

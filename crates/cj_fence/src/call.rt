@@ -17,6 +17,8 @@ pub struct Claim {
     pub job: Ref,
     /// `status.active` as sent.
     pub active: Refs,
+    /// `status.lastSuccessfulTime` as sent, if it is sent.
+    pub success: Option<u64>,
 }
 
 /// A status without its dead: a merge patch of a CronJob's `/status` that leaves the last schedule
@@ -31,6 +33,8 @@ pub struct Tidy {
     pub version: Text,
     /// `status.active` as sent.
     pub active: Refs,
+    /// `status.lastSuccessfulTime` as sent, if it is sent.
+    pub success: Option<u64>,
 }
 
 /// A call of a controller at the API server.

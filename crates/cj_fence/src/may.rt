@@ -1,7 +1,7 @@
 // What a sync may call next.
 ghost use Rattle.std.specs.Prelude.{◌≡◌, ◌↔◌, [], ◌∷◌, ◌++◌, IsTrue};
 ghost use Rattle.cj_fence.specs.Objects.{has_ref};
-ghost use Rattle.cj_fence.specs.Protocol.{lets_hold, MayFresh, MayLook, MayHold, MayTidy, MayReady, MayClaim, MayHolding, IsLate, MayExpire, MayDrop, MayStart, MayClear};
+ghost use Rattle.cj_fence.specs.Protocol.{lets_hold, MayFresh, MayLook, MayHold, IsLater, MayTidy, MayReady, MayClaim, MayHolding, IsLate, MayExpire, MayDrop, MayStart, MayClear};
 
 use crate::texts::has_ref;
 use crate::{At, Call, Claim, Held, Job, Policy, Ref, Tidy};
@@ -48,8 +48,18 @@ fn may_hold(at: &At, job: &Job) -> bool
     owner && job.held && policy && later && alone
 }
 
-// Whether a sync may send this status: what runs, on the version that it knows, and other than it
-// stands.
+// Whether a success time is later than the one read, if it is sent.
+fn is_later(sent: Option<u64>, read: u64) -> bool
+    ensures { IsTrue result ↔ IsLater sent read }
+{
+    match sent {
+        Some(time) => read < time,
+        None => true,
+    }
+}
+
+// Whether a sync may send this status: what runs, and a later success if there is one, on the
+// version that it knows, and other than it stands.
 fn may_tidy(at: &At, sent: &Tidy) -> bool
     ensures { IsTrue result ↔ MayTidy at.now sent.now }
 {
@@ -57,8 +67,10 @@ fn may_tidy(at: &At, sent: &Tidy) -> bool
     let uid = sent.uid.same(&at.cron.uid);
     let version = sent.version.same(&at.cron.version);
     let active = sent.active.same(&at.alive);
+    let success = is_later(sent.success, at.cron.success);
     let idle = sent.active.same(&at.cron.active);
-    name && uid && version && active && !idle
+    let silent = sent.success.is_none();
+    name && uid && version && active && success && !(silent && idle)
 }
 
 /// Whether a sync may make this call that has no held Job at hand.
@@ -88,8 +100,8 @@ fn is_one_more(longer: &[Ref], shorter: &[Ref], last: &Ref) -> bool
     }
 }
 
-// Whether a sync may send this claim: of its held Job, beside what runs, on the version that it
-// knows.
+// Whether a sync may send this claim: of its held Job, beside what runs, with a later success if
+// there is one, on the version that it knows.
 fn may_claim(at: &At, held: &Held, sent: &Claim) -> bool
     ensures { IsTrue result ↔ MayClaim at.now held.now sent.now }
 {
@@ -99,7 +111,8 @@ fn may_claim(at: &At, held: &Held, sent: &Claim) -> bool
     let time = sent.time == held.found.time;
     let job = sent.job.same(&held.job);
     let active = is_one_more(sent.active.as_slice(), at.alive.as_slice(), &held.job);
-    name && uid && version && time && job && active
+    let success = is_later(sent.success, at.cron.success);
+    name && uid && version && time && job && active && success
 }
 
 /// Whether a sync may make this call that has a held Job at hand.

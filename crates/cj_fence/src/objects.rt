@@ -15,6 +15,8 @@ pub struct Cron {
     pub version: Text,
     /// `status.lastScheduleTime`; 0 where there is none.
     pub last: u64,
+    /// `status.lastSuccessfulTime`; 0 where there is none.
+    pub success: u64,
     /// `status.active`.
     pub active: Refs,
     /// `spec.concurrencyPolicy`.
@@ -30,6 +32,7 @@ impl Drop for Cron {
             uid,
             version,
             last: _,
+            success: _,
             active,
             policy: _,
             deadline: _,
@@ -46,6 +49,7 @@ impl TryCopy for Cron {
             uid: self.uid.try_copy(alloc)?,
             version: self.version.try_copy(alloc)?,
             last: self.last,
+            success: self.success,
             active: self.active.try_copy(alloc)?,
             policy: self.policy,
             deadline: self.deadline,

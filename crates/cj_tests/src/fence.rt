@@ -40,6 +40,7 @@ fn cron(rt: &impl Abort, alloc: Global) -> Cron {
         uid: text(rt, alloc, ""),
         version: text(rt, alloc, ""),
         last: 0,
+        success: 0,
         active: Refs::new(alloc),
         policy: Policy::Forbid,
         deadline: None,
@@ -77,6 +78,7 @@ fn claim(rt: &impl Abort, alloc: Global) -> Call {
         time: 5,
         job: made(rt, alloc),
         active,
+        success: None,
     })
 }
 

@@ -25,16 +25,16 @@ use Rattle.cj_fence.specs.Tables.{find, without, put}
 use Rattle.cj_fence.specs.Objects.{is_ref, has_ref, named, look, waits, is_dead}
 use Rattle.cj_fence.specs.Server.{says, refuses, puts_cron, puts_job, made, create, takes, claimed, claim, tidied, tidy, released, start, marked, mark, delete, delete_where, served}
 use Rattle.cj_fence.specs.Protocol.{Own, with_alive, kept_of, drops_of, go_on, is_held_ref, was_found, found_held, found_job, is_its, looked, cached, begun, is_ours, lets_hold, adopted, has_claimed, has_tidied, has_started, from_ready, from_holding, from_dropping, from_starting, from_tidying, advanced, MayFresh, MayLook, MayTidy, MayReady, MayClaim, MayHolding, MayDrop, MayStart, MayClear, May, seen_of}
-use Rattle.cj_fence.specs.History.{Told, Asked, state_of, own}
+use Rattle.cj_fence.specs.History.{Deed, Told, Asked, state_of, own}
 use Rattle.cj_fence.specs.Help.{HasNext, ReadsCron, IsSyncOf, IsDone, IsExpire, HasExpired, NeverStuck}
 use Rattle.cj_fence.proofs.FenceLemmas.Basics.{IsIn, in_either, either_way, neither, not_in, is_false, both_true, same_true, same_is, ref_true, ref_self, look_is, put_self}
-use Rattle.cj_fence.proofs.FenceLemmas.Facts.{job_at, cron_at, ref, Settled, IsClaimedFor, AtFact, Looks, Commits, SyncFact, Inv}
-use Rattle.cj_fence.proofs.FenceLemmas.Grows.{is_held}
-use Rattle.cj_fence.proofs.FenceLemmas.Entries.{crons_delete_where}
+use Rattle.cj_fence.proofs.FenceLemmas.Facts.{job_at, cron_at, ref, Settled, Owned, IsClaimedFor, AtBase, AtFact, HeldFact, IfHeld, Looks, Commits, SyncFact, Inv}
+use Rattle.cj_fence.proofs.FenceLemmas.Grows.{is_held, owned_own}
+use Rattle.cj_fence.proofs.FenceLemmas.Entries.{crons_delete_where, held_owned}
 use Rattle.cj_fence.proofs.FenceLemmas.Lost.{Spares, stays, stays_delete_where}
 use Rattle.cj_fence.proofs.FenceLemmas.Looks.{kept_among, held_waits, ours_waits, is_first}
 use Rattle.cj_fence.proofs.FenceLemmas.Moves.{next}
-use Rattle.cj_fence.proofs.FenceLemmas.Runs.{Plain, run}
+use Rattle.cj_fence.proofs.FenceLemmas.Runs.{Plain, Beside, run}
 use Rattle.cj_fence.proofs.FenceLemmas.Whole.{self_number}
 
 -- ---- what an undisturbed sync can rely on
@@ -538,6 +538,82 @@ good_step me y g t call a p k reads = by_part (k both.1)
         (subst (ReadsCron me) p.is both.0) p.may)
     by_part (inr e) = inr (subst HasExpired (sym (own_next g t y call a)) (inr e))
 
+-- For good_beside: what was found running was of the CronJob.
+mine : {me : List ℕ} {g : List Told} (at : At) → AtBase g at → at.cron.uid ≡ me → (r : Ref) → IsIn r at.alive
+    → Owned g me r
+mine {me} {g} at a m r i = subst (λ (z : List ℕ). Owned g z r) m (a.owned r i)
+
+module _ {me : List ℕ} {g : List Told} {t : Stamp} {y : ℕ} {d : Deed} where
+  -- For good_beside: its CronJob stands as before.
+  stands_beside : Beside me g t y d → (at : At) → Stands me (state_of g) at → Stands me (state_of (next g t d)) at
+  stands_beside q at a = (q.leaves.cron at.name at.cron a.0 a.1, a.1)
+
+  -- For good_beside: a held Job of it waits as before.
+  wait_beside : Beside me g t y d → (x : Held) → HeldFact g me x → WaitsAt (state_of g) x.job
+      → WaitsAt (state_of (next g t d)) x.job
+  wait_beside q x a w =
+      let own = owned_own q.inv x.job (held_owned g me x a) in
+      record {
+        job = w.job;
+        stands = q.leaves.held x.job.name w.job w.stands (own.stands w.job w.stands w.uid)
+            (is_held w.job w.waits_yet);
+        uid = w.uid;
+        waits_yet = w.waits_yet;
+      }
+
+  -- For good_beside: a Job that was found held, if there is one.
+  held_beside : Beside me g t y d → (o : Option Held) → IfHeld g me o → HeldWaits (state_of g) o
+      → HeldWaits (state_of (next g t d)) o
+  held_beside q None a w = tt
+  held_beside q (Some x) a w = wait_beside q x a w
+
+  -- For good_beside: the other Jobs of it still stand.
+  all_beside : Beside me g t y d → (rs : List Ref) → ((r : Ref) → IsIn r rs → Owned g me r)
+      → AllHere (state_of g).jobs rs → AllHere (state_of (next g t d)).jobs rs
+  all_beside q rs f a = here_still (state_of g).jobs (state_of (next g t d)).jobs rs
+      (λ r i h.
+      let b = q.leaves.jobs r.name h.0 h.1 ((owned_own q.inv r (f r i)).stands h.0 h.1 h.2) in
+      (b.job, b.stands, b.uid ∙ h.2)) a
+
+  -- A sync that is good is so after an entry of others that leaves its CronJob alone.
+  good_beside : Beside me g t y d → (s : Sync) → SyncFact me g s → Good me (state_of g) s
+      → Good me (state_of (next g t d)) s
+  good_beside q Fresh l a = tt
+  good_beside q (Looking at [] held) l a = absurd a
+  good_beside q (Looking at (r ∷ rs) held) l a = (
+    stands_beside q at a.0,
+    held_beside q held (subst (λ (z : List ℕ). IfHeld g z held) a.0.1 l.held_fact) a.1,
+    all_beside q at.alive (mine at l.base a.0.1) a.2,
+  )
+  good_beside q (Ready at) l a = (stands_beside q at a.0, all_beside q at.alive (mine at l.base a.0.1) a.1)
+  good_beside q (Holding at x) l a = (
+    stands_beside q at a.0,
+    wait_beside q x (subst (λ (z : List ℕ). HeldFact g z x) a.0.1 l.held_fact) a.1,
+    all_beside q at.alive (mine at l.base a.0.1) a.2,
+  )
+  good_beside q (Starting at x ds) l a = (
+    stands_beside q at a.0,
+    wait_beside q x (subst (λ (z : List ℕ). HeldFact g z x) a.0.1 l.held_fact) a.1,
+    all_beside q ds (λ r i. mine at l.base a.0.1 r (l.among r i)) a.2,
+    all_beside q (kept_of x.found.policy at.alive)
+        (λ r i. mine at l.base a.0.1 r (kept_among x.found.policy at.alive r i)) a.3,
+  )
+  good_beside q (Tidying at gs fs) l a = tt
+  good_beside q Gone l a = tt
+  good_beside q Over l a = absurd a
+
+-- A sync stays good through an entry of others that leaves its CronJob alone.
+good_meanwhile : (me : List ℕ) (y : ℕ) (g : List Told) (t : Stamp) (d : Deed) → Beside me g t y d → IsGood me y g
+    → IsGood me y (next g t d)
+good_meanwhile me y g t d q k reads =
+    subst (λ (os : List Own). Good me (state_of (next g t d)) (seen_of os) ⊎ HasExpired os) (sym q.same)
+    (by_part (k (subst (IsSyncOf me) q.same reads)))
+  where
+    by_part : Good me (state_of g) (seen_of (own y g)) ⊎ HasExpired (own y g)
+        → Good me (state_of (next g t d)) (seen_of (own y g)) ⊎ HasExpired (own y g)
+    by_part (inl b) = inl (good_beside q (seen_of (own y g)) (q.inv.syncs y) b)
+    by_part (inr e) = inr e
+
 -- A sync that is good may make a further call, or is done.
 has_next : (me : List ℕ) (s : Cluster) (x : Sync) → Good me s x → HasNext x ⊎ IsDone x
 has_next me s Fresh a = inl (Of.GetCron [], tt)
@@ -552,8 +628,9 @@ has_next me s (Holding at x) a = inl (
     time = x.found.time;
     job = x.job;
     active = at.alive ++ x.job ∷ [];
+    success = None;
   }),
-  record { name = refl; uid = refl; version = refl; time = refl; job = refl; active = refl },
+  record { name = refl; uid = refl; version = refl; time = refl; job = refl; active = refl; success = tt },
 )
 has_next me s (Starting at x []) a = inl (Of.Start x.job, refl)
 has_next me s (Starting at x (d ∷ ds)) a = inl (Of.Delete d, refl)
@@ -578,4 +655,4 @@ stuck_not me y g (inl a) = by_next (has_next me (state_of g) (seen_of (own y g))
 pub never_stuck : NeverStuck
 never_stuck me h es y l a o none u reads =
     let base : IsGood me y h = λ q. inl (subst (λ os. Good me (state_of h) (seen_of os)) (sym none) tt) in
-    stuck_not me y (es ++ h) (run me y h (IsGood me y) base (good_step me y) es l a o u reads)
+    stuck_not me y (es ++ h) (run me y h (IsGood me y) base (good_step me y) (good_meanwhile me y) es l a o u reads)

@@ -162,7 +162,7 @@ kept_cron {me} h t n c old f at keeps = record {
 
 -- For put_cronic: a new CronJob.
 fresh_cron : {me : List ℕ} (h : List Told) (t : Stamp) (n : List ℕ) (c : Cron) → Inv me h → IsFresh h t
-    → Rewritten me h t n n (record c { uid = t.uid; version = t.version; last = 0; active = [] })
+    → Rewritten me h t n n (record c { uid = t.uid; version = t.version; last = 0; active = []; success = 0 })
 fresh_cron h t n c f fresh = record {
   name = refl;
   version = refl;
@@ -269,7 +269,7 @@ crons_if s true x y f g = f
 crons_if s false x y f g = g
 
 -- A start leaves the CronJobs.
-crons_start : (s : Cluster) (t : Stamp) (r : Ref) (o : Option Job) → (start s t r o).cluster.crons ≡ s.crons
+pub crons_start : (s : Cluster) (t : Stamp) (r : Ref) (o : Option Job) → (start s t r o).cluster.crons ≡ s.crons
 crons_start s t r None = refl
 crons_start s t r (Some j) = crons_if s j.held (puts_job s (Is.Written t.version) r.name (released t j)) (refuses s)
     refl refl
@@ -290,7 +290,7 @@ crons_delete_where s t r None = refl
 crons_delete_where s t r (Some j) = crons_delete s t r j
 
 -- A DELETE by uid and version leaves the CronJobs.
-crons_expire : (s : Cluster) (t : Stamp) (r : Ref) (v : List ℕ) (o : Option Job)
+pub crons_expire : (s : Cluster) (t : Stamp) (r : Ref) (v : List ℕ) (o : Option Job)
     → (expire_where s t r v o).cluster.crons ≡ s.crons
 crons_expire s t r v None = refl
 crons_expire s t r v (Some j) = crons_if s (is_same j.version v) (delete s t r j) (refuses s) (crons_delete s t r j)
@@ -569,7 +569,8 @@ pub record Claiming (me : List ℕ) (h : List Told) (w : Claim) : Type 0 where
   pub may : MayClaim at x w
 
 -- A sync that may claim holds a Job for it.
-claiming : (me : List ℕ) (h : List Told) (w : Claim) (s : Sync) → SyncFact me h s → May s (Of.Claim w) → Claiming me h w
+pub claiming : (me : List ℕ) (h : List Told) (w : Claim) (s : Sync) → SyncFact me h s → May s (Of.Claim w)
+    → Claiming me h w
 claiming me h w Fresh k m = absurd m
 claiming me h w (Looking at [] held) k m = absurd m
 claiming me h w (Looking at (x ∷ rs) held) k m = absurd m

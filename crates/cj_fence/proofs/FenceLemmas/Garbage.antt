@@ -20,7 +20,7 @@ use Rattle.cj_fence.specs.Tables.{find}
 use Rattle.cj_fence.specs.Objects.{ref_of, is_ref, has_ref, named, without_ref, look, waits, is_dead}
 use Rattle.cj_fence.specs.Server.{served}
 use Rattle.cj_fence.specs.Protocol.{with_alive, drops_of, go_on, was_found, found_held, found_job, is_its, looked, cached, begun, is_ours, lets_hold, adopted, is_garbage, refs_where, has_started, from_fresh, from_looking, from_ready, from_holding, from_dropping, from_starting, from_tidying, advanced, May, seen_of}
-use Rattle.cj_fence.specs.History.{Asked, Told, state_of, Claimed, claim_of, started, own}
+use Rattle.cj_fence.specs.History.{Deed, Asked, Told, state_of, Claimed, claim_of, started, own}
 use Rattle.cj_fence.specs.Garbage.{IsGarbage, NeverStarted, IsWhole, IsRemoved, IsCleared}
 use Rattle.cj_fence.proofs.FenceLemmas.Basics.{IsIn, is_in, left_or, is_false, same_true, same_is, ref_true, look_found}
 use Rattle.cj_fence.proofs.FenceLemmas.Facts.{job_at, cron_at, OldJob, OldCron, OfJob, IsDead, Owned, AtBase, Commits, SyncFact, Inv}
@@ -30,7 +30,7 @@ use Rattle.cj_fence.proofs.FenceLemmas.Names.{is_picked}
 use Rattle.cj_fence.proofs.FenceLemmas.Nexts.{garbage_row, garbage_says, delete_removes}
 use Rattle.cj_fence.proofs.FenceLemmas.Lost.{Spares, stays, garbage_dead}
 use Rattle.cj_fence.proofs.FenceLemmas.Help.{SinceOf, Since, since_next, reads_now}
-use Rattle.cj_fence.proofs.FenceLemmas.Runs.{Plain, seen_next, run, onward, legal_before, followed_before, kept_before}
+use Rattle.cj_fence.proofs.FenceLemmas.Runs.{Plain, Beside, seen_next, run, onward, legal_before, followed_before, kept_before}
 use Rattle.cj_fence.proofs.FenceLemmas.Entries.{held_owned}
 use Rattle.cj_fence.proofs.FenceLemmas.Whole.{always}
 
@@ -443,6 +443,36 @@ module _ (n : List ℕ) (c : Cron) (x : Row Job) (y : ℕ) where
             (clears_by g t call a p held k.spare k.stands (seen_of (own y g)) (p.inv.syncs y) p.may k.since k.clears);
       }
 
+-- What a sync has listed is still listed or removed after an entry of others.
+clears_still : (u : List ℕ) (r : Ref) (g e : List Told) → (Removed g r → Removed e r) → (s : Sync) → Clears u r g s
+    → Clears u r e s
+clears_still u r g e kept (Tidying at gs fs) f = λ m. by_place (f m)
+  where
+    by_place : IsIn r gs ⊎ Removed g r → IsIn r gs ⊎ Removed e r
+    by_place (inl i) = inl i
+    by_place (inr d) = inr (kept d)
+clears_still u r g e kept s f = tt
+
+module _ (n : List ℕ) (c : Cron) (x : Row Job) (y : ℕ) where
+  -- Garbage that still stands does so after an entry of others that leaves the CronJob alone.
+  stands_meanwhile : x.object.held ≡ true → (g : List Told) (t : Stamp) (d : Deed) → Beside c.uid g t y d
+      → Spare g n c x → (job_at g x.name ≡ Some x.object) ⊎ Removed g (ref_of x)
+      → (job_at (next g t d) x.name ≡ Some x.object) ⊎ Removed (next g t d) (ref_of x)
+  stands_meanwhile held g t d q a (inl at) = inl (q.leaves.held x.name x.object at a.owner held)
+  stands_meanwhile held g t d q a (inr m) = inr (removed_kept n c x q.inv q.grows a m)
+
+  -- What holds of garbage holds after such an entry.
+  clearing_beside : x.object.held ≡ true → (g : List Told) (t : Stamp) (d : Deed) → Beside c.uid g t y d
+      → Clearing n c x y g → Clearing n c x y (next g t d)
+  clearing_beside held g t d q k = record {
+    spare = spare_next n c x g (next g t d) t q.grows q.inv_next k.spare;
+    stands = stands_meanwhile held g t d q k.spare k.stands;
+    since = subst (λ os. SinceOf c.uid c.last (seen_of os)) (sym q.same) k.since;
+    clears = subst (λ os. Clears c.uid (ref_of x) (next g t d) (seen_of os)) (sym q.same)
+        (clears_still c.uid (ref_of x) g (next g t d) (removed_kept n c x q.inv q.grows k.spare)
+        (seen_of (own y g)) k.clears);
+  }
+
 -- A sync at its end has removed what it was to clear.
 cleared_at : (u : List ℕ) (r : Ref) (g : List Told) (s : Sync) → IsWhole u s → Clears u r g s → Removed g r
 cleared_at u r g (Tidying at [] fs) w f = by_place (f w)
@@ -470,5 +500,6 @@ cleared h es y n c x l a o none u b w =
       since = subst (λ z. SinceOf c.uid c.last (seen_of z)) (sym none) tt;
       clears = subst (λ z. Clears c.uid (ref_of x) h (seen_of z)) (sym none) tt;
     } in
-    let k = run c.uid y h (λ g. Clearing n c x y g) base (clearing_next n c x y (is_held x.object b.held)) es l a o u in
+    let k = run c.uid y h (λ g. Clearing n c x y g) base (clearing_next n c x y (is_held x.object b.held))
+    (clearing_beside n c x y (is_held x.object b.held)) es l a o u in
     removed_is (es ++ h) (ref_of x) (cleared_at c.uid (ref_of x) (es ++ h) (seen_of (own y (es ++ h))) w k.clears)

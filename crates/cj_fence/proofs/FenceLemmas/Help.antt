@@ -17,15 +17,15 @@ use Rattle.cj_fence.specs.Texts.{is_same}
 use Rattle.cj_fence.specs.Objects.{named, waits, is_dead}
 use Rattle.cj_fence.specs.Server.{served}
 use Rattle.cj_fence.specs.Protocol.{with_alive, drops_of, go_on, was_found, found_held, found_job, is_its, looked, cached, begun, is_ours, lets_hold, adopted, has_started, from_fresh, from_looking, from_ready, from_holding, from_dropping, from_starting, from_tidying, advanced, MayHolding, May, seen_of}
-use Rattle.cj_fence.specs.History.{Asked, Told, state_of, Claimed, claims, claim_of, starts, started, own}
+use Rattle.cj_fence.specs.History.{Deed, Asked, Told, state_of, Claimed, claims, claim_of, waits_in, starts, started, own}
 use Rattle.cj_fence.specs.Lost.{IsWaiting, IsExpiry}
 use Rattle.cj_fence.specs.Help.{HasLooked, HelpLaw}
-use Rattle.cj_fence.proofs.FenceLemmas.Basics.{IsIn, first_true, second_true}
-use Rattle.cj_fence.proofs.FenceLemmas.Facts.{cron_at, Dead, Settled, AtFact, SyncFact, Inv}
-use Rattle.cj_fence.proofs.FenceLemmas.Grows.{dead_settled}
+use Rattle.cj_fence.proofs.FenceLemmas.Basics.{IsIn, first_true, second_true, look_is}
+use Rattle.cj_fence.proofs.FenceLemmas.Facts.{job_at, cron_at, Dead, Settled, IsOwn, AtFact, SyncFact, Inv}
+use Rattle.cj_fence.proofs.FenceLemmas.Grows.{dead_settled, is_held, claimed_own}
 use Rattle.cj_fence.proofs.FenceLemmas.Moves.{next, claim_stays, waiting_is}
 use Rattle.cj_fence.proofs.FenceLemmas.Lost.{becomes}
-use Rattle.cj_fence.proofs.FenceLemmas.Runs.{Plain, seen_next, run}
+use Rattle.cj_fence.proofs.FenceLemmas.Runs.{Plain, Beside, seen_next, run}
 use Rattle.cj_fence.proofs.FenceLemmas.Whole.{always}
 
 -- ---- what a sync knows was claimed by the last time it saw
@@ -223,6 +223,33 @@ module _ (y : ℕ) (r : Ref) (k : Claimed) where
     outcome = help_by g t call a p b.claimed b.outcome;
   }
 
+-- A Job of the CronJob that waits still does after an entry of others that leaves it alone.
+pub waits_beside : {me : List ℕ} (g : List Told) (t : Stamp) (y : ℕ) (d : Deed) → Beside me g t y d → (r : Ref)
+    → IsOwn me g r → IsWaiting g r → IsWaiting (next g t d) r
+waits_beside g t y d q r own w =
+    let b = waiting_is g r w in
+    let owner = own.stands b.job b.stands b.uid in
+    let now : job_at (next g t d) r.name ≡ Some b.job =
+    q.leaves.held r.name b.job b.stands owner (is_held b.job b.waits_yet) in
+    ap (λ (o : Option Job). waits_in o) (look_is (state_of (next g t d)).jobs r b.job now b.uid) ∙ b.waits_yet
+
+module _ (y : ℕ) (r : Ref) (k : Claimed) where
+  -- For help_beside: what became of the Job so far.
+  outcome_beside : (g : List Told) (t : Stamp) (d : Deed) → Beside k.owner g t y d → claim_of g r ≡ Some k
+      → Outcome g y r k → Outcome (next g t d) y r k
+  outcome_beside g t d q is (IsStarted e) = IsStarted (second_true (starts (state_of g) t d r) (started g r) e)
+  outcome_beside g t d q is (IsOut e) = IsOut (subst (λ os. HasEnded (seen_of os)) (sym q.same) e)
+  outcome_beside g t d q is (StillWaits w s) = StillWaits
+      (waits_beside g t y d q r (claimed_own q.inv r k is refl) w)
+      (subst (λ os. SinceOf k.owner k.time (seen_of os)) (sym q.same) s)
+
+  help_beside : (g : List Told) (t : Stamp) (d : Deed) → Beside k.owner g t y d → Helps g y r k
+      → Helps (next g t d) y r k
+  help_beside g t d q b = record {
+    claimed = claim_stays (claim_of g r) (claims (state_of g) d r) k b.claimed;
+    outcome = outcome_beside g t d q b.claimed b.outcome;
+  }
+
 -- For helped: a sync that has come past what was claimed leaves nothing that waits.
 none_waits : (g : List Told) (r : Ref) (k : Claimed) → claim_of g r ≡ Some k → IsWaiting g r → (at : At)
     → AtFact g at [] → at.cron.uid ≡ k.owner → Since k.owner k.time at → ⊥
@@ -265,5 +292,5 @@ help h es y r k l a o none u is w looked =
     let fresh : SinceOf k.owner k.time (seen_of (own y h)) =
     subst (λ z. SinceOf k.owner k.time (seen_of z)) (sym none) tt in
     let base : Helps h y r k = record { claimed = is; outcome = StillWaits w fresh } in
-    let b = run k.owner y h (λ g. Helps g y r k) base (help_step y r k) es l a o u in
+    let b = run k.owner y h (λ g. Helps g y r k) base (help_step y r k) (help_beside y r k) es l a o u in
     helped (es ++ h) y r k (always k.owner (es ++ h) l a o) b.claimed b.outcome looked

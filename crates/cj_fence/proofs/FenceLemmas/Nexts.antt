@@ -21,7 +21,7 @@ use Rattle.cj_fence.specs.declared.sync.Sync.TheVariants.{Fresh, Looking, Ready,
 use Rattle.cj_fence.specs.Texts.{is_same}
 use Rattle.cj_fence.specs.Tables.{find, without, put}
 use Rattle.cj_fence.specs.Objects.{ref_of, has_ref, without_ref, look, waits}
-use Rattle.cj_fence.specs.Server.{says, refuses, puts_cron, puts_job, made, create, takes, claimed, claim, tidied, tidy, released, start, marked, mark, delete_where}
+use Rattle.cj_fence.specs.Server.{says, refuses, puts_cron, puts_job, made, create, takes, with_claim, with_tidy, claimed, claim, tidied, tidy, released, start, marked, mark, delete_where}
 use Rattle.cj_fence.specs.Protocol.{kept_of, drops_of, looked, cached, begun, adopted, is_garbage, is_finished, refs_where, has_claimed, has_tidied, has_started, from_fresh, from_looking, from_ready, from_holding, from_dropping, from_starting, from_tidying, advanced, MayFresh, MayLook, MayHold, MayTidy, MayReady, MayClaim, MayHolding, MayDrop, MayStart, May}
 use Rattle.cj_fence.specs.History.{Asked, Told, state_of, IsAnswer, IsFresh}
 use Rattle.cj_fence.proofs.FenceLemmas.Basics.{second_true, IsIn, in_front, in_end, is_false, both_true, not_true, not_in, fewer, same_true, same_is, look_found, look_is, put_self, without_at}
@@ -57,14 +57,14 @@ pub record IsWritten (s t : Cluster) (n u v : List ℕ) (f : Cron → Cron) (o :
 claim_at : (s : Cluster) (t : Stamp) (w : Claim) (v : List ℕ) (o : Option Cron)
     → Is.Written v ≡ (claim s t w o).answer
     → IsWritten s (claim s t w o).cluster w.name w.uid w.version
-    (λ c. record c { version = v; last = w.time; active = w.active }) o
+    (with_claim w v) o
 claim_at s t w v None e = absurd (cc e)
 claim_at s t w v (Some c) e = by_test (takes w.uid w.version c) refl e
   where
     by_test : (b : Bool) → takes w.uid w.version c ≡ b
         → Is.Written v ≡ (if b then puts_cron s (Is.Written t.version) w.name (claimed t w c) else refuses s).answer
         → IsWritten s (if b then puts_cron s (Is.Written t.version) w.name (claimed t w c) else refuses s).cluster
-        w.name w.uid w.version (λ x. record x { version = v; last = w.time; active = w.active }) (Some c)
+        w.name w.uid w.version (with_claim w v) (Some c)
     by_test true b g =
         let same : v ≡ t.version = cc g in
         let z = both_true (is_same c.uid w.uid) (is_same c.version w.version) b in
@@ -74,7 +74,7 @@ claim_at s t w v (Some c) e = by_test (takes w.uid w.version c) refl e
           uid = same_true c.uid w.uid z.0;
           version = same_true c.version w.version z.1;
           now = subst (λ (q : List ℕ). find w.name (put w.name (claimed t w c) s.crons)
-              ≡ Some (record c { version = q; last = w.time; active = w.active }))
+              ≡ Some (with_claim w q c))
               (sym same) (put_self w.name (claimed t w c) s.crons);
         }
     by_test false b g = absurd (cc g)
@@ -82,14 +82,14 @@ claim_at s t w v (Some c) e = by_test (takes w.uid w.version c) refl e
 -- What a status without its dead leaves that was taken.
 tidy_at : (s : Cluster) (t : Stamp) (w : Tidy) (v : List ℕ) (o : Option Cron)
     → Is.Written v ≡ (tidy s t w o).answer
-    → IsWritten s (tidy s t w o).cluster w.name w.uid w.version (λ c. record c { version = v; active = w.active }) o
+    → IsWritten s (tidy s t w o).cluster w.name w.uid w.version (with_tidy w v) o
 tidy_at s t w v None e = absurd (cc e)
 tidy_at s t w v (Some c) e = by_test (takes w.uid w.version c) refl e
   where
     by_test : (b : Bool) → takes w.uid w.version c ≡ b
         → Is.Written v ≡ (if b then puts_cron s (Is.Written t.version) w.name (tidied t w c) else refuses s).answer
         → IsWritten s (if b then puts_cron s (Is.Written t.version) w.name (tidied t w c) else refuses s).cluster w.name
-        w.uid w.version (λ x. record x { version = v; active = w.active }) (Some c)
+        w.uid w.version (with_tidy w v) (Some c)
     by_test true b g =
         let same : v ≡ t.version = cc g in
         let z = both_true (is_same c.uid w.uid) (is_same c.version w.version) b in
@@ -99,7 +99,7 @@ tidy_at s t w v (Some c) e = by_test (takes w.uid w.version c) refl e
           uid = same_true c.uid w.uid z.0;
           version = same_true c.version w.version z.1;
           now = subst (λ (q : List ℕ). find w.name (put w.name (tidied t w c) s.crons)
-              ≡ Some (record c { version = q; active = w.active }))
+              ≡ Some (with_tidy w q c))
               (sym same) (put_self w.name (tidied t w c) s.crons);
         }
     by_test false b g = absurd (cc g)
@@ -201,7 +201,7 @@ created_fact me h t x y at n j false r f w a m e = absurd (cc r)
 
 -- For tidied_fact: what is known of the CronJob holds of its tidied status.
 tidied_at : (me : List ℕ) (g : List Told) (at : At) (w : Tidy) (v : List ℕ)
-    → OldCron g at.name (record at.cron { version = v; active = w.active })
+    → OldCron g at.name (with_tidy w v at.cron)
     → Readies me g at → Readies me g (has_tidied at w v)
 tidied_at me g at w v old a = record {
   base = record { cron = old; owned = a.base.owned };
@@ -224,10 +224,10 @@ tidied_fact me h t y at w v true r f grows a m e =
     let z = tidy_at (state_of h) t w v (cron_at h w.name) e in
     let was : cron_at h at.name ≡ Some z.cron = subst (λ (q : List ℕ). cron_at h q ≡ Some z.cron) m.name z.was in
     let same : z.cron ≡ at.cron = same_read f at a.base z.cron was (z.version ∙ m.version) in
-    let now : cron_at g at.name ≡ Some (record z.cron { version = v; active = w.active }) =
-    subst (λ (q : List ℕ). cron_at g q ≡ Some (record z.cron { version = v; active = w.active })) m.name z.now in
+    let now : cron_at g at.name ≡ Some (with_tidy w v z.cron) =
+    subst (λ (q : List ℕ). cron_at g q ≡ Some (with_tidy w v z.cron)) m.name z.now in
     tidied_at me g at w v (inl (subst (λ (c : Cron). cron_at g at.name
-    ≡ Some (record c { version = v; active = w.active })) same now))
+    ≡ Some (with_tidy w v c)) same now))
     (ready_kept f grows at a)
 tidied_fact me h t y at w v false r f grows a m e = absurd (cc r)
 
@@ -339,11 +339,11 @@ after_claim me h t y at x w v true r fresh f a m e =
     let k = accepted_by f at x w a m z.cron z.was z.uid z.version in
     let same : Some z.cron ≡ Some at.cron = sym z.was ∙ k.stands in
     let one : z.cron ≡ at.cron = cc in
-    let now : cron_at g at.name ≡ Some (record z.cron { version = v; last = w.time; active = w.active }) =
-    subst (λ (q : List ℕ). cron_at g q ≡ Some (record z.cron { version = v; last = w.time; active = w.active })) m.name
+    let now : cron_at g at.name ≡ Some (with_claim w v z.cron) =
+    subst (λ (q : List ℕ). cron_at g q ≡ Some (with_claim w v z.cron)) m.name
     z.now in
     claimed_fact f k t y (Is.Written v) fresh v
-    (inl (subst (λ (c : Cron). cron_at g at.name ≡ Some (record c { version = v; last = w.time; active = w.active }))
+    (inl (subst (λ (c : Cron). cron_at g at.name ≡ Some (with_claim w v c))
     one now))
 after_claim me h t y at x w v false r fresh f a m e = absurd (cc r)
 

@@ -1,19 +1,20 @@
 -- Undisturbed syncs, entry by entry.
-use Rattle.std.proofs.Common.{◌≡◌, ℕ, Bool, true, false, List, [], ◌∷◌, ◌++◌, refl, sym, ap, subst}
+use Rattle.std.proofs.Common.{◌≡◌, ◌⊎◌, inl, inr, ℕ, ◌==◌, Bool, true, false, List, [], ◌∷◌, ◌++◌, refl, sym, ap, subst}
 use Rattle.std.specs.Prelude.{if◌then◌else◌}
 use Rattle.cj_fence.specs.declared.call.Call.{Call}
 use Rattle.cj_fence.specs.declared.answer.Answer.{Answer}
 use Rattle.cj_fence.specs.declared.answer.Stamp.{Stamp}
 use Rattle.cj_fence.specs.Server.{served}
-use Rattle.cj_fence.specs.Protocol.{seen_of, advanced, May}
-use Rattle.cj_fence.specs.History.{Deed, Asked, Wrote, Told, state_of, IsFresh, Answered, IsLegal, AllFollow, own}
-use Rattle.cj_fence.specs.Others.{OthersKeepTo}
-use Rattle.cj_fence.specs.Help.{IsPlain, Undisturbed}
+use Rattle.cj_fence.specs.Protocol.{Own, seen_of, advanced, May}
+use Rattle.cj_fence.specs.History.{Deed, Asked, Wrote, Told, state_of, IsFresh, IsHeard, Answered, IsLegal, AllFollow, own_after, own}
+use Rattle.cj_fence.specs.Others.{DeedKeepsTo, OthersKeepTo}
+use Rattle.cj_fence.specs.Help.{IsPlain, IsOthers, LeavesAlone, IsBeside, Undisturbed}
+use Rattle.cj_fence.proofs.FenceLemmas.Basics.{is_false}
 use Rattle.cj_fence.proofs.FenceLemmas.Facts.{Inv}
 use Rattle.cj_fence.proofs.FenceLemmas.Grows.{Grows}
 use Rattle.cj_fence.proofs.FenceLemmas.Kept.{inv_kept}
 use Rattle.cj_fence.proofs.FenceLemmas.Moves.{next}
-use Rattle.cj_fence.proofs.FenceLemmas.Entries.{call_kept}
+use Rattle.cj_fence.proofs.FenceLemmas.Entries.{same_number, call_kept}
 use Rattle.cj_fence.proofs.FenceLemmas.Whole.{followed, MayDo, may_do, self_number, entry_kept, always}
 
 -- a call of an undisturbed sync
@@ -56,17 +57,57 @@ by_deed y P step g t (Asked x call true a) p f fresh m before =
     subst (λ (z : ℕ). P (next g t (Asked z call true a))) (sym p.0)
     (step g t call a (plain_call g t y call a f fresh may p.2) before)
 
--- What each call of an undisturbed sync keeps holds at its end.
+-- an entry of others that leaves the CronJob of this uid alone
+pub record Beside (me : List ℕ) (g : List Told) (t : Stamp) (y : ℕ) (d : Deed) : Type 0 where
+  pub inv : Inv me g
+  pub grows : Grows me g (next g t d) t
+  pub inv_next : Inv me (next g t d)
+  pub same : own y (next g t d) ≡ own y g
+  pub leaves : LeavesAlone me (state_of g) (state_of (next g t d))
+
+-- What others do is no call of the sync.
+same_own : (y : ℕ) (d : Deed) (os : List Own) → IsOthers y d → own_after y d os ≡ os
+same_own y (Wrote w) os n = refl
+same_own y (Asked x call reached a) os n =
+    ap (λ (b : Bool). if b then record { call = call; answer = a } ∷ os else os)
+    (is_false (x == y) (λ e. n (same_number x y e)))
+
+-- An entry of others keeps all facts.
+beside : {me : List ℕ} (g : List Told) (t : Stamp) (y : ℕ) (d : Deed) → Inv me g → IsFresh g t → IsHeard g t d
+    → MayDo g d → DeedKeepsTo me (state_of g) d → IsBeside me y (state_of g) t d → Beside me g t y d
+beside {me} g t y d f fresh heard m o b =
+    let k = entry_kept g t d f fresh heard m o in
+    record {
+      inv = f;
+      grows = k.change.grows;
+      inv_next = inv_kept me g (next g t d) t f k.change;
+      same = same_own y d (own y g) b.others;
+      leaves = b.leaves;
+    }
+
+-- An entry of an undisturbed sync, or of others meanwhile, is one of the two.
+by_entry : {me : List ℕ} (y : ℕ) (P : List Told → Type 0)
+    → ((g : List Told) (t : Stamp) (call : Call) (a : Answer) → Plain me g t y call a → P g
+    → P (next g t (Asked y call true a)))
+    → ((g : List Told) (t : Stamp) (d : Deed) → Beside me g t y d → P g → P (next g t d))
+    → (g : List Told) (t : Stamp) (d : Deed) → IsPlain y g t d ⊎ IsBeside me y (state_of g) t d → Inv me g
+    → IsFresh g t → IsHeard g t d → MayDo g d → DeedKeepsTo me (state_of g) d → P g → P (next g t d)
+by_entry y P step aside g t d (inl p) f fresh heard m o before = by_deed y P step g t d p f fresh m before
+by_entry y P step aside g t d (inr b) f fresh heard m o before =
+    aside g t d (beside g t y d f fresh heard m o b) before
+
+-- What each call of an undisturbed sync keeps, and each entry of others meanwhile, holds at its end.
 pub run : (me : List ℕ) (y : ℕ) (h : List Told) (P : List Told → Type 0) → P h
     → ((g : List Told) (t : Stamp) (call : Call) (a : Answer) → Plain me g t y call a → P g
     → P (next g t (Asked y call true a)))
-    → (es : List Told) → IsLegal (es ++ h) → AllFollow (es ++ h) → OthersKeepTo me (es ++ h) → Undisturbed y es h
+    → ((g : List Told) (t : Stamp) (d : Deed) → Beside me g t y d → P g → P (next g t d))
+    → (es : List Told) → IsLegal (es ++ h) → AllFollow (es ++ h) → OthersKeepTo me (es ++ h) → Undisturbed me y es h
     → P (es ++ h)
-run me y h P base step [] l a o u = base
-run me y h P base step (e ∷ es) l a o u =
+run me y h P base step aside [] l a o u = base
+run me y h P base step aside (e ∷ es) l a o u =
     let before = λ (z : ℕ). followed z e.deed (own z (es ++ h)) (a z) in
-    by_deed y P step (es ++ h) e.stamp e.deed u.0 (always me (es ++ h) l.2 before o.1) l.0 (may_do (es ++ h) e.deed a)
-    (run me y h P base step es l.2 before o.1 u.1)
+    by_entry y P step aside (es ++ h) e.stamp e.deed u.0 (always me (es ++ h) l.2 before o.1) l.0 l.1
+    (may_do (es ++ h) e.deed a) o.0 (run me y h P base step aside es l.2 before o.1 u.1)
 
 -- What each entry keeps holds after any number of them.
 pub onward : (me : List ℕ) (h : List Told) (P : List Told → Type 0) → (Inv me h → P h)

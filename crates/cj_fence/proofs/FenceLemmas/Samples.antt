@@ -1,12 +1,13 @@
 -- Lists of calls that compute: two replicas, a stall between claim and start, help, adoption, Replace with a deletion,
 -- a name that is taken; and lists that break a promise, each refused at the call where it goes wrong.
-use Rattle.std.proofs.Common.{◌≡◌, ◌⊎◌, inl, inr, ℕ, ◌<◌, ◌==◌, Bool, true, false, List, [], ◌∷◌, ◌++◌, length, None, refl, sym, ap, subst, ◌∙◌, arith}
+use Rattle.std.proofs.Common.{◌≡◌, ◌⊎◌, inl, inr, ℕ, ◌<◌, ◌==◌, Bool, true, false, List, [], ◌∷◌, ◌++◌, length, Option, Some, None, refl, sym, ap, subst, ◌∙◌, arith}
 use Rattle.std.specs.Prelude.{if◌then◌else◌}
 use Rattle.cj_fence.specs.declared.policy.Policy.{Policy}
 use Rattle.cj_fence.specs.declared.policy.Policy.TheVariants.{Allow, Forbid, Replace}
 use Rattle.cj_fence.specs.declared.refs.Ref.{Ref}
 use Rattle.cj_fence.specs.declared.objects.Cron.{Cron}
 use Rattle.cj_fence.specs.declared.objects.Job.{Job}
+use Rattle.cj_fence.specs.declared.cluster.Cluster.{Cluster}
 use Rattle.cj_fence.specs.declared.call.Call.{Call}
 use Rattle.cj_fence.specs.declared.call.Call.TheVariants as Of
 use Rattle.cj_fence.specs.declared.call.Write.{Write}
@@ -16,13 +17,15 @@ use Rattle.cj_fence.specs.declared.answer.Answer.TheVariants as Is
 use Rattle.cj_fence.specs.declared.answer.Stamp.{Stamp}
 use Rattle.cj_fence.specs.declared.sync.Sync.TheVariants.{Over}
 use Rattle.cj_fence.specs.Texts.{is_same}
-use Rattle.cj_fence.specs.Tables.{put}
+use Rattle.cj_fence.specs.Tables.{find, put}
 use Rattle.cj_fence.specs.Objects.{ref}
-use Rattle.cj_fence.specs.Server.{made, served}
+use Rattle.cj_fence.specs.Server.{made, served, put_cron}
 use Rattle.cj_fence.specs.Protocol.{seen_of, May, Follows}
 use Rattle.cj_fence.specs.History.{Deed, Asked, Wrote, Told, state_of, GaveUid, GaveVersion, IsFresh, IsAnswer, Answered, Listed, IsLegal, AllFollow, own_after, own, started}
 use Rattle.cj_fence.specs.Others.{KeepsJob, OthersKeepTo}
 use Rattle.cj_fence.specs.Fence.{Always, IsClaimed}
+use Rattle.cj_fence.specs.Help.{IsBeside, Undisturbed}
+use Rattle.cj_fence.proofs.FenceLemmas.Lost.{put_other}
 use Rattle.cj_fence.proofs.FenceLemmas.Entries.{same_number}
 use Rattle.cj_fence.proofs.FenceLemmas.Whole.{followed}
 
@@ -49,7 +52,7 @@ writes w h = record { stamp = stamp h; deed = Wrote w } ∷ h
 
 -- a CronJob under the name 7; the first entry creates it, so that its uid is 0
 abbrev cron_of : Policy → Cron
-cron_of p = record { uid = []; version = []; last = 0; active = []; policy = p; deadline = None }
+cron_of p = record { uid = []; version = []; last = 0; success = 0; active = []; policy = p; deadline = None }
 
 abbrev born : Policy → List Told
 born p = writes (By.PutCron (id 7) (cron_of p)) []
@@ -84,6 +87,7 @@ claims_for v t n others = Of.Claim (record {
   time = t;
   job = ref (id t) (id n);
   active = others ++ ref (id t) (id n) ∷ [];
+  success = None;
 })
 
 abbrev start_of : ℕ → ℕ → Call
@@ -190,7 +194,7 @@ unfolding is_same put
 whole_follows = all_follow whole (refl, (refl, (refl, (refl, (tt, tt))))) (
   refl,
   (
-    record { name = refl; uid = refl; version = refl; time = refl; job = refl; active = refl },
+    record { name = refl; uid = refl; version = refl; time = refl; job = refl; active = refl; success = tt },
     (record { owner = refl; held = refl; policy = refl; time = omega arith; alone = refl }, (tt, tt)),
   ),
 )
@@ -290,6 +294,7 @@ pub another_name : started (asks 1 (Of.Start (ref (id 50) (id 5))) (asks 1 (Of.C
   time = 5;
   job = ref (id 50) (id 5);
   active = ref (id 50) (id 5) ∷ [];
+  success = None;
 })) (asks 1 (Of.Create (id 50) (job_for 5 Forbid)) name_is_taken))) (ref (id 50) (id 5)) ≡ true
 unfolding is_same put
 another_name = refl
@@ -318,7 +323,7 @@ no_other m = m
 -- a claim that leaves its Job out of status.active
 abbrev leaves_out : Call
 leaves_out =
-    Of.Claim (record { name = id 7; uid = id 0; version = id 0; time = 5; job = ref (id 5) (id 2); active = [] })
+    Of.Claim (record { name = id 7; uid = id 0; version = id 0; time = 5; job = ref (id 5) (id 2); active = []; success = None })
 
 abbrev before_claim : List Told
 before_claim = asks 1 (hold 5 Forbid) (asks 1 get (born Forbid))
@@ -434,9 +439,10 @@ pub takes_another : May (seen_of (own 1 leaves_alone)) (Of.Claim (record {
   time = 5;
   job = ref (id 50) (id 3);
   active = ref (id 50) (id 3) ∷ [];
+  success = None;
 }))
 unfolding is_same put
-takes_another = record { name = refl; uid = refl; version = refl; time = refl; job = refl; active = refl }
+takes_another = record { name = refl; uid = refl; version = refl; time = refl; job = refl; active = refl; success = tt }
 
 -- a DELETE before a start that somebody refuses, who may not have asked the server
 abbrev refused_delete : List Told
@@ -459,9 +465,10 @@ pub counts_once : May (seen_of (own 2 named_twice)) (Of.Tidy (record {
   uid = id 0;
   version = id 5;
   active = ref (id 5) (id 2) ∷ [];
+  success = None;
 }))
 unfolding is_same put
-counts_once = record { name = refl; uid = refl; version = refl; active = refl; changes = λ e. absurd (cc e) }
+counts_once = record { name = refl; uid = refl; version = refl; active = refl; success = tt; changes = λ s e. absurd (cc e) }
 
 -- a status.active as Kubernetes' own controller can leave it: with a reference that has no name
 abbrev nameless : List Told
@@ -474,9 +481,10 @@ pub drops_nameless : May (seen_of (own 2 nameless)) (Of.Tidy (record {
   uid = id 0;
   version = id 1;
   active = [];
+  success = None;
 }))
 unfolding is_same put
-drops_nameless = record { name = refl; uid = refl; version = refl; active = refl; changes = λ e. absurd (cc e) }
+drops_nameless = record { name = refl; uid = refl; version = refl; active = refl; success = tt; changes = λ s e. absurd (cc e) }
 
 -- No Job is made without a name.
 pub no_name : (served (state_of (born Forbid)) (stamp (born Forbid)) (Of.Create [] (job_for 5 Forbid))).answer
@@ -525,3 +533,91 @@ names_strangers = asks 2 (Of.GetJob (id 5)) (asks 2 get (writes (By.PutCron (id 
 pub not_of_another : May (seen_of (own 2 names_strangers)) (start_of 5 1) → ⊥
 unfolding is_same put
 not_of_another m = m
+
+-- ---- the last success
+
+-- a CronJob with a last success at 3, which a sync reads
+abbrev reads_success : List Told
+reads_success = asks 2 get (writes (By.PutCron (id 7) (record (cron_of Forbid) { success = 3 })) (born Forbid))
+
+-- a status that has nothing new in it but a success, if it is sent
+abbrev succeeded : Option ℕ → Call
+succeeded sent = Of.Tidy (record { name = id 7; uid = id 0; version = id 1; active = []; success = sent })
+
+-- the last success of the CronJob that stands
+abbrev success_in : Option Cron → ℕ
+success_in None = 0
+success_in (Some c) = c.success
+
+-- A later success may be sent, where nothing else is new.
+pub sends_success : May (seen_of (own 2 reads_success)) (succeeded (Some 4))
+unfolding is_same put
+sends_success =
+    record { name = refl; uid = refl; version = refl; active = refl; success = omega arith; changes = λ s e. absurd (cc s) }
+
+-- It is written.
+pub success_is_written : success_in (find (id 7) (state_of (asks 2 (succeeded (Some 4)) reads_success)).crons) ≡ 4
+unfolding is_same put
+success_is_written = refl
+
+-- A status that sends none leaves the one that stood.
+pub success_stays : success_in (find (id 7) (state_of (asks 2 (succeeded None) reads_success)).crons) ≡ 3
+unfolding is_same put
+success_stays = refl
+
+-- An earlier one may not be sent.
+pub no_earlier_success : May (seen_of (own 2 reads_success)) (succeeded (Some 2)) → ⊥
+unfolding is_same put
+no_earlier_success m = let l : 3 < 2 = m.success in omega arith
+
+-- Nor the one that stands.
+pub no_same_success : May (seen_of (own 2 reads_success)) (succeeded (Some 3)) → ⊥
+unfolding is_same put
+no_same_success m = let l : 3 < 3 = m.success in omega arith
+
+-- Where nothing is new, nothing may be written.
+pub not_for_nothing : May (seen_of (own 2 reads_success)) (succeeded None) → ⊥
+unfolding is_same put
+not_for_nothing m = m.changes refl refl
+
+-- ---- beside others
+
+-- another sync reads the CronJob
+abbrev read_by_another : Told
+read_by_another =
+    let h = claimed_by_one Forbid in
+    record { stamp = stamp h; deed = Asked 3 get true (served (state_of h) (stamp h) get).answer }
+
+-- A reading of another sync doesn't disturb one.
+pub not_by_reading : Undisturbed (id 0) 2 (read_by_another ∷ []) (claimed_by_one Forbid)
+not_by_reading = (
+  inr (record {
+    others = λ e. absurd (cc e);
+    leaves = record {
+      cron = λ n c at u. at;
+      held = λ n j at o e. at;
+      jobs = λ n j at o. record { job = j; stands = at; uid = refl };
+    };
+  }),
+  tt,
+)
+
+-- Nor does a write of another CronJob, whatever stands.
+pub not_by_another : (u n : List ℕ) (c : Cron) (y : ℕ) (s : Cluster) (t : Stamp)
+    → ((old : Cron) → find n s.crons ≡ Some old → old.uid ≡ u → ⊥) → IsBeside u y s t (Wrote (By.PutCron n c))
+not_by_another u n c y s t f = record {
+  others = tt;
+  leaves = record {
+    cron = λ m d at o. put_other n m (put_cron t c (find n s.crons)) s.crons
+        (λ e. f d (subst (λ (z : List ℕ). find z s.crons ≡ Some d) (sym e) at) o) ∙ at;
+    held = λ m j at o e. at;
+    jobs = λ m j at o. record { job = j; stands = at; uid = refl };
+  };
+}
+
+-- The deletion of its claimed Job by others does.
+pub by_deletion : (t : Stamp) → IsBeside (id 0) 2 (state_of (claimed_by_one Forbid)) t (Wrote (By.DropJob (id 5))) → ⊥
+unfolding is_same put
+by_deletion t b =
+    let gone = b.leaves.held (id 5) (made (record { uid = id 2; version = id 2 }) (job_for 5 Forbid)) refl refl refl in
+    absurd (cc gone)

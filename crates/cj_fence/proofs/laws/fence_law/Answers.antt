@@ -1,10 +1,12 @@
--- fence_law: its ensures, that whoever calls what, once, alone, claimed and rising hold; and the samples.
+-- fence_law: its ensures, that whoever calls what, once, alone, claimed and rising hold, and that no call takes the
+-- last success back; and the samples.
 use Rattle.cj_fence.proofs.laws.fence_law.Goals as goal
 use Rattle.cj_fence.proofs.FenceLemmas.Whole.{fenced}
-use Rattle.cj_fence.proofs.FenceLemmas.Samples.{not_under_forbid, not_again, not_by_name, not_at_once, whole_is_legal, whole_follows, whole_keeps_to, another_name, one_may_start, one_starts, two_helps, late_start, late_is_refused, not_beside, first_deletes, then_starts, helper_waits, helper_deletes, adopts, not_adopted, other_policy, no_other, not_left_out, is_conflict, nothing_made, not_garbage, not_by_cache, created_is_legal, not_started_so, rows_late, takes_another, not_refused, counts_once, drops_nameless, no_name, no_version, orphan_keeps_to, orphan_breaks, not_of_another}
+use Rattle.cj_fence.proofs.FenceLemmas.Success.{success_kept}
+use Rattle.cj_fence.proofs.FenceLemmas.Samples.{not_under_forbid, not_again, not_by_name, not_at_once, whole_is_legal, whole_follows, whole_keeps_to, another_name, one_may_start, one_starts, two_helps, late_start, late_is_refused, not_beside, first_deletes, then_starts, helper_waits, helper_deletes, adopts, not_adopted, other_policy, no_other, not_left_out, is_conflict, nothing_made, not_garbage, not_by_cache, created_is_legal, not_started_so, rows_late, takes_another, not_refused, counts_once, drops_nameless, no_name, no_version, orphan_keeps_to, orphan_breaks, not_of_another, sends_success, success_is_written, success_stays, no_earlier_success, no_same_success, not_for_nothing}
 
-pub returns : goal.returns
-returns c =
+pub returns-clause-fence : goal.returns-clause-fence
+returns-clause-fence c =
     let n0 = not_under_forbid in
     let n1 = not_again in
     let n2 = not_by_name in
@@ -45,3 +47,13 @@ returns c =
     let s29 = orphan_breaks in
     let s30 = not_of_another in
     fenced
+
+pub returns-clause-success : goal.returns-clause-success
+returns-clause-success c =
+    let s0 = sends_success in
+    let s1 = success_is_written in
+    let s2 = success_stays in
+    let s3 = no_earlier_success in
+    let s4 = no_same_success in
+    let s5 = not_for_nothing in
+    success_kept
