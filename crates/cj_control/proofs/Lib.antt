@@ -7,3 +7,4 @@ pub mod NameLemmas
 pub mod MarkLemmas
 pub mod RefLemmas
 pub mod RowLemmas
+mod SegmentLemmas

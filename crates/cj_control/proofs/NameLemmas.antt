@@ -1,5 +1,5 @@
 -- What stands before and behind the slash of a name.
-use Rattle.std.proofs.Common.{◌≡◌, ◌≢◌, ℕ, suc, ◌<◌, false, Bor, Some, None, Result, Ok, Err, inr, List, [], ◌∷◌, ◌++◌, refl, sym, ap, ◌∙◌, arith}
+use Rattle.std.proofs.Common.{◌≡◌, ◌≢◌, ℕ, suc, ◌<◌, false, Bor, Some, None, Result, Ok, Err, inl, inr, List, [], ◌∷◌, ◌++◌, refl, sym, ap, ◌∙◌, arith}
 use Rattle.std.specs.Prelude.{◌==◌, IfOk, codes, get_or, length, if◌then◌else◌}
 use Rattle.std.proofs.lemmas.Bool.Decides.{nat_tests}
 use Rattle.std.proofs.lemmas.Str.Pattern.{IsSplitOnceResult, split_parts}
@@ -12,7 +12,7 @@ use Rattle.cj_control.specs.declared.sent.Request.{Request}
 use Rattle.cj_control.specs.Created.{created_body}
 use Rattle.cj_control.specs.Parts.{PostsIt, marks_of}
 use Rattle.cj_control.specs.declared.sent.Verb.TheVariants as By
-use Rattle.cj_control.specs.Sent.{IsRequest, events_path}
+use Rattle.cj_control.specs.Sent.{IsRequest, event_path, events_path}
 use Rattle.cj_control.specs.SentFor.{IsOfNoSync, PostsJob, name_in, namespace_in}
 
 -- A byte that isn't the slash isn't it by the test.
@@ -112,5 +112,11 @@ posts_job s n j r p = (
 -- For event: a POST of an Event is of no sync.
 pub event_of_no_sync : {E : Type 0} (namespace : List ℕ) (body : Data) (r : Result Request E)
     → IfOk r (IsRequest By.Post (events_path namespace) (Some body)) → IfOk r IsOfNoSync
-event_of_no_sync namespace body (Ok r) h = inr (namespace, body, h)
+event_of_no_sync namespace body (Ok r) h = inr (inl (namespace, body, h))
 event_of_no_sync namespace body (Err e) h = tt
+
+-- For event_patch: a merge patch of an Event is of no sync.
+pub event_patch_of_no_sync : {E : Type 0} (namespace name : List ℕ) (body : Data) (r : Result Request E)
+    → IfOk r (IsRequest By.MergePatch (event_path namespace name) (Some body)) → IfOk r IsOfNoSync
+event_patch_of_no_sync namespace name body (Ok r) h = inr (inr (namespace, name, body, h))
+event_patch_of_no_sync namespace name body (Err e) h = tt

@@ -12,9 +12,57 @@ use Rattle.cj_fence.specs.declared.objects.Cron.{Cron}
 use Rattle.cj_fence.specs.declared.objects.Job.{Job}
 use Rattle.cj_fence.specs.declared.table.Row.{Row}
 use Rattle.cj_fence.specs.Objects.{is_policy, waits}
-use Rattle.cj_control.specs.Objects.{IsCron, IsJob, meta}
+use Rattle.cj_cluster.specs.kubectl.Rows.{member_of}
+use Rattle.cj_control.specs.Objects.{IsCron, IsJob, is_text}
+use Rattle.cj_control.specs.SentFor.{name_in}
 use Rattle.cj_control.specs.declared.line.LineKind.{LineKind}
 use Rattle.cj_control.specs.declared.line.LineKind.TheVariants.{Answered, Failed, Told, Clock, Stop}
+
+-- ---- what a body says of itself
+
+-- a text that is a member of an object, where both are there
+abbrev pub text_in : List ℕ → Option Data → Option (List ℕ)
+text_in name d = option_and_then as_str (member_of name d)
+
+-- a Status (meta/v1, Status): what API servers answer in place of an object. A proxy's own answers
+-- are none
+-- rule: control-answers
+abbrev pub is_status : Option Data → Bool
+is_status body = is_text (codes "Status") (text_in (codes "kind") body)
+
+-- what a Status says of the object that it is about (meta/v1, StatusDetails)
+abbrev pub detail : List ℕ → Option Data → Option (List ℕ)
+detail name body = text_in name (member_of (codes "details") body)
+
+-- a Status that says that the object of that resource and name isn't there
+-- rule: control-answers
+abbrev pub is_not_found : List ℕ → List ℕ → Option Data → Bool
+is_not_found resource name body =
+    (is_status body && is_text (codes "NotFound") (text_in (codes "reason") body))
+    && (is_text resource (detail (codes "kind") body)
+    && is_text name (detail (codes "name") body))
+
+-- a member of an object's metadata that is a text
+abbrev pub meta_text : List ℕ → Option Data → Option (List ℕ)
+meta_text name body = text_in name (member_of (codes "metadata") body)
+
+-- the object of that uid
+-- rule: control-answers
+abbrev pub is_object : List ℕ → Option Data → Bool
+is_object uid body = is_text uid (meta_text (codes "uid") body)
+
+-- a Status that says that the deletion of the object of that uid succeeded
+abbrev pub is_success : List ℕ → Option Data → Bool
+is_success uid body =
+    (is_status body && is_text (codes "Success") (text_in (codes "status") body))
+    && is_text uid (detail (codes "uid") body)
+
+-- such a Status, or the object itself
+-- rule: control-answers
+abbrev pub is_gone : List ℕ → Option Data → Bool
+is_gone uid body = is_success uid body || is_object uid body
+
+-- ---- a refusal
 
 -- the server looked, and refused: 403 Forbidden, 404 Not Found, 409 Conflict or AlreadyExists,
 -- 422 Unprocessable Entity
@@ -22,9 +70,11 @@ use Rattle.cj_control.specs.declared.line.LineKind.TheVariants.{Answered, Failed
 abbrev pub is_refusal : ℕ → Bool
 is_refusal status = (status == 403 || status == 404) || (status == 409 || status == 422)
 
--- any other status: whether the call took effect isn't known
-abbrev pub refused : ℕ → Answer
-refused status = if is_refusal status then Is.Refused else Is.Lost
+-- by a Status; else whether the call took effect isn't known
+-- rule: control-answers
+abbrev pub refused : ℕ → Option Data → Answer
+refused status body =
+    if is_refusal status && is_status body then Is.Refused else Is.Lost
 
 -- ---- a GET
 
@@ -47,7 +97,12 @@ IsJobFound name None a = a ≡ Is.Lost
 IsJobFound name (Some d) a =
     (read : Result (Row Job) Refusal) × IsJob d read × (a ≡ job_found name read)
 
--- by whether the status is 200, and whether it is 404
+-- 404 Not Found, and the body says that it is the object NAMESPACE/NAME that isn't there
+-- rule: control-answers
+abbrev pub is_missing : List ℕ → List ℕ → ℕ → Option Data → Bool
+is_missing resource n status body = status == 404 && is_not_found resource (name_in n) body
+
+-- by whether the status is 200, and whether the object is missing
 -- rule: control-answers
 abbrev pub IsCronGot : Bool → Bool → List ℕ → Option Data → Answer → Type 0
 IsCronGot true gone name body a = IsCronFound name body a
@@ -87,40 +142,51 @@ IsJobMade name j (Some d) a =
 -- rule: control-made
 abbrev pub IsCreated : Bool → ℕ → List ℕ → Job → Option Data → Answer → Type 0
 IsCreated true status name j body a = IsJobMade name j body a
-IsCreated false status name j body a = a ≡ refused status
+IsCreated false status name j body a = a ≡ refused status body
 
 -- ---- a PATCH, a DELETE
 
-abbrev pub version_of : Option Data → Option (List ℕ)
-version_of None = None
-version_of (Some d) = option_and_then as_str (meta (codes "resourceVersion") d)
+-- the version that the object of that uid has now
+-- rule: control-answers
+abbrev pub version_of : List ℕ → Option Data → Option (List ℕ)
+version_of uid body =
+    if is_object uid body then meta_text (codes "resourceVersion") body else None
 
 abbrev pub has_version : Option (List ℕ) → Answer
 has_version None = Is.Lost
 has_version (Some version) = Is.Written version
 
 -- rule: control-answers
-abbrev pub written : ℕ → Option Data → Answer
-written status body = if status == 200 then has_version (version_of body) else refused status
+abbrev pub written : List ℕ → ℕ → Option Data → Answer
+written uid status body =
+    if status == 200 then has_version (version_of uid body) else refused status body
 
--- the object is gone (200), or is going (202)
+-- the object of that uid is gone, or is going
 -- rule: control-answers
-abbrev pub deleted : ℕ → Answer
-deleted status = if status == 200 || status == 202 then Is.Deleted else refused status
+abbrev pub gone : List ℕ → Option Data → Answer
+gone uid body = if is_gone uid body then Is.Deleted else Is.Lost
+
+-- by 200 OK, or 202 Accepted
+-- rule: control-answers
+abbrev pub deleted : List ℕ → ℕ → Option Data → Answer
+deleted uid status body =
+    if status == 200 || status == 202 then gone uid body else refused status body
 
 -- ---- by the call
 
 -- a call of a cache isn't sent
 -- rule: control-answers
 abbrev pub IsReply : Call → ℕ → Option Data → Answer → Type 0
-IsReply (Of.GetCron n) status body a = IsCronGot (status == 200) (status == 404) n body a
-IsReply (Of.GetJob n) status body a = IsJobGot (status == 200) (status == 404) n body a
+IsReply (Of.GetCron n) status body a =
+    IsCronGot (status == 200) (is_missing (codes "cronjobs") n status body) n body a
+IsReply (Of.GetJob n) status body a =
+    IsJobGot (status == 200) (is_missing (codes "jobs") n status body) n body a
 IsReply (Of.Create n j) status body a = IsCreated (status == 201) status n j body a
-IsReply (Of.Claim w) status body a = a ≡ written status body
-IsReply (Of.Tidy w) status body a = a ≡ written status body
-IsReply (Of.Start r) status body a = a ≡ written status body
-IsReply (Of.Delete r) status body a = a ≡ deleted status
-IsReply (Of.Expire r v now) status body a = a ≡ deleted status
+IsReply (Of.Claim w) status body a = a ≡ written w.uid status body
+IsReply (Of.Tidy w) status body a = a ≡ written w.uid status body
+IsReply (Of.Start r) status body a = a ≡ written r.uid status body
+IsReply (Of.Delete r) status body a = a ≡ deleted r.uid status body
+IsReply (Of.Expire r v now) status body a = a ≡ deleted r.uid status body
 IsReply (Of.CacheCron n) status body a = a ≡ Is.Lost
 IsReply (Of.CacheJob n) status body a = a ≡ Is.Lost
 IsReply Of.ListJobs status body a = a ≡ Is.Lost

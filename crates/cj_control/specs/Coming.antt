@@ -1,6 +1,6 @@
 -- The calls by which a sync carries out its plan, if each of them is taken and nothing else happens
 -- meanwhile.
-use Rattle.std.specs.Prelude.{◌≡◌, ℕ, true, false, List, [], ◌∷◌, ◌++◌, map, codes}
+use Rattle.std.specs.Prelude.{◌≡◌, ℕ, true, false, List, [], ◌∷◌, ◌++◌, map, codes, None, Option}
 use Rattle.cj_fence.specs.Protocol.{drops_of}
 use Rattle.cj_fence.specs.declared.call.Call.{Call}
 use Rattle.cj_fence.specs.declared.call.Claim.{Claim}
@@ -46,20 +46,26 @@ new_job at t = record {
   pinned = false;
 }
 
--- what runs, and the new Job
-abbrev pub claim_of : At → List ℕ → ℕ → Claim
-claim_of at n t = record {
+-- what runs, and the new Job, with a later success if there is one
+abbrev pub claim_of : At → List ℕ → ℕ → Option ℕ → Claim
+claim_of at n t success = record {
   name = at.name;
   uid = at.cron.uid;
   version = at.cron.version;
   time = t;
   job = new_ref n;
   active = at.alive ++ new_ref n ∷ [];
+  success = success;
 }
 
-abbrev pub tidy_of : At → List ℕ → List Ref → Tidy
-tidy_of at version active =
-    record { name = at.name; uid = at.cron.uid; version = version; active = active }
+abbrev pub tidy_of : At → List ℕ → List Ref → Option ℕ → Tidy
+tidy_of at version active success = record {
+  name = at.name;
+  uid = at.cron.uid;
+  version = version;
+  active = active;
+  success = success;
+}
 
 abbrev pub deletions : List Ref → List Call
 deletions rs = map Of.Delete rs
@@ -67,30 +73,30 @@ deletions rs = map Of.Delete rs
 -- what was deleted for the start leaves the status
 abbrev pub left_after : At → List ℕ → List Ref → List Call
 left_after at n [] = []
-left_after at n (d ∷ ds) = Of.Tidy (tidy_of at next_version (new_ref n ∷ [])) ∷ []
+left_after at n (d ∷ ds) = Of.Tidy (tidy_of at next_version (new_ref n ∷ []) None) ∷ []
 
 -- a Job is created held, its time is claimed, what it replaces is deleted, and it is started
 -- rule: control-coming
-abbrev pub making : At → List ℕ → ℕ → List Ref → List Call
-making at n t drops =
-    ((Of.Create n (new_job at t) ∷ Of.Claim (claim_of at n t) ∷ []) ++ deletions drops)
+abbrev pub making : At → List ℕ → ℕ → Option ℕ → List Ref → List Call
+making at n t success drops =
+    ((Of.Create n (new_job at t) ∷ Of.Claim (claim_of at n t success) ∷ []) ++ deletions drops)
     ++ (Of.Start (new_ref n) ∷ left_after at n drops)
 
 -- where another Job has the name, what comes after the creation rests on the answer
 -- rule: control-coming
-abbrev pub calls_to : At → Errand → List Call
-calls_to at To.Rests = []
-calls_to at To.Tidies = Of.Tidy (tidy_of at at.cron.version at.alive) ∷ []
-calls_to at (To.Makes n t) = making at n t (drops_of at.cron.policy at.alive)
-calls_to at (To.Tries n t) = Of.Create n (new_job at t) ∷ []
-calls_to at (To.Helps h) =
+abbrev pub calls_to : At → Option ℕ → Errand → List Call
+calls_to at success To.Rests = []
+calls_to at success To.Tidies = Of.Tidy (tidy_of at at.cron.version at.alive success) ∷ []
+calls_to at success (To.Makes n t) = making at n t success (drops_of at.cron.policy at.alive)
+calls_to at success (To.Tries n t) = Of.Create n (new_job at t) ∷ []
+calls_to at success (To.Helps h) =
     deletions (drops_of h.found.policy at.alive) ++ (Of.Start h.job ∷ [])
-calls_to at (To.Expires h now) = Of.Expire h.job h.found.version now ∷ []
+calls_to at success (To.Expires h now) = Of.Expire h.job h.found.version now ∷ []
 
 -- what a sync is to do first, and then the deletion of garbage and of finished Jobs
 -- rule: control-coming
 abbrev pub calls_ahead : Ahead → List Call
-calls_ahead a = calls_to a.at a.errand ++ deletions a.gone
+calls_ahead a = calls_to a.at a.success a.errand ++ deletions a.gone
 
 -- ---- their requests
 

@@ -6,11 +6,13 @@ use Rattle.serde_json.specs.Find.{as_object}
 use Rattle.serde_json.specs.View.{items_of}
 use Rattle.cj_manifest.specs.Members.{present}
 use Rattle.cj_cluster.specs.kubectl.Rows.{member_of}
-use Rattle.cj_control.specs.Objects.{annotation, controller, meta, status}
+use Rattle.cj_control.specs.Objects.{annotation, controller, hold_in, hold_text, meta, status}
 use Rattle.cj_control.specs.Api.{api_text}
 use Rattle.cj_control.specs.declared.api.ApiVersion.{ApiVersion}
 use Rattle.cj_control.specs.declared.objects.head.Head.{Head}
 use Rattle.cj_control.specs.declared.created.MarkTexts.{MarkTexts}
+use Rattle.cj_control.specs.declared.hold.Hold.{Hold}
+use Rattle.cj_control.specs.declared.hold.Hold.TheVariants as Is
 use Rattle.cj_control.specs.declared.request.HeldBy.{HeldBy}
 use Rattle.cj_control.specs.declared.request.HeldBy.TheVariants.{Parallelism, Suspend}
 
@@ -34,6 +36,11 @@ abbrev pub counted : Bool → Members → Members
 counted true ms = ms
 counted false ms = put (codes "completions") (number (unsigned 1)) ms
 
+-- what holds a Job back that is created so
+abbrev pub hold_by : HeldBy → Hold
+hold_by Suspend = Is.Suspend
+hold_by Parallelism = Is.Parallelism
+
 -- the template's spec, held
 -- rule: control-created
 abbrev pub held_spec : HeldBy → Bool → Members → Members
@@ -48,11 +55,11 @@ held by spec = held_spec by (has_count spec) (members_of spec)
 abbrev pub labels : List ℕ → Members → Members
 labels uid ms = put (codes "cronsim/uid") (string uid) ms
 
--- the template's annotations, the time, the policy, the template's mark, and that it is held
+-- the template's annotations, the time, the policy, the template's mark, and what holds it back
 -- rule: control-created
-abbrev pub annotations : MarkTexts → Members → Members
-annotations m ms =
-    put (codes "cronsim/held") (string (codes "true")) (
+abbrev pub annotations : HeldBy → MarkTexts → Members → Members
+annotations by m ms =
+    put (codes "cronsim/held") (string (hold_text (hold_by by))) (
     put (codes "cronsim/template") (string m.template) (
     put (codes "cronsim/policy") (string m.policy) (
     put (codes "batch.kubernetes.io/cronjob-scheduled-timestamp") (string m.time) ms)))
@@ -100,24 +107,26 @@ template_members name template =
 abbrev pub created_body : ApiVersion → Head → List ℕ → MarkTexts → HeldBy → Data → Data
 created_body api h name m by template =
     job (metadata api h name
-    (object (annotations m (template_members (codes "annotations") template)))
+    (object (annotations by m (template_members (codes "annotations") template)))
     (object (labels h.uid (template_members (codes "labels") template))))
     (object (held by (present (codes "spec") template)))
 
--- what is created is what was asked for: of that name, controller, time and policy, held, and with
--- no end, no deletionTimestamp and no finalizer
+-- what is created is what was asked for: of that name, controller, time and policy, held as was
+-- asked, and with no end, no deletionTimestamp and no finalizer
 -- rule: control-created
-pub record ReadsBack (h : Head) (name : List ℕ) (m : MarkTexts) (d : Data) : Type 0 where
+pub record ReadsBack (h : Head) (name : List ℕ) (m : MarkTexts) (by : HeldBy)
+    (d : Data) : Type 0 where
   pub named : meta (codes "name") d ≡ Some (string name)
   pub placed : meta (codes "namespace") d ≡ Some (string h.namespace)
   pub owned : controller d ≡ h.uid
   pub timed : annotation (codes "batch.kubernetes.io/cronjob-scheduled-timestamp") d ≡ Some m.time
   pub policy : annotation (codes "cronsim/policy") d ≡ Some m.policy
-  pub held : annotation (codes "cronsim/held") d ≡ Some (codes "true")
+  pub held : annotation (codes "cronsim/held") d ≡ Some (hold_text (hold_by by))
+  pub waits : hold_in d ≡ Some (hold_by by)
   pub unended : status (codes "conditions") d ≡ None
   pub standing : meta (codes "deletionTimestamp") d ≡ None
   pub unpinned : meta (codes "finalizers") d ≡ None
 
 abbrev pub CreatedLaw : Type 0
 CreatedLaw = (api : ApiVersion) (h : Head) (name : List ℕ) (m : MarkTexts) (by : HeldBy)
-    (template : Data) → ReadsBack h name m (created_body api h name m by template)
+    (template : Data) → ReadsBack h name m by (created_body api h name m by template)

@@ -1,6 +1,6 @@
 -- What a controller takes from an object that an API server shows (Kubernetes API reference:
 -- ObjectMeta, ObjectReference, CronJobSpec, CronJobStatus, JobStatus).
-use Rattle.std.specs.Prelude.{◌≡◌, ◌⊎◌, ℕ, ◌&&◌, List, [], ◌∷◌, ◌++◌, codes, bytes_eq, Bool, true, false, if◌then◌else◌, Option, Some, None, is_some, option_and_then, unwrap_or, Result, Ok, Err}
+use Rattle.std.specs.Prelude.{◌≡◌, ◌⊎◌, ℕ, ◌&&◌, List, [], ◌∷◌, ◌++◌, codes, bytes_eq, Bool, true, false, if◌then◌else◌, Option, Some, None, is_none, is_some, option_and_then, unwrap_or, Result, Ok, Err}
 use Rattle.serde_json.specs.Data.{Data, Items, no_items, item}
 use Rattle.serde_json.specs.Find.{as_array, as_bool, as_number, as_str, as_u64}
 use Rattle.cj_base.specs.declared.cause.Cause.{Cause}
@@ -20,8 +20,12 @@ use Rattle.cj_cluster.specs.kubectl.Rows.{IsOptionalTime, member_of}
 use Rattle.cj_manifest.specs.Members.{present}
 use Rattle.cj_manifest.specs.Owners.{text_at}
 use Rattle.cj_manifest.specs.Values.{and_then, optional, or_default, or_wrong_type, required, text}
+use Rattle.cj_types.specs.Names.{name_cause}
+use Rattle.cj_control.specs.declared.hold.Hold.{Hold}
+use Rattle.cj_control.specs.declared.hold.Hold.TheVariants.{Parallelism, Suspend, Unsaid}
 use Rattle.cj_control.specs.declared.objects.head.Head.{Head}
 use Rattle.cj_control.specs.declared.objects.cron.CronSaid.{CronSaid}
+use Rattle.cj_control.specs.declared.objects.cron.CronTimes.{CronTimes}
 use Rattle.cj_control.specs.declared.objects.marks.JobMarks.{JobMarks}
 
 -- ---- members
@@ -55,11 +59,17 @@ then_read (Err e) f = Err e
 abbrev pub full_name : List ℕ → List ℕ → List ℕ
 full_name namespace name = namespace ++ (codes "/" ++ name)
 
--- the name of the Job that a reference is to, in its CronJob's namespace; one without a name is of
--- no Job
+-- a Job may have this name: a DNS subdomain of at most 253 characters (Kubernetes, "Object Names
+-- and IDs", from RFC 1123)
+-- rule: control-reads
+abbrev pub is_job_name : List ℕ → Bool
+is_job_name name = is_none (name_cause 253 name)
+
+-- the name of the Job that a reference is to, in its CronJob's namespace; one without such a name
+-- is of no Job
+-- rule: control-reads
 abbrev pub ref_name : List ℕ → List ℕ → List ℕ
-ref_name namespace [] = []
-ref_name namespace (x ∷ xs) = full_name namespace (x ∷ xs)
+ref_name namespace name = if is_job_name name then full_name namespace name else []
 
 -- what an API server gives each object (ObjectMeta)
 -- rule: control-reads
@@ -113,21 +123,36 @@ policy_row d = and_then policy_named (text d)
 abbrev pub count_row : Data → Result ℕ Cause
 count_row d = or_wrong_type (option_and_then as_u64 (as_number d))
 
--- the last schedule time, 0 where there is none, the policy and the starting deadline
+-- the last schedule time and the last successful time, 0 where there is none
 -- rule: control-reads
-abbrev pub said : Data → Result (Option ℕ) Cause → Result CronSaid Refusal
-said d last =
+abbrev pub times : Result (Option ℕ) Cause → Result (Option ℕ) Cause → Result CronTimes Refusal
+times last success =
     then_read (in_field At.LastScheduleTime last) (λ last.
+    then_read (in_field At.LastSuccessfulTime success) (λ success.
+    Ok (record { last = unwrap_or last 0; success = unwrap_or success 0 })))
+
+pub record AreTimes (d : Data) (r : Result CronTimes Refusal) : Type 0 where
+  pub last : Result (Option ℕ) Cause
+  pub timed : IsOptionalTime (status (codes "lastScheduleTime") d) last
+  pub success : Result (Option ℕ) Cause
+  pub succeeded : IsOptionalTime (status (codes "lastSuccessfulTime") d) success
+  pub is : times last success ≡ r
+
+-- these times, the policy and the starting deadline
+-- rule: control-reads
+abbrev pub said : Data → Result CronTimes Refusal → Result CronSaid Refusal
+said d times =
+    then_read times (λ times.
     then_read (in_field At.ConcurrencyPolicy
     (or_default Allow policy_row (spec (codes "concurrencyPolicy") d))) (λ policy.
     then_read (in_field At.StartingDeadlineSeconds
     (optional count_row (spec (codes "startingDeadlineSeconds") d))) (λ deadline.
-    Ok (record { last = unwrap_or last 0; policy = policy; deadline = deadline }))))
+    Ok (record { times = times; policy = policy; deadline = deadline }))))
 
 pub record IsSaid (d : Data) (r : Result CronSaid Refusal) : Type 0 where
-  pub last : Result (Option ℕ) Cause
-  pub timed : IsOptionalTime (status (codes "lastScheduleTime") d) last
-  pub is : said d last ≡ r
+  pub times : Result CronTimes Refusal
+  pub are : AreTimes d times
+  pub is : said d times ≡ r
 
 -- under its name, with its namespace
 abbrev pub cron_row : Head → CronSaid → List Ref → Row Cron
@@ -136,7 +161,8 @@ cron_row h s refs = record {
   object = record {
     uid = h.uid;
     version = h.version;
-    last = s.last;
+    last = s.times.last;
+    success = s.times.success;
     active = refs;
     policy = s.policy;
     deadline = s.deadline;
@@ -209,9 +235,63 @@ abbrev pub has_ended : Items → Bool
 has_ended no_items = false
 has_ended (item d ds) = if ends d then true else has_ended ds
 
+-- a condition that holds and says that the Job is complete (JobCondition)
+abbrev pub completes : Data → Bool
+completes d =
+    is_text (codes "True") (text_at (codes "status") d)
+    && is_text (codes "Complete") (text_at (codes "type") d)
+
+abbrev pub has_completed : Items → Bool
+has_completed no_items = false
+has_completed (item d ds) = if completes d then true else has_completed ds
+
+-- the moment that a text prints, if it prints one
+abbrev pub IsMoment : List ℕ → Option ℕ → Type 0
+IsMoment text r =
+    ((t : ℕ) × IsInstant text t × (r ≡ Some t)) ⊎ (IsNoInstant text × (r ≡ None))
+
+abbrev pub IsTextMoment : Option (List ℕ) → Option ℕ → Type 0
+IsTextMoment None r = r ≡ None
+IsTextMoment (Some text) r = IsMoment text r
+
+abbrev pub IsMomentAt : Option Data → Option ℕ → Type 0
+IsMomentAt d r = IsTextMoment (option_and_then as_str d) r
+
+abbrev pub IsCompletedBy : Bool → Option Data → Option ℕ → Type 0
+IsCompletedBy true d r = IsMomentAt d r
+IsCompletedBy false d r = r ≡ None
+
+-- when a Job that is complete was completed (JobStatus, completionTime)
+-- rule: last-success
+abbrev pub IsCompleted : Data → Option ℕ → Type 0
+IsCompleted d r = IsCompletedBy
+    (has_completed (list_or_none (option_and_then as_array (status (codes "conditions") d))))
+    (status (codes "completionTime") d) r
+
 abbrev pub has_items : Items → Bool
 has_items no_items = false
 has_items (item d ds) = true
+
+-- what holds a Job back until it is started (JobSpec): suspend is true, or parallelism is 0.
+-- Earlier versions wrote "true" in either case
+-- rule: control-held
+abbrev pub hold_text : Hold → List ℕ
+hold_text Suspend = codes "suspend"
+hold_text Parallelism = codes "parallelism"
+hold_text Unsaid = codes "true"
+
+-- the hold of one of these three texts
+-- rule: control-held
+abbrev pub hold_of : Option (List ℕ) → Option Hold
+hold_of text =
+    if is_text (codes "suspend") text then Some Suspend
+    else (if is_text (codes "parallelism") text then Some Parallelism
+    else (if is_text (codes "true") text then Some Unsaid else None))
+
+-- by an annotation; none where the Job isn't held
+-- rule: control-held
+abbrev pub hold_in : Data → Option Hold
+hold_in d = hold_of (annotation (codes "cronsim/held") d)
 
 -- what a Job's marks, its status and its metadata say
 -- rule: control-reads
@@ -219,7 +299,7 @@ pub record AreMarks (d : Data) (m : JobMarks) : Type 0 where
   pub time : IsTimeMark
       (annotation (codes "batch.kubernetes.io/cronjob-scheduled-timestamp") d) m.time
   pub policy : m.policy ≡ policy_mark (annotation (codes "cronsim/policy") d)
-  pub held : m.held ≡ is_text (codes "true") (annotation (codes "cronsim/held") d)
+  pub held : m.held ≡ is_some (hold_in d)
   pub finished : m.finished ≡ has_ended (list_or_none
       (option_and_then as_array (status (codes "conditions") d)))
   pub deleting : m.deleting ≡ is_some (meta (codes "deletionTimestamp") d)

@@ -13,13 +13,14 @@ use Rattle.cj_fence.specs.declared.policy.Policy.TheVariants.{Allow, Forbid, Rep
 use Rattle.cj_fence.specs.declared.refs.Ref.{Ref}
 use Rattle.cj_control.specs.declared.api.ApiVersion.{ApiVersion}
 use Rattle.cj_control.specs.declared.created.MarkTexts.{MarkTexts}
+use Rattle.cj_control.specs.declared.hold.Hold.{Hold}
 use Rattle.cj_control.specs.declared.objects.head.Head.{Head}
 use Rattle.cj_control.specs.declared.request.HeldBy.{HeldBy}
 use Rattle.cj_control.specs.declared.sent.Request.{Request}
 use Rattle.cj_control.specs.declared.sent.Verb.TheVariants as By
 use Rattle.cj_control.specs.Created.{created_body}
 use Rattle.cj_control.specs.Requests.{claim_body, delete_body, expire_body, reference, start_body, tidy_body}
-use Rattle.cj_control.specs.Sent.{IsRequest, cron_path, events_path, job_path, jobs_path, status_path}
+use Rattle.cj_control.specs.Sent.{IsRequest, cron_path, event_path, events_path, job_path, jobs_path, status_path}
 
 -- ---- names
 
@@ -76,19 +77,20 @@ PatchesStatus n body r = (api : ApiVersion)
 
 abbrev pub ClaimsIt : Claim → Request → Type 0
 ClaimsIt w r =
-    PatchesStatus w.name (claim_body w.uid w.version w.time (active_data w.active)) r
+    PatchesStatus w.name (claim_body w.uid w.version w.time (active_data w.active) w.success) r
 
 abbrev pub TidiesIt : Tidy → Request → Type 0
-TidiesIt w r = PatchesStatus w.name (tidy_body w.uid w.version (active_data w.active)) r
+TidiesIt w r =
+    PatchesStatus w.name (tidy_body w.uid w.version (active_data w.active) w.success) r
 
 abbrev pub PostsJob : List ℕ → Job → Request → Type 0
 PostsJob n j r = (body : Data) × CreatesIt n j body
     × IsRequest By.Post (jobs_path (namespace_in n)) (Some body) r
 
 abbrev pub StartsJob : Ref → Request → Type 0
-StartsJob job r = (by : HeldBy) × (value : Data)
+StartsJob job r = (hold : Hold) × (suspend : Data) × (parallelism : Data)
     × IsRequest By.JsonPatch (job_path (namespace_in job.name) (name_in job.name))
-    (Some (start_body job.uid by value)) r
+    (Some (start_body job.uid hold suspend parallelism)) r
 
 abbrev pub DeletesJob : Ref → Data → Request → Type 0
 DeletesJob job body r =
@@ -109,9 +111,11 @@ IsSentFor (Of.CacheCron n) r = ⊥
 IsSentFor (Of.CacheJob n) r = ⊥
 IsSentFor Of.ListJobs r = ⊥
 
--- a request of no sync reads, or tells an Event
+-- a request of no sync reads, or tells an Event, or how often one came
 -- rule: control-requests
 abbrev pub IsOfNoSync : Request → Type 0
 IsOfNoSync r = ((path : List ℕ) × IsRequest By.Get path None r)
-    ⊎ ((namespace : List ℕ) × (body : Data)
+    ⊎ (((namespace : List ℕ) × (body : Data)
     × IsRequest By.Post (events_path namespace) (Some body) r)
+    ⊎ ((namespace : List ℕ) × (name : List ℕ) × (body : Data)
+    × IsRequest By.MergePatch (event_path namespace name) (Some body) r))

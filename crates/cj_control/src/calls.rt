@@ -1,19 +1,23 @@
 // What is sent for a call of a sync.
-ghost use Rattle.std.specs.Prelude.{◌≡◌, ◌↔◌, IsTrue, map, option_map, IfOk, IfErr, IfSome};
+ghost use Rattle.std.specs.Prelude.{◌≡◌, ◌↔◌, ◌⊎◌, ◌<◌, IsTrue, map, option_map, IfOk, IfErr, IfNone, IfSome};
 ghost use Rattle.serde_json.specs.View.{view};
+ghost use Rattle.cj_base.specs.Instant.{last_second};
 ghost use Rattle.cj_base.specs.declared.refusal.Refusal.TheVariants.{OutOfMemory};
 ghost use Rattle.cj_control.specs.SentFor as sent;
 ghost use Rattle.cj_control.specs.Parts as from;
+ghost use Rattle.cj_control.specs.Requests.{start_body};
 
 use crate::api::ApiVersion;
 use crate::created::{MarkTexts, created_body};
+use crate::hold::Hold;
 use crate::names::parts;
 use crate::objects::{Head, member};
 use crate::request::{
     HeldBy, claim_body, delete_body, expire_body, reference, start_body, tidy_body,
 };
 use crate::sent::{
-    Request, delete_job, get_cron, get_job, patch_job, patch_status, post_event, post_job,
+    Request, delete_job, get_cron, get_job, patch_event, patch_job, patch_status, post_event,
+    post_job,
 };
 use cj_base::{Refusal, Seconds, Text, TryCopy};
 use cj_fence::{Call, Claim, Job, Policy, Ref, Refs, Tidy};
@@ -27,8 +31,11 @@ use std::alloc::Global;
 pub struct CronParts {
     /// The version of the API that CronJobs are served in.
     pub api: ApiVersion,
-    /// What keeps a held Job from running.
+    /// How its Jobs are created so that they don't run yet.
     pub by: HeldBy,
+    /// What holds the Job back that is to be started: as Jobs are created, until a Job that was
+    /// read says otherwise.
+    pub hold: Hold,
     /// The CronJob's names.
     pub head: Head,
     /// `spec.jobTemplate`.
@@ -42,6 +49,7 @@ impl Drop for CronParts {
         let CronParts {
             api: _,
             by: _,
+            hold: _,
             head,
             template,
             mark,
@@ -90,7 +98,8 @@ fn active_value(alloc: Global, jobs: &Refs) -> Result<Value, Refusal>
 }
 
 fn cron_request(alloc: Global, source: &CronParts, full: &Text) -> Result<Request, Refusal>
-    ensures ok { IfOk result (sent.GetsCron full.now) }
+    ensures ok { IfOk result (from.GetsIt source.now full.now) }
+    ensures says { IfOk result (sent.GetsCron full.now) }
     ensures err { IfErr result (λ e. e ≡ OutOfMemory) }
 {
     let (namespace, name) = parts(full.as_str());
@@ -136,6 +145,8 @@ fn create_request(
 ) -> Result<Option<Request>, Refusal>
     ensures ok { IfOk result (λ o. IfSome o (from.PostsIt source.now full.now job.now)) }
     ensures says { IfOk result (λ o. IfSome o (sent.PostsJob full.now job.now)) }
+    ensures none { IfOk result (λ o. IfNone o
+        (from.IsOf source.now (sent.namespace_in full.now) job.now → last_second < job.now.time)) }
     ensures err { IfErr result (λ e. e ≡ OutOfMemory) }
 {
     let (namespace, name) = parts(full.as_str());
@@ -158,15 +169,35 @@ fn create_request(
     Ok(Some(post_job(alloc, namespace, body)?))
 }
 
+// A time that is sent, if one is; none where it is past the greatest that is written.
+fn success_in(success: Option<u64>) -> Option<Option<Seconds>>
+    ensures value { IfSome result (λ s. s ≡ success) }
+    ensures none { IfNone result (from.IsPast success) }
+{
+    match success {
+        None => Some(None),
+        Some(time) => match Seconds::new(time) {
+            Some(seconds) => Some(Some(seconds)),
+            None => None,
+        },
+    }
+}
+
 fn claim_request(
     alloc: Global,
     source: &CronParts,
     claim: &Claim,
 ) -> Result<Option<Request>, Refusal>
-    ensures ok { IfOk result (λ o. IfSome o (sent.ClaimsIt claim.now)) }
+    ensures ok { IfOk result (λ o. IfSome o (from.ClaimsFrom source.now claim.now)) }
+    ensures says { IfOk result (λ o. IfSome o (sent.ClaimsIt claim.now)) }
+    ensures none { IfOk result (λ o. IfNone o
+        ((last_second < claim.now.time) ⊎ from.IsPast claim.now.success)) }
     ensures err { IfErr result (λ e. e ≡ OutOfMemory) }
 {
     let Some(time) = Seconds::new(claim.time) else {
+        return Ok(None);
+    };
+    let Some(success) = success_in(claim.success) else {
         return Ok(None);
     };
     let active = active_value(alloc, &claim.active)?;
@@ -176,19 +207,31 @@ fn claim_request(
         claim.version.as_str(),
         time,
         active,
+        success,
     )?;
     let (namespace, name) = parts(claim.name.as_str());
     Ok(Some(patch_status(alloc, source.api, namespace, name, body)?))
 }
 
-fn tidy_request(alloc: Global, source: &CronParts, tidy: &Tidy) -> Result<Request, Refusal>
-    ensures ok { IfOk result (sent.TidiesIt tidy.now) }
+fn tidy_request(alloc: Global, source: &CronParts, tidy: &Tidy) -> Result<Option<Request>, Refusal>
+    ensures ok { IfOk result (λ o. IfSome o (from.TidiesFrom source.now tidy.now)) }
+    ensures says { IfOk result (λ o. IfSome o (sent.TidiesIt tidy.now)) }
+    ensures none { IfOk result (λ o. IfNone o (from.IsPast tidy.now.success)) }
     ensures err { IfErr result (λ e. e ≡ OutOfMemory) }
 {
+    let Some(success) = success_in(tidy.success) else {
+        return Ok(None);
+    };
     let active = active_value(alloc, &tidy.active)?;
-    let body = tidy_body(alloc, tidy.uid.as_str(), tidy.version.as_str(), active)?;
+    let body = tidy_body(
+        alloc,
+        tidy.uid.as_str(),
+        tidy.version.as_str(),
+        active,
+        success,
+    )?;
     let (namespace, name) = parts(tidy.name.as_str());
-    patch_status(alloc, source.api, namespace, name, body)
+    Ok(Some(patch_status(alloc, source.api, namespace, name, body)?))
 }
 
 fn or_value(alloc: Global, found: Option<&Value>, usual: Value) -> Result<Value, Refusal>
@@ -202,24 +245,48 @@ fn or_value(alloc: Global, found: Option<&Value>, usual: Value) -> Result<Value,
     }
 }
 
-// What the template says of what held the Job back.
-fn start_value(alloc: Global, source: &CronParts) -> Result<Value, Refusal>
-    ensures ok { IfOk result (λ v. view v ≡ from.start_value source.now) }
+// A member of the spec of the template.
+fn template_spec<'s>(source: &'s CronParts, name: &str) -> Option<&'s Value>
+    ensures { option_map (λ v. view v.now) result ≡ from.template_spec name.now source.now }
+{
+    member(present(&source.template, "spec"), name)
+}
+
+// Whether Jobs of the template are suspended.
+fn suspend(alloc: Global, source: &CronParts) -> Result<Value, Refusal>
+    ensures ok { IfOk result (λ v. view v ≡ from.suspend_of source.now) }
     ensures err { IfErr result (λ e. e ≡ OutOfMemory) }
 {
-    let spec = present(&source.template, "spec");
-    match source.by {
-        HeldBy::Suspend => or_value(alloc, member(spec, "suspend"), Value::from(false)),
-        HeldBy::Parallelism => or_value(alloc, member(spec, "parallelism"), Value::from(1_u64)),
-    }
+    let found = template_spec(source, "suspend");
+    or_value(alloc, found, Value::from(false))
+}
+
+// How many Pods of such a Job run at once.
+fn parallelism(alloc: Global, source: &CronParts) -> Result<Value, Refusal>
+    ensures ok { IfOk result (λ v. view v ≡ from.parallelism_of source.now) }
+    ensures err { IfErr result (λ e. e ≡ OutOfMemory) }
+{
+    let found = template_spec(source, "parallelism");
+    or_value(alloc, found, Value::from(1_u64))
+}
+
+// The patch that starts the Job of that uid.
+fn start_value(alloc: Global, source: &CronParts, uid: &str) -> Result<Value, Refusal>
+    ensures ok { IfOk result (λ v. view v ≡ start_body uid.now source.now.hold
+        (from.suspend_of source.now) (from.parallelism_of source.now)) }
+    ensures err { IfErr result (λ e. e ≡ OutOfMemory) }
+{
+    let suspend = suspend(alloc, source)?;
+    let parallelism = parallelism(alloc, source)?;
+    start_body(alloc, uid, source.hold, suspend, parallelism)
 }
 
 fn start_request(alloc: Global, source: &CronParts, job: &Ref) -> Result<Request, Refusal>
     ensures ok { IfOk result (from.StartsIt source.now job.now) }
+    ensures says { IfOk result (sent.StartsJob job.now) }
     ensures err { IfErr result (λ e. e ≡ OutOfMemory) }
 {
-    let value = start_value(alloc, source)?;
-    let body = start_body(alloc, job.uid.as_str(), source.by, value)?;
+    let body = start_value(alloc, source, job.uid.as_str())?;
     let (namespace, name) = parts(job.name.as_str());
     patch_job(alloc, namespace, name, body)
 }
@@ -232,14 +299,17 @@ fn delete_request(alloc: Global, job: &Ref, body: Value) -> Result<Request, Refu
     delete_job(alloc, namespace, name, body)
 }
 
-/// The request that says what a call is. None for what a cache is asked, for a Job that isn't to be
-/// of this CronJob, and for a time past the greatest that is written.
+/// The one request of a call, which says what the call is, by its CronJob. None for what a cache is
+/// asked, for a Job that isn't to be of this CronJob, and for a time past the greatest that is
+/// written.
 pub fn request_of(
     alloc: Global,
     source: &CronParts,
     call: &Call,
 ) -> Result<Option<Request>, Refusal>
     ensures ok { IfOk result (λ o. IfSome o (sent.IsSentFor call.now)) }
+    ensures exact { IfOk result (λ o. IfSome o (from.IsExactly source.now call.now)) }
+    ensures none { IfOk result (λ o. IfNone o (from.HasNone source.now call.now)) }
     ensures err { IfErr result (λ e. e ≡ OutOfMemory) }
 {
     match call {
@@ -247,7 +317,7 @@ pub fn request_of(
         Call::GetJob(name) => Ok(Some(job_request(alloc, name)?)),
         Call::Create(name, job) => create_request(alloc, source, name, job),
         Call::Claim(claim) => claim_request(alloc, source, claim),
-        Call::Tidy(tidy) => Ok(Some(tidy_request(alloc, source, tidy)?)),
+        Call::Tidy(tidy) => tidy_request(alloc, source, tidy),
         Call::Start(job) => Ok(Some(start_request(alloc, source, job)?)),
         Call::Delete(job) => {
             let body = delete_body(alloc, job.uid.as_str())?;
@@ -267,4 +337,17 @@ pub fn event_request(alloc: Global, namespace: &str, body: Value) -> Result<Requ
     ensures { IfOk result sent.IsOfNoSync }
 {
     post_event(alloc, namespace, body)
+}
+
+/// The merge patch of an Event by which it is counted, which is of no sync.
+#[tactic(auto, using(crate::proofs::NameLemmas::event_patch_of_no_sync))]
+pub fn event_patch(
+    alloc: Global,
+    namespace: &str,
+    name: &str,
+    body: Value,
+) -> Result<Request, Refusal>
+    ensures { IfOk result sent.IsOfNoSync }
+{
+    patch_event(alloc, namespace, name, body)
 }

@@ -1,5 +1,5 @@
 // The calls by which a sync carries out its plan.
-ghost use Rattle.std.specs.Prelude.{◌≡◌, [], ◌∷◌, ◌++◌, IfOk, IfErr, IfSome, OnOk};
+ghost use Rattle.std.specs.Prelude.{◌≡◌, [], ◌∷◌, ◌++◌, IfOk, IfErr, IfSome, OnOk, None};
 ghost use Rattle.cj_base.specs.declared.refusal.Refusal.TheVariants.{OutOfMemory};
 ghost use Rattle.cj_fence.specs.Protocol.{drops_of};
 ghost use Rattle.cj_fence.specs.declared.call.Call.TheVariants as Of;
@@ -34,6 +34,8 @@ pub enum Errand {
 pub struct Ahead {
     pub at: At,
     pub errand: Errand,
+    /// When a Job succeeded last, where the status is to say so.
+    pub success: Option<u64>,
     /// The Jobs that are deleted at the end.
     pub gone: Refs,
 }
@@ -84,8 +86,14 @@ fn active_with(alloc: Global, alive: &Refs, name: &Text) -> Result<Refs, Refusal
     Ok(active)
 }
 
-fn claim(alloc: Global, at: &At, name: &Text, time: u64) -> Result<Call, Refusal>
-    ensures ok { IfOk result (λ c. c ≡ Of.Claim (coming.claim_of at.now name.now time)) }
+fn claim(
+    alloc: Global,
+    at: &At,
+    name: &Text,
+    time: u64,
+    success: Option<u64>,
+) -> Result<Call, Refusal>
+    ensures ok { IfOk result (λ c. c ≡ Of.Claim (coming.claim_of at.now name.now time success)) }
     ensures err { IfErr result (λ e. e ≡ OutOfMemory) }
 {
     let active = active_with(alloc, &at.alive, name)?;
@@ -96,11 +104,19 @@ fn claim(alloc: Global, at: &At, name: &Text, time: u64) -> Result<Call, Refusal
         time,
         job: new_ref(alloc, name)?,
         active,
+        success,
     }))
 }
 
-fn tidy(alloc: Global, at: &At, version: &str, active: Refs) -> Result<Call, Refusal>
-    ensures ok { IfOk result (λ c. c ≡ Of.Tidy (coming.tidy_of at.now version.now active)) }
+fn tidy(
+    alloc: Global,
+    at: &At,
+    version: &str,
+    active: Refs,
+    success: Option<u64>,
+) -> Result<Call, Refusal>
+    ensures ok { IfOk result (λ c. c
+        ≡ Of.Tidy (coming.tidy_of at.now version.now active success)) }
     ensures err { IfErr result (λ e. e ≡ OutOfMemory) }
 {
     Ok(Call::Tidy(Tidy {
@@ -108,6 +124,7 @@ fn tidy(alloc: Global, at: &At, version: &str, active: Refs) -> Result<Call, Ref
         uid: at.cron.uid.try_copy(alloc)?,
         version: Text::new(alloc, version)?,
         active,
+        success,
     }))
 }
 
@@ -171,13 +188,13 @@ fn only(alloc: Global, name: &Text) -> Result<Refs, Refusal>
 // The status of the new Job alone.
 fn tidied_after(alloc: Global, at: &At, name: &Text) -> Result<Vec<Call>, Refusal>
     ensures ok { IfOk result (λ v. v.items ≡ Of.Tidy (coming.tidy_of at.now coming.next_version
-        (coming.new_ref name.now ∷ [])) ∷ []) }
+        (coming.new_ref name.now ∷ []) None) ∷ []) }
     ensures err { IfErr result (λ e. e ≡ OutOfMemory) }
 {
     let active = only(alloc, name)?;
     one_call(
         alloc,
-        tidy(alloc, at, "(resourceVersion after the claim)", active)?,
+        tidy(alloc, at, "(resourceVersion after the claim)", active, None)?,
     )
 }
 
@@ -193,13 +210,19 @@ fn left_after(alloc: Global, at: &At, name: &Text, drops: &[Ref]) -> Result<Vec<
 }
 
 // The creation of a Job, and the claim of its time.
-fn holding(alloc: Global, at: &At, name: &Text, time: u64) -> Result<Vec<Call>, Refusal>
+fn holding(
+    alloc: Global,
+    at: &At,
+    name: &Text,
+    time: u64,
+    success: Option<u64>,
+) -> Result<Vec<Call>, Refusal>
     ensures ok { IfOk result (λ v. v.items ≡ Of.Create name.now (coming.new_job at.now time)
-        ∷ Of.Claim (coming.claim_of at.now name.now time) ∷ []) }
+        ∷ Of.Claim (coming.claim_of at.now name.now time success) ∷ []) }
     ensures err { IfErr result (λ e. e ≡ OutOfMemory) }
 {
     let mut calls = one_call(alloc, create(alloc, at, name, time)?)?;
-    push_call(&mut calls, claim(alloc, at, name, time)?)?;
+    push_call(&mut calls, claim(alloc, at, name, time, success)?)?;
     Ok(calls)
 }
 
@@ -218,23 +241,28 @@ fn making(
     at: &At,
     name: &Text,
     time: u64,
+    success: Option<u64>,
     drops: &[Ref],
 ) -> Result<Vec<Call>, Refusal>
-    ensures ok { IfOk result (λ v. v.items ≡ coming.making at.now name.now time drops.now) }
+    ensures ok { IfOk result (λ v.
+        v.items ≡ coming.making at.now name.now time success drops.now) }
     ensures err { IfErr result (λ e. e ≡ OutOfMemory) }
 {
-    let held = holding(alloc, at, name, time)?;
+    let held = holding(alloc, at, name, time, success)?;
     let alone = joined(held, deletions(alloc, drops)?)?;
     joined(alone, starting(alloc, at, name, drops)?)
 }
 
-fn tidying(alloc: Global, at: &At) -> Result<Vec<Call>, Refusal>
-    ensures ok { IfOk result (λ v.
-        v.items ≡ Of.Tidy (coming.tidy_of at.now at.now.cron.version at.now.alive) ∷ []) }
+fn tidying(alloc: Global, at: &At, success: Option<u64>) -> Result<Vec<Call>, Refusal>
+    ensures ok { IfOk result (λ v. v.items
+        ≡ Of.Tidy (coming.tidy_of at.now at.now.cron.version at.now.alive success) ∷ []) }
     ensures err { IfErr result (λ e. e ≡ OutOfMemory) }
 {
     let active = at.alive.try_copy(alloc)?;
-    one_call(alloc, tidy(alloc, at, at.cron.version.as_str(), active)?)
+    one_call(
+        alloc,
+        tidy(alloc, at, at.cron.version.as_str(), active, success)?,
+    )
 }
 
 fn helping(alloc: Global, at: &At, held: &Held) -> Result<Vec<Call>, Refusal>
@@ -258,16 +286,21 @@ fn expiring(alloc: Global, held: &Held, now: u64) -> Result<Vec<Call>, Refusal>
     one_call(alloc, Call::Expire(job, version, now))
 }
 
-fn calls_to(alloc: Global, at: &At, errand: &Errand) -> Result<Vec<Call>, Refusal>
-    ensures ok { IfOk result (λ v. v.items ≡ coming.calls_to at.now errand.now) }
+fn calls_to(
+    alloc: Global,
+    at: &At,
+    success: Option<u64>,
+    errand: &Errand,
+) -> Result<Vec<Call>, Refusal>
+    ensures ok { IfOk result (λ v. v.items ≡ coming.calls_to at.now success errand.now) }
     ensures err { IfErr result (λ e. e ≡ OutOfMemory) }
 {
     match errand {
         Errand::Rests => Ok(Vec::new(alloc)),
-        Errand::Tidies => tidying(alloc, at),
+        Errand::Tidies => tidying(alloc, at, success),
         Errand::Makes(name, time) => {
             let drops = drops_of(at.cron.policy, &at.alive);
-            making(alloc, at, name, *time, drops)
+            making(alloc, at, name, *time, success, drops)
         }
         Errand::Tries(name, time) => one_call(alloc, create(alloc, at, name, *time)?),
         Errand::Helps(held) => helping(alloc, at, held),
@@ -281,7 +314,7 @@ pub fn calls_ahead(alloc: Global, ahead: &Ahead) -> Result<Vec<Call>, Refusal>
     ensures ok { IfOk result (λ v. v.items ≡ coming.calls_ahead ahead.now) }
     ensures err { IfErr result (λ e. e ≡ OutOfMemory) }
 {
-    let first = calls_to(alloc, &ahead.at, &ahead.errand)?;
+    let first = calls_to(alloc, &ahead.at, ahead.success, &ahead.errand)?;
     joined(first, deletions(alloc, ahead.gone.as_slice())?)
 }
 

@@ -81,25 +81,31 @@ fn put_marks(
     members: &mut Map<String, Value>,
     alloc: Global,
     marks: &MarkTexts,
+    by: HeldBy,
 ) -> Result<(), Refusal>
     ensures ok { OnOk result (members_view members.new.entries
-        ≡ made.annotations marks.now (members_view members.old.entries)) }
+        ≡ made.annotations by marks.now (members_view members.old.entries)) }
     ensures err { IfErr result (λ e. e ≡ OutOfMemory) }
 {
     let time = "batch.kubernetes.io/cronjob-scheduled-timestamp";
     put_text(members, alloc, time, marks.time.as_str())?;
     put_text(members, alloc, "cronsim/policy", marks.policy.as_str())?;
     put_text(members, alloc, "cronsim/template", marks.template.as_str())?;
-    put_text(members, alloc, "cronsim/held", "true")
+    put_text(members, alloc, "cronsim/held", by.hold().text())
 }
 
-fn annotations(alloc: Global, marks: &MarkTexts, template: &Value) -> Result<Value, Refusal>
-    ensures ok { IfOk result (λ v. view v ≡ object (made.annotations marks.now
+fn annotations(
+    alloc: Global,
+    marks: &MarkTexts,
+    by: HeldBy,
+    template: &Value,
+) -> Result<Value, Refusal>
+    ensures ok { IfOk result (λ v. view v ≡ object (made.annotations by marks.now
         (made.template_members (codes "annotations") (view template.now)))) }
     ensures err { IfErr result (λ e. e ≡ OutOfMemory) }
 {
     let mut members = members_of(alloc, meta(template, "annotations"))?;
-    put_marks(&mut members, alloc, marks)?;
+    put_marks(&mut members, alloc, marks, by)?;
     Ok(Value::Object(members))
 }
 
@@ -241,7 +247,7 @@ pub fn created_body(
         ≡ made.created_body api head.now name.now marks.now by (view template.now)) }
     ensures err { IfErr result (λ e. e ≡ OutOfMemory) }
 {
-    let annotations = annotations(alloc, marks, template)?;
+    let annotations = annotations(alloc, marks, by, template)?;
     let labels = labels(alloc, head.uid.as_str(), template)?;
     let spec = held_spec(alloc, by, present(template, "spec"))?;
     let metadata = metadata(alloc, api, head, name, annotations, labels)?;

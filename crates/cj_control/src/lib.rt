@@ -15,6 +15,7 @@ mod coming;
 mod created;
 mod deed;
 mod hearing;
+mod hold;
 mod laws;
 mod ledger;
 mod line;
@@ -27,17 +28,18 @@ mod sent;
 mod template;
 
 pub use api::ApiVersion;
-pub use calls::{CronParts, event_request, request_of};
+pub use calls::{CronParts, event_patch, event_request, request_of};
 pub use coming::{Ahead, Errand, calls_ahead, requests_for};
 pub use created::{MarkTexts, created_body};
 pub use deed::Deed;
-pub use laws::{created_law, follow_law};
+pub use hold::{Hold, hold_in};
+pub use laws::{created_law, follow_law, segment_law, start_law};
 pub use ledger::Ledger;
 pub use line::{Line, LineFault, LineKind, read_line};
 pub use names::parts;
 pub use objects::{
-    CronSaid, Head, JobMarks, annotation, full_name, is_text, list_of, meta, read_cron, read_head,
-    read_job, spec, text_at,
+    CronSaid, CronTimes, Head, JobMarks, annotation, completed_at, full_name, is_text, list_of,
+    meta, read_cron, read_head, read_job, spec, text_at,
 };
 pub use reply::answer_in;
 pub use request::{HeldBy, claim_body, delete_body, expire_body, reference, start_body, tidy_body};

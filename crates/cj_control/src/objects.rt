@@ -1,12 +1,14 @@
 // Objects as an API server shows them: a CronJob and a Job as the fenced start sees them.
 
+mod completion;
 mod cron;
 mod head;
 mod job;
 mod marks;
 mod members;
 
-pub use cron::{CronSaid, read_cron};
+pub use completion::completed_at;
+pub use cron::{CronSaid, CronTimes, read_cron};
 pub use head::{Head, read_head};
 pub use job::read_job;
 pub use marks::JobMarks;

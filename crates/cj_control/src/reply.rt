@@ -1,5 +1,5 @@
 // What a line says as the answer to a call of a sync.
-ghost use Rattle.std.specs.Prelude.{◌≡◌, ◌≢◌, ◌==◌, Ok, Err, IfOk, IfErr, option_map};
+ghost use Rattle.std.specs.Prelude.{◌≡◌, ◌≢◌, ◌==◌, Ok, Err, IfOk, IfErr, codes, option_map};
 ghost use Rattle.serde_json.specs.View.{view};
 ghost use Rattle.cj_base.specs.declared.refusal.Refusal.TheVariants.{OutOfMemory};
 ghost use Rattle.cj_fence.specs.Objects.{is_policy, waits};
@@ -7,16 +7,87 @@ ghost use Rattle.cj_control.specs.Objects.{IsCron, IsJob};
 ghost use Rattle.cj_control.specs.Answers as said;
 
 use crate::line::LineKind;
-use crate::objects::{meta, read_cron, read_job};
+use crate::names::parts;
+use crate::objects::{is_text, member, read_cron, read_job};
 use cj_base::{Refusal, Text, TryCopy};
 use cj_fence::{Answer, Call, Cron, Job, Policy, Row, Stamp};
 use serde_json::Value;
 use std::alloc::Global;
 
-fn refused(status: u64) -> Answer
-    ensures { result ≡ said.refused status }
+// A text that is a member of an object, where both are there.
+fn text_in<'v>(body: Option<&'v Value>, name: &str) -> Option<&'v str>
+    ensures { option_map (λ s. s.now) result
+        ≡ said.text_in name.now (option_map (λ v. view v.now) body.entry) }
 {
-    if status == 403 || status == 404 || status == 409 || status == 422 {
+    member(body, name)?.as_str()
+}
+
+// Whether a body is a Status, as API servers answer.
+fn is_status(body: Option<&Value>) -> bool
+    ensures { result ≡ said.is_status (option_map (λ v. view v.now) body.entry) }
+{
+    is_text("Status", text_in(body, "kind"))
+}
+
+// What a Status says of the object that it is about.
+fn detail<'v>(body: Option<&'v Value>, name: &str) -> Option<&'v str>
+    ensures { option_map (λ s. s.now) result
+        ≡ said.detail name.now (option_map (λ v. view v.now) body.entry) }
+{
+    text_in(member(body, "details"), name)
+}
+
+// Whether a Status says that the object of that resource and name isn't there.
+fn is_not_found(resource: &str, name: &str, body: Option<&Value>) -> bool
+    ensures { result ≡ said.is_not_found resource.now name.now
+        (option_map (λ v. view v.now) body.entry) }
+{
+    let says = is_status(body) && is_text("NotFound", text_in(body, "reason"));
+    let is_kind = is_text(resource, detail(body, "kind"));
+    let is_named = is_text(name, detail(body, "name"));
+    says && (is_kind && is_named)
+}
+
+fn meta_text<'v>(body: Option<&'v Value>, name: &str) -> Option<&'v str>
+    ensures { option_map (λ s. s.now) result
+        ≡ said.meta_text name.now (option_map (λ v. view v.now) body.entry) }
+{
+    text_in(member(body, "metadata"), name)
+}
+
+// Whether a body is the object of that uid.
+fn is_object(uid: &str, body: Option<&Value>) -> bool
+    ensures { result ≡ said.is_object uid.now (option_map (λ v. view v.now) body.entry) }
+{
+    is_text(uid, meta_text(body, "uid"))
+}
+
+// Whether a Status says that the deletion of the object of that uid succeeded.
+fn is_success(uid: &str, body: Option<&Value>) -> bool
+    ensures { result ≡ said.is_success uid.now (option_map (λ v. view v.now) body.entry) }
+{
+    let says = is_status(body) && is_text("Success", text_in(body, "status"));
+    says && is_text(uid, detail(body, "uid"))
+}
+
+// Whether a body says that the object of that uid is gone, or is going.
+fn is_gone(uid: &str, body: Option<&Value>) -> bool
+    ensures { result ≡ said.is_gone uid.now (option_map (λ v. view v.now) body.entry) }
+{
+    is_success(uid, body) || is_object(uid, body)
+}
+
+fn is_refusal(status: u64) -> bool
+    ensures { result ≡ said.is_refusal status }
+{
+    (status == 403 || status == 404) || (status == 409 || status == 422)
+}
+
+// A refusal, where a Status says so.
+fn refused(status: u64, body: Option<&Value>) -> Answer
+    ensures { result ≡ said.refused status (option_map (λ v. view v.now) body.entry) }
+{
+    if is_refusal(status) && is_status(body) {
         Answer::Refused
     } else {
         Answer::Lost
@@ -146,36 +217,59 @@ fn made_job(alloc: Global, name: &Text, job: &Job, body: Option<&Value>) -> Resu
     }
 }
 
-// The version that a written object has now.
-fn version_of(body: Option<&Value>) -> Option<&str>
+// The version that the object of that uid has now.
+fn version_of<'v>(uid: &str, body: Option<&'v Value>) -> Option<&'v str>
     ensures { option_map (λ s. s.now) result
-        ≡ said.version_of (option_map (λ v. view v.now) body.entry) }
+        ≡ said.version_of uid.now (option_map (λ v. view v.now) body.entry) }
 {
-    meta(body?, "resourceVersion")?.as_str()
+    if is_object(uid, body) {
+        meta_text(body, "resourceVersion")
+    } else {
+        None
+    }
 }
 
-fn written(alloc: Global, status: u64, body: Option<&Value>) -> Result<Answer, Refusal>
+fn written(alloc: Global, uid: &str, status: u64, body: Option<&Value>) -> Result<Answer, Refusal>
     ensures ok { IfOk result (λ a.
-        a ≡ said.written status (option_map (λ v. view v.now) body.entry)) }
+        a ≡ said.written uid.now status (option_map (λ v. view v.now) body.entry)) }
     ensures err { IfErr result (λ e. e ≡ OutOfMemory) }
 {
     if status != 200 {
-        return Ok(refused(status));
+        return Ok(refused(status, body));
     }
-    match version_of(body) {
+    match version_of(uid, body) {
         Some(version) => Ok(Answer::Written(Text::new(alloc, version)?)),
         None => Ok(Answer::Lost),
     }
 }
 
-fn deleted(status: u64) -> Answer
-    ensures { result ≡ said.deleted status }
+fn gone(uid: &str, body: Option<&Value>) -> Answer
+    ensures { result ≡ said.gone uid.now (option_map (λ v. view v.now) body.entry) }
 {
-    if status == 200 || status == 202 {
+    if is_gone(uid, body) {
         Answer::Deleted
     } else {
-        refused(status)
+        Answer::Lost
     }
+}
+
+fn deleted(uid: &str, status: u64, body: Option<&Value>) -> Answer
+    ensures { result ≡ said.deleted uid.now status (option_map (λ v. view v.now) body.entry) }
+{
+    if status == 200 || status == 202 {
+        gone(uid, body)
+    } else {
+        refused(status, body)
+    }
+}
+
+// Whether a 404 says that it is this object that isn't there.
+fn is_missing(resource: &str, full: &Text, status: u64, body: Option<&Value>) -> bool
+    ensures { result ≡ said.is_missing resource.now full.now status
+        (option_map (λ v. view v.now) body.entry) }
+{
+    let (_, name) = parts(full.as_str());
+    status == 404 && is_not_found(resource, name, body)
 }
 
 fn cron_got(
@@ -184,13 +278,15 @@ fn cron_got(
     status: u64,
     body: Option<&Value>,
 ) -> Result<Answer, Refusal>
-    ensures ok { IfOk result (λ a. said.IsCronGot (status == 200) (status == 404) name.now
-        (option_map (λ v. view v.now) body.entry) a) }
+    ensures ok { IfOk result (λ a. said.IsCronGot (status == 200)
+        (said.is_missing (codes "cronjobs") name.now status
+        (option_map (λ v. view v.now) body.entry))
+        name.now (option_map (λ v. view v.now) body.entry) a) }
     ensures err { IfErr result (λ e. e ≡ OutOfMemory) }
 {
     if status == 200 {
         got_cron(alloc, name, body)
-    } else if status == 404 {
+    } else if is_missing("cronjobs", name, status, body) {
         Ok(Answer::Cron(None))
     } else {
         Ok(Answer::Lost)
@@ -198,13 +294,14 @@ fn cron_got(
 }
 
 fn job_got(alloc: Global, name: &Text, status: u64, body: Option<&Value>) -> Result<Answer, Refusal>
-    ensures ok { IfOk result (λ a. said.IsJobGot (status == 200) (status == 404) name.now
-        (option_map (λ v. view v.now) body.entry) a) }
+    ensures ok { IfOk result (λ a. said.IsJobGot (status == 200)
+        (said.is_missing (codes "jobs") name.now status (option_map (λ v. view v.now) body.entry))
+        name.now (option_map (λ v. view v.now) body.entry) a) }
     ensures err { IfErr result (λ e. e ≡ OutOfMemory) }
 {
     if status == 200 {
         got_job(alloc, name, body)
-    } else if status == 404 {
+    } else if is_missing("jobs", name, status, body) {
         Ok(Answer::Job(None))
     } else {
         Ok(Answer::Lost)
@@ -225,7 +322,7 @@ fn created(
     if status == 201 {
         made_job(alloc, name, job, body)
     } else {
-        Ok(refused(status))
+        Ok(refused(status, body))
     }
 }
 
@@ -238,8 +335,12 @@ fn reply(alloc: Global, call: &Call, status: u64, body: Option<&Value>) -> Resul
         Call::GetCron(name) => cron_got(alloc, name, status, body),
         Call::GetJob(name) => job_got(alloc, name, status, body),
         Call::Create(name, job) => created(alloc, name, job, status, body),
-        Call::Claim(_) | Call::Tidy(_) | Call::Start(_) => written(alloc, status, body),
-        Call::Delete(_) | Call::Expire(_, _, _) => Ok(deleted(status)),
+        Call::Claim(claim) => written(alloc, claim.uid.as_str(), status, body),
+        Call::Tidy(tidy) => written(alloc, tidy.uid.as_str(), status, body),
+        Call::Start(job) => written(alloc, job.uid.as_str(), status, body),
+        Call::Delete(job) | Call::Expire(job, _, _) => {
+            Ok(deleted(job.uid.as_str(), status, body))
+        }
         Call::CacheCron(_) | Call::CacheJob(_) | Call::ListJobs => Ok(Answer::Lost),
     }
 }

@@ -1,5 +1,5 @@
 // The requests of a sync.
-ghost use Rattle.std.specs.Prelude.{◌≡◌, None, Some, IfOk, IfErr};
+ghost use Rattle.std.specs.Prelude.{◌≡◌, None, Some, IfOk, IfErr, string_bytes};
 ghost use Rattle.serde_json.specs.View.{view};
 ghost use Rattle.cj_base.specs.declared.refusal.Refusal.TheVariants.{OutOfMemory};
 ghost use Rattle.cj_control.specs.declared.sent.Verb.TheVariants as By;
@@ -7,6 +7,7 @@ ghost use Rattle.cj_control.specs.Sent as sent;
 
 use crate::api::ApiVersion;
 use cj_base::{Refusal, Text};
+use percent_encoding::{AsciiSet, NON_ALPHANUMERIC, ascii_set, utf8_percent_encode};
 use serde_json::{Value, json};
 use std::alloc::{AllocError, Global};
 
@@ -31,10 +32,29 @@ pub struct Request {
     pub body: Option<Value>,
 }
 
+/// What is percent-encoded in a segment of a path: all but the unreserved characters of RFC 3986.
+const SEGMENT: AsciiSet = ascii_set!(
+    NON_ALPHANUMERIC
+        .remove(b'-')
+        .remove(b'.')
+        .remove(b'_')
+        .remove(b'~')
+);
+
+// A name as a segment of a path.
+fn segment(alloc: Global, name: &str) -> Result<String, AllocError>
+    ensures { IfOk result (λ s. string_bytes s ≡ sent.segment name.now) }
+{
+    let mut text = String::new(alloc);
+    utf8_percent_encode(name, SEGMENT).append_to(&mut text)?;
+    Ok(text)
+}
+
 fn jobs_path(alloc: Global, namespace: &str) -> Result<Text, Refusal>
     ensures ok { IfOk result (λ t. t ≡ sent.jobs_path namespace.now) }
     ensures err { IfErr result (λ e. e ≡ OutOfMemory) }
 {
+    let namespace = segment(alloc, namespace)?;
     let path = format!(in alloc; "/apis/batch/v1/namespaces/{namespace}/jobs")?;
     Text::new(alloc, path.as_str())
 }
@@ -43,6 +63,8 @@ fn job_path(alloc: Global, namespace: &str, name: &str) -> Result<Text, Refusal>
     ensures ok { IfOk result (λ t. t ≡ sent.job_path namespace.now name.now) }
     ensures err { IfErr result (λ e. e ≡ OutOfMemory) }
 {
+    let namespace = segment(alloc, namespace)?;
+    let name = segment(alloc, name)?;
     let path = format!(in alloc; "/apis/batch/v1/namespaces/{namespace}/jobs/{name}")?;
     Text::new(alloc, path.as_str())
 }
@@ -52,6 +74,8 @@ fn cron_path(alloc: Global, api: ApiVersion, namespace: &str, name: &str) -> Res
     ensures err { IfErr result (λ e. e ≡ OutOfMemory) }
 {
     let api = api.text();
+    let namespace = segment(alloc, namespace)?;
+    let name = segment(alloc, name)?;
     let path = format!(in alloc; "/apis/{api}/namespaces/{namespace}/cronjobs/{name}")?;
     Text::new(alloc, path.as_str())
 }
@@ -61,6 +85,8 @@ fn status_path(alloc: Global, api: ApiVersion, namespace: &str, name: &str) -> R
     ensures err { IfErr result (λ e. e ≡ OutOfMemory) }
 {
     let api = api.text();
+    let namespace = segment(alloc, namespace)?;
+    let name = segment(alloc, name)?;
     let path = format!(in alloc; "/apis/{api}/namespaces/{namespace}/cronjobs/{name}/status")?;
     Text::new(alloc, path.as_str())
 }
@@ -69,7 +95,18 @@ fn events_path(alloc: Global, namespace: &str) -> Result<Text, Refusal>
     ensures ok { IfOk result (λ t. t ≡ sent.events_path namespace.now) }
     ensures err { IfErr result (λ e. e ≡ OutOfMemory) }
 {
+    let namespace = segment(alloc, namespace)?;
     let path = format!(in alloc; "/api/v1/namespaces/{namespace}/events")?;
+    Text::new(alloc, path.as_str())
+}
+
+fn event_path(alloc: Global, namespace: &str, name: &str) -> Result<Text, Refusal>
+    ensures ok { IfOk result (λ t. t ≡ sent.event_path namespace.now name.now) }
+    ensures err { IfErr result (λ e. e ≡ OutOfMemory) }
+{
+    let namespace = segment(alloc, namespace)?;
+    let name = segment(alloc, name)?;
+    let path = format!(in alloc; "/api/v1/namespaces/{namespace}/events/{name}")?;
     Text::new(alloc, path.as_str())
 }
 
@@ -181,6 +218,24 @@ pub fn post_event(alloc: Global, namespace: &str, body: Value) -> Result<Request
     Ok(Request {
         verb: Verb::Post,
         path: events_path(alloc, namespace)?,
+        body: Some(body),
+    })
+}
+
+/// A merge patch of an Event.
+pub fn patch_event(
+    alloc: Global,
+    namespace: &str,
+    name: &str,
+    body: Value,
+) -> Result<Request, Refusal>
+    ensures ok { IfOk result (sent.IsRequest By.MergePatch
+        (sent.event_path namespace.now name.now) (Some (view body))) }
+    ensures err { IfErr result (λ e. e ≡ OutOfMemory) }
+{
+    Ok(Request {
+        verb: Verb::MergePatch,
+        path: event_path(alloc, namespace, name)?,
         body: Some(body),
     })
 }

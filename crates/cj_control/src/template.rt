@@ -66,6 +66,7 @@ pub fn parts_of(
     Ok(Some(CronParts {
         api,
         by,
+        hold: by.hold(),
         head,
         template: template.clone()?,
         mark: mark_of(alloc, text.as_str())?,

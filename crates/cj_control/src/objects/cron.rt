@@ -14,14 +14,23 @@ use cj_base::{Cause, Field, Refusal, Text};
 use cj_cluster::read_instant;
 use cj_fence::{Cron, Policy, Ref, Refs, Row};
 use cj_manifest::present;
+use cj_types::name_cause;
 use serde_json::Value;
 use std::alloc::Global;
 
-/// What a CronJob says beside its head and its active Jobs.
+/// The times that a CronJob's status says.
 #[derive(Clone, Copy)]
-pub struct CronSaid {
+pub struct CronTimes {
     /// `status.lastScheduleTime`; 0 where there is none.
     pub last: u64,
+    /// `status.lastSuccessfulTime`; 0 where there is none.
+    pub success: u64,
+}
+
+/// What a CronJob says beside its head and the Jobs of its status.
+#[derive(Clone, Copy)]
+pub struct CronSaid {
+    pub times: CronTimes,
     pub policy: Policy,
     /// `spec.startingDeadlineSeconds`.
     pub deadline: Option<u64>,
@@ -99,32 +108,64 @@ fn in_field<A: Copy>(alloc: Global, field: Field, read: Result<A, Cause>) -> Res
     }
 }
 
+// The times, where both could be read.
+fn times_in(
+    alloc: Global,
+    last: Result<Option<u64>, Cause>,
+    success: Result<Option<u64>, Cause>,
+) -> Result<CronTimes, Refusal>
+    ensures ok { IfOk result (λ t. seen.times last success ≡ Ok t) }
+    ensures err { IfErr result (λ e. e ≢ OutOfMemory → seen.times last success ≡ Err e) }
+{
+    let last = in_field(alloc, Field::LastScheduleTime, last)?;
+    let success = in_field(alloc, Field::LastSuccessfulTime, success)?;
+    Ok(CronTimes {
+        last: last.unwrap_or(0),
+        success: success.unwrap_or(0),
+    })
+}
+
+fn read_times(alloc: Global, value: &Value) -> Result<CronTimes, Refusal>
+    ensures ok { IfOk result (λ t. seen.AreTimes (view value.now) (Ok t)) }
+    ensures err { IfErr result (λ e. e ≢ OutOfMemory → seen.AreTimes (view value.now) (Err e)) }
+{
+    let last = optional_time(status(value, "lastScheduleTime"));
+    let success = optional_time(status(value, "lastSuccessfulTime"));
+    times_in(alloc, last, success)
+}
+
 fn read_said(alloc: Global, value: &Value) -> Result<CronSaid, Refusal>
     ensures ok { IfOk result (λ s. seen.IsSaid (view value.now) (Ok s)) }
     ensures err { IfErr result (λ e. e ≢ OutOfMemory → seen.IsSaid (view value.now) (Err e)) }
 {
-    let last = optional_time(status(value, "lastScheduleTime"));
-    let last = in_field(alloc, Field::LastScheduleTime, last)?;
+    let times = read_times(alloc, value)?;
     let policy = policy(spec(value, "concurrencyPolicy"));
     let policy = in_field(alloc, Field::ConcurrencyPolicy, policy)?;
     let deadline = optional_count(spec(value, "startingDeadlineSeconds"));
     let deadline = in_field(alloc, Field::StartingDeadlineSeconds, deadline)?;
     Ok(CronSaid {
-        last: last.unwrap_or(0),
+        times,
         policy,
         deadline,
     })
 }
 
-// The name of a reference, with the namespace; empty where it has none.
+// Whether a Job may have this name.
+fn is_job_name(name: &str) -> bool
+    ensures { result ≡ seen.is_job_name name.now }
+{
+    name_cause(253, name).is_none()
+}
+
+// The name of a reference, with the namespace; empty where it is no name of a Job.
 fn ref_name(alloc: Global, namespace: &str, name: &str) -> Result<Text, Refusal>
     ensures ok { IfOk result (λ t. t ≡ seen.ref_name namespace.now name.now) }
     ensures err { IfErr result (λ e. e ≡ OutOfMemory) }
 {
-    if name.is_empty() {
-        Text::new(alloc, "")
-    } else {
+    if is_job_name(name) {
         full_name(alloc, namespace, name)
+    } else {
+        Text::new(alloc, "")
     }
 }
 
@@ -185,7 +226,8 @@ fn cron_row(alloc: Global, head: Head, said: CronSaid, active: Refs) -> Result<R
         object: Cron {
             uid,
             version,
-            last: said.last,
+            last: said.times.last,
+            success: said.times.success,
             active,
             policy: said.policy,
             deadline: said.deadline,
