@@ -1,5 +1,8 @@
 // What people are told while a controller runs.
+use cj_base::Seconds;
 use cj_io::{Failure, write_and_flush, write_whole};
+use cj_machine::Level;
+use cj_zone::time_text;
 use serde_json::json;
 use std::alloc::{AllocError, Global};
 use std::io::Write;
@@ -13,17 +16,39 @@ pub struct Remarks<'a> {
     pub replica: &'a str,
 }
 
-fn json_line(alloc: Global, replica: &str, words: &str) -> Result<String, AllocError> {
-    let value = json!(in alloc; {"message": words, "replica": replica})?;
+// The time of a line; empty before the clock was told.
+fn time_of(alloc: Global, at: u64) -> Result<String, AllocError> {
+    match Seconds::new(at) {
+        Some(time) if at != 0 => time_text(alloc, time).map_err(|_| AllocError),
+        _ => Ok(String::new(alloc)),
+    }
+}
+
+fn json_line(
+    alloc: Global,
+    replica: &str,
+    time: &str,
+    level: Level,
+    words: &str,
+) -> Result<String, AllocError> {
+    let value = json!(in alloc; {
+        "level": level.name(),
+        "message": words,
+        "replica": replica,
+        "time": time
+    })?;
     let mut text = value.to_string(alloc)?;
     text.push_str("\n")?;
     Ok(text)
 }
 
-fn text_line(alloc: Global, words: &str) -> Result<String, AllocError> {
-    let mut text = String::from_str(alloc, words)?;
-    text.push_str("\n")?;
-    Ok(text)
+fn text_line(alloc: Global, time: &str, level: Level, words: &str) -> Result<String, AllocError> {
+    let level = level.name();
+    if time.is_empty() {
+        format!(in alloc; "{level} {words}\n")
+    } else {
+        format!(in alloc; "{time} {level} {words}\n")
+    }
 }
 
 // A line, written without memory.
@@ -33,14 +58,25 @@ fn write_bare<E: Write>(words: &str, err: &mut E) -> Result<(), Failure> {
 }
 
 impl Remarks<'_> {
-    /// Says a line, as far as standard error takes it; without memory as text.
-    pub fn say<E: Write>(&self, alloc: Global, words: &str, err: &mut E) {
-        let line = if self.is_json {
-            json_line(alloc, self.replica, words)
+    fn line(
+        &self,
+        alloc: Global,
+        at: u64,
+        level: Level,
+        words: &str,
+    ) -> Result<String, AllocError> {
+        let time = time_of(alloc, at)?;
+        if self.is_json {
+            json_line(alloc, self.replica, time.as_str(), level, words)
         } else {
-            text_line(alloc, words)
-        };
-        let _ = match line {
+            text_line(alloc, time.as_str(), level, words)
+        }
+    }
+
+    /// Says a line with its time, in seconds since 1970, and its level, as far as standard error
+    /// takes it; without memory its words alone.
+    pub fn say<E: Write>(&self, alloc: Global, at: u64, level: Level, words: &str, err: &mut E) {
+        let _ = match self.line(alloc, at, level, words) {
             Ok(line) => write_and_flush(err, line.as_bytes()),
             Err(_) => write_bare(words, err),
         };

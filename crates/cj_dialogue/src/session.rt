@@ -7,15 +7,19 @@ use crate::zone_source::ZoneSource;
 use cj_args::ControlRequest;
 use cj_base::{Refusal, Text};
 use cj_io::{ExitStatus, Failure, Kept, LineReader, Taken, write_and_flush, write_whole};
-use cj_machine::{Machine, Secret};
+use cj_machine::{Level, Machine, Secret};
 use cj_zone::ZoneTable;
+use serde_json::json;
 use std::alloc::Global;
 use std::io::{Read, Write};
 
 // The line at the end of the input.
 const STOP: &[u8] = b"{\"stop\":true}";
 
-const OUT_OF_MEMORY: &str = "cronsim: out of memory: what was left out is looked at anew";
+// The line by which a transport asks what the controller has counted.
+const ASK: &[u8] = b"{\"metrics\":true}";
+
+const OUT_OF_MEMORY: &str = "out of memory: skipped work will be retried";
 
 /// A controller with what it stands on.
 #[derive(Drop)]
@@ -51,14 +55,20 @@ fn write_lines<W: Write>(alloc: Global, lines: &[String], out: &mut W) -> Result
 }
 
 impl<'a, 'b, Z: ZoneSource, T: Write + Drop> Session<'a, 'b, Z, T> {
-    fn say<E: Write>(&self, words: &str, err: &mut E) {
-        self.remarks.say(self.alloc, words, err);
+    fn say<E: Write>(&self, level: Level, words: &str, err: &mut E) {
+        let at = self.machine.local_time();
+        self.remarks.say(self.alloc, at, level, words, err);
+    }
+
+    // Something that somebody should look at.
+    fn warn<E: Write>(&self, words: &str, err: &mut E) {
+        self.say(Level::Warning, words, err);
     }
 
     // Says that memory was wanting, and notes it.
     fn want<E: Write>(&mut self, err: &mut E) {
         self.recorder.wanting();
-        self.say(OUT_OF_MEMORY, err);
+        self.warn(OUT_OF_MEMORY, err);
     }
 
     // Gives the machine a line.
@@ -85,8 +95,8 @@ impl<'a, 'b, Z: ZoneSource, T: Write + Drop> Session<'a, 'b, Z, T> {
     // Writes the transcript; one that can't be written is given up.
     fn record<E: Write>(&mut self, err: &mut E) {
         if self.recorder.write().is_err() {
-            self.say(
-                "cronsim: the transcript can't be written; it goes on without one",
+            self.warn(
+                "the transcript can't be written; it goes on without one",
                 err,
             );
         }
@@ -113,7 +123,29 @@ impl<'a, 'b, Z: ZoneSource, T: Write + Drop> Session<'a, 'b, Z, T> {
     fn tell<E: Write>(&mut self, err: &mut E) {
         let lines = self.machine.take_told(self.alloc);
         for line in &lines {
-            self.say(line.as_str(), err);
+            self.say(line.level, line.text.as_str(), err);
+        }
+    }
+
+    // The line that tells what the controller has counted.
+    fn measures(&self) -> Result<String, Refusal> {
+        let value = self.machine.measures(self.alloc)?;
+        let line = json!(in self.alloc; {"metrics": value})?;
+        Ok(line.to_string(self.alloc)?)
+    }
+
+    // Tells the transport what the controller has counted. Of a transcript it is no part.
+    fn tell_measures<W: Write, E: Write>(
+        &mut self,
+        out: &mut W,
+        err: &mut E,
+    ) -> Result<(), Failure> {
+        match self.measures() {
+            Ok(line) => write_lines(self.alloc, &[line], out),
+            Err(_) => {
+                self.want(err);
+                Ok(())
+            }
         }
     }
 
@@ -176,10 +208,7 @@ impl<'a, 'b, Z: ZoneSource, T: Write + Drop> Session<'a, 'b, Z, T> {
         err: &mut E,
     ) -> Result<(), Failure> {
         if kept == Kept::TooLong {
-            self.say(
-                "cronsim: a line of more than 67108864 bytes is left out",
-                err,
-            );
+            self.warn("a line of more than 67108864 bytes is left out", err);
             self.give_error(line, "an answer of more than 67108864 bytes", err);
         } else {
             self.want(err);
@@ -207,6 +236,7 @@ impl<'a, 'b, Z: ZoneSource, T: Write + Drop> Session<'a, 'b, Z, T> {
             return Ok(false);
         }
         match reader.kept() {
+            Kept::Whole if reader.line() == ASK => self.tell_measures(out, err)?,
             Kept::Whole => self.hear(reader.line(), out, err)?,
             kept => self.miss(reader.line(), kept, out, err)?,
         }
@@ -230,7 +260,7 @@ impl<'a, 'b, Z: ZoneSource, T: Write + Drop> Session<'a, 'b, Z, T> {
         if self.machine.is_done() {
             return Ok(());
         }
-        self.say("cronsim: the input ended before all was answered", err);
+        self.warn("the input ended before all was answered", err);
         Err(Failure::Device)
     }
 }

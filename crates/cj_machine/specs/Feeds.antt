@@ -16,7 +16,7 @@ use Rattle.cj_machine.specs.declared.feed.answers.Change.{Change}
 use Rattle.cj_machine.specs.declared.feed.answers.Event.{Event}
 use Rattle.cj_machine.specs.declared.feed.answers.Page.{Page}
 use Rattle.cj_machine.specs.declared.feed.answers.Verdict.{Verdict}
-use Rattle.cj_machine.specs.declared.feed.answers.Verdict.TheVariants.{Busy, Done, Expired, Refused}
+use Rattle.cj_machine.specs.declared.feed.answers.Verdict.TheVariants.{Busy, Done, Expired, Refused, TooLarge}
 use Rattle.cj_machine.specs.declared.feed.answers.Change.TheVariants.{Bookmark, Gone, Put}
 use Rattle.cj_machine.specs.declared.source.Source.{Source}
 use Rattle.cj_machine.specs.declared.source.Source.TheVariants.{Crons, Jobs}
@@ -43,13 +43,15 @@ selects selector Jobs = []
 
 -- ---- what a server answers
 
--- 200; 410, the version or the token isn't kept any more; 429 and 5xx, later again
+-- 200; 410, the version or the token isn't kept any more; 429 and 5xx, later again; 413, by which a
+-- transport says that an answer is larger than it takes (RFC 9110, 15.5.14)
 abbrev pub verdict : ℕ → Verdict
 verdict status =
     if status == 200 then Done
     else (if status == 410 then Expired
     else (if status == 429 || (nat_le 500 status && nat_lt status 600) then Busy
-    else Refused))
+    else (if status == 413 then TooLarge
+    else Refused)))
 
 abbrev pub unless_empty : Option (List ℕ) → Option (List ℕ)
 unless_empty None = None

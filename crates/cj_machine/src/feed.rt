@@ -17,6 +17,9 @@ use pace::Pace;
 pub(crate) use scope::Scope;
 use std::alloc::Global;
 
+// How many objects a page of a list is asked to have at most, before one turned out too large.
+const MOST_OBJECTS: u64 = 500;
+
 /// What a feed asks, or has asked.
 #[derive(Drop)]
 pub(crate) enum Stage {
@@ -38,6 +41,12 @@ pub(crate) struct Feed {
     listed: bool,
     /// What the pages of the list had up to now.
     coming: Shelf,
+    /// How many objects a page of the list is asked to have at most.
+    limit: u64,
+    /// In which second a line came last, or a request was asked; 0 before the first.
+    heard_at: u64,
+    /// Whether the server refused the last request.
+    is_refused: bool,
 }
 
 impl Drop for Feed {
@@ -48,6 +57,9 @@ impl Drop for Feed {
             pace: _,
             listed: _,
             coming,
+            limit: _,
+            heard_at: _,
+            is_refused: _,
         } = self;
         drop(stage);
         drop(coming);
@@ -62,7 +74,20 @@ impl Feed {
             pace: Pace::new(),
             listed: false,
             coming: Shelf::new(alloc),
+            limit: MOST_OBJECTS,
+            heard_at: 0,
+            is_refused: false,
         }
+    }
+
+    /// In which second a line came last, or a request was asked; 0 before the first.
+    pub(crate) fn heard_at(&self) -> u64 {
+        self.heard_at
+    }
+
+    /// Whether the server refused the last request.
+    pub(crate) fn is_refused(&self) -> bool {
+        self.is_refused
     }
 
     /// Whether a list came to its end.
@@ -73,7 +98,7 @@ impl Feed {
     // The path of the next request; none while a watch is to end.
     fn path(&self, alloc: Global, scope: &Scope, source: Source) -> Result<Option<Text>, Refusal> {
         match &self.stage {
-            Stage::Listing(token) => Ok(Some(scope.list_path(alloc, source, token)?)),
+            Stage::Listing(token) => Ok(Some(scope.list_path(alloc, source, token, self.limit)?)),
             Stage::Watching(version) => Ok(Some(scope.watch_path(alloc, source, version)?)),
             Stage::Ending => Ok(None),
         }
@@ -94,6 +119,7 @@ impl Feed {
             return Ok(None);
         };
         self.waits = true;
+        self.heard_at = now;
         // (a watch that ends within its second isn't asked again in it)
         self.pace = self.pace.after(now, 1);
         Ok(Some(Request {
@@ -108,6 +134,11 @@ impl Feed {
         self.waits = false;
         self.stage = Stage::Listing(None);
         self.pace = self.pace.missed(now);
+    }
+
+    // Asks for a quarter of the objects from now on, and for one at least.
+    fn ask_fewer(&mut self) {
+        self.limit = (self.limit / 4).max(1);
     }
 
     // Lists anew, so many seconds later.

@@ -1,6 +1,7 @@
 // A cluster, followed by lists and watches.
 use crate::feed::{Feed, Notes, Scope};
 use crate::mirror::Mirror;
+use crate::remark::Remark;
 use crate::source::Source;
 use cj_base::{Refusal, Text};
 use cj_control::{ApiVersion, LineKind, Request};
@@ -127,9 +128,30 @@ impl Feeds {
         }
     }
 
+    // The feed of a source.
+    fn feed(&self, source: Source) -> &Feed {
+        match source {
+            Source::Crons => &self.crons,
+            Source::Jobs => &self.jobs,
+        }
+    }
+
+    /// How many seconds ago a line came of a source, or a request was asked; none before the first.
+    pub fn age(&self, source: Source, now: u64) -> Option<u64> {
+        match self.feed(source).heard_at() {
+            0 => None,
+            at => Some(now.saturating_sub(at)),
+        }
+    }
+
+    /// Whether the server refused the last request of a source.
+    pub fn is_refused(&self, source: Source) -> bool {
+        self.feed(source).is_refused()
+    }
+
     /// Lines for people, each once: a list or a watch that the server refused, a page or an event
     /// that can't be read.
-    pub fn take_told(&mut self, alloc: Global) -> Vec<String> {
+    pub fn take_told(&mut self, alloc: Global) -> Vec<Remark> {
         self.notes.take(alloc)
     }
 }

@@ -11,10 +11,12 @@ mod feed;
 mod feeds;
 mod machine;
 mod mirror;
+mod remark;
 mod source;
 
 pub use cj_queue::Secret;
 pub use feeds::Feeds;
 pub use machine::{ControlOptions, Machine};
 pub use mirror::Mirror;
+pub use remark::{Level, Remark};
 pub use source::Source;

@@ -7,13 +7,18 @@ ghost use Rattle.cj_machine.specs.Out.{AreLines};
 mod choice;
 mod choosing;
 mod clearing;
+mod clock;
 mod driver;
+mod event_log;
 mod events;
 mod finishing;
 mod hearing;
+mod lasting;
 mod listing;
 mod making;
+mod measures;
 mod memo;
+mod numbers;
 mod options;
 mod others;
 mod out;
@@ -22,6 +27,7 @@ mod reading;
 mod saying;
 mod starting;
 mod steps;
+mod strangers;
 mod syncing;
 mod task;
 mod view;
@@ -30,14 +36,17 @@ mod walking;
 use crate::machine::driver::Driver;
 use crate::machine::events::tell_event;
 use crate::machine::finishing::end_stuck;
+use crate::machine::measures::measures_of;
 use crate::machine::out::lines_of;
 use crate::machine::syncing::{answered, begin_next};
+use crate::remark::Remark;
 use crate::source::Source;
-use cj_base::{Millis, Refusal, Seconds, Text};
+use cj_base::{Refusal, Text};
 use cj_control::{Ledger, Line, LineFault, LineKind, read_line};
 use cj_queue::Secret;
 use cj_zone::ZoneTable;
 pub use options::ControlOptions;
+use serde_json::Value;
 use std::alloc::Global;
 use std::marker::Model;
 use std::mem;
@@ -88,7 +97,7 @@ impl Machine {
         match read_line(alloc, bytes) {
             Ok(line) => take(ledger, driver, alloc, zones, &line),
             Err(LineFault::Memory) => Err(Refusal::OutOfMemory),
-            Err(_) => driver.tell(String::from_str(alloc, "passed over a line that is none")?),
+            Err(_) => driver.warn(String::from_str(alloc, "ignored a malformed line")?),
         }
     }
 
@@ -107,8 +116,18 @@ impl Machine {
     }
 
     /// The lines for people since the last call.
-    pub fn take_told(&mut self, alloc: Global) -> Vec<String> {
+    pub fn take_told(&mut self, alloc: Global) -> Vec<Remark> {
         mem::replace(&mut self.driver.told, Vec::new(alloc))
+    }
+
+    /// What this machine's clock said last, in seconds since 1970; 0 before the first time.
+    pub fn local_time(&self) -> u64 {
+        self.driver.local()
+    }
+
+    /// What it has counted, and how it is, as a JSON value.
+    pub fn measures(&self, alloc: Global) -> Result<Value, Refusal> {
+        measures_of(alloc, &self.driver)
     }
 
     /// The names of zones that are wanted since the last call.
@@ -143,12 +162,13 @@ fn came(
     line: &Line,
 ) -> Result<(), Refusal> {
     if let Some(id) = unsent(ledger, line.kind) {
-        return driver.tell(format!(in alloc;
-            "passed over an answer to request {id}, which was never sent"
+        return driver.warn(format!(in alloc;
+            "ignored an answer to request {id}, which was never sent"
         )?);
     }
+    driver.hear_clock(line);
     match line.kind {
-        LineKind::Clock(now) => clock(ledger, driver, alloc, now),
+        LineKind::Clock(now) => pass_time(ledger, driver, alloc, now),
         LineKind::Stop => {
             driver.is_stopping = true;
             Ok(())
@@ -187,13 +207,16 @@ fn came_for(
 }
 
 // The clock is at this second.
-fn clock(ledger: &mut Ledger, driver: &mut Driver, alloc: Global, now: u64) -> Result<(), Refusal> {
+fn pass_time(
+    ledger: &mut Ledger,
+    driver: &mut Driver,
+    alloc: Global,
+    now: u64,
+) -> Result<(), Refusal> {
     driver.set_clock(alloc, now)?;
+    driver.tell_clocks(alloc)?;
     end_stuck(ledger, driver, alloc)?;
-    match Seconds::new(now) {
-        Some(now) => driver.queue.tick(Millis::from(now)),
-        None => Ok(()),
-    }
+    driver.tick()
 }
 
 // Syncs begin, as many as there are keys in line and workers.
@@ -213,11 +236,14 @@ fn begin_all(
 
 // What is to be read of the cluster is asked for.
 fn follow(ledger: &mut Ledger, driver: &mut Driver, alloc: Global) -> Result<(), Refusal> {
-    if driver.is_stopping || driver.now == 0 {
+    if driver.is_stopping || driver.local() == 0 {
         return Ok(());
     }
+    if driver.by.is_none() || driver.clock.is_in_doubt() {
+        ask_version(ledger, driver, alloc)?;
+    }
     if driver.by.is_none() {
-        return ask_version(ledger, driver, alloc);
+        return Ok(());
     }
     follow_source(ledger, driver, alloc, Source::Crons)?;
     follow_source(ledger, driver, alloc, Source::Jobs)?;
@@ -236,7 +262,7 @@ fn tell_events(ledger: &mut Ledger, driver: &mut Driver, alloc: Global) -> Resul
 
 // The server's version is asked for.
 fn ask_version(ledger: &mut Ledger, driver: &mut Driver, alloc: Global) -> Result<(), Refusal> {
-    if driver.version_id.is_some() || driver.now < driver.version_at {
+    if driver.version_id.is_some() || driver.local() < driver.version_at {
         return Ok(());
     }
     driver.version_id = steps::read(ledger, Text::new(alloc, "/version")?)?;
@@ -259,7 +285,8 @@ fn follow_source(
             Ok(())
         }
         Err(refusal) => {
-            driver.feeds.forget_answer(source, driver.now);
+            let now = driver.local();
+            driver.feeds.forget_answer(source, now);
             Err(refusal)
         }
     }

@@ -6,6 +6,7 @@ ghost use Rattle.cj_machine.specs.Mirror.{no_rows, text_of};
 mod by_cron;
 mod entry;
 mod kept;
+mod orphan;
 mod own_keys;
 mod owner;
 mod shelf;
@@ -13,15 +14,17 @@ mod shelf;
 use cj_base::Refusal;
 use cj_types::Key;
 pub(crate) use entry::Entry;
-pub(crate) use kept::kept_text;
+pub(crate) use kept::{Kept, kept_of};
+pub(crate) use orphan::is_orphan;
 pub(crate) use owner::{cron_of, key_in};
 pub(crate) use shelf::Shelf;
 use std::alloc::Global;
 
 /// What lists and watches told of a cluster: each CronJob and each Job, as JSON text, by its key.
 ///
-/// The text of a CronJob has all but `metadata.managedFields`. That of a Job has what is read of
-/// one: `apiVersion`, `kind`, `status`, and `metadata` without `managedFields` and `labels`.
+/// A text has what a sync reads of the object. Of a CronJob: its spec and status, and of its
+/// metadata what tells it from others; one that is larger than 64 KiB is kept without its
+/// jobTemplate. Of a Job: its marks, its controller, and of its status how it ended.
 pub struct Mirror {
     pub(crate) crons: Shelf,
     pub(crate) jobs: Shelf,
@@ -51,6 +54,11 @@ impl Mirror {
         ensures { option_map (λ s. s.now) result ≡ text_of self.now.crons key.now }
     {
         self.crons.text(key)
+    }
+
+    /// Whether the text of the CronJob lacks its jobTemplate, since it is too large.
+    pub fn is_cut(&self, key: &Key) -> bool {
+        self.crons.is_cut(key)
     }
 
     /// The text of the Job.

@@ -48,22 +48,26 @@ fn is_due_soon(next: Option<Seconds>, now: Seconds) -> bool {
     }
 }
 
-// Where nothing is made, the status is written without the dead.
-fn idles(at: &At, steps: &Steps, now: Seconds) -> Errand
+// Where nothing is made, the status is written without the dead, and with a later success.
+fn idles(at: &At, success: Option<u64>, loses: bool, steps: &Steps, now: Seconds) -> Errand
     ensures { IsTimed steps.now.claim result }
 {
-    if at.alive.same(&at.cron.active) || is_due_soon(steps.next, now) {
+    let is_clean = success.is_none() && at.alive.same(&at.cron.active);
+    if is_clean || (is_due_soon(steps.next, now) && !loses) {
         Errand::Rests
     } else {
         Errand::Tidies
     }
 }
 
-/// What a sync sets out to do whose Jobs are all dead or started.
+/// What a sync sets out to do whose Jobs are all dead or started. A success that the status doesn't
+/// have yet is written before its Job goes.
 pub(crate) fn errand_of(
     alloc: Global,
     cluster: &Cluster,
     at: &At,
+    success: Option<u64>,
+    loses: bool,
     steps: &Steps,
     now: Seconds,
 ) -> Result<Errand, Refusal>
@@ -72,7 +76,7 @@ pub(crate) fn errand_of(
 {
     match (time_of(at, steps), &steps.make) {
         (Some(time), Some(draft)) => makes(alloc, cluster, draft, time),
-        _ => Ok(idles(at, steps, now)),
+        _ => Ok(idles(at, success, loses, steps, now)),
     }
 }
 

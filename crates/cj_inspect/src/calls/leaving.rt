@@ -18,6 +18,7 @@ fn written(alloc: Global, at: &At, last: u64, active: Refs) -> Result<At, Refusa
             uid: at.cron.uid.try_copy(alloc)?,
             version: at.cron.version.try_copy(alloc)?,
             last,
+            success: at.cron.success,
             active,
             policy: at.cron.policy,
             deadline: at.cron.deadline,

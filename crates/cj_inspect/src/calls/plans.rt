@@ -8,7 +8,7 @@ ghost use Rattle.cj_inspect.specs.Calls.{IsAhead, IsOf, IsTimed, made_time};
 use crate::calls::errands::{errand_of, help_of};
 use crate::calls::leaving::gone_of;
 use crate::calls::looking::looked;
-use crate::calls::reading::{cron_row, named_rows, own_rows};
+use crate::calls::reading::{cron_row, later_success, named_rows, own_rows};
 use cj_base::{Refusal, Seconds, Text};
 use cj_cluster::{Cluster, ClusterCron};
 use cj_control::{Ahead, Errand, full_name, meta};
@@ -30,6 +30,7 @@ fn resting(alloc: Global, at: At) -> Ahead
     Ahead {
         at,
         errand: Errand::Rests,
+        success: None,
         gone: Refs::new(alloc),
     }
 }
@@ -50,9 +51,16 @@ fn planned(
     let Some(rows) = own_rows(alloc, list, cluster, cron)? else {
         return Ok(None);
     };
-    let errand = errand_of(alloc, cluster, &at, steps, now)?;
+    let success = later_success(alloc, list, cluster, cron, &at, None)?;
+    let going = later_success(alloc, list, cluster, cron, &at, Some(&steps.cleanup))?;
+    let errand = errand_of(alloc, cluster, &at, success, going.is_some(), steps, now)?;
     let gone = gone_of(alloc, &at, &errand, rows, steps)?;
-    Ok(Some(Ahead { at, errand, gone }))
+    Ok(Some(Ahead {
+        at,
+        errand,
+        success,
+        gone,
+    }))
 }
 
 // One that has found a Job which was claimed, and not started, starts that first.
@@ -63,6 +71,7 @@ fn helping(alloc: Global, at: At, held: Held, now: Seconds) -> Ahead
     Ahead {
         at,
         errand,
+        success: None,
         gone: Refs::new(alloc),
     }
 }

@@ -3,10 +3,14 @@ ghost use Rattle.std.specs.Prelude.{◌≡◌, IfErr};
 ghost use Rattle.cj_base.specs.declared.refusal.Refusal.TheVariants.{OutOfMemory};
 
 use cj_cluster::{Cluster, ClusterCron};
-use cj_control::{ApiVersion, HeldBy, is_text, list_of, read_cron, read_job, text_at};
-use cj_fence::{Cron, Job, Row};
+use cj_control::{
+    ApiVersion, HeldBy, Hold, completed_at, hold_in, is_text, list_of, parts, read_cron, read_job,
+    text_at,
+};
+use cj_decide::JobRefs;
+use cj_fence::{At, Cron, Held, Job, Row};
 use cj_manifest::present;
-use cj_types::{ObjectName, Refusal, Uid};
+use cj_types::{Key, ObjectName, Refusal, Uid};
 use serde_json::Value;
 use std::alloc::Global;
 
@@ -152,4 +156,98 @@ pub(crate) fn own_rows(
 {
     let places = own_places(alloc, cluster, cron)?;
     rows_at(alloc, list, places.as_slice())
+}
+
+// Whether a Job is one of these, or all are meant.
+fn is_meant(row: &Row<Job>, jobs: Option<&JobRefs>) -> bool {
+    let (_, name) = parts(row.name.as_str());
+    match jobs {
+        Some(jobs) => jobs.as_slice().iter().any(|job| job.key.name() == name),
+        None => true,
+    }
+}
+
+// When the Job at a place was completed, where the CronJob controls it and it is meant; else 0.
+fn success_in(
+    alloc: Global,
+    list: &Value,
+    place: Uid,
+    at: &At,
+    jobs: Option<&JobRefs>,
+) -> Result<u64, Refusal>
+    ensures { IfErr result (λ e. e ≡ OutOfMemory) }
+{
+    let is_its = match job_at(alloc, list, place)? {
+        Some(row) => row.object.owner.as_str() == at.cron.uid.as_str() && is_meant(&row, jobs),
+        None => false,
+    };
+    match object_at(list, place) {
+        Some(value) if is_its => Ok(completed_at(value).unwrap_or(0)),
+        _ => Ok(0),
+    }
+}
+
+// Whether the API that serves the CronJob has a place for its last success.
+fn has_success(list: &Value, cron: &ClusterCron) -> bool {
+    match object_at(list, cron.cron.meta.uid) {
+        Some(object) => api_of(list, object).0 == ApiVersion::BatchV1,
+        None => false,
+    }
+}
+
+/// When one of these Jobs of the CronJob, or of all of them, succeeded last, where that is later
+/// than what its status says; only `batch/v1` has a place for it.
+pub(crate) fn later_success(
+    alloc: Global,
+    list: &Value,
+    cluster: &Cluster,
+    cron: &ClusterCron,
+    at: &At,
+    jobs: Option<&JobRefs>,
+) -> Result<Option<u64>, Refusal>
+    ensures { IfErr result (λ e. e ≡ OutOfMemory) }
+{
+    let mut last = at.cron.success;
+    for place in own_places(alloc, cluster, cron)? {
+        last = last.max(success_in(alloc, list, place, at, jobs)?);
+    }
+    if has_success(list, cron) && last > at.cron.success {
+        Ok(Some(last))
+    } else {
+        Ok(None)
+    }
+}
+
+// The key of NAMESPACE/NAME, where it is one.
+fn key_of(alloc: Global, full: &str) -> Result<Option<Key>, Refusal>
+    ensures { IfErr result (λ e. e ≡ OutOfMemory) }
+{
+    let (namespace, name) = parts(full);
+    match Key::new(alloc, namespace, name) {
+        Ok(key) => Ok(Some(key)),
+        Err(Refusal::OutOfMemory) => Err(Refusal::OutOfMemory),
+        Err(_) => Ok(None),
+    }
+}
+
+/// What holds a Job of the list back, if it says so.
+pub(crate) fn hold_of(
+    alloc: Global,
+    list: &Value,
+    cluster: &Cluster,
+    held: &Held,
+) -> Result<Option<Hold>, Refusal>
+    ensures { IfErr result (λ e. e ≡ OutOfMemory) }
+{
+    let Some(key) = key_of(alloc, held.job.name.as_str())? else {
+        return Ok(None);
+    };
+    let object = match cluster.job(&key) {
+        Some(job) => object_at(list, job.meta.uid),
+        None => None,
+    };
+    match object {
+        Some(object) => Ok(hold_in(object)),
+        None => Ok(None),
+    }
 }

@@ -8,10 +8,12 @@ ghost use Rattle.cj_control.specs.Coming.{AreSentFor, calls_ahead};
 ghost use Rattle.cj_inspect.specs.Calls.{AreCallsJson, AreCallsOrNull, AreRequests, IsCallsJson, calls_object, requests_data};
 
 use crate::calls::plans::ahead_of;
-use crate::calls::reading::{api_of, object_at};
+use crate::calls::reading::{api_of, hold_of, object_at};
 use cj_base::{Refusal, Seconds};
 use cj_cluster::{Cluster, ClusterCron};
-use cj_control::{Ahead, CronParts, Request, calls_ahead, parts_of, request_value, requests_for};
+use cj_control::{
+    Ahead, CronParts, Errand, Hold, Request, calls_ahead, parts_of, request_value, requests_for,
+};
 use cj_json::push_value;
 use cj_types::{Key, Shared};
 use cj_zone::ZoneTable;
@@ -43,6 +45,44 @@ fn ahead_requests(
     requests_for(alloc, source, calls.as_slice())
 }
 
+// What held the Job back that is to be started; else what Jobs are created with.
+fn hold_for(
+    alloc: Global,
+    list: &Value,
+    cluster: &Cluster,
+    ahead: &Ahead,
+    usual: Hold,
+) -> Result<Hold, Refusal>
+    ensures { IfErr result (λ e. e ≡ OutOfMemory) }
+{
+    match &ahead.errand {
+        Errand::Helps(held) => Ok(hold_of(alloc, list, cluster, held)?.unwrap_or(usual)),
+        _ => Ok(usual),
+    }
+}
+
+// What the requests of a sync need, of the CronJob that is this object.
+fn source_of(
+    alloc: Global,
+    list: &Value,
+    object: &Value,
+    cluster: &Cluster,
+    ahead: &Ahead,
+) -> Result<Option<CronParts>, Refusal>
+    ensures { IfErr result (λ e. e ≡ OutOfMemory) }
+{
+    let (api, by) = api_of(list, object);
+    let hold = hold_for(alloc, list, cluster, ahead, by.hold())?;
+    match parts_of(alloc, object, api, by)? {
+        Some(source) => {
+            let mut source = source;
+            source.hold = hold;
+            Ok(Some(source))
+        }
+        None => Ok(None),
+    }
+}
+
 // The requests of the next sync of a CronJob, which is this object; none where the list lacks what
 // the sync reads.
 fn cron_requests(
@@ -62,8 +102,7 @@ fn cron_requests(
     let Some(ahead) = ahead_of(alloc, zones, list, object, cluster, cron, now)? else {
         return Ok(None);
     };
-    let (api, by) = api_of(list, object);
-    let Some(source) = parts_of(alloc, object, api, by)? else {
+    let Some(source) = source_of(alloc, list, object, cluster, &ahead)? else {
         return Ok(None);
     };
     ahead_requests(alloc, &source, &ahead)

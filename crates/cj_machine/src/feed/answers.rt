@@ -17,6 +17,8 @@ pub(crate) enum Verdict {
     Expired,
     /// The server is busy or at fault (429, 5xx): ask again.
     Busy,
+    /// The answer is larger than the transport takes (413): ask for fewer objects.
+    TooLarge,
     /// Anything else.
     Refused,
 }
@@ -31,6 +33,8 @@ pub(crate) fn verdict_of(status: u64) -> Verdict
         Verdict::Expired
     } else if status == 429 || is_at_fault {
         Verdict::Busy
+    } else if status == 413 {
+        Verdict::TooLarge
     } else {
         Verdict::Refused
     }

@@ -1,6 +1,7 @@
 // A feed hears a line.
 use crate::feed::answers::{Verdict, verdict_of};
 use crate::feed::notes::Asked;
+use crate::feed::pace::Pace;
 use crate::feed::{Feed, Notes, Scope, Stage};
 use crate::mirror::Shelf;
 use crate::source::Source;
@@ -22,6 +23,13 @@ impl Feed {
         }
     }
 
+    fn is_listing(&self) -> bool {
+        match &self.stage {
+            Stage::Listing(_) => true,
+            _ => false,
+        }
+    }
+
     // The server answered 200.
     fn done(
         &mut self,
@@ -35,10 +43,12 @@ impl Feed {
     ) -> Result<Vec<Key>, Refusal> {
         match self.asked() {
             Asked::List => {
+                self.is_refused = false;
                 let body = present(value, "body");
                 self.hear_page(alloc, scope, source, shelf, notes, body, now)
             }
             Asked::Watch => {
+                self.is_refused = false;
                 self.pace = self.pace.met();
                 Ok(Vec::new(alloc))
             }
@@ -57,6 +67,7 @@ impl Feed {
     ) -> Result<Vec<Key>, Refusal> {
         let asked = self.asked();
         self.restart(now, 32);
+        self.is_refused = true;
         notes.refused(alloc, scope, source, asked, status, present(value, "body"))?;
         Ok(Vec::new(alloc))
     }
@@ -75,9 +86,31 @@ impl Feed {
     ) -> Result<Vec<Key>, Refusal> {
         let (asked, wait) = (self.asked(), self.pace.wait());
         self.pace = self.pace.missed(now);
+        if status.is_none() && self.is_listing() {
+            self.ask_fewer();
+        }
         if wait >= TOLD_FROM {
             notes.failing(alloc, scope, source, asked, status, value, wait)?;
         }
+        Ok(Vec::new(alloc))
+    }
+
+    // The answer is larger than the transport takes: at once for fewer objects, where a page can
+    // have fewer.
+    fn too_large(
+        &mut self,
+        alloc: Global,
+        scope: &Scope,
+        source: Source,
+        notes: &mut Notes,
+        value: &Value,
+        now: u64,
+    ) -> Result<Vec<Key>, Refusal> {
+        if self.limit <= 1 {
+            return self.missed(alloc, scope, source, notes, Some(413), value, now);
+        }
+        self.ask_fewer();
+        self.pace = Pace::at_once(now);
         Ok(Vec::new(alloc))
     }
 
@@ -99,6 +132,7 @@ impl Feed {
                 Ok(Vec::new(alloc))
             }
             Verdict::Busy => { self.missed(alloc, scope, source, notes, Some(status), value, now) }
+            Verdict::TooLarge => self.too_large(alloc, scope, source, notes, value, now),
             Verdict::Refused => self.refused(alloc, scope, source, notes, status, value, now),
         }
     }
@@ -125,6 +159,7 @@ impl Feed {
         if !self.waits {
             return Ok(Vec::new(alloc));
         }
+        self.heard_at = now;
         match kind {
             LineKind::Told(_) => {
                 let event = present(value, "event");

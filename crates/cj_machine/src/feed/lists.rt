@@ -2,8 +2,8 @@
 
 use crate::feed::answers::{Page, page_in};
 use crate::feed::pace::Pace;
-use crate::feed::{Feed, Notes, Scope, Stage};
-use crate::mirror::{Entry, Shelf, cron_of, kept_text, key_in};
+use crate::feed::{Feed, MOST_OBJECTS, Notes, Scope, Stage};
+use crate::mirror::{Entry, Kept, Shelf, cron_of, is_orphan, kept_of, key_in};
 use crate::source::Source;
 use cj_base::{Refusal, Text};
 use cj_control::ApiVersion;
@@ -11,6 +11,12 @@ use cj_types::Key;
 use serde_json::Value;
 use std::alloc::Global;
 use std::mem;
+
+// What is kept of an object, with its CronJob.
+fn entry(kept: Kept, cron: Option<Key>) -> Entry {
+    let Kept { text, is_cut } = kept;
+    Entry { text, cron, is_cut }
+}
 
 /// What a mirror keeps of the object at a key.
 pub(crate) fn entry_of(
@@ -20,9 +26,9 @@ pub(crate) fn entry_of(
     key: &Key,
     value: &Value,
 ) -> Result<Entry, Refusal> {
-    let text = kept_text(alloc, source, api, value)?;
+    let kept = kept_of(alloc, source, api, value)?;
     let cron = cron_of(alloc, source, key, value)?;
-    Ok(Entry { text, cron })
+    Ok(entry(kept, cron))
 }
 
 // Puts an item of a list, unless it has no key; whether it has one.
@@ -31,11 +37,15 @@ fn put_item(
     api: ApiVersion,
     source: Source,
     shelf: &mut Shelf,
+    notes: &mut Notes,
     item: &Value,
 ) -> Result<bool, Refusal> {
     let Some(key) = key_in(alloc, item)? else {
         return Ok(false);
     };
+    if is_orphan(item) {
+        notes.orphan(alloc, &key)?;
+    }
     let entry = entry_of(alloc, api, source, &key, item)?;
     shelf.put(alloc, &key, entry)?;
     Ok(true)
@@ -47,11 +57,12 @@ fn put_items(
     api: ApiVersion,
     source: Source,
     shelf: &mut Shelf,
+    notes: &mut Notes,
     items: &[Value],
 ) -> Result<u64, Refusal> {
     let mut unnamed: u64 = 0;
     for item in items {
-        if !put_item(alloc, api, source, shelf, item)? {
+        if !put_item(alloc, api, source, shelf, notes, item)? {
             unnamed = unnamed.saturating_add(1);
         }
     }
@@ -80,6 +91,7 @@ impl Feed {
         mem::swap(shelf, &mut self.coming);
         self.coming = Shelf::new(alloc);
         self.stage = Stage::Watching(version);
+        self.limit = MOST_OBJECTS;
         self.listed = true;
         self.pace = Pace::at_once(now);
         Ok(touched)
@@ -110,7 +122,8 @@ impl Feed {
         now: u64,
     ) -> Result<Vec<Key>, Refusal> {
         self.begin_list(alloc);
-        let unnamed = put_items(alloc, scope.api, source, &mut self.coming, page.items)?;
+        let coming = &mut self.coming;
+        let unnamed = put_items(alloc, scope.api, source, coming, notes, page.items)?;
         if unnamed > 0 {
             notes.unnamed(alloc, scope, source, unnamed)?;
         }

@@ -1,9 +1,11 @@
 // Lines for people.
 use crate::feed::scope::Scope;
+use crate::remark::Remark;
 use crate::source::Source;
-use cj_base::Refusal;
+use cj_base::{Refusal, TryCopy};
 use cj_control::{ApiVersion, text_at};
 use cj_manifest::present;
+use cj_types::Key;
 use serde_json::Value;
 use std::alloc::{AllocError, Global};
 use std::mem;
@@ -15,10 +17,15 @@ pub(crate) enum Asked {
     Watch,
 }
 
+// Of how many Jobs it is kept that people were told of them.
+const MOST_ORPHANS: usize = 1_000;
+
 /// Lines for people, in the order in which they came.
 #[derive(Drop)]
 pub(crate) struct Notes {
-    lines: Vec<String>,
+    lines: Vec<Remark>,
+    // The held Jobs of no CronJob that people were told of.
+    orphans: Vec<Key>,
 }
 
 fn act(asked: Asked) -> &'static str {
@@ -94,15 +101,31 @@ impl Notes {
     pub(crate) fn new(alloc: Global) -> Notes {
         Notes {
             lines: Vec::new(alloc),
+            orphans: Vec::new(alloc),
         }
     }
 
     fn push(&mut self, line: String) -> Result<(), Refusal> {
-        self.lines.push(line).map_err(|_| Refusal::OutOfMemory)
+        self.lines
+            .push(Remark::warning(line))
+            .map_err(|_| Refusal::OutOfMemory)
+    }
+
+    /// A line that a held Job is of no CronJob, the first time.
+    pub(crate) fn orphan(&mut self, alloc: Global, key: &Key) -> Result<(), Refusal> {
+        if self.orphans.len() >= MOST_ORPHANS || self.orphans.iter().any(|it| it == key) {
+            return Ok(());
+        }
+        let copy = key.try_copy(alloc)?;
+        self.orphans.push(copy).map_err(|_| Refusal::OutOfMemory)?;
+        let (namespace, name) = (key.namespace(), key.name());
+        self.push(format!(in alloc;
+            "job {namespace}/{name}: held, and no CronJob controls it; it never runs: kubectl delete job -n {namespace} {name}"
+        )?)
     }
 
     /// The lines, each once.
-    pub(crate) fn take(&mut self, alloc: Global) -> Vec<String> {
+    pub(crate) fn take(&mut self, alloc: Global) -> Vec<Remark> {
         mem::replace(&mut self.lines, Vec::new(alloc))
     }
 

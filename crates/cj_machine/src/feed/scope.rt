@@ -78,19 +78,21 @@ impl Scope {
         }
     }
 
-    /// The path of a page of the list: the first, or the one of this token.
+    /// The path of a page of the list, of at most so many objects: the first, or the one of this
+    /// token.
     pub(crate) fn list_path(
         &self,
         alloc: Global,
         source: Source,
         token: &Option<Text>,
+        limit: u64,
     ) -> Result<Text, Refusal>
         ensures err { IfErr result (λ e. e ≡ OutOfMemory) }
     {
         let path = self.path(alloc, source)?;
         let selects = self.selects(alloc, source)?;
         let goes_on = parameter(alloc, "&continue=", text_in(token))?;
-        let text = format!(in alloc; "{path}?limit=500{selects}{goes_on}")?;
+        let text = format!(in alloc; "{path}?limit={limit}{selects}{goes_on}")?;
         Ok(Text::from_string(text))
     }
 

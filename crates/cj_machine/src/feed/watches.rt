@@ -3,7 +3,7 @@
 use crate::feed::answers::{Change, Event, event_in, is_error};
 use crate::feed::lists::entry_of;
 use crate::feed::{Feed, Notes, Scope, Stage};
-use crate::mirror::{Shelf, cron_of, key_in};
+use crate::mirror::{Shelf, cron_of, is_orphan, key_in};
 use crate::source::Source;
 use cj_base::{Refusal, Text, TryCopy};
 use cj_control::ApiVersion;
@@ -82,7 +82,12 @@ impl Feed {
     ) -> Result<Vec<Key>, Refusal> {
         let version = Text::new(alloc, event.version)?;
         let touched = match key_in(alloc, event.object)? {
-            Some(key) => change_shelf(alloc, scope.api, source, shelf, &key, event)?,
+            Some(key) => {
+                if event.change == Change::Put && is_orphan(event.object) {
+                    notes.orphan(alloc, &key)?;
+                }
+                change_shelf(alloc, scope.api, source, shelf, &key, event)?
+            }
             None => {
                 if event.change != Change::Bookmark {
                     notes.unread_event(alloc, scope, source)?;

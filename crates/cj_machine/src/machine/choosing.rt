@@ -3,6 +3,7 @@
 use crate::machine::choice::Choice;
 use crate::machine::clearing::{list, tidy, to_clear};
 use crate::machine::making::{hold, make, name_taken, not_adopted};
+use crate::machine::planning::one_line_of;
 use crate::machine::reading::{job_row, take_cron, value_of};
 use crate::machine::starting::start;
 use crate::machine::task::{Again, Stage, Task};
@@ -14,20 +15,37 @@ use cj_types::Key;
 use std::alloc::Global;
 
 // The CronJob as lists and watches told it.
-fn cached_cron(alloc: Global, task: &mut Task, text: &str) -> Result<Choice, Refusal> {
+fn cached_cron(
+    alloc: Global,
+    task: &mut Task,
+    text: &str,
+    is_cut: bool,
+) -> Result<Choice, Refusal> {
     let Some(value) = value_of(alloc, text)? else {
         return Ok(Choice::End(Again::Never));
-    };
-    let row = match read_cron(alloc, &value) {
-        Ok(row) => row,
-        Err(Refusal::OutOfMemory) => return Err(Refusal::OutOfMemory),
-        Err(_) => return Ok(Choice::End(Again::Never)),
     };
     if !take_cron(alloc, task, &value)? {
         return Ok(Choice::End(Again::Never));
     }
+    task.is_cut = is_cut;
+    let row = match read_cron(alloc, &value) {
+        Ok(row) => row,
+        Err(refusal) => return unread(alloc, task, refusal),
+    };
     let name = task.name.try_copy(alloc)?;
     Ok(Choice::Look(Call::CacheCron(name), Answer::Cron(Some(row.object))))
+}
+
+// A CronJob that says less than the protocol needs, or something else, is left alone.
+fn unread(alloc: Global, task: &mut Task, refusal: Refusal) -> Result<Choice, Refusal> {
+    match refusal {
+        Refusal::OutOfMemory => Err(Refusal::OutOfMemory),
+        Refusal::Invalid(faults) => {
+            task.refused = Some(("InvalidSpec", one_line_of(alloc, &faults)?));
+            Ok(Choice::End(Again::Never))
+        }
+        _ => Ok(Choice::End(Again::Never)),
+    }
 }
 
 // A sync that has called nothing reads its CronJob.
@@ -35,8 +53,9 @@ fn fresh(alloc: Global, view: &View<'_>, task: &mut Task) -> Result<Choice, Refu
     if task.is_live {
         return Ok(Choice::Send(Call::GetCron(task.name.try_copy(alloc)?)));
     }
+    let is_cut = view.mirror.is_cut(&task.key);
     match view.mirror.cron(&task.key) {
-        Some(text) => cached_cron(alloc, task, text),
+        Some(text) => cached_cron(alloc, task, text, is_cut),
         None => Ok(Choice::End(Again::Never)),
     }
 }
@@ -96,12 +115,26 @@ fn ready(alloc: Global, view: &View<'_>, task: &mut Task, at: &At) -> Result<Cho
     }
 }
 
+// How many milliseconds the next sync waits after so many claims in a row that somebody else's
+// write refused.
+fn conflict_wait(conflicts: u64) -> u64 {
+    if conflicts < 8 { 0 } else { 1_000 }
+}
+
 // What ended a sync says when the next one looks.
 fn over(task: &Task) -> Again {
+    if is_conflict(task) {
+        return Again::Live(conflict_wait(task.conflicts));
+    }
     match task.status {
         404 | 409 | 422 => Again::After(300),
         _ => Again::Failed,
     }
+}
+
+/// Whether a sync ended since its claim met another version of the CronJob.
+pub(crate) fn is_conflict(task: &Task) -> bool {
+    task.stage == Stage::Starting && !task.has_claimed && task.status == 409
 }
 
 /// What a sync does next, by how far it has come.
@@ -118,7 +151,7 @@ pub(crate) fn choose(
             [] => Ok(Choice::End(Again::Failed)),
         },
         Sync::Ready(at) => ready(alloc, view, task, at),
-        Sync::Holding(at, held) => hold(alloc, task, at, held),
+        Sync::Holding(at, held) => hold(alloc, view, task, at, held),
         Sync::Starting(at, held, drops) => { start(alloc, view, task, at, held, drops.as_slice()) }
         Sync::Tidying(_, garbage, finished) => {
             to_clear(alloc, view, task, garbage.as_slice(), finished.as_slice())

@@ -1,6 +1,6 @@
 // The status without the dead, and the Jobs that go.
 use crate::machine::choice::Choice;
-use crate::machine::listing::rows_of;
+use crate::machine::listing::{later_success, loses_success, rows_of};
 use crate::machine::task::{Again, Stage, Task};
 use crate::machine::view::{View, rank};
 use cj_base::{Refusal, Same, TryCopy};
@@ -19,14 +19,17 @@ pub(crate) fn list(alloc: Global, view: &View<'_>, task: &mut Task) -> Result<Ch
     Ok(Choice::Look(Call::ListJobs, Answer::Jobs(Table::from_rows(rows))))
 }
 
-/// The status is written without the dead, where it names any; then the Jobs are listed.
+/// The status is written without the dead, and with a later success, where there are any; then the
+/// Jobs are listed.
 pub(crate) fn tidy(
     alloc: Global,
     view: &View<'_>,
     task: &mut Task,
     at: &At,
 ) -> Result<Choice, Refusal> {
-    if at.alive.same(&at.cron.active) || is_due_soon(view, task) {
+    let success = later_success(alloc, view, &task.key, at)?;
+    let is_clean = success.is_none() && at.alive.same(&at.cron.active);
+    if is_clean || (is_due_soon(view, task) && !loses(alloc, view, task, at)?) {
         return list(alloc, view, task);
     }
     task.stage = Stage::Tidying;
@@ -35,8 +38,17 @@ pub(crate) fn tidy(
         uid: at.cron.uid.try_copy(alloc)?,
         version: at.cron.version.try_copy(alloc)?,
         active: at.alive.try_copy(alloc)?,
+        success,
     };
     Ok(Choice::Send(Call::Tidy(tidy)))
+}
+
+// Whether the history limits let a Job go that succeeded later than the status says.
+fn loses(alloc: Global, view: &View<'_>, task: &Task, at: &At) -> Result<bool, Refusal> {
+    match &task.plan {
+        Some(plan) => loses_success(alloc, view, &task.key, plan.surplus.as_slice(), at),
+        None => Ok(false),
+    }
 }
 
 // Whether a time is due within a minute, whose claim writes the status anyway.

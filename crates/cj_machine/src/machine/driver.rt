@@ -3,12 +3,16 @@ ghost use Rattle.std.specs.Prelude.{◌≡◌, IfErr};
 ghost use Rattle.cj_base.specs.declared.refusal.Refusal.TheVariants.{OutOfMemory};
 
 use crate::feeds::Feeds;
+use crate::machine::clock::{Clock, Difference};
+use crate::machine::event_log::EventLog;
 use crate::machine::events::{EventNote, MOST_EVENTS};
 use crate::machine::memo::Memo;
+use crate::machine::numbers::Numbers;
 use crate::machine::options::ControlOptions;
 use crate::machine::task::Task;
+use crate::remark::Remark;
 use crate::source::Source;
-use cj_base::{Refusal, Text, TryCopy};
+use cj_base::{Millis, Refusal, Seconds, Text, TryCopy};
 use cj_control::HeldBy;
 use cj_queue::{Queue, Secret};
 use cj_table::Table;
@@ -24,12 +28,15 @@ pub(crate) struct Driver {
     /// What is kept of a CronJob from one sync to the next.
     pub memos: Table<Memo>,
     /// Lines for people.
-    pub told: Vec<String>,
-    /// Events that are to be told, and how many may be told in this minute.
+    pub told: Vec<Remark>,
+    /// Events that are to be told, those that were, and how many more may be told in this minute.
     pub events: Vec<EventNote>,
+    pub event_log: EventLog,
     pub events_left: u64,
-    /// How many Jobs were started since the last summary.
-    pub starts: u64,
+    /// What was counted.
+    pub numbers: Numbers,
+    /// The CronJobs whose status somebody else was seen to write in this hour.
+    pub strangers: Table<()>,
     /// Names of zones that are wanted, and those that were.
     pub wanted: Vec<Text>,
     pub known: Vec<Text>,
@@ -45,8 +52,9 @@ pub(crate) struct Driver {
     pub version_misses: u64,
     /// Whether all lists came to their end once.
     pub was_synced: bool,
-    /// The clock, in seconds since 1970; 0 before it is told.
-    pub now: u64,
+    pub clock: Clock,
+    /// When the clock was told first, in seconds since 1970; 0 before.
+    pub began_at: u64,
     pub is_stopping: bool,
 }
 
@@ -60,8 +68,10 @@ impl Drop for Driver {
             memos: _,
             told: _,
             events: _,
+            event_log: _,
             events_left: _,
-            starts: _,
+            numbers: _,
+            strangers: _,
             wanted: _,
             known: _,
             version_id: _,
@@ -71,7 +81,8 @@ impl Drop for Driver {
             version_at: _,
             version_misses: _,
             was_synced: _,
-            now: _,
+            clock: _,
+            began_at: _,
             is_stopping: _,
         } = self;
         drop(options);
@@ -105,8 +116,10 @@ impl Driver {
             memos: Table::new(alloc),
             told: Vec::new(alloc),
             events: Vec::new(alloc),
+            event_log: EventLog::new(alloc),
             events_left: MOST_EVENTS,
-            starts: 0,
+            numbers: Numbers::new(),
+            strangers: Table::new(alloc),
             wanted: Vec::new(alloc),
             known: Vec::new(alloc),
             version_id: None,
@@ -116,26 +129,77 @@ impl Driver {
             version_at: 0,
             version_misses: 0,
             was_synced: false,
-            now: 0,
+            clock: Clock::new(),
+            began_at: 0,
             is_stopping: false,
         })
     }
 
-    /// A line for people.
+    /// A line for people: that something happened.
     pub fn tell(&mut self, text: String) -> Result<(), Refusal> {
-        self.told.push(text).map_err(|_| Refusal::OutOfMemory)
+        self.told
+            .push(Remark::info(text))
+            .map_err(|_| Refusal::OutOfMemory)
+    }
+
+    /// A line for people: that somebody should look.
+    pub fn warn(&mut self, text: String) -> Result<(), Refusal> {
+        self.told
+            .push(Remark::warning(text))
+            .map_err(|_| Refusal::OutOfMemory)
+    }
+
+    /// The moment by which Jobs are due, in seconds since 1970; 0 until the server has answered.
+    pub fn now(&self) -> u64 {
+        self.clock.now()
+    }
+
+    /// What this machine's clock says, by which requests are paced; 0 before it was told.
+    pub fn local(&self) -> u64 {
+        self.clock.local()
     }
 
     /// The clock is at this second. Each minute people are told how things stand.
     pub fn set_clock(&mut self, alloc: Global, now: u64) -> Result<(), Refusal> {
-        let is_new_minute = now / 60 != self.now / 60;
-        let is_first = self.now == 0;
-        self.now = now;
-        if !is_new_minute {
+        let before = self.local();
+        self.clock.tick(now);
+        if before == 0 {
+            self.began_at = now;
             return Ok(());
         }
+        if now / 3_600 != before / 3_600 {
+            self.strangers = Table::new(alloc);
+        }
+        if now / 60 == before / 60 {
+            return Ok(());
+        }
+        self.numbers.end_minute();
         self.events_left = MOST_EVENTS;
-        if is_first { Ok(()) } else { self.sum_up(alloc) }
+        self.sum_up(alloc)
+    }
+
+    /// The keys that waited for this moment get into the line.
+    pub fn tick(&mut self) -> Result<(), Refusal> {
+        match Seconds::new(self.now()) {
+            Some(now) if self.now() != 0 => self.queue.tick(Millis::from(now)),
+            _ => Ok(()),
+        }
+    }
+
+    /// Says that the clocks differ, where people are to be told now.
+    pub fn tell_clocks(&mut self, alloc: Global) -> Result<(), Refusal> {
+        let Some(difference) = self.clock.to_tell() else {
+            return Ok(());
+        };
+        let text = match difference {
+            Difference::Ahead(seconds) => format!(in alloc;
+                "this machine's clock is {seconds} s ahead of the API server's: a Job starts once it is due by both"
+            )?,
+            Difference::Behind(seconds) => format!(in alloc;
+                "this machine's clock is {seconds} s behind the API server's: a Job starts once it is due by both"
+            )?,
+        };
+        self.warn(text)
     }
 
     /// How many objects there are, in words.
@@ -149,11 +213,10 @@ impl Driver {
 
     // How things stand.
     fn sum_up(&mut self, alloc: Global) -> Result<(), Refusal> {
-        let (counts, starts) = (self.counts(alloc)?, self.starts);
+        let (counts, starts) = (self.counts(alloc)?, self.numbers.last_minute.starts);
         let counts = counts.as_str();
         let syncs = counted(alloc, self.tasks.len() as u64, "sync")?;
         let syncs = syncs.as_str();
-        self.starts = 0;
         let text = format!(in alloc;
             "{counts}; started {starts} in the last minute, {syncs} under way"
         )?;
@@ -183,8 +246,9 @@ impl Driver {
         self.version_id = None;
         self.crons_id = None;
         self.jobs_id = None;
-        self.feeds.forget_answer(Source::Crons, self.now);
-        self.feeds.forget_answer(Source::Jobs, self.now);
+        let now = self.local();
+        self.feeds.forget_answer(Source::Crons, now);
+        self.feeds.forget_answer(Source::Jobs, now);
     }
 
     /// Notes which request a feed waits for.

@@ -1,16 +1,20 @@
 // Events that a controller tells (v1, Event).
 
 use crate::machine::driver::Driver;
+use crate::machine::event_log::{EventRow, Telling};
 use crate::machine::steps;
 use crate::machine::task::Task;
 use cj_base::{Refusal, Seconds, Text, TryCopy, all_four, all_three, both};
-use cj_control::Ledger;
+use cj_control::{Ledger, mark_of};
 use cj_json::{object_of, text_or_null, time_value};
 use serde_json::{Value, json};
 use std::alloc::{AllocError, Global};
 
-/// How many Events are told in a minute at most.
-pub(crate) const MOST_EVENTS: u64 = 60;
+/// How many requests for Events are sent in a minute at most.
+pub(crate) const MOST_EVENTS: u64 = 1_200;
+
+// How many Events may wait to be told.
+const MOST_WAITING: usize = 10_000;
 
 /// An Event of a CronJob that is to be told.
 pub(crate) struct EventNote {
@@ -20,6 +24,8 @@ pub(crate) struct EventNote {
     pub reason: &'static str,
     pub is_warning: bool,
     pub message: String,
+    /// Whether all replicas tell it as one.
+    pub is_common: bool,
 }
 
 impl Drop for EventNote {
@@ -31,6 +37,7 @@ impl Drop for EventNote {
             reason: _,
             is_warning: _,
             message,
+            is_common: _,
         } = self;
         drop(namespace);
         drop(name);
@@ -63,11 +70,19 @@ fn object(alloc: Global, api: &str, note: &EventNote) -> Result<Value, Refusal> 
     Ok(object_of(alloc, OBJECT_NAMES, values)?)
 }
 
-fn metadata(alloc: Global, note: &EventNote) -> Result<Value, Refusal> {
-    let name = note.name.as_str();
-    let prefix = format!(in alloc; "{name}.")?;
-    let prefix = Value::String(prefix);
-    Ok(json!(in alloc; {"generateName": prefix, "namespace": note.namespace.as_str()})?)
+// The name of an Event: what it says of which object, and who tells it.
+fn event_name(alloc: Global, note: &EventNote, replica: &str) -> Result<Text, Refusal> {
+    let (name, uid) = (note.name.as_str(), note.uid.as_str());
+    let (reason, message) = (note.reason, note.message.as_str());
+    let replica = if note.is_common { "" } else { replica };
+    let said = format!(in alloc; "{uid} {reason} {replica} {message}")?;
+    let mark = mark_of(alloc, said.as_str())?;
+    let mark = mark.as_str();
+    Ok(Text::from_string(format!(in alloc; "{name}.{mark}")?))
+}
+
+fn metadata(alloc: Global, note: &EventNote, name: &str) -> Result<Value, Refusal> {
+    Ok(json!(in alloc; {"name": name, "namespace": note.namespace.as_str()})?)
 }
 
 fn source(alloc: Global) -> Result<Value, Refusal> {
@@ -126,14 +141,47 @@ fn event_object(
 }
 
 // The Event, told at a moment.
-fn body(alloc: Global, api: &str, note: &EventNote, now: Seconds) -> Result<Value, Refusal> {
+fn body(
+    alloc: Global,
+    api: &str,
+    note: &EventNote,
+    name: &str,
+    now: Seconds,
+) -> Result<Value, Refusal> {
     let (head, times, about, words) = all_four(
         head_values(alloc),
         both(time_value(alloc, now), time_value(alloc, now)),
-        both(metadata(alloc, note), object(alloc, api, note)),
+        both(metadata(alloc, note, name), object(alloc, api, note)),
         word_values(alloc, note),
     )?;
     Ok(event_object(alloc, head, times, about, words)?)
+}
+
+/// An Event is to be told, unless too many wait.
+pub(crate) fn push_event(driver: &mut Driver, note: EventNote) -> Result<(), Refusal> {
+    if driver.options.dry_run || driver.events.len() >= MOST_WAITING {
+        return Ok(());
+    }
+    driver.events.push(note).map_err(|_| Refusal::OutOfMemory)
+}
+
+/// An Event of the sync's CronJob.
+pub(crate) fn event_of(
+    alloc: Global,
+    task: &Task,
+    reason: &'static str,
+    is_warning: bool,
+    message: String,
+) -> Result<EventNote, Refusal> {
+    Ok(EventNote {
+        namespace: task.parts.head.namespace.try_copy(alloc)?,
+        name: task.parts.head.name.try_copy(alloc)?,
+        uid: task.parts.head.uid.try_copy(alloc)?,
+        reason,
+        is_warning,
+        message,
+        is_common: false,
+    })
 }
 
 /// An Event of the sync's CronJob is to be told.
@@ -145,15 +193,55 @@ pub(crate) fn note_event(
     is_warning: bool,
     message: String,
 ) -> Result<(), Refusal> {
-    let note = EventNote {
-        namespace: task.parts.head.namespace.try_copy(alloc)?,
-        name: task.parts.head.name.try_copy(alloc)?,
-        uid: task.parts.head.uid.try_copy(alloc)?,
-        reason,
-        is_warning,
-        message,
-    };
-    driver.events.push(note).map_err(|_| Refusal::OutOfMemory)
+    let note = event_of(alloc, task, reason, is_warning, message)?;
+    push_event(driver, note)
+}
+
+// A merge patch with how often an Event came.
+fn count_body(alloc: Global, count: u64, now: Seconds) -> Result<Value, Refusal> {
+    let last = time_value(alloc, now)?;
+    Ok(json!(in alloc; {"count": count, "lastTimestamp": last})?)
+}
+
+// The row of an Event that is told now.
+fn row_of(alloc: Global, note: &EventNote, name: &Text, now: u64) -> Result<EventRow, Refusal> {
+    Ok(EventRow {
+        namespace: note.namespace.try_copy(alloc)?,
+        name: name.try_copy(alloc)?,
+        count: 1,
+        first_at: now,
+        written_at: now,
+        id: None,
+    })
+}
+
+// An Event is created, or counted.
+fn tell_note(
+    ledger: &mut Ledger,
+    driver: &mut Driver,
+    alloc: Global,
+    note: &EventNote,
+    now: Seconds,
+) -> Result<(), Refusal> {
+    let name = event_name(alloc, note, driver.options.replica.as_str())?;
+    let (namespace, at) = (note.namespace.as_str(), driver.now());
+    match driver.event_log.come(namespace, name.as_str(), at) {
+        Telling::Nothing => Ok(()),
+        Telling::Count(count) => {
+            driver.events_left = driver.events_left.saturating_sub(1);
+            let body = count_body(alloc, count, now)?;
+            let id = steps::count(ledger, alloc, namespace, name.as_str(), body)?;
+            driver.event_log.set_id(namespace, name.as_str(), id);
+            Ok(())
+        }
+        Telling::Create => {
+            driver.events_left = driver.events_left.saturating_sub(1);
+            let row = row_of(alloc, note, &name, at)?;
+            let body = body(alloc, driver.options.api.text(), note, name.as_str(), now)?;
+            steps::tell(ledger, alloc, namespace, body)?;
+            driver.event_log.add(row)
+        }
+    }
 }
 
 /// An Event is told, where one is to be and this minute has room; whether one was.
@@ -162,17 +250,13 @@ pub(crate) fn tell_event(
     driver: &mut Driver,
     alloc: Global,
 ) -> Result<bool, Refusal> {
-    let Some(note) = driver.events.pop() else {
+    if driver.events.is_empty() || driver.events_left == 0 {
         return Ok(false);
-    };
-    let Some(now) = Seconds::new(driver.now) else {
-        return Ok(false);
-    };
-    if driver.options.dry_run || driver.events_left == 0 {
-        return Ok(true);
     }
-    driver.events_left = driver.events_left.saturating_sub(1);
-    let body = body(alloc, driver.options.api.text(), &note, now)?;
-    steps::tell(ledger, alloc, note.namespace.as_str(), body)?;
+    let Some(now) = Seconds::new(driver.now()) else {
+        return Ok(false);
+    };
+    let note = driver.events.remove(0);
+    tell_note(ledger, driver, alloc, &note, now)?;
     Ok(true)
 }

@@ -1,6 +1,7 @@
 // A sync ends, and its key waits for the next one.
 
 use crate::machine::driver::Driver;
+use crate::machine::lasting::{CLAIMED_WITHIN, say_conflict, say_missed, say_nameless, say_unmade};
 use crate::machine::memo::Memo;
 use crate::machine::saying::{say_held_back, say_left, say_why};
 use crate::machine::steps;
@@ -24,17 +25,45 @@ pub(crate) fn finish_key(driver: &mut Driver, key: &Key, again: &Again) -> Resul
     if !driver.queue.is_processing(key) {
         return Ok(());
     }
+    let now = driver.now();
     match again {
         Again::Never => driver.queue.finish_ok(key, None),
         Again::At(second) => driver
             .queue
             .finish_ok(key, Some(second.saturating_mul(1_000))),
-        Again::After(wait) => driver.queue.finish_ok(key, Some(after(driver.now, *wait))),
-        Again::Live => driver.queue.finish_ok(key, Some(after(driver.now, 0))),
-        Again::Failed => match Seconds::new(driver.now) {
+        Again::After(wait) => driver.queue.finish_ok(key, Some(after(now, *wait))),
+        Again::Live(wait) => driver.queue.finish_ok(key, Some(after(now, *wait))),
+        Again::Failed => match Seconds::new(now) {
             Some(now) => driver.queue.finish_retry(key, Millis::from(now)),
             None => driver.queue.finish_ok(key, None),
         },
+    }
+}
+
+// When a sync that failed is tried again at the latest, however long the queue's delay has become:
+// a minute after the time that it didn't claim, then each minute, and at its next time.
+fn latest(task: &Task, now: u64) -> Option<u64> {
+    let next = match &task.plan {
+        Some(plan) => plan.next,
+        None => None,
+    };
+    if task.due == 0 {
+        return next;
+    }
+    let minute = task.due.max(now).saturating_add(CLAIMED_WITHIN);
+    let late = task.due.saturating_add(CLAIMED_WITHIN);
+    let pending = if now < late { late } else { minute };
+    match next {
+        Some(next) => Some(next.min(pending)),
+        None => Some(pending),
+    }
+}
+
+fn wake_at_latest(driver: &mut Driver, task: &Task, again: &Again) -> Result<(), Refusal> {
+    let now = driver.now();
+    match (again, latest(task, now)) {
+        (Again::Failed, Some(at)) => driver.queue.add_after(&task.key, at.saturating_mul(1_000)),
+        _ => Ok(()),
     }
 }
 
@@ -77,7 +106,7 @@ fn say_reason(driver: &mut Driver, alloc: Global, task: &Task) -> Result<u64, Re
     if plan.reason.is_none() && !task.is_held_back {
         return Ok(0);
     }
-    let minute = driver.now / 60;
+    let minute = driver.now() / 60;
     if minute == last {
         return Ok(minute);
     }
@@ -92,9 +121,18 @@ fn say_reason(driver: &mut Driver, alloc: Global, task: &Task) -> Result<u64, Re
 fn keep(driver: &mut Driver, alloc: Global, task: &mut Task, again: &Again) -> Result<(), Refusal> {
     let left = say_refusal(driver, alloc, task)?;
     let minute = say_reason(driver, alloc, task)?;
+    let unmade = say_unmade(driver, alloc, task)?;
+    let (due, missed) = say_missed(driver, alloc, task)?;
+    let has_nameless = say_nameless(driver, alloc, task)?;
+    let conflicts = say_conflict(driver, alloc, task)?;
     let memo = Memo {
         waits: task.waits.take(),
-        is_live: matches!(again, Again::Live),
+        is_live: matches!(again, Again::Live(_)),
+        conflicts,
+        due,
+        missed,
+        unmade,
+        has_nameless,
         left,
         minute,
     };
@@ -119,7 +157,8 @@ fn end(
         driver.want(alloc, zone)?;
     }
     keep(driver, alloc, task, again)?;
-    finish_key(driver, &task.key, again)
+    finish_key(driver, &task.key, again)?;
+    wake_at_latest(driver, task, again)
 }
 
 /// A sync that went as far as it could is put back to wait, or ends. Where memory was wanting it
@@ -135,7 +174,7 @@ pub(crate) fn settle(
     let (again, given) = match went {
         Ok(Went::Waits(id)) => {
             task.id = Some(id);
-            task.asked_at = driver.now;
+            task.asked_at = driver.local();
             return park(driver, task);
         }
         Ok(Went::Over(again)) => (again, Ok(())),
@@ -168,7 +207,7 @@ pub(crate) fn end_stuck(
     driver: &mut Driver,
     alloc: Global,
 ) -> Result<bool, Refusal> {
-    let now = driver.now;
+    let now = driver.local();
     let Some(place) = driver.tasks.iter().position(|task| is_stuck(task, now)) else {
         return Ok(false);
     };

@@ -1,10 +1,14 @@
 // What lists, watches and the server's version tell.
 use crate::feed::no_version;
 use crate::machine::driver::Driver;
+use crate::machine::saying::say_other;
+use crate::machine::strangers::stranger;
 use crate::machine::view::rank;
+use crate::mirror::key_in;
 use crate::source::Source;
 use cj_base::{Refusal, Text, TryCopy};
-use cj_control::{HeldBy, Line, LineKind, full_name};
+use cj_cluster::read_instant;
+use cj_control::{HeldBy, Line, LineKind, full_name, text_at};
 use cj_manifest::present;
 use cj_types::Key;
 use serde_json::Value;
@@ -43,14 +47,27 @@ fn answered_by(kind: LineKind) -> Option<u64> {
     }
 }
 
+// The moment that a line says the server's clock showed.
+fn date_in(line: &Value) -> Option<u64> {
+    let time = read_instant(text_at(line, "date")?)?;
+    Some(time.get())
+}
+
 impl Driver {
+    /// An answer may tell the server's clock.
+    pub fn hear_clock(&mut self, line: &Line) {
+        if let LineKind::Answered(_, _) = line.kind {
+            self.clock.heard(date_in(&line.value));
+        }
+    }
+
     /// What the server says of its version. People are told at once where it says none, and then
     /// each 32nd time.
     pub fn hear_version(&mut self, alloc: Global, line: &Line) -> Result<(), Refusal> {
         self.version_id = None;
-        self.version_at = self.now.saturating_add(1);
+        self.version_at = self.local().saturating_add(1);
         if let LineKind::Answered(_, 200) = line.kind {
-            self.by = held_by(present(&line.value, "body"));
+            self.by = held_by(present(&line.value, "body")).or(self.by);
         }
         if self.by.is_some() {
             return Ok(());
@@ -58,7 +75,7 @@ impl Driver {
         let is_told = self.version_misses % 32 == 0;
         self.version_misses = self.version_misses.saturating_add(1);
         if is_told {
-            self.tell(no_version(alloc, answered_by(line.kind), &line.value)?)
+            self.warn(no_version(alloc, answered_by(line.kind), &line.value)?)
         } else {
             Ok(())
         }
@@ -77,18 +94,17 @@ impl Driver {
         if !matches!(line.kind, LineKind::Told(_)) {
             self.set_feed(source, None);
         }
-        match self
-            .feeds
-            .heard(alloc, source, line.kind, &line.value, self.now)
-        {
+        let now = self.local();
+        match self.feeds.heard(alloc, source, line.kind, &line.value, now) {
             Ok(keys) => {
+                self.see_writer(alloc, source, line)?;
                 self.touch_all(alloc, keys.as_slice())?;
                 self.tell_notes(alloc)?;
                 self.tell_synced(alloc)
             }
             Err(refusal) => {
                 self.set_feed(source, None);
-                self.feeds.forget_answer(source, self.now);
+                self.feeds.forget_answer(source, now);
                 Err(refusal)
             }
         }
@@ -122,9 +138,33 @@ impl Driver {
     // What people are to know of lists and watches.
     fn tell_notes(&mut self, alloc: Global) -> Result<(), Refusal> {
         for line in self.feeds.take_told(alloc) {
-            self.tell(line)?;
+            self.told.push(line).map_err(|_| Refusal::OutOfMemory)?;
         }
         Ok(())
+    }
+
+    // Somebody else may have written the status of the CronJob of an event: that is told, once an
+    // hour.
+    fn see_writer(&mut self, alloc: Global, source: Source, line: &Line) -> Result<(), Refusal> {
+        if source == Source::Jobs || !matches!(line.kind, LineKind::Told(_)) {
+            return Ok(());
+        }
+        let object = match present(&line.value, "event") {
+            Some(event) => present(event, "object"),
+            None => None,
+        };
+        let Some(object) = object else {
+            return Ok(());
+        };
+        let (Some(manager), Some(key)) = (stranger(object, self.began_at), key_in(alloc, object)?)
+        else {
+            return Ok(());
+        };
+        if self.strangers.contains(&key) {
+            return Ok(());
+        }
+        say_other(alloc, self, object, &key, manager)?;
+        self.strangers.insert(key, ())
     }
 
     fn touch_all(&mut self, alloc: Global, keys: &[Key]) -> Result<(), Refusal> {
@@ -139,13 +179,14 @@ impl Driver {
     fn touch(&mut self, alloc: Global, key: &Key) -> Result<(), Refusal> {
         let name = full_name(alloc, key.namespace(), key.name())?;
         let rank = rank(self.options.replica.as_str(), name.as_str());
-        let at = self.now.saturating_add(rank.max(1));
+        let at = self.now().saturating_add(rank.max(1));
         self.queue.add_after(key, at.saturating_mul(1_000))
     }
 
     /// The path that a feed asks for next, if it asks.
     pub fn next_path(&mut self, alloc: Global, source: Source) -> Result<Option<Text>, Refusal> {
-        match self.feeds.next_request(alloc, source, self.now)? {
+        let now = self.local();
+        match self.feeds.next_request(alloc, source, now)? {
             Some(request) => Ok(Some(request.path)),
             None => Ok(None),
         }

@@ -2,14 +2,14 @@
 
 use crate::machine::choice::Choice;
 use crate::machine::clearing::tidy;
-use crate::machine::listing::list_text;
+use crate::machine::listing::{later_success, list_text};
 use crate::machine::others;
 use crate::machine::planning::{Decided, plan};
 use crate::machine::task::{Again, CronRead, Stage, Task};
 use crate::machine::view::{View, rank};
 use cj_base::{Refusal, Seconds, Text, TryCopy};
 use cj_control::{CronParts, mark_of};
-use cj_fence::{At, Call, Claim, Held, Job, Policy};
+use cj_fence::{At, Call, Claim, Held, Job, Policy, Ref};
 use std::alloc::Global;
 
 // The name of the Job of a time; the second one has a mark of policy, template and uid besides.
@@ -56,6 +56,7 @@ fn create(alloc: Global, task: &mut Task, at: &At) -> Result<Choice, Refusal> {
     };
     let name = job_name(alloc, &task.parts, at.cron.policy, time, task.is_second)?;
     task.stage = Stage::Creating;
+    task.parts.hold = task.parts.by.hold();
     let job = Job {
         uid: Text::new(alloc, "")?,
         version: Text::new(alloc, "")?,
@@ -107,10 +108,12 @@ fn make_planned(
     let Some(time) = time_of(task) else {
         return tidy(alloc, view, task, at);
     };
+    let is_new = time > at.cron.last;
     let is_forbidden = at.cron.policy == Policy::Forbid && !at.alive.as_slice().is_empty();
-    if time <= at.cron.last || is_forbidden {
+    if !is_new || is_forbidden {
         return tidy(alloc, view, task, at);
     }
+    task.due = time;
     let from = time.saturating_add(rank(view.options.replica.as_str(), task.name.as_str()));
     if view.now < from {
         return Ok(Choice::End(Again::At(from)));
@@ -122,7 +125,23 @@ fn make_planned(
         task.is_held_back = true;
         return tidy(alloc, view, task, at);
     }
-    create(alloc, task, at)
+    if task.asks_first {
+        ask(alloc, task, at, time)
+    } else {
+        create(alloc, task, at)
+    }
+}
+
+// The Job that has the name is read.
+fn ask(alloc: Global, task: &mut Task, at: &At, time: u64) -> Result<Choice, Refusal> {
+    let name = job_name(alloc, &task.parts, at.cron.policy, time, task.is_second)?;
+    task.stage = Stage::Asking;
+    Ok(Choice::Send(Call::GetJob(name)))
+}
+
+// How many references name no Job.
+fn nameless(refs: &[Ref]) -> u64 {
+    refs.iter().filter(|it| it.name.as_str().is_empty()).count() as u64
 }
 
 /// What is made is decided, by the CronJob and the Jobs that were read.
@@ -142,7 +161,10 @@ pub(crate) fn make(
         task.wants = Some(zone.try_copy(alloc)?);
         return Ok(Choice::End(Again::After(0)));
     }
-    let text = list_text(alloc, view, cron, &task.key, at.alive.as_slice())?;
+    task.last = at.cron.last;
+    task.nameless = nameless(at.cron.active.as_slice());
+    let alive = at.alive.as_slice();
+    let text = list_text(alloc, view, cron, &task.key, task.nameless, alive)?;
     match plan(alloc, view.zones, text.as_str(), &task.key, now)? {
         Decided::Plan(plan) => {
             task.plan = Some(plan);
@@ -163,9 +185,7 @@ pub(crate) fn name_taken(alloc: Global, task: &mut Task, at: &At) -> Result<Choi
     if task.status != 409 {
         return Ok(Choice::End(Again::Failed));
     }
-    let name = job_name(alloc, &task.parts, at.cron.policy, time, task.is_second)?;
-    task.stage = Stage::Asking;
-    Ok(Choice::Send(Call::GetJob(name)))
+    ask(alloc, task, at, time)
 }
 
 // The second name is tried, if it wasn't.
@@ -177,15 +197,25 @@ fn other_name(alloc: Global, task: &mut Task, at: &At) -> Result<Choice, Refusal
     create(alloc, task, at)
 }
 
+// No Job was found under the name: it is created, where it was looked for before that.
+fn none_found(alloc: Global, task: &mut Task, at: &At) -> Result<Choice, Refusal> {
+    if task.asks_first && task.status == 404 {
+        task.asks_first = false;
+        create(alloc, task, at)
+    } else {
+        Ok(Choice::End(Again::After(300)))
+    }
+}
+
 /// The Job that has the name isn't one to adopt. One of this CronJob and time that was started says
 /// that the time was claimed, or somebody else made it: a GET of the CronJob tells.
 pub(crate) fn not_adopted(alloc: Global, task: &mut Task, at: &At) -> Result<Choice, Refusal> {
     let Some(found) = task.found else {
-        return Ok(Choice::End(Again::After(300)));
+        return none_found(alloc, task, at);
     };
     let was_started = found.is_same && !found.is_held && !found.is_deleting;
     if was_started && !task.is_live {
-        Ok(Choice::End(Again::Live))
+        Ok(Choice::End(Again::Live(0)))
     } else {
         other_name(alloc, task, at)
     }
@@ -194,6 +224,7 @@ pub(crate) fn not_adopted(alloc: Global, task: &mut Task, at: &At) -> Result<Cho
 /// A held Job is claimed; one that was made by another template is left alone.
 pub(crate) fn hold(
     alloc: Global,
+    view: &View<'_>,
     task: &mut Task,
     at: &At,
     held: &Held,
@@ -207,10 +238,11 @@ pub(crate) fn hold(
         return other_name(alloc, task, at);
     }
     task.stage = Stage::Starting;
-    Ok(Choice::Send(Call::Claim(claim(alloc, at, held)?)))
+    let success = later_success(alloc, view, &task.key, at)?;
+    Ok(Choice::Send(Call::Claim(claim(alloc, at, held, success)?)))
 }
 
-fn claim(alloc: Global, at: &At, held: &Held) -> Result<Claim, Refusal> {
+fn claim(alloc: Global, at: &At, held: &Held, success: Option<u64>) -> Result<Claim, Refusal> {
     let mut active = at.alive.try_copy(alloc)?;
     active.push(held.job.try_copy(alloc)?)?;
     Ok(Claim {
@@ -220,5 +252,6 @@ fn claim(alloc: Global, at: &At, held: &Held) -> Result<Claim, Refusal> {
         time: held.found.time,
         job: held.job.try_copy(alloc)?,
         active,
+        success,
     })
 }

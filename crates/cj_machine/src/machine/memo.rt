@@ -7,6 +7,16 @@ pub(crate) struct Memo {
     pub waits: Option<(Text, u64)>,
     /// Whether the CronJob is to be read by a GET.
     pub is_live: bool,
+    /// How many claims in a row were refused by a conflict.
+    pub conflicts: u64,
+    /// The time that was planned and not claimed, and the last one of which people were told so; 0
+    /// for none.
+    pub due: u64,
+    pub missed: u64,
+    /// What people were told of a creation that was refused, and in which hour.
+    pub unmade: Option<(Text, u64)>,
+    /// Whether people were told that references of `status.active` name no Job.
+    pub has_nameless: bool,
     /// The version of the CronJob of which it was told that it is left alone.
     pub left: Option<Text>,
     /// The minute since 1970 in which it was told last why no Job is started.
@@ -18,6 +28,11 @@ impl Drop for Memo {
         let Memo {
             waits: _,
             is_live: _,
+            conflicts: _,
+            due: _,
+            missed: _,
+            unmade: _,
+            has_nameless: _,
             left: _,
             minute: _,
         } = self;
@@ -27,6 +42,9 @@ impl Drop for Memo {
 impl Memo {
     /// Whether nothing is kept.
     pub fn is_empty(&self) -> bool {
-        self.waits.is_none() && !self.is_live && self.left.is_none() && self.minute == 0
+        let has_told = self.unmade.is_some() || self.has_nameless;
+        let has_times = self.due != 0 || self.missed != 0 || self.minute != 0;
+        let has_to_do = self.waits.is_some() || self.is_live || self.conflicts != 0;
+        !has_told && !has_times && !has_to_do && self.left.is_none()
     }
 }

@@ -7,13 +7,18 @@ ghost use Rattle.cj_zone.specs.Table.{zones_of};
 ghost use Rattle.cj_zone.specs.Zones.{zone_named};
 ghost use Rattle.cj_machine.specs.Planning.{zone_name};
 
+use crate::machine::reading::value_of;
 use crate::machine::task::Planned;
-use cj_base::{Field, FieldFault, FieldFaults, Refusal, Seconds, Text};
+use cj_base::{Field, FieldFaults, Refusal, Seconds, Text};
 use cj_cluster::{Cluster, ClusterCron, ItemNotes, ListFault, Said, read_cluster};
+use cj_control::{list_of, spec};
 use cj_decide::{JobRefs, Plan, Steps, decide};
+use cj_explain::explain_faults;
+use cj_manifest::present;
 use cj_types::{Key, Reason, Shared, TryCopy};
 use cj_why::{found, listed};
 use cj_zone::{Zone, ZoneTable};
+use serde_json::Value;
 use std::alloc::Global;
 
 /// What the decision asks of a sync, or why there is none.
@@ -33,32 +38,55 @@ fn event_reason(field: Field) -> &'static str {
     }
 }
 
-fn fault_text(alloc: Global, fault: &FieldFault) -> Result<String, Refusal> {
-    let (path, cause) = (fault.field.path(), fault.cause);
-    Ok(format!(in alloc; "{path} {cause}")?)
+// The reason of an Event for these faults: that of the first field.
+fn reason_of(faults: &FieldFaults) -> &'static str {
+    match faults.as_slice() {
+        [first, ..] => event_reason(first.field),
+        [] => "InvalidSpec",
+    }
 }
 
-// The fields at fault, in words.
-fn fault_words(alloc: Global, faults: &FieldFaults) -> Result<Decided, Refusal> {
+// The lines of a text, in one.
+fn one_line(alloc: Global, lines: &str) -> Result<String, Refusal> {
     let mut text = String::new(alloc);
-    let mut reason = "InvalidSpec";
-    for fault in faults.as_slice() {
+    for line in lines.lines() {
         if !text.is_empty() {
-            text.push_str(", ")?;
-        } else {
-            reason = event_reason(fault.field);
+            text.push_str("; ")?;
         }
-        let one = fault_text(alloc, fault)?;
-        text.push_str(one.as_str())?;
+        text.push_str(line)?;
     }
-    Ok(Decided::Refused(reason, text))
+    Ok(text)
+}
+
+/// Faults of a CronJob, in one line of the words of `check --explain`.
+pub(crate) fn one_line_of(alloc: Global, faults: &FieldFaults) -> Result<String, Refusal> {
+    let lines = explain_faults(alloc, None, faults.as_slice())?;
+    one_line(alloc, lines.as_str())
+}
+
+// The text of the schedule of the first object of a list.
+fn schedule_in(list: &Value) -> Option<&str> {
+    let first = list_of(present(list, "items")).first()?;
+    spec(first, "schedule")?.as_str()
+}
+
+// The fields at fault, in the words of `check --explain`.
+fn fault_words(alloc: Global, list: &str, faults: &FieldFaults) -> Result<Decided, Refusal> {
+    let value = value_of(alloc, list)?;
+    let schedule = match &value {
+        Some(list) => schedule_in(list),
+        None => None,
+    };
+    let lines = explain_faults(alloc, schedule, faults.as_slice())?;
+    let words = one_line(alloc, lines.as_str())?;
+    Ok(Decided::Refused(reason_of(faults), words))
 }
 
 // Why the list has no CronJob.
-fn refused(alloc: Global, notes: &ItemNotes) -> Result<Decided, Refusal> {
+fn refused(alloc: Global, list: &str, notes: &ItemNotes) -> Result<Decided, Refusal> {
     for note in notes.as_slice() {
         if let Said::Refused(faults) = &note.said {
-            return fault_words(alloc, faults);
+            return fault_words(alloc, list, faults);
         }
     }
     let text = String::from_str(alloc, "it is no CronJob of a version that is known")?;
@@ -145,7 +173,7 @@ pub(crate) fn plan(
         }
     };
     let Some(cron) = read.cluster.cron(key) else {
-        return refused(alloc, &read.notes);
+        return refused(alloc, list, &read.notes);
     };
     let plan = plan_of(alloc, zones, &read.cluster, cron.get(), now)?;
     Ok(Decided::Plan(planned(alloc, plan.steps())?))

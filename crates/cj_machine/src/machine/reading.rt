@@ -28,6 +28,7 @@ pub(crate) fn parts_before(
     Ok(CronParts {
         api,
         by,
+        hold: by.hold(),
         head: Head {
             namespace: Text::new(alloc, key.namespace())?,
             name: Text::new(alloc, key.name())?,

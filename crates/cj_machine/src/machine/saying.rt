@@ -1,13 +1,22 @@
 // Lines for people.
 use crate::machine::driver::Driver;
-use crate::machine::events::note_event;
+use crate::machine::events::{EventNote, event_of, note_event, push_event};
 use crate::machine::task::Task;
-use cj_base::{Refusal, Seconds};
-use cj_control::parts;
+use cj_base::{Refusal, Seconds, Text};
+use cj_control::{meta, parts, text_at};
 use cj_fence::Call;
-use cj_types::Reason;
+use cj_types::{Key, Reason};
 use cj_zone::time_text;
+use serde_json::Value;
 use std::alloc::Global;
+
+// The time that a sync starts a Job for.
+fn time_of(task: &Task) -> Option<u64> {
+    match &task.plan {
+        Some(plan) => plan.time,
+        None => None,
+    }
+}
 
 fn time(alloc: Global, time: u64) -> Result<String, Refusal> {
     match Seconds::new(time) {
@@ -34,6 +43,10 @@ fn words(alloc: Global, call: &Call) -> Result<String, Refusal> {
             let name = job.name.as_str();
             Ok(format!(in alloc; "would delete job {name}")?)
         }
+        Call::Tidy(tidy) if tidy.success.is_some() => Ok(String::from_str(
+            alloc,
+            "would write its status: status.active, and a later status.lastSuccessfulTime",
+        )?),
         _ => Ok(String::from_str(
             alloc,
             "would write status.active without the Jobs that are dead",
@@ -62,7 +75,8 @@ pub(crate) fn say_started(
     job: &str,
 ) -> Result<(), Refusal> {
     let name = task.name.as_str();
-    driver.starts = driver.starts.saturating_add(1);
+    let now = driver.now();
+    driver.numbers.started(time_of(task), now);
     let text = format!(in alloc; "cronjob {name}: started job {job}")?;
     driver.tell(text)?;
     let (_, short) = parts(job);
@@ -97,7 +111,7 @@ pub(crate) fn say_left(
 ) -> Result<(), Refusal> {
     let name = task.name.as_str();
     let text = format!(in alloc; "cronjob {name}: left alone: {words}")?;
-    driver.tell(text)?;
+    driver.warn(text)?;
     let message = format!(in alloc; "Left alone: {words}")?;
     note_event(alloc, driver, task, reason, true, message)
 }
@@ -165,7 +179,7 @@ pub(crate) fn say_unlisted(alloc: Global, driver: &mut Driver, task: &Task) -> R
     let text = format!(in alloc;
         "cronjob {name}: the API server answered {status} to the list of its Jobs"
     )?;
-    driver.tell(text)
+    driver.warn(text)
 }
 
 /// Says that the list of the Jobs of a CronJob has one that can't be read.
@@ -178,7 +192,7 @@ pub(crate) fn say_unread_list(
     let text = format!(in alloc;
         "cronjob {name}: can't read the API server's list of its Jobs; asking again later"
     )?;
-    driver.tell(text)
+    driver.warn(text)
 }
 
 // Whether a status is a refusal that people should know of.
@@ -192,13 +206,159 @@ pub(crate) fn say_refused(
     driver: &mut Driver,
     task: &Task,
     call: &Call,
+    body: Option<&Value>,
 ) -> Result<(), Refusal> {
     if !is_told(task.status) {
         return Ok(());
     }
     let (name, status, what) = (task.name.as_str(), task.status, verb(call));
-    let text = format!(in alloc; "cronjob {name}: the API server answered {status} to {what}")?;
-    driver.tell(text)
+    let why = server_words(alloc, body)?;
+    let why = why.as_str();
+    let text = format!(in alloc;
+        "cronjob {name}: the API server answered {status} to {what}{why}"
+    )?;
+    driver.warn(text)
+}
+
+// What a server says of a refusal, with a colon before it.
+fn server_words(alloc: Global, body: Option<&Value>) -> Result<String, Refusal> {
+    let message = match body {
+        Some(body) => text_at(body, "message"),
+        None => None,
+    };
+    match message {
+        Some(message) => Ok(format!(in alloc; ": {message}")?),
+        None => Ok(String::new(alloc)),
+    }
+}
+
+// What a server says to the creation of a Job that it didn't create, or not as it was sent.
+fn creation_words(alloc: Global, status: u64, body: Option<&Value>) -> Result<String, Refusal> {
+    if status == 201 {
+        return Ok(String::from_str(
+            alloc,
+            "it was created otherwise than it was sent, as by an admission webhook",
+        )?);
+    }
+    match body {
+        Some(body) => match text_at(body, "message") {
+            Some(message) => Ok(String::from_str(alloc, message)?),
+            None => Ok(format!(in alloc; "{status}, and no reason")?),
+        },
+        None => Ok(format!(in alloc; "{status}, and no reason")?),
+    }
+}
+
+/// The creation of a Job was refused, other than by its name: it is noted in which words.
+pub(crate) fn note_unmade(
+    alloc: Global,
+    task: &mut Task,
+    body: Option<&Value>,
+) -> Result<(), Refusal> {
+    let words = creation_words(alloc, task.status, body)?;
+    task.unmade = Some(Text::new(alloc, words.as_str())?);
+    Ok(())
+}
+
+/// Says that the creation of a Job was refused: by an Event, and in a line where that is new.
+pub(crate) fn tell_unmade(
+    alloc: Global,
+    driver: &mut Driver,
+    task: &Task,
+    words: &str,
+    is_new: bool,
+) -> Result<(), Refusal> {
+    if is_new {
+        let (name, status) = (task.name.as_str(), task.status);
+        let text = format!(in alloc;
+            "cronjob {name}: the API server answered {status} to the creation of its Job: {words}"
+        )?;
+        driver.warn(text)?;
+    }
+    let message = format!(in alloc; "Error creating job: {words}")?;
+    note_event(alloc, driver, task, "FailedCreate", true, message)
+}
+
+/// Says that a time was planned and not claimed within a minute.
+pub(crate) fn tell_missed(
+    alloc: Global,
+    driver: &mut Driver,
+    task: &Task,
+    due: u64,
+) -> Result<(), Refusal> {
+    let (name, at) = (task.name.as_str(), time(alloc, due)?);
+    let at = at.as_str();
+    let text = format!(in alloc;
+        "cronjob {name}: no replica claimed its time {at} within a minute"
+    )?;
+    driver.warn(text)?;
+    let message = format!(in alloc; "Missed scheduled time to start a job: {at}")?;
+    let mut note = event_of(alloc, task, "MissSchedule", true, message)?;
+    note.is_common = true;
+    push_event(driver, note)
+}
+
+/// Says that claims are refused since somebody else writes the CronJob.
+pub(crate) fn tell_conflict(
+    alloc: Global,
+    driver: &mut Driver,
+    task: &Task,
+    conflicts: u64,
+) -> Result<(), Refusal> {
+    let name = task.name.as_str();
+    let text = format!(in alloc;
+        "cronjob {name}: {conflicts} claims in a row were refused since somebody else wrote it (409); reading it and claiming at once"
+    )?;
+    driver.warn(text)
+}
+
+/// Says that references of `status.active` name no Job.
+pub(crate) fn tell_nameless(
+    alloc: Global,
+    driver: &mut Driver,
+    task: &Task,
+    count: u64,
+) -> Result<(), Refusal> {
+    let name = task.name.as_str();
+    let text = format!(in alloc;
+        "cronjob {name}: status.active has {count} references that name no Job"
+    )?;
+    driver.warn(text)
+}
+
+fn text_in(alloc: Global, object: &Value, name: &str) -> Result<Text, Refusal> {
+    match meta(object, name) {
+        Some(found) => Text::new(alloc, found.as_str().unwrap_or("")),
+        None => Text::new(alloc, ""),
+    }
+}
+
+/// Says that somebody else writes the status of a CronJob.
+pub(crate) fn say_other(
+    alloc: Global,
+    driver: &mut Driver,
+    object: &Value,
+    key: &Key,
+    manager: &str,
+) -> Result<(), Refusal> {
+    let (namespace, name) = (key.namespace(), key.name());
+    let text = format!(in alloc;
+        "cronjob {namespace}/{name}: {manager} writes its status too: two controllers look after it"
+    )?;
+    driver.warn(text)?;
+    let message = format!(in alloc;
+        "{manager} writes the status too: two controllers look after this CronJob"
+    )?;
+    let note = EventNote {
+        namespace: Text::new(alloc, namespace)?,
+        name: Text::new(alloc, name)?,
+        uid: text_in(alloc, object, "uid")?,
+        reason: "OtherController",
+        is_warning: true,
+        message,
+        is_common: false,
+    };
+    push_event(driver, note)
 }
 
 fn verb(call: &Call) -> &'static str {

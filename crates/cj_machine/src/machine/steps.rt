@@ -3,7 +3,9 @@ ghost use Rattle.std.specs.Prelude.{IfOk};
 ghost use Rattle.cj_control.specs.SentFor.{IsOfNoSync};
 
 use cj_base::{Refusal, Shared, Text, TryCopy};
-use cj_control::{CronParts, Ledger, LineKind, Request, event_request, get_path, request_of};
+use cj_control::{
+    CronParts, Ledger, LineKind, Request, event_patch, event_request, get_path, request_of,
+};
 use cj_fence::{Answer, Call};
 use serde_json::Value;
 use std::alloc::Global;
@@ -111,4 +113,20 @@ pub(crate) fn tell(
         ledger.read(request)?;
     }
     Ok(())
+}
+
+/// It is told how often an Event came, while there are numbers for requests; the number of the
+/// request.
+pub(crate) fn count(
+    ledger: &mut Ledger,
+    alloc: Global,
+    namespace: &str,
+    name: &str,
+    body: Value,
+) -> Result<Option<u64>, Refusal> {
+    let request = event_patch(alloc, namespace, name, body)?;
+    if !ledger.has_number() {
+        return Ok(None);
+    }
+    Ok(Some(ledger.read(request)?))
 }

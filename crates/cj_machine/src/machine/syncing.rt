@@ -5,14 +5,14 @@ use crate::machine::finishing::{finish_key, settle};
 use crate::machine::others::take_listed;
 use crate::machine::reading::{found_job, parts_before, take_cron};
 use crate::machine::saying::{
-    say_deleted, say_refused, say_started, say_unlisted, say_unread_list,
+    note_unmade, say_deleted, say_refused, say_started, say_unlisted, say_unread_list,
 };
 use crate::machine::steps;
 use crate::machine::task::{Again, Stage, Task};
 use crate::machine::walking::{Went, walk};
 use cj_base::{Refusal, Text, TryCopy};
-use cj_control::{HeldBy, Ledger, Line, LineKind, full_name};
-use cj_fence::Call;
+use cj_control::{HeldBy, Ledger, Line, LineKind, full_name, hold_in};
+use cj_fence::{Call, Sync};
 use cj_manifest::present;
 use cj_types::Key;
 use cj_zone::ZoneTable;
@@ -23,15 +23,23 @@ use std::alloc::Global;
 fn task_of(alloc: Global, driver: &Driver, key: Key, by: HeldBy) -> Result<Task, Refusal> {
     let name = full_name(alloc, key.namespace(), key.name())?;
     let parts = parts_before(alloc, &key, driver.options.api, by)?;
-    let (is_live, waits) = match driver.memos.get(&key) {
-        Some(memo) => (memo.is_live, copy_of(alloc, &memo.waits)?),
-        None => (false, None),
+    let (is_live, conflicts, waits) = match driver.memos.get(&key) {
+        Some(memo) => (memo.is_live, memo.conflicts, copy_of(alloc, &memo.waits)?),
+        None => (false, 0, None),
     };
     Ok(Task {
         key,
         name,
         number: 0,
         is_live,
+        is_cut: false,
+        conflicts,
+        asks_first: conflicts > 1,
+        last: 0,
+        due: 0,
+        has_claimed: false,
+        nameless: 0,
+        unmade: None,
         stage: Stage::Reading,
         is_second: false,
         status: 0,
@@ -45,7 +53,7 @@ fn task_of(alloc: Global, driver: &Driver, key: Key, by: HeldBy) -> Result<Task,
         waits,
         wants: None,
         refused: None,
-        asked_at: driver.now,
+        asked_at: driver.local(),
     })
 }
 
@@ -76,6 +84,7 @@ fn begin(
     match steps::begin(ledger, alloc, &task.name) {
         Ok(Some(number)) => {
             task.number = number;
+            driver.numbers.began();
             go(ledger, driver, alloc, zones, task)
         }
         Ok(None) => finish_key(driver, &task.key, &Again::Failed),
@@ -129,6 +138,7 @@ fn status_of(kind: LineKind) -> u64 {
 
 // What an answer says beside what the protocol takes of it.
 fn note(
+    ledger: &Ledger,
     alloc: Global,
     driver: &mut Driver,
     task: &mut Task,
@@ -138,17 +148,57 @@ fn note(
     match call {
         Call::GetCron(_) if task.status == 200 => note_cron(alloc, task, body),
         Call::GetJob(_) if task.stage == Stage::Asking => note_job(alloc, task, body),
-        Call::Start(job) if task.status == 200 => {
+        Call::GetJob(_) if task.status == 200 => {
+            note_hold(task, body);
+            Ok(())
+        }
+        Call::Create(_, _) if is_unmade(ledger, task) => note_unmade(alloc, task, body),
+        Call::Claim(_) if task.status == 200 => {
+            task.has_claimed = is_claimed(ledger, task);
+            Ok(())
+        }
+        Call::Start(job) if task.status == 200 && goes_on(ledger, task) => {
             say_started(alloc, driver, task, job.name.as_str())
         }
-        Call::Delete(job) if is_done(task.status) => {
+        Call::Delete(job) if is_done(task.status) && goes_on(ledger, task) => {
             say_deleted(alloc, driver, task, job.name.as_str(), false)
         }
         Call::Expire(job, _, _) if is_done(task.status) => {
             say_deleted(alloc, driver, task, job.name.as_str(), true)
         }
-        _ => say_refused(alloc, driver, task, call),
+        _ => say_refused(alloc, driver, task, call, body),
     }
+}
+
+// Whether the sync may call more: its answer was one that bears out what it says.
+fn goes_on(ledger: &Ledger, task: &Task) -> bool {
+    match ledger.get(task.number) {
+        Some(row) => !matches!(row.sync, Sync::Over),
+        None => false,
+    }
+}
+
+// Whether a Job was not created, other than since its name is taken, and an answer says so.
+fn is_unmade(ledger: &Ledger, task: &Task) -> bool {
+    let is_held = match ledger.get(task.number) {
+        Some(row) => matches!(row.sync, Sync::Holding(_, _)),
+        None => false,
+    };
+    !is_held && task.status != 409 && task.status != 0
+}
+
+// Whether the sync's claim was taken.
+fn is_claimed(ledger: &Ledger, task: &Task) -> bool {
+    match ledger.get(task.number) {
+        Some(row) => matches!(row.sync, Sync::Starting(_, _, _)),
+        None => false,
+    }
+}
+
+// Whether a sync may end between two calls where the controller was told to stop: it has claimed
+// nothing that it would have to start.
+fn may_stop(task: &Task) -> bool {
+    !matches!(task.stage, Stage::Starting | Stage::Helping)
 }
 
 fn is_done(status: u64) -> bool {
@@ -162,7 +212,19 @@ fn note_cron(alloc: Global, task: &mut Task, body: Option<&Value>) -> Result<(),
     Ok(())
 }
 
+// What holds the Job that was read is what its start takes away.
+fn note_hold(task: &mut Task, body: Option<&Value>) {
+    let hold = match body {
+        Some(body) => hold_in(body),
+        None => None,
+    };
+    if let Some(hold) = hold {
+        task.parts.hold = hold;
+    }
+}
+
 fn note_job(alloc: Global, task: &mut Task, body: Option<&Value>) -> Result<(), Refusal> {
+    note_hold(task, body);
     let time = match &task.plan {
         Some(plan) => plan.time,
         None => None,
@@ -216,8 +278,13 @@ fn hear(
     if !steps::hear(ledger, alloc, task.number, line.kind, body)? {
         return Ok(Went::Over(Again::Failed));
     }
+    let mut may_end = may_stop(task);
     if let Some(call) = call {
-        note(alloc, driver, task, call.get(), body)?;
+        note(ledger, alloc, driver, task, call.get(), body)?;
+        may_end = may_end || matches!(call.get(), Call::Start(_));
+    }
+    if driver.is_stopping && may_end {
+        return Ok(Went::Over(Again::Never));
     }
     walk(ledger, driver, alloc, zones, task)
 }
@@ -232,6 +299,9 @@ pub(crate) fn answered(
     line: &Line,
 ) -> Result<(), Refusal> {
     let Some(task) = driver.take_task(id) else {
+        if status_of(line.kind) >= 400 {
+            driver.event_log.refused(id);
+        }
         return Ok(());
     };
     let mut task = task;

@@ -34,8 +34,8 @@ pub(crate) enum Again {
     After(u64),
     /// By the queue's delays.
     Failed,
-    /// At once, and the CronJob is read by a GET.
-    Live,
+    /// So many milliseconds later, and the CronJob is read by a GET.
+    Live(u64),
 }
 
 /// What was read of a CronJob, beside what the protocol takes.
@@ -106,6 +106,22 @@ pub(crate) struct Task {
     pub number: u64,
     /// Whether the CronJob is read by a GET.
     pub is_live: bool,
+    /// Whether the CronJob that was read lacks its jobTemplate.
+    pub is_cut: bool,
+    /// How many claims in a row were refused by a conflict.
+    pub conflicts: u64,
+    /// Whether the Job of the name is looked for before one is created.
+    pub asks_first: bool,
+    /// The last schedule time that was read.
+    pub last: u64,
+    /// The time that was planned; 0 for none.
+    pub due: u64,
+    /// Whether this sync claimed its time.
+    pub has_claimed: bool,
+    /// How many references of `status.active` name no Job.
+    pub nameless: u64,
+    /// What the server said of a creation that it refused.
+    pub unmade: Option<Text>,
     pub stage: Stage,
     /// Whether the second name of a Job is tried.
     pub is_second: bool,
@@ -139,6 +155,14 @@ impl Drop for Task {
             name,
             number: _,
             is_live: _,
+            is_cut: _,
+            conflicts: _,
+            asks_first: _,
+            last: _,
+            due: _,
+            has_claimed: _,
+            nameless: _,
+            unmade: _,
             stage: _,
             is_second: _,
             status: _,

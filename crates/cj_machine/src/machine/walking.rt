@@ -43,7 +43,7 @@ fn next_of(
         zones,
         known: driver.known.as_slice(),
         options: &driver.options,
-        now: driver.now,
+        now: driver.now(),
         by,
     };
     choose(alloc, &view, task, sync)
@@ -54,6 +54,11 @@ fn is_write(call: &Call) -> bool {
         call,
         Call::GetCron(_) | Call::GetJob(_) | Call::CacheCron(_) | Call::CacheJob(_) | Call::ListJobs
     )
+}
+
+// Whether a call needs the jobTemplate of the CronJob.
+fn needs_template(call: &Call) -> bool {
+    matches!(call, Call::Create(_, _) | Call::Start(_))
 }
 
 // A sync asks the API server; one that only says what it would write does so and ends.
@@ -67,6 +72,9 @@ fn send(
     if driver.options.dry_run && is_write(&call) {
         say_would(alloc, driver, task, &call)?;
         return Ok(Went::Over(Again::Never));
+    }
+    if task.is_cut && needs_template(&call) {
+        return Ok(Went::Over(Again::Live(0)));
     }
     match steps::send(ledger, alloc, task.number, call, &task.parts)? {
         Some(id) => Ok(Went::Waits(id)),

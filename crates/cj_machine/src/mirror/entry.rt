@@ -8,11 +8,17 @@ pub(crate) struct Entry {
     pub text: Text,
     /// The CronJob that it is, or that its controller names.
     pub cron: Option<Key>,
+    /// Whether its jobTemplate was too large to be kept.
+    pub is_cut: bool,
 }
 
 impl Drop for Entry {
     fn drop(self) {
-        let Entry { text, cron } = self;
+        let Entry {
+            text,
+            cron,
+            is_cut: _,
+        } = self;
         drop(text);
         drop(cron);
     }

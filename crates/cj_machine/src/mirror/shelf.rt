@@ -142,6 +142,14 @@ impl Shelf {
         Some(entry.text.as_str())
     }
 
+    /// Whether the text of the object lacks a jobTemplate.
+    pub(crate) fn is_cut(&self, key: &Key) -> bool {
+        match self.rows.get(key) {
+            Some(entry) => entry.is_cut,
+            None => false,
+        }
+    }
+
     /// The CronJob of the object at the key, where there are both.
     pub(crate) fn cron_at(&self, alloc: Global, key: &Key) -> Result<Option<Key>, Refusal>
         ensures ok { IfOk result (λ o. o ≡ cron_at self.now key.now) }
